@@ -1,0 +1,12 @@
+pub mod CountLemmas
+pub mod Layers
+pub mod Steps
+pub mod Forms
+pub mod FirstChoices
+pub mod FirstScript
+pub mod FirstValid
+pub mod OtherScripts
+pub mod OtherHistories
+pub mod OtherTexts
+pub mod OtherChoices
+pub mod OtherRows

@@ -1,0 +1,161 @@
+-- Words of histories, computed on lists with tasks, keys and fills.
+use Rattle.std.proofs.Common.{◌≡◌, refl, ap, ℕ, zero, suc, ◌<◌, ◌≤◌, pos, codes, List, [], ◌∷◌, ◌++◌, Some, None, arith}
+use Rattle.std.specs.List.{Contains}
+use Rattle.std.specs.Fmt.{digits}
+use Rattle.jl_model.specs.declared.ty.Key.{Key}
+use Rattle.jl_model.specs.declared.ty.Ty.{Ty}
+use Rattle.jl_model.specs.Choice.{Method}
+use Rattle.jl_model.specs.Signature.{Applicable, both_end}
+use Rattle.jl_calculus.specs.declared.tree.Expr.TheVariants as E
+use Rattle.jl_calculus.specs.declared.tree.Site.{Site}
+use Rattle.jl_calculus.specs.declared.tree.Start.{Start}
+use Rattle.jl_calculus.specs.declared.tree.Program.{Program}
+use Rattle.jl_calculus.specs.declared.value.Value.TheVariants as V
+use Rattle.jl_calculus.specs.declared.history.Fault.TheVariants as F
+use Rattle.jl_calculus.specs.declared.history.Outcome.{Outcome}
+use Rattle.jl_calculus.specs.declared.history.Outcome.TheVariants as O
+use Rattle.jl_calculus.specs.declared.history.Event.{Event}
+use Rattle.jl_calculus.specs.declared.history.Event.TheVariants as Ev
+use Rattle.jl_calculus.specs.declared.history.Record.{Record}
+use Rattle.jl_calculus.specs.declared.history.TraceItem.TheVariants.{Spawn, Fetch}
+use Rattle.jl_calculus.specs.Prelude.{prelude_functions, prelude_sites, plain, int64}
+use Rattle.jl_calculus.specs.Past.{tasks_of, own_events, own_starts, IsTrueOf}
+use Rattle.jl_calculus.specs.Legal.{first_place, start_of, path_order, text_of, status_of}
+use Rattle.jl_calculus.specs.World.{world_of, types_of, site_of, methods_in}
+use Rattle.jl_calculus.proofs.FirstChoices.{applies_by}
+use Rattle.jl_calculus.specs.Kept.{Covers, IsFilled, keys_of, fills_of, Touches}
+
+-- ---- tasks
+
+abbrev start : ℕ → Start
+start place = record { spawn = place; env = []; bindings = []; world = 14 }
+
+abbrev ended : Outcome → List ℕ → Record
+ended o text = record { trace = []; outcome = o; output = text; calls = 0 }
+
+abbrev nothing : Outcome
+nothing = O.Value V.Nothing
+
+-- the root starts 1 and 2, and task 1 starts 3
+abbrev tasks : List Event
+tasks =
+    Ev.Begin 9 ∷ Ev.Spawn 0 1 (start 0) ∷ Ev.Spawn 0 2 (start 1) ∷ Ev.Spawn 1 3 (start 2)
+    ∷ Ev.Done 3 (ended nothing (codes "3")) ∷ Ev.Done 2 (ended (O.Error F.DivideError) (codes "2")) ∷ Ev.Done 1 (ended nothing (codes "1"))
+    ∷ Ev.Done 0 (ended (O.Error (F.TaskFailed 2)) (codes "0")) ∷ []
+
+path : path_order tasks ≡ 0 ∷ 1 ∷ 3 ∷ 2 ∷ []
+path = refl
+
+count : tasks_of tasks ≡ 4
+count = refl
+
+failed : status_of tasks ≡ 1
+failed = refl
+
+first_of_root : first_place 0 0 tasks ≡ 1
+first_of_root = refl
+
+first_of_third : first_place 3 0 tasks ≡ 4
+first_of_third = refl
+
+start_of_third : start_of 3 tasks ≡ Some (start 2)
+start_of_third = refl
+
+start_of_root : start_of 0 tasks ≡ None
+start_of_root = refl
+
+own_of_root : own_events 0 0 tasks ≡ Spawn 1 1 ∷ Spawn 2 2 ∷ []
+own_of_root = refl
+
+own_of_first : own_events 1 0 tasks ≡ Spawn 3 3 ∷ []
+own_of_first = refl
+
+starts_of_root : own_starts 0 tasks ≡ start 0 ∷ start 1 ∷ []
+starts_of_root = refl
+
+fetched : IsTrueOf tasks 0 (Fetch 2 (O.Error F.DivideError) 6)
+fetched = (omega arith, refl)
+
+not_fetched_yet : IsTrueOf tasks 0 (Fetch 2 (O.Error F.DivideError) 5) → ⊥
+not_fetched_yet h = h.1
+
+-- ---- keys and fills: `f() = 1`, `late() = f()`, `f() = 2`
+
+abbrev zero_of : ℕ → Site
+zero_of f = record { function = f; sig = plain []; body = E.Int (pos 1) }
+
+abbrev P : Program
+P = record { decls = []; functions = prelude_functions ++ codes "f" ∷ codes "late" ∷ []; sites = prelude_sites ++ zero_of 12 ∷ zero_of 13 ∷ zero_of 12 ∷ []; spawns = []; top = [] }
+
+text_of_tasks : text_of P tasks ≡ codes "0132ERROR: TaskFailedException: task 2\n"
+unfolding digits
+text_of_tasks = refl
+
+abbrev key : Key
+key = record { function = 12; types = [] }
+
+abbrev filled : List Event
+filled = Ev.Begin 9 ∷ Ev.Def 0 14 ∷ Ev.Def 0 15 ∷ Ev.Def 0 16 ∷ Ev.Key key ∷ Ev.Fill 0 14 15 ∷ []
+
+newest : world_of filled ≡ 17
+newest = refl
+
+first_prelude : site_of filled 1 ≡ 0
+first_prelude = refl
+
+last_prelude : site_of filled 14 ≡ 13
+last_prelude = refl
+
+first_of_script : site_of filled 15 ≡ 14
+first_of_script = refl
+
+last_of_script : site_of filled 17 ≡ 16
+last_of_script = refl
+
+methods_of_f : methods_in P filled 12 17 ≡ record { number = 15; sig = plain [] } ∷ record { number = 17; sig = plain [] } ∷ []
+methods_of_f = refl
+
+methods_of_f_before : methods_in P filled 12 16 ≡ record { number = 15; sig = plain [] } ∷ []
+methods_of_f_before = refl
+
+methods_of_minus : methods_in P filled 1 14 ≡ record { number = 2; sig = plain (int64 ∷ int64 ∷ []) } ∷ record { number = 6; sig = plain (int64 ∷ []) } ∷ []
+methods_of_minus = refl
+
+one_key : keys_of filled ≡ key ∷ []
+one_key = refl
+
+one_fill : fills_of filled ≡ 1
+one_fill = refl
+
+-- the row of the first definition covers its world and that of `late`
+no_touch : (d : ℕ) → 15 < d → d ≤ 16 → Touches P filled d key → ⊥
+no_touch d low high t = where_it_is t.1 t.2
+  where
+    where_it_is : Contains (methods_in P filled 12 17) t.0 → t.0.number ≡ d → ⊥
+    where_it_is (zero, p, e) n = absurd (omega (arith, low, high, n, ap (λ (m : Method). m.number) e))
+    where_it_is (suc zero, p, e) n = absurd (omega (arith, low, high, n, ap (λ (m : Method). m.number) e))
+    where_it_is (suc (suc k), p, e) n = absurd (omega (arith, p))
+
+covered : IsFilled P filled 0 key 16
+covered = (14, 15, (5, omega arith, refl), record { begun = omega arith; going = no_touch })
+
+-- and not the world before it
+not_covered_before : Covers P filled key 15 14 → ⊥
+not_covered_before h = absurd (omega (arith, h.begun))
+
+-- the second definition of `f` ends the range
+abbrev no_vars : List Ty
+no_vars = []
+
+touches : (n : Applicable (types_of P) (plain no_vars) no_vars) → Touches P filled 17 key
+touches a = (record { number = 17; sig = plain [] }, (1, omega arith, refl), refl, a)
+
+not_covered_after : Applicable (types_of P) (plain no_vars) no_vars → Covers P filled key 15 17 → ⊥
+not_covered_after a h = h.going 17 (omega arith) (omega arith) (touches a)
+
+-- a signature without parameters applies to no arguments
+no_arguments : Applicable (types_of P) (plain no_vars) no_vars
+no_arguments = applies_by (types_of P) [] [] (0, omega arith, refl) refl both_end
+
+range_ends : Covers P filled key 15 17 → ⊥
+range_ends h = not_covered_after no_arguments h

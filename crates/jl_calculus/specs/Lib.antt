@@ -1,0 +1,16 @@
+pub mod Measures
+pub mod Meaning
+pub mod Counts
+pub mod Falls
+pub mod Prelude
+pub mod Host
+pub mod Text
+pub mod World
+pub mod Past
+pub mod Kept
+pub mod Run
+pub mod Legal
+pub mod Point
+pub mod Names
+pub mod Valid
+pub mod Simple

@@ -1,0 +1,12 @@
+pub mod SimpleTypes
+pub mod BuiltinAncestors
+pub mod SimpleBelow
+pub mod SimpleMeets
+pub mod SimpleRows
+pub mod PartLemmas
+pub mod DefLemmas
+pub mod SimpleDefs
+pub mod PairLemmas
+pub mod ChoiceLemmas
+pub mod MethodLemmas
+pub mod LawLemmas

@@ -1,0 +1,5 @@
+use Rattle.jl_choice.proofs.LawLemmas.{determined}
+use Rattle.jl_choice.proofs.laws.law_determined.Goals as goal
+
+pub returns : goal.returns
+returns c = determined

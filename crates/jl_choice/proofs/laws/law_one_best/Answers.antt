@@ -1,0 +1,5 @@
+use Rattle.jl_choice.proofs.LawLemmas.{one_best}
+use Rattle.jl_choice.proofs.laws.law_one_best.Goals as goal
+
+pub returns : goal.returns
+returns c = one_best

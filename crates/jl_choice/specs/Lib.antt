@@ -1,0 +1,3 @@
+pub mod Methods
+pub mod Simple
+pub mod Decide

@@ -1,0 +1,91 @@
+-- What a call did, from what its parts answer.
+use Rattle.std.proofs.Common.{◌≡◌, ℕ, ◌<◌, ◌≤◌, List, [], ◌∷◌, take, length, refl, sym, ap, ◌∙◌, subst, Option, None, Some, arith, Bool, true, false, codes, bytes_eq, Result, Ok, Err, IfOk}
+use Rattle.std.specs.Borrow.{Bor}
+use Rattle.std.proofs.lemmas.Slice.Eq.{bytes_eq-Decides}
+use Rattle.std.specs.declared.alloc.AllocError.{AllocError}
+use Rattle.jl_calculus.specs.declared.history.History.{History}
+use Rattle.jl_calculus.specs.declared.tree.Program.{Program}
+use Rattle.jl_calculus.specs.Legal.{IsLegal, fuel_of, text_of, status_of}
+use Rattle.jl_form.specs.declared.tree.Script.{Script}
+use Rattle.jl_form.specs.Form.{IsForm}
+use Rattle.jl_form.specs.Grammar.{spelled}
+use Rattle.jl_form.specs.Program.{program_of}
+use Rattle.jl_cli.specs.declared.answering.Due.{Due}
+use Rattle.jl_io.specs.Moved.{Gives, Takes, NothingLeft}
+use Rattle.jl_io.proofs.MovedLemmas.{Gives-none, Takes-none}
+use Rattle.jl_cli.specs.Due.{texts, is_run_words, run_words, source_limit, default_fuel, usage_line, too_long_line, not_yet_read_line, IsDue, usage, ran, IsAnswer, whole, not_read, not_written, no_memory, no_memory_written, HasRun}
+use Rattle.jl_cli.specs.Delivered.{IsDelivered, all, failed, no_memory as no_memory_left}
+
+fails : false ≡ true → ⊥
+fails h = cc
+
+-- what was due was delivered
+module _ (words : List (List ℕ)) (left left' held held' : Option (List ℕ)) (source_rose sink_rose : Type 0) (bytes : List ℕ) (read : Gives left bytes left') (limited : length bytes ≤ 1048577) where
+  pub delivered : (st : ℕ) (h : Option History) (text : List ℕ) (status : ℕ) (history : Option History)
+      → (words ≡ run_words → length bytes < 1048577 → NothingLeft left') → IsDue words bytes st h text → IsDelivered held held' sink_rose st h text status history
+      → HasRun words left left' held held' source_rose sink_rose status history
+  delivered st h text _ _ ends due (all takes) = record { bytes = bytes; written = text; read = read; wrote = takes; limited = limited; all_read = λ e a b lt. ends e lt; answer = whole st h due }
+  delivered st h text _ _ ends due (failed count takes rose) = record { bytes = bytes; written = take count text; read = read; wrote = takes; limited = limited; all_read = λ e a b lt. ends e lt; answer = not_written st h text count due refl rose }
+  delivered st h text _ _ ends due (no_memory_left count takes) = record { bytes = bytes; written = take count text; read = read; wrote = takes; limited = limited; all_read = λ e a b lt. ends e lt; answer = no_memory_written st h text count due refl }
+
+-- the words are no command, and the usage line was delivered
+pub used : (words : List (List ℕ)) (left held held' : Option (List ℕ)) (source_rose sink_rose : Type 0) (text : List ℕ) (status : ℕ) (history : Option History)
+    → (words ≡ run_words → ⊥) → text ≡ usage_line → IsDelivered held held' sink_rose 2 None text status history → HasRun words left left held held' source_rose sink_rose status history
+used words left held held' source_rose sink_rose text status history other e d =
+    delivered words left left held held' source_rose sink_rose [] (Gives-none left) (omega arith) 2 None text status history (λ is lt. absurd (other is)) (subst (λ (line : List ℕ). IsDue words [] 2 None line) (sym e) (usage words other)) d
+
+-- a read that failed, or that wanted memory
+pub unread : (left left' held : Option (List ℕ)) (source_rose sink_rose : Type 0) (words : List (List ℕ)) → words ≡ run_words → (bytes : List ℕ) × (length bytes ≤ 1048577) × Gives left bytes left' → source_rose
+    → HasRun words left left' held held source_rose sink_rose 4 None
+unread left left' held source_rose sink_rose words is r rose = record { bytes = r.0; written = []; read = r.2; wrote = Takes-none held; limited = r.1; all_read = λ e four six lt. absurd (four refl); answer = not_read is refl rose }
+
+pub unread_for_memory : (left left' held : Option (List ℕ)) (source_rose sink_rose : Type 0) (words : List (List ℕ)) → words ≡ run_words → (bytes : List ℕ) × (length bytes ≤ 1048577) × Gives left bytes left'
+    → HasRun words left left' held held source_rose sink_rose 6 None
+unread_for_memory left left' held source_rose sink_rose words is r = record { bytes = r.0; written = []; read = r.2; wrote = Takes-none held; limited = r.1; all_read = λ e four six lt. absurd (six refl); answer = no_memory is refl }
+
+-- the words are `run` alone exactly where the test says so
+pub run_yes : (ws : List (Bor (List ℕ))) → is_run_words ws ≡ true → texts ws ≡ run_words
+run_yes [] h = absurd (fails h)
+run_yes (w ∷ []) h = ap (λ (t : List ℕ). t ∷ []) ((bytes_eq-Decides w.now (codes "run")).0 h)
+run_yes (w ∷ (v ∷ ws)) h = absurd (fails h)
+
+pub run_no : (ws : List (Bor (List ℕ))) → is_run_words ws ≡ false → texts ws ≡ run_words → ⊥
+run_no [] h e = cc
+run_no (w ∷ []) h e = let same : w.now ≡ codes "run" = cc in fails (sym h ∙ (bytes_eq-Decides w.now (codes "run")).1 same)
+run_no (w ∷ (v ∷ ws)) h e = cc
+
+-- an answer with the line of a refused source
+pub refused_so : (r : Result Due AllocError) (bytes line text : List ℕ) → line ≡ text → IsDue run_words bytes 3 None text
+    → IfOk r (λ due. (due.status ≡ 3) × (due.history ≡ None) × (due.text ≡ line)) → IfOk r (λ due. IsDue run_words bytes due.status due.history due.text)
+refused_so (Err x) bytes line text e due h = tt
+refused_so (Ok d) bytes line text e due h =
+    subst (λ (n : ℕ). IsDue run_words bytes n d.history d.text) (sym h.0)
+    (subst (λ (o : Option History). IsDue run_words bytes 3 o d.text) (sym h.1)
+    (subst (λ (t : List ℕ). IsDue run_words bytes 3 None t) (sym (h.2 ∙ e)) due))
+
+-- an answer with the history of a script
+pub ran_so : (bytes text : List ℕ) (status : ℕ) (s : Script) (P : Program) (h : History) → length bytes ≤ source_limit → IsForm s → spelled s ≡ bytes → P ≡ program_of s
+    → IsLegal P h.events → fuel_of h.events ≡ Some default_fuel → status ≡ status_of h.events → text ≡ text_of P h.events → IsDue run_words bytes status (Some h) text
+ran_so bytes text status s P h le form is eP legal begun st tx =
+    subst (λ (n : ℕ). IsDue run_words bytes n (Some h) text) (sym st)
+    (subst (λ (t : List ℕ). IsDue run_words bytes (status_of h.events) (Some h) t) (sym (tx ∙ ap (λ (Q : Program). text_of Q h.events) eP))
+    (ran bytes s h le form is (subst (λ (Q : Program). IsLegal Q h.events) eP legal) begun))
+
+-- the lines as the code writes them
+pub too_long_is : codes "ERROR: SourceTooLong\n" ≡ too_long_line
+unfolding too_long_line
+too_long_is = refl
+
+pub not_yet_read_is : codes "ERROR: NotYetRead\n" ≡ not_yet_read_line
+unfolding not_yet_read_line
+not_yet_read_is = refl
+
+pub usage_is : codes "usage: jl run|trace [--threads N] [--fuel N] | jl check|replay | jl gen N [--threads N] [--fuel N]\n" ≡ usage_line
+unfolding usage_line
+usage_is = refl
+
+-- what is due for the same words, bytes and text
+pub due_along : (ws ws' : List (List ℕ)) (bs bs' t t' : List ℕ) (st : ℕ) (h : Option History) → ws' ≡ ws → bs ≡ bs' → t' ≡ t → IsDue ws bs st h t → IsDue ws' bs' st h t'
+due_along ws ws' bs bs' t t' st h e f g due =
+    subst (λ (x : List (List ℕ)). IsDue x bs' st h t') (sym e)
+    (subst (λ (x : List ℕ). IsDue ws x st h t') f (subst (λ (x : List ℕ). IsDue ws bs st h x) (sym g) due))

@@ -1,0 +1,82 @@
+-- What a call of the program owes for its words and for the bytes that it read.
+use Rattle.std.specs.Prelude.{ℕ, ◌≡◌, ◌<◌, ◌≤◌, codes, List, [], ◌∷◌, ◌++◌, map, length, take, Option, None, Some, Bool, false, bytes_eq}
+use Rattle.std.specs.Borrow.{Bor}
+use Rattle.jl_calculus.specs.declared.history.History.{History}
+use Rattle.jl_calculus.specs.Legal.{IsLegal, fuel_of, text_of, status_of}
+use Rattle.jl_form.specs.declared.tree.Script.{Script}
+use Rattle.jl_form.specs.Form.{IsForm}
+use Rattle.jl_form.specs.Grammar.{spelled}
+use Rattle.jl_form.specs.Program.{program_of}
+use Rattle.jl_io.specs.Moved.{Gives, Takes, NothingLeft}
+
+-- the texts of the words
+abbrev pub texts : List (Bor (List ℕ)) → List (List ℕ)
+texts ws = map (λ (w : Bor (List ℕ)). w.now) ws
+
+-- the words that are a command: `run` alone
+abbrev pub run_words : List (List ℕ)
+run_words = codes "run" ∷ []
+
+-- whether these words are a command
+abbrev pub is_run_words : List (Bor (List ℕ)) → Bool
+is_run_words [] = false
+is_run_words (w ∷ []) = bytes_eq w.now (codes "run")
+is_run_words (w ∷ (v ∷ ws)) = false
+
+-- how many bytes a script may have
+abbrev pub source_limit : ℕ
+source_limit = 1048576
+
+-- how many calls a task may make
+abbrev pub default_fuel : ℕ
+default_fuel = 10000000
+
+unfoldable pub usage_line : List ℕ
+usage_line = codes "usage: jl run|trace [--threads N] [--fuel N] | jl check|replay | jl gen N [--threads N] [--fuel N]\n"
+
+unfoldable pub too_long_line : List ℕ
+too_long_line = codes "ERROR: SourceTooLong\n"
+
+unfoldable pub not_yet_read_line : List ℕ
+not_yet_read_line = codes "ERROR: NotYetRead\n"
+
+-- The status, the history and the text that are due for these words and these bytes.
+pub data IsDue : List (List ℕ) → List ℕ → ℕ → Option History → List ℕ → Type 0 where
+  -- words that are no command: nothing is read
+  usage : (words : List (List ℕ)) → (words ≡ run_words → ⊥) → IsDue words [] 2 None usage_line
+  -- a source past the limit
+  too_long : (bytes : List ℕ) → source_limit < length bytes → IsDue run_words bytes 3 None too_long_line
+  -- a source that no script of the form spells
+  not_yet_read : (bytes : List ℕ) → length bytes ≤ source_limit → ((s : Script) → IsForm s → spelled s ≡ bytes → ⊥) → IsDue run_words bytes 3 None not_yet_read_line
+  -- a script: the text of a legal history of its program, and the status by the root's outcome
+  ran : (bytes : List ℕ) (s : Script) (h : History) → length bytes ≤ source_limit → IsForm s → spelled s ≡ bytes → IsLegal (program_of s) h.events → fuel_of h.events ≡ Some default_fuel
+      → IsDue run_words bytes (status_of h.events) (Some h) (text_of (program_of s) h.events)
+
+-- Words, the bytes that were read, the bytes that were written, and that the count of faults of the source and of the
+-- sink rose in this call.
+module _ (words : List (List ℕ)) (bytes written : List ℕ) (source_rose sink_rose : Type 0) where
+  -- the status and the history that a call answers
+  pub data IsAnswer : ℕ → Option History → Type 0 where
+    -- all that is due was written
+    whole : (status : ℕ) (history : Option History) → IsDue words bytes status history written → IsAnswer status history
+    -- the source failed: nothing was written
+    not_read : words ≡ run_words → written ≡ [] → source_rose → IsAnswer 4 None
+    -- the sink failed: a first part of the text due was written
+    not_written : (status : ℕ) (history : Option History) (text : List ℕ) (count : ℕ) → IsDue words bytes status history text → written ≡ take count text → sink_rose → IsAnswer 5 history
+    -- memory was refused before anything was written
+    no_memory : words ≡ run_words → written ≡ [] → IsAnswer 6 None
+    -- the sink wanted memory: a first part of the text due was written
+    no_memory_written : (status : ℕ) (history : Option History) (text : List ℕ) (count : ℕ) → IsDue words bytes status history text → written ≡ take count text → IsAnswer 6 history
+
+-- What a call did, where a source tells what it had left before and after and a sink what it held before and after.
+pub record HasRun (words : List (List ℕ)) (left left' held held' : Option (List ℕ)) (source_rose sink_rose : Type 0) (status : ℕ) (history : Option History) : Type 0 where
+  -- the bytes that were read, and those that were written
+  pub bytes : List ℕ
+  pub written : List ℕ
+  pub read : Gives left bytes left'
+  pub wrote : Takes held written held'
+  -- at most one byte past the limit is read
+  pub limited : length bytes ≤ 1048577
+  -- all that the source had was read, or one byte past the limit
+  pub all_read : words ≡ run_words → (status ≡ 4 → ⊥) → (status ≡ 6 → ⊥) → length bytes < 1048577 → NothingLeft left'
+  pub answer : IsAnswer words bytes written source_rose sink_rose status history

@@ -1,0 +1,9 @@
+//! The top call: from a command line's words and a script's bytes to the text of its run.
+#![tactic(auto)]
+
+mod answering;
+#[cfg(test)]
+mod tests;
+mod top;
+
+pub use top::{Ended, run};

@@ -1,0 +1,192 @@
+use crate::top::run;
+use jl_io::{CleanSink, CleanSource, MemSink, MemSource};
+use std::alloc::{AllocError, Global};
+use std::process::Abort;
+use std::test::Fail;
+
+const FIRST: &[u8] = b"f(x) = x + 1\nprintln(f(2))\n";
+
+/// The status of a run, what it wrote and whether it handed out a history.
+fn ran(alloc: Global, words: &[&str], script: &[u8]) -> Result<(u8, Vec<u8>, bool), AllocError> {
+    let mut source = CleanSource::new(Vec::from_slice(alloc, script)?);
+    let mut sink = CleanSink::new(alloc);
+    let ended = run(alloc, words, &mut source, &mut sink);
+    let written = Vec::from_slice(alloc, sink.bytes())?;
+    Ok((ended.status, written, ended.history.is_some()))
+}
+
+fn expect(
+    rt: &impl Abort,
+    alloc: Global,
+    script: &[u8],
+    status: u8,
+    text: &[u8],
+) -> Result<(), AllocError> {
+    let (answered, written, history) = ran(alloc, &["run"], script)?;
+    assert_eq!(rt; answered, status);
+    assert_eq!(rt; written.as_slice(), text);
+    assert_eq!(rt; history, status < 2);
+    Ok(())
+}
+
+static SCRIPTS: [(&str, u8, &str); 13] = [
+    ("f(x) = x + 1\nprintln(f(2))", 0, "3\n"),
+    ("f(x) = x + 1\nprintln(f(2))\n", 0, "3\n"),
+    ("", 0, ""),
+    (
+        "f(1)\nf(x) = x",
+        1,
+        "ERROR: MethodError: no method matching f(::Int64) in world 14\n",
+    ),
+    ("println(-1)", 3, "ERROR: NotYetRead\n"),
+    (
+        "f(x::Int64, y) = 1\nf(x, y::Int64) = 2\nprintln(f(1, 2))",
+        1,
+        "ERROR: MethodError: f(::Int64, ::Int64) is ambiguous between definitions 15 and 16\n",
+    ),
+    ("g(x::Int64) = 1\ng(x) = 2\nprintln(g(0))", 0, "1\n"),
+    (
+        "f(x::Int64, y) = 1\nf(x, y::Int64) = 2\nf(x::Int64, y::Int64) = 3\nprintln(f(1, 2))",
+        0,
+        "3\n",
+    ),
+    (
+        "f(x) = 1\ng(x) = f(x)\nprintln(g(0))\nf(x::Int64) = 2\nprintln(g(0))",
+        0,
+        "1\n2\n",
+    ),
+    (
+        "f(x) = 1\nprintln(f(0))\nf(x) = 2\nprintln(f(0))",
+        0,
+        "1\n2\n",
+    ),
+    (
+        "println(println(7) + 1)",
+        1,
+        "7\nERROR: MethodError: no method matching +(::Nothing, ::Int64) in world 14\n",
+    ),
+    ("println(9223372036854775807 + 1)", 3, "ERROR: NotYetRead\n"),
+    (
+        "println(999999999999999999 + 1)",
+        0,
+        "1000000000000000000\n",
+    ),
+];
+
+#[test]
+fn scripts_write_their_texts(rt: HostRuntime) -> Result<(), Fail> {
+    for (script, status, text) in &SCRIPTS {
+        expect(&rt, rt.alloc(), script.as_bytes(), *status, text.as_bytes())?;
+    }
+    Ok(())
+}
+
+#[test]
+fn other_words_get_the_usage_line(rt: HostRuntime) -> Result<(), Fail> {
+    let usage =
+        b"usage: jl run|trace [--threads N] [--fuel N] | jl check|replay | jl gen N [--threads N] [--fuel N]\n";
+    let alloc = rt.alloc();
+    let (status, written, history) = ran(alloc, &[], FIRST)?;
+    assert_eq!(rt; status, 2);
+    assert_eq!(rt; written.as_slice(), usage.as_slice());
+    assert!(rt; !history);
+    let (status, written, _) = ran(alloc, &["run", "--"], FIRST)?;
+    assert_eq!(rt; status, 2);
+    assert_eq!(rt; written.as_slice(), usage.as_slice());
+    let (status, _, _) = ran(alloc, &["trace"], FIRST)?;
+    assert_eq!(rt; status, 2);
+    Ok(())
+}
+
+#[test]
+fn a_source_past_the_limit_is_too_long(rt: HostRuntime) -> Result<(), Fail> {
+    let alloc = rt.alloc();
+    let mut script = Vec::new(alloc);
+    for _ in 0..1_048_576 {
+        script.push(b'\n')?;
+    }
+    expect(&rt, alloc, script.as_slice(), 0, b"")?;
+    script.push(b'\n')?;
+    expect(&rt, alloc, script.as_slice(), 3, b"ERROR: SourceTooLong\n")?;
+    Ok(())
+}
+
+#[test]
+fn fuel_is_spent_by_doubling_calls(rt: HostRuntime) -> Result<(), Fail> {
+    let script = b"a(x) = x + 1
+b(x) = a(x) + a(x)
+c(x) = b(x) + b(x)
+d(x) = c(x) + c(x)
+e(x) = d(x) + d(x)
+f(x) = e(x) + e(x)
+g(x) = f(x) + f(x)
+h(x) = g(x) + g(x)
+i(x) = h(x) + h(x)
+j(x) = i(x) + i(x)
+k(x) = j(x) + j(x)
+l(x) = k(x) + k(x)
+m(x) = l(x) + l(x)
+n(x) = m(x) + m(x)
+o(x) = n(x) + n(x)
+p(x) = o(x) + o(x)
+q(x) = p(x) + p(x)
+r(x) = q(x) + q(x)
+s(x) = r(x) + r(x)
+t(x) = s(x) + s(x)
+u(x) = t(x) + t(x)
+v(x) = u(x) + u(x)
+w(x) = v(x) + v(x)
+println(w(1))";
+    expect(
+        &rt,
+        rt.alloc(),
+        script,
+        1,
+        b"ERROR: FuelSpent: 10000000 calls\n",
+    )?;
+    Ok(())
+}
+
+#[test]
+fn each_failing_read_answers_four(rt: HostRuntime) -> Result<(), Fail> {
+    let alloc = rt.alloc();
+    for call in 1..30u64 {
+        let mut faults = Vec::new(alloc);
+        faults.push(call)?;
+        let mut source = MemSource::new(Vec::from_slice(alloc, FIRST)?, 1, faults);
+        let mut sink = CleanSink::new(alloc);
+        let ended = run(alloc, &["run"], &mut source, &mut sink);
+        let reads = FIRST.len() as u64 + 1;
+        if call <= reads {
+            assert_eq!(rt; ended.status, 4);
+            assert_eq!(rt; sink.bytes(), b"".as_slice());
+            assert!(rt; ended.history.is_none());
+        } else {
+            assert_eq!(rt; ended.status, 0);
+            assert_eq!(rt; sink.bytes(), b"3\n".as_slice());
+        }
+    }
+    Ok(())
+}
+
+#[test]
+fn each_failing_write_leaves_a_first_part(rt: HostRuntime) -> Result<(), Fail> {
+    let alloc = rt.alloc();
+    let text = b"34\n";
+    for call in 1..5usize {
+        let mut faults = Vec::new(alloc);
+        faults.push(call as u64)?;
+        let mut source = CleanSource::new(Vec::from_slice(alloc, b"println(34)")?);
+        let mut sink = MemSink::new(alloc, 1, faults);
+        let ended = run(alloc, &["run"], &mut source, &mut sink);
+        assert!(rt; ended.history.is_some());
+        if call <= text.len() {
+            assert_eq!(rt; ended.status, 5);
+            assert_eq!(rt; sink.bytes(), &text[..call - 1]);
+        } else {
+            assert_eq!(rt; ended.status, 0);
+            assert_eq!(rt; sink.bytes(), text.as_slice());
+        }
+    }
+    Ok(())
+}

@@ -1,0 +1,13 @@
+pub mod TextLemmas
+pub mod ReadingLemmas
+pub mod LineLemmas
+pub mod TreeLemmas
+pub mod Taken
+pub mod Again
+pub mod Whole
+pub mod NumberLemmas
+pub mod CodeLemmas
+pub mod ProgramLemmas
+pub mod MeaningLemmas
+pub mod Validity
+pub mod ValidParts

@@ -1,0 +1,138 @@
+//! Each source and sink with ample memory, and faults in mid-stream.
+
+use crate::{
+    CleanSink, CleanSource, Failed, MemSink, MemSource, ReadFault, Sink, SinkFault, Source,
+    StdSink, StdSource, read_up_to, write_all,
+};
+use std::test::Fail;
+
+#[test]
+fn clean_source_gives_all_it_has_over_several_pieces(rt: HostRuntime) -> Result<(), Fail> {
+    let text = vec![in rt.alloc(); b'a'; 20000]?;
+    let mut source = CleanSource::new(text.clone()?);
+    let bytes = read_up_to(rt.alloc(), &mut source, 1048577)?;
+    assert!(rt; bytes == text);
+    Ok(())
+}
+
+#[test]
+fn reading_stops_at_the_limit(rt: HostRuntime) -> Result<(), Fail> {
+    for (most, want) in [(0, ""), (1, "h"), (4, "hell"), (5, "hello"), (6, "hello")] {
+        let text = b"hello".to_vec(rt.alloc())?;
+        let mut source = MemSource::new(text, 3, Vec::new(rt.alloc()));
+        let bytes = read_up_to(rt.alloc(), &mut source, most)?;
+        assert!(rt; bytes.as_slice() == want.as_bytes(), "at most {most}");
+    }
+    Ok(())
+}
+
+#[test]
+fn failed_reads_lose_nothing(rt: HostRuntime) -> Result<(), Fail> {
+    let fail_at = [2, 3, 5].to_vec(rt.alloc())?;
+    let mut source = MemSource::new(b"hello".to_vec(rt.alloc())?, 2, fail_at);
+    let want = [
+        Ok(2),
+        Err(Failed),
+        Err(Failed),
+        Ok(2),
+        Err(Failed),
+        Ok(1),
+        Ok(0),
+    ];
+    let mut all = Vec::new(rt.alloc());
+    for answer in want {
+        let mut into = [0u8; 4];
+        let got = source.read(&mut into);
+        assert!(rt; got == answer);
+        if let Ok(count) = got {
+            all.extend_from_slice(&into[..count])?;
+        }
+    }
+    assert!(rt; all.as_slice() == b"hello".as_slice());
+    Ok(())
+}
+
+#[test]
+fn each_failing_read_is_answered(rt: HostRuntime) -> Result<(), Fail> {
+    for number in 1..=7u64 {
+        let text = b"hello".to_vec(rt.alloc())?;
+        let fail_at = [number].to_vec(rt.alloc())?;
+        let mut source = MemSource::new(text, 1, fail_at);
+        let answer = read_up_to(rt.alloc(), &mut source, 100);
+        if number < 7 {
+            assert!(rt; answer == Err(ReadFault::Failed), "read {number} fails");
+        } else {
+            assert!(rt; answer? == b"hello".to_vec(rt.alloc())?);
+        }
+    }
+    Ok(())
+}
+
+#[test]
+fn clean_sink_holds_all_that_was_written(rt: HostRuntime) -> Result<(), Fail> {
+    let mut sink = CleanSink::new(rt.alloc());
+    for part in ["hello", "", " ", "world"] {
+        assert!(rt; write_all(&mut sink, part.as_bytes()).is_ok());
+    }
+    assert!(rt; sink.bytes() == b"hello world".as_slice());
+    Ok(())
+}
+
+#[test]
+fn refused_writes_take_nothing(rt: HostRuntime) -> Result<(), Fail> {
+    let fail_at = [1, 3].to_vec(rt.alloc())?;
+    let mut sink = MemSink::new(rt.alloc(), 2, fail_at);
+    let want = [
+        Err(SinkFault::Failed),
+        Ok(2),
+        Err(SinkFault::Failed),
+        Ok(2),
+        Ok(1),
+    ];
+    let mut done = 0;
+    for answer in want {
+        let text = b"hello";
+        assert!(rt; done < text.len());
+        let got = sink.write(&text[done..]);
+        assert!(rt; got == answer);
+        if let Ok(count) = got {
+            done += count;
+        }
+    }
+    assert!(rt; sink.bytes() == b"hello".as_slice());
+    Ok(())
+}
+
+#[test]
+fn each_failing_write_leaves_the_bytes_before_it(rt: HostRuntime) -> Result<(), Fail> {
+    let text = b"34\n";
+    for number in 1..=4u64 {
+        let fail_at = [number].to_vec(rt.alloc())?;
+        let mut sink = MemSink::new(rt.alloc(), 1, fail_at);
+        let answer = write_all(&mut sink, text);
+        if number < 4 {
+            assert!(rt; answer == Err(SinkFault::Failed), "write {number} fails");
+        } else {
+            assert!(rt; answer.is_ok());
+        }
+        assert!(rt;
+            sink.bytes() == &text[..number as usize - 1],
+            "write {number} fails"
+        );
+    }
+    Ok(())
+}
+
+#[test]
+fn standard_input_of_a_test_is_at_its_end(rt: HostRuntime) {
+    let mut source = StdSource::new(rt.stdin());
+    let mut into = [0u8; 4];
+    assert!(rt; source.read(&mut into) == Ok(0));
+}
+
+#[test]
+fn standard_output_takes_a_line(rt: HostRuntime) {
+    let mut sink = StdSink::new(rt.stdout());
+    let line = b"a line\n";
+    assert!(rt; write_all(&mut sink, line).is_ok());
+}

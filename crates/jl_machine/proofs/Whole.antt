@@ -1,0 +1,132 @@
+-- A new machine fits a fresh dispatcher, and one that ended has run.
+use Rattle.std.proofs.Common.{◌≡◌, ℕ, ◌≤◌, ◌<◌, List, [], ◌∷◌, ◌++◌, refl, sym, ap, ◌∙◌, subst, arith, length, Result, Ok, Err, IfOk, Option, None}
+use Rattle.std.specs.declared.alloc.AllocError.{AllocError}
+use Rattle.jl_calculus.specs.declared.value.Value.TheVariants as V
+use Rattle.jl_calculus.specs.declared.history.TraceItem.{TraceItem}
+use Rattle.jl_calculus.specs.declared.history.Outcome.{Outcome}
+use Rattle.jl_calculus.specs.declared.history.Record.{Record}
+use Rattle.jl_calculus.specs.declared.tree.Program.{Program}
+use Rattle.jl_calculus.specs.declared.point.Work.{Work}
+use Rattle.jl_calculus.specs.declared.point.Work.TheVariants.{Eval, Give, Calling, Items, Defining, Pieces, Ended, Lost}
+use Rattle.jl_calculus.specs.declared.point.Now.{Now}
+use Rattle.jl_calculus.specs.Run.{IsEnd, Run, open_calls}
+use Rattle.jl_calculus.specs.Point.{Finishes}
+use Rattle.jl_calculus.specs.Simple.{IsSimple, is_simple_item}
+use Rattle.jl_machine.specs.declared.task.Task.{Task}
+use Rattle.jl_machine.specs.declared.task.Machine.{Machine}
+use Rattle.jl_machine.specs.Knows.{Knows}
+use Rattle.jl_machine.specs.declared.task.Phase.TheVariants as Ph
+use Rattle.jl_machine.specs.Fits.{setting, FitsWith, Fitting, Fits, MachineFits, Steps, phase_of, IsGoing, IsEnded, IsFresh, IsNew, IsRecordOf, HasEnded, IsRunOf}
+use Rattle.jl_machine.specs.Weight.{turns_left}
+use Rattle.jl_machine.proofs.Traces.{append_nil}
+use Rattle.jl_machine.proofs.Equations.{every_passed}
+
+-- what is left fits as a machine
+pub fits : (P : Program) (fuel : ℕ) (k : Knows) (w : Work) (t : Task) → FitsWith P fuel k w t → Fits P fuel k w t
+fits P fuel k (Eval e) t f = f
+fits P fuel k (Give v) t f = f
+fits P fuel k (Calling g vs) t f = f
+fits P fuel k (Items xs v) t f = f
+fits P fuel k (Defining site xs) t f = f
+fits P fuel k (Pieces text xs line) t f = f
+fits P fuel k (Ended o) t f = f
+fits P fuel k Lost t f = tt
+
+module _ (P : Program) (fuel : ℕ) (k : Knows) where
+  abbrev start : Now
+  start = record { world = 14; room = open_calls; env = []; bindings = []; stack = []; out = [] }
+
+  fresh_at : (t : Task) → k.program ≡ P → IsSimple P → IsFresh k → t.now ≡ start → t.fuel ≡ fuel → t.trace ≡ [] → t.calls ≡ 0 → FitsWith P fuel k (Items P.top V.Nothing) t
+  fresh_at t program simple f now fuel_is trace calls = record {
+    program = program;
+    fuel_is = fuel_is;
+    simple = simple;
+    runs = λ es a o out all rest h. rw trace (record { ran = subst (λ (q : Now × ℕ). Finishes (setting P es fuel) (IsEnd o out all []) (Items P.top V.Nothing, q.0) q.1 [] rest) (λ i. (now i, calls i)) h });
+    learnt = rw trace tt;
+    order = rw trace f.begun;
+    looks = rw trace (sym f.looks);
+    own = rw trace (sym f.own);
+    world = rw now (omega arith, f.world);
+    worlds = rw now tt;
+    plain = record { work = (every_passed (is_simple_item (length P.sites)) P.top simple.top, refl); now = rw now (record { env = tt; stack = tt }) };
+  }
+
+  pub fits_new : (m : Machine) → P ≡ k.program → IsSimple P → IsFresh k → IsNew P fuel m → MachineFits P fuel k m
+  fits_new m program simple f new =
+      subst (λ w. Fits P fuel k w m.task) (sym new.work) (fits P fuel k (Items P.top V.Nothing) m.task (fresh_at m.task (sym program) simple f new.now new.fuel new.trace new.calls))
+
+  ran_task : (t : Task) (o : Outcome) → FitsWith P fuel k (Ended o) t → (r : Record) → t.trace ≡ r.trace → o ≡ r.outcome → t.now.out ≡ r.output → t.calls ≡ r.calls → IsRunOf P fuel k r
+  ran_task t o f r trace outcome out calls = record {
+    program = f.program;
+    runs = λ es a.
+        let ran = f.runs es a o t.now.out t.calls [] (record { is = refl; whole = refl; printed = refl; counted_calls = refl; spawned_tasks = refl }) in
+        let R = λ (is : List TraceItem). Run (setting P es fuel) None is o t.now.out t.calls [] in
+        let whole = subst R (append_nil t.trace) ran in
+        subst (λ n. Run (setting P es fuel) None r.trace r.outcome r.output n []) calls
+        (subst (λ text. Run (setting P es fuel) None r.trace r.outcome text t.calls []) out
+        (subst (λ p. Run (setting P es fuel) None r.trace p t.now.out t.calls []) outcome
+        (subst (λ is. Run (setting P es fuel) None is o t.now.out t.calls []) trace whole)));
+    learnt = rw (← trace) f.learnt;
+    order = rw (← trace) f.order;
+    own = rw (← trace) f.own;
+  }
+
+  pub ran_record : (m : Machine) (r : Record) → MachineFits P fuel k m → HasEnded r m → IsRunOf P fuel k r
+  ran_record m r f h =
+      let g : FitsWith P fuel k (Ended r.outcome) m.task = subst (λ w. Fits P fuel k w m.task) h.work f in
+      ran_task m.task r.outcome g r h.trace refl h.out h.calls
+
+pub record_ok : (r : Result Record AllocError) (P : Program) (fuel : ℕ) (k : Knows) (m : Machine) → MachineFits P fuel k m → IfOk r (λ x. HasEnded x m) → IfOk r (λ x. IsRunOf P fuel k x)
+record_ok (Ok x) P fuel k m f h = ran_record P fuel k m x f h
+record_ok (Err e) P fuel k m f h = tt
+
+-- a step as the machine's fit
+pub step_fits : (P : Program) (k k' : Knows) (w w' : Work) (t t' : Task) → P ≡ k.program → Steps k w t k' w' t' → Fits P t.fuel k' w' t'
+step_fits P k k' w w' t t' e s = subst (λ Q. Fits Q t.fuel k' w' t') (sym e) (fits k.program t.fuel k' w' t' s.fits)
+
+-- a machine that fits and has something to do
+pub going : (w : Work) → phase_of w ≡ Ph.Going → IsGoing w
+going (Eval e) h = tt
+going (Give v) h = tt
+going (Calling g vs) h = tt
+going (Items xs v) h = tt
+going (Defining site xs) h = tt
+going (Pieces text xs line) h = tt
+going (Ended o) h = absurd (cc)
+going Lost h = absurd (cc)
+
+fitting_with : (P : Program) (k : Knows) (w : Work) (t : Task) → FitsWith P t.fuel k w t → Fitting k w t
+fitting_with P k w t f = subst (λ Q. FitsWith Q t.fuel k w t) (sym f.program) f
+
+pub fitting : (P : Program) (k : Knows) (w : Work) (t : Task) → IsGoing w → Fits P t.fuel k w t → (P ≡ k.program) × Fitting k w t
+fitting P k (Eval e) t h f = (sym f.program, fitting_with P k (Eval e) t f)
+fitting P k (Give v) t h f = (sym f.program, fitting_with P k (Give v) t f)
+fitting P k (Calling g vs) t h f = (sym f.program, fitting_with P k (Calling g vs) t f)
+fitting P k (Items xs v) t h f = (sym f.program, fitting_with P k (Items xs v) t f)
+fitting P k (Defining site xs) t h f = (sym f.program, fitting_with P k (Defining site xs) t f)
+fitting P k (Pieces text xs line) t h f = (sym f.program, fitting_with P k (Pieces text xs line) t f)
+fitting P k (Ended o) t h f = absurd h
+fitting P k Lost t h f = absurd h
+
+pub ended : (m : Machine) → phase_of m.work ≡ Ph.Ended → IsEnded m
+ended m h = ended_work m.work h
+  where
+    ended_work : (w : Work) → phase_of w ≡ Ph.Ended → (o : Outcome) × (w ≡ Ended o)
+    ended_work (Ended o) h = (o, refl)
+    ended_work (Eval e) h = absurd (cc)
+    ended_work (Give v) h = absurd (cc)
+    ended_work (Calling g vs) h = absurd (cc)
+    ended_work (Items xs v) h = absurd (cc)
+    ended_work (Defining site xs) h = absurd (cc)
+    ended_work (Pieces text xs line) h = absurd (cc)
+    ended_work Lost h = absurd (cc)
+
+-- the turns that are left after a step
+pub step_turns : (P : Program) (k k' : Knows) (w w' : Work) (t t' : Task) → P ≡ k.program → Steps k w t k' w' t' → turns_left P t'.fuel t'.calls w' t'.now < turns_left P t.fuel t.calls w t.now
+step_turns P k k' w w' t t' e s =
+    let same : t'.fuel ≡ t.fuel = s.fits.fuel_is in
+    rw (same, e) s.lighter
+
+pub has_ended : (m : Machine) (r : Result Record AllocError) (o : Outcome) → m.work ≡ Ended o → IfOk r (λ x. IsRecordOf x m.task o) → IfOk r (λ x. HasEnded x m)
+has_ended m (Ok x) o e h = record { work = e ∙ ap Ended h.outcome; trace = h.trace; out = h.out; calls = h.calls }
+has_ended m (Err x) o e h = tt

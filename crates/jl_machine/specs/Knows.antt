@@ -1,0 +1,86 @@
+-- What a dispatcher means.
+use Rattle.std.specs.Prelude.{◌≡◌, ℕ, ◌+◌, ◌-◌, ◌<◌, ◌≤◌, List, [], ◌∷◌, ◌++◌}
+use Rattle.jl_model.specs.declared.ty.Ty.{Ty}
+use Rattle.jl_calculus.specs.declared.history.Event.{Event}
+use Rattle.jl_calculus.specs.declared.history.TraceItem.{TraceItem}
+use Rattle.jl_calculus.specs.declared.history.TraceItem.TheVariants.{Look, Def, WorldFull}
+use Rattle.jl_calculus.specs.declared.history.Choice.{Choice}
+use Rattle.jl_calculus.specs.declared.history.Choice.TheVariants as C
+use Rattle.jl_calculus.specs.declared.tree.Program.{Program}
+use Rattle.jl_calculus.specs.Past.{IsTrueOf}
+use Rattle.jl_calculus.specs.World.{Selects, site_of}
+
+pub record Knows : Type 1 where
+  -- all answers speak of it
+  pub program : Program
+  -- the task that asks
+  pub task : ℕ
+  -- it never falls, and is at least the world of each look
+  pub world : ℕ
+  -- how many events the task has seen
+  pub seen : ℕ
+  -- whether a list of events agrees with what it knows
+  pub agrees : List Event → Type 0
+  -- the items that it has learnt
+  pub learnt : TraceItem → Type 0
+  -- the definitions that it made, in order
+  pub own : List TraceItem
+  -- how often it looked
+  pub looks : ℕ
+
+-- what a call leaves: what was known stays known
+pub record Grew (before now : Knows) : Type 0 where
+  pub program : now.program ≡ before.program
+  pub task : now.task ≡ before.task
+  pub world : before.world ≤ now.world
+  pub seen : before.seen ≤ now.seen
+  pub agrees : (es : List Event) → now.agrees es → before.agrees es
+  pub learnt : (i : TraceItem) → before.learnt i → now.learnt i
+
+-- an item that is told is learnt, and true wherever a list agrees
+pub record Told (now : Knows) (i : TraceItem) : Type 0 where
+  pub learnt : now.learnt i
+  pub right : (es : List Event) → now.agrees es → IsTrueOf es now.task i
+
+-- a look, which answered this world and this length
+pub record Looked (before now : Knows) (w p : ℕ) : Type 0 where
+  pub grew : Grew before now
+  pub told : Told now (Look w p)
+  pub length : now.seen ≡ p
+  pub low : 14 ≤ w
+  pub high : w ≤ now.world
+  pub looks : now.looks ≡ before.looks + 1
+  pub own : now.own ≡ before.own
+
+-- a question that is no look and makes nothing
+pub record Asked (before now : Knows) : Type 0 where
+  pub grew : Grew before now
+  pub looks : now.looks ≡ before.looks
+  pub own : now.own ≡ before.own
+
+-- a definition that is chosen is one of the world
+abbrev pub IsOfWorld : Choice → ℕ → Type 0
+IsOfWorld (C.Method d) w = (1 ≤ d) × (d ≤ w)
+IsOfWorld _ w = Unit {0}
+
+-- a choice is right
+pub record IsRight (now : Knows) (f : ℕ) (ts : List Ty) (w : ℕ) (c : Choice) : Type 0 where
+  pub right : (es : List Event) → now.agrees es → Selects now.program es f ts w c
+  pub of_world : IsOfWorld c w
+
+-- the site of a definition
+pub record IsSite (now : Knows) (d site : ℕ) : Type 0 where
+  pub right : (es : List Event) → now.agrees es → site_of es d ≡ site
+
+-- a definition of a site, which is then seen
+pub record Defined (before now : Knows) (site : ℕ) : Type 0 where
+  pub told : Told now (Def site (now.seen - 1))
+  pub place : before.seen < now.seen
+  pub looks : now.looks ≡ before.looks
+  pub own : now.own ≡ before.own ++ Def site (now.seen - 1) ∷ []
+
+-- the world is the last one
+pub record Full (before now : Knows) : Type 0 where
+  pub told : Told now (WorldFull now.seen)
+  pub looks : now.looks ≡ before.looks
+  pub own : now.own ≡ before.own

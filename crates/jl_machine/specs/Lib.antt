@@ -1,0 +1,6 @@
+pub mod Worlds
+pub mod Knows
+pub mod Performed
+pub mod Plain
+pub mod Weight
+pub mod Fits

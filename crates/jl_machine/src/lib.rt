@@ -1,0 +1,14 @@
+//! The evaluator: a machine that runs one task turn by turn, with a stack of its own, and asks a dispatcher for all that
+//! other tasks may change.
+#![tactic(auto)]
+
+pub mod dispatcher;
+mod operations;
+mod root;
+mod task;
+#[cfg(test)]
+mod tests;
+mod turns;
+
+pub use root::run_root;
+pub use task::{Machine, Turn};

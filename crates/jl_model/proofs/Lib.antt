@@ -1,0 +1,14 @@
+pub mod TypeInduction
+pub mod FormLemmas
+pub mod PutLemmas
+pub mod AncestorLemmas
+pub mod SelfLemmas
+pub mod HeightLemmas
+pub mod TransLemmas
+pub mod DeclaredLemmas
+pub mod OrderLemmas
+pub mod BelowLemmas
+pub mod NormalLemmas
+pub mod KnownLemmas
+pub mod FillLemmas
+pub mod CountLemmas

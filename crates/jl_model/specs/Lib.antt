@@ -1,0 +1,15 @@
+pub mod SharedItems
+pub mod formers
+pub mod Kinds
+pub mod Rows
+pub mod Subtype
+pub mod Signature
+pub mod Ancestors
+pub mod Choice
+pub mod Order
+pub mod Counts
+pub mod Normal
+pub mod Valid
+pub mod Kept
+pub mod Refusals
+pub mod Members

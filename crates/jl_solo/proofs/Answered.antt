@@ -1,0 +1,152 @@
+-- What a dispatcher for a task that runs alone answers is right.
+use Rattle.std.proofs.Common.{◌≡◌, ◌∙◌, ap, sym, subst, refl, ℕ, suc, ◌+◌, ◌-◌, ◌<◌, ◌≤◌, arith, All, Bool, true, false, cond, List, [], ◌∷◌, ◌++◌, length, take, drop, get_or, slice_get, append_assoc, length-append, Result, Ok, Err, IfOk}
+use Rattle.std.proofs.lemmas.List.Elements.{All-push}
+use Rattle.std.proofs.lemmas.List.{drop-append-le, length-take-le}
+use Rattle.jl_model.specs.declared.ty.Ty.{Ty}
+use Rattle.jl_calculus.specs.declared.history.Choice.{Choice}
+use Rattle.jl_calculus.specs.declared.history.Event.{Event}
+use Rattle.jl_calculus.specs.declared.history.Event.TheVariants as Ev
+use Rattle.jl_calculus.specs.declared.history.TraceItem.{TraceItem}
+use Rattle.jl_calculus.specs.declared.history.TraceItem.TheVariants.{Look, WorldFull}
+use Rattle.jl_calculus.specs.declared.history.TraceItem.TheVariants as Item
+use Rattle.jl_calculus.specs.declared.history.Def.{Def}
+use Rattle.jl_calculus.specs.declared.tree.Program.{Program}
+use Rattle.jl_calculus.specs.Past.{IsTrueOf, DefinesAt}
+use Rattle.jl_calculus.specs.Prelude.{prelude_numbers}
+use Rattle.jl_calculus.specs.World.{world_of, types_of, Chooses}
+use Rattle.jl_choice.specs.Methods.{methods_of, defs_from}
+use Rattle.jl_machine.specs.Knows.{Grew, Looked, Asked, IsRight, IsSite, Defined, Full}
+use Rattle.jl_solo.specs.Alone.{defs_of, events_of, GoesOn, knows_at, IsOfScript, IsAlone}
+use Rattle.jl_solo.proofs.EventLemmas.{defined_alone, length_more, take_defs, defs_push, get_last, own_push}
+use Rattle.jl_solo.proofs.ChoiceOf.{of_world, selects_goes, site_goes}
+
+-- ---- the list of all definitions
+
+pub all_length : (P : Program) (all : List ℕ) → IsAlone P all → length all ≡ 14 + length (drop 14 all)
+all_length P all h = ap length h.prelude ∙ length-append prelude_numbers (drop 14 all)
+
+pub drop_push : (P : Program) (all : List ℕ) (s : ℕ) → IsAlone P all → drop 14 (all ++ s ∷ []) ≡ drop 14 all ++ s ∷ []
+drop_push P all s h = drop-append-le 14 all (s ∷ []) (omega (arith, all_length P all h))
+
+pub alone_push : (P : Program) (all : List ℕ) (s : ℕ) → IsAlone P all → length all < 65535 → 14 ≤ s → s < length P.sites → IsAlone P (all ++ s ∷ [])
+alone_push P all s h most low high = record {
+  bare = h.bare;
+  prelude =
+      ap (λ xs. xs ++ s ∷ []) h.prelude
+      ∙ append_assoc prelude_numbers (drop 14 all) (s ∷ [])
+      ∙ ap (λ xs. prelude_numbers ++ xs) (sym (drop_push P all s h));
+  most = omega (arith, length-append all (s ∷ []));
+  script = subst (All (IsOfScript P)) (sym (drop_push P all s h)) (All-push (IsOfScript P) (drop 14 all) s h.script (low, high));
+}
+
+-- ---- what is true of every list that goes on
+
+world_goes : (sites : List ℕ) (es : List Event) → GoesOn sites es → (1 + length sites ≤ length es) × (world_of (take (1 + length sites) es) ≡ 14 + length sites)
+world_goes sites es (fuel, more, q) =
+    let n : 1 + length sites ≡ suc (length sites) = omega arith in (
+      omega (arith, ap length q, length_more sites more),
+      ap (λ xs. world_of (take (1 + length sites) xs)) q
+          ∙ ap (λ k. world_of (take k (events_of fuel sites ++ more))) n
+          ∙ ap (λ xs. world_of (Ev.Begin fuel ∷ xs)) (take_defs sites more)
+          ∙ ap (λ xs. 14 + length xs) (defined_alone sites),
+    )
+
+defines_goes : (sites : List ℕ) (s : ℕ) (es : List Event) → GoesOn (sites ++ s ∷ []) es → DefinesAt es (1 + length sites) 0 s
+defines_goes sites s es (fuel, more, q) =
+    let n : 1 + length sites ≡ suc (length sites) = omega arith in
+    ap (λ xs. slice_get xs (1 + length sites)) q ∙ ap (slice_get (events_of fuel (sites ++ s ∷ []) ++ more)) n ∙ get_last sites s more
+
+goes_less : (sites : List ℕ) (s : ℕ) (es : List Event) → GoesOn (sites ++ s ∷ []) es → GoesOn sites es
+goes_less sites s es (fuel, more, q) =
+    (fuel, Ev.Def 0 s ∷ more, q ∙ ap (λ xs. Ev.Begin fuel ∷ (xs ++ more)) (defs_push sites s) ∙ ap (λ xs. Ev.Begin fuel ∷ xs) (append_assoc (defs_of sites) (Ev.Def 0 s ∷ []) more))
+
+-- ---- the answers
+
+module _ (P : Program) (sites : List ℕ) where
+  pub same : (n k : ℕ) → Grew (knows_at P sites n) (knows_at P sites k)
+  same n k = record { program = refl; task = refl; world = omega arith; seen = omega arith; agrees = λ es a. a; learnt = λ i h. h }
+
+  pub looked : (n w p : ℕ) → w ≡ 14 + length sites → p ≡ 1 + length sites → Looked (knows_at P sites n) (knows_at P sites (n + 1)) w p
+  looked n w p e q =
+      let told : (es : List Event) → GoesOn sites es → IsTrueOf es 0 (Look w p) = λ es g.
+      let h = world_goes sites es g in (omega (arith, q, h.0), ap (λ k. world_of (take k es)) q ∙ h.1 ∙ sym e) in record {
+        grew = same n (n + 1);
+        told = record { learnt = told; right = told };
+        length = sym q;
+        low = omega arith;
+        high = omega arith;
+        looks = refl;
+        own = refl;
+      }
+
+  pub asked : (n : ℕ) → Asked (knows_at P sites n) (knows_at P sites n)
+  asked n = record { grew = same n n; looks = refl; own = refl }
+
+  pub full : (n : ℕ) → 14 + length sites ≡ 65535 → Full (knows_at P sites n) (knows_at P sites n)
+  full n e =
+      let told : (es : List Event) → GoesOn sites es → IsTrueOf es 0 (WorldFull (1 + length sites)) = λ es g.
+      let h = world_goes sites es g in (h.0, h.1 ∙ e) in record {
+        told = record { learnt = told; right = told };
+        looks = refl;
+        own = refl;
+      }
+
+  pub grew : (n s : ℕ) → Grew (knows_at P sites n) (knows_at P (sites ++ s ∷ []) n)
+  grew n s = record {
+    program = refl;
+    task = refl;
+    world = omega (arith, length-append sites (s ∷ []));
+    seen = omega (arith, length-append sites (s ∷ []));
+    agrees = goes_less sites s;
+    learnt = λ i h es g. h es (goes_less sites s es g);
+  }
+
+  pub made : (n s : ℕ) → Defined (knows_at P sites n) (knows_at P (sites ++ s ∷ []) n) s
+  made n s =
+      let at : 1 + length sites ≡ 1 + length (sites ++ s ∷ []) - 1 = omega (arith, length-append sites (s ∷ [])) in
+      let told : (es : List Event) → GoesOn (sites ++ s ∷ []) es → IsTrueOf es 0 (Item.Def s (1 + length (sites ++ s ∷ []) - 1)) = λ es g.
+      subst (λ p. DefinesAt es p 0 s) at (defines_goes sites s es g) in record {
+        told = record { learnt = told; right = told };
+        place = omega (arith, length-append sites (s ∷ []));
+        looks = refl;
+        own = own_push 1 sites s ∙ ap (λ p. own_part ++ Item.Def s p ∷ []) at;
+      }
+    where
+      own_part : List TraceItem
+      own_part = (knows_at P sites n).own
+
+pub right : (P : Program) (all : List ℕ) (n f w : ℕ) (ts : List Ty) (c : Choice) → IsAlone P all → w ≤ length all
+    → Chooses (types_of P) (methods_of P (defs_from P f 1 (take w all))) ts c → IsRight (knows_at P (drop 14 all) n) f ts w c
+right P all n f w ts c h l k = record {
+  right = selects_goes P f w ts c all (drop 14 all) h.prelude l k;
+  of_world = of_world P f w (take w all) ts c (omega (arith, length-take-le w all l)) k;
+}
+
+pub site : (P : Program) (all : List ℕ) (n d s : ℕ) → IsAlone P all → 1 ≤ d → d ≤ length all → s ≡ get_or all (d - 1) 0 → IsSite (knows_at P (drop 14 all) n) d s
+site P all n d s h low high e = record { right = λ es g. site_goes d all (drop 14 all) h.prelude low high es g ∙ sym e }
+
+-- ---- the same, by the list of all definitions
+
+module _ (P : Program) (all : List ℕ) (h : IsAlone P all) where
+  pub looked_all : (n w : ℕ) → w ≡ length all → Looked (knows_at P (drop 14 all) n) (knows_at P (drop 14 all) (n + 1)) w (w - 13)
+  looked_all n w e = looked P (drop 14 all) n w (w - 13) (omega (arith, e, all_length P all h)) (omega (arith, e, all_length P all h))
+
+  pub full_all : (n : ℕ) → 65535 ≤ length all → Full (knows_at P (drop 14 all) n) (knows_at P (drop 14 all) n)
+  full_all n l = full P (drop 14 all) n (omega (arith, l, h.most, all_length P all h))
+
+  pub grew_all : (n s : ℕ) → Grew (knows_at P (drop 14 all) n) (knows_at P (drop 14 (all ++ s ∷ [])) n)
+  grew_all n s = subst (λ xs. Grew (knows_at P (drop 14 all) n) (knows_at P xs n)) (sym (drop_push P all s h)) (grew P (drop 14 all) n s)
+
+  pub made_all : (n s : ℕ) → Defined (knows_at P (drop 14 all) n) (knows_at P (drop 14 (all ++ s ∷ [])) n) s
+  made_all n s = subst (λ xs. Defined (knows_at P (drop 14 all) n) (knows_at P xs n) s) (sym (drop_push P all s h)) (made P (drop 14 all) n s)
+
+  pub alone_if : (s : ℕ) → length all < 65535 → 14 ≤ s → s < length P.sites → (b : Bool) → IsAlone P (cond b (all ++ s ∷ []) all)
+  alone_if s most low high true = alone_push P all s h most low high
+  alone_if s most low high false = h
+
+  pub right_all : {E : Type 0} (n f w : ℕ) (ts types : List Ty) (defs : List Def) → w ≤ length all → defs ≡ defs_from P f 1 (take w all) → types ≡ ts → (r : Result Choice E)
+      → IfOk r (λ c. Chooses (types_of P) (methods_of P defs) types c) → IfOk r (λ c. IsRight (knows_at P (drop 14 all) n) f ts w c)
+  right_all n f w ts types defs l e q (Ok c) k =
+      right P all n f w ts c h l
+      (subst (λ ds. Chooses (types_of P) (methods_of P ds) ts c) e (subst (λ xs. Chooses (types_of P) (methods_of P defs) xs c) q k))
+  right_all n f w ts types defs l e q (Err x) k = k

@@ -1,0 +1,89 @@
+-- The history of a task that ran alone is legal.
+use Rattle.std.proofs.Common.{◌≡◌, ◌∙◌, ap, sym, subst, refl, ℕ, zero, suc, ◌+◌, ◌-◌, ◌<◌, ◌≤◌, arith, All, List, [], ◌∷◌, ◌++◌, length, take, drop, append_assoc, append-nil, length-append, None, IsSome, unwrap_or}
+use Rattle.std.proofs.Math.Seq.{take-length}
+use Rattle.std.proofs.lemmas.List.{length-drop}
+use Rattle.std.proofs.lemmas.List.Elements.{All-head, All-tail}
+use Rattle.jl_calculus.specs.declared.history.Event.{Event}
+use Rattle.jl_calculus.specs.declared.history.Event.TheVariants as Ev
+use Rattle.jl_calculus.specs.declared.history.Record.{Record}
+use Rattle.jl_calculus.specs.declared.history.TraceItem.{TraceItem}
+use Rattle.jl_calculus.specs.declared.tree.Program.{Program}
+use Rattle.jl_calculus.specs.Legal.{start_of, IsRunning, AreTrueOf, IsFinished, IsLegalAfter, IsLegal}
+use Rattle.jl_calculus.specs.Past.{tasks_of, done_of, IsInOrder, own_starts}
+use Rattle.jl_calculus.specs.Run.{Run}
+use Rattle.jl_machine.specs.Fits.{AllLearnt, IsRunOf, setting}
+use Rattle.jl_solo.specs.Alone.{defs_of, events_of, GoesOn, knows_at, IsOfScript, IsAlone}
+use Rattle.jl_solo.proofs.EventLemmas.{defined_alone, length_defs, defs_push, tasks_alone, not_done, no_start, no_starts, first_alone, tasks_ended, done_ended}
+use Rattle.jl_solo.proofs.Answered.{all_length}
+
+-- the events so far go on from themselves
+goes_self : (fuel : ℕ) (sites : List ℕ) → GoesOn sites (events_of fuel sites)
+goes_self fuel sites = (fuel, [], sym (append-nil (events_of fuel sites)))
+
+running : (fuel : ℕ) (sites : List ℕ) → IsRunning (events_of fuel sites) 0
+running fuel sites = record { begun = refl; started = omega (arith, tasks_alone sites); going = not_done sites }
+
+module _ (Q : Program) (sites : List ℕ) (n : ℕ) where
+  truths : (es : List Event) → GoesOn sites es → (is : List TraceItem) → AllLearnt (knows_at Q sites n) is → AreTrueOf es 0 is
+  truths es g [] h = tt
+  truths es g (i ∷ is) h = (h.0 es g, truths es g is h.1)
+
+  -- what the root did is a run over the events so far
+  pub finished : (P : Program) (fuel : ℕ) (r : Record) → IsRunOf P fuel (knows_at Q sites n) r → IsFinished P (events_of fuel sites) 0 r
+  finished P fuel r h = record {
+    running = running fuel sites;
+    true_items = truths (events_of fuel sites) (goes_self fuel sites) r.trace h.learnt;
+    in_order =
+        let e : 1 + length sites ≡ length (events_of fuel sites) = omega (arith, length_defs sites) in
+        subst (λ p. IsInOrder p r.trace (length (events_of fuel sites))) (sym (first_alone 1 sites)) (subst (IsInOrder 1 r.trace) e h.order);
+    own = sym h.own;
+    ran = λ most e.
+        let fuels : fuel ≡ most = ap (λ o. unwrap_or o 0) e in
+        let run : Run (setting P (events_of fuel sites) fuel) None r.trace r.outcome r.output r.calls [] = h.runs (events_of fuel sites) (goes_self fuel sites) in
+        let starts = subst (λ xs. Run (setting P (events_of fuel sites) fuel) None r.trace r.outcome r.output r.calls xs) (sym (no_starts sites)) run in
+        let start = subst (λ o. Run (setting P (events_of fuel sites) fuel) o r.trace r.outcome r.output r.calls (own_starts 0 (events_of fuel sites))) (sym (no_start sites)) starts in
+        subst (λ k. Run (setting P (events_of fuel sites) k) (start_of 0 (events_of fuel sites)) r.trace r.outcome r.output r.calls (own_starts 0 (events_of fuel sites))) fuels start;
+  }
+
+module _ (P : Program) (fuel : ℕ) (r : Record) where
+  -- the definitions that are left, and the end, are right after those before
+  right_after : (done rest : List ℕ) → All (IsOfScript P) rest → 14 + (length done + length rest) ≤ 65535 → IsFinished P (events_of fuel (done ++ rest)) 0 r
+      → IsLegalAfter P (events_of fuel done) (defs_of rest ++ Ev.Done 0 r ∷ [])
+  right_after done [] h l f = (subst (λ xs. IsFinished P (events_of fuel xs) 0 r) (append-nil done) f, tt)
+  right_after done (s ∷ rest) h l f = (
+    (running fuel done, (All-head (IsOfScript P) s rest h).0, (All-head (IsOfScript P) s rest h).1, omega (arith, l, ap length (defined_alone done))),
+    subst (λ es. IsLegalAfter P es (defs_of rest ++ Ev.Done 0 r ∷ [])) (ap (λ es. Ev.Begin fuel ∷ es) (defs_push done s))
+        (right_after (done ++ s ∷ []) rest (All-tail (IsOfScript P) s rest h) (omega (arith, l, length-append done (s ∷ [])))
+        (subst (λ xs. IsFinished P (events_of fuel xs) 0 r) (sym (append_assoc done (s ∷ []) rest)) f)),
+  )
+
+  pub legal : (sites : List ℕ) → All (IsOfScript P) sites → 14 + length sites ≤ 65535 → fuel ≤ 1000000000 → IsFinished P (events_of fuel sites) 0 r
+      → IsLegal P (Ev.Begin fuel ∷ (defs_of sites ++ Ev.Done 0 r ∷ []))
+  legal sites h l few f = record {
+    so_far = record { begun = refl; right = ((refl, few), right_after [] sites h (omega (arith, l)) f) };
+    finished = all_done;
+  }
+    where
+      all_done : (task : ℕ) → task < tasks_of (defs_of sites ++ Ev.Done 0 r ∷ []) → IsSome (done_of task (defs_of sites ++ Ev.Done 0 r ∷ []))
+      all_done zero lt = subst IsSome (sym (done_ended sites r)) refl
+      all_done (suc task) lt = absurd (omega (arith, lt, tasks_ended sites r))
+
+-- a slice to the end
+pub slice_end : {X : Type 0} (n : ℕ) (xs ys : List X) → xs ≡ ys → take (length xs - n) (drop n xs) ≡ drop n ys
+slice_end n xs ys e = ap (λ k. take k (drop n xs)) (sym (length-drop n xs)) ∙ take-length (drop n xs) ∙ ap (drop n) e
+
+-- the events as they were put together
+pub put_together : (fuel : ℕ) (sites all : List ℕ) (r : Record) (none begun defined ended events : List Event) → none ≡ [] → begun ≡ none ++ Ev.Begin fuel ∷ []
+    → sites ≡ drop 14 all → defined ≡ begun ++ defs_of sites → ended ≡ defined ++ Ev.Done 0 r ∷ [] → events ≡ ended
+    → events ≡ Ev.Begin fuel ∷ (defs_of (drop 14 all) ++ Ev.Done 0 r ∷ [])
+put_together fuel sites all r none begun defined ended events e0 e1 e2 e3 e4 e5 =
+    e5
+    ∙ e4
+    ∙ ap (λ es. es ++ Ev.Done 0 r ∷ []) (e3 ∙ ap (λ es. es ++ defs_of sites) (e1 ∙ ap (λ es. es ++ Ev.Begin fuel ∷ []) e0) ∙ ap (λ xs. Ev.Begin fuel ∷ defs_of xs) e2)
+
+-- the whole run
+pub history_legal : (P Q : Program) (fuel n : ℕ) (all : List ℕ) (r : Record) → IsAlone Q all → fuel ≤ 1000000000 → IsRunOf P fuel (knows_at Q (drop 14 all) n) r
+    → IsLegal P (Ev.Begin fuel ∷ (defs_of (drop 14 all) ++ Ev.Done 0 r ∷ []))
+history_legal P Q fuel n all r a few h =
+    legal P fuel r (drop 14 all) (subst (λ p. All (IsOfScript p) (drop 14 all)) h.program a.script) (omega (arith, a.most, all_length Q all a)) few
+    (finished Q (drop 14 all) n P fuel r h)

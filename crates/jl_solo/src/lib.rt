@@ -1,0 +1,11 @@
+//! A run of a program on one task, over a plain list of events: its history is legal.
+#![tactic(auto)]
+
+mod output;
+mod run;
+mod solo;
+#[cfg(test)]
+mod tests;
+
+pub use output::{status, text};
+pub use run::run_alone;

@@ -1,0 +1,16 @@
+pub mod Texts
+pub mod Choices
+pub mod Capped
+pub mod Ends
+pub mod DigitText
+pub mod NumeralText
+pub mod StringText
+pub mod WordText
+pub mod QuotedText
+pub mod CommentText
+pub mod OperatorText
+pub mod PieceSound
+pub mod PieceGoes
+pub mod OneReading
+pub mod Loop
+pub mod Whole

@@ -1,0 +1,35 @@
+//! Identifiers: how far one goes, and the bytes of what was read.
+
+ghost use Rattle.std.specs.Prelude.{◌≡◌, ◌≤◌, ◌++◌, length, IfOk, List, ℕ};
+ghost use Rattle.std.specs.Str.{chars, encode_utf8_all};
+ghost use Rattle.jl_token.specs.Reading.{after_word};
+
+use crate::characters::{continues_word, split_first};
+use jl_model::shared::SharedList;
+use jl_model::ty::Bytes;
+use std::alloc::{AllocError, Global};
+
+/// What follows the characters that may continue an identifier.
+pub fn after_word(text: &str) -> &str
+    ensures rest { chars result.now ≡ after_word (chars text.now) }
+    ensures shorter { length result.now ≤ length text.now }
+{
+    let mut rest = text;
+    while let Some((first, after)) = split_first(rest) {
+        if !continues_word(first) {
+            break;
+        }
+        rest = after;
+    }
+    rest
+}
+
+/// The bytes of a text up to its rest.
+pub fn bytes_before(alloc: Global, text: &str, rest: &str) -> Result<Bytes, AllocError>
+    requires { length rest.now ≤ length text.now }
+    ensures { IfOk result (λ bytes. (read : List ℕ) → chars text.now ≡ read ++ chars rest.now → bytes ≡ encode_utf8_all read) }
+{
+    let bytes = text.as_bytes();
+    let read = &bytes[..bytes.len() - rest.len()];
+    SharedList::from_vec(alloc, Vec::from_slice(alloc, read)?)
+}

@@ -1,0 +1,12 @@
+pub mod TableLemmas
+pub mod SameLemmas
+pub mod CountLemmas
+pub mod ExactLemmas
+pub mod GroundLemmas
+pub mod ExpandLemmas
+pub mod RawLemmas
+pub mod ReadyLemmas
+pub mod SpellLemmas
+pub mod ReduceLemmas
+pub mod ApartLemmas
+pub mod FinalLemmas

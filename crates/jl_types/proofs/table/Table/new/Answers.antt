@@ -1,0 +1,5 @@
+use Rattle.jl_model.specs.Refusals.{builtin}
+use Rattle.jl_types.proofs.table.Table.new.Goals as goal
+
+pub invariant_of-result : goal.invariant_of-result
+invariant_of-result c = rw c.in_ok-builtin.ensures builtin
