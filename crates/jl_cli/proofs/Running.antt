@@ -1,8 +1,7 @@
 -- What a call did, from what its parts answer.
-use Rattle.std.proofs.Common.{◌≡◌, ℕ, ◌<◌, ◌≤◌, List, [], ◌∷◌, take, length, refl, sym, ap, ◌∙◌, subst, Option, None, Some, arith, Bool, true, false, codes, bytes_eq, Result, Ok, Err, IfOk}
+use Rattle.std.proofs.Common.{◌≡◌, ℕ, ◌<◌, ◌≤◌, List, [], ◌∷◌, take, length, refl, sym, ap, ◌∙◌, subst, Option, None, Some, arith, true, false, codes, Result, Ok, Err}
 use Rattle.std.specs.Borrow.{Bor}
 use Rattle.std.proofs.lemmas.Slice.Eq.{bytes_eq-Decides}
-use Rattle.std.specs.declared.alloc.AllocError.{AllocError}
 use Rattle.jl_calculus.specs.declared.history.History.{History}
 use Rattle.jl_calculus.specs.declared.tree.Program.{Program}
 use Rattle.jl_calculus.specs.Legal.{IsLegal, fuel_of, text_of, status_of}
@@ -11,9 +10,14 @@ use Rattle.jl_form.specs.Form.{IsForm}
 use Rattle.jl_form.specs.Grammar.{spelled}
 use Rattle.jl_form.specs.Program.{program_of}
 use Rattle.jl_cli.specs.declared.answering.Due.{Due}
-use Rattle.jl_io.specs.Moved.{Gives, Takes, NothingLeft}
+use Rattle.jl_io.specs.Moved.{Gives, NothingLeft}
 use Rattle.jl_io.proofs.MovedLemmas.{Gives-none, Takes-none}
-use Rattle.jl_cli.specs.Due.{texts, is_run_words, run_words, source_limit, default_fuel, usage_line, too_long_line, not_yet_read_line, IsDue, usage, ran, IsAnswer, whole, not_read, not_written, no_memory, no_memory_written, HasRun}
+use Rattle.jl_token.specs.declared.token.Token.{Token}
+use Rattle.jl_token.specs.declared.token.TokenFault.{TokenFault}
+use Rattle.jl_token.specs.declared.token.TokenFault.TheVariants as T
+use Rattle.jl_token.specs.Grammar.{ReadsSource, UnlessMemory}
+use Rattle.jl_cli.specs.Place.{token_line}
+use Rattle.jl_cli.specs.Due.{texts, is_run_words, run_words, default_fuel, usage_line, not_yet_read_line, IsDue, usage, no_tokens, ran, whole, not_read, not_written, no_memory, no_memory_written, HasRun}
 use Rattle.jl_cli.specs.Delivered.{IsDelivered, all, failed, no_memory as no_memory_left}
 
 fails : false ≡ true → ⊥
@@ -55,27 +59,37 @@ run_no (w ∷ []) h e = let same : w.now ≡ codes "run" = cc in fails (sym h �
 run_no (w ∷ (v ∷ ws)) h e = cc
 
 -- an answer with the line of a refused source
-pub refused_so : (r : Result Due AllocError) (bytes line text : List ℕ) → line ≡ text → IsDue run_words bytes 3 None text
-    → IfOk r (λ due. (due.status ≡ 3) × (due.history ≡ None) × (due.text ≡ line)) → IfOk r (λ due. IsDue run_words bytes due.status due.history due.text)
-refused_so (Err x) bytes line text e due h = tt
-refused_so (Ok d) bytes line text e due h =
+pub refused_so : (d : Due) (bytes line text : List ℕ) → line ≡ text → IsDue run_words bytes 3 None text
+    → (d.status ≡ 3) × (d.history ≡ None) × (d.text ≡ line) → IsDue run_words bytes d.status d.history d.text
+refused_so d bytes line text e due h =
     subst (λ (n : ℕ). IsDue run_words bytes n d.history d.text) (sym h.0)
     (subst (λ (o : Option History). IsDue run_words bytes 3 o d.text) (sym h.1)
     (subst (λ (t : List ℕ). IsDue run_words bytes 3 None t) (sym (h.2 ∙ e)) due))
 
+-- what is due where a source has no tokens
+pub no_tokens_due : (bytes : List ℕ) (f : TokenFault) → UnlessMemory (Err f) (ReadsSource bytes) → (f ≡ T.Memory → ⊥) → IsDue run_words bytes 3 None (token_line bytes f)
+no_tokens_due bytes T.SourceTooLong reads told = no_tokens bytes T.SourceTooLong reads
+no_tokens_due bytes (T.BadUtf8 at) reads told = no_tokens bytes (T.BadUtf8 at) reads
+no_tokens_due bytes (T.BadCharacter at) reads told = no_tokens bytes (T.BadCharacter at) reads
+no_tokens_due bytes (T.NumberTooLarge at) reads told = no_tokens bytes (T.NumberTooLarge at) reads
+no_tokens_due bytes (T.OpenString at) reads told = no_tokens bytes (T.OpenString at) reads
+no_tokens_due bytes (T.OpenComment at) reads told = no_tokens bytes (T.OpenComment at) reads
+no_tokens_due bytes T.Memory reads told = absurd (told refl)
+
+-- the tokens of a source that has some
+pub tokens_read : (r : Result (List Token) TokenFault) (bytes : List ℕ) → ((f : TokenFault) → r ≡ Err f → ⊥) → UnlessMemory r (ReadsSource bytes) → (ts : List Token) × ReadsSource bytes (Ok ts)
+tokens_read (Ok ts) bytes none reads = (ts, reads)
+tokens_read (Err f) bytes none reads = absurd (none f refl)
+
 -- an answer with the history of a script
-pub ran_so : (bytes text : List ℕ) (status : ℕ) (s : Script) (P : Program) (h : History) → length bytes ≤ source_limit → IsForm s → spelled s ≡ bytes → P ≡ program_of s
+pub ran_so : (bytes text : List ℕ) (ts : List Token) (status : ℕ) (s : Script) (P : Program) (h : History) → ReadsSource bytes (Ok ts) → IsForm s → spelled s ≡ bytes → P ≡ program_of s
     → IsLegal P h.events → fuel_of h.events ≡ Some default_fuel → status ≡ status_of h.events → text ≡ text_of P h.events → IsDue run_words bytes status (Some h) text
-ran_so bytes text status s P h le form is eP legal begun st tx =
+ran_so bytes text ts status s P h reads form is eP legal begun st tx =
     subst (λ (n : ℕ). IsDue run_words bytes n (Some h) text) (sym st)
     (subst (λ (t : List ℕ). IsDue run_words bytes (status_of h.events) (Some h) t) (sym (tx ∙ ap (λ (Q : Program). text_of Q h.events) eP))
-    (ran bytes s h le form is (subst (λ (Q : Program). IsLegal Q h.events) eP legal) begun))
+    (ran bytes ts s h reads form is (subst (λ (Q : Program). IsLegal Q h.events) eP legal) begun))
 
 -- the lines as the code writes them
-pub too_long_is : codes "ERROR: SourceTooLong\n" ≡ too_long_line
-unfolding too_long_line
-too_long_is = refl
-
 pub not_yet_read_is : codes "ERROR: NotYetRead\n" ≡ not_yet_read_line
 unfolding not_yet_read_line
 not_yet_read_is = refl

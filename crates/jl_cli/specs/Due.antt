@@ -1,5 +1,5 @@
 -- What a call of the program owes for its words and for the bytes that it read.
-use Rattle.std.specs.Prelude.{ℕ, ◌≡◌, ◌<◌, ◌≤◌, codes, List, [], ◌∷◌, ◌++◌, map, length, take, Option, None, Some, Bool, false, bytes_eq}
+use Rattle.std.specs.Prelude.{ℕ, ◌≡◌, ◌<◌, ◌≤◌, codes, List, [], ◌∷◌, map, length, take, Option, None, Some, Ok, Err, Bool, false, bytes_eq}
 use Rattle.std.specs.Borrow.{Bor}
 use Rattle.jl_calculus.specs.declared.history.History.{History}
 use Rattle.jl_calculus.specs.Legal.{IsLegal, fuel_of, text_of, status_of}
@@ -8,6 +8,10 @@ use Rattle.jl_form.specs.Form.{IsForm}
 use Rattle.jl_form.specs.Grammar.{spelled}
 use Rattle.jl_form.specs.Program.{program_of}
 use Rattle.jl_io.specs.Moved.{Gives, Takes, NothingLeft}
+use Rattle.jl_token.specs.declared.token.Token.{Token}
+use Rattle.jl_token.specs.declared.token.TokenFault.{TokenFault}
+use Rattle.jl_token.specs.Grammar.{ReadsSource}
+use Rattle.jl_cli.specs.Place.{token_line}
 
 -- the texts of the words
 abbrev pub texts : List (Bor (List ℕ)) → List (List ℕ)
@@ -23,19 +27,12 @@ is_run_words [] = false
 is_run_words (w ∷ []) = bytes_eq w.now (codes "run")
 is_run_words (w ∷ (v ∷ ws)) = false
 
--- how many bytes a script may have
-abbrev pub source_limit : ℕ
-source_limit = 1048576
-
 -- how many calls a task may make
 abbrev pub default_fuel : ℕ
 default_fuel = 10000000
 
 unfoldable pub usage_line : List ℕ
 usage_line = codes "usage: jl run|trace [--threads N] [--fuel N] | jl check|replay | jl gen N [--threads N] [--fuel N]\n"
-
-unfoldable pub too_long_line : List ℕ
-too_long_line = codes "ERROR: SourceTooLong\n"
 
 unfoldable pub not_yet_read_line : List ℕ
 not_yet_read_line = codes "ERROR: NotYetRead\n"
@@ -44,12 +41,12 @@ not_yet_read_line = codes "ERROR: NotYetRead\n"
 pub data IsDue : List (List ℕ) → List ℕ → ℕ → Option History → List ℕ → Type 0 where
   -- words that are no command: nothing is read
   usage : (words : List (List ℕ)) → (words ≡ run_words → ⊥) → IsDue words [] 2 None usage_line
-  -- a source past the limit
-  too_long : (bytes : List ℕ) → source_limit < length bytes → IsDue run_words bytes 3 None too_long_line
-  -- a source that no script of the form spells
-  not_yet_read : (bytes : List ℕ) → length bytes ≤ source_limit → ((s : Script) → IsForm s → spelled s ≡ bytes → ⊥) → IsDue run_words bytes 3 None not_yet_read_line
+  -- a source that has no tokens: it is past the limit, or its fault stands at a place of it
+  no_tokens : (bytes : List ℕ) (f : TokenFault) → ReadsSource bytes (Err f) → IsDue run_words bytes 3 None (token_line bytes f)
+  -- a source with tokens that no script of the form spells
+  not_yet_read : (bytes : List ℕ) (ts : List Token) → ReadsSource bytes (Ok ts) → ((s : Script) → IsForm s → spelled s ≡ bytes → ⊥) → IsDue run_words bytes 3 None not_yet_read_line
   -- a script: the text of a legal history of its program, and the status by the root's outcome
-  ran : (bytes : List ℕ) (s : Script) (h : History) → length bytes ≤ source_limit → IsForm s → spelled s ≡ bytes → IsLegal (program_of s) h.events → fuel_of h.events ≡ Some default_fuel
+  ran : (bytes : List ℕ) (ts : List Token) (s : Script) (h : History) → ReadsSource bytes (Ok ts) → IsForm s → spelled s ≡ bytes → IsLegal (program_of s) h.events → fuel_of h.events ≡ Some default_fuel
       → IsDue run_words bytes (status_of h.events) (Some h) (text_of (program_of s) h.events)
 
 -- Words, the bytes that were read, the bytes that were written, and that the count of faults of the source and of the

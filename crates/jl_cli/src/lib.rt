@@ -2,6 +2,7 @@
 #![tactic(auto)]
 
 mod answering;
+mod place;
 #[cfg(test)]
 mod tests;
 mod top;

@@ -81,6 +81,34 @@ fn scripts_write_their_texts(rt: HostRuntime) -> Result<(), Fail> {
     Ok(())
 }
 
+static FAULTS: [(&[u8], &str); 7] = [
+    (b"println(\"abc", "ERROR: line 1, column 9: OpenString\n"),
+    (b"x = 1\n\xff", "ERROR: line 2, column 1: BadUtf8\n"),
+    (
+        b"println(9223372036854775808)",
+        "ERROR: line 1, column 9: NumberTooLarge\n",
+    ),
+    (b"x = 2y", "ERROR: line 1, column 6: BadCharacter\n"),
+    (b"#= a", "ERROR: line 1, column 1: OpenComment\n"),
+    // Two characters of two bytes each stand before it.
+    (
+        b"\xc3\xa9\xc3\xa9 = 2y",
+        "ERROR: line 1, column 7: BadCharacter\n",
+    ),
+    (
+        b"f(x) = x\n\n  f(1) ~",
+        "ERROR: line 3, column 8: BadCharacter\n",
+    ),
+];
+
+#[test]
+fn faults_of_tokens_are_told_with_their_places(rt: HostRuntime) -> Result<(), Fail> {
+    for (script, line) in &FAULTS {
+        expect(&rt, rt.alloc(), script, 3, line.as_bytes())?;
+    }
+    Ok(())
+}
+
 #[test]
 fn other_words_get_the_usage_line(rt: HostRuntime) -> Result<(), Fail> {
     let usage =

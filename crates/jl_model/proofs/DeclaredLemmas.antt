@@ -24,25 +24,25 @@ not_false true h = refl
 not_false false h = absurd (h refl)
 
 -- the equations
-free-union : (m : ℕ) (ts : List Ty) → is_free_of m (V.Union ts) ≡ list_all (is_free_of m) ts
+pub free-union : (m : ℕ) (ts : List Ty) → is_free_of m (V.Union ts) ≡ list_all (is_free_of m) ts
 free-union m ts = ap (is_free_of m) (sym (rolls-Union ts)) ∙ fold-roll-Ty Bool (free_step m) (Union ts) ∙ all_of (is_free_of m) ts
 
-free-tuple : (m : ℕ) (ts : List Ty) → is_free_of m (V.Tuple ts) ≡ list_all (is_free_of m) ts
+pub free-tuple : (m : ℕ) (ts : List Ty) → is_free_of m (V.Tuple ts) ≡ list_all (is_free_of m) ts
 free-tuple m ts = ap (is_free_of m) (sym (rolls-Tuple ts)) ∙ fold-roll-Ty Bool (free_step m) (Tuple ts) ∙ all_of (is_free_of m) ts
 
-free-nominal : (m k : ℕ) (ts : List Ty) → is_free_of m (V.Nominal k ts) ≡ (not (nat_eq k m) && list_all (is_free_of m) ts)
+pub free-nominal : (m k : ℕ) (ts : List Ty) → is_free_of m (V.Nominal k ts) ≡ (not (nat_eq k m) && list_all (is_free_of m) ts)
 free-nominal m k ts = ap (is_free_of m) (sym (rolls-Nominal k ts)) ∙ fold-roll-Ty Bool (free_step m) (Nominal k ts) ∙ ap (λ b. not (nat_eq k m) && b) (all_of (is_free_of m) ts)
 
-free-var : (m v : ℕ) → is_free_of m (W.Var v) ≡ false
+pub free-var : (m v : ℕ) → is_free_of m (W.Var v) ≡ false
 free-var m v = ap (is_free_of m) (sym (rolls-Var v)) ∙ fold-roll-Ty Bool (free_step m) (Var v)
 
-placed-union : (m : ℕ) (ts : List Ty) → is_placed m (V.Union ts) ≡ list_all (is_free_of m) ts
+pub placed-union : (m : ℕ) (ts : List Ty) → is_placed m (V.Union ts) ≡ list_all (is_free_of m) ts
 placed-union m ts = ap (is_placed m) (sym (rolls-Union ts)) ∙ para-roll-Ty Bool (placed_step m) (Union ts) ∙ all_firsts (is_placed m) (is_free_of m) ts
 
-placed-tuple : (m : ℕ) (ts : List Ty) → is_placed m (V.Tuple ts) ≡ list_all (is_free_of m) ts
+pub placed-tuple : (m : ℕ) (ts : List Ty) → is_placed m (V.Tuple ts) ≡ list_all (is_free_of m) ts
 placed-tuple m ts = ap (is_placed m) (sym (rolls-Tuple ts)) ∙ para-roll-Ty Bool (placed_step m) (Tuple ts) ∙ all_firsts (is_placed m) (is_free_of m) ts
 
-placed-nominal : (m k : ℕ) (ts : List Ty) → is_placed m (V.Nominal k ts) ≡ list_all (is_placed m) ts
+pub placed-nominal : (m k : ℕ) (ts : List Ty) → is_placed m (V.Nominal k ts) ≡ list_all (is_placed m) ts
 placed-nominal m k ts = ap (is_placed m) (sym (rolls-Nominal k ts)) ∙ para-roll-Ty Bool (placed_step m) (Nominal k ts) ∙ all_seconds (is_placed m) ts
 
 counted-nominal : (ds : List Decl) (k : ℕ) (ts : List Ty) → is_counted ds (V.Nominal k ts) ≡ (nat_eq (length ts) (length (params_of (slice_get ds k))) && list_all (is_counted ds) ts)
@@ -62,7 +62,7 @@ free_all m (t ∷ ts) e h =
     let q = free_all m ts e.1 (and_r (is_free_of m t) (list_all (is_free_of m) ts) h) in
     rw (p, q) refl
 
-free_closed : (m : ℕ) (t : Ty) → is_free_of m t ≡ true → vars_in t ≡ []
+pub free_closed : (m : ℕ) (t : Ty) → is_free_of m t ≡ true → vars_in t ≡ []
 free_closed m = by_cases (λ t. is_free_of m t ≡ true → vars_in t ≡ []) (record {
   any = λ h. vars-any;
   union = λ ts e h. vars-union ts ∙ free_all m ts e (sym (free-union m ts) ∙ h);

@@ -1,5 +1,5 @@
 -- The nodes of lists from a place on.
-use Rattle.std.proofs.Common.{◌≡◌, ◌∙◌, sym, ap, refl, ℕ, zero, suc, ◌+◌, ◌<◌, ◌≤◌, arith, add-one, List, [], ◌∷◌, map, length, drop, get_or}
+use Rattle.std.proofs.Common.{◌≡◌, ap, ℕ, zero, suc, ◌+◌, ◌<◌, arith, add-one, List, [], ◌∷◌, map, length, drop, get_or}
 use Rattle.jl_model.specs.declared.ty.Ty.{Ty}
 use Rattle.jl_model.specs.Counts.{total, nodes}
 use Rattle.jl_model.proofs.CountLemmas.{nodes-any, nodes-var, nodes-union, nodes-tuple, nodes-nominal}

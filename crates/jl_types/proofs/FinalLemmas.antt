@@ -1,9 +1,8 @@
 -- When what is left of candidates makes a normal form, and when no normal form of it is small.
-use Rattle.std.proofs.Common.{◌≡◌, ◌∙◌, sym, ap, subst, refl, ℕ, ◌+◌, ◌<◌, ◌≤◌, arith, Bool, true, false, ◌&&◌, List, [], ◌∷◌, ◌++◌, length, ◌⊎◌, inl, inr}
+use Rattle.std.proofs.Common.{◌≡◌, ◌∙◌, sym, ap, subst, refl, ◌<◌, ◌≤◌, arith, true, List, [], ◌∷◌, length, inl, inr}
 use Rattle.std.specs.List.{list_all}
-use Rattle.std.specs.declared.cmp.Ordering.TheVariants.{Less}
 use Rattle.jl_model.specs.declared.ty.Ty.{Ty}
-use Rattle.jl_model.specs.declared.ty.Ty.TheOpen.{Ty-F, Any, Union, Tuple, Nominal, Var}
+use Rattle.jl_model.specs.declared.ty.Ty.TheOpen.{Union}
 use Rattle.jl_model.specs.declared.ty.Ty.TheViews.{out-Ty, outs-Union}
 use Rattle.jl_model.specs.declared.ty.Ty.TheViews as V
 use Rattle.jl_model.specs.Rows.{alts}
@@ -11,13 +10,12 @@ use Rattle.jl_model.specs.Subtype.{Table, opaque, Below, Equal}
 use Rattle.jl_model.specs.Members.{EachBelow, BelowSome}
 use Rattle.jl_model.specs.Counts.{nodes}
 use Rattle.jl_model.specs.Order.{term_cmp}
-use Rattle.jl_model.specs.Normal.{IsNormal, AllNormal, is_single, no_union, Leads, Members, any, var, nominal, tuple, union, none, more}
+use Rattle.jl_model.specs.Normal.{IsNormal, AllNormal, is_single, no_union, Leads, Members, any, var, nominal, tuple, union}
 use Rattle.jl_model.proofs.FormLemmas.{is_union}
 use Rattle.jl_model.proofs.AncestorLemmas.{Lawful}
-use Rattle.jl_model.proofs.SelfLemmas.{below_self}
 use Rattle.jl_model.proofs.TransLemmas.{below_trans}
 use Rattle.jl_model.proofs.OrderLemmas.{not_less}
-use Rattle.jl_model.proofs.BelowLemmas.{union_below, below_union, some_below, below_some}
+use Rattle.jl_model.proofs.BelowLemmas.{below_union, below_some}
 use Rattle.jl_model.proofs.NormalLemmas.{In, first, later, Ascending, Ordered, members_same, each_in, some_in, all_in, single_in, single_alts}
 use Rattle.jl_model.proofs.CountLemmas.{nodes_all, nodes-union}
 use Rattle.jl_types.specs.Ground.{IsLower}
@@ -26,7 +24,7 @@ use Rattle.jl_types.proofs.ExactLemmas.{lower_alts, lower_exact}
 use Rattle.jl_types.proofs.ReduceLemmas.{le_or}
 use Rattle.jl_types.proofs.ApartLemmas.{Apart, NoneBelow}
 
-no_small_in : (n : Table) (t x : Ty) (ts : List Ty) → BelowNoSmall n t ts → In x ts → nodes x ≤ 1024 → Below n opaque t x → ⊥
+pub no_small_in : (n : Table) (t x : Ty) (ts : List Ty) → BelowNoSmall n t ts → In x ts → nodes x ≤ 1024 → Below n opaque t x → ⊥
 no_small_in n t x ts h (first y ys e) s b = h.0 (subst (λ z. nodes z ≤ 1024) e s) (subst (λ z. Below n opaque t z) e b)
 no_small_in n t x ts h (later y ys i) s b = no_small_in n t x ys h.1 i s b
 
@@ -62,11 +60,11 @@ pub ordered_normal : (n : Table) (ts : List Ty) → AllNormal n ts → list_all 
 ordered_normal n ts h s o f l = union (V.Union ts) ts (outs-Union ts) h s (members_all n ts o f) l
 
 -- LARGE: no small normal form is equal
-nodes_in : (x : Ty) (ts : List Ty) → In x ts → nodes x ≤ nodes_all ts
+pub nodes_in : (x : Ty) (ts : List Ty) → In x ts → nodes x ≤ nodes_all ts
 nodes_in x ts (first y ys e) = let f : nodes x ≡ nodes y = ap nodes e in omega arith
 nodes_in x ts (later y ys i) = let h = nodes_in x ys i in omega arith
 
-below_in : (n : Table) (x y : Ty) (ts : List Ty) → In y ts → Below n opaque x y → BelowSome n x ts
+pub below_in : (n : Table) (x y : Ty) (ts : List Ty) → In y ts → Below n opaque x y → BelowSome n x ts
 below_in n x y ts (first z zs e) b = inl (subst (λ w. Below n opaque x w) e b)
 below_in n x y ts (later z zs i) b = inr (below_in n x y zs i b)
 

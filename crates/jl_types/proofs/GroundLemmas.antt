@@ -149,7 +149,7 @@ members_case ds l u ts vs r e f t =
     let k = subst (λ z. Tells r (EachBelow n z u)) f t in
     subst (λ z. Tells r (Below n opaque z u)) (sym e) ((λ x. union_below n ts u (k.0 x)), (λ x. k.1 (below_union n ts u x)))
 
-tuple_part : (n : Table) (xs ys : List Ty) → PartBy n (Below n opaque) (V.Tuple xs) (V.Tuple ys) → Both (Below n opaque) xs ys
+pub tuple_part : (n : Table) (xs ys : List Ty) → PartBy n (Below n opaque) (V.Tuple xs) (V.Tuple ys) → Both (Below n opaque) xs ys
 tuple_part n xs ys (by_any t u e) = let f : Tuple ys ≡ Any = sym (outs-Tuple ys) ∙ e in cc
 tuple_part n xs ys (by_nominal t u i j vs zs ws d e l p) = let f : Tuple xs ≡ Nominal i vs = sym (outs-Tuple xs) ∙ d in cc
 tuple_part n xs ys (by_self t u v d e) = let f : Tuple xs ≡ Var v = sym (outs-Tuple xs) ∙ d in cc
@@ -180,19 +180,19 @@ tuple_case ds m u l ys xs vs ws r e f p q g h t =
     )
 
 -- a lower type of another form
-tuple_only : (n : Table) (l u : Ty) (ys : List Ty) → out-Ty u ≡ Tuple ys → ((ts : List Ty) → l ≡ V.Tuple ts → ⊥) → PartBy n (Below n opaque) l u → ⊥
+pub tuple_only : (n : Table) (l u : Ty) (ys : List Ty) → out-Ty u ≡ Tuple ys → ((ts : List Ty) → l ≡ V.Tuple ts → ⊥) → PartBy n (Below n opaque) l u → ⊥
 tuple_only n l u ys o d (by_any t v e) = let f : Tuple ys ≡ Any = sym o ∙ e in cc
 tuple_only n l u ys o d (by_nominal t v i j vs zs ws c e q p) = let f : Tuple ys ≡ Nominal j ws = sym o ∙ e in cc
 tuple_only n l u ys o d (by_self t v w c e) = let f : Tuple ys ≡ Var w = sym o ∙ e in cc
 tuple_only n l u ys o d (by_tuple t v vs ws c e p) = d vs (is_tuple l vs c)
 
-nominal_only : (n : Table) (l u : Ty) (m : ℕ) (ys : List Ty) → out-Ty u ≡ Nominal m ys → ((k : ℕ) (ts : List Ty) → l ≡ V.Nominal k ts → ⊥) → PartBy n (Below n opaque) l u → ⊥
+pub nominal_only : (n : Table) (l u : Ty) (m : ℕ) (ys : List Ty) → out-Ty u ≡ Nominal m ys → ((k : ℕ) (ts : List Ty) → l ≡ V.Nominal k ts → ⊥) → PartBy n (Below n opaque) l u → ⊥
 nominal_only n l u m ys o d (by_any t v e) = let f : Nominal m ys ≡ Any = sym o ∙ e in cc
 nominal_only n l u m ys o d (by_tuple t v vs ws c e p) = let f : Nominal m ys ≡ Tuple ws = sym o ∙ e in cc
 nominal_only n l u m ys o d (by_self t v w c e) = let f : Nominal m ys ≡ Var w = sym o ∙ e in cc
 nominal_only n l u m ys o d (by_nominal t v i j vs zs ws c e q p) = d i vs (is_nominal l i vs c)
 
-var_only : (n : Table) (l u : Ty) (v : ℕ) → out-Ty u ≡ Var v → PartBy n (Below n opaque) l u → l ≡ W.Var v
+pub var_only : (n : Table) (l u : Ty) (v : ℕ) → out-Ty u ≡ Var v → PartBy n (Below n opaque) l u → l ≡ W.Var v
 var_only n l u v o (by_any t w e) = let f : Var v ≡ Any = sym o ∙ e in cc
 var_only n l u v o (by_tuple t w vs ws c e p) = let f : Var v ≡ Tuple ws = sym o ∙ e in cc
 var_only n l u v o (by_nominal t w i j vs zs ws c e q p) = let f : Var v ≡ Nominal j ws = sym o ∙ e in cc
@@ -332,7 +332,7 @@ pub both_long : (P : Ty → Ty → Type 0) (xs ys : List Ty) → Both P xs ys �
 both_long P xs ys both_end = refl
 both_long P xs ys (both_more x y vs ws p r) = ap suc (both_long P vs ws r)
 
-both_cons : (P : Ty → Ty → Type 0) (x y : Ty) (xs ys : List Ty) → Both P (x ∷ xs) (y ∷ ys) → P x y × Both P xs ys
+pub both_cons : (P : Ty → Ty → Type 0) (x y : Ty) (xs ys : List Ty) → Both P (x ∷ xs) (y ∷ ys) → P x y × Both P xs ys
 both_cons P x y xs ys (both_more a b vs ws p r) = (p, r)
 
 pub both_at : (P : Ty → Ty → Type 0) (xs ys : List Ty) (i : ℕ) (x y : Ty) → i < length xs → i < length ys → x ≡ get_or xs i x → y ≡ get_or ys i y
@@ -355,7 +355,7 @@ some-at n a (x ∷ xs) zero t h lt e = let P : Ty → Type 0 = λ z. Below n opa
 some-at n a (x ∷ xs) (suc i) t h lt e = inr (some-at n a xs i t h (omega arith) e)
 
 -- the sizes that fall
-most-is : (ts : List Ty) → max (most (λ t. size-Ty t) ts) 0 ≡ tallest ts
+pub most-is : (ts : List Ty) → max (most (λ t. size-Ty t) ts) 0 ≡ tallest ts
 most-is [] = refl
 most-is (t ∷ ts) = let h = most-is ts in omega arith
 

@@ -10,3 +10,16 @@ pub mod SpellLemmas
 pub mod ReduceLemmas
 pub mod ApartLemmas
 pub mod FinalLemmas
+pub mod KeptLemmas
+pub mod SettleLemmas
+pub mod SortLemmas
+pub mod GatherLemmas
+pub mod PartsLemmas
+pub mod FormLemmas
+pub mod FormedLemmas
+pub mod CoverLemmas
+pub mod DecideLemmas
+pub mod ExistLemmas
+pub mod PlaceLemmas
+pub mod KeepLemmas
+pub mod KeptOnceLemmas

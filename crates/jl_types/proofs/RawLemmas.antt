@@ -1,8 +1,8 @@
 -- Raw alternatives of lists from a place on, and products that are capped.
-use Rattle.std.proofs.Common.{◌≡◌, ◌∙◌, sym, ap, refl, ℕ, zero, suc, ◌+◌, ◌*◌, ◌<◌, ◌≤◌, min, max, arith, add-one, List, [], ◌∷◌, map, length, drop, get_or}
+use Rattle.std.proofs.Common.{◌≡◌, ◌∙◌, sym, ap, ℕ, zero, suc, ◌+◌, ◌*◌, ◌<◌, ◌≤◌, min, arith, add-one, List, [], ◌∷◌, map, length, drop, get_or}
 use Rattle.std.proofs.Math.Nat.{mul-suc, mul-zero, mul_assoc}
 use Rattle.jl_model.specs.declared.ty.Ty.{Ty}
-use Rattle.jl_model.specs.Counts.{total, product, greatest, Raw, raw, raw_of}
+use Rattle.jl_model.specs.Counts.{greatest, raw}
 use Rattle.jl_model.proofs.CountLemmas.{raw-any, raw-var, raw-union, raw-tuple, raw-nominal}
 
 abbrev pub counts : List Ty → List ℕ

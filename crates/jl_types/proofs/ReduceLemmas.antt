@@ -1,5 +1,5 @@
 -- What the code that drops members needs.
-use Rattle.std.proofs.Common.{◌≡◌, ◌∙◌, sym, ap, subst, refl, ℕ, zero, suc, ◌+◌, ◌<◌, ◌≤◌, arith, add-one, Bool, true, false, ◌⊎◌, inl, inr, List, [], ◌∷◌, ◌++◌, length, drop, get_or, append_assoc}
+use Rattle.std.proofs.Common.{◌≡◌, ◌∙◌, sym, ap, subst, ℕ, zero, suc, ◌+◌, ◌<◌, ◌≤◌, arith, add-one, Bool, true, false, ◌⊎◌, inl, inr, List, [], ◌∷◌, ◌++◌, length, drop, get_or, append_assoc}
 use Rattle.jl_model.specs.declared.ty.Ty.{Ty}
 use Rattle.jl_model.specs.declared.ty.Decl.{Decl}
 use Rattle.jl_model.specs.Counts.{nodes}
@@ -24,7 +24,7 @@ none_at n c [] i t lt e h k = absurd (omega arith)
 none_at n c (x ∷ xs) zero t lt e h k = let P : Ty → Type 0 = λ z. nodes z ≤ 1024 → Below n opaque c z → ⊥ in (subst P e h, k)
 none_at n c (x ∷ xs) (suc i) t lt e h k = rw add-one at (none_at n c xs i t (omega arith) e h) (rw add-one at k)
 
-drop_is : (ts : List Ty) (i : ℕ) (t : Ty) → i < length ts → t ≡ get_or ts i t → drop i ts ≡ t ∷ drop (i + 1) ts
+pub drop_is : (ts : List Ty) (i : ℕ) (t : Ty) → i < length ts → t ≡ get_or ts i t → drop i ts ≡ t ∷ drop (i + 1) ts
 drop_is [] i t lt e = absurd (omega arith)
 drop_is (x ∷ xs) zero t lt e = ap (λ z. z ∷ xs) (sym e)
 drop_is (x ∷ xs) (suc i) t lt e = rw add-one (rw add-one at (drop_is xs i t (omega arith) e))

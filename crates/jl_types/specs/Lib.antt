@@ -1,3 +1,4 @@
 pub mod Lines
 pub mod Ground
 pub mod Reduce
+pub mod Form

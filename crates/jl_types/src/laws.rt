@@ -1,6 +1,6 @@
 //! Laws over the definitions alone. Each function does nothing: its contract is the law.
 
-ghost use Rattle.std.specs.Prelude.{ℕ, ◌≡◌, List, Some};
+ghost use Rattle.std.specs.Prelude.{ℕ, ◌≡◌, ◌↔◌, List, Some};
 ghost use Rattle.std.specs.Cmp.{IsTotalOrder};
 ghost use Rattle.std.specs.declared.cmp.Ordering.TheVariants.{Equal as Tied};
 ghost use Rattle.jl_model.specs.declared.ty.Ty.{Ty};
@@ -8,7 +8,8 @@ ghost use Rattle.jl_model.specs.declared.ty.Decl.{Decl};
 ghost use Rattle.jl_model.specs.Ancestors.{table_of};
 ghost use Rattle.jl_model.specs.Subtype.{Table as Order, opaque, lifted, Below, Equal};
 ghost use Rattle.jl_model.specs.Order.{term_cmp};
-ghost use Rattle.jl_model.specs.Normal.{IsNormal};
+ghost use Rattle.jl_model.specs.Normal.{IsNormal, IsNormalForm};
+ghost use Rattle.jl_model.specs.Kept.{Settled};
 ghost use Rattle.jl_model.specs.Refusals.{Declared};
 
 /// Every type is below itself.
@@ -42,4 +43,24 @@ pub fn law_order()
 /// Normal forms of equal types are the same.
 pub fn law_normal()
     ensures { (ds : List Decl) → Declared ds → (a b : Ty) → IsNormal (table_of ds) a → IsNormal (table_of ds) b → Equal (table_of ds) a b → a ≡ b }
+{}
+
+/// Two types have the same normal form exactly where they are equal.
+pub fn law_same_normal_form()
+    ensures { (ds : List Decl) → Declared ds → (t u a b : Ty) → IsNormalForm (table_of ds) t a → IsNormalForm (table_of ds) u b → (Equal (table_of ds) t u ↔ (a ≡ b)) }
+{}
+
+/// A type is below another exactly where its normal form is below the other's.
+pub fn law_below_normal_forms()
+    ensures { (ds : List Decl) → Declared ds → (t u a b : Ty) → IsNormalForm (table_of ds) t a → IsNormalForm (table_of ds) u b → (Below (table_of ds) opaque t u ↔ Below (table_of ds) opaque a b) }
+{}
+
+/// Every type has a normal form.
+pub fn law_normal_form_exists()
+    ensures { (ds : List Decl) → Declared ds → (t : Ty) → (u : Ty) × IsNormalForm (table_of ds) t u }
+{}
+
+/// A declaration keeps a type as one type.
+pub fn law_kept_once()
+    ensures { (ds : List Decl) → Declared ds → (t u v : Ty) → Settled (table_of ds) t u → Settled (table_of ds) t v → u ≡ v }
 {}

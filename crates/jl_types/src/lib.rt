@@ -4,18 +4,26 @@
 mod ancestor;
 mod count;
 mod expand;
+mod form;
 mod ground;
+mod kept;
 pub mod laws;
 mod lineage;
+mod normal_form;
 mod put;
 mod raw;
 mod reduce;
 mod same;
+mod sort;
 mod spell;
 mod table;
 
 pub use ground::ground_sub;
+pub use kept::settled;
+pub use normal_form::{NormFault, is_within_limits, normal};
 pub use table::Table;
 
+#[cfg(test)]
+mod normal_tests;
 #[cfg(test)]
 mod tests;

@@ -1,5 +1,4 @@
 use Rattle.jl_cli.specs.Delivered.{all, failed, no_memory}
-use Rattle.jl_cli.proofs.Running.{run_no, ran_so}
 use Rattle.jl_cli.proofs.top.deliver.Goals as goal
 
 pub returns-in-Ok-clause-delivered : goal.returns-in-Ok-clause-delivered

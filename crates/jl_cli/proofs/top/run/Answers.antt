@@ -1,4 +1,4 @@
-use Rattle.std.proofs.Common.{◌≡◌, ◌∙◌, sym, true, false}
+use Rattle.std.proofs.Common.{◌≡◌, ◌∙◌, true, false}
 use Rattle.jl_cli.specs.Due.{is_run_words, texts, run_words}
 use Rattle.jl_cli.proofs.Running.{used, unread, unread_for_memory, delivered, due_along, run_yes, run_no, usage_is}
 use Rattle.jl_cli.proofs.top.run.Goals as goal

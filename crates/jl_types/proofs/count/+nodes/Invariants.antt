@@ -1,4 +1,4 @@
-use Rattle.std.proofs.Common.{◌≡◌, ◌+◌, ◌≤◌, ◌<◌, ◌^◌, min, map, drop}
+use Rattle.std.proofs.Common.{◌≡◌, ◌+◌, ◌≤◌, min, map, drop}
 use Rattle.jl_model.specs.Counts.{total, nodes}
 use Rattle.jl_types.proofs.count.+nodes.Given as goal
 

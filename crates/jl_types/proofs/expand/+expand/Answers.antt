@@ -1,4 +1,4 @@
-use Rattle.std.proofs.Common.{◌≡◌, ◌∙◌, ap, ◌∷◌, [], sym}
+use Rattle.std.proofs.Common.{sym}
 use Rattle.std.proofs.Common.{arith}
 use Rattle.jl_model.proofs.CountLemmas.{nodes-at}
 use Rattle.jl_types.proofs.ExpandLemmas.{plain_alts}

@@ -1,4 +1,4 @@
-use Rattle.std.proofs.Common.{◌≡◌, ◌+◌, ◌∷◌, map, refl}
+use Rattle.std.proofs.Common.{◌+◌, ◌∷◌, map, refl}
 use Rattle.std.specs.List.{flat_map}
 use Rattle.jl_types.proofs.ExpandLemmas.{flat_step}
 use Rattle.jl_types.proofs.expand.rows_of.Goals as goal

@@ -1,4 +1,4 @@
-use Rattle.std.proofs.Common.{◌≡◌, ◌∙◌, sym, ap, ◌*◌, ◌+◌, ◌≤◌, ◌∷◌, min, max, drop, arith}
+use Rattle.std.proofs.Common.{◌≡◌, ◌∙◌, sym, ap, ◌*◌, ◌+◌, min, max, drop, arith}
 use Rattle.jl_model.specs.Counts.{product, greatest, raw}
 use Rattle.jl_types.proofs.RawLemmas.{counts, widths, counts-suc, widths-suc, cap-product}
 use Rattle.jl_types.proofs.raw.+raw.Goals as goal

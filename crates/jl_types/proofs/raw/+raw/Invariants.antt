@@ -1,4 +1,4 @@
-use Rattle.std.proofs.Common.{◌≡◌, ◌+◌, ◌*◌, ◌≤◌, min, max, map, drop}
+use Rattle.std.proofs.Common.{◌≡◌, ◌+◌, ◌*◌, ◌≤◌, min, max, drop}
 use Rattle.jl_model.specs.Counts.{total, product, greatest}
 use Rattle.jl_types.proofs.RawLemmas.{counts, widths}
 use Rattle.jl_types.proofs.raw.+raw.Given as goal

@@ -1,8 +1,8 @@
-use Rattle.std.proofs.Common.{◌≡◌, ◌∙◌, sym, ap, subst, ◌++◌, ◌∷◌, [], ◌≤◌, ◌<◌, arith, true}
+use Rattle.std.proofs.Common.{subst}
 use Rattle.jl_model.specs.Ancestors.{table_of}
 use Rattle.jl_model.specs.Counts.{nodes}
 use Rattle.jl_model.specs.Members.{BelowSome}
-use Rattle.jl_types.specs.Reduce.{BelowNoSmall, Thinned, Inserted, covered, small, large}
+use Rattle.jl_types.specs.Reduce.{BelowNoSmall, Thinned, covered, small, large}
 use Rattle.jl_types.proofs.ReduceLemmas.{not_small}
 use Rattle.jl_types.proofs.reduce.inserted.Goals as goal
 

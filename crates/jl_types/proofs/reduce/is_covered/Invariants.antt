@@ -1,4 +1,4 @@
-use Rattle.std.proofs.Common.{◌≡◌, drop}
+use Rattle.std.proofs.Common.{drop}
 use Rattle.jl_model.specs.Ancestors.{table_of}
 use Rattle.jl_types.specs.Reduce.{BelowNoSmall}
 use Rattle.jl_types.proofs.reduce.is_covered.Given as goal

@@ -1,4 +1,4 @@
-use Rattle.std.proofs.Common.{◌≡◌, [], drop, List}
+use Rattle.std.proofs.Common.{[], drop, List}
 use Rattle.jl_model.specs.declared.ty.Ty.{Ty}
 use Rattle.jl_model.specs.Ancestors.{table_of}
 use Rattle.jl_types.specs.Reduce.{Candidates, Reduces}

@@ -1,7 +1,7 @@
-use Rattle.std.proofs.Common.{◌≡◌, ◌∙◌, sym, ap, ◌++◌, ◌∷◌, [], length, map, append_assoc}
+use Rattle.std.proofs.Common.{◌∙◌, sym, ap, ◌++◌, ◌∷◌, [], length, map, append_assoc}
 use Rattle.std.specs.List.{flat_map}
 use Rattle.std.proofs.lemmas.List.{length-map}
-use Rattle.jl_model.specs.Order.{spelled, spell_all}
+use Rattle.jl_model.specs.Order.{spelled}
 use Rattle.jl_types.proofs.SpellLemmas.{flat-spelled}
 use Rattle.jl_types.proofs.spell.+spell.Goals as goal
 

@@ -1,0 +1,49 @@
+-- Where a fault of a source stands, and the line that tells it.
+use Rattle.std.specs.Prelude.{ℕ, ◌+◌, ◌&&◌, ◌==◌, nat_le, nat_lt, if◌then◌else◌, codes, decimal, List, [], ◌∷◌, ◌++◌, take}
+use Rattle.jl_token.specs.declared.token.TokenFault.{TokenFault}
+use Rattle.jl_token.specs.declared.token.TokenFault.TheVariants as T
+
+-- one where the byte is a newline
+abbrev pub newline : ℕ → ℕ
+newline b = if b == 10 then 1 else 0
+
+-- how many of these bytes are newlines
+abbrev pub newlines : List ℕ → ℕ
+newlines [] = 0
+newlines (b ∷ bs) = newline b + newlines bs
+
+-- one where the byte begins a character, and does not go on one
+abbrev pub character : ℕ → ℕ
+character b = if nat_le 128 b && nat_lt b 192 then 0 else 1
+
+-- how many characters begin in these bytes
+abbrev pub characters : List ℕ → ℕ
+characters [] = 0
+characters (b ∷ bs) = character b + characters bs
+
+-- the bytes behind the last newline, where `line` stands before these
+abbrev pub last_line : List ℕ → List ℕ → List ℕ
+last_line line [] = line
+last_line line (b ∷ bs) = if b == 10 then last_line [] bs else last_line (line ++ b ∷ []) bs
+
+-- the line and the column of the byte at a place, each from 1; columns count characters
+abbrev pub line_at : List ℕ → ℕ → ℕ
+line_at bytes at = 1 + newlines (take at bytes)
+
+abbrev pub column_at : List ℕ → ℕ → ℕ
+column_at bytes at = 1 + characters (last_line [] (take at bytes))
+
+-- the line that tells a fault by its place and its name
+abbrev pub fault_line : List ℕ → ℕ → List ℕ → List ℕ
+fault_line bytes at name =
+    codes "ERROR: line " ++ (decimal (line_at bytes at) ++ (codes ", column " ++ (decimal (column_at bytes at) ++ (codes ": " ++ (name ++ codes "\n")))))
+
+-- the line that tells why a source has no tokens
+abbrev pub token_line : List ℕ → TokenFault → List ℕ
+token_line bytes T.SourceTooLong = codes "ERROR: SourceTooLong\n"
+token_line bytes (T.BadUtf8 at) = fault_line bytes at (codes "BadUtf8")
+token_line bytes (T.BadCharacter at) = fault_line bytes at (codes "BadCharacter")
+token_line bytes (T.NumberTooLarge at) = fault_line bytes at (codes "NumberTooLarge")
+token_line bytes (T.OpenString at) = fault_line bytes at (codes "OpenString")
+token_line bytes (T.OpenComment at) = fault_line bytes at (codes "OpenComment")
+token_line bytes T.Memory = []

@@ -1,0 +1,116 @@
+//! A type at a place of a source.
+
+ghost use Rattle.std.specs.Prelude.{List, ◌≡◌, ◌<◌, ◌≤◌, IfOk, drop, length};
+ghost use Rattle.jl_typeread.specs.declared.sign.Lexeme.{Lexeme};
+ghost use Rattle.jl_typeread.specs.declared.tree.TypeText.{TypeText};
+ghost use Rattle.jl_typeread.specs.Lexemes.{lexemes};
+ghost use Rattle.jl_typeread.specs.Depth.{type_depth, depth_limit};
+ghost use Rattle.jl_typeread.specs.Grammar.{IsType};
+ghost use Rattle.jl_typeread.specs.Reads.{inside, is_passed, Reads, UnlessMemory, IsOnly, EndsAlone, Took, finished};
+
+use crate::deep::Deep;
+use crate::entries::type_start;
+use crate::fault::TypeFault;
+use crate::sign::{Lexeme, Sign};
+use crate::state::{State, Turn};
+use crate::tree::TypeText;
+use crate::turns::step;
+use jl_token::token::{Operator, Token};
+use std::alloc::{AllocError, Global};
+use std::mem;
+
+/// A reading, and how many brackets are open.
+#[derive(Drop)]
+struct Reader {
+    state: State,
+    depth: usize,
+}
+
+/// How many brackets are open behind a token.
+fn inside(depth: usize, sign: &Sign) -> usize
+    requires { depth < usize.MAX }
+    ensures { result ≡ inside depth sign.now }
+{
+    match sign {
+        Sign::Operator(Operator::OpenParen) => depth + 1,
+        Sign::Operator(Operator::OpenBrace) => depth + 1,
+        Sign::Operator(Operator::CloseParen) => depth.saturating_sub(1),
+        Sign::Operator(Operator::CloseBrace) => depth.saturating_sub(1),
+        _ => depth,
+    }
+}
+
+/// Whether the token is a newline between brackets, which is none for the grammar.
+fn is_passed(depth: usize, sign: &Sign) -> bool
+    ensures { result ≡ is_passed depth sign.now }
+{
+    match sign {
+        Sign::Newline => depth > 0,
+        _ => false,
+    }
+}
+
+/// Takes a token, or tells what ends the reading at it.
+fn take(alloc: Global, reader: &mut Reader, lexeme: &Lexeme) -> Result<Option<Turn>, AllocError>
+    requires { reader.old.depth < usize.MAX }
+    ensures { IfOk result (λ ended. Took reader.old.depth lexeme.now reader.old.state reader.new.state reader.new.depth ended) }
+{
+    if !is_passed(reader.depth, &lexeme.sign) {
+        let state = mem::replace(&mut reader.state, type_start(alloc));
+        match step(alloc, lexeme, state)? {
+            Turn::Goes(next) => reader.state = next,
+            Turn::Type(ty) => return Ok(Some(Turn::Type(ty))),
+            Turn::Variables(variables) => return Ok(Some(Turn::Variables(variables))),
+            Turn::Wrong => return Ok(Some(Turn::Wrong)),
+        }
+    }
+    reader.depth = inside(reader.depth, &lexeme.sign);
+    Ok(None)
+}
+
+/// The answer at a token that ends the reading, of this place, with this many tokens before it.
+fn finished(turn: Turn, place: u32, next: usize) -> Result<(TypeText, usize), TypeFault>
+    ensures { result ≡ finished turn place next }
+{
+    match turn {
+        Turn::Type(Deep::Built(ty, _)) => Ok((ty, next)),
+        Turn::Type(Deep::TooDeep) => Err(TypeFault::TooDeep(next)),
+        _ => Err(TypeFault::BadType(place)),
+    }
+}
+
+/// The type that begins with the token of this number, and the number of the token behind it. It is the longest that
+/// stands there; between its brackets newlines are no tokens.
+///
+/// # Errors
+///
+/// `BadType` at the first token that no type allows. `TooDeep` where the type's depth is above 1,100. Besides,
+/// `Memory`.
+pub fn read_type(
+    alloc: Global,
+    tokens: &[Token],
+    from: usize,
+) -> Result<(TypeText, usize), TypeFault>
+    requires ends { EndsAlone tokens.now }
+    requires inside { from < length tokens.now }
+    ensures reads { UnlessMemory result (Reads (lexemes (drop from tokens.now)) from) }
+    ensures only { IsOnly result (Reads (lexemes (drop from tokens.now)) from) }
+{
+    let rest = &tokens[from..];
+    let mut reader = Reader {
+        state: type_start(alloc),
+        depth: 0,
+    };
+    for (count, token) in rest.iter().enumerate() {
+        let lexeme = Lexeme::of(token)?;
+        if let Some(turn) = take(alloc, &mut reader, &lexeme)? {
+            return finished(turn, token.at, from + count);
+        }
+    }
+    unreachable!()
+}
+
+/// A text of a type within the limit of depth is no other type.
+pub fn one_type()
+    ensures { (t u : TypeText) (ts : List Lexeme) → IsType t ts → IsType u ts → type_depth t ≤ depth_limit → t ≡ u }
+{}

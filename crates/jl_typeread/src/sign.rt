@@ -1,0 +1,198 @@
+//! What the grammars of types and scripts see of a token: reserved words apart from names, and numbers with their sign.
+
+ghost use Rattle.std.specs.Prelude.{◌≡◌, IfOk};
+ghost use Rattle.jl_typeread.specs.Lexemes.{is_unruled, opening, closing, reserved, named, sign_of, lexeme_of};
+
+use jl_model::ty::Bytes;
+use jl_token::token::{Operator, Token, TokenKind};
+use std::alloc::AllocError;
+
+/// The reserved words. `Unruled` stands for those that have no rule in the grammar.
+#[derive(Clone, Copy, PartialEq, Eq, Debug)]
+pub enum Word {
+    Abstract,
+    Struct,
+    Function,
+    End,
+    If,
+    Elseif,
+    Else,
+    Begin,
+    Quote,
+    Return,
+    Where,
+    True,
+    False,
+    Nothing,
+    Isa,
+    Unruled,
+}
+
+/// What the grammars see of a token.
+#[derive(Drop, PartialEq, Eq)]
+pub enum Sign {
+    /// A name that is no reserved word.
+    Name(Bytes),
+    /// A reserved word.
+    Word(Word),
+    /// A number, with its sign where that belongs to its token.
+    Number(i64),
+    /// A string, by the bytes that it stands for.
+    Text(Bytes),
+    /// A macro word, by the bytes behind its `@`.
+    Macro(Bytes),
+    /// An operator or another mark.
+    Operator(Operator),
+    /// A newline.
+    Newline,
+    /// The end of the source.
+    End,
+}
+
+/// A token's sign, and its offset in bytes.
+#[derive(Drop, PartialEq, Eq)]
+pub struct Lexeme {
+    pub sign: Sign,
+    pub at: u32,
+}
+
+/// The reserved words without a rule.
+const UNRULED_WORDS: [&[u8]; 20] = [
+    b"for",
+    b"while",
+    b"try",
+    b"catch",
+    b"finally",
+    b"let",
+    b"do",
+    b"mutable",
+    b"primitive",
+    b"module",
+    b"baremodule",
+    b"import",
+    b"using",
+    b"export",
+    b"const",
+    b"global",
+    b"local",
+    b"macro",
+    b"break",
+    b"continue",
+];
+
+/// Whether the word is reserved and has no rule.
+fn is_unruled(word: &[u8]) -> bool
+    ensures { result ≡ is_unruled word.now }
+{
+    UNRULED_WORDS.contains(&word)
+}
+
+/// The reserved words that begin a form.
+fn opening(word: &[u8]) -> Option<Word>
+    ensures { result ≡ opening word.now }
+{
+    if word == b"abstract".as_slice() {
+        return Some(Word::Abstract);
+    }
+    if word == b"struct".as_slice() {
+        return Some(Word::Struct);
+    }
+    if word == b"function".as_slice() {
+        return Some(Word::Function);
+    }
+    if word == b"if".as_slice() {
+        return Some(Word::If);
+    }
+    if word == b"begin".as_slice() {
+        return Some(Word::Begin);
+    }
+    if word == b"quote".as_slice() {
+        return Some(Word::Quote);
+    }
+    if word == b"return".as_slice() {
+        return Some(Word::Return);
+    }
+    if word == b"where".as_slice() {
+        return Some(Word::Where);
+    }
+    None
+}
+
+/// The other reserved words with a rule.
+fn closing(word: &[u8]) -> Option<Word>
+    ensures { result ≡ closing word.now }
+{
+    if word == b"end".as_slice() {
+        return Some(Word::End);
+    }
+    if word == b"elseif".as_slice() {
+        return Some(Word::Elseif);
+    }
+    if word == b"else".as_slice() {
+        return Some(Word::Else);
+    }
+    if word == b"true".as_slice() {
+        return Some(Word::True);
+    }
+    if word == b"false".as_slice() {
+        return Some(Word::False);
+    }
+    if word == b"nothing".as_slice() {
+        return Some(Word::Nothing);
+    }
+    if word == b"isa".as_slice() {
+        return Some(Word::Isa);
+    }
+    None
+}
+
+/// The reserved word that these bytes are.
+fn reserved(word: &[u8]) -> Option<Word>
+    ensures { result ≡ reserved word.now }
+{
+    match opening(word) {
+        Some(found) => Some(found),
+        None => match closing(word) {
+            Some(found) => Some(found),
+            None if is_unruled(word) => Some(Word::Unruled),
+            None => None,
+        },
+    }
+}
+
+/// The sign of an identifier: a reserved word, or a name.
+fn named(name: &Bytes) -> Result<Sign, AllocError>
+    ensures { IfOk result (λ s. s ≡ named name.now) }
+{
+    match reserved(name.as_slice()) {
+        Some(word) => Ok(Sign::Word(word)),
+        None => Ok(Sign::Name(name.copy()?)),
+    }
+}
+
+/// What the grammars see of a token.
+fn sign_of(kind: &TokenKind) -> Result<Sign, AllocError>
+    ensures { IfOk result (λ s. s ≡ sign_of kind.now) }
+{
+    match kind {
+        TokenKind::Identifier(name) => named(name),
+        TokenKind::Number(number) => Ok(Sign::Number(*number)),
+        TokenKind::Negative(number) => Ok(Sign::Number(*number)),
+        TokenKind::Text(text) => Ok(Sign::Text(text.copy()?)),
+        TokenKind::Macro(name) => Ok(Sign::Macro(name.copy()?)),
+        TokenKind::Operator(operator) => Ok(Sign::Operator(*operator)),
+        TokenKind::Newline => Ok(Sign::Newline),
+        TokenKind::End => Ok(Sign::End),
+    }
+}
+
+impl Lexeme {
+    /// A token as the grammars see it. Its bytes are shared, so it takes no memory.
+    pub fn of(token: &Token) -> Result<Lexeme, AllocError>
+        ensures { IfOk result (λ l. l ≡ lexeme_of token.now) }
+    {
+        let sign = sign_of(&token.kind)?;
+        let at = token.at;
+        Ok(Lexeme { sign, at })
+    }
+}

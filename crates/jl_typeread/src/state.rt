@@ -1,0 +1,91 @@
+//! Where the reading of a type, or of variables, is.
+
+use crate::deep::{Deep, Mark};
+use crate::tree::{ArgText, TypeText, VarText};
+use jl_model::rows::{Row, Stack};
+use jl_model::ty::Bytes;
+
+/// A type that was read: a name, behind which braces may follow, or a type that nothing can follow.
+#[derive(Drop)]
+pub enum Begun {
+    Plain(u32, Bytes),
+    Whole(Deep<TypeText>),
+}
+
+/// What of a variable stands before the type that is being read.
+#[derive(Drop)]
+pub enum Bound {
+    /// Nothing: the type may also be the variable's name.
+    First,
+    /// The name and `<:`.
+    Below(u32, Bytes),
+    /// The name and `>:`.
+    Above(u32, Bytes),
+    /// A type, `<:`, the name and `<:`.
+    Between(Deep<TypeText>, u32, Bytes),
+}
+
+/// The variables before the one that is being read.
+#[derive(Drop)]
+pub enum Listed {
+    /// It stands alone, without braces.
+    One,
+    /// Those in the same braces.
+    Braces(Deep<Row<VarText>>),
+}
+
+/// A form that is open, with what was read of it.
+#[derive(Drop)]
+pub enum Frame {
+    /// A name and `{`, the arguments that have ended, and the mark before the next.
+    Argument(u32, Bytes, Deep<Row<ArgText>>, Mark),
+    /// `(`
+    Paren(u32),
+    /// `(`, a type and `where`.
+    Where(u32, Deep<TypeText>),
+    /// A variable, and those before it.
+    Variable(Bound, Listed),
+}
+
+/// What was read last, and so what may follow.
+#[derive(Drop)]
+pub enum Point {
+    /// A type must follow.
+    Want,
+    /// A variable must follow: its name or its lower bound.
+    Variable,
+    /// `{` behind a name: an argument or `}` must follow.
+    First,
+    /// A comma between arguments: an argument must follow.
+    Next,
+    /// A type.
+    Have(Begun),
+    /// `where`: a variable or `{` must follow.
+    Where,
+    /// In a variable, a type and `<:`: a name must follow.
+    Low(Deep<TypeText>),
+    /// In a variable, a type, `<:` and a name: `<:` must follow.
+    Named(Deep<TypeText>, u32, Bytes),
+    /// The `}` of variables.
+    Closed(Deep<Row<VarText>>),
+}
+
+/// The state of a reading.
+#[derive(Drop)]
+pub struct State {
+    pub point: Point,
+    pub stack: Stack<Frame>,
+}
+
+/// What a token makes of a state.
+#[derive(Drop)]
+pub enum Turn {
+    /// The token belongs to what is read.
+    Goes(State),
+    /// It does not; a whole type stands before it.
+    Type(Deep<TypeText>),
+    /// It does not; whole variables stand before it.
+    Variables(Deep<Row<VarText>>),
+    /// It is wrong.
+    Wrong,
+}

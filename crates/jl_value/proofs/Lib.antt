@@ -1,0 +1,10 @@
+pub mod ValueLemmas
+pub mod TupleLemmas
+pub mod SettledLemmas
+pub mod FieldLemmas
+pub mod DeclaredFields
+pub mod KeptLemmas
+pub mod MakeLemmas
+pub mod ReadyLemmas
+pub mod SampleLemmas
+pub mod SampleValues

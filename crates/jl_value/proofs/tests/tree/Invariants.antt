@@ -1,0 +1,10 @@
+use Rattle.jl_calculus.specs.Meaning.{datum}
+use Rattle.jl_value.specs.ValidValue.{IsValid}
+use Rattle.jl_value.specs.Samples.{sample_types}
+use Rattle.jl_value.proofs.tests.tree.Given as goal
+
+abbrev pub invariant-loop-bit : goal.invariant-loop-bit
+invariant-loop-bit l = record {
+  value : IsValid sample_types (datum l.value);
+  full : IsValid sample_types (datum l.full);
+}

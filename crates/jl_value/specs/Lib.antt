@@ -1,0 +1,4 @@
+pub mod ValidValue
+pub mod Fields
+pub mod Answers
+pub mod Samples

@@ -1,0 +1,68 @@
+//! When two values are the same, and copies of values.
+
+ghost use Rattle.std.specs.Prelude.{◌≡◌, IsTrue, ◌↔◌, IfOk, map};
+ghost use Rattle.jl_calculus.specs.Meaning.{datum};
+
+use crate::same::same;
+use jl_calculus::value::Value;
+use std::alloc::AllocError;
+
+/// Whether two lists have the same values.
+#[cycle(egal)]
+#[tactic(auto, using(crate::proofs::ValueLemmas::alike))]
+fn egal_all(xs: &[Value], ys: &[Value]) -> bool
+    ensures { IsTrue result ↔ (map datum xs.now ≡ map datum ys.now) }
+{
+    if xs.len() != ys.len() {
+        return false;
+    }
+    for (i, x) in xs.iter().enumerate() {
+        if !egal(x, &ys[i]) {
+            return false;
+        }
+    }
+    true
+}
+
+/// Whether two values can't be told apart: they are of one type and have the same parts. Tasks are compared by their
+/// numbers. It takes no memory, and visits each part at most once (Julia manual, Essentials: `===`).
+#[cycle(egal)]
+#[tactic(auto, using(crate::proofs::ValueLemmas::alike))]
+pub fn egal(a: &Value, b: &Value) -> bool
+    ensures { IsTrue result ↔ (datum a.now ≡ datum b.now) }
+{
+    match a {
+        Value::Int(m) => match b {
+            Value::Int(n) => m == n,
+            _ => false,
+        },
+        Value::Bool(m) => match b {
+            Value::Bool(n) => m == n,
+            _ => false,
+        },
+        Value::Nothing => match b {
+            Value::Nothing => true,
+            _ => false,
+        },
+        Value::Task(m) => match b {
+            Value::Task(n) => m == n,
+            _ => false,
+        },
+        Value::Tuple(t, xs) => match b {
+            Value::Tuple(u, ys) => same(t, u) && egal_all(xs.as_slice(), ys.as_slice()),
+            _ => false,
+        },
+        Value::Struct(t, xs) => match b {
+            Value::Struct(u, ys) => same(t, u) && egal_all(xs.as_slice(), ys.as_slice()),
+            _ => false,
+        },
+    }
+}
+
+/// An equal value, whose parts are shared. It takes no memory, and costs the same whatever the value. The one error is a
+/// count of copies that can't be raised.
+pub fn copy(value: &Value) -> Result<Value, AllocError>
+    ensures { IfOk result (λ c. c ≡ value.now) }
+{
+    value.copy()
+}
