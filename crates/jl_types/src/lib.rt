@@ -1,8 +1,8 @@
 //! The table of nominal types, and the order of types without variables (Julia manual, Types).
 #![tactic(auto)]
 
-mod ancestor;
-mod count;
+pub mod ancestor;
+pub mod count;
 mod expand;
 mod form;
 mod ground;
@@ -10,10 +10,10 @@ mod kept;
 pub mod laws;
 mod lineage;
 mod normal_form;
-mod put;
-mod raw;
+pub mod put;
+pub mod raw;
 mod reduce;
-mod same;
+pub mod same;
 mod sort;
 mod spell;
 mod table;

@@ -3,7 +3,7 @@ use Rattle.std.proofs.Common.{◌≡◌, ◌∙◌, sym, ap, subst, refl, ℕ, z
 use Rattle.std.specs.List.{list_all}
 use Rattle.jl_model.specs.declared.ty.Ty.{Ty}
 use Rattle.jl_model.specs.declared.ty.Ty.TheOpen.{Tuple}
-use Rattle.jl_model.specs.declared.ty.Ty.TheViews.{out-Ty, outs-Tuple}
+use Rattle.jl_model.specs.declared.ty.Ty.TheViews.{out-Ty, outs-Union, outs-Tuple}
 use Rattle.jl_model.specs.declared.ty.Ty.TheViews as V
 use Rattle.jl_model.specs.declared.ty.Ty.TheVariants as W
 use Rattle.jl_model.specs.declared.ty.Decl.{Decl}
@@ -11,14 +11,16 @@ use Rattle.jl_model.specs.Ancestors.{table_of}
 use Rattle.jl_model.specs.Signature.{Both, both_more}
 use Rattle.jl_model.specs.Subtype.{Table, opaque, put, at, Below}
 use Rattle.jl_model.specs.Members.{BelowSome}
-use Rattle.jl_model.specs.Normal.{AllNormal, is_single, none, more}
+use Rattle.jl_model.specs.Normal.{AllNormal, is_single, no_union, none, more}
+use Rattle.jl_model.specs.Refusals.{Declared}
 use Rattle.jl_model.proofs.TypeInduction.{Each}
-use Rattle.jl_model.proofs.FormLemmas.{is_tuple, put-any, put-union, put-tuple, put-var}
+use Rattle.jl_model.proofs.FormLemmas.{is_tuple, put-any, put-union, put-tuple, put-nominal, put-var}
 use Rattle.jl_model.proofs.PutLemmas.{and_l, and_r}
 use Rattle.jl_model.proofs.NormalLemmas.{single_alts}
+use Rattle.jl_model.proofs.CountLemmas.{nodes_all}
 use Rattle.jl_model.proofs.BelowLemmas.{some_below, below_some, below_any}
-use Rattle.jl_types.specs.Ground.{IsGround, AreSingles}
-use Rattle.jl_types.proofs.GroundLemmas.{Tells}
+use Rattle.jl_types.specs.Ground.{IsGround, AreSingles, AllExact, Lower}
+use Rattle.jl_types.proofs.GroundLemmas.{Tells, own_case, no_nominal, nominal_exact, nominal_args, ground_lower}
 use Rattle.jl_types.proofs.TableLemmas.{get-past}
 use Rattle.jl_value.proofs.TupleLemmas.{One, both_tuple, below_tuple}
 
@@ -70,6 +72,32 @@ no_tuple ds l t ts xs e g s h =
       (λ c. let f : false ≡ true = c in cc),
       (λ b. let q = below_tuple n l us (single_alts n l g.normal s) (subst (Below n opaque l) u b) in absurd (h q.0 (is_tuple l q.0 q.1))),
     )
+
+-- a nominal type of the same name is above it where the arguments are the same, and none is above a type of another form
+single_lower : (ds : List Decl) → Declared ds → (m : ℕ) (l : Ty) → IsGround ds l → is_single l ≡ true → Lower ds m l
+single_lower ds h m l g s = ground_lower ds h m l g (λ ts e. let f : true ≡ false = sym s ∙ ap is_single e ∙ ap no_union (outs-Union ts) in cc)
+
+pub own_name : (ds : List Decl) → Declared ds → (l : Ty) (k m : ℕ) (ls ws ys : List Ty) (r : Bool) → k ≡ m → l ≡ V.Nominal k ls → ws ≡ ls → IsGround ds l → is_single l ≡ true → IsGround ds (V.Nominal m ys)
+    → Tells r (ys ≡ ws) → Tells r (Below (table_of ds) opaque l (V.Nominal m ys))
+own_name ds h l k m ls ws ys r q e f g s u t =
+    let n = table_of ds in
+    let w = nodes_all ys in
+    let exact : AllExact n w ws = nominal_exact ds w l k ls ws e f (single_lower ds h w l g s) w (omega arith) in
+    let normal : AllNormal n ys = nominal_args ds (V.Nominal m ys) m ys ys refl refl u in
+    let j : V.Nominal k ws ≡ l = ap (λ z. V.Nominal k z) f ∙ sym e in
+    subst (λ z. Tells r (Below n opaque z (V.Nominal m ys))) j (own_case ds h k m ws ys r q exact normal ((λ c. sym (t.0 c)), (λ b. t.1 (sym b))))
+
+pub no_name : (ds : List Decl) → Declared ds → (l : Ty) (m : ℕ) (ys : List Ty) → IsGround ds l → is_single l ≡ true → IsGround ds (V.Nominal m ys) → ((k : ℕ) (ls : List Ty) → l ≡ V.Nominal k ls → ⊥)
+    → Tells false (Below (table_of ds) opaque l (V.Nominal m ys))
+no_name ds h l m ys g s u d = (
+  (λ c. let f : false ≡ true = c in cc),
+  (λ b. absurd (no_nominal ds 0 (V.Nominal m ys) l m ys refl u (single_lower ds h 0 l g s) d b)),
+)
+
+pub name_case : (ds : List Decl) (l t : Ty) (k : ℕ) (ts vs xs : List Ty) (r : Bool) → t ≡ V.Nominal k ts → vs ≡ ts → Tells r (Below (table_of ds) opaque l (V.Nominal k (map (put (at xs)) vs))) → Tells r (Below (table_of ds) opaque l (put (at xs) t))
+name_case ds l t k ts vs xs r e f h =
+    let u : put (at xs) t ≡ V.Nominal k (map (put (at xs)) vs) = ap (put (at xs)) e ∙ put-nominal (at xs) k ts ∙ ap (λ z. V.Nominal k (map (put (at xs)) z)) (sym f) in
+    subst (λ z. Tells r (Below (table_of ds) opaque l z)) (sym u) h
 
 -- lists from a place on, with types put in the second one
 both_cons : (P : Ty → Ty → Type 0) (x y : Ty) (xs ys : List Ty) → Both P (x ∷ xs) (y ∷ ys) → P x y × Both P xs ys

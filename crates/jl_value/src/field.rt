@@ -2,6 +2,7 @@
 //! tuple part by part.
 
 ghost use Rattle.std.specs.Prelude.{◌≡◌, IsTrue, ◌↔◌, IfOk, map};
+ghost use Rattle.jl_model.specs.declared.ty.Ty.TheViews as V;
 ghost use Rattle.jl_model.specs.Ancestors.{table_of};
 ghost use Rattle.jl_model.specs.Members.{BelowSome};
 ghost use Rattle.jl_model.specs.Normal.{is_single};
@@ -10,10 +11,40 @@ ghost use Rattle.jl_model.specs.Subtype.{opaque, put, at, Below};
 ghost use Rattle.jl_types.specs.Ground.{IsGround, AreSingles};
 ghost use Rattle.jl_value.specs.Fields.{IsFieldType, AreFieldTypes, AreArguments};
 
-use crate::put::put_all;
 use jl_model::ty::Ty;
+use jl_types::put::put_all;
+use jl_types::same::same_all_put;
 use jl_types::{Table, ground_sub};
 use std::alloc::{AllocError, Global};
+
+/// Whether a type that is no union is below a nominal type, with the arguments put in. Memory is taken only where the first is
+/// another nominal type: a nominal type is below one of the same name where the arguments are the same.
+fn is_of_nominal(
+    alloc: Global,
+    table: &Table,
+    lower: &Ty,
+    name: u32,
+    parts: &[Ty],
+    args: &[Ty],
+) -> Result<bool, AllocError>
+    requires lower_ground { IsGround table.now lower.now }
+    requires lower_single { IsTrue (is_single lower.now) }
+    requires field_kept { IsFieldType table.now (V.Nominal name parts.now) }
+    requires args_ground { AreArguments table.now args.now }
+    ensures { IfOk result (λ r. IsTrue r ↔ Below (table_of table.now) opaque lower.now (V.Nominal name (map (put (at args.now)) parts.now))) }
+{
+    table.valid();
+    match lower {
+        Ty::Nominal(of, xs) => {
+            if *of == name {
+                return Ok(same_all_put(parts, args, xs.as_slice()));
+            }
+            let upper = Ty::Nominal(name, put_all(alloc, parts, args)?);
+            Ok(ground_sub(table, lower, &upper))
+        }
+        _ => Ok(false),
+    }
+}
 
 /// Whether a type is below some of these, with the arguments put in.
 #[cycle(field)]
@@ -63,8 +94,8 @@ fn are_of(
     Ok(true)
 }
 
-/// Whether a type that is no union is below a field's type, with the arguments put in. Memory is taken only where the field's
-/// type is a nominal type with arguments.
+/// Whether a type that is no union is below a field's type, with the arguments put in. Memory is taken only where a nominal
+/// type is compared with one of another name.
 #[cycle(field)]
 pub fn is_of(
     alloc: Global,
@@ -79,7 +110,6 @@ pub fn is_of(
     requires args_ground { AreArguments table.now args.now }
     ensures { IfOk result (λ r. IsTrue r ↔ Below (table_of table.now) opaque lower.now (put (at args.now) field.now)) }
 {
-    table.valid();
     match field {
         Ty::Any => Ok(true),
         Ty::Union(members) => is_of_some(alloc, table, lower, members.as_slice(), args),
@@ -87,10 +117,14 @@ pub fn is_of(
             Ty::Tuple(lowers) => are_of(alloc, table, lowers.as_slice(), parts.as_slice(), args),
             _ => Ok(false),
         },
-        Ty::Nominal(name, parts) => {
-            let upper = Ty::Nominal(*name, put_all(alloc, parts.as_slice(), args)?);
-            Ok(ground_sub(table, lower, &upper))
-        }
+        Ty::Nominal(name, parts) => is_of_nominal(
+            alloc,
+            table,
+            lower,
+            *name,
+            parts.as_slice(),
+            args,
+        ),
         Ty::Var(variable) => match args.get(*variable as usize) {
             Some(argument) => Ok(ground_sub(table, lower, argument)),
             None => Ok(true),

@@ -3,8 +3,8 @@
 ghost use Rattle.std.specs.Prelude.{◌≡◌, IsTrue, ◌↔◌, IfOk, map};
 ghost use Rattle.jl_calculus.specs.Meaning.{datum};
 
-use crate::same::same;
 use jl_calculus::value::Value;
+use jl_types::same::same;
 use std::alloc::AllocError;
 
 /// Whether two lists have the same values.

@@ -5,14 +5,11 @@
 //! one pass over the types of these: the nodes and the depth of the parts are kept. [`egal`] visits each part.
 #![tactic(auto)]
 
-mod count;
 mod field;
 mod identity;
 mod kept;
 mod made;
 mod make;
-mod put;
-mod same;
 #[cfg(test)]
 mod tests;
 

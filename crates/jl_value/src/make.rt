@@ -12,17 +12,14 @@ ghost use Rattle.jl_value.specs.Fields.{AreFieldTypes, AreArguments};
 ghost use Rattle.jl_value.specs.Answers.{tuple_of, IsTooLarge, TupleCause, OtherCause, PartsCause, StructCause};
 ghost use Rattle.jl_value.specs.declared.made.MakeFault.TheVariants.{ValueLimit};
 
-use crate::count::nodes_within;
 use crate::field::is_of;
 use crate::kept::type_of;
 use crate::made::MakeFault;
 use jl_calculus::value::{Value, Values};
 use jl_model::ty::{Field, Ty, Tys};
 use jl_types::Table;
+use jl_types::count::{MOST_NODES as MOST_TYPE_NODES, nodes_within};
 use std::alloc::{AllocError, Global};
-
-/// The most nodes of the type of a tuple.
-const MOST_TYPE_NODES: u64 = 1024;
 
 /// The most nodes of a value.
 const MOST_NODES: u64 = 1_000_000;

@@ -565,3 +565,19 @@ fn a_value_is_as_large_as_its_limit(rt: HostRuntime) -> Result<(), MakeFault> {
     assert!(rt; is_fault(refused, MakeFault::ValueLimit));
     Ok(())
 }
+
+static FAULTS: [(MakeFault, &str); 5] = [
+    (MakeFault::TypeLimit, "TypeLimit"),
+    (MakeFault::FieldCount, "FieldCount"),
+    (MakeFault::FieldType(0), "FieldType"),
+    (MakeFault::ValueLimit, "ValueLimit"),
+    (MakeFault::Memory, "out of memory"),
+];
+
+#[test]
+fn faults_are_written_by_their_names(rt: HostRuntime) -> Result<(), Fail> {
+    for (fault, text) in &FAULTS {
+        assert!(rt; format!(in rt.alloc(); "{fault}")?.as_str() == *text);
+    }
+    Ok(())
+}

@@ -1,13 +1,15 @@
-use Rattle.std.proofs.Common.{rules, ◌≡◌, sym, refl, true, drop, [], arith, map, length, get_or, ◌<◌, ◌≤◌}
+use Rattle.std.proofs.Common.{rules, ◌≡◌, ◌∙◌, ap, subst, sym, refl, true, drop, [], arith, map, length, get_or, ◌<◌, ◌≤◌}
 use Rattle.std.proofs.lemmas.List.{drop_all}
 use Rattle.std.proofs.lemmas.Result.{IfOk-weaker}
+use Rattle.jl_model.specs.declared.ty.Ty.TheViews as V
 use Rattle.jl_model.specs.Signature.{Both, both_end}
 use Rattle.jl_model.specs.Subtype.{opaque, put, at, Below}
 use Rattle.jl_model.specs.Ancestors.{table_of}
 use Rattle.jl_types.proofs.GroundLemmas.{tuple_singles, ground-at, all-at, size-union, size-tuple, size-at}
 use Rattle.jl_model.specs.Normal.{is_single}
-use Rattle.jl_value.proofs.SettledLemmas.{union_fields, tuple_fields, field_at, nominal_ground, argument_ground}
-use Rattle.jl_value.proofs.FieldLemmas.{any_case, past_case, union_case, tuple_case, no_tuple, both_at, both_long, some_at}
+use Rattle.jl_value.specs.Fields.{IsFieldType}
+use Rattle.jl_value.proofs.SettledLemmas.{union_fields, tuple_fields, field_at, argument_ground}
+use Rattle.jl_value.proofs.FieldLemmas.{any_case, past_case, union_case, tuple_case, name_case, no_tuple, both_at, both_long, some_at}
 use Rattle.jl_value.proofs.field.+field.Goals as goal
 
 pub are_of-returns-then-parts-lowers : goal.are_of-returns-then-parts-lowers
@@ -74,11 +76,6 @@ is_of-are_of-requires t c =
       ),
     )
 
-pub is_of-ground_sub-requires-clause-b_ground : goal.is_of-ground_sub-requires-clause-b_ground
-is_of-ground_sub-requires-clause-b_ground t c =
-    nominal_ground c.args.table.now c.args.field.now c.in-Nominal.name c.in-Nominal.parts c.as_slice-in-Nominal.result.now c.in_ok-put_all-in-Nominal.field-0 c.args.args.now
-    c.in-Nominal.is c.as_slice-in-Nominal.ensures c.in_ok-put_all-in-Nominal.ensures c.requires.field_kept c.requires.args_ground
-
 pub is_of-returns-in-Any : goal.is_of-returns-in-Any
 is_of-returns-in-Any t c = any_case (table_of c.args.table.now) c.args.lower.now c.args.field.now c.args.args.now c.in-Any.is
 
@@ -102,8 +99,8 @@ pub is_of_some-returns-then-branch : goal.is_of_some-returns-then-branch
 is_of_some-returns-then-branch t c =
     ((λ h. some_at (table_of c.args.table.now) c.args.lower.now (put (at c.args.args.now)) c.args.members.now c.loop-member.member-index c.member-item.result (c.in_ok-is_of.ensures.0 c.if-branch.true) c.loop-member-test.true c.member-item.is), (λ b. refl))
 
-pub is_of-ground_sub-requires-in-Some-clause-b_ground : goal.is_of-ground_sub-requires-in-Some-clause-b_ground
-is_of-ground_sub-requires-in-Some-clause-b_ground t c =
+pub is_of-ground_sub-requires-clause-b_ground : goal.is_of-ground_sub-requires-clause-b_ground
+is_of-ground_sub-requires-clause-b_ground t c =
     let lt : c.in-Var.variable < length c.args.args.now = search rules in
     let e : c.in-Some.argument.now ≡ get_or c.args.args.now c.in-Var.variable c.in-Some.argument.now = search rules in
     argument_ground c.args.table.now c.args.args.now c.in-Var.variable c.in-Some.argument.now c.requires.args_ground lt e
@@ -126,3 +123,13 @@ is_of-returns-in-Tuple-lower t c =
     c.in-Tuple.is c.in-Tuple-lower.is c.as_slice-in-Tuple-lower-2.ensures c.as_slice-in-Tuple-lower.ensures c.requires.lower_ground c.requires.lower_single
     (tuple_singles c.args.table.now c.args.lower.now c.in-Tuple-lower.lowers c.as_slice-in-Tuple-lower.result.now c.in-Tuple-lower.is c.as_slice-in-Tuple-lower.ensures c.requires.lower_ground))
     c.are_of.ensures
+
+pub is_of-is_of_nominal-requires-clause-field_kept : goal.is_of-is_of_nominal-requires-clause-field_kept
+is_of-is_of_nominal-requires-clause-field_kept t c =
+    subst (IsFieldType c.args.table.now) (c.in-Nominal.is ∙ ap (λ z. V.Nominal c.in-Nominal.name z) (sym c.as_slice-in-Nominal.ensures)) c.requires.field_kept
+
+pub is_of-returns-in-Nominal : goal.is_of-returns-in-Nominal
+is_of-returns-in-Nominal t c =
+    IfOk-weaker c.is_of_nominal.result _ _
+    (λ r. name_case c.args.table.now c.args.lower.now c.args.field.now c.in-Nominal.name c.in-Nominal.parts c.as_slice-in-Nominal.result.now c.args.args.now r c.in-Nominal.is c.as_slice-in-Nominal.ensures)
+    c.is_of_nominal.ensures
