@@ -103,6 +103,38 @@ count_known (Some d) ys h = h
 below_of : (a b : ℕ) → nat_lt a b ≡ true → a < b
 below_of a b h = grind (arith, h)
 
+-- a declaration whose parent is known, has the declared number of arguments and has its variables placed
+module _ (ds : List Decl) (d : Decl) (known : is_known (length ds) d.parent ≡ true) (count : is_counted (ds ++ d ∷ []) d.parent ≡ true) (placed : is_placed (length ds) d.parent ≡ true) where
+  fits_case : (x : Ty-F Ty) → out-Ty d.parent ≡ x → parent_case ds x ≡ true
+  fits_case Any e = refl
+  fits_case (Union ts) e = refl
+  fits_case (Tuple ts) e = refl
+  fits_case (Var v) e = refl
+  fits_case (Nominal p ys) e =
+      let is = is_nominal d.parent p ys e in
+      let k : list_all (λ j. nat_lt j (length ds)) (p ∷ flat_map names_in ys) ≡ true = ap (list_all (λ j. nat_lt j (length ds))) (sym (ap names_in is ∙ names-nominal p ys)) ∙ known in
+      let near : p < length ds = below_of p (length ds) (and_l (nat_lt p (length ds)) (list_all (λ j. nat_lt j (length ds)) (flat_map names_in ys)) k) in
+      let c : (nat_eq (length ys) (length (params_of (slice_get (ds ++ d ∷ []) p))) && list_all (is_counted (ds ++ d ∷ [])) ys) ≡ true
+      = sym (ap (is_counted (ds ++ d ∷ [])) is ∙ counted-nominal (ds ++ d ∷ []) p ys) ∙ count in
+      let c1 = and_l (nat_eq (length ys) (length (params_of (slice_get (ds ++ d ∷ []) p)))) (list_all (is_counted (ds ++ d ∷ [])) ys) c in
+      let c2 : nat_eq (length ys) (length (params_of (slice_get ds p))) ≡ true = ap (λ o. nat_eq (length ys) (length (params_of o))) (sym (slice_before ds d p near)) ∙ c1 in
+      count_known (slice_get ds p) ys c2
+
+  pub head_patterns : Parents IsPattern d
+  head_patterns p ys e =
+      let is = is_nominal d.parent p ys e in
+      patterns ys (sym (ap (is_placed (length ds)) is ∙ placed-nominal (length ds) p ys) ∙ placed)
+    where
+      patterns : (ts : List Ty) → list_all (is_placed (length ds)) ts ≡ true → Each IsPattern ts
+      patterns [] h = tt
+      patterns (t ∷ ts) h = (
+        placed_pattern (length ds) t (and_l (is_placed (length ds) t) (list_all (is_placed (length ds)) ts) h),
+        patterns ts (and_r (is_placed (length ds) t) (list_all (is_placed (length ds)) ts) h),
+      )
+
+  pub head_fits : parent_fits ds d ≡ true
+  head_fits = fits_case (out-Ty d.parent) refl
+
 module _ (ds : List Decl) (d : Decl) (ok : IsAllowed ds d) where
   all_counted : list_all (is_counted (ds ++ d ∷ [])) (types_of d) ≡ true
   all_counted = not_false (list_all (is_counted (ds ++ d ∷ [])) (types_of d)) ok.counted
@@ -121,35 +153,11 @@ module _ (ds : List Decl) (d : Decl) (ok : IsAllowed ds d) where
       and_r (list_all is_closed (bound_types d.params)) (is_placed (length ds) d.parent)
       (and_l (list_all is_closed (bound_types d.params) && is_placed (length ds) d.parent) _ h)
 
-  fits_case : (x : Ty-F Ty) → out-Ty d.parent ≡ x → parent_case ds x ≡ true
-  fits_case Any e = refl
-  fits_case (Union ts) e = refl
-  fits_case (Tuple ts) e = refl
-  fits_case (Var v) e = refl
-  fits_case (Nominal p ys) e =
-      let is = is_nominal d.parent p ys e in
-      let k : list_all (λ j. nat_lt j (length ds)) (p ∷ flat_map names_in ys) ≡ true = ap (list_all (λ j. nat_lt j (length ds))) (sym (ap names_in is ∙ names-nominal p ys)) ∙ parent_known in
-      let near : p < length ds = below_of p (length ds) (and_l (nat_lt p (length ds)) (list_all (λ j. nat_lt j (length ds)) (flat_map names_in ys)) k) in
-      let c : (nat_eq (length ys) (length (params_of (slice_get (ds ++ d ∷ []) p))) && list_all (is_counted (ds ++ d ∷ [])) ys) ≡ true
-      = sym (ap (is_counted (ds ++ d ∷ [])) is ∙ counted-nominal (ds ++ d ∷ []) p ys) ∙ parent_counted in
-      let c1 = and_l (nat_eq (length ys) (length (params_of (slice_get (ds ++ d ∷ []) p)))) (list_all (is_counted (ds ++ d ∷ [])) ys) c in
-      let c2 : nat_eq (length ys) (length (params_of (slice_get ds p))) ≡ true = ap (λ o. nat_eq (length ys) (length (params_of o))) (sym (slice_before ds d p near)) ∙ c1 in
-      count_known (slice_get ds p) ys c2
-
   pub allowed_patterns : Parents IsPattern d
-  allowed_patterns p ys e =
-      let is = is_nominal d.parent p ys e in
-      patterns ys (sym (ap (is_placed (length ds)) is ∙ placed-nominal (length ds) p ys) ∙ parent_placed)
-    where
-      patterns : (ts : List Ty) → list_all (is_placed (length ds)) ts ≡ true → Each IsPattern ts
-      patterns [] h = tt
-      patterns (t ∷ ts) h = (
-        placed_pattern (length ds) t (and_l (is_placed (length ds) t) (list_all (is_placed (length ds)) ts) h),
-        patterns ts (and_r (is_placed (length ds) t) (list_all (is_placed (length ds)) ts) h),
-      )
+  allowed_patterns = head_patterns ds d parent_known parent_counted parent_placed
 
   pub allowed_fits : parent_fits ds d ≡ true
-  allowed_fits = fits_case (out-Ty d.parent) refl
+  allowed_fits = head_fits ds d parent_known parent_counted parent_placed
 
 fit_snoc : (ds es : List Decl) (d : Decl) → all_fit ds es ≡ true → parent_fits (ds ++ es) d ≡ true → all_fit ds (es ++ d ∷ []) ≡ true
 fit_snoc ds [] d h f = both_true (parent_fits ds d) true (ap (λ z. parent_fits z d) (sym (append-nil ds)) ∙ f) refl
@@ -188,3 +196,10 @@ declared_patterns ds (added es d h r) = parents_snoc IsPattern es d (declared_pa
 
 pub declared_lawful : (ds : List Decl) → Declared ds → Lawful (table_of ds)
 declared_lawful ds h = lawful_lines ds (declared_fit ds h) (declared_patterns ds h)
+
+-- one more declaration
+pub next_fit : (ds : List Decl) (d : Decl) → Declared ds → is_known (length ds) d.parent ≡ true → is_counted (ds ++ d ∷ []) d.parent ≡ true → is_placed (length ds) d.parent ≡ true → all_fit [] (ds ++ d ∷ []) ≡ true
+next_fit ds d h k c p = fit_snoc [] ds d (declared_fit ds h) (head_fits ds d k c p)
+
+pub next_lawful : (ds : List Decl) (d : Decl) → Declared ds → is_known (length ds) d.parent ≡ true → is_counted (ds ++ d ∷ []) d.parent ≡ true → is_placed (length ds) d.parent ≡ true → Lawful (table_of (ds ++ d ∷ []))
+next_lawful ds d h k c p = lawful_lines (ds ++ d ∷ []) (next_fit ds d h k c p) (parents_snoc IsPattern ds d (declared_patterns ds h) (head_patterns ds d k c p))

@@ -95,7 +95,7 @@ mutual
       let us = map (put (at xs)) ts in
       subst (IsNormal n) (sym (put-nominal (at xs) k ts)) (nominal (V.Nominal k us) k us (outs-Nominal k us) (put_normals n xs e ts h))
 
-  put_normals : (n : Table) (xs : List Ty) → AllNormal n xs → (ts : List Ty) → AllFilled n ts → AllNormal n (map (put (at xs)) ts)
+  pub put_normals : (n : Table) (xs : List Ty) → AllNormal n xs → (ts : List Ty) → AllFilled n ts → AllNormal n (map (put (at xs)) ts)
   put_normals n xs e ts filled_end = none
   put_normals n xs e ts (filled_more t us p q) = more (put (at xs) t) (map (put (at xs)) us) (put_normal n xs e t p) (put_normals n xs e us q)
 
@@ -174,10 +174,10 @@ settled_args n t u (named_type a b k ts us o q r) e p ys i =
     let us_is : ts ≡ us = cc in
     subst (AllFilled n) ts_is (all_filled n ts us r us_is)
 
-ready_parents : (ds : List Decl) (d : Decl) → IsReady ds d → Parents (Good (ds ++ d ∷ [])) d
-ready_parents ds d r p ys o =
-    let filled = all_each (table_with ds d) ys (settled_args (table_with ds d) d.parent d.parent r.normal.parent refl p ys o) in
-    let known : Known (length ds) (V.Nominal p ys) = sym (ap (is_known (length ds)) (is_nominal d.parent p ys o)) ∙ parent_known ds d r.allowed in
+ready_parents : (ds : List Decl) (d : Decl) → Settled (table_with ds d) d.parent d.parent → Known (length ds) d.parent → Parents (Good (ds ++ d ∷ [])) d
+ready_parents ds d s k p ys o =
+    let filled = all_each (table_with ds d) ys (settled_args (table_with ds d) d.parent d.parent s refl p ys o) in
+    let known : Known (length ds) (V.Nominal p ys) = sym (ap (is_known (length ds)) (is_nominal d.parent p ys o)) ∙ k in
     both_each ys filled (each_map (Known (length ds)) (Known (length (ds ++ d ∷ []))) (known_more ds d) ys (nominal_known (length ds) p ys known).1)
   where
     both_each : (ts : List Ty) → Each (Filled (table_with ds d)) ts → Each (Known (length (ds ++ d ∷ []))) ts → Each (Good (ds ++ d ∷ [])) ts
@@ -187,13 +187,15 @@ ready_parents ds d r p ys o =
 parents_known : (ds es : List Decl) → AllParents (Good ds) es → AllParents (Known (length ds)) es
 parents_known ds es h = parents_map (Good ds) (Known (length ds)) (λ t g. g.1) es h
 
+next_good : (es : List Decl) (d : Decl) → all_fit [] es ≡ true → AllParents (Good es) es → Settled (table_with es d) d.parent d.parent → Known (length es) d.parent → AllParents (Good (es ++ d ∷ [])) (es ++ d ∷ [])
+next_good es d f q s k =
+    let a = agree_more es d f (parents_known es es q) in
+    let later = parents_map (Good es) (Good (es ++ d ∷ [])) (λ t g. (filled_move (table_of es) (table_of (es ++ d ∷ [])) (length es) a t g.1 g.0, known_more es d t g.1)) es q in
+    parents_snoc (Good (es ++ d ∷ [])) es d later (ready_parents es d s k)
+
 declared_good : (ds : List Decl) → Declared ds → AllParents (Good ds) ds
 declared_good ds builtin = builtin_parents (Good builtin_types)
-declared_good ds (added es d h r) =
-    let q = declared_good es h in
-    let a = agree_more es d (declared_fit es h) (parents_known es es q) in
-    let later = parents_map (Good es) (Good (es ++ d ∷ [])) (λ t g. (filled_move (table_of es) (table_of (es ++ d ∷ [])) (length es) a t g.1 g.0, known_more es d t g.1)) es q in
-    parents_snoc (Good (es ++ d ∷ [])) es d later (ready_parents es d r)
+declared_good ds (added es d h r) = next_good es d (declared_fit es h) (declared_good es h) r.normal.parent (parent_known es d r.allowed)
 
 pub ancestors_filled : (ds : List Decl) → Declared ds → (k m : ℕ) (ys : List Ty) → up_in ds k m ≡ Some ys → AllFilled (table_of ds) ys
 ancestors_filled ds h k m ys u =
@@ -217,3 +219,12 @@ ancestors_known ds h k m ys u =
 -- a declaration added leaves the order of the types before it, and their normal forms, as they are
 pub declared_agree : (ds : List Decl) (d : Decl) → Declared ds → Agree (table_of ds) (table_of (ds ++ d ∷ [])) (length ds)
 declared_agree ds d h = agree_more ds d (declared_fit ds h) (parents_known ds ds (declared_good ds h))
+
+-- the same with one more declaration, whose parent stands in its kept form
+pub next_filled : (ds : List Decl) (d : Decl) → Declared ds → all_fit [] (ds ++ d ∷ []) ≡ true → Settled (table_with ds d) d.parent d.parent → Known (length ds) d.parent
+    → (k m : ℕ) (ys : List Ty) → up_in (ds ++ d ∷ []) k m ≡ Some ys → AllFilled (table_of (ds ++ d ∷ [])) ys
+next_filled ds d h f s p k m ys u =
+    let n = table_of (ds ++ d ∷ []) in
+    let good = next_good ds d (declared_fit ds h) (declared_good ds h) s p in
+    let parents = parents_map (Good (ds ++ d ∷ [])) (Filled n) (λ t g. g.0) (ds ++ d ∷ []) good in
+    each_all n ys (up_good (Filled n) (filled_kept n) (ds ++ d ∷ []) f parents k m ys u)

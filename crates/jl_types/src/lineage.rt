@@ -1,7 +1,7 @@
 //! Declarations, each with its line of ancestors.
 
-ghost use Rattle.std.specs.Prelude.{◌≡◌, ◌<◌, ◌^◌, ◌++◌, ◌∷◌, [], List, IfOk, OnOk, OnErr, MatchOption, Option, None, Some, map, length, slice_get};
-ghost use Rattle.jl_model.specs.Ancestors.{vars_from, put_under, args_of, line_of, up_in};
+ghost use Rattle.std.specs.Prelude.{◌≡◌, ◌<◌, ◌^◌, ◌++◌, ◌∷◌, [], List, IfOk, OnOk, OnErr, MatchOption, Option, None, Some, map, length, slice_get, get_or};
+ghost use Rattle.jl_model.specs.Ancestors.{vars_from, put_under, args_of, line_of, lines_after, up_in};
 ghost use Rattle.jl_types.specs.Lines.{line_in, lines_in};
 
 use crate::ancestor::{Ancestor, Entry};
@@ -131,6 +131,14 @@ impl Lineage {
         ensures { MatchOption result (up_in self.now name target ≡ None) (λ args. up_in self.now name target ≡ Some args.now) }
     {
         find(self.entries[name].line.as_slice(), target)
+    }
+
+    /// The type of this number and its ancestors, the nearest first.
+    pub fn line(&self, name: usize) -> &[Ancestor]
+        requires { name < length self.now }
+        ensures { line_in result.now ≡ get_or (lines_after [] self.now) name [] }
+    {
+        self.entries[name].line.as_slice()
     }
 
     /// Adds a declaration.

@@ -1,11 +1,13 @@
 //! The table of nominal types.
 
-ghost use Rattle.std.specs.Prelude.{◌≡◌, ◌<◌, ◌++◌, ◌∷◌, [], IfOk, OnErr, MatchOption, Option, None, Some, length, slice_get};
-ghost use Rattle.jl_model.specs.Ancestors.{builtin_types, plain_decl, named, up_in};
+ghost use Rattle.std.specs.Prelude.{◌≡◌, ◌<◌, ◌++◌, ◌∷◌, [], IfOk, OnErr, MatchOption, Option, None, Some, length, slice_get, get_or};
+ghost use Rattle.jl_model.specs.Ancestors.{builtin_types, plain_decl, named, lines_after, up_in};
+ghost use Rattle.jl_types.specs.Lines.{line_in};
 ghost use Rattle.jl_model.specs.Refusals.{IsReady, Declared};
 ghost use Rattle.jl_model.specs.declared.ty.DeclKind.TheVariants.{Abstract, Struct};
 ghost use Rattle.jl_model.specs.declared.ty.Ty.TheVariants as W;
 
+use crate::ancestor::Ancestor;
 use crate::lineage::Lineage;
 use jl_model::ty::{Bounds, Bytes, Decl, DeclKind, Fields, Ty, Tys};
 use std::alloc::{AllocError, Global};
@@ -105,6 +107,14 @@ impl Table {
         ensures { MatchOption result (up_in self.now name target ≡ None) (λ args. up_in self.now name target ≡ Some args.now) }
     {
         self.lineage.up(name as usize, target)
+    }
+
+    /// A type and its ancestors, the nearest first, with their arguments over the parameters of the type.
+    pub fn line(&self, name: u32) -> &[Ancestor]
+        requires { name < length self.now }
+        ensures { line_in result.now ≡ get_or (lines_after [] self.now) name [] }
+    {
+        self.lineage.line(name as usize)
     }
 
     /// The declaration of a type.

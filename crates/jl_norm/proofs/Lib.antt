@@ -1,0 +1,17 @@
+pub mod AgainLemmas
+pub mod AncestorLemmas
+pub mod InheritLemmas
+pub mod BoundLemmas
+pub mod CrossLemmas
+pub mod GivenLemmas
+pub mod ReadyLemmas
+pub mod KeepLemmas
+pub mod KeepSteps
+pub mod KeptLemmas
+pub mod ListLemmas
+pub mod NameLemmas
+pub mod NextLemmas
+pub mod OrderLemmas
+pub mod PartLemmas
+pub mod PlaceLemmas
+pub mod SizeLemmas

@@ -1,0 +1,29 @@
+//! The first seven refusals of a declaration, in their order.
+
+ghost use Rattle.std.specs.Prelude.{MatchResult};
+ghost use Rattle.jl_norm.specs.Refused.{IsOrdered, Refused};
+
+use crate::fault::DeclareFault;
+use crate::kept::{is_crossed, kept};
+use crate::written::written_fault;
+use jl_model::ty::Decl;
+use jl_types::Table;
+use std::alloc::Global;
+
+/// What a declaration is kept as, or the first refusal by its name, its types, its parent, its places, its size or its
+/// crossed bounds.
+pub fn checked(alloc: Global, table: &Table, decl: &Decl) -> Result<Decl, DeclareFault>
+    ensures { MatchResult result (λ e. IsOrdered table.now decl.now e) (λ fault. Refused fault table.now decl.now) }
+{
+    if let Some(fault) = written_fault(table, decl) {
+        return Err(fault);
+    }
+    let kept = match kept(alloc, table, decl) {
+        Ok(kept) => kept,
+        Err(fault) => return Err(fault),
+    };
+    if is_crossed(table, decl, &kept) {
+        return Err(DeclareFault::BoundsCrossed);
+    }
+    Ok(kept)
+}
