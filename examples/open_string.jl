@@ -1,0 +1,2 @@
+f(x) = x
+println("abc
