@@ -2,18 +2,18 @@
 use Rattle.std.proofs.Common.{◌≡◌, ◌∙◌, refl, sym, ap, Bool, true, false, cond, List, [], ◌∷◌, Option, None}
 use Rattle.jl_typeread.specs.declared.sign.Lexeme.{Lexeme}
 use Rattle.jl_typeread.specs.declared.sign.Sign.{Sign}
-use Rattle.jl_reader.specs.declared.mark.Closing.{Closing}
-use Rattle.jl_reader.specs.declared.mark.Closing.TheVariants.{Ends, Wrong}
-use Rattle.jl_reader.specs.declared.mark.Follows.{Follows}
-use Rattle.jl_reader.specs.declared.mark.Follows.TheVariants as F
-use Rattle.jl_reader.specs.declared.mark.Marked.{Marked}
-use Rattle.jl_reader.specs.declared.mark.Marks.{Marks}
-use Rattle.jl_reader.specs.declared.mark.Mate.{Mate}
-use Rattle.jl_reader.specs.declared.mark.Mate.TheVariants.{Opens, Closes, Neither}
-use Rattle.jl_reader.specs.declared.mark.Near.{Near}
-use Rattle.jl_reader.specs.declared.mark.Scan.{Scan}
-use Rattle.jl_reader.specs.declared.mark.Shape.{Shape}
-use Rattle.jl_reader.specs.Marks.{mate, same, past, behind, round, told, told_behind, marks_of, signs, marked}
+use Rattle.jl_reader.specs.declared.scan.Closing.{Closing}
+use Rattle.jl_reader.specs.declared.scan.Closing.TheVariants.{Ends, Wrong}
+use Rattle.jl_grammar.specs.declared.mark.Follows.{Follows}
+use Rattle.jl_grammar.specs.declared.mark.Follows.TheVariants as F
+use Rattle.jl_grammar.specs.declared.mark.Marked.{Marked}
+use Rattle.jl_grammar.specs.declared.mark.Marks.{Marks}
+use Rattle.jl_grammar.specs.declared.mark.Mate.{Mate}
+use Rattle.jl_grammar.specs.declared.mark.Mate.TheVariants.{Opens, Closes, Neither}
+use Rattle.jl_reader.specs.declared.scan.Near.{Near}
+use Rattle.jl_reader.specs.declared.scan.Scan.{Scan}
+use Rattle.jl_grammar.specs.declared.mark.Shape.{Shape}
+use Rattle.jl_grammar.specs.Marks.{mate, same, past, behind, round, told, told_behind, marks_of, signs, marked}
 use Rattle.jl_reader.specs.Scan.{popped, closing_by, closing_of, answer, answer_of, matched, near_of, scanned}
 
 -- what follows the brackets that end these open ones, by the closing ones; the last is what follows at once

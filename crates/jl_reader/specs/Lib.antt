@@ -1,11 +1,2 @@
-pub mod Forms
-pub mod Newlines
-pub mod Marks
 pub mod Scan
-pub mod Texts
-pub mod Types
-pub mod Grammar
-pub mod Levels
-pub mod Turns
-pub mod Machine
-pub mod Reads
+pub mod Answers

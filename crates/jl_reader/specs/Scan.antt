@@ -2,16 +2,16 @@
 use Rattle.std.specs.Prelude.{cond, List, [], ◌∷◌}
 use Rattle.jl_typeread.specs.declared.sign.Lexeme.{Lexeme}
 use Rattle.jl_typeread.specs.declared.sign.Sign.{Sign}
-use Rattle.jl_reader.specs.declared.mark.Closing.{Closing}
-use Rattle.jl_reader.specs.declared.mark.Closing.TheVariants.{Ends, Wrong}
-use Rattle.jl_reader.specs.declared.mark.Follows.{Follows}
-use Rattle.jl_reader.specs.declared.mark.Follows.TheVariants as F
-use Rattle.jl_reader.specs.declared.mark.Mate.{Mate}
-use Rattle.jl_reader.specs.declared.mark.Mate.TheVariants.{Opens, Closes, Neither}
-use Rattle.jl_reader.specs.declared.mark.Near.{Near}
-use Rattle.jl_reader.specs.declared.mark.Scan.{Scan}
-use Rattle.jl_reader.specs.declared.mark.Shape.{Shape}
-use Rattle.jl_reader.specs.Marks.{mate, same, behind, round, curly, told, told_behind, colon_head, dot_head, base_head, calls, base_opening, threads_opening, after_name, signs, marked}
+use Rattle.jl_reader.specs.declared.scan.Closing.{Closing}
+use Rattle.jl_reader.specs.declared.scan.Closing.TheVariants.{Ends, Wrong}
+use Rattle.jl_grammar.specs.declared.mark.Follows.{Follows}
+use Rattle.jl_grammar.specs.declared.mark.Follows.TheVariants as F
+use Rattle.jl_grammar.specs.declared.mark.Mate.{Mate}
+use Rattle.jl_grammar.specs.declared.mark.Mate.TheVariants.{Opens, Closes, Neither}
+use Rattle.jl_reader.specs.declared.scan.Near.{Near}
+use Rattle.jl_reader.specs.declared.scan.Scan.{Scan}
+use Rattle.jl_grammar.specs.declared.mark.Shape.{Shape}
+use Rattle.jl_grammar.specs.Marks.{mate, same, behind, round, curly, told, told_behind, colon_head, dot_head, base_head, calls, base_opening, threads_opening, after_name, signs, marked}
 
 -- the closing brackets that are left to the left of an opening one
 abbrev pub popped : Shape → List Closing → List Closing

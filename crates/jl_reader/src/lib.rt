@@ -1,12 +1,9 @@
-//! Scripts: the grammar, and its reader.
+//! The reader of scripts.
 #![tactic(auto)]
 
 pub mod fault;
-pub mod laws;
-pub mod mark;
 pub mod marks;
 pub mod newlines;
-pub mod state;
+pub mod scan;
 #[cfg(test)]
 mod tests;
-pub mod tree;

@@ -3,12 +3,11 @@
 ghost use Rattle.std.specs.Prelude.{◌≡◌, ◌∷◌, [], List, IfOk, cond};
 ghost use Rattle.jl_typeread.specs.declared.sign.Lexeme.{Lexeme};
 ghost use Rattle.jl_typeread.specs.declared.sign.Sign.{Sign};
-ghost use Rattle.jl_reader.specs.Marks.{mate, mate_of, same, round, curly, told, told_sign, told_behind, defines, compares, is_function, is_base, colon_head, dot_head, base_head, begins_head, begins_left, ahead, named_call, calls, base_call, base_opening, threads_opening, after_name, opening_of, opening, marks_of, marked};
+ghost use Rattle.jl_grammar.specs.Marks.{mate, mate_of, same, round, curly, told, told_sign, told_behind, defines, compares, is_function, is_base, colon_head, dot_head, base_head, begins_head, begins_left, ahead, named_call, calls, base_call, base_opening, threads_opening, after_name, opening_of, opening, marks_of, marked};
 ghost use Rattle.jl_reader.specs.Scan.{popped, closing_by, answer, answer_of, matched, near_of, scanned};
 
-use crate::mark::{
-    Ahead, Closing, Follows, Marked, Marks, Mate, Named, Near, Opening, Scan, Shape,
-};
+use crate::scan::{Closing, Near, Scan};
+use jl_grammar::mark::{Ahead, Follows, Marked, Marks, Mate, Named, Opening, Shape};
 use jl_model::rows::Stack;
 use jl_token::token::Operator;
 use jl_typeread::sign::{Lexeme, Sign, Word};

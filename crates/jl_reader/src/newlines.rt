@@ -2,9 +2,9 @@
 
 ghost use Rattle.std.specs.Prelude.{◌≡◌, ◌∷◌, ◌++◌, [], IfOk, OnOk, cond, map};
 ghost use Rattle.jl_typeread.specs.Lexemes.{lexeme_of};
-ghost use Rattle.jl_reader.specs.Newlines.{closed, inside_operator, inside_word, inside, behind_binary, behind_colon, behind, behind_operator, behind_word, in_bracket, is_dropped, is_shown, bare};
+ghost use Rattle.jl_grammar.specs.Newlines.{closed, inside_operator, inside_word, inside, behind_binary, behind_colon, behind, behind_operator, behind_word, in_bracket, is_dropped, is_shown, bare};
 
-use crate::mark::{Around, Previous};
+use jl_grammar::mark::{Around, Previous};
 use jl_model::rows::Stack;
 use jl_token::token::{Operator, Token};
 use jl_typeread::sign::{Lexeme, Sign, Word};

@@ -1,6 +1,6 @@
-use crate::mark::Marks;
 use crate::marks::marked;
 use crate::newlines::bare;
+use jl_grammar::mark::Marks;
 use jl_token::tokens;
 use std::alloc::{AllocError, Global};
 use std::process::Abort;

@@ -1,6 +1,6 @@
 use Rattle.std.proofs.Common.{◌≡◌, ◌++◌, map, drop}
 use Rattle.jl_typeread.specs.Lexemes.{lexeme_of}
-use Rattle.jl_reader.specs.Newlines.{bare, bare_from}
+use Rattle.jl_grammar.specs.Newlines.{bare, bare_from}
 use Rattle.jl_reader.proofs.newlines.bare.Given as goal
 
 -- what the grammar sees so far, with what it sees of the tokens that are left, is all that it sees

@@ -1,0 +1,10 @@
+pub mod Forms
+pub mod Newlines
+pub mod Marks
+pub mod Texts
+pub mod Types
+pub mod Grammar
+pub mod Levels
+pub mod Turns
+pub mod Machine
+pub mod Reads

@@ -1,0 +1,110 @@
+//! What the grammar sees of a token: its sign, and the marks that choose between the rules.
+
+use jl_typeread::sign::Lexeme;
+
+/// What a name begins where an operand stands, by the tokens behind it.
+#[derive(Clone, Copy, PartialEq, Eq, Debug)]
+pub enum Opening {
+    Plain,
+    /// `name =`
+    Binding,
+    /// the name of a function and `(`
+    Call,
+    /// `name {`
+    Make,
+    /// `Base.invokelatest(`
+    Latest,
+    /// `Threads.@spawn`
+    Spawn,
+    /// `eval(`
+    Quote,
+    /// `fetch(`
+    Fetch,
+    /// `print(`
+    Print,
+    /// `println(`
+    Println,
+}
+
+/// What is told by a token behind a matching bracket.
+#[derive(Clone, Copy, PartialEq, Eq, Debug)]
+pub enum Ahead {
+    Nothing,
+    /// the head of a method
+    Method,
+    /// the left type of `S <: T`
+    Sub,
+}
+
+/// The marks of a token.
+#[derive(Clone, Copy, PartialEq, Eq, Debug)]
+pub struct Marks {
+    pub opening: Opening,
+    pub ahead: Ahead,
+}
+
+/// A token with its marks.
+#[derive(Drop, PartialEq, Eq)]
+pub struct Marked {
+    pub lexeme: Lexeme,
+    pub marks: Marks,
+}
+
+/// What stands before a newline, as far as the newline rule asks.
+#[derive(Clone, Copy, PartialEq, Eq, Debug)]
+pub enum Previous {
+    /// a token behind which a newline is no token
+    Joins,
+    /// the last token of an operand
+    Ends,
+    /// `.`
+    Dot,
+    Other,
+}
+
+/// What is open around a token.
+#[derive(Clone, Copy, PartialEq, Eq, Debug)]
+pub enum Around {
+    Bracket,
+    Block,
+}
+
+/// The kinds of brackets.
+#[derive(Clone, Copy, PartialEq, Eq, Debug)]
+pub enum Shape {
+    Round,
+    Square,
+    Curly,
+}
+
+/// What a token is to the brackets.
+#[derive(Clone, Copy, PartialEq, Eq, Debug)]
+pub enum Mate {
+    Opens(Shape),
+    Closes(Shape),
+    Neither,
+}
+
+/// What follows a bracket or a name, as far as the marks ask.
+#[derive(Clone, Copy, PartialEq, Eq, Debug)]
+pub enum Follows {
+    /// `=` or `where`
+    Defines,
+    /// `<:`
+    Compares,
+    Other,
+}
+
+/// What stands behind a name.
+#[derive(Clone, Copy)]
+pub enum Named {
+    /// `(`
+    Called,
+    /// `{`
+    Makes,
+    /// `=`
+    Binds,
+    /// `.`, with what `Base` and what `Threads` would begin before it
+    Dotted(Opening, Opening),
+    Alone,
+}

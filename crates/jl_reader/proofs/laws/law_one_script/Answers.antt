@@ -1,5 +1,0 @@
-use Rattle.jl_reader.proofs.SpelledItems.{one_script}
-use Rattle.jl_reader.proofs.laws.law_one_script.Goals as goal
-
-pub returns : goal.returns
-returns c = λ xs ys ts p q. one_script xs ys ts p q

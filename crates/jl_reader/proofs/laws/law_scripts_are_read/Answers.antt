@@ -1,5 +1,0 @@
-use Rattle.jl_reader.proofs.SpelledItems.{read_script}
-use Rattle.jl_reader.proofs.laws.law_scripts_are_read.Goals as goal
-
-pub returns : goal.returns
-returns c = λ xs ts p d. read_script xs ts d p

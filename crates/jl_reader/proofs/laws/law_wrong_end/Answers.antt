@@ -1,5 +1,0 @@
-use Rattle.jl_reader.proofs.Wrong.{end_is_wrong}
-use Rattle.jl_reader.proofs.laws.law_wrong_end.Goals as goal
-
-pub returns : goal.returns
-returns c = λ ts p s n e w. end_is_wrong ts p s n e w
