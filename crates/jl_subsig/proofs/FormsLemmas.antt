@@ -1,0 +1,81 @@
+-- The union-free forms of a type, one by one.
+use Rattle.std.proofs.Common.{◌≡◌, ◌∙◌, sym, ap, subst, refl, ℕ, List, [], ◌∷◌, map, inl, inr}
+use Rattle.std.specs.List.{flat_map}
+use Rattle.jl_model.specs.declared.ty.Ty.{Ty}
+use Rattle.jl_model.specs.declared.ty.Ty.TheOpen.{Any, Union, Tuple, Nominal, Var}
+use Rattle.jl_model.specs.declared.ty.Ty.TheViews.{rolls-Any, rolls-Union, rolls-Tuple, rolls-Nominal, rolls-Var}
+use Rattle.jl_model.specs.declared.ty.Ty.TheViews as V
+use Rattle.jl_model.specs.declared.ty.Ty.TheVariants as W
+use Rattle.jl_model.specs.declared.ty.Ty.TheFolds.{para-roll-Ty}
+use Rattle.jl_model.specs.Rows.{forms, forms_step, choices}
+use Rattle.jl_model.proofs.FormLemmas.{firsts, seconds, flat_seconds}
+use Rattle.jl_subsig.proofs.HasLemmas.{Has, Picks, has_map, map_has, has_flat, flat_has}
+
+-- choices
+pub has_choices : (tss : List (List Ty)) (us : List Ty) → Picks us tss → Has (choices tss) us
+has_choices [] [] p = inl refl
+has_choices [] (u ∷ us) p = absurd p
+has_choices (ts ∷ tss) [] p = absurd p
+has_choices (ts ∷ tss) (u ∷ us) p =
+    has_flat (λ t. map (λ vs. t ∷ vs) (choices tss)) ts u (u ∷ us) p.0 (has_map (λ vs. u ∷ vs) (choices tss) us (has_choices tss us p.1))
+
+no_head : (t : Ty) (ts : List Ty) → (t ∷ ts) ≡ [] → ⊥
+no_head t ts e = cc
+
+pub choices_has : (tss : List (List Ty)) (us : List Ty) → Has (choices tss) us → Picks us tss
+choices_has [] [] h = tt
+choices_has [] (u ∷ us) (inl e) = no_head u us (sym e)
+choices_has [] (u ∷ us) (inr h) = absurd h
+choices_has (ts ∷ tss) us h =
+    let r = flat_has (λ t. map (λ vs. t ∷ vs) (choices tss)) ts us h in
+    let q = map_has (λ vs. r.0 ∷ vs) (choices tss) us r.2 in
+    subst (λ z. Picks z (ts ∷ tss)) q.2 (r.1, choices_has tss q.0 q.1)
+
+module _ (at : ℕ → List Ty) where
+  pub forms-any : forms at W.Any ≡ W.Any ∷ []
+  forms-any = ap (forms at) (sym rolls-Any) ∙ para-roll-Ty (List Ty) (forms_step at) Any
+
+  pub forms-var : (v : ℕ) → forms at (W.Var v) ≡ at v
+  forms-var v = ap (forms at) (sym (rolls-Var v)) ∙ para-roll-Ty (List Ty) (forms_step at) (Var v)
+
+  pub forms-union : (ts : List Ty) → forms at (V.Union ts) ≡ flat_map (forms at) ts
+  forms-union ts = ap (forms at) (sym (rolls-Union ts)) ∙ para-roll-Ty (List Ty) (forms_step at) (Union ts) ∙ flat_seconds (forms at) ts
+
+  pub forms-tuple : (ts : List Ty) → forms at (V.Tuple ts) ≡ map (λ us. V.Tuple us) (choices (map (forms at) ts))
+  forms-tuple ts = ap (forms at) (sym (rolls-Tuple ts)) ∙ para-roll-Ty (List Ty) (forms_step at) (Tuple ts) ∙ ap (λ z. map (λ us. V.Tuple us) (choices z)) (seconds (forms at) ts)
+
+  pub forms-nominal : (k : ℕ) (ts : List Ty) → forms at (V.Nominal k ts) ≡ V.Nominal k ts ∷ []
+  forms-nominal k ts = ap (forms at) (sym (rolls-Nominal k ts)) ∙ para-roll-Ty (List Ty) (forms_step at) (Nominal k ts) ∙ ap (λ z. V.Nominal k z ∷ []) (firsts (forms at) ts)
+
+  -- one form of each type
+  pub union_form : (ts : List Ty) (x : Ty) → Has (forms at (V.Union ts)) x → (t : Ty) × Has ts t × Has (forms at t) x
+  union_form ts x h = flat_has (forms at) ts x (subst (λ z. Has z x) (forms-union ts) h)
+
+  pub form_union : (ts : List Ty) (t x : Ty) → Has ts t → Has (forms at t) x → Has (forms at (V.Union ts)) x
+  form_union ts t x h i = subst (λ z. Has z x) (sym (forms-union ts)) (has_flat (forms at) ts t x h i)
+
+  pub tuple_form : (ts : List Ty) (x : Ty) → Has (forms at (V.Tuple ts)) x → (us : List Ty) × Picks us (map (forms at) ts) × (V.Tuple us ≡ x)
+  tuple_form ts x h =
+      let r = map_has (λ us. V.Tuple us) (choices (map (forms at) ts)) x (subst (λ z. Has z x) (forms-tuple ts) h) in
+      (r.0, choices_has (map (forms at) ts) r.0 r.1, r.2)
+
+  pub form_tuple : (ts us : List Ty) → Picks us (map (forms at) ts) → Has (forms at (V.Tuple ts)) (V.Tuple us)
+  form_tuple ts us p = subst (λ z. Has z (V.Tuple us)) (sym (forms-tuple ts)) (has_map (λ us. V.Tuple us) (choices (map (forms at) ts)) us (has_choices (map (forms at) ts) us p))
+
+  pub any_form : (x : Ty) → Has (forms at W.Any) x → W.Any ≡ x
+  any_form x h = elim (subst (λ z. Has z x) forms-any h) [ inl e ↦ e | inr i ↦ absurd i ]
+
+  pub nominal_form : (k : ℕ) (ts : List Ty) (x : Ty) → Has (forms at (V.Nominal k ts)) x → V.Nominal k ts ≡ x
+  nominal_form k ts x h = elim (subst (λ z. Has z x) (forms-nominal k ts) h) [ inl e ↦ e | inr i ↦ absurd i ]
+
+  pub var_form : (v : ℕ) (x : Ty) → Has (forms at (W.Var v)) x → Has (at v) x
+  var_form v x h = subst (λ z. Has z x) (forms-var v) h
+
+  pub form_any : Has (forms at W.Any) W.Any
+  form_any = subst (λ z. Has z W.Any) (sym forms-any) (inl refl)
+
+  pub form_nominal : (k : ℕ) (ts : List Ty) → Has (forms at (V.Nominal k ts)) (V.Nominal k ts)
+  form_nominal k ts = subst (λ z. Has z (V.Nominal k ts)) (sym (forms-nominal k ts)) (inl refl)
+
+  pub form_var : (v : ℕ) (x : Ty) → Has (at v) x → Has (forms at (W.Var v)) x
+  form_var v x h = subst (λ z. Has z x) (sym (forms-var v)) h

@@ -1,0 +1,5 @@
+pub mod Scoped
+pub mod Found
+pub mod Values
+pub mod Alike
+pub mod Chain

@@ -1,0 +1,8 @@
+use Rattle.std.proofs.Common.{map}
+use Rattle.jl_calculus.specs.Meaning.{datum}
+use Rattle.jl_value.specs.ValidValue.{AllValid}
+use Rattle.value_costs.specs.Cells.{cell_types}
+use Rattle.value_costs.proofs.cells.lists.Given as goal
+
+abbrev pub invariant-loop : goal.invariant-loop
+invariant-loop l = AllValid cell_types (map datum l.lists.items)

@@ -1,0 +1,7 @@
+use Rattle.jl_calculus.specs.Meaning.{datum}
+use Rattle.jl_value.specs.ValidValue.{IsValid}
+use Rattle.value_costs.specs.Cells.{cell_types}
+use Rattle.value_costs.proofs.cells.nest.Given as goal
+
+abbrev pub invariant-loop : goal.invariant-loop
+invariant-loop l = IsValid cell_types (datum l.value)
