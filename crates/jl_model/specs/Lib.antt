@@ -13,3 +13,6 @@ pub mod Valid
 pub mod Kept
 pub mod Refusals
 pub mod Members
+pub mod AllRows
+pub mod Usable
+pub mod SigRefusals

@@ -15,7 +15,8 @@ use Rattle.jl_model.specs.declared.ty.DeclKind.TheVariants.{Abstract, Struct}
 use Rattle.jl_model.specs.Rows.{free, vars_in}
 use Rattle.jl_model.specs.Subtype.{Table, opaque, Below}
 use Rattle.jl_model.specs.Ancestors.{Ancestor, line_above, lines_after, table_of, builtin_types}
-use Rattle.jl_model.specs.Counts.{IsWithinLimits}
+use Rattle.jl_model.specs.Counts.{nodes, IsWithinLimits}
+use Rattle.jl_model.specs.Normal.{IsNormalForm}
 use Rattle.jl_model.specs.Valid.{is_known, is_counted, is_closed, params_of}
 use Rattle.jl_model.specs.Kept.{field_types, IsKept}
 
@@ -146,10 +147,21 @@ is_placed_decl ds d = list_all is_closed (bound_types d.params) && is_placed (le
 abbrev pub VariablePlace : List Decl → Decl → Type 0
 VariablePlace ds d = is_placed_decl ds d ≡ false
 
--- a type in it or an ancestor is too large, as written or as kept
+-- each normal form of it has more than 1,024 nodes
+abbrev pub HasLargeForm : Table → Ty → Type 0
+HasLargeForm n t = (u : Ty) → IsNormalForm n t u → 1024 < nodes u
+
+-- a bound, or an argument without variables, has a normal form that is too large
+abbrev pub FormLimit : List Decl → Decl → Type 0
+FormLimit ds d =
+    ((t : Ty) × Contains (bound_types d.params) t × HasLargeForm (table_with ds d) t)
+    ⊎ ((a : Given) × Contains (flat_map given_in (types_of d)) a × IsTrue (is_closed a.ty) × HasLargeForm (table_with ds d) a.ty)
+
+-- a type in it or an ancestor is too large, as written or as kept, or a normal form is that is kept or stands in one
 abbrev pub TypeLimit : List Decl → Decl → Type 0
 TypeLimit ds d =
     (AllWithinLimits (sized_types ds d) → ⊥)
+    ⊎ FormLimit ds d
     ⊎ ((e : Decl) × IsKept (table_with ds d) d e × (AllWithinLimits (sized_types ds e) → ⊥))
 
 -- a low bound that is not below its high bound

@@ -9,7 +9,7 @@ use Rattle.jl_model.specs.Ancestors.{Ancestor, put_under, line_above, line_of, l
 use Rattle.jl_model.specs.Refusals.{ancestors}
 use Rattle.jl_model.proofs.AncestorLemmas.{long-snoc}
 
-lines_long : (ls : List (List Ancestor)) (ds : List Decl) → length (lines_after ls ds) ≡ length ls + length ds
+pub lines_long : (ls : List (List Ancestor)) (ds : List Decl) → length (lines_after ls ds) ≡ length ls + length ds
 lines_long ls [] = omega arith
 lines_long ls (d ∷ ds) = let h = lines_long (ls ++ line_of ls d ∷ []) ds in omega (arith, long-snoc ls (line_of ls d))
 

@@ -32,7 +32,7 @@ use Rattle.jl_norm.proofs.NextLemmas.{closed_has, has_closed}
 use Rattle.jl_norm.proofs.AgainLemmas.{settled_has, all_settled_have, bounds_have, bounds_long, order_there, argument_equal}
 
 -- the bounds of a place
-abbrev bound_of : List Decl → ℕ → ℕ → Bound
+abbrev pub bound_of : List Decl → ℕ → ℕ → Bound
 bound_of ds k i = get_or (params_of (slice_get ds k)) i free
 
 between_equal : (n : Table) → Lawful n → (b : Bound) (t c : Ty) → Below n opaque c t → Below n opaque t c → Between n b t → Between n b c
@@ -305,7 +305,7 @@ module _ (ds : List Decl) (d e : Decl) (h : Declared ds) (w : IsWellWritten ds d
   order_of (suc a) zero = inr (inr (omega arith))
   order_of (suc a) (suc b) = elim (order_of a b) [ inl p ↦ inl (omega arith) | inr g ↦ elim g [ inl p ↦ inr (inl (omega arith)) | inr p ↦ inr (inr (omega arith)) ] ]
 
-  between_next : (j i : ℕ) (t : Ty) → Between n (bound_of (ds ++ d ∷ []) j i) t → Between n (bound_of (ds ++ e ∷ []) j i) t
+  pub between_next : (j i : ℕ) (t : Ty) → Between n (bound_of (ds ++ d ∷ []) j i) t → Between n (bound_of (ds ++ e ∷ []) j i) t
   between_next j i t s = elim (order_of j m) [
     | inl lt ↦
         let q = slice_before ds d j lt ∙ sym (slice_before ds e j lt) in
@@ -316,6 +316,27 @@ module _ (ds : List Decl) (d e : Decl) (h : Declared ds) (w : IsWellWritten ds d
           subst (λ o. Between n (get_or (params_of o) i free) t) (sym (slice_last ds e j p)) (between_kept d.params e.params k.params i t q)
       | inr gt ↦
           let q = slice_past (ds ++ d ∷ []) j (omega (arith, long-snoc ds d)) ∙ sym (slice_past (ds ++ e ∷ []) j (omega (arith, long-snoc ds e))) in
+          subst (λ o. Between n (get_or (params_of o) i free) t) q s
+    ]
+  ]
+
+  -- and back
+  between_written : (bs cs : List Bound) → Bounds n bs cs → (i : ℕ) (t : Ty) → Between n (get_or cs i free) t → Between n (get_or bs i free) t
+  between_written bs cs bounds_end i t s = s
+  between_written bs cs (bounds_more b x as_ es l u r) zero t s = (below_trans n law b.low x.low t l.equal.0 s.0, below_trans n law t x.high b.high s.1 u.equal.1)
+  between_written bs cs (bounds_more b x as_ es l u r) (suc i) t s = between_written as_ es r i t s
+
+  pub between_before : (j i : ℕ) (t : Ty) → Between n (bound_of (ds ++ e ∷ []) j i) t → Between n (bound_of (ds ++ d ∷ []) j i) t
+  between_before j i t s = elim (order_of j m) [
+    | inl lt ↦
+        let q = slice_before ds e j lt ∙ sym (slice_before ds d j lt) in
+        subst (λ o. Between n (get_or (params_of o) i free) t) q s
+    | inr g ↦ elim g [
+      | inl p ↦
+          let q = subst (λ o. Between n (get_or (params_of o) i free) t) (slice_last ds e j p) s in
+          subst (λ o. Between n (get_or (params_of o) i free) t) (sym (slice_last ds d j p)) (between_written d.params e.params k.params i t q)
+      | inr gt ↦
+          let q = slice_past (ds ++ e ∷ []) j (omega (arith, long-snoc ds e)) ∙ sym (slice_past (ds ++ d ∷ []) j (omega (arith, long-snoc ds d))) in
           subst (λ o. Between n (get_or (params_of o) i free) t) q s
     ]
   ]

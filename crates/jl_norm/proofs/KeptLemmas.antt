@@ -97,7 +97,7 @@ module _ (ds : List Decl) (d : Decl) (h : Declared ds) where
   form_exists : (t : Ty) → is_known m t ≡ true → (u : Ty) × IsNormalForm n t u
   form_exists t k = let e = exists ds h t in (e.0, form_up ds d h t e.0 k (e.1.kept (is_known m) (known_parts m) k) e.1.form)
 
-  free_exists : (t : Ty) → is_free_of m t ≡ true → Known (m + 1) t → (u : Ty) × Argument n t u × (is_placed m u ≡ true)
+  pub free_exists : (t : Ty) → is_free_of m t ≡ true → Known (m + 1) t → (u : Ty) × Argument n t u × (is_placed m u ≡ true)
   free_exists t f k =
       let r = free_known m t f k in
       let e = exists ds h t in
@@ -249,7 +249,7 @@ module _ (ds : List Decl) (d : Decl) (h : Declared ds) where
         let e = kept_exists in
         let b = bounds_within d a in
         let p = parent_within d a in
-        inr (
+        inr (inr (
           e.0,
           e.1,
           λ c.
@@ -263,4 +263,4 @@ module _ (ds : List Decl) (d : Decl) (h : Declared ds) where
                   | inr x ↦ fields_large (field_types d.fields) (field_types e.0.fields) e.1.fields x p.1 ep.1
                 ]
               ],
-        )
+        ))

@@ -1,10 +1,13 @@
 pub mod AgainLemmas
 pub mod AncestorLemmas
+pub mod ArgumentLemmas
 pub mod InheritLemmas
 pub mod BoundLemmas
 pub mod CrossLemmas
 pub mod GivenLemmas
+pub mod OutsideLemmas
 pub mod ReadyLemmas
+pub mod JudgeLemmas
 pub mod KeepLemmas
 pub mod KeepSteps
 pub mod KeptLemmas
@@ -12,6 +15,12 @@ pub mod ListLemmas
 pub mod NameLemmas
 pub mod NextLemmas
 pub mod OrderLemmas
+pub mod OwnLemmas
 pub mod PartLemmas
+pub mod PlaceBounds
 pub mod PlaceLemmas
 pub mod SizeLemmas
+pub mod SmallLemmas
+pub mod ToldLemmas
+pub mod VariableLemmas
+pub mod WalkLemmas

@@ -175,7 +175,7 @@ module _ (o : Table) where
       back as_ bs both_end = both_end
       back as_ bs (both_more a b us ts p r) = both_more b a ts us (p.1, p.0) (back us ts r)
 
-args-under : (ys : List Ty) (m : ℕ) (as_ : List Ancestor) → args_of m (map (put_under ys) as_) ≡ put_in ys (args_of m as_)
+pub args-under : (ys : List Ty) (m : ℕ) (as_ : List Ancestor) → args_of m (map (put_under ys) as_) ≡ put_in ys (args_of m as_)
 args-under ys m [] = refl
 args-under ys m (a ∷ as_) = pick (nat_eq m a.name) (args-under ys m as_)
   where
@@ -190,19 +190,19 @@ vars_same i [] (c ∷ cs) e = absurd (omega arith)
 vars_same i (b ∷ bs) [] e = absurd (omega arith)
 vars_same i (b ∷ bs) (c ∷ cs) e = ap (λ z. W.Var i ∷ z) (vars_same (i + 1) bs cs (omega arith))
 
-get_last : {A : Type 0} (ls : List A) (x d : A) (k : ℕ) → k ≡ length ls → get_or (ls ++ x ∷ []) k d ≡ x
+pub get_last : {A : Type 0} (ls : List A) (x d : A) (k : ℕ) → k ≡ length ls → get_or (ls ++ x ∷ []) k d ≡ x
 get_last [] x d zero h = refl
 get_last [] x d (suc k) h = absurd (omega arith)
 get_last (l ∷ ls) x d zero h = absurd (omega arith)
 get_last (l ∷ ls) x d (suc k) h = get_last ls x d k (omega arith)
 
-get_past : {A : Type 0} (ls : List A) (x d : A) (k : ℕ) → length ls < k → get_or (ls ++ x ∷ []) k d ≡ d
+pub get_past : {A : Type 0} (ls : List A) (x d : A) (k : ℕ) → length ls < k → get_or (ls ++ x ∷ []) k d ≡ d
 get_past [] x d zero h = absurd (omega arith)
 get_past [] x d (suc k) h = refl
 get_past (l ∷ ls) x d zero h = absurd (omega arith)
 get_past (l ∷ ls) x d (suc k) h = get_past ls x d k (omega arith)
 
-order_of : (a b : ℕ) → (a < b) ⊎ ((a ≡ b) ⊎ (b < a))
+pub order_of : (a b : ℕ) → (a < b) ⊎ ((a ≡ b) ⊎ (b < a))
 order_of zero zero = inr (inl refl)
 order_of zero (suc b) = inl (omega arith)
 order_of (suc a) zero = inr (inr (omega arith))

@@ -84,7 +84,7 @@ module _ (n o : Table) (there : (t u : Ty) → Below n opaque t u → Below o op
     normal_like t (normal_tuple a xs e h s) = normal_tuple t xs e (normals_like xs h) s
     normal_like t (normal_union a ts e h s g l) = normal_union t ts e (normals_like ts h) s (members_like ts g) l
 
-    normals_like : (ts : List Ty) → AllNormal n ts → AllNormal o ts
+    pub normals_like : (ts : List Ty) → AllNormal n ts → AllNormal o ts
     normals_like ts none = none
     normals_like ts (more t us h r) = more t us (normal_like t h) (normals_like us r)
 

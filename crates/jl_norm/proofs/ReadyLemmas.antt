@@ -13,13 +13,15 @@ use Rattle.jl_model.specs.Rows.{vars_in}
 use Rattle.jl_model.specs.Signature.{Both}
 use Rattle.jl_model.specs.Subtype.{Table, opaque, Below}
 use Rattle.jl_model.specs.Ancestors.{Ancestor, put_under, line_above, lines_after}
+use Rattle.jl_model.specs.Counts.{IsWithinLimits}
 use Rattle.jl_model.specs.Valid.{is_known, is_counted, is_closed, params_of}
 use Rattle.jl_model.specs.Kept.{field_types, Settled, AllSettled, plain, variable as alone, union, tuple, nominal, settled_end, settled_more, Bounds, bounds_end, bounds_more, IsKept}
-use Rattle.jl_model.specs.Refusals.{Declared, table_with, bound_types, types_of, own, is_abstract_parent, is_placed, is_placed_field, is_known_decl, is_placed_decl, HasOwnVariables, IsReady, BoundBroken, TooMany, DuplicateField}
+use Rattle.jl_model.specs.Refusals.{Declared, table_with, bound_types, types_of, own, is_abstract_parent, is_placed, is_placed_field, is_known_decl, is_placed_decl, HasOwnVariables, IsReady, FormLimit, BoundBroken, TooMany, DuplicateField, AllWithinLimits, sized_types, ancestors}
 use Rattle.jl_model.proofs.TypeInduction.{Each, by_cases}
 use Rattle.jl_model.proofs.FormLemmas.{is_any, is_nominal, vars-any, vars-var, vars-union, vars-tuple, vars-nominal}
 use Rattle.jl_model.proofs.PutLemmas.{and_l, and_r, both_true}
 use Rattle.jl_model.proofs.AncestorLemmas.{Lawful, slice_before, slice_last, slice_past, long-snoc, each_true}
+use Rattle.jl_model.proofs.SelfLemmas.{equal_self}
 use Rattle.jl_model.proofs.HeightLemmas.{Ways}
 use Rattle.jl_model.proofs.DeclaredLemmas.{not_false}
 use Rattle.jl_types.proofs.GroundLemmas.{both_long}
@@ -29,6 +31,10 @@ use Rattle.jl_norm.proofs.InheritLemmas.{Has, AllHave, has_any, has_var, has_uni
 use Rattle.jl_norm.proofs.ListLemmas.{all-types, counted-any, counted-var, counted-union, counted-tuple, counted-nominal}
 use Rattle.jl_norm.proofs.PlaceLemmas.{placed-any, placed-nominal, field-nominal}
 use Rattle.jl_norm.proofs.PartLemmas.{AnyVar, AnyName, NameBelow, known_has, has_known}
+use Rattle.jl_norm.proofs.GivenLemmas.{each_given}
+use Rattle.jl_norm.proofs.SizeLemmas.{within_front}
+use Rattle.jl_norm.proofs.ArgumentLemmas.{within_all_each}
+use Rattle.jl_norm.proofs.SmallLemmas.{NormalWhereClosed, kept_normal, all_within, bounds_again, within_in, contains_front}
 use Rattle.jl_norm.proofs.KeepLemmas.{with_lawful, bounds_are_known, bounds_are_closed, parent_is_known, fields_are_known, fields_are_placed}
 use Rattle.jl_norm.proofs.KeptLemmas.{own_known, parent_known_next, parent_is_field, settled_exists, sizes_same}
 use Rattle.jl_norm.proofs.NextLemmas.{form_closed}
@@ -136,7 +142,7 @@ all_append : (q : ℕ → Bool) (ks js : List ℕ) → list_all q (ks ++ js) ≡
 all_append q [] js = refl
 all_append q (k ∷ ks) js = ap (λ b. q k && b) (all_append q ks js) ∙ and_assoc (q k) (list_all q ks) (list_all q js)
 
-all_vars : (p : ℕ) (ts : List Ty) → list_all (is_below p) (flat_map vars_in ts) ≡ list_all (vars_below p) ts
+pub all_vars : (p : ℕ) (ts : List Ty) → list_all (is_below p) (flat_map vars_in ts) ≡ list_all (vars_below p) ts
 all_vars p [] = refl
 all_vars p (t ∷ ts) = all_append (is_below p) (vars_in t) (flat_map vars_in ts) ∙ ap (λ b. vars_below p t && b) (all_vars p ts)
 
@@ -314,6 +320,22 @@ module _ (ds : List Decl) (d e : Decl) (h : Declared ds) (w : IsWellWritten ds d
   pub again : IsKept (table_with ds e) e e
   again = kept_again ds d e h law lawful_kept (parent_is_known ds d w) k.parent long k
 
+  -- its bounds and arguments without variables are small normal forms
+  forms_small : AllWithinLimits (sized_types ds e) → FormLimit ds e → ⊥
+  forms_small a (inl (t, c, l)) =
+      let f = bounds_again (table_with ds e) e.params again.params t c in
+      let q = within_in (types_of e) (within_front (types_of e) (map (λ x. V.Nominal x.name x.args) (ancestors ds e)) a) t (contains_front (bound_types e.params) (e.parent ∷ field_types e.fields) t c) in
+      let s = q.nodes in
+      let b = l t f in
+      omega arith
+  forms_small a (inr (g, c, p, l)) =
+      let w = within_all_each (types_of e) (within_front (types_of e) (map (λ x. V.Nominal x.name x.args) (ancestors ds e)) a) in
+      let q = (each_given (λ z. IsWithinLimits z.ty) (types_of e) (all_within (types_of e) w)) g c in
+      let s = q.nodes in
+      let f = (each_given (NormalWhereClosed (table_with ds e)) (types_of e) (kept_normal ds e again)) g c p in
+      let b = l g.ty (record { normal = f; equal = equal_self (table_with ds e) g.ty }) in
+      omega arith
+
   -- and ready, where its arguments keep the declared bounds
   pub ready : HasOwnVariables d → IsOrdered ds d e → (TooMany ds d → ⊥) → (DuplicateField d → ⊥) → (BoundBroken ds e → ⊥) → IsReady ds e
   ready v o few distinct within = record {
@@ -326,7 +348,7 @@ module _ (ds : List Decl) (d e : Decl) (h : Declared ds) (w : IsWellWritten ds d
       placed = written_kept.placed;
       small = λ t. elim t [
         | inl f ↦ f o.within.sized
-        | inr r ↦ r.2 (sizes_same ds e h written_kept e r.0 again r.1 o.within.sized)
+        | inr b ↦ elim b [ inl f ↦ forms_small o.within.sized f | inr r ↦ r.2 (sizes_same ds e h written_kept e r.0 again r.1 o.within.sized) ]
       ];
       ordered = λ c. o.ordered (crossed_written ds d h w e.params k.params (crossed_kept ds e h written_kept e.params again.params c));
       within = within;

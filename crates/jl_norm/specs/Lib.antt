@@ -1,2 +1,4 @@
 pub mod Refused
 pub mod Large
+pub mod Judged
+pub mod Variables

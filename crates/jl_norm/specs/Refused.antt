@@ -1,5 +1,5 @@
 -- What a refused declaration says: that this refusal holds, and none of those before it.
-use Rattle.std.specs.Prelude.{List}
+use Rattle.std.specs.Prelude.{◌≡◌, Bool, true, false, List}
 use Rattle.jl_model.specs.declared.ty.Decl.{Decl}
 use Rattle.jl_model.specs.Refusals.{DuplicateType, UnknownType, WrongParameterCount, SuperNotAbstract, VariablePlace, TypeLimit, BoundsCrossed, BoundBroken, TooMany, DuplicateField, AllWithinLimits, sized_types, table_with}
 use Rattle.jl_model.specs.Kept.{IsKept}
@@ -14,17 +14,34 @@ pub record IsWellWritten (ds : List Decl) (d : Decl) : Type 0 where
   pub abstract : SuperNotAbstract ds d → ⊥
   pub placed : VariablePlace ds d → ⊥
 
+-- e is what d is kept as, and both are within the limits of a type
+pub record IsKeptSized (ds : List Decl) (d e : Decl) : Type 0 where
+  pub kept : IsKept (table_with ds d) d e
+  pub written_sized : AllWithinLimits (sized_types ds d)
+  pub sized : AllWithinLimits (sized_types ds e)
+
 -- e is what d is kept as, and neither is too large
 pub record IsKeptWithin (ds : List Decl) (d e : Decl) : Type 0 where
   pub kept : IsKept (table_with ds d) d e
   pub sized : AllWithinLimits (sized_types ds e)
   pub small : TypeLimit ds d → ⊥
 
+-- the same, and b tells whether an argument without variables is outside its bounds
+pub record IsKeptTold (ds : List Decl) (d e : Decl) (b : Bool) : Type 0 where
+  pub within : IsKeptWithin ds d e
+  pub broken : b ≡ true → BoundBroken ds d
+  pub whole : b ≡ false → BoundBroken ds d → ⊥
+
 -- d is well written, e is what it is kept as, and its bounds are in order
 pub record IsOrdered (ds : List Decl) (d e : Decl) : Type 0 where
   pub written : IsWellWritten ds d
   pub within : IsKeptWithin ds d e
   pub ordered : BoundsCrossed ds d → ⊥
+
+-- and its arguments without variables are within the declared bounds
+pub record IsBounded (ds : List Decl) (d e : Decl) : Type 0 where
+  pub ordered : IsOrdered ds d e
+  pub within : BoundBroken ds d → ⊥
 
 -- this refusal holds, and no earlier one; of want of memory nothing is said
 abbrev pub Refused : DeclareFault → List Decl → Decl → Type 0

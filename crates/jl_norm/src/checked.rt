@@ -1,7 +1,7 @@
-//! The first seven refusals of a declaration, in their order.
+//! The first eight refusals of a declaration, in their order.
 
 ghost use Rattle.std.specs.Prelude.{MatchResult};
-ghost use Rattle.jl_norm.specs.Refused.{IsOrdered, Refused};
+ghost use Rattle.jl_norm.specs.Refused.{IsBounded, Refused};
 
 use crate::fault::DeclareFault;
 use crate::kept::{is_crossed, kept};
@@ -11,9 +11,9 @@ use jl_types::Table;
 use std::alloc::Global;
 
 /// What a declaration is kept as, or the first refusal by its name, its types, its parent, its places, its size or its
-/// crossed bounds.
+/// bounds.
 pub fn checked(alloc: Global, table: &Table, decl: &Decl) -> Result<Decl, DeclareFault>
-    ensures { MatchResult result (λ e. IsOrdered table.now decl.now e) (λ fault. Refused fault table.now decl.now) }
+    ensures { MatchResult result (λ e. IsBounded table.now decl.now e) (λ fault. Refused fault table.now decl.now) }
 {
     if let Some(fault) = written_fault(table, decl) {
         return Err(fault);
@@ -22,8 +22,11 @@ pub fn checked(alloc: Global, table: &Table, decl: &Decl) -> Result<Decl, Declar
         Ok(kept) => kept,
         Err(fault) => return Err(fault),
     };
-    if is_crossed(table, decl, &kept) {
+    if is_crossed(table, decl, &kept.decl) {
         return Err(DeclareFault::BoundsCrossed);
     }
-    Ok(kept)
+    if kept.is_broken {
+        return Err(DeclareFault::BoundBroken);
+    }
+    Ok(kept.decl)
 }

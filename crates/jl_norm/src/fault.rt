@@ -26,7 +26,8 @@ pub enum DeclareFault {
     /// or tuple under an argument in a field.
     #[error("VariablePlace")]
     VariablePlace,
-    /// A type in it or an ancestor is too large, as written or as kept.
+    /// A type in it or an ancestor is too large, as written or as kept, or a normal form of a bound or of an argument
+    /// without variables is.
     #[error("TypeLimit")]
     TypeLimit,
     /// A low bound is not below its high bound.

@@ -1,8 +1,10 @@
-//! Normal forms, and the tests of a declaration (Julia manual, Types: Abstract Types, Composite Types, Parametric Types).
+//! Normal forms, and declarations that are added (Julia manual, Types: Abstract Types, Composite Types, Parametric Types).
 #![tactic(auto)]
 
+mod arguments;
 mod checked;
 mod counted;
+mod declaring;
 mod fault;
 mod forms;
 mod keep;
@@ -10,14 +12,21 @@ mod kept;
 mod known;
 mod many;
 mod names;
+mod outside;
 mod parent;
 mod places;
 mod sizes;
+mod types;
+mod variables;
 mod written;
 
+pub use declaring::declare;
 pub use fault::DeclareFault;
 pub use forms::norm;
 pub use jl_types::NormFault;
+pub use variables::has_own_variables;
 
+#[cfg(test)]
+mod declare_tests;
 #[cfg(test)]
 mod tests;

@@ -55,7 +55,7 @@ fn are_free(types: &[Ty], own: u32) -> bool
 /// Whether neither a variable nor this nominal type stands in a type.
 #[cycle(free)]
 #[tactic(auto, using(crate::proofs::PlaceLemmas::frees))]
-fn is_free(ty: &Ty, own: u32) -> bool
+pub fn is_free(ty: &Ty, own: u32) -> bool
     ensures { result ≡ is_free_of own ty.now }
 {
     match ty {

@@ -355,7 +355,7 @@ fn a_tuple_of_the_empty_union_is_the_empty_union(rt: HostRuntime) -> Result<(), 
     Ok(())
 }
 
-/// The first of the first seven refusals of a declaration in the table of the built-in types.
+/// The first of the first eight refusals of a declaration in the table of the built-in types.
 fn check(alloc: Global, decl: &Decl) -> Result<Option<DeclareFault>, AllocError> {
     let table = Table::new(alloc)?;
     match checked(alloc, &table, decl) {

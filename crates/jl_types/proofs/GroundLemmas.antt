@@ -77,22 +77,22 @@ nominal_part n k m xs ys (by_nominal t u i j vs zs ws d e l p) =
     let w_is : ws ≡ ys = cc in
     (zs, sym (ap (λ z. lifted n z vs j) i_is ∙ ap (λ z. lifted n k z j) v_is ∙ ap (lifted n k xs) j_is) ∙ l, subst (λ z. Both (Ways (Below n opaque)) zs z) w_is p)
 
-nominal_of : (n : Table) (k m : ℕ) (xs ys : List Ty) → Below n opaque (V.Nominal k xs) (V.Nominal m ys) → (zs : List Ty) × (lifted n k xs m ≡ Some zs) × Both (Ways (Below n opaque)) zs ys
+pub nominal_of : (n : Table) (k m : ℕ) (xs ys : List Ty) → Below n opaque (V.Nominal k xs) (V.Nominal m ys) → (zs : List Ty) × (lifted n k xs m ≡ Some zs) × Both (Ways (Below n opaque)) zs ys
 nominal_of n k m xs ys b = nominal_part n k m xs ys (below_part n (V.Nominal k xs) (V.Nominal m ys) (alts-nominal k xs) (alts-nominal m ys) b)
 
 self_ways : (n : Table) (ts : List Ty) → Both (Ways (Below n opaque)) ts ts
 self_ways n [] = both_end
 self_ways n (t ∷ ts) = both_more t t ts ts (below_self n t, below_self n t) (self_ways n ts)
 
-nominal_to : (n : Table) (k m : ℕ) (xs ys zs : List Ty) → lifted n k xs m ≡ Some zs → zs ≡ ys → Below n opaque (V.Nominal k xs) (V.Nominal m ys)
+pub nominal_to : (n : Table) (k m : ℕ) (xs ys zs : List Ty) → lifted n k xs m ≡ Some zs → zs ≡ ys → Below n opaque (V.Nominal k xs) (V.Nominal m ys)
 nominal_to n k m xs ys zs l e =
     part_below n (V.Nominal k xs) (V.Nominal m ys) (alts-nominal k xs) (alts-nominal m ys)
     (by_nominal (V.Nominal k xs) (V.Nominal m ys) k m xs zs ys (outs-Nominal k xs) (outs-Nominal m ys) l (subst (λ z. Both (Ways (Below n opaque)) zs z) e (self_ways n zs)))
 
-same_eq : (k m : ℕ) → k ≡ m → nat_eq k m ≡ true
+pub same_eq : (k m : ℕ) → k ≡ m → nat_eq k m ≡ true
 same_eq k m e = grind (arith, e)
 
-differ_eq : (k m : ℕ) → (k ≡ m → ⊥) → nat_eq k m ≡ false
+pub differ_eq : (k m : ℕ) → (k ≡ m → ⊥) → nat_eq k m ≡ false
 differ_eq k m e = grind (arith, e)
 
 pub own_case : (ds : List Decl) → Declared ds → (k m : ℕ) (xs ys : List Ty) (r : Bool) → k ≡ m → AllExact (table_of ds) (nodes_all ys) xs → AllNormal (table_of ds) ys

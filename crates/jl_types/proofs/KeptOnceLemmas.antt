@@ -79,7 +79,7 @@ module _ (n : Table) (law : Lawful n) where
       let i : vs ≡ ts = cc in
       (us, is_tuple e us q, subst (λ z. AllSettled n z us) i r)
 
-  settled_nominal : (t e : Ty) (k : ℕ) (ts : List Ty) → out-Ty t ≡ Nominal k ts → Settled n t e → (us : List Ty) × (e ≡ V.Nominal k us) × AllArguments n ts us
+  pub settled_nominal : (t e : Ty) (k : ℕ) (ts : List Ty) → out-Ty t ≡ Nominal k ts → Settled n t e → (us : List Ty) × (e ≡ V.Nominal k us) × AllArguments n ts us
   settled_nominal t e k ts o (plain a p) = let g : Nominal k ts ≡ Any = sym o ∙ p in cc
   settled_nominal t e k ts o (lone a w p) = let g : Nominal k ts ≡ Var w = sym o ∙ p in cc
   settled_nominal t e k ts o (union a b vs us p q r) = let g : Nominal k ts ≡ Union vs = sym o ∙ p in cc

@@ -6,11 +6,12 @@ use Rattle.jl_model.specs.declared.ty.Ty.{Ty}
 use Rattle.jl_model.specs.declared.ty.Ty.TheOpen.{Union, Tuple, Nominal}
 use Rattle.jl_model.specs.declared.ty.Ty.TheViews.{rolls-Union, rolls-Tuple, rolls-Nominal}
 use Rattle.jl_model.specs.declared.ty.Ty.TheViews as V
+use Rattle.jl_model.specs.declared.ty.Ty.TheVariants as W
 use Rattle.jl_model.specs.declared.ty.Ty.TheFolds.{fold-roll-Ty}
 use Rattle.jl_model.specs.declared.ty.Decl.{Decl}
 use Rattle.jl_model.specs.Rows.{vars_in}
 use Rattle.jl_model.specs.Valid.{is_known, is_closed, is_counted, counted_step, params_of}
-use Rattle.jl_model.proofs.FormLemmas.{vars-union, vars-tuple, vars-nominal, all_of}
+use Rattle.jl_model.proofs.FormLemmas.{vars-any, vars-var, vars-union, vars-tuple, vars-nominal, all_of}
 use Rattle.jl_model.proofs.PutLemmas.{and_l, and_r, both_true}
 use Rattle.jl_model.proofs.AncestorLemmas.{each_true, true_each}
 use Rattle.jl_model.proofs.KnownLemmas.{known-union, known-tuple, known-any, known-var, known-nominal, nominal_known, known_nominal}
@@ -41,7 +42,7 @@ closed_flat (t ∷ ts) = none_append (vars_in t) (flat_map vars_in ts) ∙ ap (�
 abbrev is_none : List ℕ → Bool
 is_none ks = nat_eq (length ks) 0
 
-closed-nominal : (k : ℕ) (ts : List Ty) → is_closed (V.Nominal k ts) ≡ list_all is_closed ts
+pub closed-nominal : (k : ℕ) (ts : List Ty) → is_closed (V.Nominal k ts) ≡ list_all is_closed ts
 closed-nominal k ts = ap is_none (vars-nominal k ts) ∙ closed_flat ts
 
 pub closed_parts : IsOfParts is_closed
@@ -51,6 +52,24 @@ closed_parts = record {
   arguments = λ k ts h. sym (closed-nominal k ts) ∙ h;
   others = λ k ts us h l f. closed-nominal k us ∙ f;
 }
+
+pub closed-any : is_closed W.Any ≡ true
+closed-any = ap is_none vars-any
+
+pub closed-var : (v : ℕ) → is_closed (W.Var v) ≡ false
+closed-var v = ap is_none (vars-var v)
+
+-- for the code that tells whether a type has variables
+pub closed-step : (ts : List Ty) (i : ℕ) (t : Ty) → i < length ts → t ≡ get_or ts i t → list_all is_closed (drop i ts) ≡ (is_closed t && list_all is_closed (drop (i + 1) ts))
+closed-step ts i t l e = ap (list_all is_closed) (drop_is ts i t l e)
+
+pub closed-union : (ts : List Ty) → is_closed (V.Union ts) ≡ list_all is_closed ts
+closed-union ts = closed_parts.union_is ts
+
+pub closed-tuple : (ts : List Ty) → is_closed (V.Tuple ts) ≡ list_all is_closed ts
+closed-tuple ts = closed_parts.tuple_is ts
+
+pub ruleset closing = (closed-step, closed-any, closed-var, closed-union, closed-tuple, closed-nominal)
 
 -- COUNTED
 module _ (ds : List Decl) where

@@ -66,7 +66,9 @@ module _ (ds : List Decl) (name : List ℕ) (fresh : Contains (map (λ e. e.name
 
   small : TypeLimit ds d → ⊥
   small (inl h) = h (sized_any ds d refl outs-Any refl)
-  small (inr h) =
+  small (inr (inl (inl h))) = absurd (omega (arith, h.1.1))
+  small (inr (inl (inr h))) = let c = subst (λ z. Contains (z ++ []) h.0) given-any h.1 in absurd (omega (arith, c.1))
+  small (inr (inr h)) =
       let e = h.0 in
       let k = h.1 in
       h.2 (sized_any ds e (ap bound_types (no_bounds (table_with ds d) e.params k.params)) (settled_any (table_with ds d) W.Any e.parent outs-Any k.parent) (no_settled (table_with ds d) (field_types e.fields) k.fields))

@@ -120,7 +120,7 @@ module _ (n : Table) (F : Ty → Ty → Type 0) (equals : (t u : Ty) → F t u �
   rows_tuples rs ss (rows_more r s xs ys p b) = both_more (V.Tuple r) (V.Tuple s) (map (λ us. V.Tuple us) xs) (map (λ us. V.Tuple us) ys) (turn_tuple r s p) (rows_tuples xs ys b)
 
   mutual
-    turns : (t s : Ty) → Settles F t s → Both T (alts t) (alts s)
+    pub turns : (t s : Ty) → Settles F t s → Both T (alts t) (alts s)
     turns t s (any a e) =
         let i = ap alts (is_any t e) ∙ alts-any in
         both_moved T (alts t) (alts t) (W.Any ∷ []) (W.Any ∷ []) i i

@@ -11,7 +11,7 @@ pub const MOST_NODES: u64 = 1024;
 /// The nodes of several types, or one more than `most` where they are more.
 #[cycle(nodes)]
 #[tactic(auto, using(crate::proofs::CountLemmas::counting))]
-fn nodes_of_all(types: &[Ty], most: u64) -> u64
+pub fn nodes_of_all(types: &[Ty], most: u64) -> u64
     requires { most < 2 ^ 32 }
     ensures { result ≡ min (total (map nodes types.now)) (most + 1) }
 {

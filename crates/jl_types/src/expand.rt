@@ -9,7 +9,7 @@ use jl_model::ty::{Ty, Tys};
 use std::alloc::{AllocError, Global};
 
 /// Adds these types.
-fn push_copies(types: &mut Vec<Ty>, more: &[Ty]) -> Result<(), AllocError>
+pub fn push_copies(types: &mut Vec<Ty>, more: &[Ty]) -> Result<(), AllocError>
     ensures { OnOk result (types.new.items ≡ types.old.items ++ more.now) }
 {
     for ty in more {
@@ -44,7 +44,7 @@ fn push_rows(
 }
 
 /// Each row with each of these types in front.
-fn rows_of(alloc: Global, firsts: &[Ty], tails: &[Tys]) -> Result<Vec<Tys>, AllocError>
+pub fn rows_of(alloc: Global, firsts: &[Ty], tails: &[Tys]) -> Result<Vec<Tys>, AllocError>
     ensures { IfOk result (λ rows. rows.items ≡ flat_map (λ t. map (λ us. t ∷ us) tails.now) firsts.now) }
 {
     let mut rows = Vec::new(alloc);
@@ -55,7 +55,7 @@ fn rows_of(alloc: Global, firsts: &[Ty], tails: &[Tys]) -> Result<Vec<Tys>, Allo
 }
 
 /// Adds the tuples of these rows.
-fn tuples(alloc: Global, rows: &[Tys]) -> Result<Vec<Ty>, AllocError>
+pub fn tuples(alloc: Global, rows: &[Tys]) -> Result<Vec<Ty>, AllocError>
     ensures { IfOk result (λ ts. ts.items ≡ map (λ us. V.Tuple us) rows.now) }
 {
     let mut types = Vec::new(alloc);

@@ -2,8 +2,9 @@
 #![tactic(auto)]
 
 pub mod ancestor;
+pub mod closed;
 pub mod count;
-mod expand;
+pub mod expand;
 mod form;
 mod ground;
 mod kept;

@@ -18,7 +18,7 @@ use Rattle.jl_model.specs.Counts.{IsWithinLimits}
 use Rattle.jl_model.specs.Valid.{is_known, is_counted, counted_step, params_of, is_closed}
 use Rattle.jl_model.specs.Normal.{IsNormal, any as normal_any, union as normal_union, none as no_normal, IsNormalForm}
 use Rattle.jl_model.specs.Kept.{field_types, AllArguments, arguments_end, arguments_more, Settled, AllSettled, plain, variable, union, tuple, nominal, settled_end, settled_more, Bounds, bounds_end, bounds_more}
-use Rattle.jl_model.specs.Refusals.{Declared, added, IsReady, TypeLimit, TooMany, table_with, is_placed, placed_step, is_placed_field, arguments_step, given_in, given_step, Given, sized_types, types_of, bound_types, AllWithinLimits, is_known_decl, is_placed_decl, is_abstract_parent}
+use Rattle.jl_model.specs.Refusals.{Declared, added, IsReady, TypeLimit, HasLargeForm, TooMany, table_with, is_placed, placed_step, is_placed_field, arguments_step, given_in, given_step, Given, sized_types, types_of, bound_types, AllWithinLimits, is_known_decl, is_placed_decl, is_abstract_parent}
 use Rattle.jl_model.proofs.TypeInduction.{Each}
 use Rattle.jl_model.proofs.FormLemmas.{is_any, is_union, is_nominal, vars-any, vars-union, vars-nominal, vars-var}
 use Rattle.jl_model.proofs.PutLemmas.{and_l, and_r, both_true}
@@ -229,6 +229,21 @@ free_kept n (b ∷ bs) h =
     let p = subst P (sym h.0) (record { normal = bottom_normal n; equal = equal_self n (V.Union []) }, record { normal = normal_any W.Any outs-Any; equal = equal_self n W.Any }) in
     bounds_more b b bs bs p.0 p.1 (free_kept n bs h.1)
 
+-- unwritten bounds are small normal forms
+free_forms : (n : Table) (bs : List Bound) → AllFree bs → (t : Ty) → Contains (bound_types bs) t → HasLargeForm n t → ⊥
+free_forms n [] h t c l = absurd (omega (arith, c.1))
+free_forms n (b ∷ bs) h t (zero, c, e) l =
+    let f : b.low ≡ V.Union [] = ap (λ (z : Bound). z.low) h.0 in
+    let g : t ≡ V.Union [] = sym e ∙ f in
+    let k = l (V.Union []) (subst (λ z. IsNormalForm n z (V.Union [])) (sym g) (record { normal = bottom_normal n; equal = equal_self n (V.Union []) })) in
+    omega (arith, k, nodes-union [])
+free_forms n (b ∷ bs) h t (suc zero, c, e) l =
+    let f : b.high ≡ W.Any = ap (λ (z : Bound). z.high) h.0 in
+    let g : t ≡ W.Any = sym e ∙ f in
+    let k = l W.Any (subst (λ z. IsNormalForm n z W.Any) (sym g) (record { normal = normal_any W.Any outs-Any; equal = equal_self n W.Any })) in
+    omega (arith, k, nodes-any)
+free_forms n (b ∷ bs) h t (suc (suc i), c, e) l = free_forms n bs h.1 t (i, omega (arith, c), e) l
+
 bounds_small : (n : Table) → Lawful n → (bs cs : List Bound) → Bounds n bs cs → AllFree bs → AllWithinLimits (bound_types cs)
 bounds_small n law bs cs bounds_end h = tt
 bounds_small n law bs cs (bounds_more b c ps qs p q r) h =
@@ -295,7 +310,10 @@ module _ (ds : List Decl) (name : List ℕ) (params : List Bound) (fields : List
 
   small : TypeLimit ds d → ⊥
   small (inl h) = h (sized d outs-Any (all_small ds (length params) (types_of d) all_types))
-  small (inr h) =
+  small (inr (inl (inl h))) =
+      free_forms (table_with ds d) params ok.bounds h.0 h.1 h.2
+  small (inr (inl (inr h))) = let c = subst (λ z. Contains z h.0) (given_none ds (length params) (types_of d) all_types) h.1 in absurd (omega (arith, c.1))
+  small (inr (inr h)) =
       let e = h.0 in
       let k = h.1 in
       let o = settled_any W.Any e.parent outs-Any k.parent in

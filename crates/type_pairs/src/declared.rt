@@ -1,113 +1,76 @@
 //! The table: the built-in types, and a few declared ones.
-#![tactic(auto, using(crate::proofs::TableLemmas::tables))]
 
-ghost use Rattle.std.specs.Prelude.{◌≡◌, ◌∷◌, [], IfOk};
-ghost use Rattle.jl_model.specs.Rows.{free};
-ghost use Rattle.type_pairs.specs.Bare.{applied, a_decl, d_decl, c_decl, p_decl, pair_types};
-
+use crate::halt::Halt;
 use jl_model::ty::{Bound, Bounds, Bytes, Decl, DeclKind, Fields, Ty, Tys};
+use jl_norm::{declare, has_own_variables};
 use jl_types::Table;
 use std::alloc::{AllocError, Global};
 
-/// A parameter without bounds.
-fn free() -> Bound
-    ensures { result ≡ free }
-{
-    Bound {
-        low: Ty::Union(Tys::empty()),
-        high: Ty::Any,
+/// So many parameters without bounds.
+fn free(alloc: Global, count: u32) -> Result<Bounds, AllocError> {
+    let mut bounds = Vec::new(alloc);
+    for _ in 0..count {
+        bounds.push(Bound {
+            low: Ty::Union(Tys::empty()),
+            high: Ty::Any,
+        })?;
     }
-}
-
-/// One parameter without bounds.
-fn one_free(alloc: Global) -> Result<Bounds, AllocError>
-    ensures { IfOk result (λ b. b ≡ free ∷ []) }
-{
-    Bounds::from_vec(alloc, vec![in alloc; free()]?)
-}
-
-/// Two parameters without bounds.
-fn two_free(alloc: Global) -> Result<Bounds, AllocError>
-    ensures { IfOk result (λ b. b ≡ free ∷ free ∷ []) }
-{
-    Bounds::from_vec(alloc, vec![in alloc; free(), free()]?)
+    Bounds::from_vec(alloc, bounds)
 }
 
 /// A nominal type with one argument.
-fn of(alloc: Global, number: u32, argument: Ty) -> Result<Ty, AllocError>
-    ensures { IfOk result (λ t. t ≡ applied number argument) }
-{
+fn of(alloc: Global, number: u32, argument: Ty) -> Result<Ty, AllocError> {
     Ok(Ty::Nominal(number, Tys::from_vec(alloc, vec![in alloc; argument]?)?))
 }
 
-/// A name.
-fn name(alloc: Global, text: &[u8]) -> Result<Bytes, AllocError>
-    ensures { IfOk result (λ b. b ≡ text.now) }
-{
-    Bytes::from_vec(alloc, Vec::from_slice(alloc, text)?)
-}
-
-/// `abstract type A{T} end`
-fn declaration_a(alloc: Global) -> Result<Decl, AllocError>
-    ensures { IfOk result (λ d. d ≡ a_decl) }
-{
-    Ok(Decl {
-        name: name(alloc, b"A")?,
-        kind: DeclKind::Abstract,
-        params: one_free(alloc)?,
-        parent: Ty::Any,
+/// Declares a type without bounds and fields.
+fn add(
+    alloc: Global,
+    table: &mut Table,
+    name: &[u8],
+    kind: DeclKind,
+    params: u32,
+    parent: Ty,
+) -> Result<(), Halt> {
+    let decl = Decl {
+        name: Bytes::from_vec(alloc, Vec::from_slice(alloc, name)?)?,
+        kind,
+        params: free(alloc, params)?,
+        parent,
         fields: Fields::empty(),
-    })
+    };
+    if !has_own_variables(alloc, &decl)? {
+        return Err(Halt::Refused);
+    }
+    match declare(alloc, table, decl) {
+        Ok(_) => Ok(()),
+        Err(_) => Err(Halt::Refused),
+    }
 }
 
-/// `abstract type D{T} <: A{A{T}} end`
-fn declaration_d(alloc: Global) -> Result<Decl, AllocError>
-    ensures { IfOk result (λ d. d ≡ d_decl) }
-{
-    let inner = of(alloc, 8, Ty::Var(0))?;
-    Ok(Decl {
-        name: name(alloc, b"D")?,
-        kind: DeclKind::Abstract,
-        params: one_free(alloc)?,
-        parent: of(alloc, 8, inner)?,
-        fields: Fields::empty(),
-    })
-}
-
-/// `struct C{T} <: D{T} end`
-fn declaration_c(alloc: Global) -> Result<Decl, AllocError>
-    ensures { IfOk result (λ d. d ≡ c_decl) }
-{
-    Ok(Decl {
-        name: name(alloc, b"C")?,
-        kind: DeclKind::Struct,
-        params: one_free(alloc)?,
-        parent: of(alloc, 9, Ty::Var(0))?,
-        fields: Fields::empty(),
-    })
-}
-
-/// `struct P{S, T} <: A{T} end`
-fn declaration_p(alloc: Global) -> Result<Decl, AllocError>
-    ensures { IfOk result (λ d. d ≡ p_decl) }
-{
-    Ok(Decl {
-        name: name(alloc, b"P")?,
-        kind: DeclKind::Struct,
-        params: two_free(alloc)?,
-        parent: of(alloc, 8, Ty::Var(1))?,
-        fields: Fields::empty(),
-    })
-}
-
-/// The built-in types, and A, D, C and P with the numbers 8 to 11.
-pub fn pair_table(alloc: Global) -> Result<Table, AllocError>
-    ensures { IfOk result (λ t. t ≡ pair_types) }
-{
+/// The built-in types, and `abstract type A{T} end` (8), `abstract type D{T} <: A{A{T}} end` (9), `struct C{T} <: D{T} end` (10) and
+/// `struct P{S, T} <: A{T} end` (11).
+pub fn pair_table(alloc: Global) -> Result<Table, Halt> {
     let mut table = Table::new(alloc)?;
-    table.add(alloc, declaration_a(alloc)?)?;
-    table.add(alloc, declaration_d(alloc)?)?;
-    table.add(alloc, declaration_c(alloc)?)?;
-    table.add(alloc, declaration_p(alloc)?)?;
+    let inner = of(alloc, 8, Ty::Var(0))?;
+    let nested = of(alloc, 8, inner)?;
+    add(alloc, &mut table, b"A", DeclKind::Abstract, 1, Ty::Any)?;
+    add(alloc, &mut table, b"D", DeclKind::Abstract, 1, nested)?;
+    add(
+        alloc,
+        &mut table,
+        b"C",
+        DeclKind::Struct,
+        1,
+        of(alloc, 9, Ty::Var(0))?,
+    )?;
+    add(
+        alloc,
+        &mut table,
+        b"P",
+        DeclKind::Struct,
+        2,
+        of(alloc, 8, Ty::Var(1))?,
+    )?;
     Ok(table)
 }

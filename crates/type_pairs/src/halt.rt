@@ -13,6 +13,8 @@ pub enum Halt {
     Unknown,
     /// A normal form is too large.
     TooLarge,
+    /// A declaration is refused.
+    Refused,
     /// Memory was refused.
     Memory,
 }
@@ -44,6 +46,7 @@ impl fmt::Display for Halt {
             Halt::TooDeep => write!(f, "a type is too deep"),
             Halt::Unknown => write!(f, "a type is unknown"),
             Halt::TooLarge => write!(f, "a normal form is too large"),
+            Halt::Refused => write!(f, "a declaration is refused"),
             Halt::Memory => write!(f, "out of memory"),
         }
     }

@@ -1,41 +1,11 @@
-use Rattle.std.proofs.Common.{◌≡◌, ap, map, Err, true, false, inl, inr}
-use Rattle.jl_model.specs.declared.ty.Ty.TheViews as V
-use Rattle.jl_model.specs.Refusals.{types_of, ancestors}
-use Rattle.jl_norm.proofs.SizeLemmas.{within_front}
-use Rattle.jl_norm.proofs.KeptLemmas.{limit_kept, sizes_same}
+use Rattle.jl_norm.proofs.ToldLemmas.{types_sized, told}
 use Rattle.jl_norm.proofs.kept.kept.Goals as goal
 
-pub returns-in-Err-TypeLimit : goal.returns-in-Err-TypeLimit
-returns-in-Err-TypeLimit c =
-    let ds = c.args.table.now in
-    let d = c.args.decl.now in
-    let s = within_front (types_of d) (map (λ x. V.Nominal x.name x.args) (ancestors ds d)) (c.in_ok-is_sized.ensures.0 c.if-not-branch.false) in
-    (c.requires, limit_kept ds d c.valid.ensures c.requires s (c.in-Err-TypeLimit.ensures.limit (ap (λ z. Err z) c.in-Err-TypeLimit.field-0-is)))
+pub is_broken-requires-clause-sized : goal.is_broken-requires-clause-sized
+is_broken-requires-clause-sized c = types_sized c.args.table.now c.args.decl.now c.in-Ok.ensures.written_sized
 
-pub returns-then-not-branch-2 : goal.returns-then-not-branch-2
-returns-then-not-branch-2 c = (
-  c.requires,
-  inr (
-    c.in-Ok.kept,
-    c.in-Ok.ensures.kept,
-    λ a.
-        let e : c.in_ok-is_sized-2.field-0 ≡ true = c.in_ok-is_sized-2.ensures.1 a in
-        let f : c.in_ok-is_sized-2.field-0 ≡ false = c.if-not-branch-2.true in
-        cc,
-  ),
-)
+pub is_broken-requires-clause-kept_sized : goal.is_broken-requires-clause-kept_sized
+is_broken-requires-clause-kept_sized c = types_sized c.args.table.now c.in-Ok.kept c.in-Ok.ensures.sized
 
-pub returns : goal.returns
-returns c =
-    let ds = c.args.table.now in
-    let d = c.args.decl.now in
-    let first = c.in_ok-is_sized.ensures.0 c.if-not-branch.false in
-    let second = c.in_ok-is_sized-2.ensures.0 c.if-not-branch-2.false in
-    record {
-      kept = c.in-Ok.ensures.kept;
-      sized = second;
-      small = λ t. elim t [
-        | inl f ↦ f first
-        | inr r ↦ r.2 (sizes_same ds d c.valid.ensures c.requires c.in-Ok.kept r.0 c.in-Ok.ensures.kept r.1 second)
-      ];
-    }
+pub returns-in-Ok-is_broken : goal.returns-in-Ok-is_broken
+returns-in-Ok-is_broken c = told c.args.table.now c.args.decl.now c.in-Ok.kept c.valid.ensures c.requires c.in-Ok.ensures c.in-Ok-is_broken.is_broken c.in-Ok-is_broken.ensures.judged

@@ -1,0 +1,310 @@
+-- Values are found: where some types serve for a row, the types found serve.
+use Rattle.std.proofs.Common.{◌≡◌, ◌∙◌, sym, ap, subst, refl, ℕ, true, false, cond, nat_eq, nat_lt, List, [], ◌∷◌, map, Option, None, Some, ◌⊎◌, inl, inr}
+use Rattle.std.specs.List.{flat_map}
+use Rattle.jl_model.specs.declared.ty.Ty.{Ty}
+use Rattle.jl_model.specs.declared.ty.Ty.TheOpen.{Ty-F, Any, Union, Tuple, Nominal, Var}
+use Rattle.jl_model.specs.declared.ty.Ty.TheViews.{out-Ty, outs-Tuple, outs-Nominal}
+use Rattle.jl_model.specs.declared.ty.Ty.TheViews as V
+use Rattle.jl_model.specs.declared.ty.Ty.TheVariants as W
+use Rattle.jl_model.specs.declared.ty.Decl.{Decl}
+use Rattle.jl_model.specs.declared.ty.Written.{Written}
+use Rattle.jl_model.specs.Ancestors.{table_of}
+use Rattle.jl_model.specs.Kinds.{Kind, unused, once, diagonal, bound}
+use Rattle.jl_model.specs.Rows.{width, low, kind, root, vars_in, Occurs}
+use Rattle.jl_model.specs.Subtype.{Table, Fixed, opaque, put, lifted, Below, Equals, Equal, equals_more, is_concrete}
+use Rattle.jl_model.specs.Signature.{Row, top, Serves, Meets, Meet, any, tuple, nominal, same, atom, raise_tuple, raise_nominal, meet_end, meet_more, is_diagonal}
+use Rattle.jl_model.specs.Normal.{IsNormal, AllNormal, more}
+use Rattle.jl_model.specs.Refusals.{Declared}
+use Rattle.jl_model.proofs.TypeInduction.{Each}
+use Rattle.jl_model.proofs.FormLemmas.{is_any, is_tuple, is_nominal, is_var, put-nominal, put-var, vars-nominal, vars-var}
+use Rattle.jl_match.specs.Found.{first, raised, parts_of, arguments_of, or_none, ancestor, find_arg, find_inner, find_outer, outer, inner, or_type, found}
+use Rattle.jl_match.specs.KeptRow.{EachVar, IsArgument, AreArguments, closed, variable, applied, arguments_end, arguments_more, IsPart, AreParts}
+use Rattle.jl_match.proofs.ListLemmas.{In, Good, good_both, good_same, bare_good, at_var, sought, split, each_of}
+use Rattle.jl_match.proofs.FindLemmas as L
+use Rattle.jl_match.proofs.EqualLemmas.{nominal_form}
+use Rattle.jl_match.proofs.MeetLemmas.{parts_in, arguments_in, head_part, tail_parts, too_all}
+
+-- what holds of the parts of a left row
+pub record LeftForms (n : Table) (g : Fixed) (p : Ty → Type 0) : Type 0 where
+  pub part : (xs : List Ty) → p (V.Tuple xs) → Each p xs
+  pub raise : (v : ℕ) → p (W.Var v) → p (g.high v) × ((w : ℕ) → out-Ty (g.high v) ≡ Var w → ⊥)
+  pub argument : (k m : ℕ) (xs zs : List Ty) → p (V.Nominal k xs) → lifted n k xs m ≡ Some zs → AllNormal n zs
+  pub sure : (t u : Ty) → p t → Equal n t u → is_concrete n g u ≡ true → is_concrete n g t ≡ true
+
+-- what holds of a right row by its making
+pub record RightRow (n : Table) (s : Written) (r : Row) : Type 0 where
+  pub forms : AreParts n r.parts
+  pub inner_kind : (v : ℕ) → In v (flat_map inner r.parts) → (kind s v ≡ bound) × (root s v ≡ v)
+  pub places : (v : ℕ) → Occurs s v r.parts → In v (flat_map inner r.parts) ⊎ ((w : ℕ) × In w (flat_map outer r.parts) × (root s w ≡ v))
+  pub occur : (w : ℕ) → In w (flat_map outer r.parts) → Occurs s (root s w) r.parts
+  pub occur_inner : (v : ℕ) → In v (flat_map inner r.parts) → Occurs s v r.parts
+  pub outer_kind : (w : ℕ) → In w (flat_map outer r.parts) → kind s (root s w) ≡ diagonal → root s w ≡ w
+  pub diagonal_root : (w : ℕ) → In w (flat_map outer r.parts) → kind s w ≡ diagonal → root s w ≡ w
+  pub range : (v : ℕ) → Occurs s v r.parts → nat_lt v (width s) ≡ true
+
+-- the laws of below for the left variables
+pub record Laws (n : Table) (g : Fixed) : Type 0 where
+  pub lift : (t u : Ty) → Below n opaque t u → Below n g t u
+  pub trans : (t u v : Ty) → Below n g t u → Below n g u v → Below n g t v
+  pub self : (t : Ty) → Below n opaque t t
+
+normal_head : (n : Table) (x : Ty) (xs : List Ty) → AllNormal n (x ∷ xs) → IsNormal n x
+normal_head n x xs (more t ts p q) = p
+
+normal_tail : (n : Table) (x : Ty) (xs : List Ty) → AllNormal n (x ∷ xs) → AllNormal n xs
+normal_tail n x xs (more t ts p q) = q
+
+-- what is found equals what was put
+module _ (ds : List Decl) (declared : Declared ds) (g : Fixed) (s : Written) (f : ℕ → Ty) (v : ℕ) (p : Ty → Type 0) (forms : LeftForms (table_of ds) g p) where
+  abbrev n : Table
+  n = table_of ds
+
+  abbrev Same : Ty → Type 0
+  Same y = Equal n y (f v)
+
+  mutual
+    arg_good : (u : Ty) → IsArgument n u → (x : Ty) → IsNormal n x → Equal n x (put f u) → Good Same v (find_arg v u x) (vars_in u)
+    arg_good u (closed t e h) x o z = nothing_in u e x
+      where
+        nothing_in : (u : Ty) → vars_in u ≡ [] → (x : Ty) → Good Same v (find_arg v u x) (vars_in u)
+        nothing_in u e x = bare_good Same v (find_arg v u x) (vars_in u) (L.arg-none v u x e) e
+    arg_good u (variable t w j) x o z =
+        let m = is_var u w j in
+        let z2 : Equal n x (f w) = let i = ap (put f) m ∙ put-var f w in rw i at z in
+        let Q : ℕ → Type 0 = λ y. Equal n x (f y) in
+        good_same Same v (find_arg v u x) (cond (nat_eq v w) (Some x) None) (vars_in u) (w ∷ []) (ap (λ y. find_arg v y x) m ∙ L.arg-var v x w) (ap vars_in m ∙ vars-var w)
+        (at_var Same v w x (nat_eq v w) refl (λ e. subst Q (sym e) z2))
+    arg_good u (applied t m us j k) x o z =
+        let i = is_nominal u m us j in
+        let r = nominal_form ds declared x m (map (put f) us) o (let e = ap (put f) i ∙ put-nominal f m us in rw e at z) in
+        let a : arguments_of (out-Ty x) ≡ r.0 = ap (λ y. arguments_of (out-Ty y)) r.1 ∙ ap arguments_of (outs-Nominal m r.0) in
+        good_same Same v (find_arg v u x) (first (map (find_arg v) us) r.0) (vars_in u) (flat_map vars_in us)
+        (ap (λ y. find_arg v y x) i ∙ L.arg-nominal v x m us ∙ ap (first (map (find_arg v) us)) a) (ap vars_in i ∙ vars-nominal m us)
+        (args_good us k r.0 r.3 r.2)
+
+    args_good : (us : List Ty) → AreArguments n us → (xs : List Ty) → AllNormal n xs → Equals n xs (map (put f) us)
+        → Good Same v (first (map (find_arg v) us) xs) (flat_map vars_in us)
+    args_good us arguments_end xs o z = tt
+    args_good us (arguments_more u vs j k) [] o z = elim z [ ]
+    args_good us (arguments_more u vs j k) (x ∷ xs) o (equals_more a b as_ bs c d z) =
+        good_both Same v (find_arg v u x) (first (map (find_arg v) vs) xs) (vars_in u) (flat_map vars_in vs)
+        (arg_good u j x (normal_head n x xs o) (c, d)) (args_good vs k xs (normal_tail n x xs o) z)
+
+  -- the form of a type that is no variable is not raised
+  steady : (x : Ty-F Ty) → ((w : ℕ) → x ≡ Var w → ⊥) → raised g x ≡ x
+  steady Any k = refl
+  steady (Union ts) k = refl
+  steady (Tuple ts) k = refl
+  steady (Nominal m ts) k = refl
+  steady (Var w) k = absurd (k w refl)
+
+  -- a variable and its upper bound have the same raised form
+  raises : (t : Ty) (w : ℕ) → out-Ty t ≡ Var w → ((z : ℕ) → out-Ty (g.high w) ≡ Var z → ⊥) → raised g (out-Ty t) ≡ raised g (out-Ty (g.high w))
+  raises t w e k = ap (raised g) e ∙ sym (steady (out-Ty (g.high w)) k)
+
+  mutual
+    inner_good : (t u : Ty) → IsPart n u → p t → Meets n g s f t u → Good Same v (find_inner n g v u t) (inner u)
+    inner_good t u k o (any t2 u2 i) =
+        let m = is_any u i in
+        bare_good Same v (find_inner n g v u t) (inner u) (ap (λ z. find_inner n g v z t) m ∙ L.inner-find-any n g v t) (ap inner m ∙ L.inner-any)
+    inner_good t u k o (tuple t2 u2 xs ys i j z) =
+        let m = is_tuple u ys j in
+        good_same Same v (find_inner n g v u t) (first (map (find_inner n g v) ys) xs) (inner u) (flat_map inner ys)
+        (ap (λ z. find_inner n g v z t) m ∙ L.inner-find-tuple n g v t ys ∙ ap (λ z. first (map (find_inner n g v) ys) (parts_of (raised g z))) i)
+        (ap inner m ∙ L.inner-tuple ys)
+        (inners_good xs ys (parts_in n u ys j k) (forms.part xs (subst p (is_tuple t xs i) o)) z)
+    inner_good t u k o (nominal t2 u2 kk mm xs zs ys i j e z) =
+        let m = is_nominal u mm ys j in
+        good_same Same v (find_inner n g v u t) (first (map (find_arg v) ys) zs) (inner u) (flat_map vars_in ys)
+        (ap (λ z. find_inner n g v z t) m ∙ L.inner-find-nominal n g v t mm ys ∙ ap (λ z. first (map (find_arg v) ys) (ancestor n mm (raised g z))) i
+        ∙ ap (λ z. first (map (find_arg v) ys) (or_none z)) e)
+        (ap inner m ∙ L.inner-nominal mm ys)
+        (args_good ys (arguments_in n u mm ys j k) zs (forms.argument kk mm xs zs (subst p (is_nominal t kk xs i) o) e) z)
+    inner_good t u k o (same t2 u2 w j d e) =
+        let m = is_var u w j in
+        bare_good Same v (find_inner n g v u t) (inner u) (ap (λ z. find_inner n g v z t) m ∙ L.inner-find-var n g v t w) (ap inner m ∙ L.inner-var w)
+    inner_good t u k o (atom t2 u2 w j d e) =
+        let m = is_var u w j in
+        bare_good Same v (find_inner n g v u t) (inner u) (ap (λ z. find_inner n g v z t) m ∙ L.inner-find-var n g v t w) (ap inner m ∙ L.inner-var w)
+    inner_good t u k o (raise_tuple t2 u2 w ys i j z) =
+        let m = is_tuple u ys j in
+        let h = forms.raise w (subst p (is_var t w i) o) in
+        good_same Same v (find_inner n g v u t) (find_inner n g v u (g.high w)) (inner u) (inner u)
+        (ap (λ z. find_inner n g v z t) m ∙ L.inner-find-tuple n g v t ys ∙ ap (λ z. first (map (find_inner n g v) ys) (parts_of z)) (raises t w i h.1)
+        ∙ sym (L.inner-find-tuple n g v (g.high w) ys) ∙ sym (ap (λ z. find_inner n g v z (g.high w)) m))
+        refl (inner_good (g.high w) u k h.0 z)
+    inner_good t u k o (raise_nominal t2 u2 w mm ys i j z) =
+        let m = is_nominal u mm ys j in
+        let h = forms.raise w (subst p (is_var t w i) o) in
+        good_same Same v (find_inner n g v u t) (find_inner n g v u (g.high w)) (inner u) (inner u)
+        (ap (λ z. find_inner n g v z t) m ∙ L.inner-find-nominal n g v t mm ys ∙ ap (λ z. first (map (find_arg v) ys) (ancestor n mm z)) (raises t w i h.1)
+        ∙ sym (L.inner-find-nominal n g v (g.high w) mm ys) ∙ sym (ap (λ z. find_inner n g v z (g.high w)) m))
+        refl (inner_good (g.high w) u k h.0 z)
+
+    inners_good : (ts us : List Ty) → AreParts n us → Each p ts → Meet n g s f ts us → Good Same v (first (map (find_inner n g v) us) ts) (flat_map inner us)
+    inners_good ts us k o meet_end = tt
+    inners_good ts us k o (meet_more x y xs ys c z) =
+        good_both Same v (find_inner n g v y x) (first (map (find_inner n g v) ys) xs) (inner y) (flat_map inner ys)
+        (inner_good x y (head_part n y ys k) o.0 c) (inners_good xs ys (tail_parts n y ys k) o.1 z)
+
+  abbrev SameSure : Ty → Type 0
+  SameSure y = Equal n y (f v) × (is_concrete n g y ≡ true)
+
+  -- what is put for the variable is concrete where it stands at one of these places, which are its own there
+  abbrev pub Known : ℕ → Type 0
+  Known w = v ≡ w → (is_concrete n g (f w) ≡ true) × (root s w ≡ w)
+
+  module _ (is_diag : kind s v ≡ diagonal) where
+    clash : (w : ℕ) → v ≡ w → root s w ≡ w → kind s (root s w) ≡ bound → ⊥
+    clash w e own d = let c : kind s (root s w) ≡ diagonal = ap (kind s) own ∙ ap (kind s) (sym e) ∙ is_diag in let b : diagonal ≡ bound = sym c ∙ d in cc
+
+    mutual
+      outer_good : (t u : Ty) → IsPart n u → p t → EachVar Known (outer u) → Meets n g s f t u → Good SameSure v (find_outer g v u t) (outer u)
+      outer_good t u k o c (any t2 u2 i) =
+          let m = is_any u i in
+          bare_good SameSure v (find_outer g v u t) (outer u) (ap (λ z. find_outer g v z t) m ∙ L.outer-find-any g v t) (ap outer m ∙ L.outer-any)
+      outer_good t u k o c (tuple t2 u2 xs ys i j z) =
+          let m = is_tuple u ys j in
+          good_same SameSure v (find_outer g v u t) (first (map (find_outer g v) ys) xs) (outer u) (flat_map outer ys)
+          (ap (λ z. find_outer g v z t) m ∙ L.outer-find-tuple g v t ys ∙ ap (λ z. first (map (find_outer g v) ys) (parts_of (raised g z))) i)
+          (ap outer m ∙ L.outer-tuple ys)
+          (outers_good xs ys (parts_in n u ys j k) (forms.part xs (subst p (is_tuple t xs i) o)) (subst (EachVar Known) (ap outer m ∙ L.outer-tuple ys) c) z)
+      outer_good t u k o c (nominal t2 u2 kk mm xs zs ys i j e z) =
+          let m = is_nominal u mm ys j in
+          bare_good SameSure v (find_outer g v u t) (outer u) (ap (λ z. find_outer g v z t) m ∙ L.outer-find-nominal g v t mm ys) (ap outer m ∙ L.outer-nominal mm ys)
+      outer_good t u k o c (same t2 u2 w j d e) =
+          let m = is_var u w j in
+          let r : EachVar Known (w ∷ []) = subst (EachVar Known) (ap outer m ∙ L.outer-var w) c in
+          let Q : ℕ → Type 0 = λ y. Equal n t (f y) in
+          good_same SameSure v (find_outer g v u t) (cond (nat_eq v w) (Some t) None) (outer u) (w ∷ [])
+          (ap (λ z. find_outer g v z t) m ∙ L.outer-find-var g v t w) (ap outer m ∙ L.outer-var w)
+          (at_var SameSure v w t (nat_eq v w) refl (λ x. (subst Q (sym x) e, forms.sure t (f w) o e (r.0 x).0)))
+      outer_good t u k o c (atom t2 u2 w j d e) =
+          let m = is_var u w j in
+          let r : EachVar Known (w ∷ []) = subst (EachVar Known) (ap outer m ∙ L.outer-var w) c in
+          good_same SameSure v (find_outer g v u t) (cond (nat_eq v w) (Some t) None) (outer u) (w ∷ [])
+          (ap (λ z. find_outer g v z t) m ∙ L.outer-find-var g v t w) (ap outer m ∙ L.outer-var w)
+          (at_var SameSure v w t (nat_eq v w) refl (λ x. absurd (clash w x (r.0 x).1 d)))
+      outer_good t u k o c (raise_tuple t2 u2 w ys i j z) =
+          let m = is_tuple u ys j in
+          let h = forms.raise w (subst p (is_var t w i) o) in
+          good_same SameSure v (find_outer g v u t) (find_outer g v u (g.high w)) (outer u) (outer u)
+          (ap (λ z. find_outer g v z t) m ∙ L.outer-find-tuple g v t ys ∙ ap (λ z. first (map (find_outer g v) ys) (parts_of z)) (raises t w i h.1)
+          ∙ sym (L.outer-find-tuple g v (g.high w) ys) ∙ sym (ap (λ z. find_outer g v z (g.high w)) m))
+          refl (outer_good (g.high w) u k h.0 c z)
+      outer_good t u k o c (raise_nominal t2 u2 w mm ys i j z) =
+          let m = is_nominal u mm ys j in
+          bare_good SameSure v (find_outer g v u t) (outer u) (ap (λ z. find_outer g v z t) m ∙ L.outer-find-nominal g v t mm ys) (ap outer m ∙ L.outer-nominal mm ys)
+
+      outers_good : (ts us : List Ty) → AreParts n us → Each p ts → EachVar Known (flat_map outer us) → Meet n g s f ts us
+          → Good SameSure v (first (map (find_outer g v) us) ts) (flat_map outer us)
+      outers_good ts us k o c meet_end = tt
+      outers_good ts us k o c (meet_more x y xs ys d z) =
+          let r = split Known (outer y) (flat_map outer ys) c in
+          good_both SameSure v (find_outer g v y x) (first (map (find_outer g v) ys) xs) (outer y) (flat_map outer ys)
+          (outer_good x y (head_part n y ys k) o.0 r.0 d) (outers_good xs ys (tail_parts n y ys k) o.1 r.1 z)
+
+diag_is : (k : Kind) → k ≡ diagonal → is_diagonal k ≡ true
+diag_is k e = ap is_diagonal e
+
+bound_is : (k : Kind) → k ≡ bound → is_diagonal k ≡ false
+bound_is k e = ap is_diagonal e
+
+-- diagonal, or not
+which : (k : Kind) → (k ≡ diagonal) ⊎ (is_diagonal k ≡ false)
+which unused = inr refl
+which once = inr refl
+which diagonal = inl refl
+which bound = inr refl
+
+module _ (ds : List Decl) (declared : Declared ds) (g : Fixed) (p : Ty → Type 0) (s : Written) (r : Row) (ts : List Ty) (f : ℕ → Ty) (laws : Laws (table_of ds) g)
+    (left : LeftForms (table_of ds) g p) (right : RightRow (table_of ds) s r) (lefts : Each p ts)
+    (low_is : (v : ℕ) → Occurs s v r.parts → (h : ℕ → Ty) → put h (low s v) ≡ low s v) (top_is : (v : ℕ) → Occurs s v r.parts → (h : ℕ → Ty) → put h (top s r v) ≡ top s r v)
+    (serves : Serves (table_of ds) g s r f) (meet : Meet (table_of ds) g s f ts r.parts) where
+  abbrev order : Table
+  order = table_of ds
+
+  abbrev h : ℕ → Ty
+  h = found order g s r ts
+
+  inner_found : (v : ℕ) → Good (λ y. Equal order y (f v)) v (first (map (find_inner order g v) r.parts) ts) (flat_map inner r.parts)
+  inner_found v = inners_good ds declared g s f v p left ts r.parts right.forms lefts meet
+
+  outer_found : (v : ℕ) → kind s v ≡ diagonal → Good (λ y. Equal order y (f v) × (is_concrete order g y ≡ true)) v (first (map (find_outer g v) r.parts) ts) (flat_map outer r.parts)
+  outer_found v d =
+      outers_good ds declared g s f v p left d ts r.parts right.forms lefts
+      (each_of (λ w. v ≡ w → (is_concrete order g (f w) ≡ true) × (root s w ≡ w)) (flat_map outer r.parts)
+      (λ w i e.
+      let b : kind s w ≡ diagonal = ap (kind s) (sym e) ∙ d in
+      let q : root s w ≡ w = right.diagonal_root w i b in
+      let o : Occurs s w r.parts = subst (λ z. Occurs s z r.parts) q (right.occur w i) in
+      (serves.sure w o b, q)))
+      meet
+
+  at_inner : (v : ℕ) → In v (flat_map inner r.parts) → Equal order (h v) (f v)
+  at_inner v i =
+      let k = bound_is (kind s v) (right.inner_kind v i).0 in
+      let l = right.range v (right.occur_inner v i) in
+      rw (l, k) (sought (λ y. Equal order y (f v)) v (first (map (find_inner order g v) r.parts) ts) (flat_map inner r.parts) (top s r v) (inner_found v) i)
+
+  at_diagonal : (v : ℕ) → Occurs s v r.parts → In v (flat_map outer r.parts) → kind s v ≡ diagonal → Equal order (h v) (f v) × (is_concrete order g (h v) ≡ true)
+  at_diagonal v o i d =
+      let k = diag_is (kind s v) d in
+      let l = right.range v o in
+      rw (l, k) (sought (λ y. Equal order y (f v) × (is_concrete order g y ≡ true)) v (first (map (find_outer g v) r.parts) ts) (flat_map outer r.parts) (top s r v) (outer_found v d) i)
+
+  low_of : (v : ℕ) → Occurs s v r.parts → Below order g (low s v) (f v)
+  low_of v o = subst (λ z. Below order g z (f v)) (low_is v o f) (serves.least v o)
+
+  most_of : (v : ℕ) → Occurs s v r.parts → Below order g (f v) (top s r v)
+  most_of v o = subst (λ z. Below order g (f v) z) (top_is v o f) (serves.most v o)
+
+  by_equal : (v : ℕ) (y : Ty) → Occurs s v r.parts → Equal order y (f v) → Below order g (f v) y × Below order g y (top s r v)
+  by_equal v y o e = (laws.lift (f v) y e.1, laws.trans y (f v) (top s r v) (laws.lift y (f v) e.0) (most_of v o))
+
+  by_search : (v : ℕ) (o : Option Ty) (ns : List ℕ) → Occurs s v r.parts → Good (λ y. Equal order y (f v)) v o ns → Below order g (f v) (or_type o (top s r v)) × Below order g (or_type o (top s r v)) (top s r v)
+  by_search v (Some y) ns k e = by_equal v y k e
+  by_search v None ns k e = (most_of v k, laws.lift (top s r v) (top s r v) (laws.self (top s r v)))
+
+  between_outer : (v w : ℕ) → Occurs s v r.parts → In w (flat_map outer r.parts) → root s w ≡ v → Below order g (f v) (h v) × Below order g (h v) (top s r v)
+  between_outer v w o i e = elim (which (kind s v)) [
+    | inl d ↦
+        let d2 : kind s (root s w) ≡ diagonal = ap (kind s) e ∙ d in
+        let x : w ≡ v = sym (right.outer_kind w i d2) ∙ e in
+        by_equal v (h v) o (at_diagonal v o (subst (λ z. In z (flat_map outer r.parts)) x i) d).0
+    | inr d ↦ let l = right.range v o in rw (l, d) (by_search v (first (map (find_inner order g v) r.parts) ts) (flat_map inner r.parts) o (inner_found v))
+  ]
+
+  between : (v : ℕ) → Occurs s v r.parts → Below order g (f v) (h v) × Below order g (h v) (top s r v)
+  between v o = elim (right.places v o) [
+    | inl i ↦ by_equal v (h v) o (at_inner v i)
+    | inr z ↦ between_outer v z.0 o z.1 z.2
+  ]
+
+  sure_found : (v : ℕ) → Occurs s v r.parts → kind s v ≡ diagonal → is_concrete order g (h v) ≡ true
+  sure_found v o d = elim (right.places v o) [
+    | inl i ↦ let b : diagonal ≡ bound = sym d ∙ (right.inner_kind v i).0 in cc
+    | inr z ↦
+        let d2 : kind s (root s z.0) ≡ diagonal = ap (kind s) z.2 ∙ d in
+        let x : z.0 ≡ v = sym (right.outer_kind z.0 z.1 d2) ∙ z.2 in
+        (at_diagonal v o (subst (λ y. In y (flat_map outer r.parts)) x z.1) d).1
+  ]
+
+  pub values : Serves order g s r h × Meet order g s h ts r.parts
+  values = (
+    record {
+      least = λ v o. subst (λ z. Below order g z (h v)) (sym (low_is v o h)) (laws.trans (low s v) (f v) (h v) (low_of v o) (between v o).0);
+      most = λ v o. subst (λ z. Below order g (h v) z) (sym (top_is v o h)) (between v o).1;
+      sure = λ v o d. sure_found v o d;
+    },
+    too_all ds declared g laws.trans s f h ts r.parts right.forms
+        (each_of (λ w. Equal order (f w) (h w)) (flat_map inner r.parts) (λ w i. let e = at_inner w i in (e.1, e.0)))
+        (each_of (λ w. (kind s w ≡ diagonal → Equal order (f w) (h w)) × Below order g (f (root s w)) (h (root s w))) (flat_map outer r.parts)
+        (λ w i. (
+          (λ d.
+              let q : root s w ≡ w = right.diagonal_root w i d in
+              let e = (at_diagonal w (subst (λ z. Occurs s z r.parts) q (right.occur w i)) i d).0 in (e.1, e.0)),
+          (between (root s w) (right.occur w i)).0,
+        )))
+        meet,
+  )

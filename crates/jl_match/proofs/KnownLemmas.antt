@@ -1,0 +1,33 @@
+-- The parts of known, normal and ground types.
+use Rattle.std.proofs.Common.{◌≡◌, ◌∙◌, sym, ap, ℕ, ◌<◌, true, false, List, Some, slice_get}
+use Rattle.std.specs.List.{list_all}
+use Rattle.jl_model.specs.declared.ty.Ty.{Ty}
+use Rattle.jl_model.specs.declared.ty.Ty.TheViews.{outs-Tuple, outs-Nominal}
+use Rattle.jl_model.specs.declared.ty.Ty.TheViews as V
+use Rattle.jl_model.specs.declared.ty.Decl.{Decl}
+use Rattle.jl_model.specs.declared.ty.DeclKind.{DeclKind}
+use Rattle.jl_model.specs.declared.ty.DeclKind.TheVariants.{Abstract, Struct}
+use Rattle.jl_model.specs.Ancestors.{table_of, is_struct_kind}
+use Rattle.jl_model.specs.Subtype.{opaque, is_concrete}
+use Rattle.jl_model.specs.Valid.{is_known}
+use Rattle.jl_model.proofs.KnownLemmas.{known-tuple, nominal_known}
+use Rattle.jl_match.proofs.ConcreteLemmas.{concrete-nominal}
+
+pub known_parts : (m : ℕ) (t : Ty) (ts vs : List Ty) → t ≡ V.Tuple ts → vs ≡ ts → is_known m t ≡ true → list_all (is_known m) vs ≡ true
+known_parts m t ts vs e f h = ap (list_all (is_known m)) f ∙ sym (known-tuple m ts) ∙ sym (ap (is_known m) e) ∙ h
+
+pub known_name : (m : ℕ) (t : Ty) (k : ℕ) (ts : List Ty) → t ≡ V.Nominal k ts → is_known m t ≡ true → k < m
+known_name m t k ts e h = (nominal_known m k ts (sym (ap (is_known m) e) ∙ h)).0
+
+-- a nominal type is concrete where it is a struct
+pub struct_is : (ds : List Decl) (k : ℕ) (d : Decl) → slice_get ds k ≡ Some d → (table_of ds).is_struct k ≡ elim d.kind [ Abstract ↦ false | Struct ↦ true ]
+unfolding table_of
+struct_is ds k d e = ap is_struct_kind e
+
+-- a declaration's kind
+pub kind_is : (ds : List Decl) (t : Ty) (k : ℕ) (ts : List Ty) (d : Decl) (j : DeclKind) → t ≡ V.Nominal k ts → slice_get ds k ≡ Some d → d.kind ≡ j
+    → is_concrete (table_of ds) opaque t ≡ elim j [ Abstract ↦ false | Struct ↦ true ]
+kind_is ds t k ts d j e g h =
+    ap (is_concrete (table_of ds) opaque) e ∙ concrete-nominal (table_of ds) k ts ∙ struct_is ds k d g ∙ ap (λ (z : DeclKind). elim z [ Abstract ↦ false | Struct ↦ true ]) h
+
+pub ruleset knowing = (known_parts, known_name)

@@ -1,0 +1,7 @@
+use Rattle.std.proofs.Common.{◌≡◌, map, drop}
+use Rattle.jl_model.specs.Subtype.{opaque}
+use Rattle.jl_match.specs.Found.{find_outer, first}
+use Rattle.jl_match.proofs.find.+outer.Given as goal
+
+abbrev pub invariant-first_outer-loop-i : goal.invariant-first_outer-loop-i
+invariant-first_outer-loop-i l = first (map (find_outer opaque l.variable) l.patterns) l.types ≡ first (map (find_outer opaque l.variable) (drop l.i l.patterns)) (drop l.i l.types)

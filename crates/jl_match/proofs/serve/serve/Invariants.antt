@@ -1,0 +1,8 @@
+use Rattle.std.proofs.Common.{ℕ, ◌<◌}
+use Rattle.jl_model.specs.Ancestors.{table_of}
+use Rattle.jl_model.specs.Subtype.{at}
+use Rattle.jl_match.specs.KeptRow.{row_of, ServesAt}
+use Rattle.jl_match.proofs.serve.serve.Given as goal
+
+abbrev pub invariant-loop-variable : goal.invariant-loop-variable
+invariant-loop-variable l = (v : ℕ) → v < l.variable → ServesAt (table_of l.table) l.signature (row_of l.parts l.chosen) (at l.values) v

@@ -1,0 +1,172 @@
+-- What the walk over a row asks of it: the row of a signature that nothing refuses, whose bounds and arguments without
+-- variables stand in normal form.
+use Rattle.std.specs.Prelude.{ℕ, ◌%◌, ◌≡◌, ◌<◌, ◌≤◌, ◌⊎◌, Bool, true, false, not, nat_eq, nat_lt, IsTrue, List, [], ◌∷◌, length, get_or}
+use Rattle.std.specs.List.{flat_map, list_all, Contains}
+use Rattle.jl_model.specs.declared.ty.Ty.{Ty}
+use Rattle.jl_model.specs.declared.ty.Ty.TheOpen.{Ty-F, Any, Union, Tuple, Nominal, Var}
+use Rattle.jl_model.specs.declared.ty.Ty.TheViews.{out-Ty}
+use Rattle.jl_model.specs.declared.ty.Ty.TheFolds.{fold-Ty}
+use Rattle.jl_model.specs.declared.ty.Decl.{Decl}
+use Rattle.jl_model.specs.declared.ty.Written.{Written}
+use Rattle.jl_model.specs.Ancestors.{table_of}
+use Rattle.jl_model.specs.Kinds.{unused, diagonal, bound}
+use Rattle.jl_model.specs.declared.ty.Bound.{Bound}
+use Rattle.jl_model.specs.Rows.{free, width, low, high, kind, root, vars_in, Occurs}
+use Rattle.jl_model.specs.Signature.{Row, top, is_diagonal, Serves, Both}
+use Rattle.jl_model.specs.Subtype.{Table, opaque, put, at, Below, Equal, is_concrete}
+use Rattle.jl_model.specs.Normal.{IsNormal, AllNormal, IsNormalForm}
+use Rattle.jl_types.specs.Form.{Settles}
+use Rattle.jl_model.specs.Valid.{is_known}
+use Rattle.jl_match.specs.Found.{inner, outer}
+
+module _ (n : Table) where
+  mutual
+    -- an argument of a nominal type: a normal form without variables, a variable, or a nominal type over such arguments
+    pub data IsArgument : Ty → Type 0 where
+      closed : (t : Ty) → vars_in t ≡ [] → IsNormal n t → IsArgument t
+      variable : (t : Ty) (v : ℕ) → out-Ty t ≡ Var v → IsArgument t
+      applied : (t : Ty) (k : ℕ) (ts : List Ty) → out-Ty t ≡ Nominal k ts → AreArguments ts → IsArgument t
+
+    pub data AreArguments : List Ty → Type 0 where
+      arguments_end : AreArguments []
+      arguments_more : (t : Ty) (ts : List Ty) → IsArgument t → AreArguments ts → AreArguments (t ∷ ts)
+
+  mutual
+    -- a part of a row: no union stands at a covariant place
+    pub data IsPart : Ty → Type 0 where
+      any : (t : Ty) → out-Ty t ≡ Any → IsPart t
+      variable : (t : Ty) (v : ℕ) → out-Ty t ≡ Var v → IsPart t
+      tuple : (t : Ty) (ts : List Ty) → out-Ty t ≡ Tuple ts → AreParts ts → IsPart t
+      nominal : (t : Ty) (k : ℕ) (ts : List Ty) → out-Ty t ≡ Nominal k ts → AreArguments ts → IsPart t
+
+    pub data AreParts : List Ty → Type 0 where
+      parts_end : AreParts []
+      parts_more : (t : Ty) (ts : List Ty) → IsPart t → AreParts ts → AreParts (t ∷ ts)
+
+-- a normal form without variables, of declared nominal types
+pub record IsPlain (ds : List Decl) (t : Ty) : Type 0 where
+  pub normal : IsNormal (table_of ds) t
+  pub known : IsTrue (is_known (length ds) t)
+  pub closed : vars_in t ≡ []
+
+-- the row of these parts and chosen alternatives
+abbrev pub row_of : List Ty → List Ty → Row
+row_of parts chosen = record { parts = parts; chosen = at chosen }
+
+-- The signature has only its own variables. One at an invariant place of the row is bound, and what stands at a covariant
+-- place is a diagonal variable or an atom of a bound one. The bounds are normal forms without variables.
+pub record IsKeptRow (ds : List Decl) (s : Written) (r : Row) : Type 0 where
+  pub own : (v : ℕ) → width s ≤ v → kind s v ≡ unused
+  pub parts : AreParts (table_of ds) r.parts
+  pub invariant : (v : ℕ) → Contains (flat_map inner r.parts) v → (v < width s) × (kind s v ≡ bound)
+  pub covariant : (w : ℕ) → Contains (flat_map outer r.parts) w → (root s w < width s) × (((kind s w ≡ diagonal) × (root s w ≡ w)) ⊎ (kind s (root s w) ≡ bound))
+  pub low : (v : ℕ) → v < width s → IsPlain ds (low s v)
+  pub top : (v : ℕ) → v < width s → IsPlain ds (top s r v)
+
+-- the list tells which variables are diagonal
+pub record AreDiagonals (s : Written) (bs : List Bool) : Type 0 where
+  pub long : length bs ≡ width s
+  pub kinds : (v : ℕ) → v < width s → get_or bs v false ≡ is_diagonal (kind s v)
+
+abbrev pub EachVar : (ℕ → Type 0) → List ℕ → Type 0
+EachVar P [] = Unit {0}
+EachVar P (n ∷ ns) = P n × EachVar P ns
+
+-- what may stand at a covariant place: a diagonal variable, or an atom of a bound one
+abbrev pub IsPlace : Written → ℕ → Type 0
+IsPlace s w = (root s w < width s) × (((kind s w ≡ diagonal) × (root s w ≡ w)) ⊎ ((kind s (root s w) ≡ bound) × (kind s w ≡ diagonal → ⊥)))
+
+pub record IsKeptPart (ds : List Decl) (s : Written) (u : Ty) : Type 0 where
+  pub part : IsPart (table_of ds) u
+  pub covariant : EachVar (IsPlace s) (outer u)
+
+pub record AreKeptParts (ds : List Decl) (s : Written) (us : List Ty) : Type 0 where
+  pub parts : AreParts (table_of ds) us
+  pub covariant : EachVar (IsPlace s) (flat_map outer us)
+
+-- normal forms whose nominal types are declared
+pub record AreGround (ds : List Decl) (ts : List Ty) : Type 0 where
+  pub normal : AllNormal (table_of ds) ts
+  pub known : IsTrue (list_all (is_known (length ds)) ts)
+
+abbrev pub lacks_step : ℕ → ℕ → Ty-F Bool → Bool
+lacks_step m v Any = true
+lacks_step m v (Union bs) = list_all (λ b. b) bs
+lacks_step m v (Tuple bs) = list_all (λ b. b) bs
+lacks_step m v (Nominal _ bs) = list_all (λ b. b) bs
+lacks_step m v (Var w) = not (nat_eq (w % m) v)
+
+-- of m variables, neither v nor an atom of it stands in a type
+abbrev pub lacks : ℕ → ℕ → Ty → Bool
+lacks m v = fold-Ty Bool (lacks_step m v)
+
+-- what is asked of the type put for a variable of a row
+abbrev pub Within : Table → Ty → Ty → Bool → Ty → Type 0
+Within n low high is_diagonal t = Below n opaque low t × Below n opaque t high × (IsTrue is_diagonal → IsTrue (is_concrete n opaque t))
+
+-- what is put for the variable serves, if it stands in the row
+abbrev pub ServesAt : Table → Written → Row → (ℕ → Ty) → ℕ → Type 0
+ServesAt n s r f v = Occurs s v r.parts → Within n (low s v) (top s r v) (is_diagonal (kind s v)) (f v)
+
+-- concrete normal types
+pub record AreConcrete (ds : List Decl) (ts : List Ty) : Type 0 where
+  pub normal : AllNormal (table_of ds) ts
+  pub known : IsTrue (list_all (is_known (length ds)) ts)
+  pub closed : flat_map vars_in ts ≡ []
+  pub concrete : IsTrue (list_all (is_concrete (table_of ds) opaque) ts)
+
+-- the types f put for the variables serve, and the types ts are below the parts
+pub record Fits (n : Table) (s : Written) (r : Row) (ts : List Ty) (f : ℕ → Ty) : Type 0 where
+  pub serves : Serves n opaque s r f
+  pub below : Both (λ t u. Below n opaque t (put (λ v. f (root s v)) u)) ts r.parts
+
+-- A row k of t stands for a row r of s: the same variables of the same kinds stand in both, and the parts and bounds are equal
+-- types.
+pub record StandsFor (n : Table) (s t : Written) (r k : Row) : Type 0 where
+  pub width : width s ≡ width t
+  pub kinds : (v : ℕ) → kind s v ≡ kind t v
+  pub parts : Both (Equal n) r.parts k.parts
+  pub low : (v : ℕ) → Occurs s v r.parts → Equal n (low s v) (low t v)
+  pub top : (v : ℕ) → Occurs s v r.parts → Equal n (top s r v) (top t k v)
+  pub stays : (v : ℕ) → Occurs s v r.parts → Occurs t v k.parts
+  pub comes : (v : ℕ) → Occurs t v k.parts → Occurs s v r.parts
+
+mutual
+  -- an argument of a nominal type: no variable stands in a union or tuple of it
+  pub data IsOpen : Ty → Type 0 where
+    closed : (t : Ty) → vars_in t ≡ [] → IsOpen t
+    variable : (t : Ty) (v : ℕ) → out-Ty t ≡ Var v → IsOpen t
+    applied : (t : Ty) (k : ℕ) (ts : List Ty) → out-Ty t ≡ Nominal k ts → AreOpen ts → IsOpen t
+
+  pub data AreOpen : List Ty → Type 0 where
+    open_end : AreOpen []
+    open_more : (t : Ty) (ts : List Ty) → IsOpen t → AreOpen ts → AreOpen (t ∷ ts)
+
+mutual
+  -- a component of a signature: no variable stands in a union or tuple below a nominal type
+  pub data IsComponent : Ty → Type 0 where
+    any : (t : Ty) → out-Ty t ≡ Any → IsComponent t
+    variable : (t : Ty) (v : ℕ) → out-Ty t ≡ Var v → IsComponent t
+    union : (t : Ty) (ts : List Ty) → out-Ty t ≡ Union ts → AreComponents ts → IsComponent t
+    tuple : (t : Ty) (ts : List Ty) → out-Ty t ≡ Tuple ts → AreComponents ts → IsComponent t
+    nominal : (t : Ty) (k : ℕ) (ts : List Ty) → out-Ty t ≡ Nominal k ts → AreOpen ts → IsComponent t
+
+  pub data AreComponents : List Ty → Type 0 where
+    components_end : AreComponents []
+    components_more : (t : Ty) (ts : List Ty) → IsComponent t → AreComponents ts → AreComponents (t ∷ ts)
+
+-- a signature with the bounds bs, and otherwise as s
+abbrev pub with_bounds : Written → List Bound → Written
+with_bounds s bs = record { vars = bs; parts = s.parts }
+
+-- What is kept of a row r of s: the bounds are the normal forms of those of s, and the parts and the chosen alternatives have
+-- their arguments in normal form.
+pub record AreKept (ds : List Decl) (s : Written) (r : Row) (bs : List Bound) (us vs : List Ty) : Type 0 where
+  pub own : IsTrue (list_all (λ v. nat_lt v (width s)) (flat_map vars_in s.parts))
+  pub placed : AreComponents s.parts
+  pub long : length bs ≡ width s
+  pub low : (v : ℕ) → v < width s → (vars_in (low s v) ≡ []) × IsPlain ds (get_or bs v free).low × Equal (table_of ds) (low s v) (get_or bs v free).low
+  pub high : (v : ℕ) → v < width s → (vars_in (high s v) ≡ []) × IsPlain ds (get_or bs v free).high × Equal (table_of ds) (high s v) (get_or bs v free).high
+  pub plain : (v : ℕ) → v < width s → IsPlain ds (at vs v)
+  pub chosen : (v : ℕ) → kind s v ≡ diagonal → Occurs s v r.parts → Equal (table_of ds) (r.chosen v) (at vs v)
+  pub parts : Both (Settles (IsNormalForm (table_of ds))) r.parts us

@@ -1,0 +1,40 @@
+//! Laws over the definitions alone. Each function does nothing: its contract is the law.
+
+ghost use Rattle.std.specs.Prelude.{ℕ, List};
+ghost use Rattle.jl_model.specs.declared.ty.Ty.{Ty};
+ghost use Rattle.jl_model.specs.declared.ty.Decl.{Decl};
+ghost use Rattle.jl_model.specs.declared.ty.Bound.{Bound};
+ghost use Rattle.jl_model.specs.declared.ty.Written.{Written};
+ghost use Rattle.jl_model.specs.Ancestors.{table_of};
+ghost use Rattle.jl_model.specs.Refusals.{Declared};
+ghost use Rattle.jl_model.specs.Subtype.{opaque, put, Below};
+ghost use Rattle.jl_model.specs.Signature.{Row, IsRow};
+ghost use Rattle.jl_model.specs.AllRows.{ArePicks, all_rows};
+ghost use Rattle.jl_match.specs.Listed.{IsKeptSig};
+ghost use Rattle.jl_sig.specs.Fit.{AreKeptRows as AreKeptListed};
+ghost use Rattle.jl_match.specs.SigRows.{AreKeptRows, AreRowsOf};
+ghost use Rattle.jl_sig.specs.declared.row.SigRow.{SigRow};
+ghost use Rattle.jl_match.specs.KeptRow.{StandsFor, Fits, IsKeptRow, AreKept, row_of, with_bounds};
+
+/// What is below stays below, whatever types are put for the variables of both.
+pub fn law_put()
+    ensures { (ds : List Decl) → Declared ds → (f : ℕ → Ty) (t u : Ty) → Below (table_of ds) opaque t u → Below (table_of ds) opaque (put f t) (put f u) }
+{}
+
+/// Types fit a row with certain types for the variables exactly where they fit a row that stands for it with these types.
+pub fn law_stands_for()
+    ensures there { (ds : List Decl) → Declared ds → (s t : Written) (r k : Row) → StandsFor (table_of ds) s t r k → (ts : List Ty) (f : ℕ → Ty) → Fits (table_of ds) s r ts f → Fits (table_of ds) t k ts f }
+    ensures back { (ds : List Decl) → Declared ds → (s t : Written) (r k : Row) → StandsFor (table_of ds) s t r k → (ts : List Ty) (f : ℕ → Ty) → Fits (table_of ds) t k ts f → Fits (table_of ds) s r ts f }
+{}
+
+/// What is kept of a row of a signature that nothing refuses is a kept row, and stands for it.
+pub fn law_kept_row()
+    ensures kept { (ds : List Decl) → Declared ds → (s : Written) (r : Row) (bs : List Bound) (us vs : List Ty) → IsRow (table_of ds) s r → AreKept ds s r bs us vs → IsKeptRow ds (with_bounds s bs) (row_of us vs) }
+    ensures stands { (ds : List Decl) → Declared ds → (s : Written) (r : Row) (bs : List Bound) (us vs : List Ty) → IsRow (table_of ds) s r → AreKept ds s r bs us vs → StandsFor (table_of ds) s (with_bounds s bs) r (row_of us vs) }
+{}
+
+/// The rows of a signature that nothing refuses, all listed and then kept, are kept rows, and the rows of it.
+pub fn law_rows()
+    ensures kept { (ds : List Decl) → Declared ds → (s : Written) (bs : List Bound) (picks : ℕ → List Ty) → IsKeptSig ds s bs → ArePicks (table_of ds) s picks → (ks : List SigRow) → AreKeptListed ds (all_rows s picks) ks → AreKeptRows ds (with_bounds s bs) ks }
+    ensures rows { (ds : List Decl) → Declared ds → (s : Written) (bs : List Bound) (picks : ℕ → List Ty) → IsKeptSig ds s bs → ArePicks (table_of ds) s picks → (ks : List SigRow) → AreKeptListed ds (all_rows s picks) ks → AreRowsOf (table_of ds) s (with_bounds s bs) ks }
+{}

@@ -1,0 +1,27 @@
+//! Signatures that are allowed, and whether they apply to the types of arguments (Julia manual, Methods: Parametric Methods;
+//! Zappa Nardelli et al., OOPSLA 2018).
+#![tactic(auto)]
+
+mod concrete;
+mod find;
+pub mod laws;
+mod make;
+mod meet;
+mod names;
+mod occurs;
+mod places;
+mod row;
+mod serve;
+mod signature;
+mod values;
+
+pub use jl_sig::{Sig, SigFault};
+pub use make::make_sig;
+pub use names::is_well_named;
+pub use row::row_applies;
+pub use signature::applies;
+
+#[cfg(test)]
+mod row_tests;
+#[cfg(test)]
+mod tests;

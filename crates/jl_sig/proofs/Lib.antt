@@ -1,0 +1,17 @@
+pub mod KindLemmas
+pub mod UsableLemmas
+pub mod GivenLemmas
+pub mod ArgumentLemmas
+pub mod SearchLemmas
+pub mod FormSteps
+pub mod DeclaredBounds
+pub mod ExpansionLemmas
+pub mod LiveLemmas
+pub mod FitLemmas
+pub mod RowLemmas
+pub mod PickLemmas
+pub mod PlacedLemmas
+pub mod WholeLemmas
+pub mod BuildLemmas
+pub mod LimitLemmas
+pub mod SigLemmas

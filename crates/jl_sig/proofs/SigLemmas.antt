@@ -1,0 +1,198 @@
+-- What the code that prepares a signature needs.
+use Rattle.std.proofs.Common.{◌≡◌, ◌∙◌, sym, ap, subst, refl, ℕ, zero, suc, ◌+◌, ◌<◌, ◌≤◌, arith, Bool, true, false, ◌&&◌, IsTrue, ◌↔◌, List, [], ◌∷◌, ◌++◌, map, length, get_or, ◌⊎◌, inl, inr}
+use Rattle.std.specs.List.{flat_map, list_all, Contains}
+use Rattle.std.proofs.lemmas.List.Elements.{Contains-append_left, Contains-append_right}
+use Rattle.jl_model.specs.declared.ty.Ty.{Ty}
+use Rattle.jl_model.specs.declared.ty.Ty.TheViews as V
+use Rattle.jl_model.specs.declared.ty.Ty.TheVariants as W
+use Rattle.jl_model.specs.declared.ty.Bound.{Bound}
+use Rattle.jl_model.specs.declared.ty.Decl.{Decl}
+use Rattle.jl_model.specs.declared.ty.Written.{Written}
+use Rattle.jl_model.specs.Ancestors.{table_of}
+use Rattle.jl_model.specs.Counts.{nodes, total, raw}
+use Rattle.jl_model.specs.Rows.{alts, free, high}
+use Rattle.jl_model.specs.Signature.{Both}
+use Rattle.jl_model.specs.Valid.{is_known, is_closed}
+use Rattle.jl_model.specs.Refusals.{Declared, bound_types, Given, given_in, given_from}
+use Rattle.jl_model.specs.SigRefusals.{types_in, arguments_in, are_placed, is_component, is_argument, ManyNodes, ManyAlternatives, LargeForm, ManyRows, TypeLimit}
+use Rattle.jl_model.specs.AllRows.{Listed}
+use Rattle.jl_model.proofs.TypeInduction.{Each, by_cases}
+use Rattle.jl_model.proofs.FormLemmas.{alts-any}
+use Rattle.jl_model.proofs.CountLemmas.{nodes_all, raw-any}
+use Rattle.jl_model.proofs.PutLemmas.{and_l, and_r, both_true}
+use Rattle.jl_model.proofs.AncestorLemmas.{each_true, true_each}
+use Rattle.jl_model.proofs.DeclaredLemmas.{not_false}
+use Rattle.jl_model.proofs.KnownLemmas.{Known, union_known, tuple_known, nominal_known}
+use Rattle.jl_types.proofs.ExpandLemmas.{nodes-positive}
+use Rattle.jl_types.proofs.PartsLemmas.{closed-any, closed-union, closed-tuple, closed-nominal, closed-var}
+use Rattle.jl_sig.specs.Parts.{HasWide}
+use Rattle.jl_sig.specs.Forms.{IsSmallForm, AreFormed, AreKnown}
+use Rattle.jl_sig.specs.Fit.{IsSmall, IsFit, AllFit}
+use Rattle.jl_sig.specs.Prepared.{HasOwnVariables, IsBuildable, AreAllRows, IsWellPlaced}
+use Rattle.jl_sig.proofs.GivenLemmas.{AllGiven, given-any, given-var, given-union, given-tuple, given-nominal, given_both, given_none, each_given}
+use Rattle.jl_sig.proofs.FitLemmas.{argument-any, argument-var, argument-union, argument-tuple, argument-nominal, component-any, component-union, component-tuple, component-nominal}
+use Rattle.jl_sig.proofs.LimitLemmas.{few_alternatives, within, arguments_within, argument_form, not_too_large, no_large}
+use Rattle.jl_sig.proofs.BuildLemmas.{not_many}
+
+-- a type without variables has none in a wrong place
+each_of : (P Q : Ty → Type 0) (ts : List Ty) → Each (λ t. P t → Q t) ts → Each P ts → Each Q ts
+each_of P Q [] e f = tt
+each_of P Q (t ∷ ts) e f = (e.0 f.0, each_of P Q ts e.1 f.1)
+
+C : Ty → Type 0
+C t = is_closed t ≡ true
+
+argument_of : (t : Ty) → is_closed t ≡ true → is_argument t ≡ true
+argument_of = by_cases (λ t. is_closed t ≡ true → is_argument t ≡ true) (record {
+  any = λ h. argument-any;
+  union = λ ts e h. argument-union ts ∙ sym (closed-union ts) ∙ h;
+  tuple = λ ts e h. argument-tuple ts ∙ sym (closed-tuple ts) ∙ h;
+  nominal = λ k ts e h. argument-nominal k ts ∙ each_true is_argument ts (each_of (λ t. is_closed t ≡ true) (λ t. is_argument t ≡ true) ts e (true_each is_closed ts (sym (closed-nominal k ts) ∙ h)));
+  var = λ v h. argument-var v;
+})
+
+arguments_of : (ts : List Ty) → Each (λ t. is_closed t ≡ true) ts → Each (λ t. is_argument t ≡ true) ts
+arguments_of [] e = tt
+arguments_of (t ∷ ts) e = (argument_of t e.0, arguments_of ts e.1)
+
+component_of : (t : Ty) → is_closed t ≡ true → is_component t ≡ true
+component_of = by_cases (λ t. is_closed t ≡ true → is_component t ≡ true) (record {
+  any = λ h. component-any;
+  union = λ ts e h. component-union ts ∙ each_true is_component ts (each_of (λ t. is_closed t ≡ true) (λ t. is_component t ≡ true) ts e (true_each is_closed ts (sym (closed-union ts) ∙ h)));
+  tuple = λ ts e h. component-tuple ts ∙ each_true is_component ts (each_of (λ t. is_closed t ≡ true) (λ t. is_component t ≡ true) ts e (true_each is_closed ts (sym (closed-tuple ts) ∙ h)));
+  nominal = λ k ts e h. component-nominal k ts ∙ each_true is_argument ts (arguments_of ts (true_each is_closed ts (sym (closed-nominal k ts) ∙ h)));
+  var = λ v h. absurd (let f : false ≡ true = sym (closed-var v) ∙ h in cc);
+})
+
+-- the arguments of known types are known
+known_own : (ds : List Decl) (k j : ℕ) (ts : List Ty) → Each (Known (length ds)) ts → AllGiven (λ a. is_known (length ds) a.ty ≡ true) (given_from k j ts)
+known_own ds k j [] e a c = absurd (omega (arith, c.1))
+known_own ds k j (t ∷ ts) e a (zero, l, q) = subst (λ (z : Given). is_known (length ds) z.ty ≡ true) q e.0
+known_own ds k j (t ∷ ts) e a (suc i, l, q) = known_own ds k (j + 1) ts e.1 a (i, omega arith, q)
+
+abbrev G : List Decl → Given → Type 0
+G ds a = is_known (length ds) a.ty ≡ true
+
+given_known : (ds : List Decl) (t : Ty) → Known (length ds) t → AllGiven (λ a. is_known (length ds) a.ty ≡ true) (given_in t)
+given_known ds =
+    let m = length ds in
+    by_cases (λ t. Known m t → AllGiven (G ds) (given_in t)) (record {
+      any = λ h. subst (AllGiven (G ds)) (sym given-any) (given_none (G ds));
+      union = λ ts e h. subst (AllGiven (G ds)) (sym (given-union ts)) (each_given (G ds) ts (each_of (Known m) (λ t. AllGiven (G ds) (given_in t)) ts e (union_known m ts h)));
+      tuple = λ ts e h. subst (AllGiven (G ds)) (sym (given-tuple ts)) (each_given (G ds) ts (each_of (Known m) (λ t. AllGiven (G ds) (given_in t)) ts e (tuple_known m ts h)));
+      nominal = λ k ts e h.
+          let r = nominal_known m k ts h in
+          subst (AllGiven (G ds)) (sym (given-nominal k ts))
+          (given_both (G ds) (given_from k 0 ts) (flat_map given_in ts) (known_own ds k 0 ts r.1) (each_given (G ds) ts (each_of (Known m) (λ t. AllGiven (G ds) (given_in t)) ts e r.1)));
+      var = λ v h. subst (AllGiven (G ds)) (sym (given-var v)) (given_none (G ds));
+    })
+
+all_given_known : (ds : List Decl) (ts : List Ty) → Each (Known (length ds)) ts → Each (λ t. AllGiven (G ds) (given_in t)) ts
+all_given_known ds [] e = tt
+all_given_known ds (t ∷ ts) e = (given_known ds t e.0, all_given_known ds ts e.1)
+
+listed_known : (ds : List Decl) (gs : List Given) → AllGiven (G ds) gs → AreKnown ds gs
+listed_known ds [] h = refl
+listed_known ds (g ∷ gs) h =
+    both_true (is_known (length ds) g.ty) (list_all (λ (a : Given). is_known (length ds) a.ty) gs) (h g (zero, omega arith, refl)) (listed_known ds gs (λ a c. h a (suc c.0, omega (arith, c.1), c.2)))
+
+pub arguments_known : (ds : List Decl) (ts : List Ty) → list_all (is_known (length ds)) ts ≡ true → AreKnown ds (flat_map given_in ts)
+arguments_known ds ts h = listed_known ds (flat_map given_in ts) (each_given (G ds) ts (all_given_known ds ts (true_each (is_known (length ds)) ts h)))
+
+all_left : (p : Ty → Bool) (ts us : List Ty) → list_all p (ts ++ us) ≡ true → list_all p ts ≡ true
+all_left p [] us h = refl
+all_left p (t ∷ ts) us h = both_true (p t) (list_all p ts) (and_l (p t) (list_all p (ts ++ us)) h) (all_left p ts us (and_r (p t) (list_all p (ts ++ us)) h))
+
+pub bounds_known : (ds : List Decl) (s : Written) → IsWellPlaced ds s → list_all (is_known (length ds)) (bound_types s.vars) ≡ true
+bounds_known ds s w = all_left (is_known (length ds)) (bound_types s.vars) s.parts w.known
+
+-- the upper bound of a variable
+high_at : (bs : List Bound) (v : ℕ) → v < length bs → Contains (bound_types bs) (get_or bs v free).high
+high_at [] v l = absurd (omega arith)
+high_at (b ∷ bs) zero l = (suc zero, omega arith, refl)
+high_at (b ∷ bs) (suc v) l = let c = high_at bs v (omega arith) in (suc (suc c.0), omega (arith, c.1), c.2)
+
+high_past : (bs : List Bound) (v : ℕ) → length bs ≤ v → (get_or bs v free).high ≡ W.Any
+high_past [] zero l = refl
+high_past [] (suc v) l = refl
+high_past (b ∷ bs) zero l = absurd (omega arith)
+high_past (b ∷ bs) (suc v) l = high_past bs v (omega arith)
+
+true_at : (q : Ty → Bool) (ts : List Ty) (x : Ty) → list_all q ts ≡ true → Contains ts x → q x ≡ true
+true_at q [] x g d = absurd (omega (arith, d.1))
+true_at q (y ∷ ys) x g (zero, o, e) = ap q (sym e) ∙ and_l (q y) (list_all q ys) g
+true_at q (y ∷ ys) x g (suc i, o, e) = true_at q ys x (and_r (q y) (list_all q ys) g) (i, omega arith, e)
+
+lt_cases : (v m : ℕ) → (v < m) ⊎ (m ≤ v)
+lt_cases zero zero = inr (omega arith)
+lt_cases zero (suc m) = inl (omega arith)
+lt_cases (suc v) zero = inr (omega arith)
+lt_cases (suc v) (suc m) = elim (lt_cases v m) [ inl a ↦ inl (omega arith) | inr b ↦ inr (omega arith) ]
+
+bounds_nodes : (bs : List Bound) → length bs ≤ nodes_all (bound_types bs)
+bounds_nodes [] = omega arith
+bounds_nodes (b ∷ bs) = let h = bounds_nodes bs in let p = nodes-positive b.low in omega (arith, h, p)
+
+total_append : (ts us : List Ty) → nodes_all ts ≤ nodes_all (ts ++ us)
+total_append [] us = omega arith
+total_append (t ∷ ts) us = let h = total_append ts us in omega (arith, h)
+
+flat_contains : (ts : List Ty) (t : Ty) (a : Given) → Contains ts t → Contains (given_in t) a → Contains (flat_map given_in ts) a
+flat_contains [] t a c d = absurd (omega (arith, c.1))
+flat_contains (x ∷ xs) t a (zero, l, e) d = Contains-append_left (given_in x) (flat_map given_in xs) a (subst (λ z. Contains (given_in z) a) (sym e) d)
+flat_contains (x ∷ xs) t a (suc i, l, e) d = Contains-append_right (given_in x) (flat_map given_in xs) a (flat_contains xs t a (i, omega arith, e) d)
+
+module _ (ds : List Decl) (declared : Declared ds) (s : Written) (w : IsWellPlaced ds s) (m : total (map nodes (types_in s)) ≤ 1024) (wide : HasWide (types_in s) → ⊥)
+    (bounds : List Bound) (hs : List Given) (forms : Both (IsSmallForm ds) (bound_types s.vars) (bound_types bounds)) (formed : AreFormed ds (arguments_in s) hs) where
+  bounds_closed : list_all is_closed (bound_types s.vars) ≡ true
+  bounds_closed = and_l (list_all is_closed (bound_types s.vars)) (list_all is_component s.parts) (not_false (are_placed s) w.placed)
+
+  inside : (t : Ty) → Contains (bound_types s.vars) t → Contains (types_in s) t
+  inside t c = Contains-append_left (bound_types s.vars) s.parts t c
+
+  fit_one : (t : Ty) → Contains (bound_types s.vars) t → IsFit ds t
+  fit_one t c = record {
+    known = true_at (is_known (length ds)) (bound_types s.vars) t (bounds_known ds s w) c;
+    placed = component_of t (true_at is_closed (bound_types s.vars) t bounds_closed c);
+    small = λ a d k l.
+        let g = flat_contains (types_in s) t a (inside t c) d in
+        let f = argument_form ds declared (arguments_in s) hs a formed g k in
+        not_too_large ds declared a.ty f.0 (arguments_within (types_in s) m wide a g) f.1 l;
+  }
+
+  fit_all : (ts : List Ty) → ((t : Ty) → Contains ts t → Contains (bound_types s.vars) t) → AllFit ds ts
+  fit_all [] h = tt
+  fit_all (t ∷ ts) h = (fit_one t (h t (zero, omega arith, refl)), fit_all ts (λ u c. h u (suc c.0, omega (arith, c.1), c.2)))
+
+  pub buildable : IsBuildable ds s bounds
+  buildable = record {
+    own = w.own;
+    closed = λ v. elim (lt_cases v (length s.vars)) [
+      | inl a ↦ true_at is_closed (bound_types s.vars) (high s v) bounds_closed (high_at s.vars v a)
+      | inr b ↦ ap is_closed (high_past s.vars v b) ∙ closed-any
+    ];
+    fit = fit_all (bound_types s.vars) (λ t c. c);
+    forms = forms;
+    few = let a = bounds_nodes s.vars in let b = total_append (bound_types s.vars) s.parts in omega (arith, a, b, m);
+    narrow = λ v. elim (lt_cases v (length s.vars)) [
+      | inl a ↦ few_alternatives (high s v) ((within (types_in s) (high s v) m wide (inside (high s v) (high_at s.vars v a))).alternatives)
+      | inr b ↦ (let e = ap (λ z. length (alts z)) (high_past s.vars v b) ∙ ap (λ z. length z) alts-any in omega (arith, e))
+    ];
+  }
+
+  -- it is small
+  pub no_limit : (rs : List Listed) → AreAllRows (table_of ds) s rs → TypeLimit ds s → ⊥
+  no_limit rs h (inl a) = omega (arith, a, m)
+  no_limit rs h (inr (inl b)) = wide b
+  no_limit rs h (inr (inr (inl c))) = no_large ds declared s (bound_types bounds) hs forms formed c
+  no_limit rs h (inr (inr (inr d))) = not_many (table_of ds) s rs h d
+
+-- the tests of the code
+pub few_nodes : (s : Written) (ts : List Ty) (r : Bool) → ts ≡ types_in s → (IsTrue r ↔ (1024 < total (map nodes ts))) → r ≡ false → total (map nodes (types_in s)) ≤ 1024
+few_nodes s ts r e h f = elim (lt_cases 1024 (total (map nodes (types_in s)))) [
+  | inl a ↦ absurd (let b = ap (λ z. total (map nodes z)) e in let g : r ≡ true = h.1 (omega (arith, a, b)) in let k : true ≡ false = sym g ∙ f in cc)
+  | inr b ↦ b
+]
+
+pub not_wide_here : (s : Written) (ts : List Ty) (r : Bool) → ts ≡ types_in s → (IsTrue r ↔ HasWide ts) → r ≡ false → HasWide (types_in s) → ⊥
+not_wide_here s ts r e h f w = let g : r ≡ true = h.1 (subst HasWide (sym e) w) in let k : true ≡ false = sym g ∙ f in cc

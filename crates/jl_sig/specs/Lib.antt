@@ -1,0 +1,6 @@
+pub mod KindIn
+pub mod Parts
+pub mod Forms
+pub mod Built
+pub mod Fit
+pub mod Prepared
