@@ -3,5 +3,6 @@
 
 pub mod laws;
 pub mod mark;
+pub mod owned;
 pub mod state;
 pub mod tree;

@@ -1,5 +1,6 @@
 //! Where a reading is: what stands before an operand, the forms that are open, and the point between two tokens.
 
+use crate::owned::Owned;
 use crate::tree::{
     Branch, Callee, Eval, Expr, Field, Head, Header, Infix, Item, Method, Name, Param, Piece,
     Prefix, Stmt,
@@ -55,11 +56,11 @@ pub struct PrefixAt {
 /// What stands before an operand in its chain, level by level.
 #[derive(Drop)]
 pub struct Levels {
-    pub or: Option<Form<Expr>>,
-    pub and: Option<Form<Expr>>,
-    pub comparison: Option<Left>,
-    pub sum: Option<Left>,
-    pub term: Option<Left>,
+    pub or: Option<Owned<Form<Expr>>>,
+    pub and: Option<Owned<Form<Expr>>>,
+    pub comparison: Option<Owned<Left>>,
+    pub sum: Option<Owned<Left>>,
+    pub term: Option<Owned<Left>>,
     pub prefixes: Stack<PrefixAt>,
 }
 
@@ -71,9 +72,9 @@ pub enum Outer {
     /// `@eval` before an expression
     Eval(Levels, u32),
     /// `@eval` before a method, up to the `=` of the method
-    Short(Levels, u32, Form<Head>),
+    Short(Levels, u32, Owned<Form<Head>>),
     /// `c ? a :`
-    Otherwise(Form<Expr>, Form<Expr>),
+    Otherwise(Owned<Form<Expr>>, Owned<Form<Expr>>),
 }
 
 /// How a statement begins, before its expression.
@@ -85,7 +86,7 @@ pub enum Lead {
     /// `return`
     Return(u32),
     /// the head of a method, and `=`
-    Short(Form<Head>),
+    Short(Owned<Form<Head>>),
 }
 
 /// All that stands before an operand, up to the innermost form that a token of its own will end.
@@ -172,14 +173,14 @@ pub enum Frame {
     Paren(Pending, u32),
     /// `(` and the parts before the last comma
     Tuple(Pending, u32, Forms<Expr>),
-    Args(Pending, u32, Called, Forms<Expr>),
+    Args(Pending, u32, Owned<Called>, Forms<Expr>),
     Fetch(Pending, u32),
     Print(Pending, u32, bool, Forms<Piece>),
     /// `c ?`
-    Then(Pending, Form<Expr>),
+    Then(Pending, Owned<Form<Expr>>),
     /// `if` or `elseif`, by its place
     Test(Pending, u32, Branched, u32),
-    Block(BlockKind, Forms<Stmt>),
+    Block(Owned<BlockKind>, Forms<Stmt>),
     Evals(EvalKind, Forms<Eval>),
 }
 

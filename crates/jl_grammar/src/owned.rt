@@ -1,0 +1,45 @@
+//! A value in a block of its own, so that what holds it stays small.
+
+ghost use Rattle.std.specs.Prelude.{◌≡◌, IfOk};
+
+use std::alloc::{AllocError, Global};
+use std::marker::Model;
+
+/// A value that contracts see as itself, in a block of its own.
+#[derive(Drop)]
+pub struct Owned<T> {
+    inner: Box<T, Global>,
+}
+
+impl<T> Model for Owned<T> {
+    ghost Value = { T };
+
+    ghost coded = { T.code };
+
+    ghost view = { λ it. it.inner.value };
+}
+
+impl<T> Owned<T> {
+    pub fn get(&self) -> &T
+        ensures { result.now ≡ self.now }
+    {
+        &self.inner
+    }
+
+    /// The value itself; its block is given back.
+    pub fn take(self) -> T
+        ensures { result ≡ self }
+    {
+        let Owned { inner } = self;
+        Box::into_inner(inner)
+    }
+}
+
+impl<T: Drop> Owned<T> {
+    pub fn new(alloc: Global, value: T) -> Result<Owned<T>, AllocError>
+        ensures { IfOk result (λ it. it ≡ value) }
+    {
+        let inner = Box::new(alloc, value)?;
+        Ok(Owned { inner })
+    }
+}

@@ -1,0 +1,4 @@
+pub mod Printed
+pub mod Spelling
+pub mod Placeless
+pub mod PrintsBack

@@ -1,0 +1,13 @@
+//! Scripts printed as texts.
+#![tactic(auto)]
+
+mod print_forms;
+mod print_heads;
+mod print_items;
+mod print_text;
+mod print_types;
+mod printing;
+#[cfg(test)]
+mod tests;
+
+pub use printing::print;

@@ -1,0 +1,98 @@
+//! The tokens that the heads of methods and of declarations are printed by.
+
+ghost use Rattle.std.specs.Prelude.{◌≡◌, ◌++◌, ◌∷◌, [], map, codes, OnOk};
+ghost use Rattle.jl_typeread.specs.declared.sign.Sign.TheVariants as S;
+ghost use Rattle.jl_print.specs.Printed.{joined, in_parens, callee_signs, param_signs, head_signs, header_signs};
+
+use crate::print_types::{
+    put_mark, put_marked_type, put_name, put_parameters, put_type, put_where,
+};
+use jl_grammar::tree::{Callee, Head, Header, Param};
+use jl_model::rows::Row;
+use jl_token::token::Operator;
+use jl_typeread::sign::Sign;
+use std::alloc::{AllocError, Global};
+
+/// A name of these bytes.
+pub(crate) fn put_text(out: &mut Row<Sign>, alloc: Global, name: &[u8]) -> Result<(), AllocError>
+    ensures { OnOk result (out.new ≡ out.old ++ S.Name name.now ∷ []) }
+{
+    let mut bytes = Row::new(alloc);
+    bytes.append(name)?;
+    out.push(Sign::Name(bytes.into_shared(alloc)?))
+}
+
+/// The function that is called, or that a method is added to.
+pub(crate) fn put_callee(
+    out: &mut Row<Sign>,
+    alloc: Global,
+    callee: &Callee,
+) -> Result<(), AllocError>
+    ensures { OnOk result (out.new ≡ out.old ++ callee_signs callee.now) }
+{
+    match callee {
+        Callee::Plain(name) => put_name(out, &name.bytes),
+        Callee::Base(_, name) => {
+            put_text(out, alloc, b"Base")?;
+            put_mark(out, Operator::Dot)?;
+            put_name(out, &name.bytes)
+        }
+        Callee::Operator(_, operator) => {
+            put_text(out, alloc, b"Base")?;
+            put_mark(out, Operator::Dot)?;
+            put_mark(out, Operator::Colon)?;
+            put_mark(out, *operator)
+        }
+    }
+}
+
+/// A parameter of a method.
+fn put_param(out: &mut Row<Sign>, param: &Param) -> Result<(), AllocError>
+    ensures { OnOk result (out.new ≡ out.old ++ param_signs param.now) }
+{
+    match param {
+        Param::Name(name) => put_name(out, &name.bytes),
+        Param::Typed(name, ty) => {
+            put_name(out, &name.bytes)?;
+            put_mark(out, Operator::HasType)?;
+            put_type(out, ty)
+        }
+        Param::Unnamed(_, ty) => {
+            put_mark(out, Operator::HasType)?;
+            put_type(out, ty)
+        }
+    }
+}
+
+/// Parameters with `,` between them.
+fn put_params(out: &mut Row<Sign>, params: &[Param]) -> Result<(), AllocError>
+    ensures { OnOk result (out.new ≡ out.old ++ joined (map param_signs params.now)) }
+{
+    for (i, param) in params.iter().enumerate() {
+        if i > 0 {
+            put_mark(out, Operator::Comma)?;
+        }
+        put_param(out, param)?;
+    }
+    Ok(())
+}
+
+/// The head of a method, with its `where`.
+pub(crate) fn put_head(out: &mut Row<Sign>, alloc: Global, head: &Head) -> Result<(), AllocError>
+    ensures { OnOk result (out.new ≡ out.old ++ head_signs head.now) }
+{
+    put_callee(out, alloc, &head.callee)?;
+    put_mark(out, Operator::OpenParen)?;
+    put_params(out, head.params.as_slice())?;
+    put_mark(out, Operator::CloseParen)?;
+    put_where(out, head.vars.as_slice())
+}
+
+/// The head of a declaration.
+pub(crate) fn put_header(out: &mut Row<Sign>, header: &Header) -> Result<(), AllocError>
+    ensures { OnOk result (out.new ≡ out.old ++ header_signs header.now) }
+{
+    put_name(out, &header.name.bytes)?;
+    put_parameters(out, header.params.as_slice())?;
+    put_marked_type(out, Operator::Subtype, &header.parent)
+}
