@@ -1,0 +1,7 @@
+pub mod StaysTurns
+pub mod StaysMachine
+pub mod Tokens
+pub mod Answered
+pub mod OneAnswer
+pub mod Ended
+pub mod Settled

@@ -1,0 +1,85 @@
+//! The script of a source's tokens.
+
+ghost use Rattle.std.specs.Prelude.{◌≡◌, Option, Some, None, Result, Err};
+ghost use Rattle.jl_typeread.specs.Reads.{EndsAlone};
+ghost use Rattle.jl_grammar.specs.Machine.{step};
+ghost use Rattle.jl_reader.specs.Answers.{Reads, UnlessMemory, IsOnly, WithinLimit, Took, wrong};
+
+use crate::fault::SyntaxFault;
+use crate::step::{start, step, wants_type};
+use jl_grammar::mark::Marked;
+use jl_grammar::state::State;
+use jl_grammar::tree::Script;
+use jl_marks::marks::marked;
+use jl_marks::newlines::bare;
+use jl_token::token::Token;
+use std::alloc::Global;
+
+/// The fault of a wrong token at this place.
+fn wrong(is_type: bool, at: u32) -> SyntaxFault
+    ensures { result ≡ wrong is_type at }
+{
+    if is_type {
+        return SyntaxFault::BadType(at);
+    }
+    SyntaxFault::Syntax(at)
+}
+
+/// The reading behind a token, unless an item that is too deep has ended with it.
+fn within_limit(next: State) -> Result<State, SyntaxFault>
+    ensures { WithinLimit next result }
+{
+    match next.script.too_deep {
+        None => Ok(next),
+        Some(at) => {
+            drop(next);
+            Err(SyntaxFault::TooDeep(at))
+        }
+    }
+}
+
+/// Takes a token, or tells what is wrong with it, or that it ends an item that is too deep.
+fn take(alloc: Global, token: Marked, state: State) -> Result<State, SyntaxFault>
+    ensures { Took token state result }
+{
+    let is_type = wants_type(&state.point);
+    let at = token.lexeme.at;
+    let taken = step(alloc, &token, state);
+    drop(token);
+    match taken? {
+        None => Err(wrong(is_type, at)),
+        Some(next) => within_limit(next),
+    }
+}
+
+/// The script that the tokens of a source are.
+///
+/// # Errors
+///
+/// `Syntax` at the first token that the grammar does not allow, or at the source's end; `BadType` in its place where a type
+/// must stand there. `TooDeep` at the first item of a depth above 500, where the text up to the separator behind it, or
+/// to the source's end, has no wrong token. Besides, `Memory`.
+pub fn read(alloc: Global, tokens: &[Token]) -> Result<Script, SyntaxFault>
+    requires ends { EndsAlone tokens.now }
+    ensures reads { UnlessMemory result (Reads tokens.now) }
+    ensures only { IsOnly result (Reads tokens.now) }
+{
+    let lexemes = bare(alloc, tokens)?;
+    let mut left = marked(alloc, lexemes)?;
+    let mut state = start(alloc);
+    while let Some(token) = left.pop() {
+        match take(alloc, token, state) {
+            Ok(next) => state = next,
+            Err(fault) => return Err(fault),
+        }
+    }
+    let State {
+        point,
+        stack,
+        script,
+    } = state;
+    drop(point);
+    drop(stack);
+    let items = script.items.into_shared(alloc)?;
+    Ok(Script { items })
+}
