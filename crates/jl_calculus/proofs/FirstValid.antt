@@ -1,70 +1,94 @@
 -- The program of the first script is valid.
-use Rattle.std.proofs.Common.{◌≡◌, ◌∙◌, refl, sym, ap, ℕ, pos, ℤ, Bool, true, IsTrue, All, zero, suc, arith, List, [], ◌∷◌, map}
-use Rattle.std.specs.List.{list_all}
-use Rattle.jl_calculus.specs.declared.tree.Site.{Site}
+use Rattle.std.proofs.Common.{◌≡◌, refl, ℕ, ℤ, pos, codes, Bool, true, IsTrue, All, zero, suc, arith, List, [], ◌∷◌}
+use Rattle.jl_model.specs.Refusals.{builtin}
 use Rattle.jl_model.specs.declared.ty.Ty.TheVariants as T
-use Rattle.jl_model.specs.declared.ty.Ty.TheViews.{out-Ty, outs-Any}
 use Rattle.jl_calculus.specs.declared.tree.Expr.{Expr}
 use Rattle.jl_calculus.specs.declared.tree.Piece.{Piece}
+use Rattle.jl_calculus.specs.declared.tree.Site.{Site}
 use Rattle.jl_calculus.specs.declared.tree.Expr.TheOpen as F
 use Rattle.jl_calculus.specs.declared.tree.Expr.TheVariants as E
-use Rattle.jl_calculus.specs.declared.tree.Item.TheVariants as I
-use Rattle.jl_calculus.specs.declared.tree.Piece.TheVariants as Pi
 use Rattle.jl_calculus.specs.declared.tree.Expr.TheViews as X
-use Rattle.jl_calculus.specs.declared.tree.Expr.TheFolds.{fold-Piece, fold-roll-Expr, fold-roll-Item, fold-roll-Piece}
-use Rattle.jl_calculus.specs.Valid.{IsValid, IsValidSite, is_valid_part, is_valid_expr, is_valid_item, are_valid_items, expr_step, item_step, piece_step, stmt_step}
+use Rattle.jl_calculus.specs.declared.tree.Piece.TheVariants as Pi
+use Rattle.jl_calculus.specs.Gathered.{Layer, in_program, own_types, own_struct, written_types, inferred_structs}
+use Rattle.std.specs.List.{list_all}
+use Rattle.jl_calculus.specs.Names.{is_free_name}
+use Rattle.jl_calculus.specs.BodyTypes.{IsAllowedType, IsSmallStruct}
+use Rattle.jl_calculus.specs.Scope.{all_types, in_body, at_top, is_valid_expr, are_valid_items}
+use Rattle.jl_calculus.specs.Valid.{IsValid, IsValidSite}
+use Rattle.jl_calculus.proofs.Computing.{names}
 use Rattle.jl_calculus.proofs.FirstScript.{P, f_site}
+use Rattle.jl_calculus.proofs.PlainSigs.{any, plain_valid}
+use Rattle.jl_calculus.proofs.ValidLayers.{valid-call, valid-local, valid-int, valid-print, valid-show, valid-define, valid-top-do, in-nothing, in-int, in-local, in-call, in-print, in-show, in-define, in-top-do}
 
-abbrev valid : Expr → ℕ → Bool
-valid = is_valid_expr 13 15
+body_valid : IsTrue (is_valid_expr P [] f_site.body (in_body f_site.sig))
+body_valid = rw (valid-call P [] 0 (E.Local 0 ∷ E.Int (pos 1) ∷ []), valid-local P [] 0, valid-int P [] (pos 1)) refl
 
-abbrev valid_piece : Piece → ℕ → Bool
-valid_piece = fold-Piece (ℕ → Bool) (ℕ → Bool) (ℕ → Bool) (ℕ → Bool) (expr_step 13 15) (item_step 13 15) (piece_step 13 15) (stmt_step 13 15)
+abbrev called : Expr
+called = X.Call 12 (E.Int (pos 2) ∷ [])
 
-valid-call : (f : ℕ) (xs : List Expr) → valid (X.Call f xs) ≡ expr_step 13 15 (F.Call f (map valid xs))
-valid-call f xs = ap valid (sym (X.rolls-Call f xs)) ∙ fold-roll-Expr (ℕ → Bool) (ℕ → Bool) (ℕ → Bool) (ℕ → Bool) (expr_step 13 15) (item_step 13 15) (piece_step 13 15) (stmt_step 13 15) (F.Call f xs)
+abbrev shown : List Piece
+shown = Pi.Show called ∷ []
 
-valid-print : (ps : List Piece) (line : Bool) → valid (X.Print ps line) ≡ expr_step 13 15 (F.Print (map valid_piece ps) line)
-valid-print ps line = ap valid (sym (X.rolls-Print ps line)) ∙ fold-roll-Expr (ℕ → Bool) (ℕ → Bool) (ℕ → Bool) (ℕ → Bool) (expr_step 13 15) (item_step 13 15) (piece_step 13 15) (stmt_step 13 15) (F.Print ps line)
-
-valid-int : (n : ℤ) → valid (E.Int n) ≡ (λ slots. true)
-valid-int n = ap valid (sym (X.rolls-Int n)) ∙ fold-roll-Expr (ℕ → Bool) (ℕ → Bool) (ℕ → Bool) (ℕ → Bool) (expr_step 13 15) (item_step 13 15) (piece_step 13 15) (stmt_step 13 15) (F.Int n)
-
-valid-local : (x : ℕ) → valid (E.Local x) ≡ expr_step 13 15 (F.Local x)
-valid-local x = ap valid (sym (X.rolls-Local x)) ∙ fold-roll-Expr (ℕ → Bool) (ℕ → Bool) (ℕ → Bool) (ℕ → Bool) (expr_step 13 15) (item_step 13 15) (piece_step 13 15) (stmt_step 13 15) (F.Local x)
-
-valid-show : (e : Expr) → valid_piece (Pi.Show e) ≡ valid e
-valid-show e = ap valid_piece (sym (X.rolls-Show e)) ∙ fold-roll-Piece (ℕ → Bool) (ℕ → Bool) (ℕ → Bool) (ℕ → Bool) (expr_step 13 15) (item_step 13 15) (piece_step 13 15) (stmt_step 13 15) (F.Show e)
-
-valid-define : (site : ℕ) → is_valid_item 13 15 (I.Define site) ≡ item_step 13 15 (F.Define site)
-valid-define site = ap (is_valid_item 13 15) (sym (X.rolls-Define site)) ∙ fold-roll-Item (ℕ → Bool) (ℕ → Bool) (ℕ → Bool) (ℕ → Bool) (expr_step 13 15) (item_step 13 15) (piece_step 13 15) (stmt_step 13 15) (F.Define site)
-
-valid-do : (e : Expr) → is_valid_item 13 15 (I.Do e) ≡ valid e
-valid-do e = ap (is_valid_item 13 15) (sym (X.rolls-Item::Do e)) ∙ fold-roll-Item (ℕ → Bool) (ℕ → Bool) (ℕ → Bool) (ℕ → Bool) (expr_step 13 15) (item_step 13 15) (piece_step 13 15) (stmt_step 13 15) (F.Item::Do e)
-
-body_valid : IsTrue (valid f_site.body 1)
-body_valid = rw (valid-call 0 (E.Local 0 ∷ E.Int (pos 1) ∷ []), valid-local 0, valid-int (pos 1)) refl
-
-top_valid : IsTrue (are_valid_items 13 15 P.top 0)
+top_valid : IsTrue (are_valid_items P [] P.top at_top)
 top_valid =
-    let call : Expr = X.Call 12 (E.Int (pos 2) ∷ []) in
-    rw (valid-define 14, valid-do (X.Print (Pi.Show call ∷ []) true), valid-print (Pi.Show call ∷ []) true, valid-show call, valid-call 12 (E.Int (pos 2) ∷ []), valid-int (pos 2)) refl
+    rw (valid-define P [] 14, valid-top-do P [] (X.Print shown true), valid-print P [] shown true, valid-show P [] called, valid-call P [] 12 (E.Int (pos 2) ∷ []), valid-int P [] (pos 2)) refl
 
-any_part : IsTrue (list_all (λ t. is_valid_part (out-Ty t)) (T.Any ∷ []))
-any_part = rw outs-Any refl
+-- nothing of a kind stands in it that its forms do not have themselves
+module _ {A : Type 0} (own : Layer A → List A) (nothing : own F.Nothing ≡ []) (int : (n : ℤ) → own (F.Int n) ≡ []) (local : (x : ℕ) → own (F.Local x) ≡ [])
+    (call : (f : ℕ) (xs : List (List A)) → own (F.Call f xs) ≡ []) (print : (ps : List (List A)) (line : Bool) → own (F.Print ps line) ≡ []) where
+  empty : in_program own P ≡ []
+  empty =
+      rw (
+        in-nothing own,
+        nothing,
+        in-call own 0 (E.Local 0 ∷ E.Int (pos 1) ∷ []),
+        in-local own 0,
+        local 0,
+        in-int own (pos 1),
+        int (pos 1),
+        call 0 ([] ∷ [] ∷ []),
+        in-define own 14,
+        in-top-do own (X.Print shown true),
+        in-print own shown true,
+        in-show own called,
+        in-call own 12 (E.Int (pos 2) ∷ []),
+        in-int own (pos 2),
+        int (pos 2),
+        call 12 ([] ∷ []),
+        print ([] ∷ []) true,
+      ) refl
 
-all_one : (site : Site) → IsValidSite 13 15 site → All (IsValidSite 13 15) (site ∷ [])
+no_types : written_types P ≡ []
+no_types = empty own_types refl (λ n. refl) (λ x. refl) (λ f xs. refl) (λ ps line. refl)
+
+no_structs : inferred_structs P ≡ []
+no_structs = empty own_struct refl (λ n. refl) (λ x. refl) (λ f xs. refl) (λ ps line. refl)
+
+all_one : (site : Site) → IsValidSite P [] site → All (IsValidSite P []) (site ∷ [])
 all_one site h zero d p = h
 all_one site h (suc k) d p = absurd (omega (arith, p))
 
+none : {X : Type 0} (Is : X → Type 0) (xs : List X) → xs ≡ [] → All Is xs
+none Is [] e k d l = absurd (omega (arith, l))
+none Is (x ∷ xs) e k d l = cc
+
+new_name_free : IsTrue (list_all is_free_name (codes "f" ∷ []))
+unfolding names
+new_name_free = refl
+
 program_valid : IsValid P
 program_valid = record {
-  decls = tt;
-  spawns = tt;
+  decls = builtin;
+  named = refl;
   prelude_names = refl;
-  names = refl;
+  names = new_name_free;
   distinct = refl;
+  views = [];
+  tasks = refl;
+  once = λ place l. absurd (omega (arith, l));
   prelude = refl;
-  sites = all_one f_site (record { function = omega arith; signature = (refl, omega arith, any_part); body = body_valid });
+  sites = all_one f_site (record { function = omega arith; signature = plain_valid [] (T.Any ∷ []) (any, tt) (omega arith); body = body_valid });
   top = top_valid;
+  written = none (IsAllowedType (all_types P)) (written_types P) no_types;
+  inferred = none (IsSmallStruct (all_types P)) (inferred_structs P) no_structs;
 }

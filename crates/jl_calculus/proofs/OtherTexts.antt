@@ -1,5 +1,5 @@
--- Texts over declared types, and names.
-use Rattle.std.proofs.Common.{◌≡◌, ◌∙◌, refl, sym, ap, ℕ, pos, true, false, codes, List, [], ◌∷◌, ◌++◌, map, Some, None}
+-- Texts over declared types.
+use Rattle.std.proofs.Common.{◌≡◌, ◌∙◌, refl, sym, ap, ℕ, pos, codes, List, [], ◌∷◌, ◌++◌, map, Some, None}
 use Rattle.std.specs.Fmt.{digits}
 use Rattle.jl_model.specs.declared.ty.Ty.{Ty}
 use Rattle.jl_model.specs.declared.ty.Ty.TheVariants as T
@@ -19,7 +19,6 @@ use Rattle.jl_calculus.specs.declared.history.Fault.TheVariants as F
 use Rattle.jl_calculus.specs.Prelude.{prelude_functions, prelude_sites, int64, bool}
 use Rattle.jl_calculus.specs.Meaning.{datum}
 use Rattle.jl_calculus.specs.Text.{fault_text, value_text, datum_step, type_text, type_step, type_name, arguments}
-use Rattle.jl_calculus.specs.Names.{is_free_name}
 
 abbrev box : Decl
 box = record { name = codes "Box"; kind = Struct; params = free ∷ []; parent = T.Any; fields = record { name = codes "x"; ty = T.Var 0 } ∷ [] }
@@ -75,32 +74,6 @@ no_inferred = rw (nominal-text 8 [], int64-text, bool-text) refl
 
 bad_parameter : fault_text P (F.BadParameter (box_of bool)) ≡ codes "TypeError: Box{Bool} breaks a declared bound"
 bad_parameter = rw (nominal-text 8 (bool ∷ []), bool-text) refl
-
--- ---- names
-
-plain_name : is_free_name (codes "f") ≡ true
-plain_name = refl
-
-name_with_digits : is_free_name (codes "ab1_2") ≡ true
-name_with_digits = refl
-
-underscore : is_free_name (codes "_") ≡ true
-underscore = refl
-
-no_empty_name : is_free_name [] ≡ false
-no_empty_name = refl
-
-no_digit_first : is_free_name (codes "1x") ≡ false
-no_digit_first = refl
-
-no_reserved : is_free_name (codes "end") ≡ false
-no_reserved = refl
-
-no_builtin : is_free_name (codes "println") ≡ false
-no_builtin = refl
-
-no_operator : is_free_name (codes "+") ≡ false
-no_operator = refl
 
 -- ---- ancestors of the built-in types
 

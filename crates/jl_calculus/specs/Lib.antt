@@ -12,5 +12,8 @@ pub mod Run
 pub mod Legal
 pub mod Point
 pub mod Names
+pub mod BodyTypes
+pub mod Scope
+pub mod Gathered
 pub mod Valid
 pub mod Simple

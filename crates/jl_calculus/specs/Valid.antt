@@ -1,100 +1,54 @@
--- When a program is valid: its numbers are in range, its names are names, and its signatures are signatures.
-use Rattle.std.specs.Prelude.{ℕ, ◌+◌, ◌≡◌, ◌<◌, ◌≤◌, Bool, true, false, ◌&&◌, not, nat_lt, nat_le, IsTrue, All, List, [], ◌∷◌, ◌++◌, length, take, drop}
-use Rattle.std.specs.List.{list_all}
-use Rattle.jl_model.specs.declared.ty.Ty.{Ty, out-Ty}
-use Rattle.jl_model.specs.declared.ty.Ty.TheOpen.{Ty-F, Any, Nominal}
-use Rattle.jl_model.specs.declared.ty.Bound.{Bound}
+-- When a program is valid: what its numbers, slots and places stand for is there, its names are names, its declarations and
+-- signatures are allowed, and so are the types written in its bodies.
+use Rattle.std.specs.Prelude.{ℕ, ◌≡◌, ◌<◌, Bool, ◌&&◌, nat_lt, IsTrue, All, List, length, take, drop}
+use Rattle.std.specs.List.{flat_map, list_all}
 use Rattle.jl_model.specs.declared.ty.Decl.{Decl}
 use Rattle.jl_model.specs.declared.ty.Written.{Written}
-use Rattle.jl_calculus.specs.declared.tree.Expr.{Expr}
-use Rattle.jl_calculus.specs.declared.tree.Item.{Item, out-Item}
-use Rattle.jl_calculus.specs.declared.tree.Piece.{Piece}
-use Rattle.jl_calculus.specs.declared.tree.Stmt.{Stmt}
-use Rattle.jl_calculus.specs.declared.tree.Expr.TheOpen.{Expr-F, Stmt-F, Item-F, Piece-F}
-use Rattle.jl_calculus.specs.declared.tree.Expr.TheOpen as F
-use Rattle.jl_calculus.specs.declared.tree.Expr.TheFolds.{fold-Expr, fold-Item}
+use Rattle.jl_model.specs.Refusals.{Declared}
+use Rattle.jl_model.specs.Rows.{vars_in}
+use Rattle.jl_model.specs.SigRefusals.{types_in, IsAllowedSig}
+use Rattle.jl_model.specs.Valid.{is_known}
 use Rattle.jl_calculus.specs.declared.tree.Site.{Site}
 use Rattle.jl_calculus.specs.declared.tree.Program.{Program}
-use Rattle.jl_calculus.specs.Names.{same_text, is_among, is_free_name}
-use Rattle.jl_calculus.specs.Prelude.{prelude_functions, prelude_sites, prelude_count}
+use Rattle.jl_calculus.specs.BodyTypes.{IsAllowedType, IsSmallStruct}
+use Rattle.jl_calculus.specs.Gathered.{spawned_places, written_types, inferred_structs, times}
+use Rattle.jl_calculus.specs.Names.{are_distinct, is_free_name, is_field_name}
+use Rattle.jl_calculus.specs.Prelude.{prelude_functions, prelude_sites}
+use Rattle.jl_calculus.specs.Scope.{View, at_top, in_body, all_types, is_valid_expr, are_valid_items, are_valid_tasks}
 
--- no two names are the same
-abbrev pub are_distinct : List (List ℕ) → Bool
-are_distinct [] = true
-are_distinct (name ∷ names) = not (is_among name names) && are_distinct names
+-- a declared type and its fields have names that may be given
+abbrev pub is_named : Decl → Bool
+is_named d = is_free_name d.name && list_all (λ f. is_field_name f.name) d.fields
 
--- a part of a signature: `Any`, or a built-in nominal type
-abbrev pub is_valid_part : Ty-F Ty → Bool
-is_valid_part Any = true
-is_valid_part (Nominal n []) = nat_lt n 8
-is_valid_part _ = false
+-- a signature has no variables but its own, names types of the program, and is allowed
+pub record IsValidSig (ds : List Decl) (s : Written) : Type 0 where
+  pub own : IsTrue (list_all (λ v. nat_lt v (length s.vars)) (flat_map vars_in s.parts))
+  pub known : IsTrue (list_all (is_known (length ds)) (types_in s))
+  pub allowed : IsAllowedSig ds s
 
--- a signature without variables, of at most 8 parts
-abbrev pub IsValidSignature : Written → Type 0
-IsValidSignature sig = (sig.vars ≡ []) × (length sig.parts ≤ 8) × IsTrue (list_all (λ t. is_valid_part (out-Ty t)) sig.parts)
-
--- Whether a part of the tree is valid, for so many functions and sites, where so many slots are visible.
-module _ (functions sites : ℕ) where
-  abbrev pub expr_step : Expr-F (ℕ → Bool) (ℕ → Bool) (ℕ → Bool) (ℕ → Bool) → ℕ → Bool
-  expr_step (F.Int n) slots = true
-  expr_step (F.Bool b) slots = true
-  expr_step F.Nothing slots = true
-  expr_step (F.Local x) slots = nat_lt x slots
-  expr_step (F.Call f xs) slots = nat_lt f functions && (nat_le (length xs) 8 && list_all (λ x. x slots) xs)
-  expr_step (F.Print ps line) slots = list_all (λ p. p slots) ps
-  expr_step _ slots = false
-
-  abbrev pub item_step : Item-F (ℕ → Bool) (ℕ → Bool) (ℕ → Bool) (ℕ → Bool) → ℕ → Bool
-  item_step (F.Define site) slots = nat_le prelude_count site && nat_lt site sites
-  item_step (F.Item::Do x) slots = x slots
-  item_step _ slots = false
-
-  abbrev pub piece_step : Piece-F (ℕ → Bool) (ℕ → Bool) (ℕ → Bool) (ℕ → Bool) → ℕ → Bool
-  piece_step (F.Show x) slots = x slots
-  piece_step _ slots = false
-
-  abbrev pub stmt_step : Stmt-F (ℕ → Bool) (ℕ → Bool) (ℕ → Bool) (ℕ → Bool) → ℕ → Bool
-  stmt_step _ slots = false
-
-  -- an expression, where so many slots are visible
-  abbrev pub is_valid_expr : Expr → ℕ → Bool
-  is_valid_expr = fold-Expr (ℕ → Bool) (ℕ → Bool) (ℕ → Bool) (ℕ → Bool) expr_step item_step piece_step stmt_step
-
-  -- a top-level statement, where so many slots are visible
-  abbrev pub is_valid_item : Item → ℕ → Bool
-  is_valid_item = fold-Item (ℕ → Bool) (ℕ → Bool) (ℕ → Bool) (ℕ → Bool) expr_step item_step piece_step stmt_step
-
-  -- how many slots are visible after a top-level statement
-  abbrev pub slots_after : Item-F Expr Item Piece Stmt → ℕ → ℕ
-  slots_after _ slots = slots
-
-  -- top-level statements one after another, each where the slots of those before it are visible
-  abbrev pub are_valid_items : List Item → ℕ → Bool
-  are_valid_items [] slots = true
-  are_valid_items (i ∷ is) slots = is_valid_item i slots && are_valid_items is (slots_after (out-Item i) slots)
-
--- a site of a script: its function is there, its signature is one, and its body sees its parameters
-pub record IsValidSite (functions sites : ℕ) (site : Site) : Type 0 where
-  pub function : site.function < functions
-  pub signature : IsValidSignature site.sig
-  pub body : IsTrue (is_valid_expr functions sites site.body (length site.sig.parts))
-
--- the declarations are valid: here there are none
-abbrev pub AreValidDecls : List Decl → Type 0
-AreValidDecls [] = Unit {0}
-AreValidDecls (d ∷ ds) = ⊥
-
--- the expressions of the spawn places are valid: here there are none
-abbrev pub AreValidSpawns : List Expr → Type 0
-AreValidSpawns [] = Unit {0}
-AreValidSpawns (e ∷ es) = ⊥
+-- a site of a script: its function is there, its signature is valid, and so is its body where its parameters are visible
+pub record IsValidSite (P : Program) (views : List View) (site : Site) : Type 0 where
+  pub function : site.function < length P.functions
+  pub signature : IsValidSig (all_types P) site.sig
+  pub body : IsTrue (is_valid_expr P views site.body (in_body site.sig))
 
 pub record IsValid (P : Program) : Type 0 where
-  pub decls : AreValidDecls P.decls
-  pub spawns : AreValidSpawns P.spawns
+  -- the declarations, each as it is kept, and their names
+  pub decls : Declared (all_types P)
+  pub named : IsTrue (list_all is_named P.decls)
+  -- the functions: the prelude's, and then those of the script
   pub prelude_names : take (length prelude_functions) P.functions ≡ prelude_functions
   pub names : IsTrue (list_all is_free_name (drop (length prelude_functions) P.functions))
   pub distinct : IsTrue (are_distinct P.functions)
+  -- what is visible at each spawn place; each is the place of one `Spawn`
+  pub views : List View
+  pub tasks : IsTrue (are_valid_tasks P views 0 views P.spawns)
+  pub once : (place : ℕ) → place < length P.spawns → times place (spawned_places P) ≡ 1
+  -- the sites: the prelude's, and then those of the script
   pub prelude : take (length prelude_sites) P.sites ≡ prelude_sites
-  pub sites : All (IsValidSite (length P.functions) (length P.sites)) (drop (length prelude_sites) P.sites)
-  pub top : IsTrue (are_valid_items (length P.functions) (length P.sites) P.top 0)
+  pub sites : All (IsValidSite P views) (drop (length prelude_sites) P.sites)
+  -- the statements at the top
+  pub top : IsTrue (are_valid_items P views P.top at_top)
+  -- the types written in bodies, and the structs whose parameters are inferred
+  pub written : All (IsAllowedType (all_types P)) (written_types P)
+  pub inferred : All (IsSmallStruct (all_types P)) (inferred_structs P)

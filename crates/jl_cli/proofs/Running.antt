@@ -1,5 +1,5 @@
 -- What a call did, from what its parts answer.
-use Rattle.std.proofs.Common.{◌≡◌, ℕ, ◌<◌, ◌≤◌, List, [], ◌∷◌, take, length, refl, sym, ap, ◌∙◌, subst, Option, None, Some, arith, true, false, codes, Result, Ok, Err}
+use Rattle.std.proofs.Common.{◌≡◌, ℕ, ◌<◌, ◌≤◌, List, [], ◌∷◌, take, length, refl, sym, ap, ◌∙◌, subst, Option, None, Some, arith, true, false, codes, Ok, Err, MatchOption}
 use Rattle.std.specs.Borrow.{Bor}
 use Rattle.std.proofs.lemmas.Slice.Eq.{bytes_eq-Decides}
 use Rattle.jl_calculus.specs.declared.history.History.{History}
@@ -16,8 +16,13 @@ use Rattle.jl_token.specs.declared.token.Token.{Token}
 use Rattle.jl_token.specs.declared.token.TokenFault.{TokenFault}
 use Rattle.jl_token.specs.declared.token.TokenFault.TheVariants as T
 use Rattle.jl_token.specs.Grammar.{ReadsSource, UnlessMemory}
-use Rattle.jl_cli.specs.Place.{token_line}
-use Rattle.jl_cli.specs.Due.{texts, is_run_words, run_words, default_fuel, usage_line, not_yet_read_line, IsDue, usage, no_tokens, ran, whole, not_read, not_written, no_memory, no_memory_written, HasRun}
+use Rattle.jl_grammar.specs.declared.tree.Script.{Script as AnyScript}
+use Rattle.jl_reader.specs.declared.fault.SyntaxFault.{SyntaxFault}
+use Rattle.jl_reader.specs.declared.fault.SyntaxFault.TheVariants as S
+use Rattle.jl_reader.specs.Answers.{Reads}
+use Rattle.jl_reader.specs.Answers as A
+use Rattle.jl_cli.specs.Place.{token_line, syntax_line}
+use Rattle.jl_cli.specs.Due.{texts, is_run_words, run_words, default_fuel, usage_line, not_yet_read_line, AreScript, IsDue, usage, no_tokens, no_script, not_yet_read, ran, whole, not_read, not_written, no_memory, no_memory_written, HasRun}
 use Rattle.jl_cli.specs.Delivered.{IsDelivered, all, failed, no_memory as no_memory_left}
 
 fails : false ≡ true → ⊥
@@ -76,18 +81,33 @@ no_tokens_due bytes (T.OpenString at) reads told = no_tokens bytes (T.OpenString
 no_tokens_due bytes (T.OpenComment at) reads told = no_tokens bytes (T.OpenComment at) reads
 no_tokens_due bytes T.Memory reads told = absurd (told refl)
 
--- the tokens of a source that has some
-pub tokens_read : (r : Result (List Token) TokenFault) (bytes : List ℕ) → ((f : TokenFault) → r ≡ Err f → ⊥) → UnlessMemory r (ReadsSource bytes) → (ts : List Token) × ReadsSource bytes (Ok ts)
-tokens_read (Ok ts) bytes none reads = (ts, reads)
-tokens_read (Err f) bytes none reads = absurd (none f refl)
+-- what is due with this line
+pub due_with : (bytes line text : List ℕ) → text ≡ line → IsDue run_words bytes 3 None line → IsDue run_words bytes 3 None text
+due_with bytes line text e due = subst (λ (t : List ℕ). IsDue run_words bytes 3 None t) (sym e) due
+
+-- what is due where the tokens of a source are no script
+pub no_script_due : (bytes : List ℕ) (ts : List Token) (f : SyntaxFault) → ReadsSource bytes (Ok ts) → A.UnlessMemory {A = AnyScript} (Err f) (Reads ts) → (f ≡ S.Memory → ⊥) → IsDue run_words bytes 3 None (syntax_line bytes f)
+no_script_due bytes ts (S.Syntax at) tokens reads told = no_script bytes ts (S.Syntax at) tokens reads
+no_script_due bytes ts (S.BadType at) tokens reads told = no_script bytes ts (S.BadType at) tokens reads
+no_script_due bytes ts (S.TooDeep at) tokens reads told = no_script bytes ts (S.TooDeep at) tokens reads
+no_script_due bytes ts S.Memory tokens reads told = absurd (told refl)
+
+-- what is due for a script of the language that is none of the form
+pub not_read_due : (bytes : List ℕ) → AreScript bytes → ((s : Script) → IsForm s → spelled s ≡ bytes → ⊥) → IsDue run_words bytes 3 None not_yet_read_line
+not_read_due bytes are none = not_yet_read bytes are.0 are.1 are.2 are.3 none
+
+-- a source without a fault is a script of the language
+pub are_script : (o : Option (List ℕ)) (bytes : List ℕ) → ((line : List ℕ) → o ≡ Some line → ⊥) → MatchOption o (AreScript bytes) (λ line. IsDue run_words bytes 3 None line) → AreScript bytes
+are_script None bytes none are = are
+are_script (Some line) bytes none are = absurd (none line refl)
 
 -- an answer with the history of a script
-pub ran_so : (bytes text : List ℕ) (ts : List Token) (status : ℕ) (s : Script) (P : Program) (h : History) → ReadsSource bytes (Ok ts) → IsForm s → spelled s ≡ bytes → P ≡ program_of s
+pub ran_so : (bytes text : List ℕ) (status : ℕ) (s : Script) (P : Program) (h : History) → AreScript bytes → IsForm s → spelled s ≡ bytes → P ≡ program_of s
     → IsLegal P h.events → fuel_of h.events ≡ Some default_fuel → status ≡ status_of h.events → text ≡ text_of P h.events → IsDue run_words bytes status (Some h) text
-ran_so bytes text ts status s P h reads form is eP legal begun st tx =
+ran_so bytes text status s P h are form is eP legal begun st tx =
     subst (λ (n : ℕ). IsDue run_words bytes n (Some h) text) (sym st)
     (subst (λ (t : List ℕ). IsDue run_words bytes (status_of h.events) (Some h) t) (sym (tx ∙ ap (λ (Q : Program). text_of Q h.events) eP))
-    (ran bytes ts s h reads form is (subst (λ (Q : Program). IsLegal Q h.events) eP legal) begun))
+    (ran bytes are.0 are.1 s h are.2 are.3 form is (subst (λ (Q : Program). IsLegal Q h.events) eP legal) begun))
 
 -- the lines as the code writes them
 pub not_yet_read_is : codes "ERROR: NotYetRead\n" ≡ not_yet_read_line

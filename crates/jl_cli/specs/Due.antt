@@ -3,6 +3,9 @@ use Rattle.std.specs.Prelude.{ℕ, ◌≡◌, ◌<◌, ◌≤◌, codes, List, [
 use Rattle.std.specs.Borrow.{Bor}
 use Rattle.jl_calculus.specs.declared.history.History.{History}
 use Rattle.jl_calculus.specs.Legal.{IsLegal, fuel_of, text_of, status_of}
+use Rattle.jl_grammar.specs.declared.tree.Script.{Script as AnyScript}
+use Rattle.jl_reader.specs.declared.fault.SyntaxFault.{SyntaxFault}
+use Rattle.jl_reader.specs.Answers.{Reads}
 use Rattle.jl_form.specs.declared.tree.Script.{Script}
 use Rattle.jl_form.specs.Form.{IsForm}
 use Rattle.jl_form.specs.Grammar.{spelled}
@@ -11,7 +14,7 @@ use Rattle.jl_io.specs.Moved.{Gives, Takes, NothingLeft}
 use Rattle.jl_token.specs.declared.token.Token.{Token}
 use Rattle.jl_token.specs.declared.token.TokenFault.{TokenFault}
 use Rattle.jl_token.specs.Grammar.{ReadsSource}
-use Rattle.jl_cli.specs.Place.{token_line}
+use Rattle.jl_cli.specs.Place.{token_line, syntax_line}
 
 -- the texts of the words
 abbrev pub texts : List (Bor (List ℕ)) → List (List ℕ)
@@ -37,16 +40,22 @@ usage_line = codes "usage: jl run|trace [--threads N] [--fuel N] | jl check|repl
 unfoldable pub not_yet_read_line : List ℕ
 not_yet_read_line = codes "ERROR: NotYetRead\n"
 
+-- the bytes are a script of the language
+abbrev pub AreScript : List ℕ → Type 0
+AreScript bytes = (ts : List Token) × (x : AnyScript) × ReadsSource bytes (Ok ts) × Reads ts (Ok x)
+
 -- The status, the history and the text that are due for these words and these bytes.
 pub data IsDue : List (List ℕ) → List ℕ → ℕ → Option History → List ℕ → Type 0 where
   -- words that are no command: nothing is read
   usage : (words : List (List ℕ)) → (words ≡ run_words → ⊥) → IsDue words [] 2 None usage_line
   -- a source that has no tokens: it is past the limit, or its fault stands at a place of it
   no_tokens : (bytes : List ℕ) (f : TokenFault) → ReadsSource bytes (Err f) → IsDue run_words bytes 3 None (token_line bytes f)
-  -- a source with tokens that no script of the form spells
-  not_yet_read : (bytes : List ℕ) (ts : List Token) → ReadsSource bytes (Ok ts) → ((s : Script) → IsForm s → spelled s ≡ bytes → ⊥) → IsDue run_words bytes 3 None not_yet_read_line
-  -- a script: the text of a legal history of its program, and the status by the root's outcome
-  ran : (bytes : List ℕ) (ts : List Token) (s : Script) (h : History) → ReadsSource bytes (Ok ts) → IsForm s → spelled s ≡ bytes → IsLegal (program_of s) h.events → fuel_of h.events ≡ Some default_fuel
+  -- a source with tokens that are no script of the language: the fault stands at a place of the source
+  no_script : (bytes : List ℕ) (ts : List Token) (f : SyntaxFault) → ReadsSource bytes (Ok ts) → Reads ts (Err f) → IsDue run_words bytes 3 None (syntax_line bytes f)
+  -- a script of the language that is none of the form
+  not_yet_read : (bytes : List ℕ) (ts : List Token) (x : AnyScript) → ReadsSource bytes (Ok ts) → Reads ts (Ok x) → ((s : Script) → IsForm s → spelled s ≡ bytes → ⊥) → IsDue run_words bytes 3 None not_yet_read_line
+  -- a script of the form: the text of a legal history of its program, and the status by the root's outcome
+  ran : (bytes : List ℕ) (ts : List Token) (x : AnyScript) (s : Script) (h : History) → ReadsSource bytes (Ok ts) → Reads ts (Ok x) → IsForm s → spelled s ≡ bytes → IsLegal (program_of s) h.events → fuel_of h.events ≡ Some default_fuel
       → IsDue run_words bytes (status_of h.events) (Some h) (text_of (program_of s) h.events)
 
 -- Words, the bytes that were read, the bytes that were written, and that the count of faults of the source and of the

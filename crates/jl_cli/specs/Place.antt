@@ -2,6 +2,8 @@
 use Rattle.std.specs.Prelude.{ℕ, ◌+◌, ◌&&◌, ◌==◌, nat_le, nat_lt, if◌then◌else◌, codes, decimal, List, [], ◌∷◌, ◌++◌, take}
 use Rattle.jl_token.specs.declared.token.TokenFault.{TokenFault}
 use Rattle.jl_token.specs.declared.token.TokenFault.TheVariants as T
+use Rattle.jl_reader.specs.declared.fault.SyntaxFault.{SyntaxFault}
+use Rattle.jl_reader.specs.declared.fault.SyntaxFault.TheVariants as S
 
 -- one where the byte is a newline
 abbrev pub newline : ℕ → ℕ
@@ -47,3 +49,10 @@ token_line bytes (T.NumberTooLarge at) = fault_line bytes at (codes "NumberTooLa
 token_line bytes (T.OpenString at) = fault_line bytes at (codes "OpenString")
 token_line bytes (T.OpenComment at) = fault_line bytes at (codes "OpenComment")
 token_line bytes T.Memory = []
+
+-- the line that tells why the tokens of a source are no script
+abbrev pub syntax_line : List ℕ → SyntaxFault → List ℕ
+syntax_line bytes (S.Syntax at) = fault_line bytes at (codes "Syntax")
+syntax_line bytes (S.BadType at) = fault_line bytes at (codes "BadType")
+syntax_line bytes (S.TooDeep at) = fault_line bytes at (codes "TooDeep")
+syntax_line bytes S.Memory = []

@@ -1,16 +1,19 @@
 //! What is due for a script's bytes.
 
-ghost use Rattle.std.specs.Prelude.{◌≡◌, IfOk};
+ghost use Rattle.std.specs.Prelude.{◌≡◌, None, IfOk, MatchOption};
 ghost use Rattle.jl_token.specs.declared.token.TokenFault.TheVariants.{Memory};
-ghost use Rattle.jl_cli.specs.Due.{IsDue, run_words, not_yet_read_line};
-ghost use Rattle.jl_cli.specs.Place.{token_line};
+ghost use Rattle.jl_reader.specs.declared.fault.SyntaxFault.TheVariants.{Memory as NoMemory};
+ghost use Rattle.jl_cli.specs.Due.{IsDue, AreScript, run_words, not_yet_read_line};
+ghost use Rattle.jl_cli.specs.Place.{token_line, syntax_line};
 
 use crate::place::fault_line;
 use jl_calculus::history::History;
 use jl_form::program::program;
-use jl_form::script::read;
+use jl_form::script::read as read_form;
 use jl_model::shared::SharedList;
 use jl_model::ty::Bytes;
+use jl_reader::fault::SyntaxFault;
+use jl_reader::read;
 use jl_solo::{run_alone, status, text};
 use jl_token::token::TokenFault;
 use jl_token::tokens;
@@ -63,14 +66,41 @@ fn token_line(alloc: Global, bytes: &[u8], fault: TokenFault) -> Result<Bytes, A
     }
 }
 
+/// The line that tells why the tokens of a source are no script.
+fn syntax_line(alloc: Global, bytes: &[u8], fault: SyntaxFault) -> Result<Bytes, AllocError>
+    ensures line { IfOk result (λ line. line ≡ syntax_line bytes.now fault) }
+    ensures told { IfOk result (λ _. fault ≡ NoMemory → ⊥) }
+{
+    match fault {
+        SyntaxFault::Syntax(at) => fault_line(alloc, bytes, at, b"Syntax"),
+        SyntaxFault::BadType(at) => fault_line(alloc, bytes, at, b"BadType"),
+        SyntaxFault::TooDeep(at) => fault_line(alloc, bytes, at, b"TooDeep"),
+        SyntaxFault::Memory => Err(AllocError),
+    }
+}
+
+/// The line of the first fault of a source, or none where it is a script of the language.
+fn fault(alloc: Global, bytes: &[u8]) -> Result<Option<Bytes>, AllocError>
+    ensures { IfOk result (λ o. MatchOption o (AreScript bytes.now) (λ line. IsDue run_words bytes.now 3 None line)) }
+{
+    let tokens = match tokens(alloc, bytes) {
+        Ok(tokens) => tokens,
+        Err(fault) => return Ok(Some(token_line(alloc, bytes, fault)?)),
+    };
+    match read(alloc, tokens.as_slice()) {
+        Ok(_) => Ok(None),
+        Err(fault) => Ok(Some(syntax_line(alloc, bytes, fault)?)),
+    }
+}
+
 /// What is due for these bytes, of which there may be one past the limit.
 pub(crate) fn answer(alloc: Global, bytes: &[u8]) -> Result<Due, AllocError>
     ensures { IfOk result (λ due. IsDue run_words bytes.now due.status due.history due.text) }
 {
-    if let Err(fault) = tokens(alloc, bytes) {
-        return Ok(refused(token_line(alloc, bytes, fault)?));
+    if let Some(line) = fault(alloc, bytes)? {
+        return Ok(refused(line));
     }
-    match read(alloc, bytes)? {
+    match read_form(alloc, bytes)? {
         None => Ok(refused(line(alloc, b"ERROR: NotYetRead\n")?)),
         Some(script) => {
             let program = program(alloc, &script)?;

@@ -109,6 +109,73 @@ fn faults_of_tokens_are_told_with_their_places(rt: HostRuntime) -> Result<(), Fa
     Ok(())
 }
 
+static NO_SCRIPTS: [(&str, &str); 6] = [
+    ("f(x) =", "ERROR: line 1, column 7: Syntax\n"),
+    // The newline belongs to the fault's line.
+    ("f(x) = x\n)", "ERROR: line 2, column 1: Syntax\n"),
+    (
+        "f(x) = x\nf(\u{e9}\u{e9} y)",
+        "ERROR: line 2, column 6: Syntax\n",
+    ),
+    ("f(x::3) = 1", "ERROR: line 1, column 6: BadType\n"),
+    ("x isa", "ERROR: line 1, column 6: BadType\n"),
+    // A fault comes before what is not read yet.
+    ("struct S end\nx = = 1", "ERROR: line 2, column 5: Syntax\n"),
+];
+
+#[test]
+fn faults_of_scripts_are_told_with_their_places(rt: HostRuntime) -> Result<(), Fail> {
+    for (script, line) in &NO_SCRIPTS {
+        expect(&rt, rt.alloc(), script.as_bytes(), 3, line.as_bytes())?;
+    }
+    Ok(())
+}
+
+static OTHER_SCRIPTS: [&str; 4] = [
+    "x = 1",
+    "f(x)=x",
+    "struct S end",
+    "f(x) = x\n\nfunction g(x::T) where T\n  return f(x)\nend\nprintln(g(1))\n",
+];
+
+#[test]
+fn scripts_of_the_language_alone_are_not_yet_read(rt: HostRuntime) -> Result<(), Fail> {
+    for script in &OTHER_SCRIPTS {
+        expect(
+            &rt,
+            rt.alloc(),
+            script.as_bytes(),
+            3,
+            b"ERROR: NotYetRead\n",
+        )?;
+    }
+    Ok(())
+}
+
+/// A line, and behind two blanks a number within so many parentheses.
+fn nested(alloc: Global, depth: u64) -> Result<Vec<u8>, AllocError> {
+    let mut script = Vec::from_slice(alloc, b"f(x) = x\n  ")?;
+    for _ in 0..depth {
+        script.push(b'(')?;
+    }
+    script.push(b'1')?;
+    for _ in 0..depth {
+        script.push(b')')?;
+    }
+    Ok(script)
+}
+
+#[test]
+fn a_deep_item_is_told_at_its_first_token(rt: HostRuntime) -> Result<(), Fail> {
+    let alloc = rt.alloc();
+    let script = nested(alloc, 499)?;
+    expect(&rt, alloc, script.as_slice(), 3, b"ERROR: NotYetRead\n")?;
+    let script = nested(alloc, 500)?;
+    let line = b"ERROR: line 2, column 3: TooDeep\n";
+    expect(&rt, alloc, script.as_slice(), 3, line)?;
+    Ok(())
+}
+
 #[test]
 fn other_words_get_the_usage_line(rt: HostRuntime) -> Result<(), Fail> {
     let usage =

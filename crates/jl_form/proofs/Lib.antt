@@ -9,5 +9,6 @@ pub mod NumberLemmas
 pub mod CodeLemmas
 pub mod ProgramLemmas
 pub mod MeaningLemmas
+pub mod Quiet
 pub mod Validity
 pub mod ValidParts

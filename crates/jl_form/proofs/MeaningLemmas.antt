@@ -1,17 +1,16 @@
 -- The equations of the code of an expression, and of the tests on it.
-use Rattle.std.proofs.Common.{◌≡◌, ◌∙◌, sym, ap, refl, ℕ, ℤ, pos, Bool, true, ◌&&◌, nat_lt, nat_le, List, [], ◌∷◌, map, length}
+use Rattle.std.proofs.Common.{◌≡◌, ◌∙◌, sym, ap, refl, ℕ, ℤ, pos, Bool, true, ◌&&◌, nat_lt, nat_le, List, [], ◌∷◌, map}
 use Rattle.std.specs.List.{list_all}
 use Rattle.jl_calculus.specs.declared.tree.Expr.{Expr as Code}
 use Rattle.jl_calculus.specs.declared.tree.Expr.TheOpen as F
 use Rattle.jl_calculus.specs.declared.tree.Expr.TheVariants as C
 use Rattle.jl_calculus.specs.declared.tree.Expr.TheViews as D
-use Rattle.jl_calculus.specs.declared.tree.Expr.TheFolds.{fold-Piece, fold-roll-Expr, fold-roll-Item, fold-roll-Piece}
+use Rattle.jl_calculus.specs.declared.tree.Expr.TheFolds.{fold-roll-Expr, fold-roll-Item, fold-roll-Piece}
 use Rattle.jl_calculus.specs.declared.tree.Item.{out-Item, roll-Item, roll-out-Item}
 use Rattle.jl_calculus.specs.declared.tree.Piece.{Piece, out-Piece, roll-Piece, roll-out-Piece}
 use denote.Hole.Carrier
 use Rattle.jl_calculus.specs.declared.tree.Item.TheVariants as I
 use Rattle.jl_calculus.specs.declared.tree.Piece.TheVariants as P
-use Rattle.jl_calculus.specs.Valid.{is_valid_expr, is_valid_item, expr_step, item_step, piece_step, stmt_step}
 use Rattle.jl_calculus.specs.Simple.{is_simple, is_simple_item, is_simple_piece, simple_expr_step, simple_item_step, simple_piece_step, simple_stmt_step}
 use Rattle.jl_form.specs.declared.tree.Expr.{Expr}
 use Rattle.jl_form.specs.declared.tree.Expr.TheOpen as G
@@ -54,9 +53,6 @@ module _ (params methods : List (List ℕ)) (bound : ℕ) where
   known-sum a b = ap (is_known params methods bound) (sym (rolls-Sum a b)) ∙ folds Bool (known_step params methods bound) (G.Sum a b)
 
 -- items and pieces as layers
-abbrev is_valid_piece : ℕ → ℕ → Piece → ℕ → Bool
-is_valid_piece functions sites = fold-Piece (ℕ → Bool) (ℕ → Bool) (ℕ → Bool) (ℕ → Bool) (expr_step functions sites) (item_step functions sites) (piece_step functions sites) (stmt_step functions sites)
-
 out-show : (c : Code) → out-Piece (P.Show c) ≡ F.Show c
 unfolding out-Piece Carrier.out
 out-show c = refl
@@ -77,39 +73,6 @@ out-do c = refl
 
 do_rolls : (c : Code) → roll-Item (F.Item::Do c) ≡ I.Do c
 do_rolls c = ap roll-Item (sym (out-do c)) ∙ roll-out-Item (I.Do c)
-
-module _ (functions sites slots : ℕ) where
-  abbrev B : Type 0
-  B = ℕ → Bool
-
-  pub valid-int : (n : ℤ) → is_valid_expr functions sites (C.Int n) slots ≡ true
-  valid-int n = ap (λ z. is_valid_expr functions sites z slots) (sym (D.rolls-Int n))
-      ∙ ap (λ g. g slots) (fold-roll-Expr B B B B (expr_step functions sites) (item_step functions sites) (piece_step functions sites) (stmt_step functions sites) (F.Int n))
-
-  pub valid-local : (n : ℕ) → is_valid_expr functions sites (C.Local n) slots ≡ nat_lt n slots
-  valid-local n = ap (λ z. is_valid_expr functions sites z slots) (sym (D.rolls-Local n))
-      ∙ ap (λ g. g slots) (fold-roll-Expr B B B B (expr_step functions sites) (item_step functions sites) (piece_step functions sites) (stmt_step functions sites) (F.Local n))
-
-  pub valid-call : (f : ℕ) (cs : List Code) → is_valid_expr functions sites (D.Call f cs) slots
-      ≡ (nat_lt f functions && (nat_le (length (map (is_valid_expr functions sites) cs)) 8 && list_all (λ x. x slots) (map (is_valid_expr functions sites) cs)))
-  valid-call f cs = ap (λ z. is_valid_expr functions sites z slots) (sym (D.rolls-Call f cs))
-      ∙ ap (λ g. g slots) (fold-roll-Expr B B B B (expr_step functions sites) (item_step functions sites) (piece_step functions sites) (stmt_step functions sites) (F.Call f cs))
-
-  pub valid-print : (ps : List Piece) (line : Bool) → is_valid_expr functions sites (D.Print ps line) slots ≡ list_all (λ p. p slots) (map (is_valid_piece functions sites) ps)
-  valid-print ps line = ap (λ z. is_valid_expr functions sites z slots) (sym (D.rolls-Print ps line))
-      ∙ ap (λ g. g slots) (fold-roll-Expr B B B B (expr_step functions sites) (item_step functions sites) (piece_step functions sites) (stmt_step functions sites) (F.Print ps line))
-
-  pub valid-show : (c : Code) → is_valid_piece functions sites (P.Show c) slots ≡ is_valid_expr functions sites c slots
-  valid-show c = ap (λ z. is_valid_piece functions sites z slots) (sym (show_rolls c))
-      ∙ ap (λ g. g slots) (fold-roll-Piece B B B B (expr_step functions sites) (item_step functions sites) (piece_step functions sites) (stmt_step functions sites) (F.Show c))
-
-  pub valid-define : (n : ℕ) → is_valid_item functions sites (I.Define n) slots ≡ (nat_le 14 n && nat_lt n sites)
-  valid-define n = ap (λ z. is_valid_item functions sites z slots) (sym (define_rolls n))
-      ∙ ap (λ g. g slots) (fold-roll-Item B B B B (expr_step functions sites) (item_step functions sites) (piece_step functions sites) (stmt_step functions sites) (F.Define n))
-
-  pub valid-do : (c : Code) → is_valid_item functions sites (I.Do c) slots ≡ is_valid_expr functions sites c slots
-  valid-do c = ap (λ z. is_valid_item functions sites z slots) (sym (do_rolls c))
-      ∙ ap (λ g. g slots) (fold-roll-Item B B B B (expr_step functions sites) (item_step functions sites) (piece_step functions sites) (stmt_step functions sites) (F.Item::Do c))
 
 module _ (sites : ℕ) where
   pub simple-int : (n : ℤ) → is_simple sites (C.Int n) ≡ true

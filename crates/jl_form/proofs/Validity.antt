@@ -1,12 +1,12 @@
 -- The program of a script of the form is valid, and has only the simple forms.
-use Rattle.std.proofs.Common.{◌≡◌, ◌∙◌, sym, ap, subst, refl, ℕ, ◌+◌, ◌<◌, Bool, true, false, cond, not, ◌||◌, nat_eq, List, [], ◌∷◌, ◌++◌, length, append_assoc, append-nil, arith}
+use Rattle.std.proofs.Common.{◌≡◌, ◌∙◌, sym, ap, subst, refl, ℕ, ◌+◌, ◌<◌, Bool, true, false, cond, not, ◌||◌, List, [], ◌∷◌, ◌++◌, length, append_assoc, append-nil, arith}
 use Rattle.std.specs.List.{list_all}
 use Rattle.std.proofs.lemmas.Slice.Eq.{bytes_eq-Decides}
-use Rattle.jl_calculus.specs.Names.{same_text, is_among, is_free_name, is_identifier, is_name_start, is_name_part, is_lower, is_upper, is_digit}
-use Rattle.jl_calculus.specs.Valid.{are_distinct}
+use Rattle.jl_calculus.specs.Names.{same_text, is_among, is_free_name, is_identifier, is_lower, are_distinct}
+use Rattle.jl_calculus.proofs.AsciiNames.{ascii_identifier}
 use Rattle.jl_form.specs.declared.tree.Line.{Line}
 use Rattle.jl_form.specs.declared.tree.Line.TheVariants as L
-use Rattle.jl_form.specs.Words.{is_word_byte, is_lower_word, is_name}
+use Rattle.jl_form.specs.Words.{is_lower_word, is_name}
 use Rattle.jl_form.specs.Form.{is_written, is_method, is_line, place, method_names}
 use Rattle.jl_form.specs.Program.{with_names}
 use Rattle.jl_form.proofs.TextLemmas.{same_text-is}
@@ -121,20 +121,9 @@ with_distinct known [] d = d
 with_distinct known (n ∷ ns) d = with_distinct (added known n) ns (distinct_more known n (is_among n known) refl d)
 
 -- a name of the form is one that a script may give
-word_part : (b : ℕ) → is_word_byte b ≡ true → is_name_part b ≡ true
-word_part b e =
-    or_cases _ (is_lower b) (is_upper b || is_digit b) e (λ p. or_left (is_name_start b) (is_digit b) (or_left (is_lower b) _ p))
-    (λ q. or_cases _ (is_upper b) (is_digit b) q
-    (λ p. or_left (is_name_start b) (is_digit b) (or_right (is_lower b) (is_upper b || nat_eq b 95) (or_left (is_upper b) (nat_eq b 95) p)))
-    (λ p. or_right (is_name_start b) (is_digit b) p))
-
-word_parts : (w : List ℕ) → list_all is_word_byte w ≡ true → list_all is_name_part w ≡ true
-word_parts [] e = refl
-word_parts (b ∷ w) e = and_true _ _ (word_part b (left_true _ _ e)) (word_parts w (right_true (is_word_byte b) _ e))
-
 identifier : (w : List ℕ) → is_lower_word w ≡ true → is_identifier w ≡ true
-identifier [] e = e
-identifier (b ∷ w) e = and_true _ _ (or_left (is_lower b) _ (left_true _ _ e)) (word_parts w (right_true (is_lower b) _ e))
+identifier [] e = cc
+identifier (b ∷ w) e = ascii_identifier b w (left_true _ _ e) (right_true (is_lower b) _ e)
 
 free_name : (w : List ℕ) → is_name w ≡ true → is_free_name w ≡ true
 free_name w e = and_true _ _ (identifier w (left_true _ _ e)) (right_true (is_lower_word w) _ e)

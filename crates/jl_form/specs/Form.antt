@@ -10,8 +10,7 @@ use Rattle.jl_form.specs.declared.tree.Method.{Method}
 use Rattle.jl_form.specs.declared.tree.Line.{Line}
 use Rattle.jl_form.specs.declared.tree.Line.TheVariants as L
 use Rattle.jl_form.specs.declared.tree.Script.{Script}
-use Rattle.jl_calculus.specs.Names.{same_text, is_among}
-use Rattle.jl_calculus.specs.Valid.{are_distinct}
+use Rattle.jl_calculus.specs.Names.{same_text, is_among, are_distinct}
 use Rattle.jl_form.specs.Words.{is_name, is_number}
 use Rattle.jl_form.specs.Grammar.{line_text}
 

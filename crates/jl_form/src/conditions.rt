@@ -2,8 +2,7 @@
 
 ghost use Rattle.std.specs.Prelude.{◌≡◌, ◌≤◌, IfOk, List, ℕ, map};
 ghost use Rattle.std.specs.List.{list_all};
-ghost use Rattle.jl_calculus.specs.Names.{is_among};
-ghost use Rattle.jl_calculus.specs.Valid.{are_distinct};
+ghost use Rattle.jl_calculus.specs.Names.{is_among, are_distinct};
 ghost use Rattle.jl_form.specs.Form.{place, is_callable, is_known, param_names, method_names, is_sound};
 ghost use Rattle.jl_form.specs.Reading.{are_sound};
 

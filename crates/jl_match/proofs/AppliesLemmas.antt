@@ -1,18 +1,16 @@
 -- From rows to the signature.
-use Rattle.std.proofs.Common.{◌≡◌, ◌∙◌, sym, ap, subst, refl, ℕ, zero, suc, ◌+◌, ◌<◌, arith, add-one, false, List, [], ◌∷◌, length, get_or, drop, Option, None, Some, inl, inr}
-use Rattle.std.specs.Option.{is_some}
+use Rattle.std.proofs.Common.{◌≡◌, ◌∙◌, sym, subst, ℕ, zero, suc, ◌+◌, ◌<◌, arith, add-one, Bool, true, false, List, [], ◌∷◌, length, get_or, drop, inl, inr}
 use Rattle.jl_model.specs.declared.ty.Ty.{Ty}
 use Rattle.jl_model.specs.declared.ty.Decl.{Decl}
 use Rattle.jl_model.specs.declared.ty.Written.{Written}
 use Rattle.jl_model.specs.Ancestors.{table_of}
 use Rattle.jl_model.specs.Rows.{width, vars_in}
-use Rattle.jl_model.specs.Subtype.{Table, opaque}
-use Rattle.jl_match.specs.Found.{found}
+use Rattle.jl_model.specs.Subtype.{Table}
 use Rattle.jl_model.specs.Signature.{Row, IsRow, Applicable}
 use Rattle.jl_model.specs.Refusals.{Declared}
 use Rattle.jl_model.proofs.DeclaredLemmas.{declared_lawful}
 use Rattle.jl_match.specs.KeptRow.{Fits, IsKeptRow, StandsFor}
-use Rattle.jl_match.specs.SigRows.{kept_row, AreKeptRows, AllStand, SomeStands, AreRowsOf, FoundForSome}
+use Rattle.jl_match.specs.SigRows.{kept_row, AreKeptRows, AllStand, SomeStands, AreRowsOf}
 use Rattle.jl_sig.specs.declared.row.SigRow.{SigRow}
 use Rattle.jl_match.proofs.StandLemmas.{there, back}
 
@@ -57,11 +55,5 @@ module _ (ds : List Decl) (declared : Declared ds) (s t : Written) (ks : List Si
   pub not_applicable : NoneFits n t ts ks → Applicable n s ts → ⊥
   not_applicable y a = none_stands a.0 a.1 (record { serves = a.3; below = a.5 }) ks (rows.all a.0 a.2) y
 
-pub none_of : {A : Type 0} (o : Option A) → false ≡ is_some o → o ≡ None
-none_of None e = refl
-none_of (Some a) e = cc
-
-pub found_some : (n : Table) (t : Written) (ts : List Ty) (f : ℕ → Ty) (ks : List SigRow) (i : ℕ) (k : SigRow) → i < length ks → k ≡ get_or ks i k → f ≡ found n opaque t (kept_row k) ts → FoundForSome n t ks ts f
-found_some n t ts f [] i k l e h = absurd (omega arith)
-found_some n t ts f (x ∷ ks) zero k l e h = inl (h ∙ ap (λ (z : SigRow). found n opaque t (kept_row z) ts) e)
-found_some n t ts f (x ∷ ks) (suc i) k l e h = inr (found_some n t ts f ks i k (omega arith) e h)
+pub both_ways : {b : Bool} → b ≡ true → b ≡ false → ⊥
+both_ways h e = let f : true ≡ false = sym h ∙ e in cc

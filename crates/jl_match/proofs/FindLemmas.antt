@@ -11,7 +11,7 @@ use Rattle.jl_model.specs.Rows.{vars_in}
 use Rattle.jl_model.specs.Subtype.{Table, Fixed}
 use Rattle.jl_model.proofs.TypeInduction.{Each, by_cases}
 use Rattle.jl_model.proofs.FormLemmas.{seconds, flat_seconds, flat_of, vars-nominal, vars-var}
-use Rattle.jl_match.specs.Found.{find_arg, find_arg_step, find_inner, find_inner_step, find_outer, find_outer_step, first, parts_of, arguments_of, ancestor, raised, outer, outer_step, inner, inner_step}
+use Rattle.jl_model.specs.Found.{find_arg, find_arg_step, find_inner, find_inner_step, find_outer, find_outer_step, first, parts_of, arguments_of, ancestor, raised, outer, outer_step, inner, inner_step}
 
 firsts_by : {A B : Type 0} (f : Ty → A) (g : Ty → B) (ts : List Ty) → map (λ e. g e.0) (map (λ t. let p : Ty × A = (t, f t) in p) ts) ≡ map g ts
 firsts_by f g [] = refl

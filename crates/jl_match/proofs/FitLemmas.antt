@@ -20,7 +20,7 @@ use Rattle.jl_model.proofs.PutLemmas.{put-closed}
 use Rattle.jl_model.proofs.HeightLemmas.{PartBy, by_any, by_tuple, by_nominal, by_self, equals_of}
 use Rattle.jl_model.proofs.BelowLemmas.{below_any, below_part, part_below, equals_both}
 use Rattle.jl_model.proofs.DeclaredLemmas.{declared_lawful}
-use Rattle.jl_match.specs.Found.{outer, inner}
+use Rattle.jl_model.specs.Found.{outer, inner}
 use Rattle.jl_match.specs.KeptRow.{EachVar, IsArgument, AreArguments, closed, variable, applied, arguments_end, arguments_more, IsPart, AreParts, any as part_any, variable as part_variable, tuple as part_tuple, nominal as part_nominal, parts_end, parts_more}
 use Rattle.jl_match.proofs.ListLemmas.{split}
 use Rattle.jl_match.proofs.FindLemmas as L
@@ -82,7 +82,7 @@ module _ (ds : List Decl) (declared : Declared ds) (s : Written) (f : ℕ → Ty
   put_both xs ys both_end = both_end
   put_both xs ys (both_more x y vs ws b q) = both_more x (put F y) vs (map (put F) ws) b (put_both vs ws q)
 
-  both_put : (xs ys : List Ty) → Both (Below n opaque) xs (map (put F) ys) → Both (λ t u. Below n opaque t (put F u)) xs ys
+  pub both_put : (xs ys : List Ty) → Both (Below n opaque) xs (map (put F) ys) → Both (λ t u. Below n opaque t (put F u)) xs ys
   both_put [] [] b = both_end
   both_put (x ∷ xs) [] b = elim b [ ]
   both_put [] (y ∷ ys) b = elim b [ ]

@@ -11,17 +11,17 @@ use Rattle.jl_model.specs.declared.ty.Written.{Written}
 use Rattle.jl_model.specs.Ancestors.{table_of}
 use Rattle.jl_model.specs.Kinds.{Kind, unused, once, diagonal, bound}
 use Rattle.jl_model.specs.Rows.{width, low, kind, root, vars_in, Occurs}
-use Rattle.jl_model.specs.Subtype.{Table, Fixed, opaque, put, lifted, Below, Equals, Equal, equals_more, is_concrete}
+use Rattle.jl_model.specs.Subtype.{Table, Fixed, opaque, put, lifted, Below, Equal, is_concrete}
 use Rattle.jl_model.specs.Signature.{Row, top, Serves, Meets, Meet, any, tuple, nominal, same, atom, raise_tuple, raise_nominal, meet_end, meet_more, is_diagonal}
-use Rattle.jl_model.specs.Normal.{IsNormal, AllNormal, more}
+use Rattle.jl_model.specs.Normal.{AllNormal}
 use Rattle.jl_model.specs.Refusals.{Declared}
 use Rattle.jl_model.proofs.TypeInduction.{Each}
-use Rattle.jl_model.proofs.FormLemmas.{is_any, is_tuple, is_nominal, is_var, put-nominal, put-var, vars-nominal, vars-var}
-use Rattle.jl_match.specs.Found.{first, raised, parts_of, arguments_of, or_none, ancestor, find_arg, find_inner, find_outer, outer, inner, or_type, found}
-use Rattle.jl_match.specs.KeptRow.{EachVar, IsArgument, AreArguments, closed, variable, applied, arguments_end, arguments_more, IsPart, AreParts}
+use Rattle.jl_model.proofs.FormLemmas.{is_any, is_tuple, is_nominal, is_var}
+use Rattle.jl_model.specs.Found.{first, raised, parts_of, or_none, ancestor, find_arg, find_inner, find_outer, outer, inner, or_type, found}
+use Rattle.jl_match.specs.KeptRow.{EachVar, IsPart, AreParts}
 use Rattle.jl_match.proofs.ListLemmas.{In, Good, good_both, good_same, bare_good, at_var, sought, split, each_of}
 use Rattle.jl_match.proofs.FindLemmas as L
-use Rattle.jl_match.proofs.EqualLemmas.{nominal_form}
+use Rattle.jl_match.proofs.OpenFound.{opens_of, args_good}
 use Rattle.jl_match.proofs.MeetLemmas.{parts_in, arguments_in, head_part, tail_parts, too_all}
 
 -- what holds of the parts of a left row
@@ -48,12 +48,6 @@ pub record Laws (n : Table) (g : Fixed) : Type 0 where
   pub trans : (t u v : Ty) → Below n g t u → Below n g u v → Below n g t v
   pub self : (t : Ty) → Below n opaque t t
 
-normal_head : (n : Table) (x : Ty) (xs : List Ty) → AllNormal n (x ∷ xs) → IsNormal n x
-normal_head n x xs (more t ts p q) = p
-
-normal_tail : (n : Table) (x : Ty) (xs : List Ty) → AllNormal n (x ∷ xs) → AllNormal n xs
-normal_tail n x xs (more t ts p q) = q
-
 -- what is found equals what was put
 module _ (ds : List Decl) (declared : Declared ds) (g : Fixed) (s : Written) (f : ℕ → Ty) (v : ℕ) (p : Ty → Type 0) (forms : LeftForms (table_of ds) g p) where
   abbrev n : Table
@@ -61,34 +55,6 @@ module _ (ds : List Decl) (declared : Declared ds) (g : Fixed) (s : Written) (f 
 
   abbrev Same : Ty → Type 0
   Same y = Equal n y (f v)
-
-  mutual
-    arg_good : (u : Ty) → IsArgument n u → (x : Ty) → IsNormal n x → Equal n x (put f u) → Good Same v (find_arg v u x) (vars_in u)
-    arg_good u (closed t e h) x o z = nothing_in u e x
-      where
-        nothing_in : (u : Ty) → vars_in u ≡ [] → (x : Ty) → Good Same v (find_arg v u x) (vars_in u)
-        nothing_in u e x = bare_good Same v (find_arg v u x) (vars_in u) (L.arg-none v u x e) e
-    arg_good u (variable t w j) x o z =
-        let m = is_var u w j in
-        let z2 : Equal n x (f w) = let i = ap (put f) m ∙ put-var f w in rw i at z in
-        let Q : ℕ → Type 0 = λ y. Equal n x (f y) in
-        good_same Same v (find_arg v u x) (cond (nat_eq v w) (Some x) None) (vars_in u) (w ∷ []) (ap (λ y. find_arg v y x) m ∙ L.arg-var v x w) (ap vars_in m ∙ vars-var w)
-        (at_var Same v w x (nat_eq v w) refl (λ e. subst Q (sym e) z2))
-    arg_good u (applied t m us j k) x o z =
-        let i = is_nominal u m us j in
-        let r = nominal_form ds declared x m (map (put f) us) o (let e = ap (put f) i ∙ put-nominal f m us in rw e at z) in
-        let a : arguments_of (out-Ty x) ≡ r.0 = ap (λ y. arguments_of (out-Ty y)) r.1 ∙ ap arguments_of (outs-Nominal m r.0) in
-        good_same Same v (find_arg v u x) (first (map (find_arg v) us) r.0) (vars_in u) (flat_map vars_in us)
-        (ap (λ y. find_arg v y x) i ∙ L.arg-nominal v x m us ∙ ap (first (map (find_arg v) us)) a) (ap vars_in i ∙ vars-nominal m us)
-        (args_good us k r.0 r.3 r.2)
-
-    args_good : (us : List Ty) → AreArguments n us → (xs : List Ty) → AllNormal n xs → Equals n xs (map (put f) us)
-        → Good Same v (first (map (find_arg v) us) xs) (flat_map vars_in us)
-    args_good us arguments_end xs o z = tt
-    args_good us (arguments_more u vs j k) [] o z = elim z [ ]
-    args_good us (arguments_more u vs j k) (x ∷ xs) o (equals_more a b as_ bs c d z) =
-        good_both Same v (find_arg v u x) (first (map (find_arg v) vs) xs) (vars_in u) (flat_map vars_in vs)
-        (arg_good u j x (normal_head n x xs o) (c, d)) (args_good vs k xs (normal_tail n x xs o) z)
 
   -- the form of a type that is no variable is not raised
   steady : (x : Ty-F Ty) → ((w : ℕ) → x ≡ Var w → ⊥) → raised g x ≡ x
@@ -119,7 +85,7 @@ module _ (ds : List Decl) (declared : Declared ds) (g : Fixed) (s : Written) (f 
         (ap (λ z. find_inner n g v z t) m ∙ L.inner-find-nominal n g v t mm ys ∙ ap (λ z. first (map (find_arg v) ys) (ancestor n mm (raised g z))) i
         ∙ ap (λ z. first (map (find_arg v) ys) (or_none z)) e)
         (ap inner m ∙ L.inner-nominal mm ys)
-        (args_good ys (arguments_in n u mm ys j k) zs (forms.argument kk mm xs zs (subst p (is_nominal t kk xs i) o) e) z)
+        (args_good ds declared f v ys (opens_of n ys (arguments_in n u mm ys j k)) zs (forms.argument kk mm xs zs (subst p (is_nominal t kk xs i) o) e) z)
     inner_good t u k o (same t2 u2 w j d e) =
         let m = is_var u w j in
         bare_good Same v (find_inner n g v u t) (inner u) (ap (λ z. find_inner n g v z t) m ∙ L.inner-find-var n g v t w) (ap inner m ∙ L.inner-var w)

@@ -26,9 +26,9 @@ use Rattle.jl_types.specs.Form.{Settles, AllSettle, any, var, union, tuple, nomi
 use Rattle.jl_types.proofs.SettleLemmas.{settles_equal}
 use Rattle.jl_types.proofs.ExistLemmas.{exists}
 use Rattle.jl_types.proofs.PartsLemmas.{closed_parts}
-use Rattle.jl_match.specs.Found.{inner, outer}
+use Rattle.jl_model.specs.Found.{inner, outer}
 use Rattle.jl_match.specs.KeptRow.{EachVar, IsArgument, AreArguments, closed, variable, applied, arguments_end, arguments_more, IsPart, AreParts, any as part_any, variable as part_var, tuple as part_tuple, nominal as part_nominal, parts_end, parts_more, IsOpen, AreOpen, closed as open_closed, variable as open_var, applied as open_nominal, open_end, open_more, IsPlain, IsKeptRow, row_of, with_bounds, AreKept, StandsFor}
-use Rattle.jl_match.proofs.ListLemmas.{In, in_of, in_either}
+use Rattle.jl_match.proofs.ListLemmas.{In, in_of, in_either, in_each}
 use Rattle.jl_match.proofs.FindLemmas as L
 use Rattle.jl_match.proofs.EqualLemmas.{nominals, turned}
 use Rattle.jl_match.proofs.KindLemmas.{Inner, comps, own_only}
@@ -126,11 +126,6 @@ module _ (ds : List Decl) (declared : Declared ds) where
       let y = z.1 in
       (arguments_more b bs r.argument z.0, cc, more b bs f.normal z.2)
 
-  each_in : (P : ℕ → Type 0) (ns : List ℕ) → EachVar P ns → (v : ℕ) → In v ns → P v
-  each_in P [] e v i = absurd i
-  each_in P (k ∷ ks) e v (inl i) = subst P (sym i) e.0
-  each_in P (k ∷ ks) e v (inr i) = each_in P ks e.1 v i
-
   module _ (s : Written) where
     only_place : (w v : ℕ) → Place s v → In w (v ∷ []) → Place s w
     only_place w v p (inl e) = subst (Place s) (sym e) p
@@ -180,7 +175,7 @@ module _ (ds : List Decl) (declared : Declared ds) where
           normal = normal_nominal u k us f h.2;
           single = ap no_union f;
           vars = ap vars_in i ∙ vars-nominal k us ∙ h.1 ∙ sym (ap vars_in (is_nominal t j ts o) ∙ vars-nominal j ts);
-          inner = λ v x. each_in (Inner s) (flat_map vars_in ts) q v (subst (In v) h.1 (subst (In v) (ap inner i ∙ L.inner-nominal k us) x));
+          inner = λ v x. in_each (Inner s) (flat_map vars_in ts) q v (subst (In v) h.1 (subst (In v) (ap inner i ∙ L.inner-nominal k us) x));
           outer = λ v x. absurd (subst (In v) (ap outer i ∙ L.outer-nominal k us) x);
         }
 

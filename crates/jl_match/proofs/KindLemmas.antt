@@ -17,19 +17,19 @@ use Rattle.jl_match.specs.KeptRow.{EachVar, AreOpen, IsComponent, AreComponents,
 use Rattle.jl_match.proofs.ListLemmas.{In, in_left, in_right, in_either, each_of}
 
 -- equations
-places-union : (v : ℕ) (ts : List Ty) → places v (V.Union ts) ≡ plus_all (map (places v) ts)
+pub places-union : (v : ℕ) (ts : List Ty) → places v (V.Union ts) ≡ plus_all (map (places v) ts)
 places-union v ts = ap (places v) (sym (rolls-Union ts)) ∙ fold-roll-Ty Places (places_step v) (Union ts)
 
-places-tuple : (v : ℕ) (ts : List Ty) → places v (V.Tuple ts) ≡ plus_all (map (places v) ts)
+pub places-tuple : (v : ℕ) (ts : List Ty) → places v (V.Tuple ts) ≡ plus_all (map (places v) ts)
 places-tuple v ts = ap (places v) (sym (rolls-Tuple ts)) ∙ fold-roll-Ty Places (places_step v) (Tuple ts)
 
-places-nominal : (v k : ℕ) (ts : List Ty) → places v (V.Nominal k ts) ≡ below_nominal (plus_all (map (places v) ts))
+pub places-nominal : (v k : ℕ) (ts : List Ty) → places v (V.Nominal k ts) ≡ below_nominal (plus_all (map (places v) ts))
 places-nominal v k ts = ap (places v) (sym (rolls-Nominal k ts)) ∙ fold-roll-Ty Places (places_step v) (Nominal k ts)
 
 pub places-var : (v w : ℕ) → places v (W.Var w) ≡ cond (nat_eq v w) (record { covariant = 1; invariant = 0 }) (record { covariant = 0; invariant = 0 })
 places-var v w = ap (places v) (sym (rolls-Var w)) ∙ fold-roll-Ty Places (places_step v) (Var w)
 
-abbrev size : Places → ℕ
+abbrev pub size : Places → ℕ
 size p = p.covariant + p.invariant
 
 -- a variable that stands in a type has a place there
@@ -134,10 +134,10 @@ module _ (s : Written) where
   comps own placed = comps_of s.parts placed (record { low = low_in (flat_map vars_in s.parts) own; inner = λ v l. bound_kind (plus_all (map (places v) s.parts)) l })
 
   -- a variable past the own ones has no place
-  abbrev Lacking : ℕ → Ty → Type 0
+  abbrev pub Lacking : ℕ → Ty → Type 0
   Lacking v t = (In v (vars_in t) → ⊥) → size (places v t) ≡ 0
 
-  lack_all : (v : ℕ) (ts : List Ty) → Each (Lacking v) ts → (In v (flat_map vars_in ts) → ⊥) → size (plus_all (map (places v) ts)) ≡ 0
+  pub lack_all : (v : ℕ) (ts : List Ty) → Each (Lacking v) ts → (In v (flat_map vars_in ts) → ⊥) → size (plus_all (map (places v) ts)) ≡ 0
   lack_all v [] e h = refl
   lack_all v (t ∷ ts) e h =
       omega (arith, e.0 (λ i. h (in_left v (vars_in t) (flat_map vars_in ts) i)), lack_all v ts e.1 (λ i. h (in_right v (vars_in t) (flat_map vars_in ts) i)))
@@ -151,7 +151,7 @@ module _ (s : Written) where
       differs true e = absurd (h (inl (eqb-true v w e)))
       differs false e = refl
 
-  lacking : (v : ℕ) (t : Ty) → Lacking v t
+  pub lacking : (v : ℕ) (t : Ty) → Lacking v t
   lacking v = by_cases (Lacking v) (record {
     any = λ h. ap size (ap (places v) (sym rolls-Any) ∙ fold-roll-Ty Places (places_step v) Any);
     union = λ ts e h. ap size (places-union v ts) ∙ lack_all v ts e (λ i. h (subst (In v) (sym (vars-union ts)) i));
@@ -160,7 +160,7 @@ module _ (s : Written) where
     var = λ w h. other_var v w (λ i. h (subst (In v) (sym (vars-var w)) i));
   })
 
-  each_lacking : (v : ℕ) (ts : List Ty) → Each (Lacking v) ts
+  pub each_lacking : (v : ℕ) (ts : List Ty) → Each (Lacking v) ts
   each_lacking v [] = tt
   each_lacking v (t ∷ ts) = (lacking v t, each_lacking v ts)
 

@@ -25,7 +25,15 @@ pub mod KindLemmas
 pub mod RowForms
 pub mod KeepLemmas
 pub mod AppliesLemmas
-pub mod SampleLemmas
 pub mod ComponentLemmas
 pub mod ListedLemmas
 pub mod RowsLemmas
+pub mod BindingRows
+pub mod SigLemmas
+pub mod BindingLemmas
+pub mod ArgumentTypes
+pub mod OpenFound
+pub mod WrittenLemmas
+pub mod UsableLemmas
+pub mod BindingLaws
+pub mod OnceLemmas

@@ -1,8 +1,8 @@
 -- Members of lists of numbers, and what holds of each.
-use Rattle.std.proofs.Common.{◌≡◌, ◌∙◌, sym, ap, subst, refl, ℕ, zero, suc, ◌<◌, Bool, true, false, cond, nat_eq, eqb-true, arith, List, [], ◌∷◌, ◌++◌, map, length, Option, None, Some, slice_index_or, ◌⊎◌, inl, inr}
-use Rattle.std.specs.List.{Contains}
+use Rattle.std.proofs.Common.{◌≡◌, ◌∙◌, sym, ap, subst, refl, ℕ, zero, suc, ◌<◌, Bool, true, false, ◌||◌, cond, nat_eq, eqb-true, arith, List, [], ◌∷◌, ◌++◌, map, length, Option, None, Some, slice_index_or, ◌⊎◌, inl, inr}
+use Rattle.std.specs.List.{Contains, list_any}
 use Rattle.jl_model.specs.declared.ty.Ty.{Ty}
-use Rattle.jl_match.specs.Found.{or_else, or_type}
+use Rattle.jl_model.specs.Found.{or_else, or_type}
 use Rattle.jl_match.specs.KeptRow.{EachVar}
 
 abbrev pub In : ℕ → List ℕ → Type 0
@@ -46,6 +46,30 @@ pub map_in : (f : ℕ → ℕ) (v : ℕ) (ns : List ℕ) → In v (map f ns) →
 map_in f v [] i = absurd i
 map_in f v (n ∷ ns) (inl e) = (n, inl refl, sym e)
 map_in f v (n ∷ ns) (inr i) = let r = map_in f v ns i in (r.0, inr r.1, r.2)
+
+-- the test of membership
+pub any_in : (v : ℕ) (ns : List ℕ) → list_any (nat_eq v) ns ≡ true → In v ns
+any_in v [] h = let f : false ≡ true = h in cc
+any_in v (k ∷ ks) h = pick (nat_eq v k) refl h (λ g. any_in v ks g)
+  where
+    pick : (b : Bool) → nat_eq v k ≡ b → (b || list_any (nat_eq v) ks) ≡ true → (list_any (nat_eq v) ks ≡ true → In v ks) → In v (k ∷ ks)
+    pick true e g r = inl (eqb-true v k e)
+    pick false e g r = inr (r g)
+
+pub in_any : (v : ℕ) (ns : List ℕ) → In v ns → list_any (nat_eq v) ns ≡ true
+in_any v [] i = absurd i
+in_any v (k ∷ ks) (inl e) = let f : nat_eq v k ≡ true = grind (arith, e) in rw f refl
+in_any v (k ∷ ks) (inr i) = let h = in_any v ks i in either (nat_eq v k) (list_any (nat_eq v) ks) h
+  where
+    either : (b c : Bool) → c ≡ true → (b || c) ≡ true
+    either true c h = refl
+    either false c h = h
+
+-- what holds of each holds of a member
+pub in_each : (P : ℕ → Type 0) (ns : List ℕ) → EachVar P ns → (v : ℕ) → In v ns → P v
+in_each P [] e v i = absurd i
+in_each P (k ∷ ks) e v (inl i) = subst P (sym i) e.0
+in_each P (k ∷ ks) e v (inr i) = in_each P ks e.1 v i
 
 pub split : (P : ℕ → Type 0) (ms ns : List ℕ) → EachVar P (ms ++ ns) → EachVar P ms × EachVar P ns
 split P [] ns e = (tt, e)

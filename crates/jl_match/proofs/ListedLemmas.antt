@@ -1,6 +1,6 @@
 -- All rows of a signature, listed and kept, are the rows of it.
-use Rattle.std.proofs.Common.{◌≡◌, ◌∙◌, sym, ap, subst, refl, ℕ, zero, suc, ◌+◌, ◌<◌, arith, Bool, true, false, ◌&&◌, ◌||◌, cond, nat_eq, nat_lt, eqb-true, List, [], ◌∷◌, ◌++◌, map, length, slice_index_or, ◌⊎◌, inl, inr}
-use Rattle.std.specs.List.{flat_map, list_all, list_any, Contains}
+use Rattle.std.proofs.Common.{◌≡◌, ◌∙◌, sym, ap, subst, refl, ℕ, zero, suc, ◌+◌, ◌<◌, arith, Bool, true, false, ◌&&◌, cond, nat_lt, List, [], ◌∷◌, ◌++◌, map, length, slice_index_or, ◌⊎◌, inl, inr}
+use Rattle.std.specs.List.{flat_map, list_all, Contains}
 use Rattle.jl_model.specs.declared.ty.Ty.{Ty}
 use Rattle.jl_model.specs.declared.ty.Ty.TheVariants as W
 use Rattle.jl_model.specs.declared.ty.Bound.{Bound}
@@ -13,7 +13,7 @@ use Rattle.jl_model.specs.AllRows.{Above, above_end, taken, passed, ArePicks, oc
 use Rattle.jl_model.proofs.NormalLemmas.{In as Among, first, later}
 use Rattle.jl_types.proofs.TableLemmas.{get-past}
 use Rattle.jl_match.specs.KeptRow.{row_of}
-use Rattle.jl_match.proofs.ListLemmas.{In, in_of, of_in}
+use Rattle.jl_match.proofs.ListLemmas.{in_of, of_in, any_in, in_any}
 use Rattle.jl_match.proofs.TupleLemmas.{InRows, row_first, row_later, choice_of, chosen}
 use Rattle.jl_match.proofs.RowForms.{rows_at}
 use Rattle.jl_match.proofs.KindLemmas.{own_only}
@@ -103,24 +103,6 @@ module _ (n : Table) (s : Written) (picks : ℕ → List Ty) (own : list_all (λ
   at_each h i [] v l = absurd (omega arith)
   at_each h i (b ∷ bs) zero l = ap h (omega arith)
   at_each h i (b ∷ bs) (suc v) l = let e : i + 1 + v ≡ i + suc v = omega arith in at_each h (i + 1) bs v (omega arith) ∙ ap h e
-
-  -- the test of occurrence
-  any_in : (v : ℕ) (ns : List ℕ) → list_any (nat_eq v) ns ≡ true → In v ns
-  any_in v [] h = let f : false ≡ true = h in cc
-  any_in v (k ∷ ks) h = pick (nat_eq v k) refl h (λ g. any_in v ks g)
-    where
-      pick : (b : Bool) → nat_eq v k ≡ b → (b || list_any (nat_eq v) ks) ≡ true → (list_any (nat_eq v) ks ≡ true → In v ks) → In v (k ∷ ks)
-      pick true e g r = inl (eqb-true v k e)
-      pick false e g r = inr (r g)
-
-  in_any : (v : ℕ) (ns : List ℕ) → In v ns → list_any (nat_eq v) ns ≡ true
-  in_any v [] i = absurd i
-  in_any v (k ∷ ks) (inl e) = let f : nat_eq v k ≡ true = grind (arith, e) in rw f refl
-  in_any v (k ∷ ks) (inr i) = let h = in_any v ks i in either (nat_eq v k) (list_any (nat_eq v) ks) h
-    where
-      either : (b c : Bool) → c ≡ true → (b || c) ≡ true
-      either true c h = refl
-      either false c h = h
 
   occurs_true : (row : List Ty) (v : ℕ) → Occurs s v row → occurs s v row ≡ true
   occurs_true row v o = in_any v (map (root s) (flat_map vars_in row)) (in_of (map (root s) (flat_map vars_in row)) v o)

@@ -1,5 +1,5 @@
 -- From the bounds and arguments in normal form to those that are written.
-use Rattle.std.proofs.Common.{◌≡◌, ◌∙◌, sym, ap, subst, refl, ℕ, zero, suc, ◌+◌, ◌<◌, ◌≤◌, arith, Bool, true, false, IsTrue, List, [], ◌∷◌, ◌++◌, map, length, get_or, slice_get, ◌⊎◌, inl, inr}
+use Rattle.std.proofs.Common.{◌≡◌, ◌∙◌, sym, ap, subst, refl, ℕ, zero, suc, ◌+◌, ◌<◌, ◌≤◌, arith, true, false, IsTrue, List, [], ◌∷◌, length, ◌⊎◌, inl, inr}
 use Rattle.std.specs.List.{Contains}
 use Rattle.jl_model.specs.declared.ty.Ty.{Ty}
 use Rattle.jl_model.specs.declared.ty.Bound.{Bound as VarBound}
@@ -10,12 +10,11 @@ use Rattle.jl_model.specs.Kinds.{unused, once, diagonal, bound}
 use Rattle.jl_sig.specs.KindIn.{kind_in}
 use Rattle.jl_sig.specs.declared.kind.Kind.{Kind}
 use Rattle.jl_sig.specs.declared.kind.Kind.TheVariants.{Unused, Once, Diagonal, Bound}
-use Rattle.jl_model.specs.Rows.{kind, width}
-use Rattle.jl_model.specs.Signature.{Both, both_end, both_more}
+use Rattle.jl_model.specs.Rows.{kind}
+use Rattle.jl_model.specs.Signature.{Both, both_more}
 use Rattle.jl_model.specs.Subtype.{Table, opaque, Below}
 use Rattle.jl_model.specs.Valid.{is_closed}
 use Rattle.jl_model.specs.Refusals.{Declared, bound_types, Given, Between}
-use Rattle.jl_model.specs.SigRefusals.{arguments_in, UnusedVariable, BoundsCrossed, BoundBroken}
 use Rattle.jl_model.proofs.AncestorLemmas.{Lawful}
 use Rattle.jl_model.proofs.DeclaredLemmas.{declared_lawful}
 use Rattle.jl_model.proofs.TransLemmas.{below_trans}

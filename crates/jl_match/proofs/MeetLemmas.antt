@@ -16,7 +16,7 @@ use Rattle.jl_model.specs.Refusals.{Declared}
 use Rattle.jl_model.proofs.FormLemmas.{is_tuple, is_nominal, is_var}
 use Rattle.jl_model.proofs.TransLemmas.{equal_trans}
 use Rattle.jl_model.proofs.DeclaredLemmas.{declared_lawful}
-use Rattle.jl_match.specs.Found.{outer, inner}
+use Rattle.jl_model.specs.Found.{outer, inner}
 use Rattle.jl_match.specs.KeptRow.{EachVar, AreArguments, IsPart, AreParts, any as part_any, variable as part_variable, tuple as part_tuple, nominal as part_nominal, parts_more}
 use Rattle.jl_match.proofs.ListLemmas.{split}
 use Rattle.jl_match.proofs.FindLemmas as L

@@ -1,5 +1,5 @@
 -- The tests on places and numbers of arguments, form by form.
-use Rattle.std.proofs.Common.{◌≡◌, ◌∙◌, sym, ap, refl, ℕ, zero, suc, ◌+◌, ◌<◌, arith, add-one, Bool, true, false, ◌&&◌, nat_eq, List, [], ◌∷◌, map, length, drop, get_or, slice_get, ◌⊎◌, inl, inr}
+use Rattle.std.proofs.Common.{◌≡◌, ◌∙◌, sym, ap, ℕ, zero, suc, ◌+◌, ◌<◌, arith, add-one, Bool, true, false, ◌&&◌, nat_eq, List, [], ◌∷◌, map, length, drop, get_or, slice_get, ◌⊎◌, inl, inr}
 use Rattle.std.specs.List.{list_all}
 use Rattle.std.proofs.lemmas.List.{length-map}
 use Rattle.jl_model.specs.declared.ty.Ty.{Ty}

@@ -28,17 +28,17 @@ module _ (at : ℕ → List Ty) where
   forms-union : (ts : List Ty) → forms at (V.Union ts) ≡ flat_map (forms at) ts
   forms-union ts = ap (forms at) (sym (rolls-Union ts)) ∙ para-roll-Ty (List Ty) (forms_step at) (Union ts) ∙ flat_seconds (forms at) ts
 
-  forms-tuple : (ts : List Ty) → forms at (V.Tuple ts) ≡ map (λ us. V.Tuple us) (choices (map (forms at) ts))
+  pub forms-tuple : (ts : List Ty) → forms at (V.Tuple ts) ≡ map (λ us. V.Tuple us) (choices (map (forms at) ts))
   forms-tuple ts = ap (forms at) (sym (rolls-Tuple ts)) ∙ para-roll-Ty (List Ty) (forms_step at) (Tuple ts) ∙ ap (λ z. map (λ us. V.Tuple us) (choices z)) (seconds (forms at) ts)
 
-  forms-nominal : (k : ℕ) (ts : List Ty) → forms at (V.Nominal k ts) ≡ V.Nominal k ts ∷ []
+  pub forms-nominal : (k : ℕ) (ts : List Ty) → forms at (V.Nominal k ts) ≡ V.Nominal k ts ∷ []
   forms-nominal k ts = ap (forms at) (sym (rolls-Nominal k ts)) ∙ para-roll-Ty (List Ty) (forms_step at) (Nominal k ts) ∙ ap (λ z. V.Nominal k z ∷ []) (firsts (forms at) ts)
 
-  forms-var : (v : ℕ) → forms at (W.Var v) ≡ at v
+  pub forms-var : (v : ℕ) → forms at (W.Var v) ≡ at v
   forms-var v = ap (forms at) (sym (rolls-Var v)) ∙ para-roll-Ty (List Ty) (forms_step at) (Var v)
 
 -- what is chosen from lists
-choices_by : (g : Ty → List Ty) (r ws : List Ty) → InRows r (choices (map g ws)) → Both (λ a w. Among a (g w)) r ws
+pub choices_by : (g : Ty → List Ty) (r ws : List Ty) → InRows r (choices (map g ws)) → Both (λ a w. Among a (g w)) r ws
 choices_by g r [] (row_first s ss e) = rw e both_end
 choices_by g r [] (row_later s ss i) = elim i [ ]
 choices_by g r (w ∷ ws) i =
@@ -56,7 +56,7 @@ among_either a [] ys i = inr i
 among_either a (x ∷ xs) ys (first y zs e) = inl (first x xs e)
 among_either a (x ∷ xs) ys (later y zs i) = elim (among_either a xs ys i) [ inl j ↦ inl (later x xs j) | inr j ↦ inr j ]
 
-only : (a t : Ty) → Among a (t ∷ []) → a ≡ t
+pub only : (a t : Ty) → Among a (t ∷ []) → a ≡ t
 only a t (first y ys e) = e
 only a t (later y ys i) = elim i [ ]
 

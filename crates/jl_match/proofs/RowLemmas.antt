@@ -24,7 +24,7 @@ use Rattle.jl_model.proofs.TransLemmas.{below_trans, far, near}
 use Rattle.jl_model.proofs.NormalLemmas.{kids_nominal, kids_tuple}
 use Rattle.jl_model.proofs.FillLemmas.{ancestors_normal}
 use Rattle.jl_model.proofs.DeclaredLemmas.{declared_lawful}
-use Rattle.jl_match.specs.Found.{outer, inner, found}
+use Rattle.jl_model.specs.Found.{outer, inner, found}
 use Rattle.jl_match.specs.KeptRow.{EachVar, IsPart, AreParts, any as part_any, variable as part_variable, tuple as part_tuple, nominal as part_nominal, parts_end, parts_more, IsPlace, AreKeptParts, IsKeptRow, AreConcrete, Fits}
 use Rattle.jl_match.proofs.ListLemmas.{In, in_of, of_in, in_left, in_right, in_either, in_map, map_in, each_of}
 use Rattle.jl_match.proofs.FindLemmas as L
@@ -183,7 +183,7 @@ pub record IsLeft (n : Table) (t : Ty) : Type 0 where
   pub concrete : Concrete n t
   pub normal : IsNormal n t
 
-each_normal : (n : Table) (ts : List Ty) → Each (Concrete n) ts → AllNormal n ts → Each (IsLeft n) ts
+pub each_normal : (n : Table) (ts : List Ty) → Each (Concrete n) ts → AllNormal n ts → Each (IsLeft n) ts
 each_normal n ts c none = tt
 each_normal n ts c (more t us p q) = (record { concrete = c.0; normal = p }, each_normal n us c.1 q)
 
@@ -204,7 +204,7 @@ module _ (ds : List Decl) (declared : Declared ds) where
   no_variable : (v : ℕ) (P : Type 0) → IsLeft o (W.Var v) → P
   no_variable v P h = let e : true ≡ false = sym h.concrete ∙ concrete-var o v in cc
 
-  left_forms : LeftForms o opaque (IsLeft o)
+  pub left_forms : LeftForms o opaque (IsLeft o)
   left_forms = record {
     part = λ xs h. each_normal o xs (parts_concrete o xs h.concrete) (kids_tuple o (declared_lawful ds declared) (V.Tuple xs) xs h.normal (outs-Tuple xs));
     raise = λ v h. no_variable v _ h;

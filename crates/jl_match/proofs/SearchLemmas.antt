@@ -8,7 +8,7 @@ use Rattle.jl_model.specs.Subtype.{opaque}
 use Rattle.jl_model.specs.Valid.{is_known}
 use Rattle.jl_model.proofs.FormLemmas.{is_tuple}
 use Rattle.jl_model.proofs.KnownLemmas.{known-tuple}
-use Rattle.jl_match.specs.Found.{first, or_else, parts_of, raised}
+use Rattle.jl_model.specs.Found.{first, or_else, parts_of, raised}
 use Rattle.jl_match.proofs.FindLemmas.{arg-any, arg-union, arg-tuple, arg-nominal, arg-var, inner-find-any, inner-find-tuple, inner-find-nominal, inner-find-var, inner-find-union, outer-find-any, outer-find-tuple, outer-find-nominal, outer-find-var, outer-find-union}
 
 pub first-none : (fs : List (Ty → Option Ty)) → first fs [] ≡ None

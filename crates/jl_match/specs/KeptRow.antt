@@ -17,7 +17,7 @@ use Rattle.jl_model.specs.Subtype.{Table, opaque, put, at, Below, Equal, is_conc
 use Rattle.jl_model.specs.Normal.{IsNormal, AllNormal, IsNormalForm}
 use Rattle.jl_types.specs.Form.{Settles}
 use Rattle.jl_model.specs.Valid.{is_known}
-use Rattle.jl_match.specs.Found.{inner, outer}
+use Rattle.jl_model.specs.Found.{inner, outer}
 
 module _ (n : Table) where
   mutual

@@ -7,6 +7,7 @@ use Rattle.jl_sig.specs.declared.fault.SigFault.{SigFault}
 use Rattle.jl_sig.specs.declared.fault.SigFault.TheVariants as fault
 use Rattle.jl_sig.specs.declared.sig.Sig.{Sig}
 use Rattle.jl_sig.specs.Prepared.{IsSigOf}
+use Rattle.jl_sig.specs.SigParts.{written_of}
 
 -- nothing refuses it by how it is written
 pub record IsWellWritten (ds : List Decl) (s : Written) : Type 0 where
@@ -29,5 +30,5 @@ SigRefused fault.Memory ds s = Unit {0}
 -- nothing refuses it, and it is kept as it is written
 pub record IsMade (ds : List Decl) (s : Written) (g : Sig) : Type 0 where
   pub allowed : IsAllowedSig ds s
-  pub written : g.written ≡ s
+  pub written : written_of g ≡ s
   pub kept : IsSigOf ds g

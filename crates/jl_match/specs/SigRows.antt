@@ -1,12 +1,10 @@
 -- The rows of a signature as they are kept.
-use Rattle.std.specs.Prelude.{ℕ, ◌≡◌, ◌⊎◌, List, [], ◌∷◌, length}
-use Rattle.jl_model.specs.declared.ty.Ty.{Ty}
+use Rattle.std.specs.Prelude.{◌≡◌, ◌⊎◌, List, [], ◌∷◌, length}
 use Rattle.jl_model.specs.declared.ty.Decl.{Decl}
 use Rattle.jl_model.specs.declared.ty.Written.{Written}
 use Rattle.jl_model.specs.Rows.{width}
 use Rattle.jl_model.specs.Signature.{Row, IsRow}
-use Rattle.jl_model.specs.Subtype.{Table, opaque}
-use Rattle.jl_match.specs.Found.{found}
+use Rattle.jl_model.specs.Subtype.{Table}
 use Rattle.jl_match.specs.KeptRow.{row_of, IsKeptRow, StandsFor}
 use Rattle.jl_sig.specs.declared.row.SigRow.{SigRow}
 
@@ -32,8 +30,3 @@ SomeStands n s t r (k ∷ ks) = StandsFor n s t r (kept_row k) ⊎ SomeStands n 
 pub record AreRowsOf (n : Table) (s t : Written) (ks : List SigRow) : Type 0 where
   pub each : AllStand n s t ks
   pub all : (r : Row) → IsRow n s r → SomeStands n s t r ks
-
--- the types f are those found for one of the rows
-abbrev pub FoundForSome : Table → Written → List SigRow → List Ty → (ℕ → Ty) → Type 0
-FoundForSome n t [] ts f = ⊥
-FoundForSome n t (k ∷ ks) ts f = (f ≡ found n opaque t (kept_row k) ts) ⊎ FoundForSome n t ks ts f

@@ -7,7 +7,7 @@ ghost use Rattle.jl_model.specs.declared.ty.Ty.{out-Ty};
 ghost use Rattle.jl_model.specs.Ancestors.{table_of};
 ghost use Rattle.jl_model.specs.Subtype.{opaque, lifted};
 ghost use Rattle.jl_model.specs.Valid.{is_known};
-ghost use Rattle.jl_match.specs.Found.{find_arg, find_inner, find_outer, first, raised, parts_of, arguments_of, ancestor};
+ghost use Rattle.jl_model.specs.Found.{find_arg, find_inner, find_outer, first, raised, parts_of, arguments_of, ancestor};
 
 use jl_model::ty::{Ty, Tys};
 use jl_types::Table;

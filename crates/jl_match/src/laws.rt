@@ -1,20 +1,26 @@
 //! Laws over the definitions alone. Each function does nothing: its contract is the law.
 
-ghost use Rattle.std.specs.Prelude.{ℕ, List};
+ghost use Rattle.std.specs.Prelude.{ℕ, ◌≡◌, ◌⊎◌, IsTrue, List};
 ghost use Rattle.jl_model.specs.declared.ty.Ty.{Ty};
 ghost use Rattle.jl_model.specs.declared.ty.Decl.{Decl};
 ghost use Rattle.jl_model.specs.declared.ty.Bound.{Bound};
 ghost use Rattle.jl_model.specs.declared.ty.Written.{Written};
 ghost use Rattle.jl_model.specs.Ancestors.{table_of};
 ghost use Rattle.jl_model.specs.Refusals.{Declared};
-ghost use Rattle.jl_model.specs.Subtype.{opaque, put, Below};
+ghost use Rattle.jl_model.specs.Kinds.{once, diagonal, bound};
+ghost use Rattle.jl_model.specs.Rows.{high, kind};
+ghost use Rattle.jl_model.specs.Subtype.{opaque, put, Below, Equal};
+ghost use Rattle.jl_model.specs.Usable.{is_usable};
+ghost use Rattle.jl_model.specs.Bindings.{binding};
+ghost use Rattle.jl_model.specs.SigRefusals.{VariablePlace};
 ghost use Rattle.jl_model.specs.Signature.{Row, IsRow};
 ghost use Rattle.jl_model.specs.AllRows.{ArePicks, all_rows};
 ghost use Rattle.jl_match.specs.Listed.{IsKeptSig};
 ghost use Rattle.jl_sig.specs.Fit.{AreKeptRows as AreKeptListed};
 ghost use Rattle.jl_match.specs.SigRows.{AreKeptRows, AreRowsOf};
+ghost use Rattle.jl_sig.specs.Prepared.{HasOwnVariables};
 ghost use Rattle.jl_sig.specs.declared.row.SigRow.{SigRow};
-ghost use Rattle.jl_match.specs.KeptRow.{StandsFor, Fits, IsKeptRow, AreKept, row_of, with_bounds};
+ghost use Rattle.jl_match.specs.KeptRow.{StandsFor, Fits, IsKeptRow, AreKept, AreConcrete, row_of, with_bounds};
 
 /// What is below stays below, whatever types are put for the variables of both.
 pub fn law_put()
@@ -37,4 +43,11 @@ pub fn law_kept_row()
 pub fn law_rows()
     ensures kept { (ds : List Decl) → Declared ds → (s : Written) (bs : List Bound) (picks : ℕ → List Ty) → IsKeptSig ds s bs → ArePicks (table_of ds) s picks → (ks : List SigRow) → AreKeptListed ds (all_rows s picks) ks → AreKeptRows ds (with_bounds s bs) ks }
     ensures rows { (ds : List Decl) → Declared ds → (s : Written) (bs : List Bound) (picks : ℕ → List Ty) → IsKeptSig ds s bs → ArePicks (table_of ds) s picks → (ks : List SigRow) → AreKeptListed ds (all_rows s picks) ks → AreRowsOf (table_of ds) s (with_bounds s bs) ks }
+{}
+
+/// Whatever types for the variables serve, a variable of several places that a body may use stands for its binding, and the
+/// binding of one with a single place, outside nominal types, is below its upper bound. (Its lower bound is not asked.)
+pub fn law_bindings()
+    ensures serve { (ds : List Decl) → Declared ds → (s : Written) → HasOwnVariables s → (VariablePlace s → ⊥) → (ts : List Ty) → AreConcrete ds ts → (r : Row) (f : ℕ → Ty) → IsRow (table_of ds) s r → Fits (table_of ds) s r ts f → (v : ℕ) → IsTrue (is_usable s v) → (kind s v ≡ diagonal) ⊎ (kind s v ≡ bound) → Equal (table_of ds) (binding (table_of ds) s ts v) (f v) }
+    ensures once { (ds : List Decl) → Declared ds → (s : Written) → HasOwnVariables s → (VariablePlace s → ⊥) → (ts : List Ty) → AreConcrete ds ts → (r : Row) (f : ℕ → Ty) → IsRow (table_of ds) s r → Fits (table_of ds) s r ts f → (v : ℕ) → IsTrue (is_usable s v) → kind s v ≡ once → Below (table_of ds) opaque (binding (table_of ds) s ts v) (high s v) }
 {}

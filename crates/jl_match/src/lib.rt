@@ -2,6 +2,7 @@
 //! Zappa Nardelli et al., OOPSLA 2018).
 #![tactic(auto)]
 
+mod bindings;
 mod concrete;
 mod find;
 pub mod laws;
@@ -15,13 +16,13 @@ mod serve;
 mod signature;
 mod values;
 
+pub use bindings::Bindings;
 pub use jl_sig::{Sig, SigFault};
 pub use make::make_sig;
 pub use names::is_well_named;
-pub use row::row_applies;
 pub use signature::applies;
 
 #[cfg(test)]
-mod row_tests;
+mod applies_tests;
 #[cfg(test)]
 mod tests;

@@ -99,7 +99,7 @@ fn are_known(types: &[Ty], count: u64) -> bool
 /// Whether each nominal type in a type has a number below `count`.
 #[cycle(known)]
 #[tactic(auto, using(crate::proofs::NameLemmas::knowing))]
-fn is_known(ty: &Ty, count: u64) -> bool
+pub fn is_known(ty: &Ty, count: u64) -> bool
     ensures { result ≡ is_known count ty.now }
 {
     match ty {
@@ -127,6 +127,7 @@ fn are_bounds_known(bounds: &[Bound], count: u64) -> bool
 pub fn is_well_named(table: &Table, written: &Written) -> bool
     ensures own { IsTrue result → HasOwnVariables written.now }
     ensures known { IsTrue result → IsTrue (list_all (is_known (length table.now)) (types_in written.now)) }
+    ensures all { HasOwnVariables written.now → IsTrue (list_all (is_known (length table.now)) (types_in written.now)) → IsTrue result }
 {
     let count = u64::from(table.count());
     let parts = written.parts.as_slice();

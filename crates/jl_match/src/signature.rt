@@ -1,40 +1,43 @@
-//! Whether a signature applies to types: whether they are below one of its rows (Julia manual, Methods).
+//! Whether a signature applies to types, and what a method's body gets for its variables (Julia manual, Methods: Parametric
+//! Methods).
 
-ghost use Rattle.std.specs.Prelude.{ℕ, ◌≡◌, IsTrue, IfOk, [], None, Some, length};
+ghost use Rattle.std.specs.Prelude.{◌≡◌, IsTrue, IfOk, None, Some};
 ghost use Rattle.jl_model.specs.declared.ty.Written.{Written};
 ghost use Rattle.jl_model.specs.Ancestors.{table_of};
 ghost use Rattle.jl_model.specs.Signature.{Applicable};
-ghost use Rattle.jl_model.specs.Subtype.{at};
+ghost use Rattle.jl_model.specs.Bindings.{bindings};
+ghost use Rattle.jl_sig.specs.Prepared.{IsSigOf};
+ghost use Rattle.jl_sig.specs.SigParts.{written_of};
 ghost use Rattle.jl_match.specs.KeptRow.{AreDiagonals, AreConcrete};
-ghost use Rattle.jl_match.specs.SigRows.{AreKeptRows, AreRowsOf, FoundForSome};
+ghost use Rattle.jl_match.specs.SigRows.{AreKeptRows, AreRowsOf};
 
+use crate::bindings::{Bindings, bindings};
 use crate::row::row_applies;
 use jl_model::ty::{Ty, Written};
+use jl_sig::Sig;
 use jl_sig::row::SigRow;
 use jl_types::Table;
 use std::alloc::{AllocError, Global};
 
-/// The types for the variables under which these types are below the first row that they are below, one for each variable, or
-/// none where they are below no row. The signature's bounds are normal forms, and `diagonals` tells which of its variables
-/// are diagonal. The cost is that of one row times the number of rows.
-pub fn applies(
+/// Whether these types are below one of the rows of a signature whose bounds are normal forms, where `diagonals` tells which
+/// of its variables are diagonal. The cost is that of one row times the number of rows.
+fn some_row_applies(
     alloc: Global,
     table: &Table,
     signature: &Written,
     diagonals: &[bool],
     rows: &[SigRow],
     types: &[Ty],
-) -> Result<Option<Vec<Ty>>, AllocError>
+) -> Result<bool, AllocError>
     requires diagonals { AreDiagonals signature.now diagonals.now }
     requires rows { AreKeptRows table.now signature.now rows.now }
     requires types { AreConcrete table.now types.now }
-    ensures sound { IfOk result (λ answer. (values : _) → answer ≡ Some values → (s : Written) → AreRowsOf (table_of table.now) s signature.now rows.now → Applicable (table_of table.now) s types.now) }
-    ensures found { IfOk result (λ answer. (values : _) → answer ≡ Some values → FoundForSome (table_of table.now) signature.now rows.now types.now (at values.items)) }
-    ensures complete { IfOk result (λ answer. answer ≡ None → (s : Written) → AreRowsOf (table_of table.now) s signature.now rows.now → Applicable (table_of table.now) s types.now → ⊥) }
+    ensures sound { IfOk result (λ yes. IsTrue yes → (s : Written) → AreRowsOf (table_of table.now) s signature.now rows.now → Applicable (table_of table.now) s types.now) }
+    ensures complete { IfOk result (λ yes. (s : Written) → AreRowsOf (table_of table.now) s signature.now rows.now → Applicable (table_of table.now) s types.now → IsTrue yes) }
 {
     table.valid();
     for row in rows {
-        let answer = row_applies(
+        if row_applies(
             alloc,
             table,
             signature,
@@ -42,10 +45,38 @@ pub fn applies(
             row.parts.as_slice(),
             row.chosen.as_slice(),
             types,
-        )?;
-        if answer.is_some() {
-            return Ok(answer);
+        )? {
+            return Ok(true);
         }
     }
-    Ok(None)
+    Ok(false)
+}
+
+/// What a method's body gets for the variables of its signature where the signature applies to these types, which are
+/// concrete and normal forms; `None` exactly where it does not apply.
+pub fn applies(
+    alloc: Global,
+    table: &Table,
+    sig: &Sig,
+    types: &[Ty],
+) -> Result<Option<Bindings>, AllocError>
+    requires sig { IsSigOf table.now sig.now }
+    requires types { AreConcrete table.now types.now }
+    ensures applies { IfOk result (λ answer. (found : _) → answer ≡ Some found → Applicable (table_of table.now) (written_of sig.now) types.now) }
+    ensures bindings { IfOk result (λ answer. (found : _) → answer ≡ Some found → found ≡ bindings (table_of table.now) (written_of sig.now) types.now) }
+    ensures none { IfOk result (λ answer. answer ≡ None → Applicable (table_of table.now) (written_of sig.now) types.now → ⊥) }
+{
+    table.valid();
+    if !some_row_applies(
+        alloc,
+        table,
+        sig.bounded(),
+        sig.diagonals(),
+        sig.rows(),
+        types,
+    )? {
+        return Ok(None);
+    }
+    let found = bindings(alloc, table, sig.written(), types)?;
+    Ok(Some(found))
 }

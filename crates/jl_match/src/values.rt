@@ -7,7 +7,7 @@ ghost use Rattle.jl_model.specs.Rows.{width, kind, high};
 ghost use Rattle.jl_model.specs.Subtype.{opaque, at};
 ghost use Rattle.jl_model.specs.Signature.{by_kind};
 ghost use Rattle.jl_model.specs.Valid.{is_known};
-ghost use Rattle.jl_match.specs.Found.{find_inner, find_outer, first, found};
+ghost use Rattle.jl_model.specs.Found.{find_inner, find_outer, first, found};
 ghost use Rattle.jl_match.specs.KeptRow.{row_of, AreDiagonals};
 
 use crate::find::{first_inner, first_outer};

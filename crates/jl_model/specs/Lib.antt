@@ -16,3 +16,5 @@ pub mod Members
 pub mod AllRows
 pub mod Usable
 pub mod SigRefusals
+pub mod Found
+pub mod Bindings

@@ -4,4 +4,3 @@ pub mod Tokens
 pub mod Answered
 pub mod OneAnswer
 pub mod Ended
-pub mod Settled

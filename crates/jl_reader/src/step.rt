@@ -3,24 +3,24 @@
 ghost use Rattle.std.specs.Prelude.{◌≡◌, IfOk, Option, Some};
 ghost use Rattle.jl_grammar.specs.Machine.{start, step_by, step, wants_type};
 
-use crate::brackets::{
-    at_again, at_dot, at_first, at_index, at_indexed, at_piece, at_quoted, at_texted,
-};
-use crate::declarations::{
-    at_abstract, at_decl, at_declared, at_field, at_fields, at_made, at_made_method, params_turn,
-};
-use crate::entries::{at_bound, at_entry, at_returned};
-use crate::follows::follows;
-use crate::heads::{
-    at_colon, at_dotted, at_function, at_headed, at_known, at_named, at_param, first_param,
-    next_param, where_turn,
-};
-use crate::operands::begins;
-use crate::special::{after_eval, at_due};
-use crate::types::type_goes;
 use jl_grammar::mark::Marked;
 use jl_grammar::state::{ItemsRead, Point, State};
 use jl_model::rows::{Row, Stack};
+use jl_reader_items::declarations::{
+    at_abstract, at_decl, at_declared, at_field, at_fields, at_made, at_made_method, params_turn,
+};
+use jl_reader_items::entries::{at_bound, at_entry, at_returned};
+use jl_reader_items::heads::{
+    at_colon, at_dotted, at_function, at_headed, at_known, at_named, at_param, first_param,
+    next_param, where_turn,
+};
+use jl_reader_items::special::{after_eval, at_due};
+use jl_reader_items::types::type_goes;
+use jl_reader_operands::brackets::{
+    at_again, at_dot, at_first, at_index, at_indexed, at_piece, at_quoted, at_texted,
+};
+use jl_reader_operands::follows::follows;
+use jl_reader_operands::operands::begins;
 use jl_typeread::{entries as types, turns};
 use std::alloc::{AllocError, Global};
 

@@ -1,5 +1,5 @@
 -- From the rows that the code builds to all rows.
-use Rattle.std.proofs.Common.{◌≡◌, ◌∙◌, sym, ap, subst, refl, ℕ, Bool, true, false, ◌&&◌, cond, [], ◌∷◌, ◌++◌, ◌<◌, ◌≤◌, min, arith, MatchOption, Option, None, Some, List, map, length}
+use Rattle.std.proofs.Common.{◌≡◌, ◌∙◌, ap, refl, ℕ, Bool, true, false, ◌&&◌, cond, [], ◌∷◌, ◌++◌, ◌<◌, ◌≤◌, min, arith, MatchOption, Option, None, Some, List, map, length}
 use Rattle.std.proofs.lemmas.List.{length-map}
 use Rattle.jl_model.specs.declared.ty.Ty.{Ty}
 use Rattle.jl_model.specs.declared.ty.Bound.{Bound}
@@ -59,7 +59,7 @@ module _ (ds : List Decl) (s : Written) (bounds : List Bound) (b : IsBuildable d
       }
 
 -- all picks give the same rows
-is_diagonal_kind : (k : model.Kind) → is_diagonal k ≡ true → k ≡ diagonal
+pub is_diagonal_kind : (k : model.Kind) → is_diagonal k ≡ true → k ≡ diagonal
 is_diagonal_kind unused h = absurd (let f : false ≡ true = h in cc)
 is_diagonal_kind once h = absurd (let f : false ≡ true = h in cc)
 is_diagonal_kind diagonal h = refl

@@ -1,18 +1,17 @@
 -- The declared bounds of parameters are normal forms.
-use Rattle.std.proofs.Common.{◌≡◌, ◌∙◌, sym, ap, subst, refl, ℕ, zero, suc, ◌+◌, ◌<◌, ◌≤◌, arith, true, ◌&&◌, nat_lt, List, [], ◌∷◌, ◌++◌, length, get_or, slice_get, Option, None, Some}
+use Rattle.std.proofs.Common.{◌≡◌, ◌∙◌, sym, ap, subst, refl, ℕ, zero, suc, ◌+◌, ◌<◌, ◌≤◌, arith, true, ◌&&◌, nat_lt, List, [], ◌∷◌, ◌++◌, length, get_or, slice_get, None, Some}
 use Rattle.std.specs.List.{list_all}
 use Rattle.std.proofs.lemmas.List.{get_or_past}
 use Rattle.jl_model.specs.declared.ty.Ty.{Ty}
 use Rattle.jl_model.specs.declared.ty.Ty.TheViews as V
 use Rattle.jl_model.specs.declared.ty.Bound.{Bound}
 use Rattle.jl_model.specs.declared.ty.Decl.{Decl}
-use Rattle.jl_model.specs.Ancestors.{table_of, builtin_types}
-use Rattle.jl_model.specs.Normal.{IsNormal}
+use Rattle.jl_model.specs.Ancestors.{table_of}
 use Rattle.jl_model.specs.Rows.{alts, free}
 use Rattle.jl_model.specs.Subtype.{opaque, below, Covered, none}
 use Rattle.jl_model.specs.Valid.{is_known, names_in, params_of}
 use Rattle.jl_model.specs.Kept.{field_types, Bounds, bounds_end, bounds_more}
-use Rattle.jl_model.specs.Refusals.{Declared, builtin, added, IsReady, table_with, bound_types, is_known_decl, own, Given, Between}
+use Rattle.jl_model.specs.Refusals.{Declared, builtin, added, table_with, bound_types, is_known_decl, own, Given, Between}
 use Rattle.jl_model.proofs.PutLemmas.{and_l, and_r, both_true}
 use Rattle.jl_model.proofs.KnownLemmas.{Known, normal_move}
 use Rattle.jl_model.proofs.AncestorLemmas.{long-snoc, slice_past}

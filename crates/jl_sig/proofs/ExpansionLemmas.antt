@@ -1,5 +1,5 @@
 -- Forms, form by form, and how many there are.
-use Rattle.std.proofs.Common.{◌≡◌, ◌∙◌, sym, ap, refl, ℕ, zero, suc, ◌+◌, ◌*◌, ◌<◌, ◌≤◌, min, arith, add-one, List, [], ◌∷◌, ◌++◌, map, length, drop, get_or, append_assoc, length-append}
+use Rattle.std.proofs.Common.{◌≡◌, ◌∙◌, sym, ap, refl, ℕ, zero, suc, ◌+◌, ◌*◌, ◌<◌, min, arith, add-one, List, [], ◌∷◌, ◌++◌, map, length, drop, get_or, length-append}
 use Rattle.std.specs.List.{flat_map}
 use Rattle.std.proofs.lemmas.List.{length-map}
 use Rattle.std.proofs.Math.Nat.{mul-suc, mul-zero, zero-mul, suc-mul, mul_assoc}
@@ -11,7 +11,6 @@ use Rattle.jl_model.specs.declared.ty.Ty.TheVariants as W
 use Rattle.jl_model.specs.declared.ty.Ty.TheFolds.{para-roll-Ty}
 use Rattle.jl_model.specs.Rows.{choices, forms, forms_step}
 use Rattle.jl_model.proofs.FormLemmas.{firsts, seconds, flat_seconds, is_any, is_union, is_tuple, is_nominal, is_var}
-use Rattle.jl_sig.specs.Built.{placed}
 
 module _ (at : ℕ → List Ty) where
   pub forms-any : forms at W.Any ≡ W.Any ∷ []

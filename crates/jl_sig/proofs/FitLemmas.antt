@@ -1,6 +1,6 @@
 -- What the code that keeps types needs.
-use Rattle.std.proofs.Common.{◌≡◌, ◌∙◌, sym, ap, subst, refl, ℕ, zero, suc, ◌+◌, ◌<◌, arith, add-one, Bool, true, false, ◌&&◌, nat_lt, List, [], ◌∷◌, ◌++◌, length, drop, get_or, append_assoc, append-nil}
-use Rattle.std.specs.List.{flat_map, list_all, Contains}
+use Rattle.std.proofs.Common.{◌≡◌, ◌∙◌, sym, ap, subst, refl, ℕ, zero, suc, ◌+◌, ◌<◌, arith, Bool, true, false, List, [], ◌∷◌, ◌++◌, length, drop, get_or, append-nil}
+use Rattle.std.specs.List.{flat_map, list_all}
 use Rattle.jl_model.specs.declared.ty.Ty.{Ty, out-Ty}
 use Rattle.jl_model.specs.declared.ty.Ty.TheOpen.{Ty-F, Any, Union, Tuple, Nominal, Var}
 use Rattle.jl_model.specs.declared.ty.Ty.TheViews.{outs-Any, outs-Union, outs-Tuple, outs-Nominal, outs-Var, rolls-Any, rolls-Union, rolls-Tuple, rolls-Nominal, rolls-Var}
@@ -9,22 +9,20 @@ use Rattle.jl_model.specs.declared.ty.Ty.TheVariants as W
 use Rattle.jl_model.specs.declared.ty.Ty.TheFolds.{para-roll-Ty}
 use Rattle.jl_model.specs.declared.ty.Decl.{Decl}
 use Rattle.jl_model.specs.Ancestors.{table_of}
-use Rattle.jl_model.specs.Subtype.{at}
-use Rattle.jl_model.specs.Signature.{Both, both_end, both_more}
+use Rattle.jl_model.specs.Signature.{Both, both_end}
 use Rattle.jl_model.specs.Normal.{IsNormalForm, var as normal_var}
-use Rattle.jl_model.specs.Valid.{is_known, is_closed}
+use Rattle.jl_model.specs.Valid.{is_closed}
 use Rattle.jl_model.specs.Refusals.{Given, given_in, given_from}
 use Rattle.jl_model.specs.SigRefusals.{is_argument, argument_step, is_component, component_step}
 use Rattle.jl_model.proofs.TypeInduction.{Each}
-use Rattle.jl_model.proofs.FormLemmas.{is_any, is_union, is_tuple, is_nominal, is_var, all_firsts, all_seconds}
-use Rattle.jl_model.proofs.PutLemmas.{and_l, and_r}
-use Rattle.jl_model.proofs.AncestorLemmas.{each_true, true_each}
+use Rattle.jl_model.proofs.FormLemmas.{is_any, is_union, is_tuple, is_nominal, all_firsts, all_seconds}
+use Rattle.jl_model.proofs.AncestorLemmas.{true_each}
 use Rattle.jl_model.proofs.SelfLemmas.{equal_self}
-use Rattle.jl_model.proofs.KnownLemmas.{Known, union_known, tuple_known, nominal_known, known_tuple}
+use Rattle.jl_model.proofs.KnownLemmas.{Known, union_known, tuple_known, nominal_known}
 use Rattle.jl_types.proofs.KeepLemmas.{nominal_form}
 use Rattle.jl_types.proofs.PartsLemmas.{closed-any, closed-union, closed-tuple}
-use Rattle.jl_sig.specs.Fit.{IsSmall, AllSmallGiven, IsFit, IsFitArgument, AllFit, AllFitArguments, IsKeptAs}
-use Rattle.jl_sig.proofs.GivenLemmas.{AllGiven, given-any, given-var, given-union, given-tuple, given-nominal, given_left, given_right, given_each, each_given, given_at}
+use Rattle.jl_sig.specs.Fit.{IsSmall, IsFit, IsFitArgument, AllFit, AllFitArguments}
+use Rattle.jl_sig.proofs.GivenLemmas.{AllGiven, given-union, given-tuple, given-nominal, given_left, given_right, given_each}
 
 -- places, form by form
 pub argument-union : (ts : List Ty) → is_argument (V.Union ts) ≡ list_all is_closed ts
@@ -61,7 +59,7 @@ module _ (ds : List Decl) where
   abbrev m : ℕ
   m = length ds
 
-  abbrev S : Given → Type 0
+  abbrev pub S : Given → Type 0
   S a = IsSmall ds a.ty
 
   join_fit : (ts : List Ty) → Each (Known m) ts → Each (λ t. is_component t ≡ true) ts → Each (λ t. AllGiven S (given_in t)) ts → AllFit ds ts

@@ -1,6 +1,6 @@
 -- One more bound, and one more argument, in normal form.
-use Rattle.std.proofs.Common.{◌≡◌, ◌∙◌, sym, ap, subst, refl, ℕ, zero, suc, ◌+◌, ◌<◌, ◌≤◌, arith, add-one, Bool, true, false, ◌&&◌, IsTrue, List, [], ◌∷◌, ◌++◌, map, length, drop, get_or, append_assoc, append-nil, ◌⊎◌, inl, inr}
-use Rattle.std.specs.List.{list_all, Contains}
+use Rattle.std.proofs.Common.{◌≡◌, ◌∙◌, sym, ap, subst, refl, ℕ, zero, suc, ◌+◌, ◌<◌, arith, add-one, Bool, true, false, ◌&&◌, IsTrue, List, [], ◌∷◌, ◌++◌, length, drop, get_or, append_assoc, append-nil, ◌⊎◌, inl, inr}
+use Rattle.std.specs.List.{list_all}
 use Rattle.jl_model.specs.declared.ty.Ty.{Ty}
 use Rattle.jl_model.specs.declared.ty.Bound.{Bound}
 use Rattle.jl_model.specs.declared.ty.Decl.{Decl}
@@ -28,11 +28,11 @@ bound_known p (x ∷ xs) zero b lt e h =
     (ap (λ (z : Bound). p z.low) e ∙ and_l (p x.low) (p x.high && list_all p (bound_types xs)) h, ap (λ (z : Bound). p z.high) e ∙ and_l (p x.high) (list_all p (bound_types xs)) r)
 bound_known p (x ∷ xs) (suc i) b lt e h = bound_known p xs i b (omega arith) e (and_r (p x.high) (list_all p (bound_types xs)) (and_r (p x.low) (p x.high && list_all p (bound_types xs)) h))
 
-module _ (ds : List Decl) where
+module _ (R : Ty → Ty → Type 0) where
   abbrev B : List Bound → List Bound → Type 0
-  B bs cs = Both (IsSmallForm ds) (bound_types bs) (bound_types cs)
+  B bs cs = Both R (bound_types bs) (bound_types cs)
 
-  pub bounds_step : (bs : List Bound) (i : ℕ) (b c : Bound) (old new : List Bound) → i < length bs → b ≡ get_or bs i b → IsSmallForm ds b.low c.low → IsSmallForm ds b.high c.high → new ≡ old ++ c ∷ []
+  pub bounds_step : (bs : List Bound) (i : ℕ) (b c : Bound) (old new : List Bound) → i < length bs → b ≡ get_or bs i b → R b.low c.low → R b.high c.high → new ≡ old ++ c ∷ []
       → ((cs : List Bound) → B (drop i bs) cs → B bs (old ++ cs)) → (cs : List Bound) → B (drop (i + 1) bs) cs → B bs (new ++ cs)
   bounds_step bs i b c old new lt e l u s k cs r =
       subst (B bs) (sym (ap (λ z. z ++ cs) s ∙ append_assoc old (c ∷ []) cs))
@@ -42,6 +42,7 @@ module _ (ds : List Decl) where
   pub bounds_done : (bs items : List Bound) (i : ℕ) → drop i bs ≡ [] → ((cs : List Bound) → B (drop i bs) cs → B bs (items ++ cs)) → B bs items
   bounds_done bs items i e k = subst (B bs) (append-nil items) (k [] (subst (λ z. B z []) (sym e) both_end))
 
+module _ (ds : List Decl) where
   pub bound_large : (bs : List Bound) (i : ℕ) (b : Bound) → i < length bs → b ≡ get_or bs i b → IsTooLarge ds b.low ⊎ IsTooLarge ds b.high → HasTooLarge ds (bound_types bs)
   bound_large [] i b lt e l = absurd (omega arith)
   bound_large (x ∷ xs) zero b lt e (inl l) = some_first (IsTooLarge ds) x.low (x.high ∷ bound_types xs) (subst (λ (z : Bound). IsTooLarge ds z.low) e l)

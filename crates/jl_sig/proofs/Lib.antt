@@ -13,5 +13,14 @@ pub mod PickLemmas
 pub mod PlacedLemmas
 pub mod WholeLemmas
 pub mod BuildLemmas
+pub mod RowFit
+pub mod KeptLemmas
+pub mod FieldLemmas
+pub mod StructReady
+pub mod SampleLemmas
 pub mod LimitLemmas
 pub mod SigLemmas
+pub mod InferredLemmas
+pub mod FieldSigLemmas
+pub mod ReadyLemmas
+pub mod BareLemmas

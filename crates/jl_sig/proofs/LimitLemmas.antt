@@ -1,41 +1,35 @@
 -- Which types in a signature are too large.
-use Rattle.std.proofs.Common.{◌≡◌, ◌∙◌, sym, ap, subst, refl, ℕ, zero, suc, ◌+◌, ◌*◌, ◌<◌, ◌≤◌, max, arith, Bool, true, false, ◌&&◌, IsTrue, List, [], ◌∷◌, ◌++◌, map, length, length-append, get_or, ◌⊎◌, inl, inr}
+use Rattle.std.proofs.Common.{◌≡◌, ◌∙◌, sym, ap, subst, refl, ℕ, zero, suc, ◌+◌, ◌*◌, ◌<◌, ◌≤◌, max, arith, Bool, true, false, List, [], ◌∷◌, map, length, length-append, ◌⊎◌, inl, inr}
 use Rattle.std.specs.List.{flat_map, list_all, Contains}
 use Rattle.std.proofs.lemmas.List.{length-map}
-use Rattle.std.proofs.lemmas.List.Elements.{Contains-append_left, Contains-append_right, Contains-append_cases}
+use Rattle.std.proofs.lemmas.List.Elements.{Contains-append_left, Contains-append_cases}
 use Rattle.jl_model.specs.declared.ty.Ty.{Ty}
 use Rattle.jl_model.specs.declared.ty.Ty.TheViews as V
 use Rattle.jl_model.specs.declared.ty.Ty.TheVariants as W
-use Rattle.jl_model.specs.declared.ty.Bound.{Bound}
 use Rattle.jl_model.specs.declared.ty.Decl.{Decl}
 use Rattle.jl_model.specs.declared.ty.Written.{Written}
 use Rattle.jl_model.specs.Ancestors.{table_of}
 use Rattle.jl_model.specs.Counts.{nodes, total, product, greatest, raw, raw_of, Raw, IsWithinLimits}
 use Rattle.jl_model.specs.Normal.{IsNormalForm}
-use Rattle.jl_model.specs.Rows.{alts, choices, free, high}
+use Rattle.jl_model.specs.Rows.{alts, choices}
 use Rattle.jl_model.specs.Signature.{Both, both_end, both_more}
 use Rattle.jl_model.specs.Subtype.{Table}
-use Rattle.jl_model.specs.Valid.{is_known, is_closed}
+use Rattle.jl_model.specs.Valid.{is_closed}
 use Rattle.jl_model.specs.Refusals.{Declared, bound_types, Given, given_in, given_from}
-use Rattle.jl_model.specs.SigRefusals.{types_in, arguments_in, are_placed, is_component, is_argument, HasClosed, LargeForm, ManyNodes, ManyAlternatives, ManyRows, VariablePlace, TypeLimit}
+use Rattle.jl_model.specs.SigRefusals.{types_in, arguments_in, are_placed, is_component, LargeForm, VariablePlace}
 use Rattle.jl_model.proofs.TypeInduction.{Each, by_cases}
 use Rattle.jl_model.proofs.FormLemmas.{alts-any, alts-union, alts-tuple, alts-nominal, alts-var}
-use Rattle.jl_model.proofs.CountLemmas.{nodes_all, nodes-any, nodes-union, nodes-tuple, nodes-nominal, nodes-var, raw-any, raw-union, raw-tuple, raw-nominal, raw-var}
-use Rattle.jl_model.proofs.PutLemmas.{and_l, and_r, both_true}
-use Rattle.jl_model.proofs.AncestorLemmas.{each_true, true_each}
+use Rattle.jl_model.proofs.CountLemmas.{nodes_all, nodes-union, nodes-tuple, nodes-nominal, raw-any, raw-union, raw-tuple, raw-nominal, raw-var}
+use Rattle.jl_model.proofs.PutLemmas.{and_l, and_r}
 use Rattle.jl_model.proofs.DeclaredLemmas.{declared_lawful, not_false}
 use Rattle.jl_model.proofs.TransLemmas.{equal_trans}
 use Rattle.jl_model.proofs.NormalLemmas.{normal_same}
 use Rattle.jl_types.specs.Form.{IsTooLarge}
 use Rattle.jl_types.proofs.ExistLemmas.{exists}
-use Rattle.jl_types.proofs.ExpandLemmas.{nodes-positive}
-use Rattle.jl_types.proofs.PartsLemmas.{closed-any, closed-union, closed-tuple, closed-nominal, closed-var}
 use Rattle.jl_sig.specs.Parts.{HasWide}
 use Rattle.jl_sig.specs.Forms.{IsSmallForm, HasTooLarge, AreFormed, formed_end, formed_open, formed_closed, HasTooLargeGiven}
-use Rattle.jl_sig.specs.Fit.{IsSmall, AllSmallGiven, IsFit, AllFit}
-use Rattle.jl_sig.proofs.GivenLemmas.{AllGiven, given-any, given-var, given-union, given-tuple, given-nominal, given_both, given_none, given_each, each_given}
+use Rattle.jl_sig.proofs.GivenLemmas.{AllGiven, given-any, given-var, given-union, given-tuple, given-nominal, given_both, given_none}
 use Rattle.jl_sig.proofs.ExpansionLemmas.{length-choices}
-use Rattle.jl_sig.proofs.FitLemmas.{argument-any, argument-union, argument-tuple, argument-nominal, component-any, component-union, component-tuple, component-nominal}
 
 -- RAW ALTERNATIVES
 abbrev Counted : Ty → Type 0

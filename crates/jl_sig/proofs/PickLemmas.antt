@@ -1,6 +1,5 @@
 -- The alternatives that a low bound is below, as they are written and as they are kept.
-use Rattle.std.proofs.Common.{◌≡◌, ◌∙◌, sym, ap, subst, refl, ℕ, zero, suc, ◌+◌, ◌<◌, ◌≤◌, arith, add-one, Bool, true, false, IsTrue, List, [], ◌∷◌, ◌++◌, length, drop, get_or, append_assoc, append-nil, length-append, ◌⊎◌, inl, inr}
-use Rattle.std.specs.List.{list_all}
+use Rattle.std.proofs.Common.{◌≡◌, ◌∙◌, sym, ap, subst, refl, ℕ, zero, suc, ◌+◌, ◌<◌, arith, Bool, true, List, [], ◌∷◌, ◌++◌, length, drop, get_or, append_assoc, append-nil, length-append, ◌⊎◌, inl, inr}
 use Rattle.jl_model.specs.declared.ty.Ty.{Ty}
 use Rattle.jl_model.specs.declared.ty.Ty.TheViews.{outs-Any, outs-Tuple, outs-Nominal, outs-Var}
 use Rattle.jl_model.specs.declared.ty.Ty.TheViews as V
@@ -23,7 +22,7 @@ use Rattle.jl_model.proofs.DeclaredLemmas.{declared_lawful}
 use Rattle.jl_model.proofs.TransLemmas.{below_trans, equal_trans}
 use Rattle.jl_model.proofs.NormalLemmas.{normal_same}
 use Rattle.jl_model.proofs.KnownLemmas.{Known, alts_known}
-use Rattle.jl_types.specs.Form.{IsOfParts, Settles}
+use Rattle.jl_types.specs.Form.{IsOfParts}
 use Rattle.jl_types.specs.Ground.{IsGround}
 use Rattle.jl_types.proofs.ExistLemmas.{exists}
 use Rattle.jl_types.proofs.PartsLemmas.{known_parts}

@@ -1,16 +1,15 @@
 -- What the code that lists the places of variables needs.
-use Rattle.std.proofs.Common.{◌≡◌, ◌∙◌, sym, ap, subst, refl, ℕ, zero, suc, ◌+◌, ◌*◌, ◌<◌, ◌≤◌, arith, List, [], ◌∷◌, ◌++◌, length, drop, get_or, append_assoc, append-nil}
-use Rattle.std.proofs.Math.Nat.{suc-mul, mul-suc}
+use Rattle.std.proofs.Common.{◌≡◌, ◌∙◌, sym, ap, ℕ, zero, suc, ◌+◌, ◌*◌, ◌<◌, ◌≤◌, arith, List, [], ◌∷◌, ◌++◌, length, drop, get_or, append_assoc, append-nil}
+use Rattle.std.proofs.Math.Nat.{mul-suc}
 use Rattle.jl_model.specs.declared.ty.Ty.{Ty}
 use Rattle.jl_model.specs.declared.ty.Ty.TheVariants as W
 use Rattle.jl_model.specs.declared.ty.Bound.{Bound}
 use Rattle.jl_model.specs.declared.ty.Written.{Written}
-use Rattle.jl_model.specs.Kinds as model
-use Rattle.jl_model.specs.Rows.{alts, atom, atoms, free, high, kind, width}
+use Rattle.jl_model.specs.Rows.{alts, atom, atoms, free, high, kind}
 use Rattle.jl_model.specs.AllRows.{each_var}
 use Rattle.jl_sig.specs.declared.kind.Kind.{Kind}
 use Rattle.jl_sig.specs.KindIn.{kind_in}
-use Rattle.jl_sig.specs.Built.{picked, place_by, place_in, AreKinds}
+use Rattle.jl_sig.specs.Built.{place_by, place_in, AreKinds}
 use Rattle.jl_sig.proofs.FormSteps.{drop_at}
 use Rattle.jl_sig.proofs.PickLemmas.{element, bound_is}
 use Rattle.jl_sig.proofs.RowLemmas.{each-here, kind_at, picked_at}

@@ -1,5 +1,5 @@
 -- Some element of a list, from a place on.
-use Rattle.std.proofs.Common.{◌≡◌, sym, ap, subst, refl, ℕ, zero, suc, ◌+◌, ◌<◌, arith, add-one, List, [], ◌∷◌, length, drop, get_or}
+use Rattle.std.proofs.Common.{◌≡◌, sym, subst, refl, ℕ, zero, suc, ◌+◌, ◌<◌, arith, add-one, List, [], ◌∷◌, length, drop, get_or}
 use Rattle.std.specs.List.{Contains}
 
 module _ {A : Type 0} (P : A → Type 0) where

@@ -1,24 +1,23 @@
 -- What the code that prepares a signature needs.
-use Rattle.std.proofs.Common.{◌≡◌, ◌∙◌, sym, ap, subst, refl, ℕ, zero, suc, ◌+◌, ◌<◌, ◌≤◌, arith, Bool, true, false, ◌&&◌, IsTrue, ◌↔◌, List, [], ◌∷◌, ◌++◌, map, length, get_or, ◌⊎◌, inl, inr}
+use Rattle.std.proofs.Common.{◌≡◌, ◌∙◌, sym, ap, subst, refl, ℕ, zero, suc, ◌+◌, ◌<◌, ◌≤◌, arith, Bool, true, false, IsTrue, ◌↔◌, List, [], ◌∷◌, ◌++◌, map, length, get_or, ◌⊎◌, inl, inr}
 use Rattle.std.specs.List.{flat_map, list_all, Contains}
 use Rattle.std.proofs.lemmas.List.Elements.{Contains-append_left, Contains-append_right}
 use Rattle.jl_model.specs.declared.ty.Ty.{Ty}
-use Rattle.jl_model.specs.declared.ty.Ty.TheViews as V
 use Rattle.jl_model.specs.declared.ty.Ty.TheVariants as W
 use Rattle.jl_model.specs.declared.ty.Bound.{Bound}
 use Rattle.jl_model.specs.declared.ty.Decl.{Decl}
 use Rattle.jl_model.specs.declared.ty.Written.{Written}
 use Rattle.jl_model.specs.Ancestors.{table_of}
-use Rattle.jl_model.specs.Counts.{nodes, total, raw}
+use Rattle.jl_model.specs.Counts.{nodes, total}
 use Rattle.jl_model.specs.Rows.{alts, free, high}
 use Rattle.jl_model.specs.Signature.{Both}
 use Rattle.jl_model.specs.Valid.{is_known, is_closed}
 use Rattle.jl_model.specs.Refusals.{Declared, bound_types, Given, given_in, given_from}
-use Rattle.jl_model.specs.SigRefusals.{types_in, arguments_in, are_placed, is_component, is_argument, ManyNodes, ManyAlternatives, LargeForm, ManyRows, TypeLimit}
+use Rattle.jl_model.specs.SigRefusals.{types_in, arguments_in, are_placed, is_component, is_argument, TypeLimit}
 use Rattle.jl_model.specs.AllRows.{Listed}
 use Rattle.jl_model.proofs.TypeInduction.{Each, by_cases}
 use Rattle.jl_model.proofs.FormLemmas.{alts-any}
-use Rattle.jl_model.proofs.CountLemmas.{nodes_all, raw-any}
+use Rattle.jl_model.proofs.CountLemmas.{nodes_all}
 use Rattle.jl_model.proofs.PutLemmas.{and_l, and_r, both_true}
 use Rattle.jl_model.proofs.AncestorLemmas.{each_true, true_each}
 use Rattle.jl_model.proofs.DeclaredLemmas.{not_false}
@@ -27,8 +26,8 @@ use Rattle.jl_types.proofs.ExpandLemmas.{nodes-positive}
 use Rattle.jl_types.proofs.PartsLemmas.{closed-any, closed-union, closed-tuple, closed-nominal, closed-var}
 use Rattle.jl_sig.specs.Parts.{HasWide}
 use Rattle.jl_sig.specs.Forms.{IsSmallForm, AreFormed, AreKnown}
-use Rattle.jl_sig.specs.Fit.{IsSmall, IsFit, AllFit}
-use Rattle.jl_sig.specs.Prepared.{HasOwnVariables, IsBuildable, AreAllRows, IsWellPlaced}
+use Rattle.jl_sig.specs.Fit.{IsFit, AllFit}
+use Rattle.jl_sig.specs.Prepared.{IsBuildable, AreAllRows, IsWellPlaced}
 use Rattle.jl_sig.proofs.GivenLemmas.{AllGiven, given-any, given-var, given-union, given-tuple, given-nominal, given_both, given_none, each_given}
 use Rattle.jl_sig.proofs.FitLemmas.{argument-any, argument-var, argument-union, argument-tuple, argument-nominal, component-any, component-union, component-tuple, component-nominal}
 use Rattle.jl_sig.proofs.LimitLemmas.{few_alternatives, within, arguments_within, argument_form, not_too_large, no_large}
@@ -99,13 +98,6 @@ listed_known ds (g ∷ gs) h =
 pub arguments_known : (ds : List Decl) (ts : List Ty) → list_all (is_known (length ds)) ts ≡ true → AreKnown ds (flat_map given_in ts)
 arguments_known ds ts h = listed_known ds (flat_map given_in ts) (each_given (G ds) ts (all_given_known ds ts (true_each (is_known (length ds)) ts h)))
 
-all_left : (p : Ty → Bool) (ts us : List Ty) → list_all p (ts ++ us) ≡ true → list_all p ts ≡ true
-all_left p [] us h = refl
-all_left p (t ∷ ts) us h = both_true (p t) (list_all p ts) (and_l (p t) (list_all p (ts ++ us)) h) (all_left p ts us (and_r (p t) (list_all p (ts ++ us)) h))
-
-pub bounds_known : (ds : List Decl) (s : Written) → IsWellPlaced ds s → list_all (is_known (length ds)) (bound_types s.vars) ≡ true
-bounds_known ds s w = all_left (is_known (length ds)) (bound_types s.vars) s.parts w.known
-
 -- the upper bound of a variable
 high_at : (bs : List Bound) (v : ℕ) → v < length bs → Contains (bound_types bs) (get_or bs v free).high
 high_at [] v l = absurd (omega arith)
@@ -147,22 +139,25 @@ module _ (ds : List Decl) (declared : Declared ds) (s : Written) (w : IsWellPlac
   bounds_closed : list_all is_closed (bound_types s.vars) ≡ true
   bounds_closed = and_l (list_all is_closed (bound_types s.vars)) (list_all is_component s.parts) (not_false (are_placed s) w.placed)
 
+  parts_placed : list_all is_component s.parts ≡ true
+  parts_placed = and_r (list_all is_closed (bound_types s.vars)) (list_all is_component s.parts) (not_false (are_placed s) w.placed)
+
   inside : (t : Ty) → Contains (bound_types s.vars) t → Contains (types_in s) t
   inside t c = Contains-append_left (bound_types s.vars) s.parts t c
 
-  fit_one : (t : Ty) → Contains (bound_types s.vars) t → IsFit ds t
-  fit_one t c = record {
-    known = true_at (is_known (length ds)) (bound_types s.vars) t (bounds_known ds s w) c;
-    placed = component_of t (true_at is_closed (bound_types s.vars) t bounds_closed c);
+  fit_one : (t : Ty) → Contains (types_in s) t → is_component t ≡ true → IsFit ds t
+  fit_one t c p = record {
+    known = true_at (is_known (length ds)) (types_in s) t w.known c;
+    placed = p;
     small = λ a d k l.
-        let g = flat_contains (types_in s) t a (inside t c) d in
+        let g = flat_contains (types_in s) t a c d in
         let f = argument_form ds declared (arguments_in s) hs a formed g k in
         not_too_large ds declared a.ty f.0 (arguments_within (types_in s) m wide a g) f.1 l;
   }
 
-  fit_all : (ts : List Ty) → ((t : Ty) → Contains ts t → Contains (bound_types s.vars) t) → AllFit ds ts
+  fit_all : (ts : List Ty) → ((t : Ty) → Contains ts t → Contains (types_in s) t × (is_component t ≡ true)) → AllFit ds ts
   fit_all [] h = tt
-  fit_all (t ∷ ts) h = (fit_one t (h t (zero, omega arith, refl)), fit_all ts (λ u c. h u (suc c.0, omega (arith, c.1), c.2)))
+  fit_all (t ∷ ts) h = let c = h t (zero, omega arith, refl) in (fit_one t c.0 c.1, fit_all ts (λ u d. h u (suc d.0, omega (arith, d.1), d.2)))
 
   pub buildable : IsBuildable ds s bounds
   buildable = record {
@@ -171,7 +166,8 @@ module _ (ds : List Decl) (declared : Declared ds) (s : Written) (w : IsWellPlac
       | inl a ↦ true_at is_closed (bound_types s.vars) (high s v) bounds_closed (high_at s.vars v a)
       | inr b ↦ ap is_closed (high_past s.vars v b) ∙ closed-any
     ];
-    fit = fit_all (bound_types s.vars) (λ t c. c);
+    fit = fit_all (bound_types s.vars) (λ t c. (inside t c, component_of t (true_at is_closed (bound_types s.vars) t bounds_closed c)));
+    parts = fit_all s.parts (λ t c. (Contains-append_right (bound_types s.vars) s.parts t c, true_at is_component s.parts t parts_placed c));
     forms = forms;
     few = let a = bounds_nodes s.vars in let b = total_append (bound_types s.vars) s.parts in omega (arith, a, b, m);
     narrow = λ v. elim (lt_cases v (length s.vars)) [

@@ -1,5 +1,5 @@
 -- The rows that the code builds are all rows of the signature.
-use Rattle.std.proofs.Common.{◌≡◌, ◌∙◌, sym, ap, subst, refl, ℕ, zero, suc, ◌+◌, ◌*◌, ◌%◌, ◌<◌, ◌≤◌, min, arith, Bool, true, false, ◌&&◌, ◌||◌, not, cond, nat_eq, nat_lt, List, [], ◌∷◌, ◌++◌, map, length, get_or, ◌⊎◌, inl, inr}
+use Rattle.std.proofs.Common.{◌≡◌, ◌∙◌, sym, ap, subst, refl, ℕ, zero, suc, ◌+◌, ◌*◌, ◌%◌, ◌<◌, ◌≤◌, arith, Bool, true, false, ◌&&◌, ◌||◌, not, cond, nat_eq, nat_lt, List, [], ◌∷◌, ◌++◌, map, length, get_or, ◌⊎◌, inl, inr}
 use Rattle.std.specs.List.{flat_map, list_all, list_any}
 use Rattle.std.proofs.lemmas.List.{length-map}
 use Rattle.std.proofs.lemmas.Nat.{mod-mul-add}
@@ -8,12 +8,11 @@ use Rattle.jl_model.specs.declared.ty.Ty.{Ty}
 use Rattle.jl_model.specs.declared.ty.Ty.TheViews as V
 use Rattle.jl_model.specs.declared.ty.Ty.TheVariants as W
 use Rattle.jl_model.specs.declared.ty.Bound.{Bound}
-use Rattle.jl_model.specs.declared.ty.Decl.{Decl}
 use Rattle.jl_model.specs.declared.ty.Written.{Written}
 use Rattle.jl_model.specs.Kinds as model
 use Rattle.jl_model.specs.Kinds.{Places, places, plus_all, kind_of, nowhere, unused, once, diagonal, bound}
-use Rattle.jl_model.specs.Rows.{alts, atom, atoms, choices, components, forms, free, high, kind, low, place_of, root, vars_in, width}
-use Rattle.jl_model.specs.Subtype.{Table, opaque, Below}
+use Rattle.jl_model.specs.Rows.{alts, atom, atoms, choices, components, forms, high, kind, place_of, root, vars_in, width}
+use Rattle.jl_model.specs.Subtype.{Table}
 use Rattle.jl_model.specs.Signature.{is_diagonal}
 use Rattle.jl_model.specs.AllRows.{Above, above_end, taken, passed, ArePicks, Listed, all_rows, each_var, occurs, rows_with, slot}
 use Rattle.jl_model.specs.Usable.{stands_in}
@@ -25,9 +24,9 @@ use Rattle.jl_types.proofs.PartsLemmas.{closed-union, closed-tuple}
 use Rattle.jl_model.proofs.FormLemmas.{vars-var}
 use Rattle.jl_sig.specs.Built.{placed, picked, place_by, place_in, ArePicked, rows_from}
 use Rattle.jl_sig.proofs.KindLemmas.{places-any, places-union, places-tuple, places-nominal, places-var}
-use Rattle.jl_sig.proofs.UsableLemmas.{stands-any, stands-union, stands-tuple, stands-nominal, stands-var}
+use Rattle.jl_sig.proofs.UsableLemmas.{stands-union, stands-tuple, stands-nominal, stands-var}
 use Rattle.jl_sig.proofs.ExpansionLemmas.{forms-any, forms-union, forms-tuple, forms-nominal, forms-var}
-use Rattle.jl_sig.proofs.LiveLemmas.{has_place, sift, sift-flat, sift_long, live, live_row, live_rows}
+use Rattle.jl_sig.proofs.LiveLemmas.{sift, sift-flat, sift_long, live, live_row, live_rows}
 use Rattle.jl_sig.proofs.RowLemmas.{each-get, each-long}
 
 -- a picked list is one
@@ -116,28 +115,35 @@ pub record Carries (P : Ty → Type 0) (at : ℕ → List Ty) : Type 0 where
   pub join : (us : List Ty) → Each P us → P (V.Tuple us)
   pub var : (v : ℕ) → P (W.Var v) → Each P (at v)
 
+-- each member of each list
+abbrev pub Rows : (Ty → Type 0) → List (List Ty) → Type 0
+Rows P [] = Unit {0}
+Rows P (r ∷ rs) = Each P r × Rows P rs
+
+-- choices among lists whose members have a property have it
+module _ (P : Ty → Type 0) where
+  pub chosen_have : (ls : List (List Ty)) → Rows P ls → Rows P (choices ls)
+  chosen_have [] e = (tt, tt)
+  chosen_have (l ∷ ls) e = flat (choices ls) l e.0 (chosen_have ls e.1)
+    where
+      join : (rs ss : List (List Ty)) → Rows P rs → Rows P ss → Rows P (rs ++ ss)
+      join [] ss f g = g
+      join (r ∷ rs) ss f g = (f.0, join rs ss f.1 g)
+
+      cons : (t : Ty) (rs : List (List Ty)) → P t → Rows P rs → Rows P (map (λ us. t ∷ us) rs)
+      cons t [] p f = tt
+      cons t (r ∷ rs) p f = ((p, f.0), cons t rs p f.1)
+
+      flat : (rs : List (List Ty)) (ts : List Ty) → Each P ts → Rows P rs → Rows P (flat_map (λ t. map (λ us. t ∷ us) rs) ts)
+      flat rs [] f g = tt
+      flat rs (t ∷ ts) f g = join (map (λ us. t ∷ us) rs) (flat_map (λ u. map (λ us. u ∷ us) rs) ts) (cons t rs f.0 g) (flat rs ts f.1 g)
+
 module _ (P : Ty → Type 0) (at : ℕ → List Ty) (h : Carries P at) where
   joined : (ts us : List Ty) → Each P ts → Each P us → Each P (ts ++ us)
   joined [] us e f = f
   joined (t ∷ ts) us e f = (e.0, joined ts us e.1 f)
 
-  abbrev Rows : List (List Ty) → Type 0
-  Rows [] = Unit {0}
-  Rows (r ∷ rs) = Each P r × Rows rs
-
-  rows_joined : (rs ss : List (List Ty)) → Rows rs → Rows ss → Rows (rs ++ ss)
-  rows_joined [] ss e f = f
-  rows_joined (r ∷ rs) ss e f = (e.0, rows_joined rs ss e.1 f)
-
-  rows_cons : (t : Ty) (rs : List (List Ty)) → P t → Rows rs → Rows (map (λ us. t ∷ us) rs)
-  rows_cons t [] p e = tt
-  rows_cons t (r ∷ rs) p e = ((p, e.0), rows_cons t rs p e.1)
-
-  rows_flat : (ts : List Ty) (rs : List (List Ty)) → Each P ts → Rows rs → Rows (flat_map (λ t. map (λ us. t ∷ us) rs) ts)
-  rows_flat [] rs e f = tt
-  rows_flat (t ∷ ts) rs e f = rows_joined (map (λ us. t ∷ us) rs) (flat_map (λ t. map (λ us. t ∷ us) rs) ts) (rows_cons t rs e.0 f) (rows_flat ts rs e.1 f)
-
-  tuples_have : (rs : List (List Ty)) → Rows rs → Each P (map (λ us. V.Tuple us) rs)
+  tuples_have : (rs : List (List Ty)) → Rows P rs → Each P (map (λ us. V.Tuple us) rs)
   tuples_have [] e = tt
   tuples_have (r ∷ rs) e = (h.join r e.0, tuples_have rs e.1)
 
@@ -145,15 +151,15 @@ module _ (P : Ty → Type 0) (at : ℕ → List Ty) (h : Carries P at) where
   flat_have [] e f = tt
   flat_have (t ∷ ts) e f = joined (forms at t) (flat_map (forms at) ts) (e.0 f.0) (flat_have ts e.1 f.1)
 
-  choices_have : (ts : List Ty) → Each (λ t. P t → Each P (forms at t)) ts → Each P ts → Rows (choices (map (forms at) ts))
-  choices_have [] e f = (tt, tt)
-  choices_have (t ∷ ts) e f = rows_flat (forms at t) (choices (map (forms at) ts)) (e.0 f.0) (choices_have ts e.1 f.1)
+  forms_rows : (ts : List Ty) → Each (λ t. P t → Each P (forms at t)) ts → Each P ts → Rows P (map (forms at) ts)
+  forms_rows [] e f = tt
+  forms_rows (t ∷ ts) e f = (e.0 f.0, forms_rows ts e.1 f.1)
 
   pub forms_have : (t : Ty) → P t → Each P (forms at t)
   forms_have = by_cases (λ t. P t → Each P (forms at t)) (record {
     any = λ p. subst (Each P) (sym (forms-any at)) (p, tt);
     union = λ ts e p. subst (Each P) (sym (forms-union at ts)) (flat_have ts e (h.union ts p));
-    tuple = λ ts e p. subst (Each P) (sym (forms-tuple at ts)) (tuples_have (choices (map (forms at) ts)) (choices_have ts e (h.tuple ts p)));
+    tuple = λ ts e p. subst (Each P) (sym (forms-tuple at ts)) (tuples_have (choices (map (forms at) ts)) (chosen_have P (map (forms at) ts) (forms_rows ts e (h.tuple ts p))));
     nominal = λ k ts e p. subst (Each P) (sym (forms-nominal at k ts)) (p, tt);
     var = λ v p. subst (Each P) (sym (forms-var at v)) (h.var v p);
   })
@@ -194,7 +200,7 @@ away (n ∷ ns) m v h l =
     let q : nat_eq v n ≡ false = grind (arith, p, l) in
     ap (λ b. b || list_any (nat_eq v) ns) q ∙ away ns m v (and_r (nat_lt n m) (list_all (λ w. nat_lt w m) ns) h) l
 
-all_split : (p : ℕ → Bool) (xs ys : List ℕ) → list_all p (xs ++ ys) ≡ true → (list_all p xs ≡ true) × (list_all p ys ≡ true)
+pub all_split : (p : ℕ → Bool) (xs ys : List ℕ) → list_all p (xs ++ ys) ≡ true → (list_all p xs ≡ true) × (list_all p ys ≡ true)
 all_split p [] ys h = (refl, h)
 all_split p (x ∷ xs) ys h =
     let r = all_split p xs ys (and_r (p x) (list_all p (xs ++ ys)) h) in

@@ -1,5 +1,5 @@
 -- The rows of a signature, as the code builds them.
-use Rattle.std.specs.Prelude.{ℕ, ◌%◌, ◌≡◌, ◌<◌, Bool, nat_eq, List, [], ◌∷◌, map, length, get_or}
+use Rattle.std.specs.Prelude.{ℕ, ◌%◌, ◌≡◌, ◌<◌, Bool, nat_eq, List, [], ◌∷◌, map, get_or}
 use Rattle.std.specs.List.{flat_map, list_any}
 use Rattle.jl_model.specs.declared.ty.Ty.{Ty}
 use Rattle.jl_model.specs.declared.ty.Ty.TheVariants as W
@@ -7,7 +7,7 @@ use Rattle.jl_model.specs.declared.ty.Written.{Written}
 use Rattle.jl_model.specs.declared.ty.Decl.{Decl}
 use Rattle.jl_model.specs.Kinds as model
 use Rattle.jl_model.specs.Kinds.{unused, once, diagonal, bound}
-use Rattle.jl_model.specs.Rows.{alts, atoms, choices, forms, high, kind, low, vars_in}
+use Rattle.jl_model.specs.Rows.{alts, atoms, high, kind, low, vars_in}
 use Rattle.jl_model.specs.Ancestors.{table_of}
 use Rattle.jl_model.specs.Subtype.{Table, Equal}
 use Rattle.jl_model.specs.Signature.{Both}

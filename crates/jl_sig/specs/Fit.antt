@@ -1,14 +1,14 @@
 -- Types whose arguments have small normal forms.
-use Rattle.std.specs.Prelude.{ℕ, ◌≡◌, IsTrue, List, [], ◌∷◌, length}
-use Rattle.std.specs.List.{list_all, Contains}
+use Rattle.std.specs.Prelude.{IsTrue, List, [], ◌∷◌, length}
+use Rattle.std.specs.List.{Contains}
 use Rattle.jl_model.specs.declared.ty.Ty.{Ty}
 use Rattle.jl_model.specs.declared.ty.Decl.{Decl}
+use Rattle.jl_model.specs.declared.ty.Written.{Written}
 use Rattle.jl_model.specs.Ancestors.{table_of}
-use Rattle.jl_model.specs.Subtype.{Table}
 use Rattle.jl_model.specs.Signature.{Both}
 use Rattle.jl_model.specs.Normal.{IsNormalForm}
 use Rattle.jl_model.specs.Valid.{is_known, is_closed}
-use Rattle.jl_model.specs.Refusals.{Given, given_in}
+use Rattle.jl_model.specs.Refusals.{Given, given_in, bound_types}
 use Rattle.jl_model.specs.SigRefusals.{is_argument, is_component}
 use Rattle.jl_model.specs.AllRows.{Listed}
 use Rattle.jl_types.specs.Form.{IsTooLarge, Settles}
@@ -51,7 +51,17 @@ pub record IsKeptRow (ds : List Decl) (r : Listed) (k : SigRow) : Type 0 where
   pub parts : Both (IsKeptAs ds) r.parts k.parts
   pub chosen : Both (IsKeptAs ds) r.chosen k.chosen
 
+-- rows that can be kept
+abbrev pub AllRowsFit : List Decl → List Listed → Type 0
+AllRowsFit ds [] = Unit {0}
+AllRowsFit ds (r ∷ rs) = (AllFit ds r.parts × AllFit ds r.chosen) × AllRowsFit ds rs
+
 -- rows as they are kept, one by one
 pub data AreKeptRows (ds : List Decl) : List Listed → List SigRow → Type 0 where
   rows_end : AreKeptRows ds [] []
   rows_more : (r : Listed) (k : SigRow) (rs : List Listed) (ks : List SigRow) → IsKeptRow ds r k → AreKeptRows ds rs ks → AreKeptRows ds (r ∷ rs) (k ∷ ks)
+
+-- the signature k is s with the arguments of nominal types in normal form, in its bounds and in its components
+pub record IsKeptSignature (ds : List Decl) (s k : Written) : Type 0 where
+  pub bounds : Both (IsKeptAs ds) (bound_types s.vars) (bound_types k.vars)
+  pub parts : Both (IsKeptAs ds) s.parts k.parts

@@ -1,5 +1,5 @@
 -- The bounds and arguments of a signature in normal form.
-use Rattle.std.specs.Prelude.{ℕ, ◌≡◌, ◌≤◌, true, false, IsTrue, List, [], ◌∷◌, length, get_or, slice_get, map}
+use Rattle.std.specs.Prelude.{◌≡◌, ◌≤◌, true, false, IsTrue, List, [], ◌∷◌, length, get_or, slice_get}
 use Rattle.std.specs.List.{list_all, Contains}
 use Rattle.jl_model.specs.declared.ty.Ty.{Ty}
 use Rattle.jl_model.specs.declared.ty.Bound.{Bound}

@@ -3,4 +3,10 @@ pub mod Parts
 pub mod Forms
 pub mod Built
 pub mod Fit
+pub mod SigParts
 pub mod Prepared
+pub mod Fields
+pub mod Samples
+pub mod Inferred
+pub mod Readied
+pub mod SamplePrograms

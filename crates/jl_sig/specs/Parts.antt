@@ -1,5 +1,5 @@
 -- The types and arguments in a signature, as the code lists them.
-use Rattle.std.specs.Prelude.{ℕ, ◌≡◌, ◌<◌, List, map}
+use Rattle.std.specs.Prelude.{◌<◌, List, map}
 use Rattle.std.specs.List.{Contains}
 use Rattle.jl_model.specs.declared.ty.Ty.{Ty}
 use Rattle.jl_model.specs.Counts.{raw}

@@ -3,13 +3,14 @@
 ghost use Rattle.std.specs.Prelude.{IfOk, MatchOption, map};
 ghost use Rattle.jl_model.specs.Ancestors.{table_of};
 ghost use Rattle.jl_model.specs.SigRefusals.{ManyRows};
-ghost use Rattle.jl_sig.specs.Built.{listed};
+ghost use Rattle.jl_sig.specs.Built.{listed, AreKinds};
 ghost use Rattle.jl_sig.specs.Prepared.{IsBuildable, AreAllRows};
 
 use crate::expansion::{components, product_of_forms};
+use crate::kind::Kind;
 use crate::row::SigRow;
 use crate::rows::{MOST_ROWS, rows_from};
-use crate::variables::{kinds, picks, places};
+use crate::variables::{picks, places};
 use jl_model::ty::{Bound, Written};
 use jl_types::Table;
 use std::alloc::{AllocError, Global};
@@ -20,15 +21,16 @@ pub fn all_rows(
     alloc: Global,
     table: &Table,
     written: &Written,
+    kinds: &[Kind],
     bounds: &[Bound],
 ) -> Result<Option<Vec<SigRow>>, AllocError>
-    requires { IsBuildable table.now written.now bounds.now }
+    requires buildable { IsBuildable table.now written.now bounds.now }
+    requires kinds { AreKinds written.now kinds.now }
     ensures { IfOk result (λ o. MatchOption o (ManyRows (table_of table.now) written.now) (λ rows. AreAllRows (table_of table.now) written.now (map listed rows.items))) }
 {
     let parts = written.parts.as_slice();
-    let kinds = kinds(alloc, written)?;
-    let picks = picks(alloc, table, written, kinds.as_slice(), bounds)?;
-    let places = places(alloc, written, kinds.as_slice(), picks.as_slice())?;
+    let picks = picks(alloc, table, written, kinds, bounds)?;
+    let places = places(alloc, written, kinds, picks.as_slice())?;
     if product_of_forms(parts, places.as_slice()) > MOST_ROWS {
         return Ok(None);
     }
@@ -36,7 +38,7 @@ pub fn all_rows(
     let rows = rows_from(
         alloc,
         written,
-        kinds.as_slice(),
+        kinds,
         picks.as_slice(),
         components.as_slice(),
     )?;

@@ -19,7 +19,7 @@ use jl_types::{NormFault, Table, ground_sub, normal};
 use std::alloc::{AllocError, Global};
 
 /// Adds a bound.
-fn push_bound(bounds: &mut Vec<Bound>, bound: Bound) -> Result<(), AllocError>
+pub(crate) fn push_bound(bounds: &mut Vec<Bound>, bound: Bound) -> Result<(), AllocError>
     ensures { OnOk result (bounds.new.items ≡ bounds.old.items ++ bound ∷ []) }
 {
     bounds.push(bound)?;

@@ -6,10 +6,15 @@ pub mod arguments;
 mod build;
 mod expansion;
 mod fault;
+mod field_sigs;
+mod fields;
 pub mod forms;
+mod inferred;
 mod keep;
+mod kept;
 mod kind;
 pub mod limits;
+mod ready;
 pub mod row;
 mod rows;
 mod sig;
@@ -19,8 +24,11 @@ mod variables;
 
 pub use fault::SigFault;
 pub use kind::{Kind, kind_of};
+pub use ready::Ready;
 pub use sig::{Prepared, Sig, prepare};
 pub use usable::is_usable;
 
+#[cfg(test)]
+mod ready_tests;
 #[cfg(test)]
 mod tests;

@@ -1,32 +1,44 @@
 //! Signatures with what the walks over them need.
 
-ghost use Rattle.std.specs.Prelude.{◌≡◌, IsTrue, IfOk, Err, map, length};
+ghost use Rattle.std.specs.Prelude.{◌≡◌, ◌<◌, IsTrue, IfOk, IfErr, OnOk, Err, map, length};
 ghost use Rattle.std.specs.List.{list_all};
 ghost use Rattle.jl_model.specs.Valid.{is_known};
+ghost use Rattle.jl_model.specs.Ancestors.{table_of};
 ghost use Rattle.jl_model.specs.Kinds.{places, plus_all, kind_of};
 ghost use Rattle.jl_model.specs.SigRefusals.{types_in, IsAllowedSig, TypeLimit as TooLarge};
 ghost use Rattle.jl_model.specs.Usable.{is_usable};
 ghost use Rattle.jl_types.specs.declared.normal_form.NormFault.TheVariants.{TypeLimit};
 ghost use Rattle.jl_sig.specs.KindIn.{kind_in};
-ghost use Rattle.jl_sig.specs.Prepared.{HasOwnVariables, IsWellPlaced, IsSigOf, IsPrepared};
+ghost use Rattle.jl_sig.specs.Fields.{fields_of, FieldsRefused};
+ghost use Rattle.jl_sig.specs.Built.{listed, AreKinds};
+ghost use Rattle.jl_sig.specs.SigParts.{written_of, bounded_of, kept_of, diagonals_of, alternatives_of, rows_of};
+ghost use Rattle.jl_sig.specs.Prepared.{HasOwnVariables, IsBuildable, IsWellPlaced, AreAllRows, IsSigOf, IsPrepared};
 
 use crate::arguments::{Argument, arguments_in};
 use crate::build::all_rows;
+use crate::fault::SigFault;
+use crate::fields::fields_of;
 use crate::forms::{normal_arguments, normal_bounds};
+use crate::kept::{alternatives, diagonals, keep_rows, keep_signature};
 use crate::kind::{Kind, kind_of};
 use crate::limits::{have_many_nodes, have_wide};
 use crate::row::SigRow;
 use crate::types::types_in;
 use crate::usable::is_usable;
-use jl_model::ty::{Bound, Bounds, Written};
+use crate::variables::kinds;
+use jl_model::ty::{Bound, Bounds, Tys, Written};
 use jl_types::{NormFault, Table};
 use std::alloc::{AllocError, Global};
 
-/// A signature as it is written, with the bounds of its variables in normal form and all its rows.
+/// A signature with what the walks over it need: its bounds in normal form, itself and all its rows with the arguments of
+/// nominal types in normal form, which variables are diagonal, and the alternatives of its upper bounds.
 #[derive(Drop)]
 pub struct Sig {
     written: Written,
-    bounds: Bounds,
+    bounded: Written,
+    kept: Written,
+    diagonals: Vec<bool>,
+    alternatives: Vec<Tys>,
     rows: Vec<SigRow>,
 }
 
@@ -43,7 +55,7 @@ impl Sig {
         requires own { HasOwnVariables written.now }
         requires known { IsTrue (list_all (is_known (length table.now)) (types_in written.now)) }
         requires allowed { IsAllowedSig table.now written.now }
-        ensures written { IfOk result (λ sig. sig.written ≡ written.now) }
+        ensures written { IfOk result (λ sig. written_of sig ≡ written.now) }
         ensures kept { IfOk result (λ sig. IsSigOf table.now sig) }
     {
         match prepare(alloc, table, written) {
@@ -53,40 +65,124 @@ impl Sig {
         }
     }
 
+    /// The signature of the field types of a declared type, whose variables are the type's parameters with their declared
+    /// bounds (Julia manual, Constructors: Parametric Constructors). It has a component for each field, so it may have more than
+    /// eight. Beside want of memory it is refused exactly where `prepare` gives `TypeLimit`.
+    pub fn of_fields(alloc: Global, table: &Table, name: u32) -> Result<Sig, SigFault>
+        requires { name < length table.now }
+        ensures written { IfOk result (λ sig. written_of sig ≡ fields_of table.now name) }
+        ensures kept { IfOk result (λ sig. IsSigOf table.now sig) }
+        ensures small { OnOk result (TooLarge table.now (fields_of table.now name) → ⊥) }
+        ensures refused { IfErr result (λ fault. FieldsRefused fault table.now (fields_of table.now name)) }
+    {
+        table.valid();
+        let written = fields_of(alloc, table, name)?;
+        match prepare(alloc, table, &written) {
+            Ok(prepared) => Ok(prepared.sig),
+            Err(NormFault::TypeLimit) => Err(SigFault::TypeLimit),
+            Err(NormFault::Memory) => Err(SigFault::Memory),
+        }
+    }
+
     /// The signature as it is written.
     pub fn written(&self) -> &Written
-        ensures { result.now ≡ self.now.written }
+        ensures { result.now ≡ written_of self.now }
     {
         &self.written
     }
 
-    /// The bounds of its variables in normal form.
-    pub fn bounds(&self) -> &[Bound]
-        ensures { result.now ≡ self.now.bounds }
+    /// The signature with the bounds of its variables in normal form.
+    pub fn bounded(&self) -> &Written
+        ensures { result.now ≡ bounded_of self.now }
     {
-        self.bounds.as_slice()
+        &self.bounded
     }
 
-    /// All its rows, as they are written.
+    /// The bounds of its variables in normal form.
+    pub fn bounds(&self) -> &[Bound]
+        ensures { result.now ≡ (bounded_of self.now).vars }
+    {
+        self.bounded.vars.as_slice()
+    }
+
+    /// The signature with the arguments of nominal types in normal form, in its bounds and its components.
+    pub fn kept(&self) -> &Written
+        ensures { result.now ≡ kept_of self.now }
+    {
+        &self.kept
+    }
+
+    /// Of each variable, whether it is diagonal.
+    pub fn diagonals(&self) -> &[bool]
+        ensures { result.now ≡ diagonals_of self.now }
+    {
+        self.diagonals.as_slice()
+    }
+
+    /// For each variable the alternatives of its upper bound, with their arguments in normal form.
+    pub fn alternatives(&self) -> &[Tys]
+        ensures { result.now ≡ alternatives_of self.now }
+    {
+        self.alternatives.as_slice()
+    }
+
+    /// All its rows, with the arguments of nominal types in normal form.
     pub fn rows(&self) -> &[SigRow]
-        ensures { result.now ≡ self.now.rows.items }
+        ensures { result.now ≡ rows_of self.now }
     {
         self.rows.as_slice()
     }
 
     /// The kind of a variable.
     pub fn kind(&self, variable: u32) -> Kind
-        ensures { kind_in result ≡ kind_of (plus_all (map (places variable) self.now.written.parts)) }
+        ensures { kind_in result ≡ kind_of (plus_all (map (places variable) (written_of self.now).parts)) }
     {
         kind_of(self.written.parts.as_slice(), u64::from(variable))
     }
 
     /// Whether a method's body may use a variable: it occurs in the signature, and no occurrence stands in a union.
     pub fn usable(&self, variable: u32) -> bool
-        ensures { result ≡ is_usable self.now.written variable }
+        ensures { result ≡ is_usable (written_of self.now) variable }
     {
         is_usable(&self.written, variable)
     }
+}
+
+/// A signature whose rows are these, with what is kept of it.
+fn sig_of(
+    alloc: Global,
+    table: &Table,
+    written: &Written,
+    kinds: &[Kind],
+    bounds: Bounds,
+    rows: &[SigRow],
+) -> Result<Sig, AllocError>
+    requires buildable { IsBuildable table.now written.now bounds }
+    requires placed { IsWellPlaced table.now written.now }
+    requires small { TooLarge table.now written.now → ⊥ }
+    requires kinds { AreKinds written.now kinds.now }
+    requires rows { AreAllRows (table_of table.now) written.now (map listed rows.now) }
+    ensures written { IfOk result (λ sig. written_of sig ≡ written.now) }
+    ensures kept { IfOk result (λ sig. IsSigOf table.now sig) }
+{
+    let kept = keep_signature(alloc, table, written)?;
+    let alternatives = alternatives(alloc, kept.vars.as_slice())?;
+    let diagonals = diagonals(alloc, kinds)?;
+    let rows = keep_rows(alloc, table, rows)?;
+    let parts = written.parts.copy()?;
+    let bounded = Written {
+        vars: bounds,
+        parts,
+    };
+    let written = written.copy()?;
+    Ok(Sig {
+        written,
+        bounded,
+        kept,
+        diagonals,
+        alternatives,
+        rows,
+    })
 }
 
 /// A signature with what is kept of it. `TypeLimit` comes exactly where it has more than 1,024 nodes in sum, a type in it or
@@ -105,15 +201,18 @@ pub fn prepare(alloc: Global, table: &Table, written: &Written) -> Result<Prepar
     let bounds = normal_bounds(alloc, table, written.vars.as_slice())?;
     let arguments = arguments_in(alloc, types.as_slice())?;
     let arguments = normal_arguments(alloc, table, arguments.as_slice())?;
-    let rows = match all_rows(alloc, table, written, bounds.as_slice())? {
+    let kinds = kinds(alloc, written)?;
+    let rows = match all_rows(alloc, table, written, kinds.as_slice(), bounds.as_slice())? {
         Some(rows) => rows,
         None => return Err(NormFault::TypeLimit),
     };
-    let written = written.copy()?;
-    let sig = Sig {
+    let sig = sig_of(
+        alloc,
+        table,
         written,
+        kinds.as_slice(),
         bounds,
-        rows,
-    };
+        rows.as_slice(),
+    )?;
     Ok(Prepared { sig, arguments })
 }

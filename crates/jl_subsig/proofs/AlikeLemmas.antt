@@ -2,7 +2,7 @@
 use Rattle.std.proofs.Common.{◌≡◌, ◌∙◌, sym, ap, subst, refl, ℕ, Bool, true, false, nat_eq, List, [], ◌∷◌, ◌++◌, map, Some}
 use Rattle.std.specs.List.{flat_map, list_all}
 use Rattle.jl_model.specs.declared.ty.Ty.{Ty}
-use Rattle.jl_model.specs.declared.ty.Ty.TheOpen.{Any, Union, Tuple, Nominal, Var}
+use Rattle.jl_model.specs.declared.ty.Ty.TheOpen.{Var}
 use Rattle.jl_model.specs.declared.ty.Ty.TheViews.{outs-Any, outs-Union, outs-Tuple, outs-Nominal, outs-Var}
 use Rattle.jl_model.specs.declared.ty.Ty.TheViews as V
 use Rattle.jl_model.specs.declared.ty.Ty.TheVariants as W

@@ -6,7 +6,7 @@ use Rattle.jl_model.specs.declared.ty.Ty.TheOpen.{Any, Tuple, Nominal, Var}
 use Rattle.jl_model.specs.declared.ty.Ty.TheViews.{out-Ty, outs-Tuple, outs-Nominal}
 use Rattle.jl_model.specs.declared.ty.Written.{Written}
 use Rattle.jl_model.specs.Kinds.{diagonal, bound}
-use Rattle.jl_model.specs.Rows.{forms, alts, low, high, kind, root, place_of, components, vars_in, Occurs}
+use Rattle.jl_model.specs.Rows.{forms, alts, low, kind, root, place_of, components, vars_in, Occurs}
 use Rattle.jl_model.specs.Signature.{Row, IsRow, Both, both_end, both_more, Serves, fixed, top, Meets, Meet, any, tuple, nominal, same, atom, raise_tuple, raise_nominal, meet_end, meet_more, RowBelow, SigBelow}
 use Rattle.jl_model.specs.Subtype.{Table, Fixed, opaque, put, lifted, Below, Equals, Equal}
 use Rattle.jl_model.proofs.FormLemmas.{is_tuple, is_nominal, is_var, put-tuple, put-nominal, put-var, vars-tuple, vars-var}

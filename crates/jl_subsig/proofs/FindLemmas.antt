@@ -115,3 +115,12 @@ arg-none v u t e =
 
 pub inner-union : (ts : List Ty) → inner (V.Union ts) ≡ []
 inner-union ts = ap inner (sym (rolls-Union ts)) ∙ para-roll-Ty (List ℕ) inner_step (Union ts)
+
+pub inner-find-union : (n : Table) (g : Fixed) (v : ℕ) (t : Ty) (ts : List Ty) → find_inner n g v (V.Union ts) t ≡ None
+inner-find-union n g v t ts = ap (λ u. find_inner n g v u t) (sym (rolls-Union ts)) ∙ ap (λ h. h t) (para-roll-Ty (Ty → Option Ty) (find_inner_step n g v) (Union ts))
+
+pub outer-find-union : (g : Fixed) (v : ℕ) (t : Ty) (ts : List Ty) → find_outer g v (V.Union ts) t ≡ None
+outer-find-union g v t ts = ap (λ u. find_outer g v u t) (sym (rolls-Union ts)) ∙ ap (λ h. h t) (fold-roll-Ty (Ty → Option Ty) (find_outer_step g v) (Union ts))
+
+pub outer-union : (ts : List Ty) → outer (V.Union ts) ≡ []
+outer-union ts = ap outer (sym (rolls-Union ts)) ∙ fold-roll-Ty (List ℕ) outer_step (Union ts)

@@ -9,7 +9,7 @@ use Rattle.jl_model.specs.declared.ty.Decl.{Decl}
 use Rattle.jl_model.specs.declared.ty.Written.{Written}
 use Rattle.jl_model.specs.Ancestors.{table_of}
 use Rattle.jl_model.specs.Kinds.{Kind, unused, once, diagonal, bound}
-use Rattle.jl_model.specs.Rows.{width, low, high, kind, root, vars_in, Occurs}
+use Rattle.jl_model.specs.Rows.{width, low, kind, root, vars_in, Occurs}
 use Rattle.jl_model.specs.Subtype.{Table, Fixed, put, Below, Equals, Equal, equals_more, is_concrete}
 use Rattle.jl_model.specs.Signature.{Row, top, Serves, Meets, Meet, any, tuple, nominal, same, atom, raise_tuple, raise_nominal, meet_end, meet_more, is_diagonal}
 use Rattle.jl_model.specs.Normal.{IsNormal, AllNormal, more}

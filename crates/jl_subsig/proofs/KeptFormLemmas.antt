@@ -104,7 +104,7 @@ module _ (ds : List Decl) (declared : Declared ds) where
   Form = IsNormalForm n
 
   -- the normal form of a type without variables has none
-  closed_form : (t u : Ty) → vars_in t ≡ [] → Form t u → vars_in u ≡ []
+  pub closed_form : (t u : Ty) → vars_in t ≡ [] → Form t u → vars_in u ≡ []
   closed_form t u e h =
       let r = exists ds declared t in
       let s : is_closed r.0 ≡ true = r.1.kept is_closed closed_parts (length_none t e) in

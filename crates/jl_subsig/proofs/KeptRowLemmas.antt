@@ -2,7 +2,6 @@
 use Rattle.std.proofs.Common.{◌≡◌, ◌∙◌, sym, ap, subst, refl, ℕ, ◌%◌, List, [], ◌∷◌, ◌++◌, map, ◌⊎◌, inl, inr}
 use Rattle.std.specs.List.{flat_map, Contains}
 use Rattle.jl_model.specs.declared.ty.Ty.{Ty}
-use Rattle.jl_model.specs.declared.ty.Ty.TheOpen.{Any, Union, Tuple, Nominal}
 use Rattle.jl_model.specs.declared.ty.Ty.TheViews.{outs-Any, outs-Union}
 use Rattle.jl_model.specs.declared.ty.Ty.TheViews as V
 use Rattle.jl_model.specs.declared.ty.Ty.TheVariants as W
@@ -10,7 +9,7 @@ use Rattle.jl_model.specs.declared.ty.Decl.{Decl}
 use Rattle.jl_model.specs.declared.ty.Written.{Written}
 use Rattle.jl_model.specs.Ancestors.{table_of}
 use Rattle.jl_model.specs.Kinds.{Kind, unused, once, diagonal, bound}
-use Rattle.jl_model.specs.Rows.{alts, width, low, high, kind, root, components, vars_in, Occurs}
+use Rattle.jl_model.specs.Rows.{alts, low, high, kind, root, components, vars_in, Occurs}
 use Rattle.jl_model.specs.Signature.{Row, IsRow, Both, both_end, both_more}
 use Rattle.jl_model.specs.Subtype.{Table, opaque, Below, Equal}
 use Rattle.jl_model.specs.Normal.{IsNormalForm}
@@ -56,7 +55,7 @@ module _ (n : Table) (law : Lawful n) where
 
   mutual
     -- a type is kept as one type
-    kept_once : (t u w : Ty) → A t u → A t w → u ≡ w
+    pub kept_once : (t u w : Ty) → A t u → A t w → u ≡ w
     kept_once t u w (any s e) q = sym (is_any w (settle_any Form t w e q) ∙ sym (is_any t e))
     kept_once t u w (var s v e) q = sym (is_var w v (settle_var Form t w v e q) ∙ sym (is_var t v e))
     kept_once t u w (union s x ts us e f p) q = let r = settle_union Form t w ts e q in is_union u us f ∙ ap (λ z. V.Union z) (all_once ts us r.0 p r.2) ∙ sym (is_union w r.0 r.1)

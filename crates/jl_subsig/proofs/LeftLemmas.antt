@@ -69,7 +69,7 @@ module _ (n : Table) where
     nominal = λ k ts m. from_normal k 0 ts (λ x h. m x (subst (λ z. Has z x) (sym (given-nominal k ts)) (has_left (given_from k 0 ts) (flat_map given_in ts) x h)));
   }
 
-high_in : (bs : List Bound) (v : ℕ) → Has (bound_types bs) (get_or bs v free).high ⊎ ((get_or bs v free).high ≡ W.Any)
+pub high_in : (bs : List Bound) (v : ℕ) → Has (bound_types bs) (get_or bs v free).high ⊎ ((get_or bs v free).high ≡ W.Any)
 high_in [] v = inr refl
 high_in (b ∷ bs) zero = inl (inr (inl refl))
 high_in (b ∷ bs) (suc v) = elim (high_in bs v) [ inl h ↦ inl (inr (inr h)) | inr e ↦ inr e ]
@@ -111,7 +111,7 @@ module _ (ds : List Decl) (declared : Declared ds) where
   law : Lawful order
   law = declared_lawful ds declared
 
-  lifted_at : (k m : ℕ) (xs zs : List Ty) (b : Bool) → nat_eq k m ≡ b → AllNormal order xs → lifted order k xs m ≡ Some zs → AllNormal order zs × ((w : ℕ) → Has (flat_map vars_in zs) w → Has (flat_map vars_in xs) w)
+  pub lifted_at : (k m : ℕ) (xs zs : List Ty) (b : Bool) → nat_eq k m ≡ b → AllNormal order xs → lifted order k xs m ≡ Some zs → AllNormal order zs × ((w : ℕ) → Has (flat_map vars_in zs) w → Has (flat_map vars_in xs) w)
   unfolding table_of
   lifted_at k m xs zs true e g l =
       let i = near order law k m xs zs e l in
@@ -135,7 +135,7 @@ module _ (ds : List Decl) (declared : Declared ds) where
             normals x (of_has (flat_map given_in (bound_types a.vars ++ a.parts)) x (has_flat given_in (bound_types a.vars ++ a.parts) (high a v) x (has_left (bound_types a.vars) a.parts (high a v) h) i))
         by_place (inr e) x i = absurd (has_none (given_in (high a v)) x (ap given_in e ∙ given-any) i)
 
-    normal_component : (t : Ty) → Has a.parts t → NormalIn order t
+    pub normal_component : (t : Ty) → Has a.parts t → NormalIn order t
     normal_component t h x i =
         normals x (of_has (flat_map given_in (bound_types a.vars ++ a.parts)) x (has_flat given_in (bound_types a.vars ++ a.parts) t x (has_right (bound_types a.vars) a.parts t h) i))
 

@@ -1,7 +1,7 @@
 -- Below with nothing known of the variables is below, whatever is known of them; and what is covered alternative by alternative.
 use Rattle.std.proofs.Common.{◌≡◌, ◌∙◌, sym, subst, refl, List, [], ◌∷◌, inl, inr}
 use Rattle.jl_model.specs.declared.ty.Ty.{Ty}
-use Rattle.jl_model.specs.declared.ty.Ty.TheOpen.{Any, Union, Var}
+use Rattle.jl_model.specs.declared.ty.Ty.TheOpen.{Any, Var}
 use Rattle.jl_model.specs.declared.ty.Ty.TheViews.{outs-Any}
 use Rattle.jl_model.specs.declared.ty.Ty.TheViews as V
 use Rattle.jl_model.specs.declared.ty.Ty.TheVariants as W

@@ -2,14 +2,14 @@
 use Rattle.std.proofs.Common.{◌≡◌, ◌∙◌, sym, ap, subst, refl, ℕ, ◌<◌, arith, Bool, true, false, cond, nat_eq, eqb-true, List, [], ◌∷◌, map, inl, inr, IsTrue}
 use Rattle.std.specs.List.{flat_map}
 use Rattle.jl_model.specs.declared.ty.Ty.{Ty}
-use Rattle.jl_model.specs.declared.ty.Ty.TheOpen.{Any, Union, Tuple, Nominal, Var}
+use Rattle.jl_model.specs.declared.ty.Ty.TheOpen.{Var}
 use Rattle.jl_model.specs.declared.ty.Ty.TheViews.{out-Ty, outs-Var, rolls-Var}
 use Rattle.jl_model.specs.declared.ty.Ty.TheViews as V
 use Rattle.jl_model.specs.declared.ty.Ty.TheVariants as W
 use Rattle.jl_model.specs.declared.ty.Ty.TheFolds.{fold-roll-Ty}
 use Rattle.jl_model.specs.declared.ty.Written.{Written}
 use Rattle.jl_model.specs.Kinds.{diagonal}
-use Rattle.jl_model.specs.Rows.{alts, width, low, high, kind, atom, root, vars_in, Occurs}
+use Rattle.jl_model.specs.Rows.{alts, width, low, kind, atom, root, vars_in, Occurs}
 use Rattle.jl_model.specs.Subtype.{Table, Fixed, put, Below, Covered, Found, Equals, below, raise, own, under, Equal, is_concrete, concrete_step}
 use Rattle.jl_model.specs.Signature.{Row, IsRow, top, fixed, is_diagonal, Meets, Meet, any, tuple, nominal, same, atom as at_atom, meet_end, meet_more, RowBelow, SigBelow}
 use Rattle.jl_model.proofs.TypeInduction.{Each, by_cases}

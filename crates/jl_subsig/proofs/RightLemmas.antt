@@ -2,7 +2,7 @@
 use Rattle.std.proofs.Common.{◌≡◌, ◌∙◌, sym, ap, subst, refl, ℕ, ◌+◌, ◌≤◌, arith, Bool, true, false, cond, nat_eq, List, [], ◌∷◌, map, length, ◌⊎◌, inl, inr}
 use Rattle.std.specs.List.{flat_map, list_all}
 use Rattle.jl_model.specs.declared.ty.Ty.{Ty}
-use Rattle.jl_model.specs.declared.ty.Ty.TheOpen.{Any, Union, Tuple, Nominal, Var}
+use Rattle.jl_model.specs.declared.ty.Ty.TheOpen.{Union, Tuple, Nominal}
 use Rattle.jl_model.specs.declared.ty.Ty.TheViews.{outs-Nominal, outs-Var, rolls-Union, rolls-Tuple, rolls-Nominal}
 use Rattle.jl_model.specs.declared.ty.Ty.TheViews as V
 use Rattle.jl_model.specs.declared.ty.Ty.TheVariants as W
@@ -70,7 +70,7 @@ argument_of = by_cases Told (record {
   var = λ v h. variable (W.Var v) v (outs-Var v);
 })
 
-arguments_of : (ts : List Ty) → list_all is_argument ts ≡ true → AreArguments ts
+pub arguments_of : (ts : List Ty) → list_all is_argument ts ≡ true → AreArguments ts
 arguments_of [] h = arguments_end
 arguments_of (t ∷ ts) h = arguments_more t ts (argument_of t (and_l (is_argument t) (list_all is_argument ts) h)) (arguments_of ts (and_r (is_argument t) (list_all is_argument ts) h))
 

@@ -216,7 +216,7 @@ module _ (s : Written) (scope : IsScoped s) where
   own_small v h = less v (width s) (all_has (λ v. nat_lt v (width s)) (flat_map vars_in s.parts) v scope.own h)
 
   -- a variable that is not its own has no kind but `unused`
-  foreign : (v : ℕ) → (v < width s → ⊥) → kind s v ≡ unused
+  pub foreign : (v : ℕ) → (v < width s → ⊥) → kind s v ≡ unused
   foreign v f = ap kind_of (all_nowhere v s.parts (each_lacks v s.parts) (λ h. f (own_small v h)))
 
   used_small : (v : ℕ) (k : Kind) → (k ≡ unused → ⊥) → kind s v ≡ k → v < width s

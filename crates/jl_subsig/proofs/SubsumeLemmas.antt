@@ -2,12 +2,12 @@
 use Rattle.std.proofs.Common.{◌≡◌, ◌∙◌, sym, ap, subst, refl, ℕ, ◌<◌, true, List, [], ◌∷◌, ◌++◌, map, inl, inr, IsTrue}
 use Rattle.std.specs.List.{flat_map, list_all, Contains}
 use Rattle.jl_model.specs.declared.ty.Ty.{Ty}
-use Rattle.jl_model.specs.declared.ty.Ty.TheOpen.{Union, Tuple, Nominal, Var}
+use Rattle.jl_model.specs.declared.ty.Ty.TheOpen.{Tuple, Var}
 use Rattle.jl_model.specs.declared.ty.Ty.TheViews.{out-Ty, outs-Tuple, outs-Nominal}
 use Rattle.jl_model.specs.declared.ty.Ty.TheViews as V
 use Rattle.jl_model.specs.declared.ty.Written.{Written}
 use Rattle.jl_model.specs.Kinds.{Kind, unused, once, diagonal, bound}
-use Rattle.jl_model.specs.Rows.{forms, alts, width, low, high, kind, root, place_of, components, vars_in, Occurs}
+use Rattle.jl_model.specs.Rows.{forms, alts, width, low, kind, root, place_of, components, vars_in, Occurs}
 use Rattle.jl_model.specs.Signature.{Row, IsRow, Both, both_end, both_more, Serves, fixed, top, is_diagonal, Applicable, Meets, Meet, any, tuple, nominal, same, atom, raise_tuple, raise_nominal, meet_end, meet_more, RowBelow, SigBelow}
 use Rattle.jl_model.specs.Subtype.{Table, Fixed, opaque, put, Below, Covered, Found, Part, Parts, Equals, below, none, more, here, there, raise, any as part_any, tuple as part_tuple, nominal as part_nominal, self, own, under, parts_end, parts_more, is_concrete}
 use Rattle.jl_model.proofs.TypeInduction.{Each, by_cases}

@@ -8,7 +8,7 @@ use Rattle.jl_model.specs.declared.ty.Ty.TheViews as V
 use Rattle.jl_model.specs.declared.ty.Ty.TheVariants as W
 use Rattle.jl_model.specs.declared.ty.Written.{Written}
 use Rattle.jl_model.specs.Kinds.{Kind, unused, once, diagonal, bound}
-use Rattle.jl_model.specs.Rows.{alts, width, low, high, kind, root, vars_in}
+use Rattle.jl_model.specs.Rows.{alts, width, low, kind, root, vars_in}
 use Rattle.jl_model.specs.Signature.{Row, IsRow, Both, both_end, both_more, Serves, fixed, top, is_diagonal, Meets, Meet, any, tuple, nominal, same, atom, raise_tuple, raise_nominal, meet_end, meet_more}
 use Rattle.jl_model.specs.Subtype.{Table, Fixed, opaque, put, lifted, Below, Covered, Found, Part, Parts, Equals, below, none, more, here, there, raise, any as part_any, tuple as part_tuple, nominal as part_nominal, self, own, under, parts_end, parts_more}
 use Rattle.jl_model.proofs.TypeInduction.{Each, by_cases}

@@ -3,3 +3,5 @@ pub mod Found
 pub mod Values
 pub mod Alike
 pub mod Chain
+pub mod Side
+pub mod Decide

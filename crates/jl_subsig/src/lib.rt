@@ -2,4 +2,19 @@
 //! al., OOPSLA 2018).
 #![tactic(auto)]
 
+mod below;
+mod choice;
+mod concrete;
+mod find;
 pub mod laws;
+mod meet;
+mod occurs;
+mod order;
+mod row;
+mod serve;
+mod top;
+mod values;
+
+pub use choice::{Method, choose};
+pub use order::sig_sub;
+pub use row::row_below;

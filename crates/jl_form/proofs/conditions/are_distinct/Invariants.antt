@@ -1,5 +1,5 @@
 use Rattle.std.proofs.Common.{◌≡◌, length}
-use Rattle.jl_calculus.specs.Valid.{are_distinct}
+use Rattle.jl_calculus.specs.Names.{are_distinct}
 use Rattle.jl_form.proofs.conditions.are_distinct.Given as goal
 
 abbrev pub decreases-loop-rest : goal.decreases-loop-rest

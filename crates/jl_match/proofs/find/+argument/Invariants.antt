@@ -1,5 +1,5 @@
 use Rattle.std.proofs.Common.{◌≡◌, map, drop}
-use Rattle.jl_match.specs.Found.{find_arg, first}
+use Rattle.jl_model.specs.Found.{find_arg, first}
 use Rattle.jl_match.proofs.find.+argument.Given as goal
 
 abbrev pub invariant-first_argument-loop-i : goal.invariant-first_argument-loop-i

@@ -3,7 +3,7 @@ use Rattle.jl_model.specs.declared.ty.Ty.TheViews.{size-Ty}
 use Rattle.jl_types.specs.Ground.{tallest}
 use Rattle.jl_model.specs.Ancestors.{table_of}
 use Rattle.jl_model.specs.Subtype.{opaque}
-use Rattle.jl_match.specs.Found.{find_inner, first}
+use Rattle.jl_model.specs.Found.{find_inner, first}
 use Rattle.jl_match.proofs.find.+inner.Given as goal
 
 abbrev pub invariant-first_inner-loop-i : goal.invariant-first_inner-loop-i

@@ -1,6 +1,6 @@
 use Rattle.std.proofs.Common.{◌≡◌, map, drop}
 use Rattle.jl_model.specs.Subtype.{opaque}
-use Rattle.jl_match.specs.Found.{find_outer, first}
+use Rattle.jl_model.specs.Found.{find_outer, first}
 use Rattle.jl_match.proofs.find.+outer.Given as goal
 
 abbrev pub invariant-first_outer-loop-i : goal.invariant-first_outer-loop-i

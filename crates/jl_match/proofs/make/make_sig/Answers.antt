@@ -1,4 +1,4 @@
-use Rattle.std.proofs.Common.{◌≡◌, ◌∙◌, ◌<◌, ◌≤◌, sym, ap, subst, length, true, false, arith}
+use Rattle.std.proofs.Common.{◌≡◌, ◌∙◌, sym, ap, subst, true, false, arith}
 use Rattle.std.specs.List.{list_all}
 use Rattle.jl_model.specs.declared.ty.Written.{Written}
 use Rattle.jl_model.specs.Signature.{Both}
@@ -17,7 +17,7 @@ have_crossed-requires c =
     let s = c.args.written.now in
     let p = c.in-Ok.ensures.kept in
     let b : Both (IsSmallForm ds) (bound_types s.vars) (bound_types c.bounds.result.now) =
-    subst (λ z. Both (IsSmallForm ds) (bound_types s.vars) (bound_types z)) (sym c.bounds.ensures) (subst (λ (z : Written). Both (IsSmallForm ds) (bound_types z.vars) (bound_types c.in-Ok.prepared.sig.bounds)) p.written p.kept.bounds) in
+    subst (λ z. Both (IsSmallForm ds) (bound_types s.vars) (bound_types z)) (sym c.bounds.ensures) (subst (λ (z : Written). Both (IsSmallForm ds) (bound_types z.vars) (bound_types c.in-Ok.prepared.sig.bounded.vars)) p.written p.kept.bounds) in
     forms_ground ds c.valid.ensures s.vars c.bounds.result.now b
 
 pub have_outside-requires : goal.have_outside-requires
@@ -40,7 +40,7 @@ returns-then-have_crossed c =
     } in
     let p = c.in-Ok.ensures.kept in
     let b : Both (IsSmallForm ds) (bound_types s.vars) (bound_types c.bounds.result.now) =
-    subst (λ z. Both (IsSmallForm ds) (bound_types s.vars) (bound_types z)) (sym c.bounds.ensures) (subst (λ (z : Written). Both (IsSmallForm ds) (bound_types z.vars) (bound_types c.in-Ok.prepared.sig.bounds)) p.written p.kept.bounds) in
+    subst (λ z. Both (IsSmallForm ds) (bound_types s.vars) (bound_types z)) (sym c.bounds.ensures) (subst (λ (z : Written). Both (IsSmallForm ds) (bound_types z.vars) (bound_types c.in-Ok.prepared.sig.bounded.vars)) p.written p.kept.bounds) in
     (w, p.small, crossed_written ds c.valid.ensures s.vars c.bounds.result.now b (c.have_crossed.ensures.0 c.if-have_crossed.true))
 
 pub returns-then-have_outside : goal.returns-then-have_outside
@@ -55,7 +55,7 @@ returns-then-have_outside c =
     } in
     let p = c.in-Ok.ensures.kept in
     let b : Both (IsSmallForm ds) (bound_types s.vars) (bound_types c.bounds.result.now) =
-    subst (λ z. Both (IsSmallForm ds) (bound_types s.vars) (bound_types z)) (sym c.bounds.ensures) (subst (λ (z : Written). Both (IsSmallForm ds) (bound_types z.vars) (bound_types c.in-Ok.prepared.sig.bounds)) p.written p.kept.bounds) in
+    subst (λ z. Both (IsSmallForm ds) (bound_types s.vars) (bound_types z)) (sym c.bounds.ensures) (subst (λ (z : Written). Both (IsSmallForm ds) (bound_types z.vars) (bound_types c.in-Ok.prepared.sig.bounded.vars)) p.written p.kept.bounds) in
     let a : AreFormed ds (arguments_in s) (all_given c.as_slice-2.result.now) = subst (λ z. AreFormed ds (arguments_in s) (all_given z)) (sym c.as_slice-2.ensures.value) p.arguments in
     let o : BoundsCrossed ds s → ⊥ = λ h. let g = c.have_crossed.ensures.1 (crossed_kept ds c.valid.ensures s.vars c.bounds.result.now b h) in let f : true ≡ false = sym g ∙ c.if-have_crossed.false in cc in
     let r = outside_written ds c.valid.ensures (arguments_in s) (all_given c.as_slice-2.result.now) a (c.have_outside.ensures.0 c.if-have_outside.true) in
@@ -73,7 +73,7 @@ returns c =
     } in
     let p = c.in-Ok.ensures.kept in
     let b : Both (IsSmallForm ds) (bound_types s.vars) (bound_types c.bounds.result.now) =
-    subst (λ z. Both (IsSmallForm ds) (bound_types s.vars) (bound_types z)) (sym c.bounds.ensures) (subst (λ (z : Written). Both (IsSmallForm ds) (bound_types z.vars) (bound_types c.in-Ok.prepared.sig.bounds)) p.written p.kept.bounds) in
+    subst (λ z. Both (IsSmallForm ds) (bound_types s.vars) (bound_types z)) (sym c.bounds.ensures) (subst (λ (z : Written). Both (IsSmallForm ds) (bound_types z.vars) (bound_types c.in-Ok.prepared.sig.bounded.vars)) p.written p.kept.bounds) in
     let a : AreFormed ds (arguments_in s) (all_given c.as_slice-2.result.now) = subst (λ z. AreFormed ds (arguments_in s) (all_given z)) (sym c.as_slice-2.ensures.value) p.arguments in
     record {
       allowed = record {

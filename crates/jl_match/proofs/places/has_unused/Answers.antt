@@ -1,5 +1,5 @@
 use Rattle.std.proofs.Common.{◌≡◌, ◌∙◌, sym, ap, map, true, false}
-use Rattle.jl_model.specs.Kinds.{places, plus_all, kind_of, unused}
+use Rattle.jl_model.specs.Kinds.{places, plus_all, kind_of}
 use Rattle.jl_match.proofs.MakeLemmas.{kind_unused, next_unused}
 use Rattle.jl_match.proofs.places.has_unused.Goals as goal
 use Rattle.jl_match.proofs.places.has_unused.Goals.{in-Unused, in_default}

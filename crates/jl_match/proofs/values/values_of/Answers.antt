@@ -1,7 +1,7 @@
 use Rattle.std.proofs.Common.{◌∙◌, sym, ap, subst, arith}
 use Rattle.jl_model.specs.Ancestors.{table_of}
 use Rattle.jl_model.specs.Subtype.{opaque}
-use Rattle.jl_match.specs.Found.{found}
+use Rattle.jl_model.specs.Found.{found}
 use Rattle.jl_match.specs.KeptRow.{row_of}
 use Rattle.jl_match.proofs.ValueLemmas.{Gives, gives_push}
 use Rattle.jl_match.proofs.values.values_of.Goals as goal

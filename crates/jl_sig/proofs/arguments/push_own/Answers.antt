@@ -1,4 +1,4 @@
-use Rattle.std.proofs.Common.{◌+◌, ◌++◌}
+use Rattle.std.proofs.Common.{◌++◌}
 use Rattle.jl_model.specs.Refusals.{given_from}
 use Rattle.jl_sig.specs.Parts.{all_given}
 use Rattle.jl_sig.proofs.ArgumentLemmas.{own_step, own_push}

@@ -1,5 +1,4 @@
-use Rattle.std.proofs.Common.{◌≤◌, ◌+◌, refl, arith, length, min, map, drop}
-use Rattle.std.specs.List.{flat_map}
+use Rattle.std.proofs.Common.{refl, arith, length, min, map}
 use Rattle.jl_model.specs.Rows.{choices, forms}
 use Rattle.jl_sig.specs.Built.{placed}
 use Rattle.jl_sig.proofs.ExpansionLemmas.{any_count, nominal_count, union_count, tuple_count, var_count, product_step, sum-suc}

@@ -1,4 +1,4 @@
-use Rattle.std.proofs.Common.{◌≤◌, arith, length, min}
+use Rattle.std.proofs.Common.{arith, length, min}
 use Rattle.jl_model.specs.Rows.{choices}
 use Rattle.jl_sig.proofs.ExpansionLemmas.{lists_step}
 use Rattle.jl_sig.proofs.expansion.product_of_lengths.Goals as goal

@@ -1,4 +1,4 @@
-use Rattle.std.proofs.Common.{◌≡◌, ◌∙◌, ◌<◌, ap, refl, subst, length, get_or, ◌≤◌}
+use Rattle.std.proofs.Common.{◌∙◌, ◌<◌, ap, refl, subst, length, get_or, ◌≤◌}
 use Rattle.jl_sig.specs.Parts.{given}
 use Rattle.jl_sig.proofs.FormSteps.{ground_at}
 use Rattle.jl_sig.proofs.DeclaredBounds.{declared_ground, free_between, no_type, no_place}

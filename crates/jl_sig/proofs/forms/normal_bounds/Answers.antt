@@ -35,7 +35,7 @@ pub loop-bound-preserved : goal.loop-bound-preserved
 loop-bound-preserved c = λ cs r.
     let ds = c.args.table.now in
     let b = c.bound-item.result in
-    bounds_step ds c.args.bounds.now c.loop-bound.bound-index b (record { low = c.in_ok-low.low; high = c.in_ok-high.high }) c.loop-bound.forms.items c.push_bound.new.bounds.items c.loop-bound-test.true c.bound-item.is
+    bounds_step (IsSmallForm ds) c.args.bounds.now c.loop-bound.bound-index b (record { low = c.in_ok-low.low; high = c.in_ok-high.high }) c.loop-bound.forms.items c.push_bound.new.bounds.items c.loop-bound-test.true c.bound-item.is
     (record { form = c.in_ok-low.ensures.form; small = c.in_ok-low.ensures.small; known = c.in_ok-low.ensures.known })
     (record { form = c.in_ok-high.ensures.form; small = c.in_ok-high.ensures.small; known = c.in_ok-high.ensures.known })
     c.in_ok-push_bound.ensures c.loop-bound.invariant cs r
@@ -44,4 +44,4 @@ pub returns-clause-forms : goal.returns-clause-forms
 returns-clause-forms c =
     let ds = c.args.table.now in
     subst (λ z. Both (IsSmallForm ds) (bound_types c.args.bounds.now) (bound_types z)) (sym c.in_ok-from_vec.ensures)
-    (bounds_done ds c.args.bounds.now c.loop-bound.forms.items c.loop-bound.bound-index (drop_all c.loop-bound.bound-index c.args.bounds.now c.loop-bound-test.false) c.loop-bound.invariant)
+    (bounds_done (IsSmallForm ds) c.args.bounds.now c.loop-bound.forms.items c.loop-bound.bound-index (drop_all c.loop-bound.bound-index c.args.bounds.now c.loop-bound-test.false) c.loop-bound.invariant)

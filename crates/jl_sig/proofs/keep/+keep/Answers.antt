@@ -1,7 +1,7 @@
-use Rattle.std.proofs.Common.{◌∙◌, ◌+◌, sym, subst, append-nil, [], arith}
+use Rattle.std.proofs.Common.{sym, subst, arith}
 use Rattle.std.proofs.lemmas.List.{drop_all}
 use Rattle.jl_model.specs.Ancestors.{table_of}
-use Rattle.jl_model.specs.Signature.{Both, both_end}
+use Rattle.jl_model.specs.Signature.{Both}
 use Rattle.jl_model.specs.Normal.{IsNormalForm}
 use Rattle.jl_types.proofs.GroundLemmas.{size-union, size-tuple, size-at}
 use Rattle.jl_types.proofs.FormLemmas.{both_step, settle_any, settle_var, settle_union, settle_tuple, settle_nominal}

@@ -1,4 +1,4 @@
-use Rattle.std.proofs.Common.{◌∙◌, sym, ap, arith, length, min, ◌≤◌}
+use Rattle.std.proofs.Common.{◌∙◌, sym, ap, arith}
 use Rattle.jl_model.specs.Rows.{choices}
 use Rattle.jl_model.specs.AllRows.{each_var, slot}
 use Rattle.jl_sig.specs.Built.{picked, rows_from}

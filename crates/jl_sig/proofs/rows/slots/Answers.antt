@@ -1,4 +1,4 @@
-use Rattle.std.proofs.Common.{◌≡◌, ◌∙◌, ◌<◌, sym, ap, subst, arith, length, get_or, cond, ◌&&◌, ◌∷◌, []}
+use Rattle.std.proofs.Common.{◌∙◌, ◌<◌, ap, subst, arith, get_or, cond, ◌&&◌, ◌∷◌, []}
 use Rattle.std.specs.List.{list_any}
 use Rattle.jl_model.specs.declared.ty.Ty.TheVariants as W
 use Rattle.jl_model.specs.Signature.{is_diagonal}

@@ -1,14 +1,12 @@
-use Rattle.std.proofs.Common.{◌≡◌, ◌∙◌, ◌<◌, sym, ap, subst, length, map, Err, Some, MatchOption, inl, inr, true, false}
+use Rattle.std.proofs.Common.{◌≡◌, ◌∙◌, sym, ap, subst, map, Err, MatchOption, inl, inr}
 use Rattle.std.specs.List.{flat_map}
 use Rattle.std.proofs.lemmas.Result.{err_from_is_err_and}
 use Rattle.jl_types.specs.declared.normal_form.NormFault.TheVariants.{TypeLimit}
-use Rattle.jl_model.specs.declared.ty.Written.{Written}
 use Rattle.jl_model.specs.Ancestors.{table_of}
-use Rattle.jl_model.specs.Counts.{nodes, total}
 use Rattle.jl_model.specs.Signature.{Both}
 use Rattle.jl_model.specs.Refusals.{bound_types, given_in}
 use Rattle.jl_model.specs.SigRefusals.{types_in, ManyRows}
-use Rattle.jl_sig.specs.Parts.{HasWide, all_given}
+use Rattle.jl_sig.specs.Parts.{all_given}
 use Rattle.jl_sig.specs.Built.{listed}
 use Rattle.jl_sig.specs.Forms.{IsSmallForm, HasTooLarge, AreFormed, HasTooLargeGiven, AreKnown}
 use Rattle.jl_sig.specs.Prepared.{IsBuildable, AreAllRows}
@@ -48,8 +46,8 @@ returns-in_err-arguments-2-clause-limit c = λ e.
     let q = ap all_given c.as_slice-4.ensures.value ∙ c.in_ok-arguments.ensures ∙ ap (flat_map given_in) (c.as_slice-3.ensures.value ∙ c.in_ok-types.ensures) in
     inr (inr (inl (large_argument ds c.valid.ensures s x y (subst (HasTooLargeGiven ds) q (c.normal_arguments.ensures.limit w)))))
 
-pub all_rows-requires : goal.all_rows-requires
-all_rows-requires c =
+pub all_rows-requires-clause-buildable : goal.all_rows-requires-clause-buildable
+all_rows-requires-clause-buildable c =
     let ds = c.args.table.now in
     let s = c.args.written.now in
     let x = few_nodes s c.as_slice.result.now c.have_many_nodes.result (c.as_slice.ensures.value ∙ c.in_ok-types.ensures) c.have_many_nodes.ensures c.if-have_many_nodes.false in
@@ -57,7 +55,37 @@ all_rows-requires c =
     let q = ap all_given c.as_slice-4.ensures.value ∙ c.in_ok-arguments.ensures ∙ ap (flat_map given_in) (c.as_slice-3.ensures.value ∙ c.in_ok-types.ensures) in
     let b = subst (λ z. Both (IsSmallForm ds) (bound_types z) (bound_types c.in_ok-bounds.bounds)) c.as_slice-2.ensures c.in_ok-bounds.ensures.forms in
     let a = subst (λ z. AreFormed ds z (all_given c.in_ok-arguments-2.arguments.items)) q c.in_ok-arguments-2.ensures.forms in
-    subst (IsBuildable ds s) (sym c.as_slice-5.ensures) (buildable ds c.valid.ensures s c.requires x y c.in_ok-bounds.bounds (all_given c.in_ok-arguments-2.arguments.items) b a)
+    subst (IsBuildable ds s) (sym c.as_slice-6.ensures) (buildable ds c.valid.ensures s c.requires x y c.in_ok-bounds.bounds (all_given c.in_ok-arguments-2.arguments.items) b a)
+
+pub sig_of-requires-clause-buildable : goal.sig_of-requires-clause-buildable
+sig_of-requires-clause-buildable c =
+    let ds = c.args.table.now in
+    let s = c.args.written.now in
+    let x = few_nodes s c.as_slice.result.now c.have_many_nodes.result (c.as_slice.ensures.value ∙ c.in_ok-types.ensures) c.have_many_nodes.ensures c.if-have_many_nodes.false in
+    let y = not_wide_here s c.as_slice-else-have_many_nodes.result.now c.have_wide.result (c.as_slice-else-have_many_nodes.ensures.value ∙ c.in_ok-types.ensures) c.have_wide.ensures c.if-have_wide.false in
+    let q = ap all_given c.as_slice-4.ensures.value ∙ c.in_ok-arguments.ensures ∙ ap (flat_map given_in) (c.as_slice-3.ensures.value ∙ c.in_ok-types.ensures) in
+    let b = subst (λ z. Both (IsSmallForm ds) (bound_types z) (bound_types c.in_ok-bounds.bounds)) c.as_slice-2.ensures c.in_ok-bounds.ensures.forms in
+    let a = subst (λ z. AreFormed ds z (all_given c.in_ok-arguments-2.arguments.items)) q c.in_ok-arguments-2.ensures.forms in
+    buildable ds c.valid.ensures s c.requires x y c.in_ok-bounds.bounds (all_given c.in_ok-arguments-2.arguments.items) b a
+
+pub sig_of-requires-clause-small : goal.sig_of-requires-clause-small
+sig_of-requires-clause-small c =
+    let ds = c.args.table.now in
+    let s = c.args.written.now in
+    let x = few_nodes s c.as_slice.result.now c.have_many_nodes.result (c.as_slice.ensures.value ∙ c.in_ok-types.ensures) c.have_many_nodes.ensures c.if-have_many_nodes.false in
+    let y = not_wide_here s c.as_slice-else-have_many_nodes.result.now c.have_wide.result (c.as_slice-else-have_many_nodes.ensures.value ∙ c.in_ok-types.ensures) c.have_wide.ensures c.if-have_wide.false in
+    let q = ap all_given c.as_slice-4.ensures.value ∙ c.in_ok-arguments.ensures ∙ ap (flat_map given_in) (c.as_slice-3.ensures.value ∙ c.in_ok-types.ensures) in
+    let b = subst (λ z. Both (IsSmallForm ds) (bound_types z) (bound_types c.in_ok-bounds.bounds)) c.as_slice-2.ensures c.in_ok-bounds.ensures.forms in
+    let a = subst (λ z. AreFormed ds z (all_given c.in_ok-arguments-2.arguments.items)) q c.in_ok-arguments-2.ensures.forms in
+    let r : AreAllRows (table_of ds) s (map listed c.in-Some.rows.items) = subst (λ o. MatchOption o (ManyRows (table_of ds) s) (λ rows. AreAllRows (table_of ds) s (map listed rows.items))) c.in-Some.is c.in_ok-rows.ensures in
+    no_limit ds c.valid.ensures s c.requires x y c.in_ok-bounds.bounds (all_given c.in_ok-arguments-2.arguments.items) b a (map listed c.in-Some.rows.items) r
+
+pub sig_of-requires-clause-rows : goal.sig_of-requires-clause-rows
+sig_of-requires-clause-rows c =
+    let ds = c.args.table.now in
+    let s = c.args.written.now in
+    let r : AreAllRows (table_of ds) s (map listed c.in-Some.rows.items) = subst (λ o. MatchOption o (ManyRows (table_of ds) s) (λ rows. AreAllRows (table_of ds) s (map listed rows.items))) c.in-Some.is c.in_ok-rows.ensures in
+    subst (λ z. AreAllRows (table_of ds) s (map listed z)) (sym c.as_slice-8.ensures.value) r
 
 pub returns-clause-kept : goal.returns-clause-kept
 returns-clause-kept c =
@@ -69,13 +97,9 @@ returns-clause-kept c =
     let b = subst (λ z. Both (IsSmallForm ds) (bound_types z) (bound_types c.in_ok-bounds.bounds)) c.as_slice-2.ensures c.in_ok-bounds.ensures.forms in
     let a = subst (λ z. AreFormed ds z (all_given c.in_ok-arguments-2.arguments.items)) q c.in_ok-arguments-2.ensures.forms in
     let r : AreAllRows (table_of ds) s (map listed c.in-Some.rows.items) = subst (λ o. MatchOption o (ManyRows (table_of ds) s) (λ rows. AreAllRows (table_of ds) s (map listed rows.items))) c.in-Some.is c.in_ok-rows.ensures in
-    let e = c.in_ok-written.ensures in
     record {
-      written = e;
-      kept = record {
-        bounds = subst (λ (z : Written). Both (IsSmallForm ds) (bound_types z.vars) (bound_types c.in_ok-bounds.bounds)) (sym e) b;
-        rows = subst (λ z. AreAllRows (table_of ds) z (map listed c.in-Some.rows.items)) (sym e) r;
-      };
+      written = c.in_ok-sig.ensures.written;
+      kept = c.in_ok-sig.ensures.kept;
       arguments = a;
       small = no_limit ds c.valid.ensures s c.requires x y c.in_ok-bounds.bounds (all_given c.in_ok-arguments-2.arguments.items) b a (map listed c.in-Some.rows.items) r;
     }

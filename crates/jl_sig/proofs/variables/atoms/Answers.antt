@@ -1,4 +1,4 @@
-use Rattle.std.proofs.Common.{◌≡◌, ◌∙◌, ◌+◌, ◌*◌, ap, refl}
+use Rattle.std.proofs.Common.{◌+◌, ◌*◌, ap}
 use Rattle.jl_sig.proofs.PlacedLemmas.{atoms_step}
 use Rattle.jl_sig.proofs.variables.atoms.Goals as goal
 

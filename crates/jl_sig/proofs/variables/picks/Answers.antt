@@ -1,4 +1,4 @@
-use Rattle.std.proofs.Common.{◌≡◌, ◌∙◌, ◌<◌, sym, ap, subst, arith, length, get_or}
+use Rattle.std.proofs.Common.{◌∙◌, ◌<◌, ap, subst, arith, length, get_or}
 use Rattle.jl_model.specs.declared.ty.Bound.{Bound}
 use Rattle.jl_model.specs.Ancestors.{table_of}
 use Rattle.jl_sig.specs.Forms.{IsSmallForm}

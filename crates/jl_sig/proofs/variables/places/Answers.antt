@@ -1,9 +1,9 @@
-use Rattle.std.proofs.Common.{◌≡◌, ◌∙◌, ◌<◌, ◌≤◌, sym, ap, subst, arith, length, get_or}
+use Rattle.std.proofs.Common.{◌∙◌, ◌<◌, sym, ap, subst, arith, length, get_or}
 use Rattle.jl_model.specs.declared.ty.Bound.{Bound}
 use Rattle.jl_model.specs.Rows.{alts}
 use Rattle.jl_sig.specs.declared.kind.Kind.TheVariants.{Unused}
-use Rattle.jl_sig.proofs.RowLemmas.{kinds_long, slots_done}
-use Rattle.jl_sig.proofs.PlacedLemmas.{places_step, high_is}
+use Rattle.jl_sig.proofs.RowLemmas.{kinds_long}
+use Rattle.jl_sig.proofs.PlacedLemmas.{places_step}
 use Rattle.jl_sig.proofs.variables.places.Goals as goal
 
 pub loop-variable-preserved : goal.loop-variable-preserved

@@ -1,0 +1,300 @@
+//! Where a reading goes on; statements, and the words that end blocks.
+
+ghost use Rattle.std.specs.Prelude.{◌≡◌, ◌∷◌, IfOk};
+ghost use Rattle.jl_grammar.specs.Turns.{at, placed, returns_of, returns_in, with_stmt, with_method, with_eval, item_of, block_ends, block_elseif, block_else, block_word, evals_end, evals_word};
+
+use crate::forms::{
+    begun, eval_block, eval_method, eval_quote, iffed, iffed_else, none, with, with_branch,
+};
+use crate::levels::fresh;
+use crate::made::{bound_item, done_item, long, method_item, short};
+use jl_grammar::owned::Owned;
+use jl_grammar::state::{
+    BlockKind, EvalKind, Form, Forms, Frame, ItemsRead, Lead, Place, Point, State,
+};
+use jl_grammar::tree::{Eval, Expr, Head, Item, Method, Name, Stmt};
+use jl_model::rows::Stack;
+use jl_model::ty::Bytes;
+use jl_typeread::sign::Word;
+use std::alloc::{AllocError, Global};
+
+/// The reading goes on at this point.
+pub fn at(point: Point, stack: Stack<Frame>, script: ItemsRead) -> Result<Option<State>, AllocError>
+    ensures { IfOk result (λ s. s ≡ at point stack script) }
+{
+    Ok(Some(State {
+        point,
+        stack,
+        script,
+    }))
+}
+
+/// The reading goes on inside of one more form.
+pub fn inside(
+    point: Point,
+    frame: Frame,
+    mut stack: Stack<Frame>,
+    script: ItemsRead,
+) -> Result<Option<State>, AllocError>
+    ensures { IfOk result (λ s. s ≡ at point (frame ∷ stack) script) }
+{
+    stack.push(frame)?;
+    at(point, stack, script)
+}
+
+/// A name and its place.
+pub fn placed(at: u32, bytes: Bytes) -> Name
+    ensures { result ≡ placed at bytes }
+{
+    Name { at, bytes }
+}
+
+/// Whether a `return` may stand in a block.
+pub fn returns_of(kind: &BlockKind) -> bool
+    ensures { result ≡ returns_of kind.now }
+{
+    match kind {
+        BlockKind::Begin(pending, _) => pending.returns,
+        BlockKind::Branch(pending, ..) => pending.returns,
+        BlockKind::Else(pending, ..) => pending.returns,
+        BlockKind::Body(..) => true,
+    }
+}
+
+/// Whether a `return` may stand in the innermost form that is open.
+pub fn returns_in(stack: &Stack<Frame>) -> bool
+    ensures { result ≡ returns_in stack.now }
+{
+    match stack.top() {
+        Some(Frame::Block(kind, _)) => returns_of(kind.get()),
+        _ => false,
+    }
+}
+
+/// An expression as a statement of a block.
+pub fn with_stmt(
+    stmts: Forms<Stmt>,
+    lead: Lead,
+    e: Form<Expr>,
+) -> Result<Option<Forms<Stmt>>, AllocError>
+    ensures { IfOk result (λ r. r ≡ with_stmt stmts lead e) }
+{
+    let Form { tree, depth, .. } = e;
+    match lead {
+        Lead::Plain => Ok(Some(with(stmts, Stmt::Do(tree), depth)?)),
+        Lead::Bind(name) => Ok(Some(with(stmts, Stmt::Bind(name, tree), depth)?)),
+        Lead::Return(at) => Ok(Some(with(stmts, Stmt::Return(at, tree), depth)?)),
+        Lead::Short(head) => {
+            drop(head);
+            drop(tree);
+            Ok(None)
+        }
+    }
+}
+
+/// The evaluated statements and a method.
+pub fn with_method(evals: Forms<Eval>, method: Form<Method>) -> Result<Forms<Eval>, AllocError>
+    ensures { IfOk result (λ r. r ≡ with_method evals method) }
+{
+    with(evals, Eval::Method(method.tree), method.depth)
+}
+
+/// An expression as an evaluated statement.
+pub fn with_eval(
+    alloc: Global,
+    evals: Forms<Eval>,
+    lead: Lead,
+    e: Form<Expr>,
+) -> Result<Option<Forms<Eval>>, AllocError>
+    ensures { IfOk result (λ r. r ≡ with_eval evals lead e) }
+{
+    match lead {
+        Lead::Plain => Ok(Some(with(evals, Eval::Do(e.tree), e.depth)?)),
+        Lead::Short(head) => {
+            let method = short(alloc, head.take(), e)?;
+            Ok(Some(with_method(evals, method)?))
+        }
+        lead => {
+            drop(lead);
+            drop(e);
+            Ok(None)
+        }
+    }
+}
+
+/// An expression as an item.
+pub fn item_of(alloc: Global, lead: Lead, e: Form<Expr>) -> Result<Option<Form<Item>>, AllocError>
+    ensures { IfOk result (λ r. r ≡ item_of lead e) }
+{
+    match lead {
+        Lead::Plain => Ok(Some(done_item(e))),
+        Lead::Bind(name) => Ok(Some(bound_item(name, e))),
+        Lead::Short(head) => Ok(Some(method_item(short(alloc, head.take(), e)?))),
+        Lead::Return(_) => {
+            drop(e);
+            Ok(None)
+        }
+    }
+}
+
+/// `end` of the body of a method.
+fn body_ends(
+    alloc: Global,
+    place: Place,
+    head: Form<Head>,
+    stmts: Forms<Stmt>,
+    stack: Stack<Frame>,
+    script: ItemsRead,
+) -> Result<Option<State>, AllocError>
+    ensures { IfOk result (λ s. s ≡ block_ends (BlockKind.Body place head) stmts stack script) }
+{
+    let method = long(alloc, head, stmts)?;
+    match place {
+        Place::Entry => at(Point::MadeMethod(method), stack, script),
+        Place::Evaluated(pending, place) => {
+            let e = eval_method(alloc, place, method)?;
+            at(Point::Have(pending, e), stack, script)
+        }
+    }
+}
+
+/// `end` of a block.
+pub fn block_ends(
+    alloc: Global,
+    kind: BlockKind,
+    stmts: Forms<Stmt>,
+    stack: Stack<Frame>,
+    script: ItemsRead,
+) -> Result<Option<State>, AllocError>
+    ensures { IfOk result (λ s. s ≡ block_ends kind stmts stack script) }
+{
+    match kind {
+        BlockKind::Begin(pending, place) => {
+            let e = begun(alloc, place, stmts)?;
+            at(Point::Have(pending, e), stack, script)
+        }
+        BlockKind::Branch(pending, place, branched, word, test) => {
+            let branched = with_branch(alloc, branched, word, test, stmts)?;
+            let e = iffed(alloc, place, branched)?;
+            at(Point::Have(pending, e), stack, script)
+        }
+        BlockKind::Else(pending, place, branched) => {
+            let e = iffed_else(alloc, place, branched, stmts)?;
+            at(Point::Have(pending, e), stack, script)
+        }
+        BlockKind::Body(place, head) => body_ends(alloc, place, head, stmts, stack, script),
+    }
+}
+
+/// `elseif` at the end of a branch.
+pub fn block_elseif(
+    alloc: Global,
+    place: u32,
+    kind: BlockKind,
+    stmts: Forms<Stmt>,
+    stack: Stack<Frame>,
+    script: ItemsRead,
+) -> Result<Option<State>, AllocError>
+    ensures { IfOk result (λ s. s ≡ block_elseif place kind stmts stack script) }
+{
+    match kind {
+        BlockKind::Branch(pending, start, branched, word, test) => {
+            let branched = with_branch(alloc, branched, word, test, stmts)?;
+            let want = Point::Want(fresh(alloc, pending.returns));
+            let frame = Frame::Test(pending, start, branched, place);
+            inside(want, frame, stack, script)
+        }
+        kind => {
+            drop(kind);
+            Ok(None)
+        }
+    }
+}
+
+/// `else` at the end of a branch.
+pub fn block_else(
+    alloc: Global,
+    kind: BlockKind,
+    stmts: Forms<Stmt>,
+    stack: Stack<Frame>,
+    script: ItemsRead,
+) -> Result<Option<State>, AllocError>
+    ensures { IfOk result (λ s. s ≡ block_else kind stmts stack script) }
+{
+    match kind {
+        BlockKind::Branch(pending, place, branched, word, test) => {
+            let branched = with_branch(alloc, branched, word, test, stmts)?;
+            let kind = Owned::new(alloc, BlockKind::Else(pending, place, branched))?;
+            inside(Point::Entry, Frame::Block(kind, none(alloc)), stack, script)
+        }
+        kind => {
+            drop(kind);
+            Ok(None)
+        }
+    }
+}
+
+/// A reserved word at the end of a block, or of a part of it.
+pub fn block_word(
+    alloc: Global,
+    word: Word,
+    place: u32,
+    kind: BlockKind,
+    stmts: Forms<Stmt>,
+    stack: Stack<Frame>,
+    script: ItemsRead,
+) -> Result<Option<State>, AllocError>
+    ensures { IfOk result (λ s. s ≡ block_word word place kind stmts stack script) }
+{
+    match word {
+        Word::End => block_ends(alloc, kind, stmts, stack, script),
+        Word::Elseif => block_elseif(alloc, place, kind, stmts, stack, script),
+        Word::Else => block_else(alloc, kind, stmts, stack, script),
+        _ => {
+            drop(kind);
+            Ok(None)
+        }
+    }
+}
+
+/// `end` of an evaluated block.
+pub fn evals_end(
+    alloc: Global,
+    kind: EvalKind,
+    evals: Forms<Eval>,
+    stack: Stack<Frame>,
+    script: ItemsRead,
+) -> Result<Option<State>, AllocError>
+    ensures { IfOk result (λ s. s ≡ evals_end kind evals stack script) }
+{
+    match kind {
+        EvalKind::Begin(pending, place) => {
+            let e = eval_block(alloc, place, evals)?;
+            at(Point::Have(pending, e), stack, script)
+        }
+        EvalKind::Quote(pending, place) => {
+            let e = eval_quote(alloc, place, evals)?;
+            at(Point::Quoted(pending, e), stack, script)
+        }
+    }
+}
+
+/// A reserved word at the end of an evaluated block.
+pub fn evals_word(
+    alloc: Global,
+    word: Word,
+    kind: EvalKind,
+    evals: Forms<Eval>,
+    stack: Stack<Frame>,
+    script: ItemsRead,
+) -> Result<Option<State>, AllocError>
+    ensures { IfOk result (λ s. s ≡ evals_word word kind evals stack script) }
+{
+    match word {
+        Word::End => evals_end(alloc, kind, evals, stack, script),
+        _ => {
+            drop(kind);
+            Ok(None)
+        }
+    }
+}

@@ -1,0 +1,3 @@
+pub mod ArmLemmas
+pub mod BlockLemmas
+pub mod TypeSteps

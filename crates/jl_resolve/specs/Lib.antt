@@ -1,0 +1,8 @@
+pub mod Scopes
+pub mod Functions
+pub mod TypesIn
+pub mod Expressions
+pub mod Defined
+pub mod Top
+pub mod Declarations
+pub mod Script

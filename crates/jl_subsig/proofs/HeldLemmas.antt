@@ -1,0 +1,163 @@
+-- What is kept of the bounds of fixed variables.
+use Rattle.std.proofs.Common.{◌≡◌, ◌∙◌, sym, ap, subst, refl, ℕ, zero, suc, ◌-◌, ◌/◌, ◌%◌, ◌<◌, arith, Bool, true, false, cond, nat_lt, mod-lt, List, [], ◌∷◌, map, length, get_or, ◌⊎◌, inl, inr}
+use Rattle.jl_model.specs.declared.ty.Ty.{Ty}
+use Rattle.jl_model.specs.declared.ty.Ty.TheViews.{outs-Any}
+use Rattle.jl_model.specs.declared.ty.Ty.TheViews as V
+use Rattle.jl_model.specs.declared.ty.Ty.TheVariants as W
+use Rattle.jl_model.specs.declared.ty.Bound.{Bound}
+use Rattle.jl_model.specs.declared.ty.Decl.{Decl}
+use Rattle.jl_model.specs.Ancestors.{table_of}
+use Rattle.jl_model.specs.Kinds.{Kind, unused, once, diagonal, bound}
+use Rattle.jl_model.specs.Rows.{alts, free, width, low, high, kind, root, vars_in}
+use Rattle.jl_model.specs.Signature.{by_kind, is_diagonal}
+use Rattle.jl_model.specs.Subtype.{Table, at}
+use Rattle.jl_model.specs.Normal.{any as normal_any}
+use Rattle.jl_model.proofs.FormLemmas.{alts-any, vars-any, vars-union}
+use Rattle.jl_model.proofs.KnownLemmas.{known-any}
+use Rattle.jl_model.proofs.SelfLemmas.{equal_self}
+use Rattle.jl_sig.specs.declared.row.SigRow.{SigRow}
+use Rattle.jl_sig.specs.declared.sig.Sig.{Sig}
+use Rattle.jl_sig.specs.SigParts.{kept_of, bounded_of, diagonals_of, alternatives_of}
+use Rattle.jl_subsig.specs.Side.{held, tops, IsPlain, IsPlainForm, IsTold, AreHeld}
+use Rattle.jl_subsig.proofs.ScopeLemmas.{is_less}
+
+pub any_plain : (ds : List Decl) → IsPlain ds W.Any
+any_plain ds = record { normal = normal_any W.Any outs-Any; known = known-any (length ds); closed = vars-any }
+
+pub same_form : (ds : List Decl) (t : Ty) → IsPlain ds t → IsPlainForm ds t t
+same_form ds t h = record { closed = h.closed; plain = h; equal = equal_self (table_of ds) t }
+
+pub less_or : (k m : ℕ) → (k < m) ⊎ (nat_lt k m ≡ false)
+less_or k m = by_test (nat_lt k m) refl
+  where
+    by_test : (b : Bool) → nat_lt k m ≡ b → (k < m) ⊎ (nat_lt k m ≡ false)
+    by_test true e = inl (grind (arith, e))
+    by_test false e = inr e
+
+pub true_or : (b : Bool) → (b ≡ true) ⊎ (b ≡ false)
+true_or true = inl refl
+true_or false = inr refl
+
+pub is_diag : (k : Kind) → is_diagonal k ≡ true → k ≡ diagonal
+is_diag unused h = let e : false ≡ true = h in cc
+is_diag once h = let e : false ≡ true = h in cc
+is_diag diagonal h = refl
+is_diag bound h = let e : false ≡ true = h in cc
+
+pub other_kind : (k : Kind) (t u : Ty) → is_diagonal k ≡ false → by_kind k t u ≡ u
+other_kind unused t u h = refl
+other_kind once t u h = refl
+other_kind diagonal t u h = let e : true ≡ false = h in cc
+other_kind bound t u h = refl
+
+-- the alternatives of a bound in the list
+get_alts : (bs : List Bound) (j : ℕ) → j < length bs → get_or (map (λ (b : Bound). alts b.high) bs) j [] ≡ alts (get_or bs j free).high
+get_alts [] j h = absurd (omega arith)
+get_alts (b ∷ bs) zero h = refl
+get_alts (b ∷ bs) (suc j) h = get_alts bs j (omega arith)
+
+no_bound : (bs : List Bound) (j : ℕ) → length bs ≡ 0 → get_or bs j free ≡ free
+no_bound [] j h = refl
+no_bound (b ∷ bs) j h = absurd (omega arith)
+
+no_alts : (xs : List (List Ty)) (j : ℕ) → length xs ≡ 0 → get_or xs j [] ≡ []
+no_alts [] j h = refl
+no_alts (x ∷ xs) j h = absurd (omega arith)
+
+one_any : (us : List Ty) (i : ℕ) → us ≡ W.Any ∷ [] → get_or us i W.Any ≡ W.Any
+one_any us zero e = ap (λ z. get_or z zero W.Any) e
+one_any us (suc i) e = ap (λ z. get_or z (suc i) W.Any) e
+
+-- the upper bounds
+module _ (s : Sig) (r : SigRow) (told : IsTold s r) where
+  abbrev m : ℕ
+  m = width (kept_of s)
+
+  pub atom_high : (k : ℕ) → nat_lt k m ≡ false → (held s r).high k ≡ at (alts (high (kept_of s) (root (kept_of s) k))) (k / m - 1)
+  atom_high k e = rw e refl
+
+  pub no_high : (k : ℕ) → nat_lt k m ≡ false → m ≡ 0 → (held s r).high k ≡ W.Any
+  no_high k e z = atom_high k e ∙ one_any (alts (high (kept_of s) (root (kept_of s) k))) (k / m - 1) (ap (λ (b : Bound). alts b.high) (no_bound (kept_of s).vars (root (kept_of s) k) z) ∙ alts-any)
+
+  pub atom_in : (k : ℕ) → 0 < m → k % m < m
+  atom_in k p = mod-lt k p
+
+  pub own_high : (k : ℕ) → k < m → (held s r).high k ≡ by_kind (kind (kept_of s) k) (at r.chosen k) (high (kept_of s) k)
+  own_high k l = let e = is_less k m l in rw e refl
+
+  -- as they are kept and in normal form
+  module _ (bs : List Bound) (long : length bs ≡ m) where
+    past_form : (k : ℕ) → nat_lt k m ≡ false
+        → cond (nat_lt k m) (cond (get_or (diagonals_of s) k false) (at r.chosen k) (get_or bs k free).high) (at (get_or (alternatives_of s) (k % m) []) (k / m - 1)) ≡ at (get_or (alternatives_of s) (k % m) []) (k / m - 1)
+    past_form k e = rw e refl
+
+    past_at : (k : ℕ) → nat_lt k m ≡ false → tops bs s r k ≡ at (get_or (alternatives_of s) (k % m) []) (k / m - 1)
+    past_at k e = ap (λ z. cond (nat_lt k z) (cond (get_or (diagonals_of s) k false) (at r.chosen k) (get_or bs k free).high) (at (get_or (alternatives_of s) (k % z) []) (k / z - 1))) long ∙ past_form k e
+
+    pub top_past : (k : ℕ) → nat_lt k m ≡ false → tops bs s r k ≡ (held s r).high k
+    top_past k e = elim (less_or 0 m) [
+      | inl p ↦
+          let b : get_or (alternatives_of s) (k % m) [] ≡ alts (high (kept_of s) (k % m)) = ap (λ z. get_or z (k % m) []) told.alternatives ∙ get_alts (kept_of s).vars (k % m) (atom_in k p) in
+          past_at k e ∙ ap (λ z. at z (k / m - 1)) b ∙ sym (atom_high k e)
+      | inr f ↦
+          let z : m ≡ 0 = grind (arith, f) in
+          let b : get_or (alternatives_of s) (k % m) [] ≡ [] = no_alts (alternatives_of s) (k % m) (told.long.alternatives ∙ z) in
+          past_at k e ∙ ap (λ z. at z (k / m - 1)) b ∙ sym (no_high k e z)
+    ]
+
+    pub top_own : (k : ℕ) → k < m → tops bs s r k ≡ cond (is_diagonal (kind (kept_of s) k)) (at r.chosen k) (get_or bs k free).high
+    top_own k l =
+        let e : nat_lt k (length bs) ≡ true = ap (nat_lt k) long ∙ is_less k m l in
+        own_form e ∙ ap (λ z. cond z (at r.chosen k) (get_or bs k free).high) (told.diagonals k)
+      where
+        own_form : nat_lt k (length bs) ≡ true → tops bs s r k ≡ cond (get_or (diagonals_of s) k false) (at r.chosen k) (get_or bs k free).high
+        own_form e = rw e refl
+
+  pub top_kept : (k : ℕ) → tops (kept_of s).vars s r k ≡ (held s r).high k
+  top_kept k = elim (less_or k m) [
+    | inr e ↦ top_past (kept_of s).vars refl k e
+    | inl l ↦ elim (true_or (is_diagonal (kind (kept_of s) k))) [
+      | inl d ↦ top_own (kept_of s).vars refl k l ∙ ap (λ z. cond z (at r.chosen k) (high (kept_of s) k)) d ∙ sym (own_high k l ∙ ap (λ z. by_kind z (at r.chosen k) (high (kept_of s) k)) (is_diag (kind (kept_of s) k) d))
+      | inr d ↦ top_own (kept_of s).vars refl k l ∙ ap (λ z. cond z (at r.chosen k) (high (kept_of s) k)) d ∙ sym (own_high k l ∙ other_kind (kind (kept_of s) k) (at r.chosen k) (high (kept_of s) k) d)
+    ]
+  ]
+
+module _ (ds : List Decl) (s : Sig) (r : SigRow) (h : AreHeld ds s r) where
+  abbrev n : Table
+  n = table_of ds
+
+  pub low_at : (k : ℕ) → k < width (kept_of s) → (held s r).low k ≡ low (kept_of s) k
+  low_at k l = let e = is_less k (width (kept_of s)) l in rw e refl
+
+  pub low_past : (k : ℕ) → nat_lt k (width (kept_of s)) ≡ false → (held s r).low k ≡ V.Union []
+  low_past k e = rw e refl
+
+  pub low_none : (k : ℕ) → vars_in ((held s r).low k) ≡ []
+  low_none k = elim (less_or k (width (kept_of s))) [
+    | inl l ↦ ap vars_in (low_at k l) ∙ (h.lows k l).closed
+    | inr e ↦ ap vars_in (low_past k e) ∙ vars-union []
+  ]
+
+  pub past_plain : (k : ℕ) → nat_lt k (width (kept_of s)) ≡ false → IsPlain ds ((held s r).high k)
+  past_plain k e = elim (less_or 0 (width (kept_of s))) [
+    | inl p ↦ subst (IsPlain ds) (sym (atom_high s r h.told k e)) (h.atom (k % width (kept_of s)) (k / width (kept_of s) - 1) (atom_in s r h.told k p))
+    | inr f ↦ subst (IsPlain ds) (sym (no_high s r h.told k e (grind (arith, f)))) (any_plain ds)
+  ]
+
+  pub top_form : (k : ℕ) → IsPlainForm ds ((held s r).high k) (tops (bounded_of s).vars s r k)
+  top_form k = elim (less_or k (width (kept_of s))) [
+    | inr e ↦ subst (IsPlainForm ds ((held s r).high k)) (sym (top_past s r h.told (bounded_of s).vars h.wide k e)) (same_form ds ((held s r).high k) (past_plain k e))
+    | inl l ↦ elim (true_or (is_diagonal (kind (kept_of s) k))) [
+      | inl d ↦
+          let a : tops (bounded_of s).vars s r k ≡ at r.chosen k = top_own s r h.told (bounded_of s).vars h.wide k l ∙ ap (λ z. cond z (at r.chosen k) (high (bounded_of s) k)) d in
+          let b : (held s r).high k ≡ at r.chosen k = own_high s r h.told k l ∙ ap (λ z. by_kind z (at r.chosen k) (high (kept_of s) k)) (is_diag (kind (kept_of s) k) d) in
+          subst (IsPlainForm ds ((held s r).high k)) (sym a) (subst (λ z. IsPlainForm ds z (at r.chosen k)) (sym b) (same_form ds (at r.chosen k) (h.chosen k l (is_diag (kind (kept_of s) k) d))))
+      | inr d ↦
+          let a : tops (bounded_of s).vars s r k ≡ high (bounded_of s) k = top_own s r h.told (bounded_of s).vars h.wide k l ∙ ap (λ z. cond z (at r.chosen k) (high (bounded_of s) k)) d in
+          let b : (held s r).high k ≡ high (kept_of s) k = own_high s r h.told k l ∙ other_kind (kind (kept_of s) k) (at r.chosen k) (high (kept_of s) k) d in
+          subst (IsPlainForm ds ((held s r).high k)) (sym a) (subst (λ z. IsPlainForm ds z (high (bounded_of s) k)) (sym b) (h.highs k l))
+    ]
+  ]
+
+  pub high_none : (k : ℕ) → vars_in ((held s r).high k) ≡ []
+  high_none k = (top_form k).closed

@@ -1,0 +1,57 @@
+-- The list of the types found.
+use Rattle.std.proofs.Common.{◌≡◌, ◌∙◌, sym, ap, refl, ℕ, ◌<◌, ◌≤◌, arith, Bool, true, false, cond, nat_lt, List, [], ◌∷◌, ◌++◌, map, length, Option, ◌⊎◌, inl, inr}
+use Rattle.jl_model.specs.declared.ty.Ty.{Ty}
+use Rattle.jl_model.specs.declared.ty.Ty.TheVariants as W
+use Rattle.jl_model.specs.declared.ty.Written.{Written}
+use Rattle.jl_model.specs.Rows.{width, kind}
+use Rattle.jl_model.specs.Subtype.{Table, Fixed, at}
+use Rattle.jl_model.specs.Signature.{Row, top, is_diagonal}
+use Rattle.jl_model.proofs.AncestorLemmas.{get_before, long-snoc}
+use Rattle.jl_types.proofs.TableLemmas.{get-past}
+use Rattle.jl_subsig.specs.Found.{find_inner, find_outer, first, or_type, found}
+use Rattle.jl_subsig.proofs.AbstractLemmas.{get_end}
+
+below_or : (v m : ℕ) → (v < m) ⊎ (m ≤ v)
+below_or v m = by_test (nat_lt v m) refl
+  where
+    by_test : (b : Bool) → nat_lt v m ≡ b → (v < m) ⊎ (m ≤ v)
+    by_test true e = inl (grind (arith, e))
+    by_test false e = inr (grind (arith, e))
+
+-- the values so far are those of F
+abbrev pub Gives : (ℕ → Ty) → List Ty → Type 0
+Gives F vs = (v : ℕ) → v < length vs → at vs v ≡ F v
+
+pub gives_none : (F : ℕ → Ty) → Gives F []
+gives_none F v l = absurd (omega arith)
+
+push_at : (F : ℕ → Ty) (vs : List Ty) (t : Ty) → Gives F vs → t ≡ F (length vs) → (v : ℕ) → v < length (vs ++ t ∷ []) → (v < length vs) ⊎ (length vs ≤ v) → at (vs ++ t ∷ []) v ≡ F v
+push_at F vs t h e v l (inl k) = get_before vs t W.Any v k ∙ h v k
+push_at F vs t h e v l (inr k) =
+    let i : v ≡ length vs = omega (arith, long-snoc vs t) in
+    ap (at (vs ++ t ∷ [])) i ∙ get_end vs t W.Any ∙ e ∙ ap F (sym i)
+
+pub gives_push : (F : ℕ → Ty) (vs : List Ty) (t : Ty) → Gives F vs → t ≡ F (length vs) → Gives F (vs ++ t ∷ [])
+gives_push F vs t h e v l = push_at F vs t h e v l (below_or v (length vs))
+
+all_at : (F : ℕ → Ty) (vs : List Ty) → Gives F vs → ((v : ℕ) → length vs ≤ v → F v ≡ W.Any) → (v : ℕ) → (v < length vs) ⊎ (length vs ≤ v) → at vs v ≡ F v
+all_at F vs h g v (inl k) = h v k
+all_at F vs h g v (inr k) = get-past vs v W.Any k ∙ sym (g v k)
+
+-- the list is the function
+pub gives_all : (F : ℕ → Ty) (vs : List Ty) → Gives F vs → ((v : ℕ) → length vs ≤ v → F v ≡ W.Any) → at vs ≡ F
+gives_all F vs h g = λ i v. all_at F vs h g v (below_or v (length vs)) i
+
+pub found_past : (n : Table) (g : Fixed) (s : Written) (r : Row) (ts : List Ty) (v : ℕ) → width s ≤ v → found n g s r ts v ≡ W.Any
+found_past n g s r ts v l = let e : nat_lt v (width s) ≡ false = grind (arith, l) in rw e refl
+
+-- where nothing is found, the upper bound
+pub found_top : (n : Table) (g : Fixed) (s : Written) (r : Row) (ts : List Ty) (v : ℕ) (o : Option Ty) → v < width s
+    → cond (is_diagonal (kind s v)) (first (map (find_outer g v) r.parts) ts) (first (map (find_inner n g v) r.parts) ts) ≡ o → or_type o (top s r v) ≡ found n g s r ts v
+found_top n g s r ts v o l e = let i : nat_lt v (width s) ≡ true = grind (arith, l) in rw (i, e) refl
+
+pub outer_hit : (k d : Bool) (a b o : Option Ty) → d ≡ k → d ≡ true → a ≡ o → cond k a b ≡ o
+outer_hit k d a b o i e h = let j = sym i ∙ e in rw j h
+
+pub inner_hit : (k d : Bool) (a b o : Option Ty) → d ≡ k → d ≡ false → b ≡ o → cond k a b ≡ o
+inner_hit k d a b o i e h = let j = sym i ∙ e in rw j h

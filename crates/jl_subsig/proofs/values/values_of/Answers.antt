@@ -1,0 +1,15 @@
+use Rattle.std.proofs.Common.{◌∙◌, sym, ap, subst, arith}
+use Rattle.jl_model.specs.Ancestors.{table_of}
+use Rattle.jl_subsig.specs.Found.{found}
+use Rattle.jl_subsig.specs.Side.{row_of, held, sided}
+use Rattle.jl_subsig.proofs.ValueSteps.{Gives, gives_push}
+use Rattle.jl_subsig.proofs.values.values_of.Goals as goal
+
+pub loop-variable-preserved : goal.loop-variable-preserved
+loop-variable-preserved c =
+    let f = found (table_of c.args.table.now) (held c.args.left.now c.args.row.now) (sided c.args.right.now) (row_of c.args.other.now) c.args.row.now.parts in
+    record {
+      so_far = subst (Gives f) (sym c.in_ok-push.ensures.items)
+          (gives_push f c.loop-variable.values.items c.in_ok-value_of.field-0 c.loop-variable.invariant.so_far (c.in_ok-value_of.ensures ∙ sym (ap f c.loop-variable.invariant.long)));
+      long = grind (arith, c.in_ok-push.ensures.items, c.loop-variable.invariant.long);
+    }

@@ -1,0 +1,179 @@
+-- A row of a signature with what is kept of both, for the walks over two rows.
+use Rattle.std.specs.Prelude.{ℕ, ◌-◌, ◌%◌, ◌/◌, ◌≡◌, ◌<◌, Bool, true, false, not, cond, nat_eq, nat_lt, IsTrue, ◌⊎◌, List, [], ◌∷◌, ◌++◌, map, length, get_or, Option, None}
+use Rattle.std.specs.List.{flat_map, list_all, Contains}
+use Rattle.jl_model.specs.declared.ty.Ty.{Ty}
+use Rattle.jl_model.specs.declared.ty.Ty.TheOpen.{Ty-F, Any, Union, Tuple, Nominal, Var}
+use Rattle.jl_model.specs.declared.ty.Ty.TheViews.{out-Ty}
+use Rattle.jl_model.specs.declared.ty.Ty.TheFolds.{fold-Ty}
+use Rattle.jl_model.specs.declared.ty.Bound.{Bound}
+use Rattle.jl_model.specs.declared.ty.Decl.{Decl}
+use Rattle.jl_model.specs.declared.ty.Written.{Written}
+use Rattle.jl_model.specs.Ancestors.{table_of}
+use Rattle.jl_model.specs.Kinds.{diagonal, bound}
+use Rattle.jl_model.specs.Rows.{alts, free, width, low, high, kind, root, vars_in, Occurs}
+use Rattle.jl_model.specs.Signature.{Row, IsRow, top, fixed, is_diagonal}
+use Rattle.jl_model.specs.Subtype.{Table, Fixed, at, lifted, Below, Equal, is_concrete}
+use Rattle.jl_model.specs.Normal.{IsNormal, AllNormal, is_single}
+use Rattle.jl_model.specs.Valid.{is_known}
+use Rattle.jl_model.specs.Refusals.{bound_types}
+use Rattle.jl_types.specs.Ground.{AreSingles}
+use Rattle.jl_sig.specs.declared.row.SigRow.{SigRow}
+use Rattle.jl_subsig.specs.Scoped.{is_argument, IsScoped, IsPlaced, IsOrdered, HasNormalArguments}
+use Rattle.jl_subsig.specs.Found.{outer}
+use Rattle.jl_sig.specs.declared.sig.Sig.{Sig}
+use Rattle.jl_sig.specs.SigParts.{kept_of, bounded_of, diagonals_of, alternatives_of}
+
+abbrev pub row_of : SigRow → Row
+row_of r = record { parts = r.parts; chosen = at r.chosen }
+
+-- the variables of a row, held fixed
+abbrev pub held : Sig → SigRow → Fixed
+held s r = fixed (kept_of s) (row_of r)
+
+-- a normal form without variables, of declared nominal types
+pub record IsPlain (ds : List Decl) (t : Ty) : Type 0 where
+  pub normal : IsNormal (table_of ds) t
+  pub known : IsTrue (is_known (length ds) t)
+  pub closed : vars_in t ≡ []
+
+-- a normal form of declared nominal types, with no variable in a union
+pub record IsItem (ds : List Decl) (t : Ty) : Type 0 where
+  pub normal : IsNormal (table_of ds) t
+  pub known : IsTrue (is_known (length ds) t)
+  pub whole : is_single t ≡ false → vars_in t ≡ []
+
+-- they have no variables
+pub record ArePlain (ds : List Decl) (ts : List Ty) : Type 0 where
+  pub singles : AreSingles ds ts
+  pub closed : flat_map vars_in ts ≡ []
+
+abbrev pub Every : {A : Type 0} → (A → Type 0) → List A → Type 0
+Every P [] = Unit {0}
+Every P (t ∷ ts) = P t × Every P ts
+
+abbrev pub AnyOf : {A : Type 0} → (A → Type 0) → List A → Type 0
+AnyOf P [] = ⊥
+AnyOf P (t ∷ ts) = P t ⊎ AnyOf P ts
+
+-- no variable stands at a covariant place
+pub data IsRigid : Ty → Type 0 where
+  closed : (t : Ty) → vars_in t ≡ [] → IsRigid t
+  applied : (t : Ty) (k : ℕ) (ts : List Ty) → out-Ty t ≡ Nominal k ts → IsRigid t
+
+-- u is a normal form of t, and neither has variables
+pub record IsPlainForm (ds : List Decl) (t u : Ty) : Type 0 where
+  pub closed : vars_in t ≡ []
+  pub plain : IsPlain ds u
+  pub equal : Equal (table_of ds) t u
+
+-- What may stand in a left row: a normal form of declared nominal types, with no variable in a union, whose variables and atoms
+-- at covariant places have plain upper bounds.
+pub record IsLeftPart (ds : List Decl) (g : Fixed) (t : Ty) : Type 0 where
+  pub item : IsItem ds t
+  pub raises : (k : ℕ) → Contains (outer t) k → IsPlain ds (g.high k)
+
+pub record AreLeftParts (ds : List Decl) (g : Fixed) (ts : List Ty) : Type 0 where
+  pub singles : AreSingles ds ts
+  pub raises : (k : ℕ) → Contains (flat_map outer ts) k → IsPlain ds (g.high k)
+
+-- the arguments of the ancestor m of a nominal type, or of the type itself
+abbrev pub lift_to : Table → ℕ → Ty-F Ty → Option (List Ty)
+lift_to n m (Nominal k xs) = lifted n k xs m
+lift_to n m Any = None
+lift_to n m (Union ts) = None
+lift_to n m (Tuple ts) = None
+lift_to n m (Var v) = None
+
+-- what may stand at a covariant place of a right row: a diagonal variable, or an atom of a bound one
+abbrev pub IsPlace : Written → ℕ → Type 0
+IsPlace s w = (root s w < width s) × (((kind s w ≡ diagonal) × (root s w ≡ w)) ⊎ ((kind s (root s w) ≡ bound) × (kind s w ≡ diagonal → ⊥)))
+
+-- a part of a right row: no union stands at a covariant place, and arguments are normal forms
+module _ (n : Table) (s : Written) where
+  mutual
+    pub data IsRightPart : Ty → Type 0 where
+      right_any : (t : Ty) → out-Ty t ≡ Any → IsRightPart t
+      right_variable : (t : Ty) (v : ℕ) → out-Ty t ≡ Var v → IsPlace s v → IsRightPart t
+      right_tuple : (t : Ty) (ts : List Ty) → out-Ty t ≡ Tuple ts → AreRightParts ts → IsRightPart t
+      right_nominal : (t : Ty) (k : ℕ) (ts : List Ty) → out-Ty t ≡ Nominal k ts → AllNormal n ts → IsTrue (list_all is_argument ts) → IsRightPart t
+
+    pub data AreRightParts : List Ty → Type 0 where
+      right_end : AreRightParts []
+      right_more : (t : Ty) (ts : List Ty) → IsRightPart t → AreRightParts ts → AreRightParts (t ∷ ts)
+
+-- the kept form of a signature, with its bounds in normal form
+abbrev pub sided : Sig → Written
+sided s = record { vars = (bounded_of s).vars; parts = (kept_of s).parts }
+
+-- what is asked of the type put for a variable of a right row
+abbrev pub Within : Table → Fixed → Ty → Ty → Bool → Ty → Type 0
+Within n g low high is_diagonal t = Below n g low t × Below n g t high × (IsTrue is_diagonal → IsTrue (is_concrete n g t))
+
+-- what is put for the variable serves, if it stands in the row
+abbrev pub ServesAt : Table → Fixed → Written → Row → (ℕ → Ty) → ℕ → Type 0
+ServesAt n g s r f v = Occurs s v r.parts → Within n g (low s v) (top s r v) (is_diagonal (kind s v)) (f v)
+
+-- one for each variable
+pub record AreValues (ds : List Decl) (m : ℕ) (vs : List Ty) : Type 0 where
+  pub long : length vs ≡ m
+  pub items : (v : ℕ) → v < m → IsItem ds (at vs v)
+
+abbrev pub lacks_step : ℕ → ℕ → Ty-F Bool → Bool
+lacks_step m v Any = true
+lacks_step m v (Union bs) = list_all (λ b. b) bs
+lacks_step m v (Tuple bs) = list_all (λ b. b) bs
+lacks_step m v (Nominal _ bs) = list_all (λ b. b) bs
+lacks_step m v (Var w) = not (nat_eq (w % m) v)
+
+-- of m variables, neither v nor an atom of it stands in a type
+abbrev pub lacks : ℕ → ℕ → Ty → Bool
+lacks m v = fold-Ty Bool (lacks_step m v)
+
+-- the list tells which variables are diagonal
+pub record AreDiagonalsOf (s : Sig) : Type 0 where
+  pub long : length (diagonals_of s) ≡ width (kept_of s)
+  pub wide : length (bounded_of s).vars ≡ width (kept_of s)
+  pub kinds : (v : ℕ) → get_or (diagonals_of s) v false ≡ is_diagonal (kind (kept_of s) v)
+
+-- each variable in a right row is one of the signature, and the bounds have no variables
+pub record IsRightRow (ds : List Decl) (s : Sig) (r : SigRow) : Type 0 where
+  pub own : (v : ℕ) → Occurs (sided s) v r.parts → v < width (kept_of s)
+  pub lows : (v : ℕ) → vars_in (low (sided s) v) ≡ []
+  pub tops : (v : ℕ) → vars_in (top (sided s) (row_of r) v) ≡ []
+
+-- the upper bound of each variable and atom of a row, where bs are the bounds of the variables
+abbrev pub tops : List Bound → Sig → SigRow → ℕ → Ty
+tops bs s r k =
+    cond (nat_lt k (length bs)) (cond (get_or (diagonals_of s) k false) (at r.chosen k) (get_or bs k free).high)
+    (at (get_or (alternatives_of s) (k % length bs) []) (k / length bs - 1))
+
+-- what is kept of a signature's variables, one for each
+pub record IsLong (bs : List Bound) (s : Sig) (r : SigRow) : Type 0 where
+  pub diagonals : length (diagonals_of s) ≡ length bs
+  pub alternatives : length (alternatives_of s) ≡ length bs
+  pub chosen : length r.chosen ≡ length bs
+
+-- what is kept tells the upper bounds of a row's variables and atoms
+pub record IsTold (s : Sig) (r : SigRow) : Type 0 where
+  pub long : IsLong (kept_of s).vars s r
+  pub diagonals : (v : ℕ) → get_or (diagonals_of s) v false ≡ is_diagonal (kind (kept_of s) v)
+  pub alternatives : (alternatives_of s) ≡ map (λ b. alts b.high) (kept_of s).vars
+
+-- what is kept of the bounds of the variables of a row
+pub record AreHeld (ds : List Decl) (s : Sig) (r : SigRow) : Type 0 where
+  pub told : IsTold s r
+  pub wide : length (bounded_of s).vars ≡ width (kept_of s)
+  pub lows : (v : ℕ) → v < width (kept_of s) → IsPlainForm ds (low (kept_of s) v) (low (bounded_of s) v)
+  pub highs : (v : ℕ) → v < width (kept_of s) → IsPlainForm ds (high (kept_of s) v) (high (bounded_of s) v)
+  pub chosen : (v : ℕ) → v < width (kept_of s) → kind (kept_of s) v ≡ diagonal → IsPlain ds (at r.chosen v)
+  pub atom : (v i : ℕ) → v < width (kept_of s) → IsPlain ds (at (alts (high (kept_of s) v)) i)
+
+-- a row of a kept signature that nothing refuses
+pub record IsSide (ds : List Decl) (s : Sig) (r : SigRow) : Type 0 where
+  pub held : AreHeld ds s r
+  pub scoped : IsScoped (kept_of s)
+  pub placed : IsPlaced (kept_of s)
+  pub ordered : IsOrdered (table_of ds) (kept_of s)
+  pub normal : HasNormalArguments (table_of ds) (kept_of s)
+  pub known : IsTrue (list_all (is_known (length ds)) (bound_types (kept_of s).vars ++ (kept_of s).parts))
+  pub row : IsRow (table_of ds) (kept_of s) (row_of r)

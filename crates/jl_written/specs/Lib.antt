@@ -1,0 +1,4 @@
+pub mod Answered
+pub mod Meaning
+pub mod Reads
+pub mod Signatures

@@ -1,0 +1,41 @@
+-- What a name means where a type must stand. The declared types before the place are ds, the built-in ones first.
+use Rattle.std.specs.Prelude.{ℕ, ◌+◌, cond, codes, List, [], ◌∷◌, map, Option, Some, None}
+use Rattle.jl_model.specs.declared.ty.Decl.{Decl}
+use Rattle.jl_calculus.specs.Names.{same_text}
+use Rattle.jl_written.specs.declared.reading.Named.{Named}
+use Rattle.jl_written.specs.declared.reading.Named.TheVariants.{Variable, Any, Union, Tuple, Nominal, Unknown}
+use Rattle.jl_written.specs.declared.reading.TypeVar.{TypeVar}
+
+-- the place of a name in a list of names whose first has number i, the first of several
+abbrev pub place_from : ℕ → List (List ℕ) → List ℕ → Option ℕ
+place_from i [] name = None
+place_from i (n ∷ ns) name = cond (same_text name n) (Some i) (place_from (i + 1) ns name)
+
+abbrev pub place_of : List (List ℕ) → List ℕ → Option ℕ
+place_of names name = place_from 0 names name
+
+-- the visible type variable of a name, the first of several
+abbrev pub var_of : List TypeVar → List ℕ → Option TypeVar
+var_of [] name = None
+var_of (v ∷ vs) name = cond (same_text name v.name) (Some v) (var_of vs name)
+
+-- the declared type of a name
+abbrev pub nominal_of : Option ℕ → Named
+nominal_of None = Unknown
+nominal_of (Some k) = Nominal k
+
+-- `Int` is `Int64`, whose number is 4
+abbrev pub word_of : List Decl → List ℕ → Named
+word_of ds name =
+    cond (same_text name (codes "Any")) Any
+    (cond (same_text name (codes "Union")) Union
+    (cond (same_text name (codes "Tuple")) Tuple
+    (cond (same_text name (codes "Int")) (Nominal 4) (nominal_of (place_of (map (λ (d : Decl). d.name) ds) name)))))
+
+abbrev pub var_or : Option TypeVar → Named → Named
+var_or None n = n
+var_or (Some v) n = Variable v.number v.usable
+
+-- a visible type variable hides a declared type of its name
+abbrev pub named : List Decl → List TypeVar → List ℕ → Named
+named ds vars name = var_or (var_of vars name) (word_of ds name)

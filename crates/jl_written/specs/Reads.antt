@@ -1,0 +1,245 @@
+-- What the text of a type means, where the declared types ds stand before it (Julia manual, Types: Parametric Types, UnionAll
+-- Types). A type, an argument and a variable are read from left to right, the variables of a `where` before the type in front
+-- of it: each gives what it means, and what is known behind it.
+use Rattle.std.specs.Prelude.{ℕ, Bool, true, false, ◌||◌, cond, List, [], ◌∷◌, ◌++◌, length, drop, Option, Some, None, slice_get}
+use Rattle.jl_model.specs.declared.ty.Ty.{Ty, out-Ty}
+use Rattle.jl_model.specs.declared.ty.Ty.TheOpen.{Ty-F}
+use Rattle.jl_model.specs.declared.ty.Ty.TheOpen as L
+use Rattle.jl_model.specs.declared.ty.Ty.TheVariants as W
+use Rattle.jl_model.specs.declared.ty.Ty.TheViews as V
+use Rattle.jl_model.specs.declared.ty.Bound.{Bound}
+use Rattle.jl_model.specs.declared.ty.Decl.{Decl}
+use Rattle.jl_model.specs.Rows.{free}
+use Rattle.jl_model.specs.Valid.{params_of}
+use Rattle.jl_calculus.specs.Names.{is_among, builtin_names}
+use Rattle.jl_typeread.specs.declared.tree.TypeText.{TypeText}
+use Rattle.jl_typeread.specs.declared.tree.ArgText.{ArgText}
+use Rattle.jl_typeread.specs.declared.tree.VarText.{VarText}
+use Rattle.jl_typeread.specs.declared.tree.ArgText.TheOpen as F
+use Rattle.jl_typeread.specs.declared.tree.ArgText.TheOpen.{TypeText-F, ArgText-F, VarText-F}
+use Rattle.jl_typeread.specs.declared.tree.ArgText.TheFolds.{fold-TypeText, fold-ArgText, fold-VarText}
+use Rattle.jl_written.specs.declared.fault.StaticKind.{StaticKind}
+use Rattle.jl_written.specs.declared.fault.StaticKind.TheVariants as kind
+use Rattle.jl_written.specs.declared.reading.Named.{Named}
+use Rattle.jl_written.specs.declared.reading.Named.TheVariants as N
+use Rattle.jl_written.specs.declared.reading.Reading.{Reading}
+use Rattle.jl_written.specs.declared.reading.TypeVar.{TypeVar}
+use Rattle.jl_written.specs.Answered.{first_of}
+use Rattle.jl_written.specs.Meaning.{var_of, named}
+
+-- ---- what is known, and one step of it
+
+-- a type, and what is known behind it
+pub record Typed : Type 0 where
+  pub ty : Ty
+  pub after : Reading
+
+-- types, and what is known behind them
+pub record Types : Type 0 where
+  pub tys : List Ty
+  pub after : Reading
+
+-- the visible type variables, and what is known behind the text that brings them
+pub record Scoped : Type 0 where
+  pub vars : List TypeVar
+  pub after : Reading
+
+abbrev pub typed : Ty → Reading → Typed
+typed t r = record { ty = t; after = r }
+
+abbrev pub types : List Ty → Reading → Types
+types ts r = record { tys = ts; after = r }
+
+abbrev pub scoped : List TypeVar → Reading → Scoped
+scoped vs r = record { vars = vs; after = r }
+
+-- types behind others
+abbrev pub behind : List Ty → Types → Types
+behind us ts = record { tys = us ++ ts.tys; after = ts.after }
+
+-- nothing is known yet
+abbrev pub unread : Reading
+unread = record { vars = []; places = []; fault = None; unclear = false; misplaced = false }
+
+-- a fault stands at this place
+abbrev pub note : ℕ → StaticKind → Reading → Reading
+note at k r = record r { fault = first_of r.fault (record { at = at; kind = k }) }
+
+-- a name that means no type: the text is no type, and `Any` stands for it
+abbrev pub unknown : ℕ → Reading → Typed
+unknown at r = record { ty = W.Any; after = record (note at kind.UnknownType r) { unclear = true } }
+
+-- a variable of the signature that no body may use
+abbrev pub used : ℕ → Bool → Reading → Reading
+used at usable r = cond usable r (note at kind.StaticParameterUse r)
+
+-- a variable is brought at a place that is `inside` an argument of a nominal type, or not
+abbrev pub brought : Bool → Reading → Reading
+brought inside r = record r { misplaced = r.misplaced || inside }
+
+-- a variable without a name, with these bounds
+abbrev pub fresh : Bound → Bool → Reading → Typed
+fresh b inside r = record { ty = W.Var (length r.vars); after = record (brought inside r) { vars = r.vars ++ b ∷ [] } }
+
+-- the arguments that are missing: fresh variables with the declared bounds
+abbrev pub missing : List Bound → Bool → Reading → Types
+missing [] inside r = record { tys = []; after = r }
+missing (b ∷ bs) inside r =
+    let t = fresh b inside r in
+    let ts = missing bs inside t.after in
+    record { tys = t.ty ∷ ts.tys; after = ts.after }
+
+-- an argument that is a variable, where this upper bound is declared for it
+abbrev pub placed_layer : Ty → Ty-F Ty → Reading → Reading
+placed_layer high (L.Var v) r = record r { places = r.places ++ record { var = v; high = high } ∷ [] }
+placed_layer high _ r = r
+
+abbrev pub placed : List Bound → Ty → Reading → Reading
+placed [] t r = r
+placed (b ∷ bs) t r = placed_layer b.high (out-Ty t) r
+
+-- ---- the parts of a text by what they mean
+
+-- A type or an argument means something where these variables are visible, at a place inside an argument of a nominal type
+-- or not. What stands in an argument's braces may be inside where the argument itself is not.
+abbrev pub TypeReads : Type 0
+TypeReads = List TypeVar → Bool → Reading → Typed
+
+abbrev pub ArgReads : Type 0
+ArgReads = List TypeVar → Bool → Bool → Reading → Typed
+
+-- a variable: its name with its place, and its bounds
+pub record Bounded : Type 0 where
+  pub bound : Bound
+  pub after : Reading
+
+abbrev pub bounded : Bound → Reading → Bounded
+bounded b r = record { bound = b; after = r }
+
+pub record VarReads : Type 0 where
+  pub at : ℕ
+  pub name : List ℕ
+  pub bounds : List TypeVar → Bool → Reading → Bounded
+
+-- the arguments of a nominal type, with their declared bounds: all in an invariant place
+abbrev pub arguments : List Bound → List ArgReads → List TypeVar → Bool → Reading → Types
+arguments bs [] vars inside r = missing bs inside r
+arguments bs (x ∷ xs) vars inside r =
+    let t = x vars inside true r in
+    let ts = arguments (drop 1 bs) xs vars inside (placed bs t.ty t.after) in
+    record { tys = t.ty ∷ ts.tys; after = ts.after }
+
+-- the members of a union, or the parts of a tuple
+abbrev pub members : List ArgReads → List TypeVar → Bool → Reading → Types
+members [] vars inside r = record { tys = []; after = r }
+members (x ∷ xs) vars inside r =
+    let t = x vars inside inside r in
+    let ts = members xs vars inside t.after in
+    record { tys = t.ty ∷ ts.tys; after = ts.after }
+
+abbrev pub union_of : Types → Typed
+union_of ts = record { ty = V.Union ts.tys; after = ts.after }
+
+abbrev pub tuple_of : Types → Typed
+tuple_of ts = record { ty = V.Tuple ts.tys; after = ts.after }
+
+abbrev pub nominal_of : ℕ → Types → Typed
+nominal_of k ts = record { ty = V.Nominal k ts.tys; after = ts.after }
+
+-- ---- variables
+
+-- the next variable takes a name, unless that is visible already
+abbrev pub bound_name : ℕ → List ℕ → Bound → List TypeVar → Reading → Option TypeVar → Scoped
+bound_name at name b vars r None = record {
+  vars = vars ++ record { name = name; number = length r.vars; usable = true } ∷ [];
+  after = record r { vars = r.vars ++ b ∷ [] };
+}
+bound_name at name b vars r (Some _) = record { vars = vars; after = record (note at kind.Rebound r) { vars = r.vars ++ b ∷ []; unclear = true } }
+
+-- a built-in name is bound
+abbrev pub guarded : ℕ → List ℕ → Reading → Reading
+guarded at name r = cond (is_among name builtin_names) (note at kind.NameClash r) r
+
+abbrev pub bind : VarReads → List TypeVar → Bool → Reading → Scoped
+bind v vars inside r =
+    let b = v.bounds vars inside r in
+    bound_name v.at v.name b.bound vars (guarded v.at v.name b.after) (var_of vars v.name)
+
+-- the variables of a list, each visible in what follows it
+abbrev pub bind_all : List VarReads → List TypeVar → Bool → Reading → Scoped
+bind_all [] vars inside r = record { vars = vars; after = r }
+bind_all (v ∷ vs) vars inside r = let s = bind v vars inside r in bind_all vs s.vars inside s.after
+
+-- a `where` brings variables
+abbrev pub where_at : List VarReads → Bool → Reading → Reading
+where_at [] inside r = r
+where_at (v ∷ vs) inside r = brought inside r
+
+-- a type with the variables of its `where`, which end with it
+abbrev pub within : TypeReads → List VarReads → List TypeVar → Bool → Reading → Typed
+within t vs vars inside r = let s = bind_all vs vars inside (where_at vs inside r) in t s.vars inside s.after
+
+-- ---- each rule
+
+module _ (ds : List Decl) where
+  -- a name without braces
+  abbrev pub plain : ℕ → Named → Bool → Reading → Typed
+  plain at (N.Variable v usable) inside r = record { ty = W.Var v; after = used at usable r }
+  plain at N.Any inside r = record { ty = W.Any; after = r }
+  plain at N.Union inside r = unknown at r
+  plain at N.Tuple inside r = unknown at r
+  plain at (N.Nominal k) inside r = nominal_of k (missing (params_of (slice_get ds k)) inside r)
+  plain at N.Unknown inside r = unknown at r
+
+  -- a name with braces
+  abbrev pub applied : ℕ → Named → List ArgReads → List TypeVar → Bool → Reading → Typed
+  applied at (N.Variable v usable) xs vars inside r = unknown at r
+  applied at N.Any xs vars inside r = unknown at r
+  applied at N.Union xs vars inside r = union_of (members xs vars inside r)
+  applied at N.Tuple xs vars inside r = tuple_of (members xs vars inside r)
+  applied at (N.Nominal k) xs vars inside r = nominal_of k (arguments (params_of (slice_get ds k)) xs vars inside r)
+  applied at N.Unknown xs vars inside r = unknown at r
+
+  abbrev pub type_step : TypeText-F ArgReads TypeReads VarReads → TypeReads
+  type_step (F.Name at name) vars inside r = plain at (named ds vars name) inside r
+  type_step (F.Applied at name xs) vars inside r = applied at (named ds vars name) xs vars inside r
+  type_step (F.Paren at t vs) vars inside r = within t vs vars inside r
+
+  -- `<:B` and `>:B` are fresh variables with that bound
+  abbrev pub arg_step : ArgText-F ArgReads TypeReads VarReads → ArgReads
+  arg_step (F.Exact t) vars outer inner r = t vars inner r
+  arg_step (F.ArgText::Below at t) vars outer inner r = let b = t vars inner r in fresh (record { low = V.Union []; high = b.ty }) outer b.after
+  arg_step (F.ArgText::Above at t) vars outer inner r = let b = t vars inner r in fresh (record { low = b.ty; high = W.Any }) outer b.after
+
+  abbrev pub var_step : VarText-F ArgReads TypeReads VarReads → VarReads
+  var_step (F.Free at name) = record { at = at; name = name; bounds = λ vars inside r. record { bound = free; after = r } }
+  var_step (F.VarText::Below at name t) = record {
+    at = at;
+    name = name;
+    bounds = λ vars inside r. let b = t vars inside r in record { bound = record { low = V.Union []; high = b.ty }; after = b.after };
+  }
+  var_step (F.VarText::Above at name t) = record {
+    at = at;
+    name = name;
+    bounds = λ vars inside r. let b = t vars inside r in record { bound = record { low = b.ty; high = W.Any }; after = b.after };
+  }
+  var_step (F.Between l at name h) = record {
+    at = at;
+    name = name;
+    bounds = λ vars inside r.
+        let b = l vars inside r in
+        let c = h vars inside b.after in
+        record { bound = record { low = b.ty; high = c.ty }; after = c.after };
+  }
+
+  -- what a type means
+  abbrev pub type_reads : TypeText → TypeReads
+  type_reads = fold-TypeText ArgReads TypeReads VarReads arg_step type_step var_step
+
+  -- what an argument means
+  abbrev pub arg_reads : ArgText → ArgReads
+  arg_reads = fold-ArgText ArgReads TypeReads VarReads arg_step type_step var_step
+
+  -- what a variable means
+  abbrev pub var_reads : VarText → VarReads
+  var_reads = fold-VarText ArgReads TypeReads VarReads arg_step type_step var_step

@@ -1,0 +1,73 @@
+-- What the types of a signature, of a body and of a declaration mean.
+use Rattle.std.specs.Prelude.{ℕ, ◌+◌, Bool, false, cond, nat_lt, List, [], ◌∷◌, map, length, Option, Some, None, get_or, slice_set}
+use Rattle.jl_model.specs.declared.ty.Ty.{Ty}
+use Rattle.jl_model.specs.declared.ty.Ty.TheVariants as W
+use Rattle.jl_model.specs.declared.ty.Bound.{Bound}
+use Rattle.jl_model.specs.declared.ty.Decl.{Decl}
+use Rattle.jl_model.specs.declared.ty.Written.{Written}
+use Rattle.jl_model.specs.Rows.{free}
+use Rattle.jl_typeread.specs.declared.tree.ArgText.{ArgText}
+use Rattle.jl_typeread.specs.declared.tree.TypeText.{TypeText}
+use Rattle.jl_typeread.specs.declared.tree.VarText.{VarText}
+use Rattle.jl_written.specs.declared.reading.Place.{Place}
+use Rattle.jl_written.specs.declared.reading.Reading.{Reading}
+use Rattle.jl_written.specs.declared.reading.TypeVar.{TypeVar}
+use Rattle.jl_written.specs.Reads.{Types, Typed, Scoped, unread, bind_all, arguments, nominal_of, type_reads, arg_reads, var_reads}
+
+-- a parameter or a field without a type has the type `Any`
+abbrev pub option_reads : List Decl → Option TypeText → List TypeVar → Reading → Typed
+option_reads ds None vars r = record { ty = W.Any; after = r }
+option_reads ds (Some t) vars r = type_reads ds t vars false r
+
+-- types one after another, none of them inside an argument of a nominal type
+abbrev pub all_read : List Decl → List (Option TypeText) → List TypeVar → Reading → Types
+all_read ds [] vars r = record { tys = []; after = r }
+all_read ds (t ∷ ts) vars r =
+    let u = option_reads ds t vars r in
+    let us = all_read ds ts vars u.after in
+    record { tys = u.ty ∷ us.tys; after = us.after }
+
+-- the variables of a `where` at the end of a signature, or those of a declaration
+abbrev pub all_bound : List Decl → List VarText → List TypeVar → Reading → Scoped
+all_bound ds vs vars r = bind_all (map (var_reads ds) vs) vars false r
+
+-- The step for the declared bounds, where `below` tells whether a declared upper bound is below a bound: at each place in
+-- text order, the declared bound becomes the upper bound of the variable where it is below that.
+abbrev pub with_high : List Bound → ℕ → Ty → List Bound
+with_high bs v t = slice_set bs v (record { low = (get_or bs v free).low; high = t })
+
+abbrev pub adopted_at : (Ty → Ty → Bool) → Place → List Bound → List Bound
+adopted_at below p bs = cond (nat_lt p.var (length bs)) (cond (below p.high (get_or bs p.var free).high) (with_high bs p.var p.high) bs) bs
+
+abbrev pub adopted : (Ty → Ty → Bool) → List Place → List Bound → List Bound
+adopted below [] bs = bs
+adopted below (p ∷ ps) bs = adopted below ps (adopted_at below p bs)
+
+-- a signature: the variables with the bounds that they have behind that step, and the types
+abbrev pub written_of : (Ty → Ty → Bool) → Types → Written
+written_of below ts = record { vars = adopted below ts.after.places ts.after.vars; parts = ts.tys }
+
+-- The types of a method's parameters, where the variables of its `where` are visible.
+pub record Signature : Type 0 where
+  pub vars : List TypeVar
+  pub types : Types
+
+abbrev pub signature : List Decl → List (Option TypeText) → List VarText → Signature
+signature ds ts vs = let s = all_bound ds vs [] unread in record { vars = s.vars; types = all_read ds ts s.vars s.after }
+
+-- the static parameters of a body, where the variables of the type itself have the numbers before them
+abbrev pub shifted : ℕ → List TypeVar → List TypeVar
+shifted n vars = map (λ (v : TypeVar). record { name = v.name; number = n + v.number; usable = v.usable }) vars
+
+-- how many variables a type in a body brings
+abbrev pub width_of : List Decl → List TypeVar → TypeText → ℕ
+width_of ds statics t = length (type_reads ds t (shifted 0 statics) false unread).after.vars
+
+-- A type in a body: a static parameter has the number of the variables of the type, and its own after that.
+abbrev pub body_type : List Decl → List TypeVar → TypeText → Typed
+body_type ds statics t = type_reads ds t (shifted (width_of ds statics t) statics) false unread
+
+-- The type of an explicit constructor, by the arguments in its braces, whose declared bounds are bs. It is allowed only where
+-- it brings no variable, so that a static parameter has its own number.
+abbrev pub constructor_type : List Decl → ℕ → List Bound → List TypeVar → List ArgText → Typed
+constructor_type ds number bs statics xs = nominal_of number (arguments bs (map (arg_reads ds) xs) (shifted 0 statics) false unread)

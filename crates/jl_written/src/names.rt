@@ -1,0 +1,128 @@
+//! What a name means where a type must stand.
+
+ghost use Rattle.std.specs.Prelude.{◌≡◌, ◌++◌, List, ℕ, map, option_copied, IfOk};
+ghost use Rattle.jl_calculus.specs.Names.{is_among, same_text, builtin_names};
+ghost use Rattle.jl_model.specs.declared.ty.Decl.{Decl};
+ghost use Rattle.jl_written.specs.Meaning.{place_of, var_of, word_of, named};
+
+use crate::reading::{Named, TypeVar};
+use jl_model::ty::Decl;
+use std::alloc::AllocError;
+
+/// The names that no script binds or defines.
+const BUILTIN_NAMES: [&str; 21] = [
+    "Any",
+    "Union",
+    "Tuple",
+    "Number",
+    "Real",
+    "Integer",
+    "Signed",
+    "Int64",
+    "Int",
+    "Bool",
+    "Nothing",
+    "Task",
+    "Base",
+    "Threads",
+    "eval",
+    "fetch",
+    "println",
+    "print",
+    "invokelatest",
+    "div",
+    "rem",
+];
+
+/// Whether two texts are the same.
+#[tactic(auto, using(crate::proofs::TextLemmas::same_texts))]
+pub fn is_same(left: &[u8], right: &[u8]) -> bool
+    ensures { result ≡ same_text left.now right.now }
+{
+    left == right
+}
+
+fn is_one_of(words: &[&str], word: &[u8]) -> bool
+    ensures { result ≡ is_among word.now (map (λ w. w.now) words.now) }
+{
+    for known in words {
+        if is_same(word, known.as_bytes()) {
+            return true;
+        }
+    }
+    false
+}
+
+/// Whether no script may bind or define this name.
+pub fn is_builtin(word: &[u8]) -> bool
+    ensures { result ≡ is_among word.now builtin_names }
+{
+    let words: [&str; 21] = BUILTIN_NAMES;
+    is_one_of(words.as_slice(), word)
+}
+
+/// A number of a variable or a type. The one error, which stands for want of memory, comes past 2^32.
+pub fn small(number: usize) -> Result<u32, AllocError>
+    ensures { IfOk result (λ n. n ≡ number) }
+{
+    if number > 0xffff_ffff {
+        return Err(AllocError);
+    }
+    Ok(number as u32)
+}
+
+/// The first declaration of a name.
+fn place_of(decls: &[Decl], name: &[u8]) -> Option<usize>
+    ensures { result ≡ place_of (map (λ (d : Decl). d.name) decls.now) name.now }
+{
+    for (at, decl) in decls.iter().enumerate() {
+        if is_same(name, decl.name.as_slice()) {
+            return Some(at);
+        }
+    }
+    None
+}
+
+/// The meaning of a name that is no type variable.
+fn word_of(decls: &[Decl], name: &[u8]) -> Result<Named, AllocError>
+    ensures { IfOk result (λ n. n ≡ word_of decls.now name.now) }
+{
+    if is_same(name, b"Any") {
+        return Ok(Named::Any);
+    }
+    if is_same(name, b"Union") {
+        return Ok(Named::Union);
+    }
+    if is_same(name, b"Tuple") {
+        return Ok(Named::Tuple);
+    }
+    if is_same(name, b"Int") {
+        return Ok(Named::Nominal(4));
+    }
+    match place_of(decls, name) {
+        None => Ok(Named::Unknown),
+        Some(at) => Ok(Named::Nominal(small(at)?)),
+    }
+}
+
+/// The place of a visible type variable.
+pub(crate) fn var_of<'a>(vars: &'a [TypeVar], name: &[u8]) -> Option<&'a TypeVar>
+    ensures { option_copied result ≡ var_of vars.entry.now name.now }
+{
+    for var in vars {
+        if is_same(name, var.name.as_slice()) {
+            return Some(var);
+        }
+    }
+    None
+}
+
+/// What a name means where a type must stand: a visible type variable hides a declared type of its name.
+pub(crate) fn named(decls: &[Decl], vars: &[TypeVar], name: &[u8]) -> Result<Named, AllocError>
+    ensures { IfOk result (λ n. n ≡ named decls.now vars.now name.now) }
+{
+    match var_of(vars, name) {
+        Some(var) => Ok(Named::Variable(var.number, var.usable)),
+        None => word_of(decls, name),
+    }
+}

@@ -1,0 +1,142 @@
+//! Steps of reading: what each adds to what is known.
+
+ghost use Rattle.std.specs.Prelude.{◌≡◌, ◌++◌, ◌∷◌, [], length, drop, IfOk, OnOk, Bool};
+ghost use Rattle.jl_written.specs.Answered.{number_of, comes_before, first_of};
+ghost use Rattle.jl_written.specs.Reads.{typed, types, behind, note, unknown, used, brought, fresh, missing, placed};
+
+use crate::fault::{Fault, StaticKind};
+use crate::names::small;
+use crate::reading::{Place, Reading};
+use jl_model::rows::Row;
+use jl_model::ty::{Bound, Ty};
+use std::alloc::AllocError;
+
+/// The number of a fault in the table of static faults.
+fn number_of(kind: StaticKind) -> u8
+    ensures { result ≡ number_of kind }
+{
+    match kind {
+        StaticKind::UnknownName => 1,
+        StaticKind::UnknownFunction => 2,
+        StaticKind::UnknownType => 3,
+        StaticKind::Rebound => 4,
+        StaticKind::DuplicateType
+        | StaticKind::WrongParameterCount
+        | StaticKind::SuperNotAbstract
+        | StaticKind::VariablePlace
+        | StaticKind::TypeLimit
+        | StaticKind::BoundsCrossed
+        | StaticKind::BoundBroken
+        | StaticKind::TooMany
+        | StaticKind::DuplicateField => 5,
+        StaticKind::UnusedVariable | StaticKind::TooManyParameters => 6,
+        StaticKind::TooManySites => 7,
+        StaticKind::StaticParameterUse => 8,
+        StaticKind::NameClash => 9,
+        StaticKind::TooManyArguments => 10,
+    }
+}
+
+fn comes_before(fault: Fault, other: Fault) -> bool
+    ensures { result ≡ comes_before fault other }
+{
+    fault.at < other.at || (fault.at == other.at && number_of(fault.kind) < number_of(other.kind))
+}
+
+/// The first of a fault that stands already, if one does, and a further one.
+pub fn first_of(known: Option<Fault>, fault: Fault) -> Option<Fault>
+    ensures { result ≡ first_of known fault }
+{
+    match known {
+        None => Some(fault),
+        Some(other) => {
+            if comes_before(fault, other) {
+                Some(fault)
+            } else {
+                Some(other)
+            }
+        }
+    }
+}
+
+/// A fault stands at this place.
+pub(crate) fn note(state: &mut Reading, at: u32, kind: StaticKind)
+    ensures { state.new ≡ note at kind state.old }
+{
+    state.fault = first_of(state.fault, Fault { at, kind });
+}
+
+/// A name that means no type.
+pub(crate) fn unknown(state: &mut Reading, at: u32) -> Ty
+    ensures { typed result state.new ≡ unknown at state.old }
+{
+    note(state, at, StaticKind::UnknownType);
+    state.unclear = true;
+    Ty::Any
+}
+
+/// A variable that stands at this place, whether it may or not.
+pub(crate) fn used(state: &mut Reading, at: u32, usable: bool)
+    ensures { state.new ≡ used at usable state.old }
+{
+    if !usable {
+        note(state, at, StaticKind::StaticParameterUse);
+    }
+}
+
+/// A variable is brought at a place that is inside an argument of a nominal type, or not.
+pub(crate) fn brought(state: &mut Reading, inside: bool)
+    ensures { state.new ≡ brought inside state.old }
+{
+    state.misplaced = state.misplaced || inside;
+}
+
+/// A variable without a name.
+pub(crate) fn fresh(state: &mut Reading, bound: Bound, inside: bool) -> Result<Ty, AllocError>
+    ensures { IfOk result (λ t. typed t state.new ≡ fresh bound inside state.old) }
+{
+    let number = small(state.vars.len())?;
+    brought(state, inside);
+    state.vars.push(bound)?;
+    Ok(Ty::Var(number))
+}
+
+/// An equal bound, whose types are shared.
+pub(crate) fn copy_bound(bound: &Bound) -> Result<Bound, AllocError>
+    ensures { IfOk result (λ b. b ≡ bound.now) }
+{
+    Ok(Bound {
+        low: bound.low.copy()?,
+        high: bound.high.copy()?,
+    })
+}
+
+/// The arguments that are missing, behind those that are written.
+pub(crate) fn missing(
+    state: &mut Reading,
+    tys: &mut Row<Ty>,
+    bounds: &[Bound],
+    inside: bool,
+) -> Result<(), AllocError>
+    ensures { OnOk result (types tys.new state.new ≡ behind tys.old (missing bounds.now inside state.old)) }
+{
+    for bound in bounds {
+        let bound = copy_bound(bound)?;
+        let ty = fresh(state, bound, inside)?;
+        tys.push(ty)?;
+    }
+    Ok(())
+}
+
+/// An argument that is a variable takes part in the step for the declared bounds.
+pub(crate) fn placed(state: &mut Reading, bounds: &[Bound], ty: &Ty) -> Result<(), AllocError>
+    ensures { OnOk result (state.new ≡ placed bounds.now ty.now state.old) }
+{
+    if let [bound, ..] = bounds {
+        if let Ty::Var(var) = ty {
+            let high = bound.high.copy()?;
+            state.places.push(Place { var: *var, high })?;
+        }
+    }
+    Ok(())
+}

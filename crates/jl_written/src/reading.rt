@@ -1,0 +1,46 @@
+//! What is known while the types of a signature, a body or a declaration are read.
+
+use crate::fault::Fault;
+use jl_model::rows::Row;
+use jl_model::ty::{Bound, Bytes, Ty};
+
+/// What a name means where a type must stand.
+#[derive(Clone, Copy, PartialEq, Eq, Debug)]
+pub enum Named {
+    /// A visible type variable by its number, and whether it may stand here.
+    Variable(u32, bool),
+    Any,
+    Union,
+    Tuple,
+    /// A nominal type by its number.
+    Nominal(u32),
+    Unknown,
+}
+
+/// A visible type variable: its name, its number in the signature or declaration, and whether it may stand here.
+#[derive(Drop)]
+pub struct TypeVar {
+    pub name: Bytes,
+    pub number: u32,
+    pub usable: bool,
+}
+
+/// A variable that stands directly as an argument of a nominal type, and the upper bound that is declared for that
+/// argument.
+#[derive(Drop)]
+pub struct Place {
+    pub var: u32,
+    pub high: Ty,
+}
+
+/// What is known behind a part of the text: the bounds of the variables so far, by their numbers; the places of variables,
+/// in text order; the first fault; whether some name in a type is unknown or bound twice, so that the types are none; and
+/// whether a variable is brought in an invariant place of another nominal type.
+#[derive(Drop)]
+pub struct Reading {
+    pub vars: Row<Bound>,
+    pub places: Row<Place>,
+    pub fault: Option<Fault>,
+    pub unclear: bool,
+    pub misplaced: bool,
+}

@@ -1,0 +1,339 @@
+//! Reading the text of a type.
+
+ghost use Rattle.std.specs.Prelude.{◌≡◌, [], List, map, drop, slice_get, IfOk, OnOk};
+ghost use Rattle.jl_model.specs.Valid.{params_of};
+ghost use Rattle.jl_model.specs.declared.ty.Decl.{Decl};
+ghost use Rattle.jl_model.specs.declared.ty.Ty.TheViews as V;
+ghost use Rattle.jl_written.specs.Meaning.{var_of};
+ghost use Rattle.jl_written.specs.Reads.{typed, types, scoped, bounded, within, nominal_of, missing, plain, applied, arguments, members, bind, bind_all, bound_name, guarded, where_at, type_reads, arg_reads, var_reads};
+
+use crate::fault::StaticKind;
+use crate::names::{is_builtin, named, small, var_of};
+use crate::notes::{brought, fresh, missing, note, placed, unknown, used};
+use crate::reading::{Named, Reading, TypeVar};
+use jl_model::rows::Row;
+use jl_model::ty::{Bound, Bytes, Decl, Ty, Tys};
+use jl_typeread::tree::{ArgText, TypeText, VarText};
+use std::alloc::{AllocError, Global};
+
+/// The declared bounds of a nominal type's arguments.
+fn params_of(decls: &[Decl], number: u32) -> &[Bound]
+    ensures { result.now ≡ params_of (slice_get decls.now number) }
+{
+    match decls.get(number as usize) {
+        None => &[],
+        Some(decl) => decl.params.as_slice(),
+    }
+}
+
+/// A nominal type of which no argument is written.
+fn bare(
+    alloc: Global,
+    decls: &[Decl],
+    state: &mut Reading,
+    number: u32,
+    inside: bool,
+) -> Result<Ty, AllocError>
+    ensures { IfOk result (λ t. typed t state.new ≡ nominal_of number (missing (params_of (slice_get decls.now number)) inside state.old)) }
+{
+    let mut tys = Row::new(alloc);
+    missing(state, &mut tys, params_of(decls, number), inside)?;
+    Ok(Ty::Nominal(number, tys.into_shared(alloc)?))
+}
+
+/// A name without braces.
+fn plain(
+    alloc: Global,
+    decls: &[Decl],
+    state: &mut Reading,
+    at: u32,
+    name: Named,
+    inside: bool,
+) -> Result<Ty, AllocError>
+    ensures { IfOk result (λ t. typed t state.new ≡ plain decls.now at name inside state.old) }
+{
+    match name {
+        Named::Variable(number, usable) => {
+            used(state, at, usable);
+            Ok(Ty::Var(number))
+        }
+        Named::Any => Ok(Ty::Any),
+        Named::Nominal(number) => bare(alloc, decls, state, number, inside),
+        Named::Union => Ok(unknown(state, at)),
+        Named::Tuple => Ok(unknown(state, at)),
+        Named::Unknown => Ok(unknown(state, at)),
+    }
+}
+
+/// A name with braces.
+#[cycle(types)]
+fn applied(
+    alloc: Global,
+    decls: &[Decl],
+    vars: &mut Row<TypeVar>,
+    state: &mut Reading,
+    name: Named,
+    at: u32,
+    texts: &[ArgText],
+    inside: bool,
+) -> Result<Ty, AllocError>
+    ensures means { IfOk result (λ t. typed t state.new ≡ applied decls.now at name (map (arg_reads decls.now) texts.now) vars.old inside state.old) }
+    ensures kept { OnOk result (vars.new ≡ vars.old) }
+{
+    match name {
+        Named::Union => Ok(Ty::Union(members(alloc, decls, vars, state, texts, inside)?)),
+        Named::Tuple => Ok(Ty::Tuple(members(alloc, decls, vars, state, texts, inside)?)),
+        Named::Nominal(number) => {
+            let bounds = params_of(decls, number);
+            let tys = arguments(alloc, decls, vars, state, bounds, texts, inside)?;
+            Ok(Ty::Nominal(number, tys))
+        }
+        Named::Variable(_, _) => Ok(unknown(state, at)),
+        Named::Any => Ok(unknown(state, at)),
+        Named::Unknown => Ok(unknown(state, at)),
+    }
+}
+
+/// The members of a union, or the parts of a tuple.
+#[cycle(types)]
+fn members(
+    alloc: Global,
+    decls: &[Decl],
+    vars: &mut Row<TypeVar>,
+    state: &mut Reading,
+    texts: &[ArgText],
+    inside: bool,
+) -> Result<Tys, AllocError>
+    ensures means { IfOk result (λ ts. types ts state.new ≡ members (map (arg_reads decls.now) texts.now) vars.old inside state.old) }
+    ensures kept { OnOk result (vars.new ≡ vars.old) }
+{
+    let mut tys = Row::new(alloc);
+    for text in texts {
+        let ty = argument(alloc, decls, vars, state, text, inside, inside)?;
+        tys.push(ty)?;
+    }
+    tys.into_shared(alloc)
+}
+
+/// The arguments of a nominal type, with their declared bounds.
+#[cycle(types)]
+pub(crate) fn arguments(
+    alloc: Global,
+    decls: &[Decl],
+    vars: &mut Row<TypeVar>,
+    state: &mut Reading,
+    bounds: &[Bound],
+    texts: &[ArgText],
+    inside: bool,
+) -> Result<Tys, AllocError>
+    ensures means { IfOk result (λ ts. types ts state.new ≡ arguments bounds.now (map (arg_reads decls.now) texts.now) vars.old inside state.old) }
+    ensures kept { OnOk result (vars.new ≡ vars.old) }
+{
+    let mut tys = Row::new(alloc);
+    let mut left = bounds;
+    for text in texts {
+        let ty = argument(alloc, decls, vars, state, text, inside, true)?;
+        placed(state, left, &ty)?;
+        tys.push(ty)?;
+        left = behind_first(left);
+    }
+    missing(state, &mut tys, left, inside)?;
+    tys.into_shared(alloc)
+}
+
+/// All but the first.
+fn behind_first(bounds: &[Bound]) -> &[Bound]
+    ensures { result.now ≡ drop 1 bounds.now }
+{
+    match bounds {
+        [] => bounds,
+        [_, rest @ ..] => rest,
+    }
+}
+
+/// An argument. What stands in the braces around it may be inside an argument of a nominal type where those are not.
+#[cycle(types)]
+fn argument(
+    alloc: Global,
+    decls: &[Decl],
+    vars: &mut Row<TypeVar>,
+    state: &mut Reading,
+    text: &ArgText,
+    outer: bool,
+    inner: bool,
+) -> Result<Ty, AllocError>
+    ensures means { IfOk result (λ t. typed t state.new ≡ arg_reads decls.now text.now vars.old outer inner state.old) }
+    ensures kept { OnOk result (vars.new ≡ vars.old) }
+{
+    match text {
+        ArgText::Exact(ty) => read_type(alloc, decls, vars, state, ty, inner),
+        ArgText::Below(_, ty) => {
+            let high = read_type(alloc, decls, vars, state, ty, inner)?;
+            fresh(state, Bound { low: none(), high }, outer)
+        }
+        ArgText::Above(_, ty) => {
+            let low = read_type(alloc, decls, vars, state, ty, inner)?;
+            fresh(state, Bound { low, high: Ty::Any }, outer)
+        }
+    }
+}
+
+/// The type without values.
+fn none() -> Ty
+    ensures { result ≡ V.Union [] }
+{
+    Ty::Union(Tys::empty())
+}
+
+/// What the text of a type means, where these variables are visible, at a place inside an argument of a nominal type or not.
+#[cycle(types)]
+pub fn read_type(
+    alloc: Global,
+    decls: &[Decl],
+    vars: &mut Row<TypeVar>,
+    state: &mut Reading,
+    text: &TypeText,
+    inside: bool,
+) -> Result<Ty, AllocError>
+    ensures means { IfOk result (λ t. typed t state.new ≡ type_reads decls.now text.now vars.old inside state.old) }
+    ensures kept { OnOk result (vars.new ≡ vars.old) }
+{
+    match text {
+        TypeText::Name(at, name) => {
+            let name = named(decls, vars.as_slice(), name.as_slice())?;
+            plain(alloc, decls, state, *at, name, inside)
+        }
+        TypeText::Applied(at, name, texts) => {
+            let name = named(decls, vars.as_slice(), name.as_slice())?;
+            applied(
+                alloc,
+                decls,
+                vars,
+                state,
+                name,
+                *at,
+                texts.as_slice(),
+                inside,
+            )
+        }
+        TypeText::Paren(_, ty, variables) => {
+            let visible = vars.len();
+            where_at(state, variables.as_slice(), inside);
+            bind_all(alloc, decls, vars, state, variables.as_slice(), inside)?;
+            let ty = read_type(alloc, decls, vars, state, ty.get(), inside)?;
+            vars.truncate(visible);
+            Ok(ty)
+        }
+    }
+}
+
+/// A `where` brings variables.
+fn where_at(state: &mut Reading, variables: &[VarText], inside: bool)
+    ensures { (ds : List Decl) → state.new ≡ where_at (map (var_reads ds) variables.now) inside state.old }
+{
+    if !variables.is_empty() {
+        brought(state, inside);
+    }
+}
+
+/// The variables of a list, each visible in what follows it.
+#[cycle(types)]
+pub fn bind_all(
+    alloc: Global,
+    decls: &[Decl],
+    vars: &mut Row<TypeVar>,
+    state: &mut Reading,
+    variables: &[VarText],
+    inside: bool,
+) -> Result<(), AllocError>
+    ensures { OnOk result (scoped vars.new state.new ≡ bind_all (map (var_reads decls.now) variables.now) vars.old inside state.old) }
+{
+    for variable in variables {
+        bind(alloc, decls, vars, state, variable, inside)?;
+    }
+    Ok(())
+}
+
+/// A variable with its bounds.
+#[cycle(types)]
+fn bind(
+    alloc: Global,
+    decls: &[Decl],
+    vars: &mut Row<TypeVar>,
+    state: &mut Reading,
+    variable: &VarText,
+    inside: bool,
+) -> Result<(), AllocError>
+    ensures { OnOk result (scoped vars.new state.new ≡ bind (var_reads decls.now variable.now) vars.old inside state.old) }
+{
+    let bound = bounds(alloc, decls, vars, state, variable, inside)?;
+    match variable {
+        VarText::Free(at, name) => bind_name(vars, state, *at, name, bound),
+        VarText::Below(at, name, _) => bind_name(vars, state, *at, name, bound),
+        VarText::Above(at, name, _) => bind_name(vars, state, *at, name, bound),
+        VarText::Between(_, at, name, _) => bind_name(vars, state, *at, name, bound),
+    }
+}
+
+/// The next variable takes a name, unless that is visible already.
+fn bind_name(
+    vars: &mut Row<TypeVar>,
+    state: &mut Reading,
+    at: u32,
+    name: &Bytes,
+    bound: Bound,
+) -> Result<(), AllocError>
+    ensures { OnOk result (scoped vars.new state.new ≡ bound_name at name.now bound vars.old (guarded at name.now state.old) (var_of vars.old name.now)) }
+{
+    if is_builtin(name.as_slice()) {
+        note(state, at, StaticKind::NameClash);
+    }
+    let number = small(state.vars.len())?;
+    state.vars.push(bound)?;
+    match var_of(vars.as_slice(), name.as_slice()) {
+        None => vars.push(TypeVar {
+            name: name.copy()?,
+            number,
+            usable: true,
+        }),
+        Some(_) => {
+            note(state, at, StaticKind::Rebound);
+            state.unclear = true;
+            Ok(())
+        }
+    }
+}
+
+/// The bounds of a variable: without a written upper bound `Any`, without a lower one `Union{}`.
+#[cycle(types)]
+fn bounds(
+    alloc: Global,
+    decls: &[Decl],
+    vars: &mut Row<TypeVar>,
+    state: &mut Reading,
+    variable: &VarText,
+    inside: bool,
+) -> Result<Bound, AllocError>
+    ensures means { IfOk result (λ b. bounded b state.new ≡ (var_reads decls.now variable.now).bounds vars.old inside state.old) }
+    ensures kept { OnOk result (vars.new ≡ vars.old) }
+{
+    match variable {
+        VarText::Free(_, _) => Ok(Bound {
+            low: none(),
+            high: Ty::Any,
+        }),
+        VarText::Below(_, _, ty) => {
+            let high = read_type(alloc, decls, vars, state, ty, inside)?;
+            Ok(Bound { low: none(), high })
+        }
+        VarText::Above(_, _, ty) => {
+            let low = read_type(alloc, decls, vars, state, ty, inside)?;
+            Ok(Bound { low, high: Ty::Any })
+        }
+        VarText::Between(low, _, _, high) => {
+            let low = read_type(alloc, decls, vars, state, low, inside)?;
+            let high = read_type(alloc, decls, vars, state, high, inside)?;
+            Ok(Bound { low, high })
+        }
+    }
+}

@@ -1,0 +1,154 @@
+//! The types of a signature, and types in a body.
+
+ghost use Rattle.std.specs.Prelude.{◌≡◌, ◌+◌, OnOk, IfOk, Bool, false};
+ghost use Rattle.jl_model.specs.declared.ty.Ty.{Ty};
+ghost use Rattle.jl_written.specs.Reads.{typed, unread, type_reads};
+ghost use Rattle.jl_written.specs.Signatures.{adopted_at, adopted, shifted, width_of, body_type, constructor_type};
+
+use crate::names::small;
+use crate::notes::copy_bound;
+use crate::reading::{Place, Reading, TypeVar};
+use crate::reads::{arguments, read_type};
+use jl_model::rows::Row;
+use jl_model::ty::{Bound, Decl, Ty};
+use jl_typeread::tree::{ArgText, TypeText};
+use std::alloc::{AllocError, Global};
+
+/// Nothing is read yet.
+pub fn unread(alloc: Global) -> Reading
+    ensures { result ≡ unread }
+{
+    Reading {
+        vars: Row::new(alloc),
+        places: Row::new(alloc),
+        fault: None,
+        unclear: false,
+        misplaced: false,
+    }
+}
+
+/// A test of whether a type is below a bound, for the step for the declared bounds.
+pub trait Order {
+    ghost below: { Self → Ty → Ty → Bool };
+
+    fn below(&self, alloc: Global, low: &Ty, high: &Ty) -> Result<bool, AllocError>
+        ensures { IfOk result (λ b. b ≡ Self.below self.now low.now high.now) };
+}
+
+/// The bounds behind the step at one place.
+fn adopted_at<O: Order>(
+    alloc: Global,
+    order: &O,
+    place: &Place,
+    bounds: &mut Vec<Bound>,
+) -> Result<(), AllocError>
+    ensures { OnOk result (bounds.new.items ≡ adopted_at (O.below order.now) place.now bounds.old.items) }
+{
+    let number = place.var as usize;
+    if number >= bounds.len() {
+        return Ok(());
+    }
+    if order.below(alloc, &place.high, &bounds[number].high)? {
+        bounds[number] = Bound {
+            low: bounds[number].low.copy()?,
+            high: place.high.copy()?,
+        };
+    }
+    Ok(())
+}
+
+/// The step for the declared bounds: at each place in text order, the declared upper bound becomes that of the variable
+/// where it is below that.
+pub fn adopted<O: Order>(
+    alloc: Global,
+    order: &O,
+    places: &[Place],
+    vars: &[Bound],
+) -> Result<Vec<Bound>, AllocError>
+    ensures { IfOk result (λ bs. bs.items ≡ adopted (O.below order.now) places.now vars.now) }
+{
+    let mut bounds = copies(alloc, vars)?;
+    for place in places {
+        adopted_at(alloc, order, place, &mut bounds)?;
+    }
+    Ok(bounds)
+}
+
+fn copies(alloc: Global, vars: &[Bound]) -> Result<Vec<Bound>, AllocError>
+    ensures { IfOk result (λ bs. bs.items ≡ vars.now) }
+{
+    let mut bounds = Vec::new(alloc);
+    for var in vars {
+        bounds.push(copy_bound(var)?)?;
+    }
+    Ok(bounds)
+}
+
+/// The static parameters of a body, behind so many variables of a type.
+fn shifted(alloc: Global, by: usize, statics: &[TypeVar]) -> Result<Row<TypeVar>, AllocError>
+    ensures { IfOk result (λ vs. vs ≡ shifted by statics.now) }
+{
+    let mut vars = Row::new(alloc);
+    for var in statics {
+        if by > 0xffff_ffff {
+            return Err(AllocError);
+        }
+        let number = small(by + var.number as usize)?;
+        vars.push(TypeVar {
+            name: var.name.copy()?,
+            number,
+            usable: var.usable,
+        })?;
+    }
+    Ok(vars)
+}
+
+/// How many variables a type in a body brings.
+fn width_of(
+    alloc: Global,
+    decls: &[Decl],
+    statics: &[TypeVar],
+    text: &TypeText,
+) -> Result<usize, AllocError>
+    ensures { IfOk result (λ n. n ≡ width_of decls.now statics.now text.now) }
+{
+    let mut vars = shifted(alloc, 0, statics)?;
+    let mut state = unread(alloc);
+    let ty = read_type(alloc, decls, &mut vars, &mut state, text, false)?;
+    drop(ty);
+    Ok(state.vars.len())
+}
+
+/// What a type in a body means, and what is known behind it. A static parameter of the method has the number of the
+/// type's own variables, and its own after that.
+pub fn body_type(
+    alloc: Global,
+    decls: &[Decl],
+    statics: &[TypeVar],
+    text: &TypeText,
+) -> Result<(Ty, Reading), AllocError>
+    ensures { IfOk result (λ r. typed r.0 r.1 ≡ body_type decls.now statics.now text.now) }
+{
+    let width = width_of(alloc, decls, statics, text)?;
+    let mut vars = shifted(alloc, width, statics)?;
+    let mut state = unread(alloc);
+    let ty = read_type(alloc, decls, &mut vars, &mut state, text, false)?;
+    Ok((ty, state))
+}
+
+/// The type of an explicit constructor, by the arguments in its braces, and what is known behind it.
+pub fn constructor_type(
+    alloc: Global,
+    decls: &[Decl],
+    number: u32,
+    bounds: &[Bound],
+    statics: &[TypeVar],
+    texts: &[ArgText],
+) -> Result<(Ty, Reading), AllocError>
+    ensures { IfOk result (λ r. typed r.0 r.1 ≡ constructor_type decls.now number bounds.now statics.now texts.now) }
+{
+    let mut vars = shifted(alloc, 0, statics)?;
+    let mut state = unread(alloc);
+    let tys = arguments(alloc, decls, &mut vars, &mut state, bounds, texts, false)?;
+    Ok((Ty::Nominal(number, tys), state))
+}

@@ -1,0 +1,2 @@
+f(x) = x
+println(f(1) f(2))
