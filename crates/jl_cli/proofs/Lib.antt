@@ -1,2 +1,4 @@
 pub mod PlaceLemmas
 pub mod Running
+pub mod LawLemmas
+pub mod StatusLemmas

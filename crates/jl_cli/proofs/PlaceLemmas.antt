@@ -33,3 +33,12 @@ joined r o1 o2 o3 o4 o5 o6 o7 a c e f g m m' n n' p q i j k l u v w h =
     let told : a ++ (decimal m ++ (c ++ (decimal n ++ (e ++ (f ++ g))))) ≡ a ++ (decimal m' ++ (c ++ (decimal n' ++ (e ++ (f ++ g))))) =
     ap (λ (x : ℕ). a ++ (decimal x ++ (c ++ (decimal n ++ (e ++ (f ++ g)))))) p ∙ ap (λ (x : ℕ). a ++ (decimal m' ++ (c ++ (decimal x ++ (e ++ (f ++ g)))))) q in
     rw (← (whole ∙ told)) h
+
+-- a text written in five pieces, two of them numbers
+pub counted : (r : Result (List ℕ) AllocError) (o1 o2 o3 o4 o5 a c e : List ℕ) (m m' n n' : ℕ) → m ≡ m' → n ≡ n' → o1 ≡ a → o2 ≡ o1 ++ decimal m → o3 ≡ o2 ++ c → o4 ≡ o3 ++ decimal n → o5 ≡ o4 ++ e
+    → IfOk r (λ t. t ≡ o5) → IfOk r (λ t. t ≡ a ++ (decimal m' ++ (c ++ (decimal n' ++ e))))
+counted r o1 o2 o3 o4 o5 a c e m m' n n' p q i j k l u h =
+    let whole : o5 ≡ a ++ (decimal m ++ (c ++ (decimal n ++ e))) = rw (u, l, k, j, i) (simp append_assoc) in
+    let told : a ++ (decimal m ++ (c ++ (decimal n ++ e))) ≡ a ++ (decimal m' ++ (c ++ (decimal n' ++ e))) =
+    ap (λ (x : ℕ). a ++ (decimal x ++ (c ++ (decimal n ++ e)))) p ∙ ap (λ (x : ℕ). a ++ (decimal m' ++ (c ++ (decimal x ++ e)))) q in
+    rw (← (whole ∙ told)) h

@@ -1,37 +1,42 @@
 -- What a call did, from what its parts answer.
-use Rattle.std.proofs.Common.{◌≡◌, ℕ, ◌<◌, ◌≤◌, List, [], ◌∷◌, take, length, refl, sym, ap, ◌∙◌, subst, Option, None, Some, arith, true, false, codes, Ok, Err, MatchOption}
+use Rattle.std.proofs.Common.{◌≡◌, ℕ, ◌<◌, ◌≤◌, List, [], ◌∷◌, take, length, refl, sym, ap, ◌∙◌, subst, Option, None, Some, arith, Bool, true, false, cond, codes, bytes_eq, Ok, Err}
 use Rattle.std.specs.Borrow.{Bor}
 use Rattle.std.proofs.lemmas.Slice.Eq.{bytes_eq-Decides}
 use Rattle.jl_calculus.specs.declared.history.History.{History}
 use Rattle.jl_calculus.specs.declared.tree.Program.{Program}
 use Rattle.jl_calculus.specs.Legal.{IsLegal, fuel_of, text_of, status_of}
-use Rattle.jl_form.specs.declared.tree.Script.{Script}
-use Rattle.jl_form.specs.Form.{IsForm}
-use Rattle.jl_form.specs.Grammar.{spelled}
-use Rattle.jl_form.specs.Program.{program_of}
+use Rattle.jl_calculus.specs.Simple.{IsSimple}
 use Rattle.jl_cli.specs.declared.answering.Due.{Due}
+use Rattle.jl_cli.specs.declared.command.Command.{Command}
+use Rattle.jl_cli.specs.declared.command.Command.TheVariants as C
 use Rattle.jl_io.specs.Moved.{Gives, NothingLeft}
 use Rattle.jl_io.proofs.MovedLemmas.{Gives-none, Takes-none}
 use Rattle.jl_token.specs.declared.token.Token.{Token}
 use Rattle.jl_token.specs.declared.token.TokenFault.{TokenFault}
 use Rattle.jl_token.specs.declared.token.TokenFault.TheVariants as T
 use Rattle.jl_token.specs.Grammar.{ReadsSource, UnlessMemory}
-use Rattle.jl_grammar.specs.declared.tree.Script.{Script as AnyScript}
+use Rattle.jl_grammar.specs.declared.tree.Script.{Script}
+use Rattle.jl_formed.specs.Formed.{FormedScript}
+use Rattle.jl_formed.proofs.Scripts.{script_formed}
 use Rattle.jl_reader.specs.declared.fault.SyntaxFault.{SyntaxFault}
 use Rattle.jl_reader.specs.declared.fault.SyntaxFault.TheVariants as S
 use Rattle.jl_reader.specs.Answers.{Reads}
 use Rattle.jl_reader.specs.Answers as A
-use Rattle.jl_cli.specs.Place.{token_line, syntax_line}
-use Rattle.jl_cli.specs.Due.{texts, is_run_words, run_words, default_fuel, usage_line, not_yet_read_line, AreScript, IsDue, usage, no_tokens, no_script, not_yet_read, ran, whole, not_read, not_written, no_memory, no_memory_written, HasRun}
+use Rattle.jl_resolve.specs.declared.fault.StaticFault.{StaticFault}
+use Rattle.jl_resolve.specs.declared.fault.StaticFault.TheVariants as F
+use Rattle.jl_resolve.specs.Program.{IsRefused}
+use Rattle.jl_cli.specs.Place.{token_line, syntax_line, static_line}
+use Rattle.jl_cli.specs.Words.{words_of, named, command_in}
+use Rattle.jl_cli.specs.Due.{texts, run_words, check_words, IsCommand, runs, checks, default_fuel, usage_line, not_yet_read_line, ok_line, AreScript, AreProgram, IsFaultLine, no_tokens, no_script, no_program, IsDue, usage, refused, checked, not_yet_read, ran, whole, not_read, not_written, no_memory, no_memory_written, HasRun}
 use Rattle.jl_cli.specs.Delivered.{IsDelivered, all, failed, no_memory as no_memory_left}
 
-fails : false ≡ true → ⊥
+pub fails : false ≡ true → ⊥
 fails h = cc
 
 -- what was due was delivered
 module _ (words : List (List ℕ)) (left left' held held' : Option (List ℕ)) (source_rose sink_rose : Type 0) (bytes : List ℕ) (read : Gives left bytes left') (limited : length bytes ≤ 1048577) where
   pub delivered : (st : ℕ) (h : Option History) (text : List ℕ) (status : ℕ) (history : Option History)
-      → (words ≡ run_words → length bytes < 1048577 → NothingLeft left') → IsDue words bytes st h text → IsDelivered held held' sink_rose st h text status history
+      → (IsCommand words → length bytes < 1048577 → NothingLeft left') → IsDue words bytes st h text → IsDelivered held held' sink_rose st h text status history
       → HasRun words left left' held held' source_rose sink_rose status history
   delivered st h text _ _ ends due (all takes) = record { bytes = bytes; written = text; read = read; wrote = takes; limited = limited; all_read = λ e a b lt. ends e lt; answer = whole st h due }
   delivered st h text _ _ ends due (failed count takes rose) = record { bytes = bytes; written = take count text; read = read; wrote = takes; limited = limited; all_read = λ e a b lt. ends e lt; answer = not_written st h text count due refl rose }
@@ -39,75 +44,119 @@ module _ (words : List (List ℕ)) (left left' held held' : Option (List ℕ)) (
 
 -- the words are no command, and the usage line was delivered
 pub used : (words : List (List ℕ)) (left held held' : Option (List ℕ)) (source_rose sink_rose : Type 0) (text : List ℕ) (status : ℕ) (history : Option History)
-    → (words ≡ run_words → ⊥) → text ≡ usage_line → IsDelivered held held' sink_rose 2 None text status history → HasRun words left left held held' source_rose sink_rose status history
+    → (IsCommand words → ⊥) → text ≡ usage_line → IsDelivered held held' sink_rose 2 None text status history → HasRun words left left held held' source_rose sink_rose status history
 used words left held held' source_rose sink_rose text status history other e d =
     delivered words left left held held' source_rose sink_rose [] (Gives-none left) (omega arith) 2 None text status history (λ is lt. absurd (other is)) (subst (λ (line : List ℕ). IsDue words [] 2 None line) (sym e) (usage words other)) d
 
 -- a read that failed, or that wanted memory
-pub unread : (left left' held : Option (List ℕ)) (source_rose sink_rose : Type 0) (words : List (List ℕ)) → words ≡ run_words → (bytes : List ℕ) × (length bytes ≤ 1048577) × Gives left bytes left' → source_rose
+pub unread : (left left' held : Option (List ℕ)) (source_rose sink_rose : Type 0) (words : List (List ℕ)) → IsCommand words → (bytes : List ℕ) × (length bytes ≤ 1048577) × Gives left bytes left' → source_rose
     → HasRun words left left' held held source_rose sink_rose 4 None
 unread left left' held source_rose sink_rose words is r rose = record { bytes = r.0; written = []; read = r.2; wrote = Takes-none held; limited = r.1; all_read = λ e four six lt. absurd (four refl); answer = not_read is refl rose }
 
-pub unread_for_memory : (left left' held : Option (List ℕ)) (source_rose sink_rose : Type 0) (words : List (List ℕ)) → words ≡ run_words → (bytes : List ℕ) × (length bytes ≤ 1048577) × Gives left bytes left'
+pub unread_for_memory : (left left' held : Option (List ℕ)) (source_rose sink_rose : Type 0) (words : List (List ℕ)) → IsCommand words → (bytes : List ℕ) × (length bytes ≤ 1048577) × Gives left bytes left'
     → HasRun words left left' held held source_rose sink_rose 6 None
 unread_for_memory left left' held source_rose sink_rose words is r = record { bytes = r.0; written = []; read = r.2; wrote = Takes-none held; limited = r.1; all_read = λ e four six lt. absurd (six refl); answer = no_memory is refl }
 
--- the words are `run` alone exactly where the test says so
-pub run_yes : (ws : List (Bor (List ℕ))) → is_run_words ws ≡ true → texts ws ≡ run_words
-run_yes [] h = absurd (fails h)
-run_yes (w ∷ []) h = ap (λ (t : List ℕ). t ∷ []) ((bytes_eq-Decides w.now (codes "run")).0 h)
-run_yes (w ∷ (v ∷ ws)) h = absurd (fails h)
+-- the words are a command exactly where the test says so
+is_command : (c : Command) → IsCommand (words_of c)
+is_command C.Run = runs
+is_command C.Check = checks
 
-pub run_no : (ws : List (Bor (List ℕ))) → is_run_words ws ≡ false → texts ws ≡ run_words → ⊥
-run_no [] h e = cc
-run_no (w ∷ []) h e = let same : w.now ≡ codes "run" = cc in fails (sym h ∙ (bytes_eq-Decides w.now (codes "run")).1 same)
-run_no (w ∷ (v ∷ ws)) h e = cc
+named_so : (t u : Bool) (word : List ℕ) (c : Command) → (t ≡ true → word ≡ codes "run") → (u ≡ true → word ≡ codes "check") → cond t (Some C.Run) (cond u (Some C.Check) None) ≡ Some c → word ∷ [] ≡ words_of c
+named_so true u word C.Run h k e = ap (λ (x : List ℕ). x ∷ []) (h refl)
+named_so true u word C.Check h k e = cc
+named_so false true word C.Run h k e = cc
+named_so false true word C.Check h k e = ap (λ (x : List ℕ). x ∷ []) (k refl)
+named_so false false word c h k e = cc
+
+pub command_yes : (ws : List (Bor (List ℕ))) (c : Command) → command_in ws ≡ Some c → texts ws ≡ words_of c
+command_yes [] c e = cc
+command_yes (w ∷ []) c e = named_so (bytes_eq w.now (codes "run")) (bytes_eq w.now (codes "check")) w.now c (bytes_eq-Decides w.now (codes "run")).0 (bytes_eq-Decides w.now (codes "check")).0 e
+command_yes (w ∷ (v ∷ ws)) c e = cc
+
+pub command_is : (ws : List (Bor (List ℕ))) (c : Command) → command_in ws ≡ Some c → IsCommand (texts ws)
+command_is ws c e = subst IsCommand (sym (command_yes ws c e)) (is_command c)
+
+unnamed : (t u : Bool) → cond t (Some C.Run) (cond u (Some C.Check) None) ≡ None → (t ≡ false) × (u ≡ false)
+unnamed true u e = cc
+unnamed false true e = cc
+unnamed false false e = (refl, refl)
+
+other_word : (word : List ℕ) → named word ≡ None → (words : List (List ℕ)) → words ≡ word ∷ [] → IsCommand words → ⊥
+other_word word e _ is runs =
+    let off = unnamed (bytes_eq word (codes "run")) (bytes_eq word (codes "check")) e in
+    let same : word ≡ codes "run" = cc in
+    fails (sym off.0 ∙ (bytes_eq-Decides word (codes "run")).1 same)
+other_word word e _ is checks =
+    let off = unnamed (bytes_eq word (codes "run")) (bytes_eq word (codes "check")) e in
+    let same : word ≡ codes "check" = cc in
+    fails (sym off.1 ∙ (bytes_eq-Decides word (codes "check")).1 same)
+
+no_words : (words : List (List ℕ)) → words ≡ [] → IsCommand words → ⊥
+no_words _ is runs = cc
+no_words _ is checks = cc
+
+more_words : (words : List (List ℕ)) (w v : List ℕ) (ws : List (List ℕ)) → words ≡ w ∷ (v ∷ ws) → IsCommand words → ⊥
+more_words _ w v ws is runs = cc
+more_words _ w v ws is checks = cc
+
+pub command_no : (ws : List (Bor (List ℕ))) → command_in ws ≡ None → IsCommand (texts ws) → ⊥
+command_no [] e = no_words [] refl
+command_no (w ∷ []) e = other_word w.now e (w.now ∷ []) refl
+command_no (w ∷ (v ∷ ws)) e = more_words (texts (w ∷ (v ∷ ws))) w.now v.now (texts ws) refl
 
 -- an answer with the line of a refused source
-pub refused_so : (d : Due) (bytes line text : List ℕ) → line ≡ text → IsDue run_words bytes 3 None text
-    → (d.status ≡ 3) × (d.history ≡ None) × (d.text ≡ line) → IsDue run_words bytes d.status d.history d.text
-refused_so d bytes line text e due h =
-    subst (λ (n : ℕ). IsDue run_words bytes n d.history d.text) (sym h.0)
-    (subst (λ (o : Option History). IsDue run_words bytes 3 o d.text) (sym h.1)
-    (subst (λ (t : List ℕ). IsDue run_words bytes 3 None t) (sym (h.2 ∙ e)) due))
+pub refused_so : (d : Due) (words : List (List ℕ)) (bytes line : List ℕ) → IsDue words bytes 3 None line
+    → (d.status ≡ 3) × (d.history ≡ None) × (d.text ≡ line) → IsDue words bytes d.status d.history d.text
+refused_so d words bytes line due h =
+    subst (λ (n : ℕ). IsDue words bytes n d.history d.text) (sym h.0)
+    (subst (λ (o : Option History). IsDue words bytes 3 o d.text) (sym h.1)
+    (subst (λ (t : List ℕ). IsDue words bytes 3 None t) (sym h.2) due))
 
--- what is due where a source has no tokens
-pub no_tokens_due : (bytes : List ℕ) (f : TokenFault) → UnlessMemory (Err f) (ReadsSource bytes) → (f ≡ T.Memory → ⊥) → IsDue run_words bytes 3 None (token_line bytes f)
-no_tokens_due bytes T.SourceTooLong reads told = no_tokens bytes T.SourceTooLong reads
-no_tokens_due bytes (T.BadUtf8 at) reads told = no_tokens bytes (T.BadUtf8 at) reads
-no_tokens_due bytes (T.BadCharacter at) reads told = no_tokens bytes (T.BadCharacter at) reads
-no_tokens_due bytes (T.NumberTooLarge at) reads told = no_tokens bytes (T.NumberTooLarge at) reads
-no_tokens_due bytes (T.OpenString at) reads told = no_tokens bytes (T.OpenString at) reads
-no_tokens_due bytes (T.OpenComment at) reads told = no_tokens bytes (T.OpenComment at) reads
-no_tokens_due bytes T.Memory reads told = absurd (told refl)
+pub refused_under : (d : Due) (c : Command) (bytes line : List ℕ) → IsFaultLine bytes line → (d.status ≡ 3) × (d.history ≡ None) × (d.text ≡ line) → IsDue (words_of c) bytes d.status d.history d.text
+refused_under d c bytes line fault h = refused_so d (words_of c) bytes line (refused (words_of c) bytes line (is_command c) fault) h
 
--- what is due with this line
-pub due_with : (bytes line text : List ℕ) → text ≡ line → IsDue run_words bytes 3 None line → IsDue run_words bytes 3 None text
-due_with bytes line text e due = subst (λ (t : List ℕ). IsDue run_words bytes 3 None t) (sym e) due
+-- the line of a fault, where a text is that line
+pub line_along : (bytes line text : List ℕ) → text ≡ line → IsFaultLine bytes line → IsFaultLine bytes text
+line_along bytes line text e fault = subst (λ (t : List ℕ). IsFaultLine bytes t) (sym e) fault
 
--- what is due where the tokens of a source are no script
-pub no_script_due : (bytes : List ℕ) (ts : List Token) (f : SyntaxFault) → ReadsSource bytes (Ok ts) → A.UnlessMemory {A = AnyScript} (Err f) (Reads ts) → (f ≡ S.Memory → ⊥) → IsDue run_words bytes 3 None (syntax_line bytes f)
-no_script_due bytes ts (S.Syntax at) tokens reads told = no_script bytes ts (S.Syntax at) tokens reads
-no_script_due bytes ts (S.BadType at) tokens reads told = no_script bytes ts (S.BadType at) tokens reads
-no_script_due bytes ts (S.TooDeep at) tokens reads told = no_script bytes ts (S.TooDeep at) tokens reads
-no_script_due bytes ts S.Memory tokens reads told = absurd (told refl)
+-- why a source has no tokens
+pub no_tokens_line : (bytes : List ℕ) (f : TokenFault) → UnlessMemory (Err f) (ReadsSource bytes) → (f ≡ T.Memory → ⊥) → IsFaultLine bytes (token_line bytes f)
+no_tokens_line bytes T.SourceTooLong reads told = no_tokens bytes T.SourceTooLong reads
+no_tokens_line bytes (T.BadUtf8 at) reads told = no_tokens bytes (T.BadUtf8 at) reads
+no_tokens_line bytes (T.BadCharacter at) reads told = no_tokens bytes (T.BadCharacter at) reads
+no_tokens_line bytes (T.NumberTooLarge at) reads told = no_tokens bytes (T.NumberTooLarge at) reads
+no_tokens_line bytes (T.OpenString at) reads told = no_tokens bytes (T.OpenString at) reads
+no_tokens_line bytes (T.OpenComment at) reads told = no_tokens bytes (T.OpenComment at) reads
+no_tokens_line bytes T.Memory reads told = absurd (told refl)
 
--- what is due for a script of the language that is none of the form
-pub not_read_due : (bytes : List ℕ) → AreScript bytes → ((s : Script) → IsForm s → spelled s ≡ bytes → ⊥) → IsDue run_words bytes 3 None not_yet_read_line
-not_read_due bytes are none = not_yet_read bytes are.0 are.1 are.2 are.3 none
+-- why tokens are no script
+pub no_script_line : (bytes : List ℕ) (ts : List Token) (f : SyntaxFault) → ReadsSource bytes (Ok ts) → A.UnlessMemory {A = Script} (Err f) (Reads ts) → (f ≡ S.Memory → ⊥) → IsFaultLine bytes (syntax_line bytes f)
+no_script_line bytes ts (S.Syntax at) tokens reads told = no_script bytes ts (S.Syntax at) tokens reads
+no_script_line bytes ts (S.BadType at) tokens reads told = no_script bytes ts (S.BadType at) tokens reads
+no_script_line bytes ts (S.TooDeep at) tokens reads told = no_script bytes ts (S.TooDeep at) tokens reads
+no_script_line bytes ts S.Memory tokens reads told = absurd (told refl)
 
--- a source without a fault is a script of the language
-pub are_script : (o : Option (List ℕ)) (bytes : List ℕ) → ((line : List ℕ) → o ≡ Some line → ⊥) → MatchOption o (AreScript bytes) (λ line. IsDue run_words bytes 3 None line) → AreScript bytes
-are_script None bytes none are = are
-are_script (Some line) bytes none are = absurd (none line refl)
+-- why a script is no program
+pub no_program_line : (bytes : List ℕ) (s : Script) (f : StaticFault) → AreScript bytes s → IsRefused f s → (f ≡ F.Memory → ⊥) → IsFaultLine bytes (static_line bytes f)
+no_program_line bytes s (F.At kind at) are refusal told = no_program bytes s at kind are refusal
+no_program_line bytes s F.Memory are refusal told = absurd (told refl)
 
--- an answer with the history of a script
-pub ran_so : (bytes text : List ℕ) (status : ℕ) (s : Script) (P : Program) (h : History) → AreScript bytes → IsForm s → spelled s ≡ bytes → P ≡ program_of s
-    → IsLegal P h.events → fuel_of h.events ≡ Some default_fuel → status ≡ status_of h.events → text ≡ text_of P h.events → IsDue run_words bytes status (Some h) text
-ran_so bytes text status s P h are form is eP legal begun st tx =
+-- what is due for a program with forms that do not run so far
+pub not_run_due : (d : Due) (bytes line : List ℕ) (P : Program) → (IsSimple P → ⊥) → line ≡ not_yet_read_line → (d.status ≡ 3) × (d.history ≡ None) × (d.text ≡ line) → AreProgram bytes P
+    → IsDue run_words bytes d.status d.history d.text
+not_run_due d bytes line P other e h are = refused_so d run_words bytes line (subst (λ (t : List ℕ). IsDue run_words bytes 3 None t) (sym e) (not_yet_read bytes P are other)) h
+
+-- an answer with the history of a program
+pub ran_so : (bytes text : List ℕ) (status : ℕ) (P : Program) (h : History) → IsSimple P
+    → IsLegal P h.events → fuel_of h.events ≡ Some default_fuel → status ≡ status_of h.events → text ≡ text_of P h.events → AreProgram bytes P → IsDue run_words bytes status (Some h) text
+ran_so bytes text status P h simple legal begun st tx are =
     subst (λ (n : ℕ). IsDue run_words bytes n (Some h) text) (sym st)
-    (subst (λ (t : List ℕ). IsDue run_words bytes (status_of h.events) (Some h) t) (sym (tx ∙ ap (λ (Q : Program). text_of Q h.events) eP))
-    (ran bytes are.0 are.1 s h are.2 are.3 form is (subst (λ (Q : Program). IsLegal Q h.events) eP legal) begun))
+    (subst (λ (t : List ℕ). IsDue run_words bytes (status_of h.events) (Some h) t) (sym tx) (ran bytes P h are simple legal begun))
+
+-- the counts of a program
+pub checked_so : (bytes text : List ℕ) (P : Program) → text ≡ ok_line P → AreProgram bytes P → IsDue check_words bytes 0 None text
+checked_so bytes text P e are = subst (λ (t : List ℕ). IsDue check_words bytes 0 None t) (sym e) (checked bytes P are)
 
 -- the lines as the code writes them
 pub not_yet_read_is : codes "ERROR: NotYetRead\n" ≡ not_yet_read_line
@@ -123,3 +172,9 @@ pub due_along : (ws ws' : List (List ℕ)) (bs bs' t t' : List ℕ) (st : ℕ) (
 due_along ws ws' bs bs' t t' st h e f g due =
     subst (λ (x : List (List ℕ)). IsDue x bs' st h t') (sym e)
     (subst (λ (x : List ℕ). IsDue ws x st h t') f (subst (λ (x : List ℕ). IsDue ws bs st h x) (sym g) due))
+
+-- what is read is well formed
+pub formed : (bytes : List ℕ) (s : Script) → AreScript bytes s → FormedScript s
+formed bytes s are =
+    let r : Reads are.0 (Ok s) = are.2 in
+    script_formed bytes are.0 r.0 r.1 s are.1 r.2 r.4

@@ -4,6 +4,10 @@ use Rattle.jl_token.specs.declared.token.TokenFault.{TokenFault}
 use Rattle.jl_token.specs.declared.token.TokenFault.TheVariants as T
 use Rattle.jl_reader.specs.declared.fault.SyntaxFault.{SyntaxFault}
 use Rattle.jl_reader.specs.declared.fault.SyntaxFault.TheVariants as S
+use Rattle.jl_written.specs.declared.fault.StaticKind.{StaticKind}
+use Rattle.jl_written.specs.declared.fault.StaticKind.TheVariants as K
+use Rattle.jl_resolve.specs.declared.fault.StaticFault.{StaticFault}
+use Rattle.jl_resolve.specs.declared.fault.StaticFault.TheVariants as F
 
 -- one where the byte is a newline
 abbrev pub newline : ℕ → ℕ
@@ -56,3 +60,30 @@ syntax_line bytes (S.Syntax at) = fault_line bytes at (codes "Syntax")
 syntax_line bytes (S.BadType at) = fault_line bytes at (codes "BadType")
 syntax_line bytes (S.TooDeep at) = fault_line bytes at (codes "TooDeep")
 syntax_line bytes S.Memory = []
+
+-- the name of a static fault
+abbrev pub kind_name : StaticKind → List ℕ
+kind_name K.UnknownName = codes "UnknownName"
+kind_name K.UnknownFunction = codes "UnknownFunction"
+kind_name K.UnknownType = codes "UnknownType"
+kind_name K.Rebound = codes "Rebound"
+kind_name K.DuplicateType = codes "DuplicateType"
+kind_name K.WrongParameterCount = codes "WrongParameterCount"
+kind_name K.SuperNotAbstract = codes "SuperNotAbstract"
+kind_name K.VariablePlace = codes "VariablePlace"
+kind_name K.TypeLimit = codes "TypeLimit"
+kind_name K.BoundsCrossed = codes "BoundsCrossed"
+kind_name K.BoundBroken = codes "BoundBroken"
+kind_name K.TooMany = codes "TooMany"
+kind_name K.DuplicateField = codes "DuplicateField"
+kind_name K.UnusedVariable = codes "UnusedVariable"
+kind_name K.TooManyParameters = codes "TooManyParameters"
+kind_name K.TooManySites = codes "TooManySites"
+kind_name K.StaticParameterUse = codes "StaticParameterUse"
+kind_name K.NameClash = codes "NameClash"
+kind_name K.TooManyArguments = codes "TooManyArguments"
+
+-- the line that tells why a script is no program
+abbrev pub static_line : List ℕ → StaticFault → List ℕ
+static_line bytes (F.At kind at) = fault_line bytes at (kind_name kind)
+static_line bytes F.Memory = []

@@ -1,21 +1,21 @@
 //! What is due for a script's bytes.
 
-ghost use Rattle.std.specs.Prelude.{◌≡◌, None, IfOk, MatchOption};
-ghost use Rattle.jl_token.specs.declared.token.TokenFault.TheVariants.{Memory};
-ghost use Rattle.jl_reader.specs.declared.fault.SyntaxFault.TheVariants.{Memory as NoMemory};
-ghost use Rattle.jl_cli.specs.Due.{IsDue, AreScript, run_words, not_yet_read_line};
-ghost use Rattle.jl_cli.specs.Place.{token_line, syntax_line};
+ghost use Rattle.std.specs.Prelude.{◌≡◌, ℕ, List, None, IfOk, MatchResult, drop, length};
+ghost use Rattle.jl_calculus.specs.Prelude.{prelude_count};
+ghost use Rattle.jl_cli.specs.Due.{IsDue, IsFaultLine, AreScript, AreProgram, run_words, check_words, ok_line};
+ghost use Rattle.jl_cli.specs.Words.{words_of};
 
-use crate::place::fault_line;
+use crate::command::Command;
+use crate::faults::{line, static_line, syntax_line, token_line};
+use crate::place::append_number;
 use jl_calculus::history::History;
-use jl_form::program::program;
-use jl_form::script::read as read_form;
-use jl_model::shared::SharedList;
+use jl_calculus::tree::Program;
+use jl_grammar::tree::Script;
+use jl_model::rows::Row;
 use jl_model::ty::Bytes;
-use jl_reader::fault::SyntaxFault;
 use jl_reader::read;
-use jl_solo::{run_alone, status, text};
-use jl_token::token::TokenFault;
+use jl_resolve::program;
+use jl_solo::{is_simple, run_alone, status, text};
 use jl_token::tokens;
 use std::alloc::{AllocError, Global};
 
@@ -23,6 +23,8 @@ use std::alloc::{AllocError, Global};
 pub(crate) const SOURCE_LIMIT: usize = 1_048_576;
 /// How many calls a task may make.
 const FUEL: u64 = 10_000_000;
+/// How many definition sites the prelude has.
+const PRELUDE_SITES: usize = 14;
 
 /// What is due: a status, a history and a text.
 #[derive(Drop)]
@@ -43,75 +45,113 @@ fn refused(text: Bytes) -> Due
     }
 }
 
-/// A line as a text.
-fn line(alloc: Global, bytes: &[u8]) -> Result<Bytes, AllocError>
-    ensures { IfOk result (λ line. line ≡ bytes.now) }
-{
-    SharedList::from_vec(alloc, bytes.to_vec(alloc)?)
-}
-
-/// The line that tells why a source has no tokens.
-fn token_line(alloc: Global, bytes: &[u8], fault: TokenFault) -> Result<Bytes, AllocError>
-    ensures line { IfOk result (λ line. line ≡ token_line bytes.now fault) }
-    ensures told { IfOk result (λ _. fault ≡ Memory → ⊥) }
-{
-    match fault {
-        TokenFault::SourceTooLong => line(alloc, b"ERROR: SourceTooLong\n"),
-        TokenFault::BadUtf8(at) => fault_line(alloc, bytes, at, b"BadUtf8"),
-        TokenFault::BadCharacter(at) => fault_line(alloc, bytes, at, b"BadCharacter"),
-        TokenFault::NumberTooLarge(at) => fault_line(alloc, bytes, at, b"NumberTooLarge"),
-        TokenFault::OpenString(at) => fault_line(alloc, bytes, at, b"OpenString"),
-        TokenFault::OpenComment(at) => fault_line(alloc, bytes, at, b"OpenComment"),
-        TokenFault::Memory => Err(AllocError),
-    }
-}
-
-/// The line that tells why the tokens of a source are no script.
-fn syntax_line(alloc: Global, bytes: &[u8], fault: SyntaxFault) -> Result<Bytes, AllocError>
-    ensures line { IfOk result (λ line. line ≡ syntax_line bytes.now fault) }
-    ensures told { IfOk result (λ _. fault ≡ NoMemory → ⊥) }
-{
-    match fault {
-        SyntaxFault::Syntax(at) => fault_line(alloc, bytes, at, b"Syntax"),
-        SyntaxFault::BadType(at) => fault_line(alloc, bytes, at, b"BadType"),
-        SyntaxFault::TooDeep(at) => fault_line(alloc, bytes, at, b"TooDeep"),
-        SyntaxFault::Memory => Err(AllocError),
-    }
-}
-
-/// The line of the first fault of a source, or none where it is a script of the language.
-fn fault(alloc: Global, bytes: &[u8]) -> Result<Option<Bytes>, AllocError>
-    ensures { IfOk result (λ o. MatchOption o (AreScript bytes.now) (λ line. IsDue run_words bytes.now 3 None line)) }
+/// The script that a source is, or the line of its first fault.
+fn script(alloc: Global, bytes: &[u8]) -> Result<Result<Script, Bytes>, AllocError>
+    ensures { IfOk result (λ r. MatchResult r (AreScript bytes.now) (IsFaultLine bytes.now)) }
 {
     let tokens = match tokens(alloc, bytes) {
         Ok(tokens) => tokens,
-        Err(fault) => return Ok(Some(token_line(alloc, bytes, fault)?)),
+        Err(fault) => return Ok(Err(token_line(alloc, bytes, fault)?)),
     };
     match read(alloc, tokens.as_slice()) {
-        Ok(_) => Ok(None),
-        Err(fault) => Ok(Some(syntax_line(alloc, bytes, fault)?)),
+        Ok(script) => Ok(Ok(script)),
+        Err(fault) => Ok(Err(syntax_line(alloc, bytes, fault)?)),
     }
 }
 
-/// What is due for these bytes, of which there may be one past the limit.
-pub(crate) fn answer(alloc: Global, bytes: &[u8]) -> Result<Due, AllocError>
-    ensures { IfOk result (λ due. IsDue run_words bytes.now due.status due.history due.text) }
+/// What is due where a program is to be run.
+fn ran(alloc: Global, program: &Program) -> Result<Due, AllocError>
+    ensures { IfOk result (λ due. (bytes : List ℕ) → AreProgram bytes program.now → IsDue run_words bytes due.status due.history due.text) }
 {
-    if let Some(line) = fault(alloc, bytes)? {
-        return Ok(refused(line));
+    if !is_simple(program) {
+        return Ok(refused(line(alloc, b"ERROR: NotYetRead\n")?));
     }
-    match read_form(alloc, bytes)? {
-        None => Ok(refused(line(alloc, b"ERROR: NotYetRead\n")?)),
-        Some(script) => {
-            let program = program(alloc, &script)?;
-            let history = run_alone(alloc, &program, FUEL)?;
-            let text = text(alloc, &program, &history)?;
-            let status = status(&history);
-            Ok(Due {
-                status,
-                history: Some(history),
-                text,
-            })
+    let history = run_alone(alloc, program, FUEL)?;
+    let text = text(alloc, program, &history)?;
+    let status = status(&history);
+    Ok(Due {
+        status,
+        history: Some(history),
+        text,
+    })
+}
+
+/// How many definition sites a program has beyond those of the prelude.
+fn own_sites(program: &Program) -> u64
+    ensures { result ≡ length (drop prelude_count program.now.sites) }
+{
+    program.sites.len().saturating_sub(PRELUDE_SITES) as u64
+}
+
+/// The line that tells how many types a program declares, and how many definition sites it has.
+fn ok_line(alloc: Global, program: &Program) -> Result<Bytes, AllocError>
+    ensures { IfOk result (λ line. line ≡ ok_line program.now) }
+{
+    let mut out = Row::new(alloc);
+    out.append(b"ok: ")?;
+    append_number(&mut out, program.decls.len() as u64)?;
+    out.append(b" types, ")?;
+    append_number(&mut out, own_sites(program))?;
+    out.append(b" definitions\n")?;
+    out.into_shared(alloc)
+}
+
+/// What is due where a program is only to be checked.
+fn checked(alloc: Global, program: &Program) -> Result<Due, AllocError>
+    ensures { IfOk result (λ due. (bytes : List ℕ) → AreProgram bytes program.now → IsDue check_words bytes due.status due.history due.text) }
+{
+    let text = ok_line(alloc, program)?;
+    Ok(Due {
+        status: 0,
+        history: None,
+        text,
+    })
+}
+
+/// What a command owes for a program.
+fn owed(alloc: Global, command: Command, program: &Program) -> Result<Due, AllocError>
+    ensures { IfOk result (λ due. (bytes : List ℕ) → AreProgram bytes program.now → IsDue (words_of command) bytes due.status due.history due.text) }
+{
+    match command {
+        Command::Run => ran(alloc, program),
+        Command::Check => checked(alloc, program),
+    }
+}
+
+/// What a command owes for the script that these bytes are.
+fn owed_for(
+    alloc: Global,
+    command: Command,
+    bytes: &[u8],
+    script: &Script,
+) -> Result<Due, AllocError>
+    requires { AreScript bytes.now script.now }
+    ensures { IfOk result (λ due. IsDue (words_of command) bytes.now due.status due.history due.text) }
+{
+    match program(alloc, script) {
+        Ok(ready) => {
+            let due = owed(alloc, command, ready.program());
+            drop(ready);
+            let due = due?;
+            Ok(due)
+        }
+        Err(fault) => {
+            let line = static_line(alloc, bytes, fault)?;
+            Ok(refused(line))
         }
     }
+}
+
+/// What a command owes for these bytes, of which there may be one past the limit.
+pub(crate) fn answer(alloc: Global, command: Command, bytes: &[u8]) -> Result<Due, AllocError>
+    ensures { IfOk result (λ due. IsDue (words_of command) bytes.now due.status due.history due.text) }
+{
+    let script = match script(alloc, bytes)? {
+        Ok(script) => script,
+        Err(line) => return Ok(refused(line)),
+    };
+    let due = owed_for(alloc, command, bytes, &script);
+    drop(script);
+    let due = due?;
+    Ok(due)
 }

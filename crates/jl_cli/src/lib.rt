@@ -1,8 +1,12 @@
-//! The top call: from a command line's words and a script's bytes to the text of its run.
+//! The top call: from a command line's words and a script's bytes to what the command writes.
 #![tactic(auto)]
 
 mod answering;
+mod command;
+mod faults;
+pub mod laws;
 mod place;
+pub mod status_laws;
 #[cfg(test)]
 mod tests;
 mod top;

@@ -54,7 +54,7 @@ fn bytes_before(bytes: &[u8], at: u32) -> &[u8]
 }
 
 /// A number in decimal.
-fn append_number(out: &mut Row<u8>, number: u64) -> Result<(), AllocError>
+pub(crate) fn append_number(out: &mut Row<u8>, number: u64) -> Result<(), AllocError>
     ensures { OnOk result (out.new ≡ out.old ++ decimal number) }
 {
     let mut buffer = Buffer::new();

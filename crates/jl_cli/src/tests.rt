@@ -29,7 +29,8 @@ fn expect(
     Ok(())
 }
 
-static SCRIPTS: [(&str, u8, &str); 13] = [
+static SCRIPTS: [(&str, u8, &str); 14] = [
+    ("f(x)=x", 0, ""),
     ("f(x) = x + 1\nprintln(f(2))", 0, "3\n"),
     ("f(x) = x + 1\nprintln(f(2))\n", 0, "3\n"),
     ("", 0, ""),
@@ -38,7 +39,7 @@ static SCRIPTS: [(&str, u8, &str); 13] = [
         1,
         "ERROR: MethodError: no method matching f(::Int64) in world 14\n",
     ),
-    ("println(-1)", 3, "ERROR: NotYetRead\n"),
+    ("println(-1)", 0, "-1\n"),
     (
         "f(x::Int64, y) = 1\nf(x, y::Int64) = 2\nprintln(f(1, 2))",
         1,
@@ -65,7 +66,11 @@ static SCRIPTS: [(&str, u8, &str); 13] = [
         1,
         "7\nERROR: MethodError: no method matching +(::Nothing, ::Int64) in world 14\n",
     ),
-    ("println(9223372036854775807 + 1)", 3, "ERROR: NotYetRead\n"),
+    (
+        "println(9223372036854775807 + 1)",
+        0,
+        "-9223372036854775808\n",
+    ),
     (
         "println(999999999999999999 + 1)",
         0,
@@ -119,7 +124,7 @@ static NO_SCRIPTS: [(&str, &str); 6] = [
     ),
     ("f(x::3) = 1", "ERROR: line 1, column 6: BadType\n"),
     ("x isa", "ERROR: line 1, column 6: BadType\n"),
-    // A fault comes before what is not read yet.
+    // A fault comes before what does not run yet.
     ("struct S end\nx = = 1", "ERROR: line 2, column 5: Syntax\n"),
 ];
 
@@ -131,15 +136,14 @@ fn faults_of_scripts_are_told_with_their_places(rt: HostRuntime) -> Result<(), F
     Ok(())
 }
 
-static OTHER_SCRIPTS: [&str; 4] = [
+static OTHER_SCRIPTS: [&str; 3] = [
     "x = 1",
-    "f(x)=x",
     "struct S end",
     "f(x) = x\n\nfunction g(x::T) where T\n  return f(x)\nend\nprintln(g(1))\n",
 ];
 
 #[test]
-fn scripts_of_the_language_alone_are_not_yet_read(rt: HostRuntime) -> Result<(), Fail> {
+fn programs_with_other_forms_are_not_yet_read(rt: HostRuntime) -> Result<(), Fail> {
     for script in &OTHER_SCRIPTS {
         expect(
             &rt,
@@ -169,10 +173,32 @@ fn nested(alloc: Global, depth: u64) -> Result<Vec<u8>, AllocError> {
 fn a_deep_item_is_told_at_its_first_token(rt: HostRuntime) -> Result<(), Fail> {
     let alloc = rt.alloc();
     let script = nested(alloc, 499)?;
-    expect(&rt, alloc, script.as_slice(), 3, b"ERROR: NotYetRead\n")?;
+    expect(&rt, alloc, script.as_slice(), 0, b"")?;
     let script = nested(alloc, 500)?;
     let line = b"ERROR: line 2, column 3: TooDeep\n";
     expect(&rt, alloc, script.as_slice(), 3, line)?;
+    Ok(())
+}
+
+static CHECKED: [(&str, u8, &str); 4] = [
+    ("", 0, "ok: 0 types, 0 definitions\n"),
+    (
+        "struct S end\nf(x) = x\nf(1)",
+        0,
+        "ok: 1 types, 1 definitions\n",
+    ),
+    ("1 ÷ \u{e9}", 3, "ERROR: line 1, column 5: UnknownName\n"),
+    ("x = 1\nx = 2", 3, "ERROR: line 2, column 1: Rebound\n"),
+];
+
+#[test]
+fn scripts_are_checked(rt: HostRuntime) -> Result<(), Fail> {
+    for (script, status, text) in &CHECKED {
+        let (answered, written, history) = ran(rt.alloc(), &["check"], script.as_bytes())?;
+        assert_eq!(rt; answered, *status);
+        assert_eq!(rt; written.as_slice(), text.as_bytes());
+        assert!(rt; !history);
+    }
     Ok(())
 }
 

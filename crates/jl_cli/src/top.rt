@@ -2,10 +2,11 @@
 
 ghost use Rattle.std.specs.Prelude.{◌≡◌, ◌≤◌};
 ghost use Rattle.jl_io.specs.Faults.{Rose};
-ghost use Rattle.jl_cli.specs.Due.{texts, is_run_words, HasRun};
+ghost use Rattle.jl_cli.specs.Due.{texts, HasRun};
 ghost use Rattle.jl_cli.specs.Delivered.{IsDelivered};
 
 use crate::answering::{Due, SOURCE_LIMIT, answer};
+use crate::command::command_in;
 use jl_calculus::history::History;
 use jl_io::{ReadFault, Sink, SinkFault, Source, read_up_to, write_all};
 use std::alloc::Global;
@@ -21,16 +22,6 @@ pub struct Ended {
     pub history: Option<History>,
 }
 
-/// Whether the words are a command.
-fn is_run(words: &[&str]) -> bool
-    ensures { result ≡ is_run_words words.now }
-{
-    match words {
-        [word] => word.as_bytes() == b"run".as_slice(),
-        _ => false,
-    }
-}
-
 /// Writes a text, and answers with this status and history where all of it was taken.
 fn deliver<K: Sink>(sink: &mut K, status: u8, history: Option<History>, text: &[u8]) -> Ended
     ensures counted { K.faults sink.old ≤ K.faults sink.new }
@@ -43,19 +34,20 @@ fn deliver<K: Sink>(sink: &mut K, status: u8, history: Option<History>, text: &[
     }
 }
 
-/// Runs the script that a source gives, and writes the text of its run to a sink.
+/// Does what the words ask of the script that a source gives, and writes the answer to a sink: `run` runs the script and
+/// writes the text of its run, and `check` writes how many types and definitions it has.
 ///
-/// The words are those of the command line after the program's name. Status 0 or 1: the run ended with a value or with a
-/// fault. 2: the words are no command. 3: the source is no script that is read so far. 4: the source failed. 5: the sink
-/// failed. 6: memory was refused.
+/// The words are those of the command line after the program's name. Status 0: the run ended with a value, or the script that
+/// was checked is a program. 1: the run ended with a fault. 2: the words are no command. 3: the source is no program, or none
+/// that runs so far. 4: the source failed. 5: the sink failed. 6: memory was refused.
 pub fn run<S: Source, K: Sink>(alloc: Global, words: &[&str], source: &mut S, sink: &mut K) -> Ended
     ensures reads_counted { S.faults source.old ≤ S.faults source.new }
     ensures writes_counted { K.faults sink.old ≤ K.faults sink.new }
     ensures ran { HasRun (texts words.now) (S.left source.old) (S.left source.new) (K.written sink.old) (K.written sink.new) (Rose (S.faults source.old) (S.faults source.new)) (Rose (K.faults sink.old) (K.faults sink.new)) result.status result.history }
 {
-    if !is_run(words) {
+    let Some(command) = command_in(words) else {
         return deliver(sink, 2, None, USAGE.as_bytes());
-    }
+    };
     let bytes = match read_up_to(alloc, source, SOURCE_LIMIT + 1) {
         Ok(bytes) => bytes,
         Err(ReadFault::Failed) => {
@@ -71,7 +63,7 @@ pub fn run<S: Source, K: Sink>(alloc: Global, words: &[&str], source: &mut S, si
             };
         }
     };
-    match answer(alloc, bytes.as_slice()) {
+    match answer(alloc, command, bytes.as_slice()) {
         Ok(due) => {
             let Due {
                 status,

@@ -85,7 +85,7 @@ fn is_own(ty: &Ty, count: u64) -> bool
 /// Whether each nominal type in these has a number below `count`.
 #[cycle(known)]
 #[tactic(auto, using(crate::proofs::NameLemmas::knowing))]
-fn are_known(types: &[Ty], count: u64) -> bool
+pub fn are_known(types: &[Ty], count: u64) -> bool
     ensures { result ≡ list_all (is_known count) types.now }
 {
     for ty in types {

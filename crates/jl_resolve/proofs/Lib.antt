@@ -1,3 +1,2 @@
-pub mod ArmLemmas
-pub mod BlockLemmas
-pub mod TypeSteps
+pub mod ProgramLemmas
+pub mod OneMeaning

@@ -1,8 +1,1 @@
-pub mod Scopes
-pub mod Functions
-pub mod TypesIn
-pub mod Expressions
-pub mod Defined
-pub mod Top
-pub mod Declarations
-pub mod Script
+pub mod Program

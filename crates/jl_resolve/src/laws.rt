@@ -1,11 +1,13 @@
-//! Laws of the program of a script. They are about definitions alone: each function does nothing, and its contract is the
-//! law.
+//! Laws of what a script means. They are about definitions alone: each function does nothing, and its contract is the law.
 
-ghost use Rattle.std.specs.Prelude.{◌≡◌, [], None};
-ghost use Rattle.jl_calculus.specs.Prelude.{prelude_functions, prelude_sites};
-ghost use Rattle.jl_resolve.specs.Script.{Oracle, program_with};
+ghost use Rattle.std.specs.Prelude.{◌≡◌, ℕ, Option};
+ghost use Rattle.jl_calculus.specs.declared.tree.Program.{Program};
+ghost use Rattle.jl_grammar.specs.declared.tree.Script.{Script};
+ghost use Rattle.jl_written.specs.declared.fault.Fault.{Fault};
+ghost use Rattle.jl_resolve.specs.Program.{ComesTo};
 
-/// An empty script is a program: it declares nothing, has the prelude's functions and sites alone, and no statement.
-pub fn law_empty_script()
-    ensures { (o : Oracle) → program_with o (record { items = [] }) ≡ record { program = record { decls = []; functions = prelude_functions; sites = prelude_sites; spawns = []; top = [] }; fault = None } }
+/// A script comes to one program and to one first fault; so a script that is a program has no fault.
+pub fn law_one_meaning()
+    ensures program { (s : Script) (P Q : Program) (o r : Option Fault) → ComesTo s P o → ComesTo s Q r → P ≡ Q }
+    ensures fault { (s : Script) (P Q : Program) (o r : Option Fault) → ComesTo s P o → ComesTo s Q r → o ≡ r }
 {}

@@ -1,17 +1,9 @@
-//! From a script to a program.
+//! From a script to a valid program, or to the first of its static faults.
 #![tactic(auto)]
 
-pub mod cells;
-pub mod defined;
-pub mod forms;
-pub mod functions;
-pub mod judge;
-pub mod known;
+pub mod fault;
 pub mod laws;
-pub mod methods;
-pub mod scopes;
-pub mod state;
-#[cfg(test)]
-mod tests;
-pub mod top;
-pub mod types;
+mod meaning;
+
+pub use fault::StaticFault;
+pub use meaning::program;

@@ -17,14 +17,14 @@ use Rattle.jl_model.specs.SigRefusals.{ManyRows}
 use Rattle.jl_model.specs.AllRows.{Listed, ArePicks, all_rows, each_var, occurs, rows_with, slot}
 use Rattle.jl_sig.specs.declared.row.SigRow.{SigRow}
 use Rattle.jl_sig.specs.Built.{placed, picked, place_in, listed, rows_from, ArePicked}
-use Rattle.jl_sig.specs.Prepared.{IsBuildable, AreAllRows}
+use Rattle.jl_sig.specs.Prepared.{IsExpandable, AreAllRows}
 use Rattle.jl_sig.proofs.WholeLemmas.{rows_are, rows_are_many, picks_hold, above_same, each_same}
 
 pub match_map : {A : Type 0} (o : Option A) (P Q : Type 0) (R S : A → Type 0) → (P → Q) → ((x : A) → R x → S x) → MatchOption o P R → MatchOption o Q S
 match_map None P Q R S f g m = f m
 match_map (Some x) P Q R S f g m = g x m
 
-module _ (ds : List Decl) (s : Written) (bounds : List Bound) (b : IsBuildable ds s bounds) (ps pl : List (List Ty)) (a : ArePicked (table_of ds) s (length s.vars) ps) (pe : pl ≡ each_var (place_in s ps) 0 s.vars) where
+module _ (ds : List Decl) (s : Written) (bounds : List Bound) (b : IsExpandable ds s bounds) (ps pl : List (List Ty)) (a : ArePicked (table_of ds) s (length s.vars) ps) (pe : pl ≡ each_var (place_in s ps) 0 s.vars) where
   n : Table
   n = table_of ds
 

@@ -137,6 +137,10 @@ given_within (t ∷ ts) h a c = elim (Contains-append_cases (given_in t) (flat_m
 pub arguments_within : (ts : List Ty) → total (map nodes ts) ≤ 1024 → (HasWide ts → ⊥) → (a : Given) → Contains (flat_map given_in ts) a → IsWithinLimits a.ty
 arguments_within ts m h = given_within ts (λ t c. within ts t m h c)
 
+-- where each variable stands where it may, the bounds have none
+pub closed_bounds : (s : Written) → (VariablePlace s → ⊥) → list_all is_closed (bound_types s.vars) ≡ true
+closed_bounds s p = and_l (list_all is_closed (bound_types s.vars)) (list_all is_component s.parts) (not_false (are_placed s) p)
+
 -- LARGE FORMS
 module _ (ds : List Decl) (declared : Declared ds) where
   abbrev n : Table
@@ -180,11 +184,11 @@ module _ (ds : List Decl) (declared : Declared ds) where
       small_form t e.0 u (subst (λ z. IsSmallForm ds z e.0) q e.1) i l
 
   -- a bound, or an argument, is large
-  pub large_bound : (s : Written) → (VariablePlace s → ⊥) → total (map nodes (types_in s)) ≤ 1024 → (HasWide (types_in s) → ⊥) → HasTooLarge ds (bound_types s.vars) → LargeForm n s
+  pub large_bound : (s : Written) → list_all is_closed (bound_types s.vars) ≡ true → total (map nodes (types_in s)) ≤ 1024 → (HasWide (types_in s) → ⊥) → HasTooLarge ds (bound_types s.vars) → LargeForm n s
   large_bound s p m h (t, c, l) =
       let w = within (types_in s) t m h (Contains-append_left (bound_types s.vars) s.parts t c) in
       let f = large_form t w l in
-      let k = true_in is_closed (bound_types s.vars) t (and_l (list_all is_closed (bound_types s.vars)) (list_all is_component s.parts) (not_false (are_placed s) p)) c in
+      let k = true_in is_closed (bound_types s.vars) t p c in
       (t, f.0, (inl c, k), f.1, f.2)
     where
       true_in : (q : Ty → Bool) (ts : List Ty) (x : Ty) → list_all q ts ≡ true → Contains ts x → q x ≡ true

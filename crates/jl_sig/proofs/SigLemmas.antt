@@ -27,10 +27,10 @@ use Rattle.jl_types.proofs.PartsLemmas.{closed-any, closed-union, closed-tuple, 
 use Rattle.jl_sig.specs.Parts.{HasWide}
 use Rattle.jl_sig.specs.Forms.{IsSmallForm, AreFormed, AreKnown}
 use Rattle.jl_sig.specs.Fit.{IsFit, AllFit}
-use Rattle.jl_sig.specs.Prepared.{IsBuildable, AreAllRows, IsWellPlaced}
+use Rattle.jl_sig.specs.Prepared.{HasOwnVariables, IsExpandable, IsBuildable, AreAllRows, IsWellPlaced}
 use Rattle.jl_sig.proofs.GivenLemmas.{AllGiven, given-any, given-var, given-union, given-tuple, given-nominal, given_both, given_none, each_given}
 use Rattle.jl_sig.proofs.FitLemmas.{argument-any, argument-var, argument-union, argument-tuple, argument-nominal, component-any, component-union, component-tuple, component-nominal}
-use Rattle.jl_sig.proofs.LimitLemmas.{few_alternatives, within, arguments_within, argument_form, not_too_large, no_large}
+use Rattle.jl_sig.proofs.LimitLemmas.{closed_bounds, few_alternatives, within, arguments_within, argument_form, not_too_large, no_large}
 use Rattle.jl_sig.proofs.BuildLemmas.{not_many}
 
 -- a type without variables has none in a wrong place
@@ -134,20 +134,16 @@ flat_contains [] t a c d = absurd (omega (arith, c.1))
 flat_contains (x ∷ xs) t a (zero, l, e) d = Contains-append_left (given_in x) (flat_map given_in xs) a (subst (λ z. Contains (given_in z) a) (sym e) d)
 flat_contains (x ∷ xs) t a (suc i, l, e) d = Contains-append_right (given_in x) (flat_map given_in xs) a (flat_contains xs t a (i, omega arith, e) d)
 
-module _ (ds : List Decl) (declared : Declared ds) (s : Written) (w : IsWellPlaced ds s) (m : total (map nodes (types_in s)) ≤ 1024) (wide : HasWide (types_in s) → ⊥)
-    (bounds : List Bound) (hs : List Given) (forms : Both (IsSmallForm ds) (bound_types s.vars) (bound_types bounds)) (formed : AreFormed ds (arguments_in s) hs) where
-  bounds_closed : list_all is_closed (bound_types s.vars) ≡ true
-  bounds_closed = and_l (list_all is_closed (bound_types s.vars)) (list_all is_component s.parts) (not_false (are_placed s) w.placed)
-
-  parts_placed : list_all is_component s.parts ≡ true
-  parts_placed = and_r (list_all is_closed (bound_types s.vars)) (list_all is_component s.parts) (not_false (are_placed s) w.placed)
-
+-- A signature s without too large types, and one with the same bounds and other components.
+module _ (ds : List Decl) (declared : Declared ds) (s : Written) (known : list_all (is_known (length ds)) (types_in s) ≡ true) (closed : list_all is_closed (bound_types s.vars) ≡ true)
+    (m : total (map nodes (types_in s)) ≤ 1024) (wide : HasWide (types_in s) → ⊥) (bounds : List Bound) (hs : List Given) (forms : Both (IsSmallForm ds) (bound_types s.vars) (bound_types bounds))
+    (formed : AreFormed ds (arguments_in s) hs) where
   inside : (t : Ty) → Contains (bound_types s.vars) t → Contains (types_in s) t
   inside t c = Contains-append_left (bound_types s.vars) s.parts t c
 
   fit_one : (t : Ty) → Contains (types_in s) t → is_component t ≡ true → IsFit ds t
   fit_one t c p = record {
-    known = true_at (is_known (length ds)) (types_in s) t w.known c;
+    known = true_at (is_known (length ds)) (types_in s) t known c;
     placed = p;
     small = λ a d k l.
         let g = flat_contains (types_in s) t a c d in
@@ -159,21 +155,35 @@ module _ (ds : List Decl) (declared : Declared ds) (s : Written) (w : IsWellPlac
   fit_all [] h = tt
   fit_all (t ∷ ts) h = let c = h t (zero, omega arith, refl) in (fit_one t c.0 c.1, fit_all ts (λ u d. h u (suc d.0, omega (arith, d.1), d.2)))
 
-  pub buildable : IsBuildable ds s bounds
-  buildable = record {
-    own = w.own;
+  pub expandable : (parts : List Ty) → HasOwnVariables (record { vars = s.vars; parts = parts }) → IsExpandable ds (record { vars = s.vars; parts = parts }) bounds
+  expandable parts own = record {
+    own = own;
     closed = λ v. elim (lt_cases v (length s.vars)) [
-      | inl a ↦ true_at is_closed (bound_types s.vars) (high s v) bounds_closed (high_at s.vars v a)
+      | inl a ↦ true_at is_closed (bound_types s.vars) (high s v) closed (high_at s.vars v a)
       | inr b ↦ ap is_closed (high_past s.vars v b) ∙ closed-any
     ];
-    fit = fit_all (bound_types s.vars) (λ t c. (inside t c, component_of t (true_at is_closed (bound_types s.vars) t bounds_closed c)));
-    parts = fit_all s.parts (λ t c. (Contains-append_right (bound_types s.vars) s.parts t c, true_at is_component s.parts t parts_placed c));
+    fit = fit_all (bound_types s.vars) (λ t c. (inside t c, component_of t (true_at is_closed (bound_types s.vars) t closed c)));
     forms = forms;
     few = let a = bounds_nodes s.vars in let b = total_append (bound_types s.vars) s.parts in omega (arith, a, b, m);
     narrow = λ v. elim (lt_cases v (length s.vars)) [
       | inl a ↦ few_alternatives (high s v) ((within (types_in s) (high s v) m wide (inside (high s v) (high_at s.vars v a))).alternatives)
       | inr b ↦ (let e = ap (λ z. length (alts z)) (high_past s.vars v b) ∙ ap (λ z. length z) alts-any in omega (arith, e))
     ];
+  }
+
+module _ (ds : List Decl) (declared : Declared ds) (s : Written) (w : IsWellPlaced ds s) (m : total (map nodes (types_in s)) ≤ 1024) (wide : HasWide (types_in s) → ⊥)
+    (bounds : List Bound) (hs : List Given) (forms : Both (IsSmallForm ds) (bound_types s.vars) (bound_types bounds)) (formed : AreFormed ds (arguments_in s) hs) where
+  bounds_closed : list_all is_closed (bound_types s.vars) ≡ true
+  bounds_closed = closed_bounds s w.placed
+
+  parts_placed : list_all is_component s.parts ≡ true
+  parts_placed = and_r (list_all is_closed (bound_types s.vars)) (list_all is_component s.parts) (not_false (are_placed s) w.placed)
+
+  pub buildable : IsBuildable ds s bounds
+  buildable = record {
+    rows = expandable ds declared s w.known bounds_closed m wide bounds hs forms formed s.parts w.own;
+    parts = fit_all ds declared s w.known bounds_closed m wide bounds hs forms formed s.parts
+        (λ t c. (Contains-append_right (bound_types s.vars) s.parts t c, true_at is_component s.parts t parts_placed c));
   }
 
   -- it is small

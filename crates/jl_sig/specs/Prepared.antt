@@ -25,15 +25,19 @@ use Rattle.jl_sig.specs.Fit.{AllFit, AreKeptRows, IsKeptSignature}
 abbrev pub HasOwnVariables : Written → Type 0
 HasOwnVariables s = IsTrue (list_all (λ v. nat_lt v (length s.vars)) (flat_map vars_in s.parts))
 
--- its rows can be built and kept: the bounds have no variables, bounds and components can be kept, and they are small
-pub record IsBuildable (ds : List Decl) (s : Written) (bounds : List Bound) : Type 0 where
+-- its rows can be built: its variables are its own, the bounds have no variables and can be kept, and they are small
+pub record IsExpandable (ds : List Decl) (s : Written) (bounds : List Bound) : Type 0 where
   pub own : HasOwnVariables s
   pub closed : (v : ℕ) → IsTrue (is_closed (high s v))
   pub fit : AllFit ds (bound_types s.vars)
-  pub parts : AllFit ds s.parts
   pub forms : Both (IsSmallForm ds) (bound_types s.vars) (bound_types bounds)
   pub few : length s.vars ≤ 1024
   pub narrow : (v : ℕ) → length (alts (high s v)) ≤ 256
+
+-- its rows can be built, and its components can be kept too
+pub record IsBuildable (ds : List Decl) (s : Written) (bounds : List Bound) : Type 0 where
+  pub rows : IsExpandable ds s bounds
+  pub parts : AllFit ds s.parts
 
 -- these are all rows of the signature, and no more than 256
 pub record AreAllRows (n : Table) (s : Written) (rs : List Listed) : Type 0 where

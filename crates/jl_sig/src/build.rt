@@ -4,7 +4,7 @@ ghost use Rattle.std.specs.Prelude.{IfOk, MatchOption, map};
 ghost use Rattle.jl_model.specs.Ancestors.{table_of};
 ghost use Rattle.jl_model.specs.SigRefusals.{ManyRows};
 ghost use Rattle.jl_sig.specs.Built.{listed, AreKinds};
-ghost use Rattle.jl_sig.specs.Prepared.{IsBuildable, AreAllRows};
+ghost use Rattle.jl_sig.specs.Prepared.{IsExpandable, AreAllRows};
 
 use crate::expansion::{components, product_of_forms};
 use crate::kind::Kind;
@@ -24,7 +24,7 @@ pub fn all_rows(
     kinds: &[Kind],
     bounds: &[Bound],
 ) -> Result<Option<Vec<SigRow>>, AllocError>
-    requires buildable { IsBuildable table.now written.now bounds.now }
+    requires expandable { IsExpandable table.now written.now bounds.now }
     requires kinds { AreKinds written.now kinds.now }
     ensures { IfOk result (λ o. MatchOption o (ManyRows (table_of table.now) written.now) (λ rows. AreAllRows (table_of table.now) written.now (map listed rows.items))) }
 {

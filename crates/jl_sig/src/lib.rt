@@ -22,11 +22,13 @@ pub mod types;
 mod usable;
 mod variables;
 
+pub use build::all_rows;
 pub use fault::SigFault;
 pub use kind::{Kind, kind_of};
 pub use ready::Ready;
 pub use sig::{Prepared, Sig, prepare};
 pub use usable::is_usable;
+pub use variables::kinds;
 
 #[cfg(test)]
 mod ready_tests;

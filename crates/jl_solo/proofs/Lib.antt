@@ -4,3 +4,4 @@ pub mod ChoiceOf
 pub mod Answered
 pub mod Legality
 pub mod Texts
+pub mod SimpleForms

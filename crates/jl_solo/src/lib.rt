@@ -3,9 +3,11 @@
 
 mod output;
 mod run;
+mod simple;
 mod solo;
 #[cfg(test)]
 mod tests;
 
 pub use output::{status, text};
 pub use run::run_alone;
+pub use simple::is_simple;

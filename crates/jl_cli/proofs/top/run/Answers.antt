@@ -1,33 +1,33 @@
-use Rattle.std.proofs.Common.{◌≡◌, ◌∙◌, true, false}
-use Rattle.jl_cli.specs.Due.{is_run_words, texts, run_words}
-use Rattle.jl_cli.proofs.Running.{used, unread, unread_for_memory, delivered, due_along, run_yes, run_no, usage_is}
+use Rattle.std.proofs.Common.{◌≡◌, ◌∙◌, sym, Some}
+use Rattle.jl_cli.specs.Words.{words_of, command_in}
+use Rattle.jl_cli.specs.Due.{texts}
+use Rattle.jl_cli.proofs.Running.{used, unread, unread_for_memory, delivered, due_along, command_yes, command_is, command_no, usage_is}
 use Rattle.jl_cli.proofs.top.run.Goals as goal
 
-pub returns-then-not-is_run-clause-ran : goal.returns-then-not-is_run-clause-ran
-returns-then-not-is_run-clause-ran g c =
-    let off : is_run_words c.args.words.now ≡ false = cc in
-    used (texts c.args.words.now) _ _ _ _ _ c.as_bytes.result.now _ _ (run_no c.args.words.now off) (c.as_bytes.ensures.value ∙ usage_is) c.deliver.ensures.delivered
+pub returns-in_default-clause-ran : goal.returns-in_default-clause-ran
+returns-in_default-clause-ran g c =
+    used (texts c.args.words.now) _ _ _ _ _ c.as_bytes.result.now _ _ (command_no c.args.words.now (sym c.command_in.ensures ∙ c.in_default.is)) (c.as_bytes.ensures.value ∙ usage_is) c.deliver.ensures.delivered
 
 pub returns-in-Err-Failed-clause-ran : goal.returns-in-Err-Failed-clause-ran
 returns-in-Err-Failed-clause-ran g c =
-    let on : is_run_words c.args.words.now ≡ true = cc in
-    unread _ _ _ _ _ (texts c.args.words.now) (run_yes c.args.words.now on) c.in-Err-Failed.ensures.taken (rw c.in-Err-Failed.field-0-is at c.in-Err-Failed.ensures.rose)
+    let on : command_in c.args.words.now ≡ Some c.in-Some.command = sym c.command_in.ensures ∙ c.in-Some.is in
+    unread _ _ _ _ _ (texts c.args.words.now) (command_is c.args.words.now c.in-Some.command on) c.in-Err-Failed.ensures.taken (rw c.in-Err-Failed.field-0-is at c.in-Err-Failed.ensures.rose)
 
 pub returns-in-Err-Memory-clause-ran : goal.returns-in-Err-Memory-clause-ran
 returns-in-Err-Memory-clause-ran g c =
-    let on : is_run_words c.args.words.now ≡ true = cc in
-    unread_for_memory _ _ _ _ _ (texts c.args.words.now) (run_yes c.args.words.now on) c.in-Err-Memory.ensures.taken
+    let on : command_in c.args.words.now ≡ Some c.in-Some.command = sym c.command_in.ensures ∙ c.in-Some.is in
+    unread_for_memory _ _ _ _ _ (texts c.args.words.now) (command_is c.args.words.now c.in-Some.command on) c.in-Err-Memory.ensures.taken
 
 pub returns-in-Ok-answer-clause-ran : goal.returns-in-Ok-answer-clause-ran
 returns-in-Ok-answer-clause-ran g c =
-    let on : is_run_words c.args.words.now ≡ true = cc in
-    let is : texts c.args.words.now ≡ run_words = run_yes c.args.words.now on in
+    let on : command_in c.args.words.now ≡ Some c.in-Some.command = sym c.command_in.ensures ∙ c.in-Some.is in
+    let is : texts c.args.words.now ≡ words_of c.in-Some.command = command_yes c.args.words.now c.in-Some.command on in
     delivered (texts c.args.words.now) _ _ _ _ _ _ c.in-Ok.bytes.items c.in-Ok.ensures.gives c.in-Ok.ensures.within c.in-Ok-answer.due.status c.in-Ok-answer.due.history c.as_slice-in-Ok-answer.result.now _ _
     (λ e lt. c.in-Ok.ensures.ended lt)
-    (due_along run_words (texts c.args.words.now) c.as_slice.result.now c.in-Ok.bytes.items c.in-Ok-answer.due.text c.as_slice-in-Ok-answer.result.now c.in-Ok-answer.due.status c.in-Ok-answer.due.history is c.as_slice.ensures.value c.as_slice-in-Ok-answer.ensures c.in-Ok-answer.ensures)
+    (due_along (words_of c.in-Some.command) (texts c.args.words.now) c.as_slice.result.now c.in-Ok.bytes.items c.in-Ok-answer.due.text c.as_slice-in-Ok-answer.result.now c.in-Ok-answer.due.status c.in-Ok-answer.due.history is c.as_slice.ensures.value c.as_slice-in-Ok-answer.ensures c.in-Ok-answer.ensures)
     c.deliver-in-Ok-answer.ensures.delivered
 
 pub returns-clause-ran : goal.returns-clause-ran
 returns-clause-ran g c =
-    let on : is_run_words c.args.words.now ≡ true = cc in
-    unread_for_memory _ _ _ _ _ (texts c.args.words.now) (run_yes c.args.words.now on) (c.in-Ok.bytes.items, c.in-Ok.ensures.within, c.in-Ok.ensures.gives)
+    let on : command_in c.args.words.now ≡ Some c.in-Some.command = sym c.command_in.ensures ∙ c.in-Some.is in
+    unread_for_memory _ _ _ _ _ (texts c.args.words.now) (command_is c.args.words.now c.in-Some.command on) (c.in-Ok.bytes.items, c.in-Ok.ensures.within, c.in-Ok.ensures.gives)

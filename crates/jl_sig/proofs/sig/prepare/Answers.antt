@@ -9,8 +9,8 @@ use Rattle.jl_model.specs.SigRefusals.{types_in, ManyRows}
 use Rattle.jl_sig.specs.Parts.{all_given}
 use Rattle.jl_sig.specs.Built.{listed}
 use Rattle.jl_sig.specs.Forms.{IsSmallForm, HasTooLarge, AreFormed, HasTooLargeGiven, AreKnown}
-use Rattle.jl_sig.specs.Prepared.{IsBuildable, AreAllRows}
-use Rattle.jl_sig.proofs.LimitLemmas.{large_bound, large_argument}
+use Rattle.jl_sig.specs.Prepared.{IsExpandable, AreAllRows}
+use Rattle.jl_sig.proofs.LimitLemmas.{closed_bounds, large_bound, large_argument}
 use Rattle.jl_sig.proofs.SigLemmas.{few_nodes, not_wide_here, buildable, no_limit, arguments_known}
 use Rattle.jl_sig.proofs.sig.prepare.Goals as goal
 
@@ -24,7 +24,7 @@ returns-in_err-bounds-clause-limit c = λ e.
     let w : c.normal_bounds.result ≡ Err TypeLimit = c.in_err-bounds.was ∙ ap (λ z. Err z) (sym p.2 ∙ g) in
     let x = few_nodes s c.as_slice.result.now c.have_many_nodes.result (c.as_slice.ensures.value ∙ c.in_ok-types.ensures) c.have_many_nodes.ensures c.if-have_many_nodes.false in
     let y = not_wide_here s c.as_slice-else-have_many_nodes.result.now c.have_wide.result (c.as_slice-else-have_many_nodes.ensures.value ∙ c.in_ok-types.ensures) c.have_wide.ensures c.if-have_wide.false in
-    inr (inr (inl (large_bound ds c.valid.ensures s c.requires.placed x y (subst (λ z. HasTooLarge ds (bound_types z)) c.as_slice-2.ensures (c.normal_bounds.ensures.limit w)))))
+    inr (inr (inl (large_bound ds c.valid.ensures s (closed_bounds s c.requires.placed) x y (subst (λ z. HasTooLarge ds (bound_types z)) c.as_slice-2.ensures (c.normal_bounds.ensures.limit w)))))
 
 pub normal_arguments-requires : goal.normal_arguments-requires
 normal_arguments-requires c =
@@ -46,8 +46,8 @@ returns-in_err-arguments-2-clause-limit c = λ e.
     let q = ap all_given c.as_slice-4.ensures.value ∙ c.in_ok-arguments.ensures ∙ ap (flat_map given_in) (c.as_slice-3.ensures.value ∙ c.in_ok-types.ensures) in
     inr (inr (inl (large_argument ds c.valid.ensures s x y (subst (HasTooLargeGiven ds) q (c.normal_arguments.ensures.limit w)))))
 
-pub all_rows-requires-clause-buildable : goal.all_rows-requires-clause-buildable
-all_rows-requires-clause-buildable c =
+pub all_rows-requires-clause-expandable : goal.all_rows-requires-clause-expandable
+all_rows-requires-clause-expandable c =
     let ds = c.args.table.now in
     let s = c.args.written.now in
     let x = few_nodes s c.as_slice.result.now c.have_many_nodes.result (c.as_slice.ensures.value ∙ c.in_ok-types.ensures) c.have_many_nodes.ensures c.if-have_many_nodes.false in
@@ -55,7 +55,7 @@ all_rows-requires-clause-buildable c =
     let q = ap all_given c.as_slice-4.ensures.value ∙ c.in_ok-arguments.ensures ∙ ap (flat_map given_in) (c.as_slice-3.ensures.value ∙ c.in_ok-types.ensures) in
     let b = subst (λ z. Both (IsSmallForm ds) (bound_types z) (bound_types c.in_ok-bounds.bounds)) c.as_slice-2.ensures c.in_ok-bounds.ensures.forms in
     let a = subst (λ z. AreFormed ds z (all_given c.in_ok-arguments-2.arguments.items)) q c.in_ok-arguments-2.ensures.forms in
-    subst (IsBuildable ds s) (sym c.as_slice-6.ensures) (buildable ds c.valid.ensures s c.requires x y c.in_ok-bounds.bounds (all_given c.in_ok-arguments-2.arguments.items) b a)
+    subst (IsExpandable ds s) (sym c.as_slice-6.ensures) (buildable ds c.valid.ensures s c.requires x y c.in_ok-bounds.bounds (all_given c.in_ok-arguments-2.arguments.items) b a).rows
 
 pub sig_of-requires-clause-buildable : goal.sig_of-requires-clause-buildable
 sig_of-requires-clause-buildable c =

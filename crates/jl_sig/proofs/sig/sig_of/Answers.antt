@@ -14,7 +14,7 @@ use Rattle.jl_sig.proofs.KeptLemmas.{diagonals_are}
 use Rattle.jl_sig.proofs.sig.sig_of.Goals as goal
 
 pub keep_rows-requires : goal.keep_rows-requires
-keep_rows-requires c = rows_fit c.args.table.now c.args.written.now (map listed c.args.rows.now) c.requires.rows c.requires.buildable.fit c.requires.buildable.parts
+keep_rows-requires c = rows_fit c.args.table.now c.args.written.now (map listed c.args.rows.now) c.requires.rows c.requires.buildable.rows.fit c.requires.buildable.parts
 
 pub returns-clause-kept : goal.returns-clause-kept
 returns-clause-kept c =
@@ -26,7 +26,7 @@ returns-clause-kept c =
     record {
       placed = subst (IsWellPlaced ds) n c.requires.placed;
       small = subst (λ z. TypeLimit ds z → ⊥) n c.requires.small;
-      bounds = subst (λ (z : Written). Both (IsSmallForm ds) (bound_types z.vars) (bound_types c.args.bounds)) n c.requires.buildable.forms;
+      bounds = subst (λ (z : Written). Both (IsSmallForm ds) (bound_types z.vars) (bound_types c.args.bounds)) n c.requires.buildable.rows.forms;
       parts = c.in_ok-parts.ensures ∙ ap (λ (z : Written). z.parts) n;
       kept = subst (λ z. IsKeptSignature ds z k) n c.in_ok-kept.ensures;
       rows = subst (λ z. HasKeptRows ds z c.in_ok-rows.rows.items) n (map listed c.args.rows.now, c.requires.rows, c.in_ok-rows.ensures);

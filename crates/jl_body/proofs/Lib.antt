@@ -1,0 +1,3 @@
+pub mod StaticLemmas
+pub mod FormLemmas
+pub mod CheckLemmas

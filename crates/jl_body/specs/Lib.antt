@@ -1,0 +1,2 @@
+pub mod TypeRefused
+pub mod NormalForms

@@ -1,0 +1,51 @@
+-- A declaration of which all arguments are written has no variables but its parameters.
+use Rattle.std.proofs.Common.{◌≡◌, ◌∙◌, ℕ, arith, Bool, true, ◌&&◌, nat_eq, nat_lt, List, [], ◌∷◌, ◌++◌, map, length, Option, refl}
+use Rattle.std.specs.List.{list_all}
+use Rattle.jl_model.specs.declared.ty.Ty.{Ty}
+use Rattle.jl_model.specs.declared.ty.Bound.{Bound}
+use Rattle.jl_model.specs.declared.ty.Decl.{Decl}
+use Rattle.jl_model.specs.declared.ty.DeclKind.{DeclKind}
+use Rattle.jl_model.specs.Kept.{field_types}
+use Rattle.jl_model.specs.Refusals.{bound_types, types_of, Declared, HasOwnVariables}
+use Rattle.jl_model.proofs.PutLemmas.{and_l, and_r, both_true}
+use Rattle.jl_grammar.specs.declared.tree.Field.{Field as FieldText}
+use Rattle.jl_grammar.specs.declared.tree.Header.{Header}
+use Rattle.jl_typeread.specs.declared.tree.TypeText.{TypeText}
+use Rattle.jl_written.specs.Reads.{unread}
+use Rattle.jl_written.specs.Signatures.{all_bound, all_read, option_reads}
+use Rattle.jl_type_laws.specs.Carried.{vars_pass}
+use Rattle.jl_type_laws.proofs.CarryLemmas.{all_join, all_flat}
+use Rattle.jl_type_laws.proofs.DeclarationLemmas.{own_parts}
+use Rattle.jl_type_laws.proofs.KnownMore.{declared_known}
+use Rattle.jl_declare.specs.Declaration.{declaration, fields_of}
+
+-- the types of the fields are some of those that are read
+fields_pass : (p : Ty → Bool) (fs : List FieldText) (ts : List Ty) → list_all p ts ≡ true → list_all p (field_types (fields_of fs ts)) ≡ true
+fields_pass p [] ts h = refl
+fields_pass p (f ∷ fs) [] h = refl
+fields_pass p (f ∷ fs) (t ∷ ts) h = both_true (p t) (list_all p (field_types (fields_of fs ts))) (and_l (p t) (list_all p ts) h) (fields_pass p fs ts (and_r (p t) (list_all p ts) h))
+
+eq_of : (m n : ℕ) → nat_eq m n ≡ true → m ≡ n
+eq_of m n h = grind (arith, h)
+
+module _ (ds : List Decl) (declared : Declared ds) (kind : DeclKind) (h : Header) (fields : List FieldText) where
+  abbrev Make : List Bound → Ty → Decl
+  Make bs p = record { name = h.name.bytes; kind = kind; params = bs; parent = p; fields = [] }
+
+  abbrev Texts : List (Option TypeText)
+  Texts = map (λ (f : FieldText). f.ty) fields
+
+  abbrev Tys : List Ty
+  Tys =
+      let s = all_bound ds h.params [] unread in
+      let p = option_reads ds h.parent s.vars s.after in
+      (all_read (ds ++ Make s.after.vars p.ty ∷ []) Texts s.vars p.after).tys
+
+  pub own_variables : (declaration ds kind h fields).whole ≡ true → HasOwnVariables (declaration ds kind h fields).decl
+  own_variables w =
+      let d = (declaration ds kind h fields).decl in
+      let q : ℕ → Bool = λ v. nat_lt v (length d.params) in
+      let p = vars_pass q in
+      let o = own_parts ds (declared_known ds declared) h.params h.parent Make (λ bs t. refl) Texts (eq_of _ _ w) in
+      all_flat q (types_of d)
+      ∙ all_join p (bound_types d.params) (d.parent ∷ field_types d.fields) o.0 (both_true (p d.parent) (list_all p (field_types d.fields)) o.1 (fields_pass p fields Tys o.2))

@@ -1,0 +1,98 @@
+-- One declaration more.
+use Rattle.std.proofs.Common.{◌≡◌, ◌∙◌, ap, sym, refl, subst, ℕ, ◌+◌, zero, suc, add-one, arith, Bool, true, false, not, cond, nat_eq, List, [], ◌∷◌, ◌++◌, map, length, drop, take, slice_get, append_assoc, Some, None}
+use Rattle.std.proofs.lemmas.List.{length-append}
+use Rattle.std.proofs.Math.Seq.{take-length}
+use Rattle.jl_model.specs.declared.ty.Ty.{Ty}
+use Rattle.jl_model.specs.declared.ty.Decl.{Decl}
+use Rattle.jl_model.specs.declared.ty.DeclKind.{DeclKind}
+use Rattle.jl_model.specs.declared.ty.Field.{Field}
+use Rattle.jl_model.specs.Kept.{IsKept}
+use Rattle.jl_model.specs.Refusals.{Declared, HasOwnVariables, IsAllowed, table_with}
+use Rattle.jl_model.proofs.AncestorLemmas.{slice_last}
+use Rattle.jl_calculus.specs.Names.{is_among}
+use Rattle.jl_grammar.specs.declared.tree.Field.{Field as FieldText}
+use Rattle.jl_grammar.specs.declared.tree.Header.{Header}
+use Rattle.jl_written.specs.declared.fault.StaticKind.TheVariants as kind
+use Rattle.jl_written.specs.declared.reading.Reading.{Reading}
+use Rattle.jl_written.specs.Reads.{Types, types}
+use Rattle.jl_written.specs.Signatures.{all_read}
+use Rattle.jl_declare.specs.declared.judged.Judged.{Judged}
+use Rattle.jl_declare.specs.declared.judged.Judged.TheVariants as J
+use Rattle.jl_declare.specs.declared.read.Heading.{Heading}
+use Rattle.jl_declare.specs.declared.read.ReadDecl.{ReadDecl}
+use Rattle.jl_declare.specs.declared.state.Declarations.{Declarations}
+use Rattle.jl_declare.specs.Declaration.{fields_of, heading, declaration}
+use Rattle.jl_declare.specs.Judgement.{IsJudged, decl_names, told, IsAnswer, kept_in, shown, refusal_at}
+use Rattle.jl_declare.specs.Judgement as Q
+use Rattle.jl_declare.specs.Declarations.{declaring_of, with_fault, text_fault, answered, IsJudgement, IsDeclared}
+use Rattle.jl_declare.proofs.Owned.{own_variables}
+
+some_same : {X : Type 0} (x y : X) → Some x ≡ Some y → x ≡ y
+some_same x y e = cc
+
+pub slice_drop : {X : Type 0} (xs : List X) (i : ℕ) (x : X) → slice_get xs i ≡ Some x → drop i xs ≡ x ∷ drop (i + 1) xs
+slice_drop [] i x e = let f : None ≡ Some x = e in cc
+slice_drop (y ∷ ys) zero x e = ap (λ z. z ∷ ys) (some_same y x e)
+slice_drop (y ∷ ys) (suc i) x e = rw add-one (rw add-one at (slice_drop ys i x e))
+
+-- what is read back from the table is what was added to it
+pub kept_is : (ds new : List Decl) (e f : Decl) (k : ℕ) → new ≡ ds ++ e ∷ [] → k ≡ length ds → slice_get new k ≡ Some f → f ≡ e
+kept_is ds new e f k n l s = some_same f e (sym s ∙ ap (λ z. slice_get z k) n ∙ slice_last ds e k l)
+
+pub judged_kept : (ds : List Decl) (d f : Decl) (added : (e : Decl) × IsKept (table_with ds d) d e) → IsAllowed ds d → f ≡ added.0 → IsJudged ds d (J.Kept f)
+judged_kept ds d f added allowed e = subst (λ z. IsJudged ds d (J.Kept z)) (sym e) (Q.kept added.0 allowed added.1)
+
+-- what is told where the table is asked
+asked : (a b c d : Bool) → cond a (Some (J.Refused kind.DuplicateType)) (cond b (Some J.Unjudged) (cond (not c) (Some (J.Refused kind.WrongParameterCount)) (cond d None (Some J.Unjudged)))) ≡ None → (c ≡ true) × (d ≡ true)
+asked true b c d e = let f : Some (J.Refused kind.DuplicateType) ≡ None = e in cc
+asked false true c d e = let f : Some J.Unjudged ≡ None = e in cc
+asked false false true true e = (refl, refl)
+asked false false true false e = let f : Some J.Unjudged ≡ None = e in cc
+asked false false false d e = let f : Some (J.Refused kind.WrongParameterCount) ≡ None = e in cc
+
+pub told_none : (ds : List Decl) (b : Bool) (r : ReadDecl) → told ds b r ≡ None → (r.whole ≡ true) × (b ≡ true)
+told_none ds b r e = asked (is_among r.decl.name (decl_names ds)) r.reading.unclear r.whole b e
+
+same_length : (m n : ℕ) → nat_eq m n ≡ true → m ≡ n
+same_length m n h = grind (arith, h)
+
+-- the table has all of them, where they are as many
+pub whole_table : (table ds : List Decl) → table ≡ take (length table) ds → nat_eq (length table) (length ds) ≡ true → table ≡ ds
+whole_table table ds e h = e ∙ ap (λ n. take n ds) (same_length (length table) (length ds) h) ∙ take-length ds
+
+-- a declaration that is read behind valid ones
+pub own_read : (ds es : List Decl) (k : DeclKind) (h : Header) (fields : List FieldText) (r : ReadDecl) → r ≡ declaration ds k h fields → es ≡ ds → Declared es → r.whole ≡ true → HasOwnVariables r.decl
+own_read ds es k h fields r e i declared w =
+    subst (λ (z : ReadDecl). HasOwnVariables z.decl) (sym e) (own_variables ds (subst Declared i declared) k h fields (sym (ap (λ (z : ReadDecl). z.whole) e) ∙ w))
+
+-- what is known behind the fields, and the declaration with them
+abbrev ended : Header → List FieldText → Decl → Types → ReadDecl
+ended h fields own ts = record { decl = record own { fields = fields_of fields ts.tys }; reading = ts.after; whole = nat_eq (length ts.after.vars) (length h.params) }
+
+abbrev fields_read : List Decl → List FieldText → Heading → Types
+fields_read ds fields x = all_read (ds ++ x.own ∷ []) (map (λ (f : FieldText). f.ty) fields) x.vars x.reading
+
+pub read_is : (ds : List Decl) (k : DeclKind) (h : Header) (fields : List FieldText) (x : Heading) (own d : Decl) (tys slice : List Ty) (fs : List Field) (r : Reading) (m n : ℕ)
+    → x ≡ heading ds k h → types tys r ≡ fields_read ds fields x → own ≡ x.own → slice ≡ tys → fs ≡ fields_of fields slice → d ≡ record own { fields = fs } → m ≡ length r.vars → n ≡ length h.params
+    → (let y : ReadDecl = record { decl = d; reading = r; whole = nat_eq m n } in y) ≡ declaration ds k h fields
+read_is ds k h fields x own d tys slice fs r m n e t o s f i a b =
+    let base : (let y : ReadDecl = record { decl = d; reading = r; whole = nat_eq m n } in y) ≡ ended h fields x.own (types tys r) =
+    λ j. record { decl = (i ∙ (λ l. record (o l) { fields = ((f ∙ ap (fields_of fields) s) l) })) j; reading = r; whole = nat_eq (a j) (b j) } in
+    base ∙ ap (ended h fields x.own) t ∙ ap (λ (z : Heading). ended h fields z.own (fields_read ds fields z)) e
+
+pub declared_is : (k : DeclKind) (h : Header) (fields : List FieldText) (old new : Declarations) (r : ReadDecl) (j : Judged)
+    → r ≡ declaration old.decls k h fields
+    → IsAnswer old.decls r.decl (told old.decls (nat_eq (length old.table) (length old.decls)) r) j
+    → new.table ≡ old.table ++ kept_in j
+    → new.decls ≡ old.decls ++ shown j r.decl ∷ []
+    → new.fault ≡ with_fault (text_fault h.name r old.fault) (refusal_at h.name.at j)
+    → IsDeclared k h fields (declaring_of old) (declaring_of new)
+declared_is k h fields old new r j e a t d f =
+    let l : length new.table ≡ length old.table + length (kept_in j) = ap (λ (z : List Decl). length z) t ∙ length-append old.table (kept_in j) in
+    subst (λ (z : ReadDecl). (i : Judged) × IsJudgement (declaring_of old) z i × (declaring_of new ≡ answered h.name.at i z.decl old.decls (length old.table) (text_fault h.name z old.fault))) e
+    (j, a, λ i. record { decls = d i; allowed = l i; fault = f i })
+
+-- the next one of a list is pushed behind those before it
+pub pushed_next : (all out new : List Decl) (x y : Decl) (i : ℕ) → new ≡ out ++ y ∷ [] → y ≡ x → slice_get all i ≡ Some x → out ++ drop i all ≡ all → new ++ drop (i + 1) all ≡ all
+pushed_next all out new x y i n e s h =
+    ap (λ z. z ++ drop (i + 1) all) (n ∙ ap (λ (z : Decl). out ++ z ∷ []) e) ∙ append_assoc out (x ∷ []) (drop (i + 1) all) ∙ ap (λ z. out ++ z) (sym (slice_drop all i x s)) ∙ h

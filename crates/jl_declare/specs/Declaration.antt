@@ -1,0 +1,33 @@
+-- A declaration as it is read (Julia manual, Types: Abstract Types, Composite Types, Parametric Types).
+use Rattle.std.specs.Prelude.{nat_eq, List, [], ◌∷◌, ◌++◌, map, length}
+use Rattle.jl_model.specs.declared.ty.Ty.{Ty}
+use Rattle.jl_model.specs.declared.ty.Decl.{Decl}
+use Rattle.jl_model.specs.declared.ty.DeclKind.{DeclKind}
+use Rattle.jl_model.specs.declared.ty.Field.{Field}
+use Rattle.jl_grammar.specs.declared.tree.Field.{Field as FieldText}
+use Rattle.jl_grammar.specs.declared.tree.Header.{Header}
+use Rattle.jl_written.specs.Reads.{unread}
+use Rattle.jl_written.specs.Signatures.{all_read, all_bound, option_reads}
+use Rattle.jl_declare.specs.declared.read.Heading.{Heading}
+use Rattle.jl_declare.specs.declared.read.ReadDecl.{ReadDecl}
+
+-- the names of the fields with their types
+abbrev pub fields_of : List FieldText → List Ty → List Field
+fields_of [] ts = []
+fields_of (f ∷ fs) [] = []
+fields_of (f ∷ fs) (t ∷ ts) = record { name = f.name.bytes; ty = t } ∷ fields_of fs ts
+
+-- up to its fields: its parameters are visible from their own place on, and it sees the declarations before it
+abbrev pub heading : List Decl → DeclKind → Header → Heading
+heading ds k h =
+    let s = all_bound ds h.params [] unread in
+    let p = option_reads ds h.parent s.vars s.after in
+    record { vars = s.vars; own = record { name = h.name.bytes; kind = k; params = s.after.vars; parent = p.ty; fields = [] }; reading = p.after }
+
+-- In its fields it sees itself too. Each variable that is none of its parameters comes from an argument that is not written,
+-- from a bound in braces or from a `where`.
+abbrev pub declaration : List Decl → DeclKind → Header → List FieldText → ReadDecl
+declaration ds k h fields =
+    let x = heading ds k h in
+    let ts = all_read (ds ++ x.own ∷ []) (map (λ (f : FieldText). f.ty) fields) x.vars x.reading in
+    record { decl = record x.own { fields = fields_of fields ts.tys }; reading = ts.after; whole = nat_eq (length ts.after.vars) (length h.params) }

@@ -1,0 +1,4 @@
+pub mod Declaration
+pub mod Judgement
+pub mod Declarations
+pub mod Script

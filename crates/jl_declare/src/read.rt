@@ -1,0 +1,185 @@
+//! Declarations as they are read.
+
+ghost use Rattle.std.specs.Prelude.{◌≡◌, ◌++◌, ◌∷◌, [], map, drop, IfOk, OnOk};
+ghost use Rattle.jl_grammar.specs.declared.tree.Field.{Field as FieldOf};
+ghost use Rattle.jl_written.specs.Reads.{typed, types};
+ghost use Rattle.jl_written.specs.Signatures.{option_reads, all_read};
+ghost use Rattle.jl_declare.specs.Declaration.{fields_of, heading, declaration};
+
+use crate::copies::{copy_bounds, copy_decl};
+use jl_grammar::tree::{Field as FieldText, Header};
+use jl_model::rows::Row;
+use jl_model::shared::SharedList;
+use jl_model::ty::{Decl, DeclKind, Field, Fields, Ty};
+use jl_typeread::tree::TypeText;
+use jl_written::reading::{Reading, TypeVar};
+use jl_written::reads::{bind_all, read_type};
+use jl_written::signatures::unread;
+use std::alloc::{AllocError, Global};
+
+/// A declaration up to its fields: its visible parameters, what it is so far, and what is known behind it.
+#[derive(Drop)]
+pub struct Heading {
+    pub vars: Row<TypeVar>,
+    pub own: Decl,
+    pub reading: Reading,
+}
+
+/// A declaration as it is read, and what is known behind it.
+#[derive(Drop)]
+pub struct ReadDecl {
+    pub decl: Decl,
+    pub reading: Reading,
+    /// Whether all arguments in it are written, so that its parameters are its only variables.
+    pub whole: bool,
+}
+
+/// A type that may be left out.
+fn option_read(
+    alloc: Global,
+    decls: &[Decl],
+    vars: &mut Row<TypeVar>,
+    reading: &mut Reading,
+    text: &Option<TypeText>,
+) -> Result<Ty, AllocError>
+    ensures means { IfOk result (λ t. typed t reading.new ≡ option_reads decls.now text.now vars.old reading.old) }
+    ensures kept { OnOk result (vars.new ≡ vars.old) }
+{
+    match text {
+        None => Ok(Ty::Any),
+        Some(text) => read_type(alloc, decls, vars, reading, text, false),
+    }
+}
+
+/// A declaration up to its fields, behind others.
+fn read_heading(
+    alloc: Global,
+    decls: &[Decl],
+    kind: DeclKind,
+    header: &Header,
+) -> Result<Heading, AllocError>
+    ensures { IfOk result (λ h. h ≡ heading decls.now kind header.now) }
+{
+    let mut vars = Row::new(alloc);
+    let mut reading = unread(alloc);
+    let texts = header.params.as_slice();
+    bind_all(alloc, decls, &mut vars, &mut reading, texts, false)?;
+    let params = copy_bounds(alloc, reading.vars.as_slice())?;
+    let parent = option_read(alloc, decls, &mut vars, &mut reading, &header.parent)?;
+    let own = Decl {
+        name: header.name.bytes.copy()?,
+        kind,
+        params,
+        parent,
+        fields: Fields::empty(),
+    };
+    Ok(Heading { vars, own, reading })
+}
+
+/// The types of fields.
+fn types_read(
+    alloc: Global,
+    decls: &[Decl],
+    vars: &mut Row<TypeVar>,
+    reading: &mut Reading,
+    fields: &[FieldText],
+) -> Result<Row<Ty>, AllocError>
+    ensures means { IfOk result (λ ts. types ts reading.new ≡ all_read decls.now (map (λ (f : FieldOf). f.ty) fields.now) vars.old reading.old) }
+    ensures kept { OnOk result (vars.new ≡ vars.old) }
+{
+    let mut tys = Row::new(alloc);
+    for field in fields {
+        let ty = option_read(alloc, decls, vars, reading, &field.ty)?;
+        tys.push(ty)?;
+    }
+    Ok(tys)
+}
+
+/// All but the first.
+fn behind_first(tys: &[Ty]) -> &[Ty]
+    ensures { result.now ≡ drop 1 tys.now }
+{
+    match tys {
+        [] => tys,
+        [_, rest @ ..] => rest,
+    }
+}
+
+/// The fields, each with its type.
+fn fields_of(alloc: Global, fields: &[FieldText], tys: &[Ty]) -> Result<Fields, AllocError>
+    ensures { IfOk result (λ fs. fs ≡ fields_of fields.now tys.now) }
+{
+    let mut out = Vec::new(alloc);
+    let mut left = tys;
+    for field in fields {
+        match left {
+            [] => return SharedList::from_vec(alloc, out),
+            [ty, ..] => out.push(Field {
+                name: field.name.bytes.copy()?,
+                ty: ty.copy()?,
+            })?,
+        }
+        left = behind_first(left);
+    }
+    SharedList::from_vec(alloc, out)
+}
+
+/// The types of the fields of a declaration, which sees itself.
+fn own_types(
+    alloc: Global,
+    decls: &mut Row<Decl>,
+    heading: &mut Heading,
+    fields: &[FieldText],
+) -> Result<Row<Ty>, AllocError>
+    ensures means { IfOk result (λ ts. types ts heading.new.reading ≡ all_read (decls.old ++ heading.old.own ∷ []) (map (λ (f : FieldOf). f.ty) fields.now) heading.old.vars heading.old.reading) }
+    ensures own { OnOk result (heading.new.own ≡ heading.old.own) }
+    ensures kept { OnOk result (decls.new ≡ decls.old) }
+{
+    let count = decls.len();
+    decls.push(copy_decl(&heading.own)?)?;
+    let tys = types_read(
+        alloc,
+        decls.as_slice(),
+        &mut heading.vars,
+        &mut heading.reading,
+        fields,
+    )?;
+    decls.truncate(count);
+    Ok(tys)
+}
+
+/// A declaration with these fields.
+fn with_fields(decl: Decl, fields: Fields) -> Decl
+    ensures { result ≡ record decl { fields = fields } }
+{
+    Decl {
+        name: decl.name,
+        kind: decl.kind,
+        params: decl.params,
+        parent: decl.parent,
+        fields,
+    }
+}
+
+/// Reads a declaration behind others.
+pub fn read(
+    alloc: Global,
+    decls: &mut Row<Decl>,
+    kind: DeclKind,
+    header: &Header,
+    fields: &[FieldText],
+) -> Result<ReadDecl, AllocError>
+    ensures means { IfOk result (λ r. r ≡ declaration decls.old kind header.now fields.now) }
+    ensures kept { OnOk result (decls.new ≡ decls.old) }
+{
+    let mut heading = read_heading(alloc, decls.as_slice(), kind, header)?;
+    let tys = own_types(alloc, decls, &mut heading, fields)?;
+    let fields = fields_of(alloc, fields, tys.as_slice())?;
+    let Heading { vars, own, reading } = heading;
+    drop(vars);
+    Ok(ReadDecl {
+        whole: reading.vars.len() == header.params.len(),
+        decl: with_fields(own, fields),
+        reading,
+    })
+}

@@ -1,0 +1,15 @@
+//! The declarations of a script that are read so far.
+
+use jl_model::rows::Row;
+use jl_model::ty::Decl;
+use jl_types::Table;
+use jl_written::fault::Fault;
+
+/// The declarations of a script, the built-in ones first: the table of those from the first on that are allowed; all of
+/// them, as they are kept where they are allowed, and else as they are read; and the first fault.
+#[derive(Drop)]
+pub struct Declarations {
+    pub table: Table,
+    pub decls: Row<Decl>,
+    pub fault: Option<Fault>,
+}

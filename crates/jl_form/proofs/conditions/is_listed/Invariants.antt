@@ -1,6 +1,0 @@
-use Rattle.std.proofs.Common.{◌≡◌, drop}
-use Rattle.jl_calculus.specs.Names.{is_among}
-use Rattle.jl_form.proofs.conditions.is_listed.Given as goal
-
-abbrev pub invariant-loop-known : goal.invariant-loop-known
-invariant-loop-known l = is_among l.name (drop l.known-index l.names) ≡ is_among l.name l.names

@@ -1,6 +1,0 @@
-use Rattle.std.proofs.Common.{◌≡◌, drop, map}
-use Rattle.jl_calculus.specs.Names.{is_among}
-use Rattle.jl_form.proofs.words.is_one_of.Given as goal
-
-abbrev pub invariant-loop-known : goal.invariant-loop-known
-invariant-loop-known l = is_among l.word (map (λ w. w.now) (drop l.known-index l.words)) ≡ is_among l.word (map (λ w. w.now) l.words)

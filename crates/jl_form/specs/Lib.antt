@@ -1,6 +1,0 @@
-pub mod Grammar
-pub mod Words
-pub mod Form
-pub mod Reading
-pub mod Program
-pub mod Builtin

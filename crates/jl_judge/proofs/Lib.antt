@@ -1,0 +1,6 @@
+pub mod TellLemmas
+pub mod KnownLemmas
+pub mod AnswerLemmas
+pub mod TestLemmas
+pub mod JudgedLemmas
+pub mod OneLemmas

@@ -1,0 +1,9 @@
+pub mod Tell
+pub mod Answers
+pub mod Right
+pub mod Judged
+pub mod Named
+pub mod Decision
+pub mod BelowDecided
+pub mod SigDecided
+pub mod Tests

@@ -1,0 +1,14 @@
+//! The tests that the resolver asks of a table of valid declarations: the order of types, and what refuses a signature, a type
+//! in a body and the fields of a struct (Julia manual, Types and Methods).
+#![tactic(auto)]
+
+mod judge;
+mod known;
+pub mod laws;
+mod order;
+mod refusals;
+
+pub use judge::{TableJudge, over, right};
+
+#[cfg(test)]
+mod tests;

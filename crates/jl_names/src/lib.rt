@@ -1,0 +1,9 @@
+//! Tables of names: what stands first under a name is found without a walk over all names.
+#![tactic(auto)]
+
+pub mod list;
+pub mod marked;
+pub mod slots;
+pub mod table;
+#[cfg(test)]
+mod tests;

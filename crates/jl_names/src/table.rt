@@ -1,0 +1,71 @@
+//! Names with numbers, each name once.
+
+ghost use Rattle.std.specs.Prelude.{◌≡◌, [], ◌+◌, take, length, OnOk, OnErr};
+ghost use Rattle.jl_names.specs.Numbers.{number_in, with_number};
+
+use indexmap::IndexMap;
+use std::alloc::{AllocError, Global};
+use std::marker::Model;
+
+/// Names with a number each, in the order in which they came. Contracts see the list of these pairs.
+#[derive(Drop)]
+pub struct NameMap {
+    alloc: Global,
+    numbers: IndexMap<Vec<u8>, u32>,
+}
+
+impl Model for NameMap {
+    ghost use Rattle.jl_names.specs.Numbers.{Numbered};
+    ghost use Rattle.std.specs.Prelude.{List, map};
+    ghost use Rattle.std.specs.Coded.{coded_list, coded×, coded_ℕ};
+
+    ghost Value = { List Numbered };
+
+    ghost coded = { coded_list (coded× (coded_list coded_ℕ) coded_ℕ) };
+
+    ghost view = { λ t. map (λ e. (e.0.items, e.1)) t.numbers.entries };
+}
+
+impl NameMap {
+    pub fn new(alloc: Global) -> NameMap
+        ensures { result ≡ [] }
+    {
+        NameMap {
+            alloc,
+            numbers: IndexMap::new(alloc),
+        }
+    }
+
+    /// The number of a name.
+    pub fn find(&self, name: &[u8]) -> Option<u32>
+        ensures { result ≡ number_in self.now name.now }
+    {
+        self.numbers.get(name).copied()
+    }
+
+    /// One more name with its number; a name that has one keeps it.
+    pub fn add(&mut self, name: &[u8], number: u32) -> Result<(), AllocError>
+        ensures added { OnOk result (self.new ≡ with_number self.old (name.now, number)) }
+        ensures refused { OnErr result (self.new ≡ self.old) }
+    {
+        if self.find(name).is_some() {
+            return Ok(());
+        }
+        let key = Vec::from_slice(self.alloc, name)?;
+        self.numbers.insert(key, number)?;
+        Ok(())
+    }
+
+    /// Only so many of the names, from the first on.
+    pub fn truncate(&mut self, most: usize)
+        ensures { self.new ≡ take most self.old }
+    {
+        self.numbers.truncate(most);
+    }
+
+    pub fn len(&self) -> usize
+        ensures { result ≡ length self.now }
+    {
+        self.numbers.len()
+    }
+}

@@ -1,0 +1,67 @@
+//! The tables, each on its happy path.
+
+use crate::list::NameList;
+use crate::marked::MarkedNames;
+use crate::slots::Slots;
+use jl_grammar::tree::Name;
+use jl_model::shared::SharedList;
+use jl_model::ty::Bytes;
+use std::alloc::{AllocError, Global};
+use std::test::Fail;
+
+fn text(alloc: Global, bytes: &[u8]) -> Result<Bytes, AllocError> {
+    SharedList::from_vec(alloc, bytes.to_vec(alloc)?)
+}
+
+#[test]
+fn the_first_of_several_is_found(rt: HostRuntime) -> Result<(), Fail> {
+    let alloc = rt.alloc();
+    let mut names = NameList::new(alloc);
+    names.push(text(alloc, b"f")?)?;
+    names.push(text(alloc, b"g")?)?;
+    names.push(text(alloc, b"f")?)?;
+    assert!(rt; names.find(b"f") == Some(0) && names.find(b"g") == Some(1));
+    assert!(rt; names.find(b"h") == None && names.len() == 3);
+    assert!(rt; names.shared(alloc)?.as_slice() == names.as_slice());
+    Ok(())
+}
+
+#[test]
+fn a_marked_name_is_found_where_it_stands_first(rt: HostRuntime) -> Result<(), Fail> {
+    let alloc = rt.alloc();
+    let mut names = MarkedNames::new(alloc);
+    names.push(Name {
+        at: 7,
+        bytes: text(alloc, b"f")?,
+    })?;
+    names.push(Name {
+        at: 9,
+        bytes: text(alloc, b"f")?,
+    })?;
+    assert!(rt; names.find(b"f") == Some(7) && names.find(b"g") == None);
+    assert!(rt; names.as_slice().len() == 2);
+    Ok(())
+}
+
+#[test]
+fn slots_end_with_their_block(rt: HostRuntime) -> Result<(), Fail> {
+    let alloc = rt.alloc();
+    let mut slots = Slots::new(alloc);
+    visible(&mut slots, text(alloc, b"a")?)?;
+    slots.push_unnamed()?;
+    visible(&mut slots, text(alloc, b"b")?)?;
+    assert!(rt; slots.find(b"a") == Some(0) && slots.find(b"b") == Some(2));
+    slots.truncate(2);
+    assert!(rt; slots.find(b"a") == Some(0) && slots.find(b"b") == None && slots.len() == 2);
+    visible(&mut slots, text(alloc, b"b")?)?;
+    assert!(rt; slots.find(b"b") == Some(2));
+    Ok(())
+}
+
+/// The name's variable gets a slot, where it has none.
+fn visible(slots: &mut Slots, name: Bytes) -> Result<(), AllocError> {
+    match slots.find(name.as_slice()) {
+        Some(_) => Ok(()),
+        None => slots.push(name),
+    }
+}

@@ -1,0 +1,74 @@
+//! The program of a script.
+
+ghost use Rattle.std.specs.Prelude.{◌≡◌, MatchResult, IfOk, None};
+ghost use Rattle.jl_calculus.specs.Valid.{IsValid};
+ghost use Rattle.jl_formed.specs.Formed.{FormedScript};
+ghost use Rattle.jl_judge.specs.Right.{IsRight};
+ghost use Rattle.jl_resolve_forms.specs.TypesIn.{Tests};
+ghost use Rattle.jl_resolve_forms.specs.Top.{resolved};
+ghost use Rattle.jl_resolve_walk.specs.Steps.{resolved_as};
+ghost use Rattle.jl_resolve.specs.Program.{ComesTo, IsProgramOf, IsRefused};
+
+use crate::fault::StaticFault;
+use jl_declare::declarations::declarations;
+use jl_declare::known::known;
+use jl_declare::state::Declarations;
+use jl_grammar::tree::{Item, Script};
+use jl_judge::{over, right};
+use jl_resolve_forms::known::Known;
+use jl_resolve_walk::program::Resolved;
+use jl_resolve_walk::top::resolved;
+use jl_sig::Ready;
+use jl_types::Table;
+use jl_written::fault::Fault;
+use std::alloc::{AllocError, Global};
+
+/// What the items come to over the table of their declarations.
+fn resolved_over(
+    alloc: Global,
+    table: &Table,
+    known: &Known,
+    items: &[Item],
+    fault: Option<Fault>,
+) -> Result<Resolved, AllocError>
+    ensures { IfOk result (λ r. (t : Tests) × IsRight table.now t × (resolved_as r.program r.fault ≡ resolved t known.now items.now fault)) }
+{
+    let judge = over(table);
+    right(&judge);
+    let resolved = resolved(alloc, &judge, known, items, fault)?;
+    Ok(resolved)
+}
+
+/// What a script comes to: a valid program where it has no static fault.
+fn come_to(alloc: Global, script: &Script) -> Result<Resolved, AllocError>
+    requires { FormedScript script.now }
+    ensures comes { IfOk result (λ r. ComesTo script.now r.program r.fault) }
+    ensures valid { IfOk result (λ r. r.fault ≡ None → IsValid r.program) }
+{
+    let items = script.items.as_slice();
+    let Declarations {
+        table,
+        decls,
+        fault,
+    } = declarations(alloc, items)?;
+    let known = known(alloc, items, decls)?;
+    let resolved = resolved_over(alloc, &table, &known, items, fault);
+    drop(known);
+    table.valid();
+    drop(table);
+    let resolved = resolved?;
+    Ok(resolved)
+}
+
+/// The program that a script means, ready to be run; or the first of its static faults: the one at the least offset, of
+/// several there the one with the least number in the table of static faults. The script must be one that the reader gives.
+pub fn program(alloc: Global, script: &Script) -> Result<Ready, StaticFault>
+    requires { FormedScript script.now }
+    ensures { MatchResult result (λ ready. IsProgramOf script.now ready) (λ fault. IsRefused fault script.now) }
+{
+    let Resolved { program, fault } = come_to(alloc, script)?;
+    match fault {
+        None => Ok(Ready::make(alloc, program)?),
+        Some(Fault { at, kind }) => Err(StaticFault::At { kind, at }),
+    }
+}

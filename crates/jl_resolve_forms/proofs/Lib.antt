@@ -1,0 +1,4 @@
+pub mod ArmLemmas
+pub mod BlockLemmas
+pub mod TableLemmas
+pub mod TypeSteps

@@ -1,0 +1,87 @@
+-- What a called name is (Julia manual, Functions; Constructors).
+use Rattle.std.specs.Prelude.{ℕ, Bool, false, ◌&&◌, cond, nat_le, nat_eq, List, map, length, Option, Some, None, slice_get}
+use Rattle.std.specs.List.{list_all}
+use Rattle.jl_model.specs.declared.ty.Decl.{Decl}
+use Rattle.jl_model.specs.declared.ty.Written.{Written}
+use Rattle.jl_model.specs.AllRows.{each_var}
+use Rattle.jl_model.specs.Ancestors.{is_struct_kind}
+use Rattle.jl_model.specs.Kept.{field_types}
+use Rattle.jl_model.specs.Usable.{is_usable}
+use Rattle.jl_model.specs.Valid.{params_of}
+use Rattle.jl_calculus.specs.Prelude.{prelude_functions}
+use Rattle.jl_token.specs.declared.token.Operator.{Operator}
+use Rattle.jl_token.specs.declared.token.Operator.TheVariants as O
+use Rattle.jl_grammar.specs.declared.tree.Callee.{Callee}
+use Rattle.jl_grammar.specs.declared.tree.Callee.TheVariants as C
+use Rattle.jl_written.specs.Meaning.{place_of}
+use Rattle.jl_resolve_forms.specs.declared.known.Known.{Known}
+use Rattle.jl_resolve_forms.specs.declared.known.Called.{Called}
+use Rattle.jl_resolve_forms.specs.declared.known.Called.TheVariants as D
+use Rattle.jl_resolve_forms.specs.declared.state.Scope.{Scope}
+use Rattle.jl_resolve_forms.specs.Scopes.{slot_of}
+
+-- the prelude's function of an operator; `÷` is `div` and `%` is `rem`
+abbrev pub function_of_operator : Operator → Option ℕ
+function_of_operator O.Plus = Some 0
+function_of_operator O.Minus = Some 1
+function_of_operator O.Times = Some 2
+function_of_operator O.Divide = Some 3
+function_of_operator O.Remainder = Some 4
+function_of_operator O.Equal = Some 5
+function_of_operator O.NotEqual = Some 6
+function_of_operator O.Less = Some 7
+function_of_operator O.LessEqual = Some 8
+function_of_operator O.Greater = Some 9
+function_of_operator O.GreaterEqual = Some 10
+function_of_operator O.Not = Some 11
+function_of_operator _ = None
+
+-- where the name of a function stands; of an operator, where its `Base` does
+abbrev pub place_of_callee : Callee → ℕ
+place_of_callee (C.Plain n) = n.at
+place_of_callee (C.Base at n) = n.at
+place_of_callee (C.Operator at o) = at
+
+-- a visible variable is no function
+abbrev pub unless_slot : Option ℕ → Option ℕ → Option ℕ
+unless_slot None o = o
+unless_slot (Some _) o = None
+
+-- the function of a name: one of the script or of the prelude, behind `Base` one of the prelude
+unfoldable pub function_of : Known → Callee → Scope → Option ℕ
+function_of k (C.Plain n) c = unless_slot (slot_of c.slots n.bytes) (place_of k.functions n.bytes)
+function_of k (C.Base at n) c = place_of prelude_functions n.bytes
+function_of k (C.Operator at o) c = function_of_operator o
+
+-- the declared struct of a name: a built-in type has no constructor
+abbrev pub if_struct : List Decl → Option ℕ → Option ℕ
+if_struct ds None = None
+if_struct ds (Some p) = cond (nat_le 8 p && is_struct_kind (slice_get ds p)) (Some p) None
+
+unfoldable pub struct_named : Known → List ℕ → Scope → Option ℕ
+struct_named k name c = unless_slot (slot_of c.slots name) (if_struct k.decls (place_of (map (λ (d : Decl). d.name) k.decls) name))
+
+abbrev pub struct_of : Known → Callee → Scope → Option ℕ
+struct_of k (C.Plain n) c = struct_named k n.bytes c
+struct_of k (C.Base at n) c = None
+struct_of k (C.Operator at o) c = None
+
+-- a constructor is explicit where the struct has no parameters, and inferred otherwise
+abbrev pub constructor : List Decl → ℕ → Called
+constructor ds p = cond (nat_eq (length (params_of (slice_get ds p))) 0) (D.Bare p) (D.Inferred p)
+
+abbrev pub called_from : List Decl → Option ℕ → Option ℕ → Called
+called_from ds (Some p) f = constructor ds p
+called_from ds None (Some f) = D.Function f
+called_from ds None None = D.Unknown
+
+unfoldable pub called : Known → Callee → Scope → Called
+called k f c = called_from k.decls (struct_of k f c) (function_of k f c)
+
+-- the field types of a struct make all its parameters usable
+abbrev pub fields_signature : Decl → Written
+fields_signature d = record { vars = d.params; parts = field_types d.fields }
+
+abbrev pub finds_parameters : Option Decl → Bool
+finds_parameters None = false
+finds_parameters (Some d) = list_all (λ b. b) (each_var (is_usable (fields_signature d)) 0 d.params)

@@ -1,0 +1,6 @@
+pub mod Scopes
+pub mod Functions
+pub mod TypesIn
+pub mod Expressions
+pub mod Defined
+pub mod Top

@@ -1,0 +1,278 @@
+//! What a form becomes, once its parts are read.
+
+ghost use Rattle.std.specs.Prelude.{◌≡◌, ◌∷◌, [], IfOk, slice_get, length};
+ghost use Rattle.jl_calculus.specs.declared.tree.Stmt.TheVariants as S;
+ghost use Rattle.jl_resolve_forms.specs.Scopes.{slot_of, seen, bind};
+ghost use Rattle.std.specs.List.{list_all};
+ghost use Rattle.jl_model.specs.AllRows.{each_var};
+ghost use Rattle.jl_model.specs.Usable.{is_usable};
+ghost use Rattle.jl_calculus.specs.declared.tree.Expr.TheViews as C;
+ghost use Rattle.jl_resolve_forms.specs.Functions.{finds_parameters, fields_signature};
+ghost use Rattle.jl_resolve_forms.specs.TypesIn.{tests};
+ghost use Rattle.jl_resolve_forms.specs.Expressions.{coded, codes, stated, said, local, prefix_code, infix_code, counted, latest, call, chained, inferred_refusal, part_number};
+
+use crate::judge::Judge;
+use crate::known::{Arm, Called, Known};
+use crate::scopes::{bind, note, noted, slot_of};
+use crate::state::{Scope, State};
+use crate::types::one_type;
+use jl_calculus::tree::{Expr as Code, Exprs as Codes, Item, Stmt};
+use jl_grammar::tree::{Infix, Name, Prefix};
+use jl_model::rows::Share;
+use jl_model::shared::{SharedList, SharedNode};
+use jl_model::ty::{Bound, Bytes, Decl, Ty, Tys, Written};
+use jl_sig::is_usable;
+use jl_written::fault::StaticKind;
+use jl_written::names::small;
+use std::alloc::{AllocError, Global};
+
+/// A name that is used as a value, by its slot.
+#[tactic(auto, unfolding(crate::specs::Expressions::local))]
+pub fn local(state: &mut State, at: u32, slot: Option<u32>) -> Code
+    ensures { coded result state.new ≡ local at slot state.old }
+{
+    match slot {
+        None => {
+            note(state, at, StaticKind::UnknownName);
+            Code::Nothing
+        }
+        Some(slot) => Code::Local(slot),
+    }
+}
+
+/// The number of a part, which is at least 1.
+#[tactic(auto, unfolding(crate::specs::Expressions::part_number))]
+pub fn part_number(number: i64) -> u64
+    ensures { result ≡ part_number number }
+{
+    if number < 0 { 0 } else { number as u64 }
+}
+
+fn call_one(alloc: Global, function: u32, code: Code) -> Result<Code, AllocError>
+    ensures { IfOk result (λ c. c ≡ C.Call function (code ∷ [])) }
+{
+    let mut arguments = Vec::new(alloc);
+    arguments.push(code)?;
+    Ok(Code::Call(function, SharedList::from_vec(alloc, arguments)?))
+}
+
+/// An operator with one operand is a call.
+#[tactic(auto, unfolding(crate::specs::Expressions::prefix_code))]
+pub fn prefix_code(alloc: Global, operator: Prefix, code: Code) -> Result<Code, AllocError>
+    ensures { IfOk result (λ c. c ≡ prefix_code operator code) }
+{
+    match operator {
+        Prefix::Minus => call_one(alloc, 1, code),
+        Prefix::Not => call_one(alloc, 11, code),
+    }
+}
+
+/// A call of a function of two arguments.
+fn call_two(alloc: Global, function: u32, left: &Code, right: &Code) -> Result<Code, AllocError>
+    ensures { IfOk result (λ c. c ≡ C.Call function (left.now ∷ right.now ∷ [])) }
+{
+    let mut arguments = Vec::new(alloc);
+    arguments.push(left.share()?)?;
+    arguments.push(right.share()?)?;
+    Ok(Code::Call(function, SharedList::from_vec(alloc, arguments)?))
+}
+
+/// An operator with two operands.
+#[tactic(auto, unfolding(crate::specs::Expressions::infix_code))]
+pub fn infix_code(
+    alloc: Global,
+    operator: Infix,
+    left: SharedNode<Code>,
+    right: SharedNode<Code>,
+) -> Result<Code, AllocError>
+    ensures { IfOk result (λ c. c ≡ infix_code operator left right) }
+{
+    match operator {
+        Infix::Or => Ok(Code::Or(left, right)),
+        Infix::And => Ok(Code::And(left, right)),
+        Infix::Equal => call_two(alloc, 5, left.get(), right.get()),
+        Infix::NotEqual => call_two(alloc, 6, left.get(), right.get()),
+        Infix::Less => call_two(alloc, 7, left.get(), right.get()),
+        Infix::LessEqual => call_two(alloc, 8, left.get(), right.get()),
+        Infix::Greater => call_two(alloc, 9, left.get(), right.get()),
+        Infix::GreaterEqual => call_two(alloc, 10, left.get(), right.get()),
+        Infix::Identical => Ok(Code::Egal(left, right, false)),
+        Infix::NotIdentical => Ok(Code::Egal(left, right, true)),
+        Infix::Plus => call_two(alloc, 0, left.get(), right.get()),
+        Infix::Minus => call_two(alloc, 1, left.get(), right.get()),
+        Infix::Times => call_two(alloc, 2, left.get(), right.get()),
+        Infix::Divide => call_two(alloc, 3, left.get(), right.get()),
+        Infix::Remainder => call_two(alloc, 4, left.get(), right.get()),
+    }
+}
+
+/// A counted call has at most 8 arguments.
+fn counted(state: &mut State, at: u32, arguments: &Codes)
+    ensures { state.new ≡ counted at (codes arguments.now state.old) }
+{
+    if arguments.len() > 8 {
+        note(state, at, StaticKind::TooManyArguments);
+    }
+}
+
+/// The call of `invokelatest`.
+#[tactic(auto, unfolding(crate::specs::Expressions::latest))]
+pub fn latest(state: &mut State, at: u32, function: Option<u32>, arguments: Codes) -> Code
+    ensures { coded result state.new ≡ latest at function (codes arguments state.old) }
+{
+    match function {
+        Some(function) => {
+            counted(state, at, &arguments);
+            Code::Latest(function, arguments)
+        }
+        None => {
+            note(state, at, StaticKind::UnknownFunction);
+            Code::Nothing
+        }
+    }
+}
+
+/// Whether the field types of a struct make all its parameters usable.
+fn finds_parameters(alloc: Global, decls: &[Decl], number: u32) -> Result<bool, AllocError>
+    ensures { IfOk result (λ b. b ≡ finds_parameters (slice_get decls.now number)) }
+{
+    match decls.get(number as usize) {
+        None => Ok(false),
+        Some(decl) => are_usable(&fields_signature(alloc, decl)?, decl.params.as_slice()),
+    }
+}
+
+fn are_usable(written: &Written, params: &[Bound]) -> Result<bool, AllocError>
+    ensures { IfOk result (λ b. b ≡ list_all (λ b. b) (each_var (is_usable written.now) 0 params.now)) }
+{
+    for (variable, _) in params.iter().enumerate() {
+        if !is_usable(written, small(variable)?) {
+            return Ok(false);
+        }
+    }
+    Ok(true)
+}
+
+/// The signature of a struct's fields.
+fn fields_signature(alloc: Global, decl: &Decl) -> Result<Written, AllocError>
+    ensures { IfOk result (λ w. w ≡ fields_signature decl.now) }
+{
+    let mut parts = Vec::new(alloc);
+    for field in decl.fields.as_slice() {
+        parts.push(field.ty.copy()?)?;
+    }
+    Ok(Written {
+        vars: decl.params.copy()?,
+        parts: SharedList::from_vec(alloc, parts)?,
+    })
+}
+
+/// What refuses an inferred constructor.
+fn inferred_refusal<J: Judge>(
+    alloc: Global,
+    judge: &J,
+    known: &Known,
+    number: u32,
+) -> Result<Option<StaticKind>, AllocError>
+    ensures { IfOk result (λ k. k ≡ inferred_refusal (tests (J.below judge.now) (J.signature_refusal judge.now) (J.body_refusal judge.now) (J.wide_struct judge.now)) known.now number) }
+{
+    if !finds_parameters(alloc, known.decls.as_slice(), number)? {
+        return Ok(Some(StaticKind::StaticParameterUse));
+    }
+    if judge.is_wide(alloc, number)? {
+        return Ok(Some(StaticKind::TypeLimit));
+    }
+    Ok(None)
+}
+
+/// A call of a function or a constructor.
+#[tactic(auto, unfolding(crate::specs::Expressions::call))]
+pub fn call<J: Judge>(
+    alloc: Global,
+    judge: &J,
+    known: &Known,
+    state: &mut State,
+    at: u32,
+    called: Called,
+    arguments: Codes,
+) -> Result<Code, AllocError>
+    ensures { IfOk result (λ c. coded c state.new ≡ call (tests (J.below judge.now) (J.signature_refusal judge.now) (J.body_refusal judge.now) (J.wide_struct judge.now)) known.now at called (codes arguments state.old)) }
+{
+    match called {
+        Called::Function(function) => {
+            counted(state, at, &arguments);
+            Ok(Code::Call(function, arguments))
+        }
+        Called::Bare(number) => {
+            let ty = Ty::Nominal(number, Tys::empty());
+            let written = one_type(alloc, ty, SharedList::empty())?;
+            Ok(Code::Make(written, arguments))
+        }
+        Called::Inferred(number) => {
+            let refusal = inferred_refusal(alloc, judge, known, number)?;
+            noted(state, at, refusal);
+            Ok(Code::Infer(number, arguments))
+        }
+        Called::Unknown => {
+            note(state, at, StaticKind::UnknownFunction);
+            Ok(Code::Nothing)
+        }
+    }
+}
+
+/// An `elseif` is an `if` in the branch where it stands.
+#[tactic(auto, using(crate::proofs::ArmLemmas::chained_last))]
+pub fn chained(alloc: Global, arms: Vec<Arm>, otherwise: Code) -> Result<Code, AllocError>
+    ensures { IfOk result (λ c. c ≡ chained arms.items otherwise) }
+{
+    let mut left = arms;
+    let mut code = otherwise;
+    while let Some(arm) = left.pop() {
+        let Arm { test, then } = arm;
+        code = Code::If(test, then, SharedNode::new(alloc, code)?);
+    }
+    Ok(code)
+}
+
+/// A binding takes the next slot, and gives its number.
+fn placed(scope: &mut Scope, state: &mut State, name: &Name) -> Result<u32, AllocError>
+    ensures { IfOk result (λ n. (n ≡ length scope.old.slots) × (seen scope.new state.new ≡ bind name.now scope.old state.old)) }
+{
+    let slot = small(scope.slots.len())?;
+    bind(scope, state, name)?;
+    Ok(slot)
+}
+
+/// A binding.
+pub fn bound(
+    scope: &mut Scope,
+    state: &mut State,
+    name: &Name,
+    code: Code,
+) -> Result<Stmt, AllocError>
+    ensures { IfOk result (λ x. stated x scope.new state.new ≡ said (S.Bind (length scope.old.slots) code) (bind name.now scope.old state.old)) }
+{
+    match placed(scope, state, name) {
+        Ok(slot) => Ok(Stmt::Bind(slot, code)),
+        Err(error) => {
+            drop(code);
+            Err(error)
+        }
+    }
+}
+
+/// The slot of a visible name.
+pub fn visible_slot(scope: &Scope, name: &Bytes) -> Option<u32>
+    ensures { result ≡ slot_of scope.now.slots name.now }
+{
+    slot_of(&scope.slots, name.as_slice())
+}
+
+/// An evaluated block of one statement.
+pub fn one_item(alloc: Global, item: Item) -> Result<Code, AllocError>
+    ensures { IfOk result (λ c. c ≡ C.Eval (item ∷ [])) }
+{
+    let mut items = Vec::new(alloc);
+    items.push(item)?;
+    Ok(Code::Eval(SharedList::from_vec(alloc, items)?))
+}

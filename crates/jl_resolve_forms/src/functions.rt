@@ -1,0 +1,192 @@
+//! What a called name is.
+
+ghost use Rattle.std.specs.Prelude.{◌≡◌, map, IfOk, List, ℕ};
+ghost use Rattle.jl_model.specs.declared.ty.Decl.{Decl};
+ghost use Rattle.jl_model.specs.Usable.{stands_in, is_outside_unions, is_usable};
+ghost use Rattle.jl_calculus.specs.Prelude.{prelude_functions};
+ghost use Rattle.jl_written.specs.Meaning.{place_of};
+ghost use Rattle.jl_resolve_forms.specs.Functions.{function_of_operator, place_of_callee, function_of, if_struct, struct_named, struct_of, constructor, called, finds_parameters};
+
+use crate::known::{Called, Known};
+use crate::scopes::slot_of;
+use crate::state::Scope;
+use jl_grammar::tree::Callee;
+use jl_model::ty::{Decl, DeclKind};
+use jl_names::list::NameList;
+use jl_token::token::Operator;
+use jl_written::names::{is_same, small};
+use std::alloc::AllocError;
+
+/// The names of the prelude's functions, by their numbers.
+const PRELUDE_FUNCTIONS: [&str; 12] = [
+    "+", "-", "*", "div", "rem", "==", "!=", "<", "<=", ">", ">=", "!",
+];
+
+/// The prelude's function of an operator; `÷` is `div` and `%` is `rem`.
+fn function_of_operator(operator: Operator) -> Option<u32>
+    ensures { result ≡ function_of_operator operator }
+{
+    match operator {
+        Operator::Plus => Some(0),
+        Operator::Minus => Some(1),
+        Operator::Times => Some(2),
+        Operator::Divide => Some(3),
+        Operator::Remainder => Some(4),
+        Operator::Equal => Some(5),
+        Operator::NotEqual => Some(6),
+        Operator::Less => Some(7),
+        Operator::LessEqual => Some(8),
+        Operator::Greater => Some(9),
+        Operator::GreaterEqual => Some(10),
+        Operator::Not => Some(11),
+        _ => None,
+    }
+}
+
+/// Where the name of a function stands; of an operator, where its `Base` does.
+pub fn place_of_callee(callee: &Callee) -> u32
+    ensures { result ≡ place_of_callee callee.now }
+{
+    match callee {
+        Callee::Plain(name) => name.at,
+        Callee::Base(_, name) => name.at,
+        Callee::Operator(at, _) => *at,
+    }
+}
+
+/// The place of a name in a list of names.
+#[tactic(auto, using(crate::proofs::TableLemmas::place_is))]
+fn place_of(names: &NameList, name: &[u8]) -> Option<u32>
+    ensures { result ≡ place_of names.now name.now }
+{
+    names.find(name)
+}
+
+/// The place of a name among words.
+fn place_of_word(words: &[&str], name: &[u8]) -> Option<usize>
+    ensures { result ≡ place_of (map (λ w. w.now) words.now) name.now }
+{
+    for (at, known) in words.iter().enumerate() {
+        if is_same(name, known.as_bytes()) {
+            return Some(at);
+        }
+    }
+    None
+}
+
+/// The prelude's function of a name.
+fn prelude_function(name: &[u8]) -> Option<usize>
+    ensures { result ≡ place_of prelude_functions name.now }
+{
+    let words: [&str; 12] = PRELUDE_FUNCTIONS;
+    place_of_word(words.as_slice(), name)
+}
+
+fn small_option(number: Option<usize>) -> Result<Option<u32>, AllocError>
+    ensures { IfOk result (λ n. n ≡ number) }
+{
+    match number {
+        None => Ok(None),
+        Some(number) => Ok(Some(small(number)?)),
+    }
+}
+
+/// The function of a name: one of the script or of the prelude, behind `Base` one of the prelude.
+#[tactic(auto, unfolding(crate::specs::Functions::function_of))]
+pub fn function_of(known: &Known, callee: &Callee, scope: &Scope) -> Result<Option<u32>, AllocError>
+    ensures { IfOk result (λ f. f ≡ function_of known.now callee.now scope.now) }
+{
+    match callee {
+        Callee::Plain(name) => match slot_of(&scope.slots, name.bytes.as_slice()) {
+            None => Ok(place_of(&known.functions, name.bytes.as_slice())),
+            Some(_) => Ok(None),
+        },
+        Callee::Base(_, name) => small_option(prelude_function(name.bytes.as_slice())),
+        Callee::Operator(_, operator) => Ok(function_of_operator(*operator)),
+    }
+}
+
+/// The first declaration of a name.
+fn declaration_of(decls: &[Decl], name: &[u8]) -> Option<usize>
+    ensures { result ≡ place_of (map (λ (d : Decl). d.name) decls.now) name.now }
+{
+    for (at, decl) in decls.iter().enumerate() {
+        if is_same(name, decl.name.as_slice()) {
+            return Some(at);
+        }
+    }
+    None
+}
+
+/// A declared struct: a built-in type has no constructor.
+fn if_struct(decls: &[Decl], place: Option<usize>) -> Option<usize>
+    ensures { result ≡ if_struct decls.now place }
+{
+    let Some(number) = place else {
+        return None;
+    };
+    if number < 8 {
+        return None;
+    }
+    match decls.get(number) {
+        None => None,
+        Some(decl) => match decl.kind {
+            DeclKind::Abstract => None,
+            DeclKind::Struct => Some(number),
+        },
+    }
+}
+
+/// The declared struct of a name, unless a variable of that name is visible.
+#[tactic(auto, unfolding(crate::specs::Functions::struct_named))]
+pub fn struct_named(known: &Known, name: &[u8], scope: &Scope) -> Result<Option<u32>, AllocError>
+    ensures { IfOk result (λ p. p ≡ struct_named known.now name.now scope.now) }
+{
+    match slot_of(&scope.slots, name) {
+        None => {
+            let decls = known.decls.as_slice();
+            small_option(if_struct(decls, declaration_of(decls, name)))
+        }
+        Some(_) => Ok(None),
+    }
+}
+
+fn struct_of(known: &Known, callee: &Callee, scope: &Scope) -> Result<Option<u32>, AllocError>
+    ensures { IfOk result (λ p. p ≡ struct_of known.now callee.now scope.now) }
+{
+    match callee {
+        Callee::Plain(name) => struct_named(known, name.bytes.as_slice(), scope),
+        Callee::Base(_, _) => Ok(None),
+        Callee::Operator(_, _) => Ok(None),
+    }
+}
+
+/// A constructor is explicit where the struct has no parameters, and inferred otherwise.
+fn constructor(decls: &[Decl], number: u32) -> Called
+    ensures { result ≡ constructor decls.now number }
+{
+    match decls.get(number as usize) {
+        None => Called::Bare(number),
+        Some(decl) => {
+            if decl.params.len() == 0 {
+                Called::Bare(number)
+            } else {
+                Called::Inferred(number)
+            }
+        }
+    }
+}
+
+/// What a called name is.
+#[tactic(auto, unfolding(crate::specs::Functions::called))]
+pub fn called(known: &Known, callee: &Callee, scope: &Scope) -> Result<Called, AllocError>
+    ensures { IfOk result (λ d. d ≡ called known.now callee.now scope.now) }
+{
+    match struct_of(known, callee, scope)? {
+        Some(number) => Ok(constructor(known.decls.as_slice(), number)),
+        None => match function_of(known, callee, scope)? {
+            Some(number) => Ok(Called::Function(number)),
+            None => Ok(Called::Unknown),
+        },
+    }
+}

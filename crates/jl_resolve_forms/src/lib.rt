@@ -1,0 +1,16 @@
+//! From a script to a program.
+#![tactic(auto)]
+
+pub mod cells;
+pub mod defined;
+pub mod forms;
+pub mod functions;
+pub mod judge;
+pub mod known;
+pub mod methods;
+pub mod scopes;
+pub mod state;
+#[cfg(test)]
+mod tests;
+pub mod top;
+pub mod types;

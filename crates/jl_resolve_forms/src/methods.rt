@@ -1,0 +1,354 @@
+//! A method up to its body: its function, its signature, and what its body sees.
+
+ghost use Rattle.std.specs.Prelude.{◌≡◌, map, length, IfOk, OnOk};
+ghost use Rattle.jl_calculus.specs.Names.{is_among};
+ghost use Rattle.jl_written.specs.Reads.{types};
+ghost use Rattle.jl_written.specs.Signatures.{all_read, signature, written_of};
+ghost use Rattle.jl_resolve_forms.specs.Functions.{function_of, place_of_callee};
+ghost use Rattle.jl_resolve_forms.specs.Scopes.{seen};
+ghost use Rattle.jl_resolve_forms.specs.TypesIn.{tests, refusal};
+ghost use Rattle.jl_resolve_forms.specs.Expressions.{coded, bare_scope, type_of, signature_as, parameters, static_parameter, static_parameters, signed_as, signed, opened_with, named, names_in, may_define, defined_function, if_unknown, too_many, opened_as, opened, reserved, closed};
+
+use crate::functions::{function_of, place_of_callee};
+use crate::judge::Judge;
+use crate::known::Known;
+use crate::scopes::{bind, merged, noted, push_unnamed};
+use crate::state::{Opening, Scope, SignatureRead, Signed, State};
+use crate::types::declared_at;
+use jl_calculus::tree::{Expr as Code, Site};
+use jl_grammar::tree::{Callee, Head, Param};
+use jl_model::rows::Row;
+use jl_model::shared::SharedList;
+use jl_model::ty::{Decl, Ty, Tys, Written};
+use jl_names::marked::MarkedNames;
+use jl_names::slots::Slots;
+use jl_sig::is_usable;
+use jl_typeread::tree::VarText;
+use jl_written::fault::StaticKind;
+use jl_written::names::{is_builtin, small};
+use jl_written::reading::{Reading, TypeVar};
+use jl_written::reads::{bind_all, read_type};
+use jl_written::signatures::{adopted, unread};
+use std::alloc::{AllocError, Global};
+
+/// Neither slots nor static parameters are visible.
+pub fn bare_scope(alloc: Global, types: u32) -> Scope
+    ensures { result ≡ bare_scope types }
+{
+    Scope {
+        slots: Slots::new(alloc),
+        statics: Row::new(alloc),
+        types,
+    }
+}
+
+#[tactic(auto, using(crate::proofs::TableLemmas::named_is))]
+fn are_named(names: &MarkedNames, name: &[u8]) -> bool
+    ensures { result ≡ is_among name.now (names_in names.now) }
+{
+    names.find(name).is_some()
+}
+
+/// A function has no built-in name, unless `Base.` stands before it, and not that of a type of the script.
+fn may_define(known: &Known, callee: &Callee) -> Option<StaticKind>
+    ensures { result ≡ may_define known.now callee.now }
+{
+    match callee {
+        Callee::Plain(name) => {
+            let name = name.bytes.as_slice();
+            if is_builtin(name) || are_named(&known.types, name) {
+                Some(StaticKind::NameClash)
+            } else {
+                None
+            }
+        }
+        Callee::Base(_, _) => None,
+        Callee::Operator(_, _) => None,
+    }
+}
+
+/// A function behind `Base.` is one of the prelude.
+fn if_unknown(function: Option<u32>) -> Option<StaticKind>
+    ensures { result ≡ if_unknown function }
+{
+    match function {
+        None => Some(StaticKind::UnknownFunction),
+        Some(_) => None,
+    }
+}
+
+fn defined_function(function: Option<u32>) -> u32
+    ensures { result ≡ defined_function function }
+{
+    match function {
+        None => 0,
+        Some(function) => function,
+    }
+}
+
+/// A script has at most 4,096 sites, and the prelude has 14.
+fn too_many(state: &State) -> Option<StaticKind>
+    ensures { result ≡ too_many state.now }
+{
+    if state.sites.len() >= 4110 {
+        Some(StaticKind::TooManySites)
+    } else {
+        None
+    }
+}
+
+/// The types of parameters.
+fn all_read(
+    alloc: Global,
+    decls: &[Decl],
+    vars: &mut Row<TypeVar>,
+    reading: &mut Reading,
+    params: &[Param],
+) -> Result<Tys, AllocError>
+    ensures means { IfOk result (λ ts. types ts reading.new ≡ all_read decls.now (map type_of params.now) vars.old reading.old) }
+    ensures kept { OnOk result (vars.new ≡ vars.old) }
+{
+    let mut tys = Row::new(alloc);
+    for param in params {
+        let ty = match param {
+            Param::Name(_) => Ty::Any,
+            Param::Typed(_, text) => read_type(alloc, decls, vars, reading, text, false)?,
+            Param::Unnamed(_, text) => read_type(alloc, decls, vars, reading, text, false)?,
+        };
+        tys.push(ty)?;
+    }
+    tys.into_shared(alloc)
+}
+
+/// The types of a method's parameters, where the variables of its `where` are visible.
+fn signature(
+    alloc: Global,
+    decls: &[Decl],
+    params: &[Param],
+    vars: &[VarText],
+) -> Result<SignatureRead, AllocError>
+    ensures { IfOk result (λ r. signature_as r ≡ signature decls.now (map type_of params.now) vars.now) }
+{
+    let mut visible = Row::new(alloc);
+    let mut reading = unread(alloc);
+    bind_all(alloc, decls, &mut visible, &mut reading, vars, false)?;
+    let types = all_read(alloc, decls, &mut visible, &mut reading, params)?;
+    Ok(SignatureRead {
+        vars: visible,
+        types,
+        reading,
+    })
+}
+
+/// What refuses a signature.
+fn signature_refusal<J: Judge>(
+    alloc: Global,
+    judge: &J,
+    reading: &Reading,
+    written: &Written,
+) -> Result<Option<StaticKind>, AllocError>
+    ensures { IfOk result (λ k. k ≡ refusal (J.signature_refusal judge.now) reading.now written.now) }
+{
+    if reading.misplaced {
+        return Ok(Some(StaticKind::VariablePlace));
+    }
+    if reading.unclear {
+        return Ok(None);
+    }
+    judge.refuses_signature(alloc, written)
+}
+
+/// A static parameter, with whether it is usable in the body.
+fn static_parameter(written: &Written, var: &TypeVar) -> Result<TypeVar, AllocError>
+    ensures { IfOk result (λ v. v ≡ static_parameter written.now var.now) }
+{
+    Ok(TypeVar {
+        name: var.name.copy()?,
+        number: var.number,
+        usable: is_usable(written, var.number),
+    })
+}
+
+/// The static parameters of a body.
+fn static_parameters(
+    alloc: Global,
+    written: &Written,
+    vars: &[TypeVar],
+) -> Result<Row<TypeVar>, AllocError>
+    ensures { IfOk result (λ vs. vs ≡ static_parameters written.now vars.now) }
+{
+    let mut statics = Row::new(alloc);
+    for var in vars {
+        statics.push(static_parameter(written, var)?)?;
+    }
+    Ok(statics)
+}
+
+/// Parameters have the slots from 0 on; an unnamed one binds nothing.
+fn parameters(scope: &mut Scope, state: &mut State, params: &[Param]) -> Result<(), AllocError>
+    ensures { OnOk result (seen scope.new state.new ≡ parameters params.now scope.old state.old) }
+{
+    for param in params {
+        match param {
+            Param::Name(name) => bind(scope, state, name)?,
+            Param::Typed(name, _) => bind(scope, state, name)?,
+            Param::Unnamed(_, _) => push_unnamed(scope)?,
+        }
+    }
+    Ok(())
+}
+
+/// The signature of a method.
+fn signed<J: Judge>(
+    alloc: Global,
+    judge: &J,
+    known: &Known,
+    types: u32,
+    head: &Head,
+) -> Result<Signed, AllocError>
+    ensures { IfOk result (λ g. g ≡ signed (tests (J.below judge.now) (J.signature_refusal judge.now) (J.body_refusal judge.now) (J.wide_struct judge.now)) known.now types head.now) }
+{
+    let decls = declared_at(known, types);
+    let read = signature(alloc, decls, head.params.as_slice(), head.vars.as_slice())?;
+    let signed = signed_as(alloc, judge, read)?;
+    Ok(signed)
+}
+
+fn signed_as<J: Judge>(alloc: Global, judge: &J, read: SignatureRead) -> Result<Signed, AllocError>
+    ensures { IfOk result (λ g. g ≡ signed_as (tests (J.below judge.now) (J.signature_refusal judge.now) (J.body_refusal judge.now) (J.wide_struct judge.now)) (signature_as read)) }
+{
+    let SignatureRead {
+        vars,
+        types,
+        reading,
+    } = read;
+    let bounds = adopted(
+        alloc,
+        judge,
+        reading.places.as_slice(),
+        reading.vars.as_slice(),
+    )?;
+    let sig = Written {
+        vars: SharedList::from_vec(alloc, bounds)?,
+        parts: types,
+    };
+    let refusal = signature_refusal(alloc, judge, &reading, &sig)?;
+    Ok(Signed {
+        vars,
+        sig,
+        fault: reading.fault,
+        refusal,
+    })
+}
+
+/// The function of a method's name.
+fn function_at(
+    alloc: Global,
+    known: &Known,
+    types: u32,
+    callee: &Callee,
+) -> Result<Option<u32>, AllocError>
+    ensures { IfOk result (λ f. f ≡ function_of known.now callee.now (bare_scope types)) }
+{
+    let scope = bare_scope(alloc, types);
+    let function = function_of(known, callee, &scope)?;
+    Ok(function)
+}
+
+/// The faults at the name of a method: its function, its signature, and its number.
+fn name_checked(
+    known: &Known,
+    state: &mut State,
+    callee: &Callee,
+    function: Option<u32>,
+    signed: &Signed,
+)
+    ensures { state.new ≡ named known.now (place_of_callee callee.now) callee.now function signed.now state.old }
+{
+    let at = place_of_callee(callee);
+    noted(state, at, if_unknown(function));
+    noted(state, at, may_define(known, callee));
+    merged(state, signed.fault);
+    noted(state, at, signed.refusal);
+    let refusal = too_many(state);
+    noted(state, at, refusal);
+}
+
+/// What a body sees.
+fn opened_with(
+    alloc: Global,
+    state: &mut State,
+    function: u32,
+    types: u32,
+    signed: Signed,
+    params: &[Param],
+) -> Result<Opening, AllocError>
+    ensures { IfOk result (λ o. opened_as o state.new ≡ opened_with function types signed params.now state.old) }
+{
+    let statics = static_parameters(alloc, &signed.sig, signed.vars.as_slice())?;
+    let mut scope = Scope {
+        slots: Slots::new(alloc),
+        statics,
+        types,
+    };
+    parameters(&mut scope, state, params)?;
+    Ok(Opening {
+        function,
+        sig: signed.sig,
+        scope,
+    })
+}
+
+/// A method up to its body.
+#[tactic(auto, unfolding(crate::specs::Expressions::opened))]
+pub fn opened<J: Judge>(
+    alloc: Global,
+    judge: &J,
+    known: &Known,
+    types: u32,
+    state: &mut State,
+    head: &Head,
+) -> Result<Opening, AllocError>
+    ensures { IfOk result (λ o. opened_as o state.new ≡ opened (tests (J.below judge.now) (J.signature_refusal judge.now) (J.body_refusal judge.now) (J.wide_struct judge.now)) known.now head.now types state.old) }
+{
+    let function = function_at(alloc, known, types, &head.callee)?;
+    let signed = signed(alloc, judge, known, types, head)?;
+    name_checked(known, state, &head.callee, function, &signed);
+    let number = defined_function(function);
+    let opening = opened_with(alloc, state, number, types, signed, head.params.as_slice())?;
+    Ok(opening)
+}
+
+/// The next site, whose body is read behind this.
+#[tactic(auto, unfolding(crate::specs::Expressions::reserved))]
+pub fn reserved(state: &mut State, opening: &Opening) -> Result<u32, AllocError>
+    ensures { IfOk result (λ n. (n ≡ length state.old.sites) × (state.new ≡ reserved opening.now state.old)) }
+{
+    let number = small(state.sites.len())?;
+    state.sites.push(Site {
+        function: opening.function,
+        sig: opening.sig.copy()?,
+        body: Code::Nothing,
+    })?;
+    Ok(number)
+}
+
+/// The body of a site.
+#[tactic(auto, unfolding(crate::specs::Expressions::closed))]
+pub fn closed(state: &mut State, number: u32, opening: Opening, code: Code)
+    ensures { state.new ≡ closed number opening (coded code state.old) }
+{
+    let Opening {
+        function,
+        sig,
+        scope: _scope,
+    } = opening;
+    state.sites.set(
+        number as usize,
+        Site {
+            function,
+            sig,
+            body: code,
+        },
+    );
+}

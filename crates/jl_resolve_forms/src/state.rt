@@ -1,0 +1,51 @@
+//! What is visible at a place, and what the text so far has given.
+
+use crate::cells::Cells;
+use jl_calculus::tree::{Expr, Site};
+use jl_model::rows::Row;
+use jl_model::ty::{Tys, Written};
+use jl_names::slots::Slots;
+use jl_written::fault::{Fault, StaticKind};
+use jl_written::reading::{Reading, TypeVar};
+
+/// What is visible at a place: the slots, each with its name, where it has one; the static parameters of the method; and
+/// how many types are declared before, the built-in ones among them.
+#[derive(Drop)]
+pub struct Scope {
+    pub slots: Slots,
+    pub statics: Row<TypeVar>,
+    pub types: u32,
+}
+
+/// The sites and the expressions of the spawn places so far, by their numbers, and the first fault.
+#[derive(Drop)]
+pub struct State {
+    pub sites: Cells<Site>,
+    pub spawns: Cells<Expr>,
+    pub fault: Option<Fault>,
+}
+
+/// A method up to its body: its function, its signature, and what its body sees.
+#[derive(Drop)]
+pub struct Opening {
+    pub function: u32,
+    pub sig: Written,
+    pub scope: Scope,
+}
+
+/// The signature of a method: the variables of its `where`, the signature, its first fault, and what refuses it.
+#[derive(Drop)]
+pub struct Signed {
+    pub vars: Row<TypeVar>,
+    pub sig: Written,
+    pub fault: Option<Fault>,
+    pub refusal: Option<StaticKind>,
+}
+
+/// The types of a method's parameters: the variables of its `where`, the types, and what is known behind them.
+#[derive(Drop)]
+pub struct SignatureRead {
+    pub vars: Row<TypeVar>,
+    pub types: Tys,
+    pub reading: Reading,
+}

@@ -1,0 +1,336 @@
+//! The walk over the tree of a script: what each part becomes, where some slots, static parameters and types are visible.
+
+ghost use Rattle.std.specs.Prelude.{◌≡◌, map, IfOk, OnOk};
+ghost use Rattle.jl_resolve_forms.specs.TypesIn.{tests};
+ghost use Rattle.jl_resolve_forms.specs.Expressions.{coded, codes, stated, shown, pieces, listed, items, tried, arms, defined, one_said, one_shown, one_evaluated, one_tried, all_coded, all_shown, all_evaluated, all_tried, block_of, expr_reads, stmt_reads, piece_reads, eval_reads, branch_reads, method_reads};
+
+use crate::made;
+use jl_calculus::tree::{
+    Expr as Code, Exprs as Codes, Item, Items, Piece as Shown, Pieces as Showns, Stmt as Statement,
+};
+use jl_grammar::tree::{Branch, Eval, Expr, Method, Piece, Stmt};
+use jl_model::rows::Row;
+use jl_resolve_forms::judge::Judge;
+use jl_resolve_forms::known::{Arm, Known};
+use jl_resolve_forms::methods::bare_scope;
+use jl_resolve_forms::state::{Scope, State};
+use std::alloc::{AllocError, Global};
+
+/// Expressions from left to right.
+#[cycle(reads)]
+fn exprs<J: Judge>(
+    alloc: Global,
+    judge: &J,
+    known: &Known,
+    scope: &mut Scope,
+    state: &mut State,
+    texts: &[Expr],
+) -> Result<Codes, AllocError>
+    ensures means { IfOk result (λ xs. codes xs state.new ≡ all_coded (map (expr_reads (tests (J.below judge.now) (J.signature_refusal judge.now) (J.body_refusal judge.now) (J.wide_struct judge.now)) known.now) texts.now) scope.old state.old) }
+    ensures kept { OnOk result (scope.new ≡ scope.old) }
+{
+    let mut out = Row::new(alloc);
+    for text in texts {
+        made::put(&mut out, expr(alloc, judge, known, scope, state, text))?;
+    }
+    out.into_shared(alloc)
+}
+
+/// A block, whose bindings end with it.
+#[cycle(reads)]
+fn block<J: Judge>(
+    alloc: Global,
+    judge: &J,
+    known: &Known,
+    scope: &mut Scope,
+    state: &mut State,
+    texts: &[Stmt],
+) -> Result<Code, AllocError>
+    ensures means { IfOk result (λ c. coded c state.new ≡ block_of (map (stmt_reads (tests (J.below judge.now) (J.signature_refusal judge.now) (J.body_refusal judge.now) (J.wide_struct judge.now)) known.now) texts.now) scope.old state.old) }
+    ensures kept { OnOk result (scope.new ≡ scope.old) }
+{
+    let visible = scope.slots.len();
+    let mut out = Row::new(alloc);
+    for text in texts {
+        made::put(&mut out, stmt(alloc, judge, known, scope, state, text))?;
+    }
+    made::block_ended(alloc, scope, visible, out)
+}
+
+/// What a print writes.
+#[cycle(reads)]
+fn pieces<J: Judge>(
+    alloc: Global,
+    judge: &J,
+    known: &Known,
+    scope: &mut Scope,
+    state: &mut State,
+    texts: &[Piece],
+) -> Result<Showns, AllocError>
+    ensures means { IfOk result (λ xs. pieces xs state.new ≡ all_shown (map (piece_reads (tests (J.below judge.now) (J.signature_refusal judge.now) (J.body_refusal judge.now) (J.wide_struct judge.now)) known.now) texts.now) scope.old state.old) }
+    ensures kept { OnOk result (scope.new ≡ scope.old) }
+{
+    let mut out = Row::new(alloc);
+    for text in texts {
+        made::put(&mut out, piece(alloc, judge, known, scope, state, text))?;
+    }
+    out.into_shared(alloc)
+}
+
+/// The statements of an evaluated block, where so many types are declared before it.
+#[cycle(reads)]
+fn evals<J: Judge>(
+    alloc: Global,
+    judge: &J,
+    known: &Known,
+    types: u32,
+    state: &mut State,
+    texts: &[Eval],
+) -> Result<Items, AllocError>
+    ensures { IfOk result (λ xs. items xs state.new ≡ all_evaluated (map (eval_reads (tests (J.below judge.now) (J.signature_refusal judge.now) (J.body_refusal judge.now) (J.wide_struct judge.now)) known.now) texts.now) types state.old) }
+{
+    let mut out = Row::new(alloc);
+    for text in texts {
+        made::put(&mut out, eval(alloc, judge, known, types, state, text))?;
+    }
+    out.into_shared(alloc)
+}
+
+/// The tests of an `if` with their blocks.
+#[cycle(reads)]
+fn branches<J: Judge>(
+    alloc: Global,
+    judge: &J,
+    known: &Known,
+    scope: &mut Scope,
+    state: &mut State,
+    texts: &[Branch],
+) -> Result<Vec<Arm>, AllocError>
+    ensures means { IfOk result (λ xs. arms xs.items state.new ≡ all_tried (map (branch_reads (tests (J.below judge.now) (J.signature_refusal judge.now) (J.body_refusal judge.now) (J.wide_struct judge.now)) known.now) texts.now) scope.old state.old) }
+    ensures kept { OnOk result (scope.new ≡ scope.old) }
+{
+    let mut out = Vec::new(alloc);
+    for text in texts {
+        made::put_arm(&mut out, branch(alloc, judge, known, scope, state, text))?;
+    }
+    Ok(out)
+}
+
+/// A statement of a block.
+#[cycle(reads)]
+fn stmt<J: Judge>(
+    alloc: Global,
+    judge: &J,
+    known: &Known,
+    scope: &mut Scope,
+    state: &mut State,
+    text: &Stmt,
+) -> Result<Statement, AllocError>
+    ensures { IfOk result (λ x. stated x scope.new state.new ≡ one_said (stmt_reads (tests (J.below judge.now) (J.signature_refusal judge.now) (J.body_refusal judge.now) (J.wide_struct judge.now)) known.now text.now) scope.old state.old) }
+{
+    match text {
+        Stmt::Bind(name, value) => {
+            let code = expr(alloc, judge, known, scope, state, value);
+            made::bound(scope, state, name, code)
+        }
+        Stmt::Return(_, value) => made::returned(expr(alloc, judge, known, scope, state, value)),
+        Stmt::ReturnNothing(_) => Ok(Statement::Return(Code::Nothing)),
+        Stmt::Do(value) => made::done(expr(alloc, judge, known, scope, state, value)),
+    }
+}
+
+/// A piece of a print.
+#[cycle(reads)]
+fn piece<J: Judge>(
+    alloc: Global,
+    judge: &J,
+    known: &Known,
+    scope: &mut Scope,
+    state: &mut State,
+    text: &Piece,
+) -> Result<Shown, AllocError>
+    ensures means { IfOk result (λ p. shown p state.new ≡ one_shown (piece_reads (tests (J.below judge.now) (J.signature_refusal judge.now) (J.body_refusal judge.now) (J.wide_struct judge.now)) known.now text.now) scope.old state.old) }
+    ensures kept { OnOk result (scope.new ≡ scope.old) }
+{
+    match text {
+        Piece::Text(_, bytes) => made::text(bytes),
+        Piece::Show(value) => made::show(expr(alloc, judge, known, scope, state, value)),
+    }
+}
+
+/// A statement of an evaluated block, which sees neither slots nor static parameters.
+#[cycle(reads)]
+fn eval<J: Judge>(
+    alloc: Global,
+    judge: &J,
+    known: &Known,
+    types: u32,
+    state: &mut State,
+    text: &Eval,
+) -> Result<Item, AllocError>
+    ensures { IfOk result (λ x. listed x state.new ≡ one_evaluated (eval_reads (tests (J.below judge.now) (J.signature_refusal judge.now) (J.body_refusal judge.now) (J.wide_struct judge.now)) known.now text.now) types state.old) }
+{
+    match text {
+        Eval::Method(text) => made::define(method(alloc, judge, known, types, state, text)),
+        Eval::Do(value) => {
+            let mut scope = bare_scope(alloc, types);
+            made::evaluate(expr(alloc, judge, known, &mut scope, state, value))
+        }
+    }
+}
+
+/// A test with its block.
+#[cycle(reads)]
+fn branch<J: Judge>(
+    alloc: Global,
+    judge: &J,
+    known: &Known,
+    scope: &mut Scope,
+    state: &mut State,
+    text: &Branch,
+) -> Result<Arm, AllocError>
+    ensures means { IfOk result (λ a. tried a state.new ≡ one_tried (branch_reads (tests (J.below judge.now) (J.signature_refusal judge.now) (J.body_refusal judge.now) (J.wide_struct judge.now)) known.now text.now) scope.old state.old) }
+    ensures kept { OnOk result (scope.new ≡ scope.old) }
+{
+    let test = made::held(alloc, expr(alloc, judge, known, scope, state, &text.test))?;
+    let then = block(alloc, judge, known, scope, state, text.block.as_slice());
+    made::arm(alloc, test, then)
+}
+
+/// A method, where so many types are declared before it. Its site has its number before those in its body.
+#[cycle(reads)]
+pub fn method<J: Judge>(
+    alloc: Global,
+    judge: &J,
+    known: &Known,
+    types: u32,
+    state: &mut State,
+    text: &Method,
+) -> Result<u32, AllocError>
+    ensures { IfOk result (λ n. defined n state.new ≡ method_reads (tests (J.below judge.now) (J.signature_refusal judge.now) (J.body_refusal judge.now) (J.wide_struct judge.now)) known.now text.now types state.old) }
+{
+    match text {
+        Method::Long(_, head, body) => {
+            let (number, mut opening) = made::started(alloc, judge, known, types, state, head)?;
+            let code = block(
+                alloc,
+                judge,
+                known,
+                &mut opening.scope,
+                state,
+                body.as_slice(),
+            );
+            made::finished(state, number, opening, code)
+        }
+        Method::Short(_, head, body) => {
+            let (number, mut opening) = made::started(alloc, judge, known, types, state, head)?;
+            let code = expr(alloc, judge, known, &mut opening.scope, state, body.get());
+            made::finished(state, number, opening, code)
+        }
+    }
+}
+
+/// An expression.
+#[cycle(reads)]
+pub fn expr<J: Judge>(
+    alloc: Global,
+    judge: &J,
+    known: &Known,
+    scope: &mut Scope,
+    state: &mut State,
+    text: &Expr,
+) -> Result<Code, AllocError>
+    ensures means { IfOk result (λ c. coded c state.new ≡ expr_reads (tests (J.below judge.now) (J.signature_refusal judge.now) (J.body_refusal judge.now) (J.wide_struct judge.now)) known.now text.now scope.old state.old) }
+    ensures kept { OnOk result (scope.new ≡ scope.old) }
+{
+    match text {
+        Expr::Number(_, number) => Ok(made::number(number)),
+        Expr::Bool(_, truth) => Ok(Code::Bool(*truth)),
+        Expr::Nothing(_) => Ok(Code::Nothing),
+        Expr::Name(at, name) => made::name(scope, state, *at, name),
+        Expr::Paren(_, inner) => expr(alloc, judge, known, scope, state, inner.get()),
+        Expr::Tuple(_, texts) => {
+            made::tuple(exprs(alloc, judge, known, scope, state, texts.as_slice()))
+        }
+        Expr::Call(_, callee, texts) => {
+            let arguments = exprs(alloc, judge, known, scope, state, texts.as_slice());
+            made::call(alloc, judge, known, scope, state, callee, arguments)
+        }
+        Expr::Make(_, ty, texts) => {
+            let written = made::begun(alloc, judge, known, scope, state, ty)?;
+            let arguments = exprs(alloc, judge, known, scope, state, texts.as_slice());
+            made::ended(state, ty, written, arguments)
+        }
+        Expr::Field(_, inner, name) => {
+            let code = expr(alloc, judge, known, scope, state, inner.get());
+            made::field(alloc, code, name)
+        }
+        Expr::Part(_, inner, number) => {
+            let code = expr(alloc, judge, known, scope, state, inner.get());
+            made::part(alloc, code, number)
+        }
+        Expr::Prefix(_, operator, inner) => {
+            let code = expr(alloc, judge, known, scope, state, inner.get());
+            made::prefix(alloc, *operator, code)
+        }
+        Expr::Infix(_, operator, left, right) => {
+            let left = made::held(alloc, expr(alloc, judge, known, scope, state, left.get()))?;
+            let right = expr(alloc, judge, known, scope, state, right.get());
+            made::infix(alloc, *operator, left, right)
+        }
+        Expr::Isa(_, inner, ty) => {
+            let code = expr(alloc, judge, known, scope, state, inner.get());
+            made::is_a(alloc, judge, known, scope, state, code, ty)
+        }
+        Expr::Sub(_, left, right) => made::below(alloc, judge, known, scope, state, left, right),
+        Expr::Choose(_, test, then, or_else) => {
+            let test = made::held(alloc, expr(alloc, judge, known, scope, state, test.get()))?;
+            let then = made::held(alloc, expr(alloc, judge, known, scope, state, then.get()))?;
+            let or_else = expr(alloc, judge, known, scope, state, or_else.get());
+            made::choose(alloc, test, then, or_else)
+        }
+        Expr::If(_, texts) => {
+            let arms = branches(alloc, judge, known, scope, state, texts.as_slice());
+            made::only_if(alloc, arms)
+        }
+        Expr::IfElse(_, texts, last) => {
+            let arms = branches(alloc, judge, known, scope, state, texts.as_slice())?;
+            let last = block(alloc, judge, known, scope, state, last.as_slice());
+            made::if_else(alloc, arms, last)
+        }
+        Expr::Begin(_, texts) => block(alloc, judge, known, scope, state, texts.as_slice()),
+        Expr::Latest(_, callee, texts) => {
+            let arguments = exprs(alloc, judge, known, scope, state, texts.as_slice());
+            made::latest(known, scope, state, callee, arguments)
+        }
+        Expr::Spawn(_, inner) => {
+            let place = made::awaited(state)?;
+            let code = expr(alloc, judge, known, scope, state, inner.get());
+            made::spawned_at(state, place, code)
+        }
+        Expr::EvalMethod(_, text) => {
+            let site = method(alloc, judge, known, scope.types, state, text.get());
+            made::eval_method(alloc, site)
+        }
+        Expr::EvalBlock(_, texts) => {
+            made::eval_block(evals(alloc, judge, known, scope.types, state, texts.as_slice()))
+        }
+        Expr::EvalExpr(_, inner) => {
+            let mut bare = bare_scope(alloc, scope.types);
+            let code = expr(alloc, judge, known, &mut bare, state, inner.get());
+            made::eval_expr(alloc, code)
+        }
+        Expr::EvalQuote(_, texts) => {
+            made::eval_block(evals(alloc, judge, known, scope.types, state, texts.as_slice()))
+        }
+        Expr::Fetch(_, inner) => {
+            made::fetch(alloc, expr(alloc, judge, known, scope, state, inner.get()))
+        }
+        Expr::Print(_, line, texts) => {
+            made::print(
+                pieces(alloc, judge, known, scope, state, texts.as_slice()),
+                *line,
+            )
+        }
+    }
+}

@@ -1,0 +1,10 @@
+//! The walk over the tree of a script: what its parts become, and the program.
+#![tactic(auto)]
+
+pub mod beginning;
+pub mod expressions;
+pub mod made;
+pub mod program;
+#[cfg(test)]
+mod tests;
+pub mod top;

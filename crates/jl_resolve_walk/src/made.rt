@@ -1,0 +1,461 @@
+//! What a form becomes, once its parts are read: the steps of the walk that go to no other part. Where a part could not be
+//! read for want of memory, neither is the form.
+
+ghost use Rattle.std.specs.Prelude.{◌≡◌, ◌∷◌, ◌++◌, [], IfOk, OnOk, length, take};
+ghost use Rattle.jl_calculus.specs.declared.tree.Expr.TheViews as C;
+ghost use Rattle.jl_calculus.specs.declared.tree.Expr.TheVariants as W;
+ghost use Rattle.jl_calculus.specs.declared.tree.Item.TheVariants as I;
+ghost use Rattle.jl_calculus.specs.declared.tree.Piece.TheVariants as P;
+ghost use Rattle.jl_calculus.specs.declared.tree.Stmt.TheVariants as S;
+ghost use Rattle.jl_resolve_forms.specs.Functions.{called, function_of, place_of_callee};
+ghost use Rattle.jl_resolve_forms.specs.Scopes.{bind, slot_of};
+ghost use Rattle.jl_resolve_forms.specs.TypesIn.{tests, begins};
+ghost use Rattle.jl_resolve_forms.specs.Expressions.{coded, codes, stated, said, defined, is_below, local, call, chained, closed, infix_code, latest, part_number, prefix_code};
+ghost use Rattle.jl_resolve_walk.specs.Steps.{Gives, begun_as, begun, ended, awaited, spawned_at, tested, started_as, started};
+
+use jl_calculus::tree::{
+    Expr as Code, Exprs as Codes, Item, Items, Piece as Shown, Pieces as Showns, Stmt as Statement,
+};
+use jl_grammar::tree::{Callee, Head, Infix, Name, Prefix};
+use jl_model::rows::Row;
+use jl_model::shared::SharedNode;
+use jl_model::ty::{Bytes, Written};
+use jl_resolve_forms::forms;
+use jl_resolve_forms::functions::{called, function_of, place_of_callee};
+use jl_resolve_forms::judge::Judge;
+use jl_resolve_forms::known::{Arm, Known};
+use jl_resolve_forms::methods::{closed, opened, reserved};
+use jl_resolve_forms::scopes::note;
+use jl_resolve_forms::state::{Opening, Scope, State};
+use jl_resolve_forms::types::{begins, body_written, made_args, made_at, made_struct};
+use jl_typeread::tree::TypeText;
+use jl_written::fault::StaticKind;
+use jl_written::names::small;
+use std::alloc::{AllocError, Global};
+
+/// One more part of a list.
+pub(crate) fn put<T: Drop>(out: &mut Row<T>, part: Result<T, AllocError>) -> Result<(), AllocError>
+    ensures { Gives part result (λ y r. out.new ≡ out.old ++ y ∷ []) }
+{
+    let part = part?;
+    out.push(part)
+}
+
+/// One more test with its block.
+pub(crate) fn put_arm(out: &mut Vec<Arm>, part: Result<Arm, AllocError>) -> Result<(), AllocError>
+    ensures { Gives part result (λ y r. out.new.items ≡ out.old.items ++ y ∷ []) }
+{
+    let part = part?;
+    out.push(part)?;
+    Ok(())
+}
+
+/// An expression that others hold.
+pub(crate) fn held(
+    alloc: Global,
+    code: Result<Code, AllocError>,
+) -> Result<SharedNode<Code>, AllocError>
+    ensures { Gives code result (λ y n. n ≡ y) }
+{
+    let code = code?;
+    SharedNode::new(alloc, code)
+}
+
+/// A whole number.
+pub(crate) fn number(number: &i64) -> Code
+    ensures { result ≡ W.Int number.now }
+{
+    Code::Int(*number)
+}
+
+/// A name that is used as a value.
+pub(crate) fn name(
+    scope: &Scope,
+    state: &mut State,
+    at: u32,
+    name: &Bytes,
+) -> Result<Code, AllocError>
+    ensures { IfOk result (λ c. coded c state.new ≡ local at (slot_of scope.now.slots name.now) state.old) }
+{
+    let slot = forms::visible_slot(scope, name);
+    Ok(forms::local(state, at, slot))
+}
+
+/// A tuple.
+pub(crate) fn tuple(parts: Result<Codes, AllocError>) -> Result<Code, AllocError>
+    ensures { Gives parts result (λ ys c. c ≡ C.Parts ys) }
+{
+    let parts = parts?;
+    Ok(Code::Parts(parts))
+}
+
+/// A call of a function or a constructor.
+pub(crate) fn call<J: Judge>(
+    alloc: Global,
+    judge: &J,
+    known: &Known,
+    scope: &Scope,
+    state: &mut State,
+    callee: &Callee,
+    arguments: Result<Codes, AllocError>,
+) -> Result<Code, AllocError>
+    ensures { Gives arguments result (λ ys c. coded c state.new ≡ call (tests (J.below judge.now) (J.signature_refusal judge.now) (J.body_refusal judge.now) (J.wide_struct judge.now)) known.now (place_of_callee callee.now) (called known.now callee.now scope.now) (codes ys state.old)) }
+{
+    let arguments = arguments?;
+    let called = called(known, callee, scope)?;
+    let at = place_of_callee(callee);
+    forms::call(alloc, judge, known, state, at, called, arguments)
+}
+
+/// The call of `invokelatest`.
+pub(crate) fn latest(
+    known: &Known,
+    scope: &Scope,
+    state: &mut State,
+    callee: &Callee,
+    arguments: Result<Codes, AllocError>,
+) -> Result<Code, AllocError>
+    ensures { Gives arguments result (λ ys c. coded c state.new ≡ latest (place_of_callee callee.now) (function_of known.now callee.now scope.now) (codes ys state.old)) }
+{
+    let arguments = arguments?;
+    let function = function_of(known, callee, scope)?;
+    let at = place_of_callee(callee);
+    Ok(forms::latest(state, at, function, arguments))
+}
+
+/// A field of a value.
+pub(crate) fn field(
+    alloc: Global,
+    code: Result<Code, AllocError>,
+    name: &Name,
+) -> Result<Code, AllocError>
+    ensures { Gives code result (λ y c. c ≡ C.Field y name.now.bytes) }
+{
+    let code = code?;
+    let part = SharedNode::new(alloc, code)?;
+    Ok(Code::Field(part, name.bytes.copy()?))
+}
+
+/// A part of a tuple.
+pub(crate) fn part(
+    alloc: Global,
+    code: Result<Code, AllocError>,
+    number: &i64,
+) -> Result<Code, AllocError>
+    ensures { Gives code result (λ y c. c ≡ C.Part y (part_number number.now)) }
+{
+    let code = code?;
+    let number = forms::part_number(*number);
+    Ok(Code::Part(SharedNode::new(alloc, code)?, number))
+}
+
+/// The value of a task.
+pub(crate) fn fetch(alloc: Global, code: Result<Code, AllocError>) -> Result<Code, AllocError>
+    ensures { Gives code result (λ y c. c ≡ C.Fetch y) }
+{
+    let code = code?;
+    Ok(Code::Fetch(SharedNode::new(alloc, code)?))
+}
+
+/// An operator with one operand.
+pub(crate) fn prefix(
+    alloc: Global,
+    operator: Prefix,
+    code: Result<Code, AllocError>,
+) -> Result<Code, AllocError>
+    ensures { Gives code result (λ y c. c ≡ prefix_code operator y) }
+{
+    let code = code?;
+    forms::prefix_code(alloc, operator, code)
+}
+
+/// An operator with two operands.
+pub(crate) fn infix(
+    alloc: Global,
+    operator: Infix,
+    left: SharedNode<Code>,
+    right: Result<Code, AllocError>,
+) -> Result<Code, AllocError>
+    ensures { Gives right result (λ y c. c ≡ infix_code operator left y) }
+{
+    let right = held(alloc, right)?;
+    forms::infix_code(alloc, operator, left, right)
+}
+
+/// A test of a value's type.
+pub(crate) fn is_a<J: Judge>(
+    alloc: Global,
+    judge: &J,
+    known: &Known,
+    scope: &Scope,
+    state: &mut State,
+    code: Result<Code, AllocError>,
+    ty: &TypeText,
+) -> Result<Code, AllocError>
+    ensures { Gives code result (λ y c. coded c state.new ≡ tested (tests (J.below judge.now) (J.signature_refusal judge.now) (J.body_refusal judge.now) (J.wide_struct judge.now)) known.now y ty.now scope.now state.old) }
+{
+    let code = held(alloc, code)?;
+    let written = body_written(alloc, judge, known, scope, state, ty)?;
+    Ok(Code::Isa(code, written))
+}
+
+/// A comparison of two types.
+pub(crate) fn below<J: Judge>(
+    alloc: Global,
+    judge: &J,
+    known: &Known,
+    scope: &Scope,
+    state: &mut State,
+    left: &TypeText,
+    right: &TypeText,
+) -> Result<Code, AllocError>
+    ensures { IfOk result (λ c. coded c state.new ≡ is_below (tests (J.below judge.now) (J.signature_refusal judge.now) (J.body_refusal judge.now) (J.wide_struct judge.now)) known.now left.now right.now scope.now state.old) }
+{
+    let left = body_written(alloc, judge, known, scope, state, left)?;
+    let right = body_written(alloc, judge, known, scope, state, right)?;
+    Ok(Code::Sub(left, right))
+}
+
+/// A choice, whose test and first branch are read.
+pub(crate) fn choose(
+    alloc: Global,
+    test: SharedNode<Code>,
+    then: SharedNode<Code>,
+    or_else: Result<Code, AllocError>,
+) -> Result<Code, AllocError>
+    ensures { Gives or_else result (λ y c. c ≡ C.If test then y) }
+{
+    let or_else = held(alloc, or_else)?;
+    Ok(Code::If(test, then, or_else))
+}
+
+/// An `if` without `else`.
+pub(crate) fn only_if(alloc: Global, arms: Result<Vec<Arm>, AllocError>) -> Result<Code, AllocError>
+    ensures { Gives arms result (λ xs c. c ≡ chained xs.items W.Nothing) }
+{
+    let arms = arms?;
+    forms::chained(alloc, arms, Code::Nothing)
+}
+
+/// An `if` with `else`, whose tests and blocks are read.
+pub(crate) fn if_else(
+    alloc: Global,
+    arms: Vec<Arm>,
+    last: Result<Code, AllocError>,
+) -> Result<Code, AllocError>
+    ensures { Gives last result (λ y c. c ≡ chained arms.items y) }
+{
+    let last = last?;
+    forms::chained(alloc, arms, last)
+}
+
+/// The type of an explicit constructor, where its name is that of a struct.
+pub(crate) fn begun<J: Judge>(
+    alloc: Global,
+    judge: &J,
+    known: &Known,
+    scope: &Scope,
+    state: &mut State,
+    ty: &TypeText,
+) -> Result<Option<Written>, AllocError>
+    ensures { IfOk result (λ w. begun_as w state.new ≡ begun (tests (J.below judge.now) (J.signature_refusal judge.now) (J.body_refusal judge.now) (J.wide_struct judge.now)) known.now ty.now scope.now state.old) }
+{
+    match made_struct(known, ty, scope)? {
+        None => Ok(None),
+        Some(number) => {
+            let at = begins(ty);
+            let written = made_at(alloc, judge, known, scope, state, at, number, made_args(ty))?;
+            Ok(Some(written))
+        }
+    }
+}
+
+/// An explicit constructor, whose type is read.
+pub(crate) fn ended(
+    state: &mut State,
+    ty: &TypeText,
+    written: Option<Written>,
+    arguments: Result<Codes, AllocError>,
+) -> Result<Code, AllocError>
+    ensures { Gives arguments result (λ ys c. coded c state.new ≡ ended (begins ty.now) written (codes ys state.old)) }
+{
+    let arguments = arguments?;
+    match written {
+        None => {
+            note(state, begins(ty), StaticKind::UnknownFunction);
+            Ok(Code::Nothing)
+        }
+        Some(written) => Ok(Code::Make(written, arguments)),
+    }
+}
+
+/// The next spawn place, whose expression is read behind this.
+pub(crate) fn awaited(state: &mut State) -> Result<u32, AllocError>
+    ensures { IfOk result (λ n. (n ≡ length state.old.spawns) × (state.new ≡ awaited state.old)) }
+{
+    let place = small(state.spawns.len())?;
+    state.spawns.push(Code::Nothing)?;
+    Ok(place)
+}
+
+/// The expression of a spawn place.
+pub(crate) fn spawned_at(
+    state: &mut State,
+    place: u32,
+    code: Result<Code, AllocError>,
+) -> Result<Code, AllocError>
+    ensures { Gives code result (λ y c. coded c state.new ≡ spawned_at place (coded y state.old)) }
+{
+    let code = code?;
+    state.spawns.set(place as usize, code);
+    Ok(Code::Spawn(place))
+}
+
+/// An evaluated method.
+pub(crate) fn eval_method(alloc: Global, site: Result<u32, AllocError>) -> Result<Code, AllocError>
+    ensures { Gives site result (λ n c. c ≡ C.Eval (I.Define n ∷ [])) }
+{
+    let site = site?;
+    forms::one_item(alloc, Item::Define(site))
+}
+
+/// An evaluated expression.
+pub(crate) fn eval_expr(alloc: Global, code: Result<Code, AllocError>) -> Result<Code, AllocError>
+    ensures { Gives code result (λ y c. c ≡ C.Eval (I.Do y ∷ [])) }
+{
+    let code = code?;
+    forms::one_item(alloc, Item::Do(code))
+}
+
+/// An evaluated block.
+pub(crate) fn eval_block(items: Result<Items, AllocError>) -> Result<Code, AllocError>
+    ensures { Gives items result (λ xs c. c ≡ C.Eval xs) }
+{
+    let items = items?;
+    Ok(Code::Eval(items))
+}
+
+/// A print, which writes a newline at its end or not.
+pub(crate) fn print(pieces: Result<Showns, AllocError>, line: bool) -> Result<Code, AllocError>
+    ensures { Gives pieces result (λ xs c. c ≡ C.Print xs line) }
+{
+    let pieces = pieces?;
+    Ok(Code::Print(pieces, line))
+}
+
+/// A binding of a block.
+pub(crate) fn bound(
+    scope: &mut Scope,
+    state: &mut State,
+    name: &Name,
+    code: Result<Code, AllocError>,
+) -> Result<Statement, AllocError>
+    ensures { Gives code result (λ y x. stated x scope.new state.new ≡ said (S.Bind (length scope.old.slots) y) (bind name.now scope.old state.old)) }
+{
+    let code = code?;
+    forms::bound(scope, state, name, code)
+}
+
+/// A statement that returns.
+pub(crate) fn returned(code: Result<Code, AllocError>) -> Result<Statement, AllocError>
+    ensures { Gives code result (λ y x. x ≡ S.Return y) }
+{
+    let code = code?;
+    Ok(Statement::Return(code))
+}
+
+/// A statement that is an expression.
+pub(crate) fn done(code: Result<Code, AllocError>) -> Result<Statement, AllocError>
+    ensures { Gives code result (λ y x. x ≡ S.Do y) }
+{
+    let code = code?;
+    Ok(Statement::Do(code))
+}
+
+/// A text that is written as it stands.
+pub(crate) fn text(bytes: &Bytes) -> Result<Shown, AllocError>
+    ensures { IfOk result (λ p. p ≡ P.Text bytes.now) }
+{
+    let bytes = bytes.copy()?;
+    Ok(Shown::Text(bytes))
+}
+
+/// A value that is written.
+pub(crate) fn show(code: Result<Code, AllocError>) -> Result<Shown, AllocError>
+    ensures { Gives code result (λ y p. p ≡ P.Show y) }
+{
+    let code = code?;
+    Ok(Shown::Show(code))
+}
+
+/// A method of an evaluated block.
+pub(crate) fn define(site: Result<u32, AllocError>) -> Result<Item, AllocError>
+    ensures { Gives site result (λ n x. x ≡ I.Define n) }
+{
+    let site = site?;
+    Ok(Item::Define(site))
+}
+
+/// An expression of an evaluated block.
+pub(crate) fn evaluate(code: Result<Code, AllocError>) -> Result<Item, AllocError>
+    ensures { Gives code result (λ y x. x ≡ I.Do y) }
+{
+    let code = code?;
+    Ok(Item::Do(code))
+}
+
+/// A test, which is read, with its block.
+pub(crate) fn arm(
+    alloc: Global,
+    test: SharedNode<Code>,
+    block: Result<Code, AllocError>,
+) -> Result<Arm, AllocError>
+    ensures { Gives block result (λ y a. a ≡ record { test = test; then = y }) }
+{
+    let then = held(alloc, block)?;
+    Ok(Arm { test, then })
+}
+
+/// A method up to its body, and the number of its site.
+pub(crate) fn started<J: Judge>(
+    alloc: Global,
+    judge: &J,
+    known: &Known,
+    types: u32,
+    state: &mut State,
+    head: &Head,
+) -> Result<(u32, Opening), AllocError>
+    ensures { IfOk result (λ p. started_as p.0 p.1 state.new ≡ started (tests (J.below judge.now) (J.signature_refusal judge.now) (J.body_refusal judge.now) (J.wide_struct judge.now)) known.now head.now types state.old) }
+{
+    let opening = opened(alloc, judge, known, types, state, head)?;
+    let number = reserved(state, &opening)?;
+    Ok((number, opening))
+}
+
+/// A method, whose body is read.
+pub(crate) fn finished(
+    state: &mut State,
+    number: u32,
+    opening: Opening,
+    code: Result<Code, AllocError>,
+) -> Result<u32, AllocError>
+    ensures { Gives code result (λ y n. defined n state.new ≡ defined number (closed number opening (coded y state.old))) }
+{
+    let code = code?;
+    closed(state, number, opening, code);
+    Ok(number)
+}
+
+/// A block of statements, whose bindings end with it.
+pub(crate) fn block_ended(
+    alloc: Global,
+    scope: &mut Scope,
+    visible: usize,
+    statements: Row<Statement>,
+) -> Result<Code, AllocError>
+    ensures means { IfOk result (λ c. c ≡ C.Block statements) }
+    ensures kept { scope.new ≡ record scope.old { slots = take visible scope.old.slots } }
+{
+    scope.slots.truncate(visible);
+    Ok(Code::Block(statements.into_shared(alloc)?))
+}

@@ -1,0 +1,193 @@
+//! The statements at the top, and the program of a script whose declarations are known.
+
+ghost use Rattle.std.specs.Prelude.{◌≡◌, ◌∷◌, ◌++◌, [], ◌+◌, drop, length, IfOk, OnOk};
+ghost use Rattle.jl_resolve_forms.specs.Expressions.{bare_scope};
+ghost use Rattle.jl_resolve_forms.specs.Scopes.{seen};
+ghost use Rattle.jl_resolve_forms.specs.TypesIn.{tests};
+ghost use Rattle.jl_resolve_forms.specs.Top.{tops, top_bind, one_top, all_top, program_as, resolved};
+ghost use Rattle.jl_resolve_walk.specs.Steps.{tops_behind, one_type_more, top_bound, resolved_as};
+
+use crate::beginning::beginning;
+use crate::expressions::{expr, method};
+use crate::program::Resolved;
+use jl_calculus::tree::{Expr as Code, Item as Statement, Items, Program};
+use jl_grammar::tree::{Item, Name};
+use jl_model::rows::Row;
+use jl_model::ty::{Decl, Decls};
+use jl_resolve_forms::judge::Judge;
+use jl_resolve_forms::known::Known;
+use jl_resolve_forms::methods::bare_scope;
+use jl_resolve_forms::state::{Scope, State};
+use jl_resolve_forms::top::top_bind;
+use jl_written::fault::Fault;
+use jl_written::names::small;
+use std::alloc::{AllocError, Global};
+
+/// Behind a declaration one type more is declared.
+fn declared(scope: &mut Scope) -> Result<(), AllocError>
+    ensures { OnOk result (scope.new ≡ one_type_more scope.old) }
+{
+    scope.types = small(scope.types as usize + 1)?;
+    Ok(())
+}
+
+/// A binding at the top takes the next slot, and gives its number.
+fn placed(
+    known: &Known,
+    scope: &mut Scope,
+    state: &mut State,
+    name: &Name,
+) -> Result<u32, AllocError>
+    ensures { IfOk result (λ n. (n ≡ length scope.old.slots) × (seen scope.new state.new ≡ top_bind known.now name.now scope.old state.old)) }
+{
+    let slot = small(scope.slots.len())?;
+    top_bind(known, scope, state, name)?;
+    Ok(slot)
+}
+
+/// A binding at the top, whose value is read.
+fn bound(
+    known: &Known,
+    scope: &mut Scope,
+    state: &mut State,
+    name: &Name,
+    code: Code,
+) -> Result<Statement, AllocError>
+    ensures { IfOk result (λ x. tops (x ∷ []) scope.new state.new ≡ top_bound known.now name.now code scope.old state.old) }
+{
+    match placed(known, scope, state, name) {
+        Ok(slot) => Ok(Statement::Bind(slot, code)),
+        Err(error) => {
+            drop(code);
+            Err(error)
+        }
+    }
+}
+
+/// An item: a declaration is no statement.
+fn put_top<J: Judge>(
+    alloc: Global,
+    judge: &J,
+    known: &Known,
+    scope: &mut Scope,
+    state: &mut State,
+    out: &mut Row<Statement>,
+    text: &Item,
+) -> Result<(), AllocError>
+    ensures { OnOk result (tops out.new scope.new state.new ≡ tops_behind out.old (one_top (tests (J.below judge.now) (J.signature_refusal judge.now) (J.body_refusal judge.now) (J.wide_struct judge.now)) known.now text.now scope.old state.old)) }
+{
+    match text {
+        Item::Abstract(_) => declared(scope),
+        Item::Struct(_) => declared(scope),
+        Item::Method(text) => {
+            let site = method(alloc, judge, known, scope.types, state, text)?;
+            out.push(Statement::Define(site))
+        }
+        Item::Bind(name, value) => {
+            let code = expr(alloc, judge, known, scope, state, value)?;
+            let statement = bound(known, scope, state, name, code)?;
+            out.push(statement)
+        }
+        Item::Do(value) => {
+            let code = expr(alloc, judge, known, scope, state, value)?;
+            out.push(Statement::Do(code))
+        }
+    }
+}
+
+/// The items, where each sees the bindings and the types before it.
+fn all_top<J: Judge>(
+    alloc: Global,
+    judge: &J,
+    known: &Known,
+    scope: &mut Scope,
+    state: &mut State,
+    texts: &[Item],
+) -> Result<Items, AllocError>
+    ensures { IfOk result (λ xs. tops xs scope.new state.new ≡ all_top (tests (J.below judge.now) (J.signature_refusal judge.now) (J.body_refusal judge.now) (J.wide_struct judge.now)) known.now texts.now scope.old state.old) }
+{
+    let mut out = Row::new(alloc);
+    for text in texts {
+        put_top(alloc, judge, known, scope, state, &mut out, text)?;
+    }
+    let out = out.into_shared(alloc)?;
+    Ok(out)
+}
+
+/// The declarations behind the built-in ones.
+fn behind_builtin(decls: &[Decl]) -> &[Decl]
+    ensures { result.now ≡ drop 8 decls.now }
+{
+    if decls.len() < 8 { &[] } else { &decls[8..] }
+}
+
+/// An equal declaration, whose parts are shared.
+fn copied(decl: &Decl) -> Result<Decl, AllocError>
+    ensures { IfOk result (λ d. d ≡ decl.now) }
+{
+    Ok(Decl {
+        name: decl.name.copy()?,
+        kind: decl.kind,
+        params: decl.params.copy()?,
+        parent: decl.parent.copy()?,
+        fields: decl.fields.copy()?,
+    })
+}
+
+/// The declarations of a script.
+fn own_decls(alloc: Global, decls: &[Decl]) -> Result<Decls, AllocError>
+    ensures { IfOk result (λ ds. ds ≡ drop 8 decls.now) }
+{
+    let own = behind_builtin(decls);
+    let mut out = Row::new(alloc);
+    for decl in own {
+        out.push(copied(decl)?)?;
+    }
+    let out = out.into_shared(alloc)?;
+    Ok(out)
+}
+
+/// The program, whose statements are read.
+fn program_as(
+    alloc: Global,
+    known: &Known,
+    state: State,
+    top: Items,
+) -> Result<Resolved, AllocError>
+    ensures { IfOk result (λ r. resolved_as r.program r.fault ≡ program_as known.now (tops top (bare_scope 8) state)) }
+{
+    let State {
+        sites,
+        spawns,
+        fault,
+    } = state;
+    let program = Program {
+        decls: own_decls(alloc, known.decls.as_slice())?,
+        functions: known.functions.shared(alloc)?,
+        sites: sites.into_shared(alloc)?,
+        spawns: spawns.into_shared(alloc)?,
+        top,
+    };
+    Ok(Resolved { program, fault })
+}
+
+/// The program of a script and its first fault, behind the first fault of its declarations.
+///
+/// # Errors
+///
+/// Want of memory alone.
+pub fn resolved<J: Judge>(
+    alloc: Global,
+    judge: &J,
+    known: &Known,
+    items: &[Item],
+    fault: Option<Fault>,
+) -> Result<Resolved, AllocError>
+    ensures { IfOk result (λ r. resolved_as r.program r.fault ≡ resolved (tests (J.below judge.now) (J.signature_refusal judge.now) (J.body_refusal judge.now) (J.wide_struct judge.now)) known.now items.now fault) }
+{
+    let mut scope = bare_scope(alloc, 8);
+    let mut state = beginning(alloc, fault)?;
+    let top = all_top(alloc, judge, known, &mut scope, &mut state, items)?;
+    let program = program_as(alloc, known, state, top)?;
+    Ok(program)
+}

@@ -1,0 +1,4 @@
+//! Laws of the declarations and of the program of a script.
+#![tactic(auto)]
+
+pub mod laws;

@@ -1,0 +1,77 @@
+-- Each step of reading only adds to what is known.
+use Rattle.std.proofs.Common.{◌≡◌, ◌∙◌, refl, ℕ, ◌≤◌, ◌<◌, arith, le_refl, Bool, true, false, ◌||◌, cond, List, [], ◌∷◌, ◌++◌, length, length-append, Option, None, Some}
+use Rattle.jl_model.specs.declared.ty.Bound.{Bound}
+use Rattle.jl_written.specs.declared.fault.Fault.{Fault}
+use Rattle.jl_written.specs.declared.fault.StaticKind.{StaticKind}
+use Rattle.jl_written.specs.declared.reading.Reading.{Reading}
+use Rattle.jl_written.specs.Answered.{first_of, comes_before}
+use Rattle.jl_written.specs.Reads.{note, brought, fresh}
+use Rattle.jl_type_laws.specs.Grown.{Grows}
+
+abbrev pub fault_at : ℕ → StaticKind → Fault
+fault_at at k = record { at = at; kind = k }
+
+cond_some : (b : Bool) (f g : Fault) → cond b (Some f) (Some g) ≡ None → ⊥
+cond_some true f g e = cc
+cond_some false f g e = cc
+
+-- behind a fault there is one
+pub never_none : (o : Option Fault) (f : Fault) → first_of o f ≡ None → ⊥
+never_none None f e = cc
+never_none (Some g) f e = cond_some (comes_before f g) f g e
+
+pub or_left : (a b : Bool) → a ≡ true → (a || b) ≡ true
+or_left true b e = refl
+or_left false b e = cc
+
+pub one_longer : (bs : List Bound) (b : Bound) → length bs < length (bs ++ b ∷ [])
+one_longer bs b = let e = length-append bs (b ∷ []) in omega (arith, e)
+
+pub no_shorter : (bs : List Bound) (b : Bound) → length bs ≤ length (bs ++ b ∷ [])
+no_shorter bs b = let e = one_longer bs b in omega (arith, e)
+
+pub grows_refl : (r : Reading) → Grows r r
+grows_refl r = record { longer = le_refl (length r.vars); faultless = λ e. e; told = λ e. refl; unclear = λ e. e; misplaced = λ e. e }
+
+pub grows_trans : (r s t : Reading) → Grows r s → Grows s t → Grows r t
+grows_trans r s t g h = record {
+  longer = let a = g.longer in let b = h.longer in omega (arith, a, b);
+  faultless = λ e. g.faultless (h.faultless e);
+  told = λ e. h.told e ∙ g.told (h.faultless e);
+  unclear = λ e. h.unclear (g.unclear e);
+  misplaced = λ e. h.misplaced (g.misplaced e);
+}
+
+pub grows_note : (at : ℕ) (k : StaticKind) (r : Reading) → Grows r (note at k r)
+grows_note at k r = record {
+  longer = le_refl (length r.vars);
+  faultless = λ e. absurd (never_none r.fault (fault_at at k) e);
+  told = λ e. absurd (never_none r.fault (fault_at at k) e);
+  unclear = λ e. e;
+  misplaced = λ e. e;
+}
+
+-- a fault, and the text means no type
+pub grows_unclear : (at : ℕ) (k : StaticKind) (r : Reading) → Grows r (record (note at k r) { unclear = true })
+grows_unclear at k r = record {
+  longer = le_refl (length r.vars);
+  faultless = λ e. absurd (never_none r.fault (fault_at at k) e);
+  told = λ e. absurd (never_none r.fault (fault_at at k) e);
+  unclear = λ e. refl;
+  misplaced = λ e. e;
+}
+
+pub grows_brought : (inside : Bool) (r : Reading) → Grows r (brought inside r)
+grows_brought inside r = record {
+  longer = le_refl (length r.vars);
+  faultless = λ e. e;
+  told = λ e. refl;
+  unclear = λ e. e;
+  misplaced = or_left r.misplaced inside;
+}
+
+pub grows_bound : (b : Bound) (r : Reading) → Grows r (record r { vars = r.vars ++ b ∷ [] })
+grows_bound b r = record { longer = no_shorter r.vars b; faultless = λ e. e; told = λ e. refl; unclear = λ e. e; misplaced = λ e. e }
+
+pub grows_fresh : (b : Bound) (inside : Bool) (r : Reading) → Grows r (fresh b inside r).after
+grows_fresh b inside r = grows_trans r (brought inside r) (fresh b inside r).after (grows_brought inside r) (grows_bound b (brought inside r))

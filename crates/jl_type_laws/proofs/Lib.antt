@@ -1,0 +1,12 @@
+pub mod TextInduction
+pub mod GrowLemmas
+pub mod StepLemmas
+pub mod ReadLemmas
+pub mod CarryLemmas
+pub mod WideLemmas
+pub mod AdoptLemmas
+pub mod BodyLemmas
+pub mod MadeLemmas
+pub mod SignedLemmas
+pub mod KnownMore
+pub mod DeclarationLemmas

@@ -1,0 +1,113 @@
+-- The signatures of methods: where no fault stands they are good, and fit what their bodies see.
+use Rattle.std.proofs.Common.{◌≡◌, ◌∙◌, sym, ap, refl, ℕ, zero, suc, ◌+◌, ◌<◌, arith, add-zero, Bool, true, false, nat_lt, List, [], ◌∷◌, ◌++◌, map, length, get_or, Option, None, Some}
+use Rattle.std.specs.List.{flat_map, list_all}
+use Rattle.jl_model.specs.declared.ty.Bound.{Bound}
+use Rattle.jl_model.specs.declared.ty.Decl.{Decl}
+use Rattle.jl_model.specs.declared.ty.Written.{Written}
+use Rattle.jl_model.specs.AllRows.{each_var}
+use Rattle.jl_model.specs.Rows.{vars_in}
+use Rattle.jl_model.specs.Usable.{is_usable}
+use Rattle.jl_model.specs.Valid.{is_known}
+use Rattle.jl_typeread.specs.declared.tree.TypeText.{TypeText}
+use Rattle.jl_grammar.specs.declared.tree.Head.{Head}
+use Rattle.jl_grammar.specs.declared.tree.Param.{Param}
+use Rattle.jl_written.specs.declared.fault.StaticKind.TheVariants as kind
+use Rattle.jl_written.specs.declared.reading.Reading.{Reading}
+use Rattle.jl_written.specs.declared.reading.TypeVar.{TypeVar}
+use Rattle.jl_written.specs.Meaning.{var_of}
+use Rattle.jl_written.specs.Reads.{VarReads, unread, bound_name, guarded, bind, bind_all, var_reads}
+use Rattle.jl_written.specs.Signatures.{all_bound, all_read, option_reads, written_of}
+use Rattle.jl_resolve_forms.specs.declared.known.Known.{Known}
+use Rattle.jl_resolve_forms.specs.Expressions.{type_of, static_parameters, signed}
+use Rattle.jl_resolve_forms.specs.TypesIn.{Tests, declared_at}
+use Rattle.jl_type_laws.specs.Carried.{vars_pass, Visible, WhereUsable}
+use Rattle.jl_type_laws.specs.Scripts.{DeclsKnown}
+use Rattle.jl_type_laws.specs.Told.{StaticsFit, IsGoodSignature}
+use Rattle.jl_type_laws.proofs.GrowLemmas.{grows_trans}
+use Rattle.jl_type_laws.proofs.CarryLemmas.{lt_true, all_pass, all_flat}
+use Rattle.jl_type_laws.proofs.AdoptLemmas.{adopted_length}
+use Rattle.jl_type_laws.proofs.ReadLemmas.{all_law, bound_law}
+use Rattle.jl_type_laws.proofs.BodyLemmas.{untold, known_at, vars_at, types_pass, nothing_has}
+
+-- ---- the variables of a `where` at the end may all stand behind it
+
+abbrev pub AllUsable : List TypeVar → Type 0
+AllUsable [] = Unit {0}
+AllUsable (v ∷ vs) = (v.usable ≡ true) × AllUsable vs
+
+usable_append : (vs : List TypeVar) (v : TypeVar) → AllUsable vs → v.usable ≡ true → AllUsable (vs ++ v ∷ [])
+usable_append [] v h g = (g, tt)
+usable_append (u ∷ vs) v h g = (h.0, usable_append vs v h.1 g)
+
+bound_usable : (at : ℕ) (name : List ℕ) (b : Bound) (vars : List TypeVar) (r : Reading) (o : Option TypeVar) → AllUsable vars → AllUsable (bound_name at name b vars r o).vars
+bound_usable at name b vars r None h = usable_append vars (record { name = name; number = length r.vars; usable = true }) h refl
+bound_usable at name b vars r (Some v) h = h
+
+pub all_usable : (vs : List VarReads) (vars : List TypeVar) (inside : Bool) (r : Reading) → AllUsable vars → AllUsable (bind_all vs vars inside r).vars
+all_usable [] vars inside r h = h
+all_usable (v ∷ vs) vars inside r h =
+    let b = v.bounds vars inside r in
+    let s = bind v vars inside r in
+    all_usable vs s.vars inside s.after (bound_usable v.at v.name b.bound vars (guarded v.at v.name b.after) (var_of vars v.name) h)
+
+-- ---- static parameters
+
+each_var_at : {A : Type 0} (f : ℕ → A) (bs : List Bound) (i v : ℕ) (d : A) → v < length bs → get_or (each_var f i bs) v d ≡ f (i + v)
+each_var_at f [] i v d l = absurd (omega (arith, l))
+each_var_at f (b ∷ bs) i zero d l = ap f (sym (add-zero i))
+each_var_at f (b ∷ bs) i (suc v) d l = each_var_at f bs (i + 1) v d (omega (arith, l)) ∙ ap f (let e : (i + 1) + v ≡ i + suc v = omega arith in e)
+
+lt_of : (v n : ℕ) → nat_lt v n ≡ true → v < n
+lt_of v n e = grind (arith, e)
+
+pub statics_fit : (w : Written) (vs : List TypeVar) → Visible (WhereUsable (λ v. nat_lt v (length w.vars) ≡ true)) vs → AllUsable vs → StaticsFit (each_var (is_usable w) 0 w.vars) (static_parameters w vs)
+statics_fit w [] h g = tt
+statics_fit w (v ∷ vs) h g = (
+  (λ u. each_var_at (is_usable w) w.vars 0 v.number false (lt_of v.number (length w.vars) (h.0 g.0)) ∙ ap (is_usable w) (let e : 0 + v.number ≡ v.number = omega arith in e) ∙ u),
+  statics_fit w vs h.1 g.1,
+)
+
+-- ---- as many types as parameters
+
+read_length : (ds : List Decl) (ts : List (Option TypeText)) (vars : List TypeVar) (r : Reading) → length (all_read ds ts vars r).tys ≡ length ts
+read_length ds [] vars r = refl
+read_length ds (t ∷ ts) vars r = ap suc (read_length ds ts vars (option_reads ds t vars r).after)
+
+types_length : (ps : List Param) → length (map type_of ps) ≡ length ps
+types_length [] = refl
+types_length (p ∷ ps) = ap suc (types_length ps)
+
+module _ (t : Tests) (k : Known) (declared : DeclsKnown k.decls) (types : ℕ) (head : Head) where
+  pub signed_good : (signed t k types head).fault ≡ None → (signed t k types head).refusal ≡ None → IsGoodSignature t k.decls head (signed t k types head)
+  signed_good e n =
+      let ds = declared_at k types in
+      let texts = map type_of head.params in
+      let s = all_bound ds head.vars [] unread in
+      let ts = all_read ds texts s.vars s.after in
+      let r = ts.after in
+      let w = written_of t.below ts in
+      let q : ℕ → Bool = λ v. nat_lt v (length r.vars) in
+      let ck = known_at k.decls declared types in
+      let cv = vars_at k.decls declared types q in
+      let bk = bound_law ds _ _ _ _ ck head.vars [] unread in
+      let bv = bound_law ds _ _ _ _ cv head.vars [] unread in
+      let lk = all_law ds _ _ _ _ ck texts s.vars s.after in
+      let lv = all_law ds _ _ _ _ cv texts s.vars s.after in
+      let long = lv.grows.longer in
+      let known_vars = bk.holds tt (λ v l. tt) tt (nothing_has _) in
+      let known = lk.holds tt (λ v l. tt) known_vars.0 known_vars.1 in
+      let own_vars = bv.holds (lv.grows.faultless e) (λ v l. lt_true v (length r.vars) (omega (arith, l, long))) tt (nothing_has _) in
+      let own = lv.holds e (λ v l. lt_true v (length r.vars) l) own_vars.0 own_vars.1 in
+      let same : length w.vars ≡ length r.vars = adopted_length t.below r.places r.vars in
+      let grown = grows_trans unread s.after r bv.grows lv.grows in
+      record {
+        own = ap (λ z. list_all (λ v. nat_lt v z) (flat_map vars_in ts.tys)) same ∙ all_flat q ts.tys ∙ all_pass (vars_pass q) ts.tys own.0;
+        known = types_pass (is_known (length k.decls)) t.below r ts.tys (ck.union [] tt) ck.any known.1 known.0;
+        allowed = untold r.misplaced r.unclear kind.VariablePlace (t.signature w) (grown.told e) n;
+        counted = sym (read_length ds texts s.vars s.after ∙ types_length head.params);
+        statics = statics_fit w s.vars (widened w.vars s.vars (sym same) own_vars.0) (all_usable (map (var_reads ds) head.vars) [] false unread tt);
+      }
+    where
+      widened : {n : ℕ} (bs : List Bound) (vs : List TypeVar) → n ≡ length bs → Visible (WhereUsable (λ v. nat_lt v n ≡ true)) vs → Visible (WhereUsable (λ v. nat_lt v (length bs) ≡ true)) vs
+      widened bs [] e h = tt
+      widened bs (v ∷ vs) e h = ((λ u. ap (λ z. nat_lt v.number z) (sym e) ∙ h.0 u), widened bs vs e h.1)

@@ -1,0 +1,217 @@
+-- How many variables a text brings does not depend on the numbers of the visible variables.
+use Rattle.std.proofs.Common.{◌≡◌, ◌∙◌, sym, ap, subst, refl, ℕ, arith, Bool, true, false, cond, List, [], ◌∷◌, ◌++◌, map, length, length-append, drop, Option, None, Some, slice_get}
+use Rattle.jl_model.specs.declared.ty.Ty.{Ty, out-Ty}
+use Rattle.jl_model.specs.declared.ty.Ty.TheOpen.{Ty-F}
+use Rattle.jl_model.specs.declared.ty.Ty.TheOpen as L
+use Rattle.jl_model.specs.declared.ty.Bound.{Bound}
+use Rattle.jl_model.specs.declared.ty.Decl.{Decl}
+use Rattle.jl_model.specs.Valid.{params_of}
+use Rattle.jl_calculus.specs.Names.{same_text, is_among, builtin_names}
+use Rattle.jl_typeread.specs.declared.tree.TypeText.{TypeText}
+use Rattle.jl_typeread.specs.declared.tree.ArgText.TheOpen as F
+use Rattle.jl_typeread.specs.declared.tree.ArgText.TheFolds.{fold-roll-TypeText, fold-roll-ArgText, fold-roll-VarText}
+use Rattle.jl_written.specs.declared.fault.StaticKind.TheVariants as kind
+use Rattle.jl_written.specs.declared.reading.Named.{Named}
+use Rattle.jl_written.specs.declared.reading.Named.TheVariants as M
+use Rattle.jl_written.specs.declared.reading.Reading.{Reading}
+use Rattle.jl_written.specs.declared.reading.TypeVar.{TypeVar}
+use Rattle.jl_written.specs.Meaning.{var_of, word_of, var_or}
+use Rattle.jl_written.specs.Reads.{TypeReads, ArgReads, VarReads, note, unread, used, fresh, missing, placed, placed_layer, arguments, members, bound_name, guarded, bind, bind_all, where_at, within, plain, applied, type_step, arg_step, var_step, type_reads, arg_reads, var_reads}
+use Rattle.jl_written.specs.Signatures.{shifted, width_of}
+use Rattle.jl_type_laws.proofs.TextInduction.{EachText, TextCases, by_type}
+use Rattle.jl_type_laws.proofs.ReadLemmas.{each_map}
+
+abbrev Same : Reading → Reading → Type 0
+Same r q = length r.vars ≡ length q.vars
+
+abbrev pub names_of : List TypeVar → List (List ℕ)
+names_of vs = map (λ (v : TypeVar). v.name) vs
+
+longer : (r q : Reading) (b d : Bound) → Same r q → length (r.vars ++ b ∷ []) ≡ length (q.vars ++ d ∷ [])
+longer r q b d h = let e = length-append r.vars (b ∷ []) in let f = length-append q.vars (d ∷ []) in omega (arith, e, f, h)
+
+used_same : (at : ℕ) (usable : Bool) (r : Reading) → (used at usable r).vars ≡ r.vars
+used_same at true r = refl
+used_same at false r = refl
+
+missing_wide : (bs : List Bound) (i : Bool) (r q : Reading) → Same r q → Same (missing bs i r).after (missing bs i q).after
+missing_wide [] i r q h = h
+missing_wide (b ∷ bs) i r q h = missing_wide bs i (fresh b i r).after (fresh b i q).after (longer r q b b h)
+
+layer_same : (high : Ty) (y : Ty-F Ty) (r : Reading) → (placed_layer high y r).vars ≡ r.vars
+layer_same high (L.Var v) r = refl
+layer_same high L.Any r = refl
+layer_same high (L.Union ts) r = refl
+layer_same high (L.Tuple ts) r = refl
+layer_same high (L.Nominal k ts) r = refl
+
+placed_same : (bs : List Bound) (t : Ty) (r : Reading) → (placed bs t r).vars ≡ r.vars
+placed_same [] t r = refl
+placed_same (b ∷ bs) t r = layer_same b.high (out-Ty t) r
+
+pub guarded_same : (at : ℕ) (b : Bool) (r : Reading) → (cond b (note at kind.NameClash r) r).vars ≡ r.vars
+guarded_same at true r = refl
+guarded_same at false r = refl
+
+where_same : (vs : List VarReads) (i : Bool) (r : Reading) → (where_at vs i r).vars ≡ r.vars
+where_same [] i r = refl
+where_same (v ∷ vs) i r = refl
+
+abbrev TypeWide : TypeReads → Type 0
+TypeWide t = (a b : List TypeVar) → names_of a ≡ names_of b → (i : Bool) (r q : Reading) → Same r q → Same (t a i r).after (t b i q).after
+
+abbrev ArgWide : ArgReads → Type 0
+ArgWide x = (a b : List TypeVar) → names_of a ≡ names_of b → (o i : Bool) (r q : Reading) → Same r q → Same (x a o i r).after (x b o i q).after
+
+abbrev VarWide : VarReads → Type 0
+VarWide v = (a b : List TypeVar) → names_of a ≡ names_of b → (i : Bool) (r q : Reading) → Same r q → Same (v.bounds a i r).after (v.bounds b i q).after
+
+arguments_wide : (bs : List Bound) (xs : List ArgReads) → EachText ArgWide xs → (a b : List TypeVar) → names_of a ≡ names_of b → (i : Bool) (r q : Reading) → Same r q
+    → Same (arguments bs xs a i r).after (arguments bs xs b i q).after
+arguments_wide bs [] l a b n i r q h = missing_wide bs i r q h
+arguments_wide bs (x ∷ xs) l a b n i r q h =
+    let t = x a i true r in
+    let u = x b i true q in
+    let e = ap (λ z. length z) (placed_same bs t.ty t.after) in
+    let f = ap (λ z. length z) (placed_same bs u.ty u.after) in
+    arguments_wide (drop 1 bs) xs l.1 a b n i (placed bs t.ty t.after) (placed bs u.ty u.after) (e ∙ l.0 a b n i true r q h ∙ sym f)
+
+members_wide : (xs : List ArgReads) → EachText ArgWide xs → (a b : List TypeVar) → names_of a ≡ names_of b → (i : Bool) (r q : Reading) → Same r q
+    → Same (members xs a i r).after (members xs b i q).after
+members_wide [] l a b n i r q h = h
+members_wide (x ∷ xs) l a b n i r q h = members_wide xs l.1 a b n i (x a i i r).after (x b i i q).after (l.0 a b n i i r q h)
+
+-- ---- names
+
+has : Option TypeVar → Bool
+has None = false
+has (Some v) = true
+
+found : List (List ℕ) → List ℕ → Bool
+found [] name = false
+found (n ∷ ns) name = cond (same_text name n) true (found ns name)
+
+has_cond : (b : Bool) (v : TypeVar) (o : Option TypeVar) → has (cond b (Some v) o) ≡ cond b true (has o)
+unfolding has
+has_cond true v o = refl
+has_cond false v o = refl
+
+has_found : (vs : List TypeVar) (name : List ℕ) → has (var_of vs name) ≡ found (names_of vs) name
+unfolding has found
+has_found [] name = refl
+has_found (v ∷ vs) name = has_cond (same_text name v.name) v (var_of vs name) ∙ ap (λ z. cond (same_text name v.name) true z) (has_found vs name)
+
+alike : (a b : List TypeVar) (name : List ℕ) → names_of a ≡ names_of b → has (var_of a name) ≡ has (var_of b name)
+alike a b name n = has_found a name ∙ ap (λ z. found z name) n ∙ sym (has_found b name)
+
+module _ (ds : List Decl) where
+  word_wide : (at : ℕ) (w : Named) (i : Bool) (r q : Reading) → Same r q → Same (plain ds at w i r).after (plain ds at w i q).after
+  word_wide at (M.Variable v usable) i r q h = ap (λ z. length z) (used_same at usable r) ∙ h ∙ sym (ap (λ z. length z) (used_same at usable q))
+  word_wide at M.Any i r q h = h
+  word_wide at M.Union i r q h = h
+  word_wide at M.Tuple i r q h = h
+  word_wide at (M.Nominal k) i r q h = missing_wide (params_of (slice_get ds k)) i r q h
+  word_wide at M.Unknown i r q h = h
+
+  plain_wide : (at : ℕ) (o p : Option TypeVar) (w : Named) → has o ≡ has p → (i : Bool) (r q : Reading) → Same r q → Same (plain ds at (var_or o w) i r).after (plain ds at (var_or p w) i q).after
+  unfolding has
+  plain_wide at None None w e i r q h = word_wide at w i r q h
+  plain_wide at (Some v) (Some u) w e i r q h = ap (λ z. length z) (used_same at v.usable r) ∙ h ∙ sym (ap (λ z. length z) (used_same at u.usable q))
+  plain_wide at None (Some u) w e i r q h = cc
+  plain_wide at (Some v) None w e i r q h = cc
+
+  braces_wide : (at : ℕ) (w : Named) (xs : List ArgReads) → EachText ArgWide xs → (a b : List TypeVar) → names_of a ≡ names_of b → (i : Bool) (r q : Reading) → Same r q
+      → Same (applied ds at w xs a i r).after (applied ds at w xs b i q).after
+  braces_wide at (M.Variable v usable) xs l a b n i r q h = h
+  braces_wide at M.Any xs l a b n i r q h = h
+  braces_wide at M.Union xs l a b n i r q h = members_wide xs l a b n i r q h
+  braces_wide at M.Tuple xs l a b n i r q h = members_wide xs l a b n i r q h
+  braces_wide at (M.Nominal k) xs l a b n i r q h = arguments_wide (params_of (slice_get ds k)) xs l a b n i r q h
+  braces_wide at M.Unknown xs l a b n i r q h = h
+
+  applied_wide : (at : ℕ) (o p : Option TypeVar) (w : Named) → has o ≡ has p → (xs : List ArgReads) → EachText ArgWide xs → (a b : List TypeVar) → names_of a ≡ names_of b → (i : Bool) (r q : Reading) → Same r q
+      → Same (applied ds at (var_or o w) xs a i r).after (applied ds at (var_or p w) xs b i q).after
+  unfolding has
+  applied_wide at None None w e xs l a b n i r q h = braces_wide at w xs l a b n i r q h
+  applied_wide at (Some v) (Some u) w e xs l a b n i r q h = h
+  applied_wide at None (Some u) w e xs l a b n i r q h = cc
+  applied_wide at (Some v) None w e xs l a b n i r q h = cc
+
+-- ---- variables
+
+names_append : (vs : List TypeVar) (v : TypeVar) → names_of (vs ++ v ∷ []) ≡ names_of vs ++ v.name ∷ []
+names_append [] v = refl
+names_append (u ∷ vs) v = ap (λ z. u.name ∷ z) (names_append vs v)
+
+abbrev VarsAlike : (a b : List TypeVar) (r q : Reading) → Type 0
+VarsAlike a b r q = (names_of a ≡ names_of b) × Same r q
+
+bound_wide : (at : ℕ) (name : List ℕ) (c d : Bound) (a b : List TypeVar) → names_of a ≡ names_of b → (r q : Reading) → Same r q → (o p : Option TypeVar) → has o ≡ has p
+    → VarsAlike (bound_name at name c a r o).vars (bound_name at name d b q p).vars (bound_name at name c a r o).after (bound_name at name d b q p).after
+unfolding has
+bound_wide at name c d a b n r q h None None e =
+    let v : TypeVar = record { name = name; number = length r.vars; usable = true } in
+    let u : TypeVar = record { name = name; number = length q.vars; usable = true } in
+    (names_append a v ∙ ap (λ z. z ++ name ∷ []) n ∙ sym (names_append b u), longer r q c d h)
+bound_wide at name c d a b n r q h (Some v) (Some u) e = (n, longer r q c d h)
+bound_wide at name c d a b n r q h None (Some u) e = cc
+bound_wide at name c d a b n r q h (Some v) None e = cc
+
+bind_wide : (v : VarReads) → VarWide v → (a b : List TypeVar) → names_of a ≡ names_of b → (i : Bool) (r q : Reading) → Same r q
+    → VarsAlike (bind v a i r).vars (bind v b i q).vars (bind v a i r).after (bind v b i q).after
+bind_wide v l a b n i r q h =
+    let c = v.bounds a i r in
+    let d = v.bounds b i q in
+    let e = ap (λ z. length z) (guarded_same v.at (is_among v.name builtin_names) c.after) in
+    let f = ap (λ z. length z) (guarded_same v.at (is_among v.name builtin_names) d.after) in
+    bound_wide v.at v.name c.bound d.bound a b n (guarded v.at v.name c.after) (guarded v.at v.name d.after) (e ∙ l a b n i r q h ∙ sym f) (var_of a v.name) (var_of b v.name) (alike a b v.name n)
+
+bind_all_wide : (vs : List VarReads) → EachText VarWide vs → (a b : List TypeVar) → names_of a ≡ names_of b → (i : Bool) (r q : Reading) → Same r q
+    → VarsAlike (bind_all vs a i r).vars (bind_all vs b i q).vars (bind_all vs a i r).after (bind_all vs b i q).after
+bind_all_wide [] l a b n i r q h = (n, h)
+bind_all_wide (v ∷ vs) l a b n i r q h =
+    let s = bind v a i r in
+    let u = bind v b i q in
+    let w = bind_wide v l.0 a b n i r q h in
+    bind_all_wide vs l.1 s.vars u.vars w.0 i s.after u.after w.1
+
+within_wide : (t : TypeReads) → TypeWide t → (vs : List VarReads) → EachText VarWide vs → TypeWide (within t vs)
+within_wide t k vs l a b n i r q h =
+    let e = ap (λ z. length z) (where_same vs i r) in
+    let f = ap (λ z. length z) (where_same vs i q) in
+    let s = bind_all vs a i (where_at vs i r) in
+    let u = bind_all vs b i (where_at vs i q) in
+    let w = bind_all_wide vs l a b n i (where_at vs i r) (where_at vs i q) (e ∙ h ∙ sym f) in
+    k s.vars u.vars w.0 i s.after u.after w.1
+
+module _ (ds : List Decl) where
+  cases : TextCases (λ t. ArgWide (arg_reads ds t)) (λ t. TypeWide (type_reads ds t)) (λ t. VarWide (var_reads ds t))
+  cases = record {
+    name = λ at n. subst TypeWide (sym (fold-roll-TypeText ArgReads TypeReads VarReads (arg_step ds) (type_step ds) (var_step ds) (F.Name at n)))
+        (λ a b m i r q h. plain_wide ds at (var_of a n) (var_of b n) (word_of ds n) (alike a b n m) i r q h);
+    applied = λ at n xs l. subst TypeWide (sym (fold-roll-TypeText ArgReads TypeReads VarReads (arg_step ds) (type_step ds) (var_step ds) (F.Applied at n xs)))
+        (λ a b m i r q h. applied_wide ds at (var_of a n) (var_of b n) (word_of ds n) (alike a b n m) (map (arg_reads ds) xs) (each_map ArgWide (arg_reads ds) xs l) a b m i r q h);
+    paren = λ at t vs k l. subst TypeWide (sym (fold-roll-TypeText ArgReads TypeReads VarReads (arg_step ds) (type_step ds) (var_step ds) (F.Paren at t vs)))
+        (within_wide (type_reads ds t) k (map (var_reads ds) vs) (each_map VarWide (var_reads ds) vs l));
+    exact = λ t l. subst ArgWide (sym (fold-roll-ArgText ArgReads TypeReads VarReads (arg_step ds) (type_step ds) (var_step ds) (F.Exact t))) (λ a b n o i r q h. l a b n i r q h);
+    below_ = λ at t l. subst ArgWide (sym (fold-roll-ArgText ArgReads TypeReads VarReads (arg_step ds) (type_step ds) (var_step ds) (F.ArgText::Below at t)))
+        (λ a b n o i r q h. longer (type_reads ds t a i r).after (type_reads ds t b i q).after _ _ (l a b n i r q h));
+    above = λ at t l. subst ArgWide (sym (fold-roll-ArgText ArgReads TypeReads VarReads (arg_step ds) (type_step ds) (var_step ds) (F.ArgText::Above at t)))
+        (λ a b n o i r q h. longer (type_reads ds t a i r).after (type_reads ds t b i q).after _ _ (l a b n i r q h));
+    free = λ at n. subst VarWide (sym (fold-roll-VarText ArgReads TypeReads VarReads (arg_step ds) (type_step ds) (var_step ds) (F.Free at n))) (λ a b m i r q h. h);
+    upper = λ at n t l. subst VarWide (sym (fold-roll-VarText ArgReads TypeReads VarReads (arg_step ds) (type_step ds) (var_step ds) (F.VarText::Below at n t))) l;
+    lower = λ at n t l. subst VarWide (sym (fold-roll-VarText ArgReads TypeReads VarReads (arg_step ds) (type_step ds) (var_step ds) (F.VarText::Above at n t))) l;
+    between = λ t at n u l k. subst VarWide (sym (fold-roll-VarText ArgReads TypeReads VarReads (arg_step ds) (type_step ds) (var_step ds) (F.Between t at n u)))
+        (λ a b m i r q h. k a b m i (type_reads ds t a i r).after (type_reads ds t b i q).after (l a b m i r q h));
+  }
+
+  pub type_wide : (t : TypeText) → TypeWide (type_reads ds t)
+  type_wide = by_type _ _ _ cases
+
+shifted_names : (n : ℕ) (vs : List TypeVar) → names_of (shifted n vs) ≡ names_of vs
+shifted_names n [] = refl
+shifted_names n (v ∷ vs) = ap (λ z. v.name ∷ z) (shifted_names n vs)
+
+-- a type in a body brings as many variables as are counted before its static parameters
+pub width_is : (ds : List Decl) (statics : List TypeVar) (t : TypeText) (n : ℕ) → length (type_reads ds t (shifted n statics) false unread).after.vars ≡ width_of ds statics t
+width_is ds statics t n = type_wide ds t (shifted n statics) (shifted 0 statics) (shifted_names n statics ∙ sym (shifted_names 0 statics)) false unread unread refl

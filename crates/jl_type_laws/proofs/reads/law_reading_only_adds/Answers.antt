@@ -1,0 +1,13 @@
+use Rattle.jl_written.specs.Reads.{unread}
+use Rattle.jl_type_laws.proofs.CarryLemmas.{nothing_carried}
+use Rattle.jl_type_laws.proofs.ReadLemmas.{type_law, option_law, all_law, bound_law}
+use Rattle.jl_type_laws.proofs.reads.law_reading_only_adds.Goals as goal
+
+pub returns : goal.returns
+returns c = record {
+  one = λ ds t vars inside r. (type_law ds _ _ _ _ (nothing_carried ds) t vars inside r).grows;
+  optional = λ ds t vars r. (option_law ds _ _ _ _ (nothing_carried ds) t vars r).grows;
+  many = λ ds ts vars r. (all_law ds _ _ _ _ (nothing_carried ds) ts vars r).grows;
+  variables = λ ds vs vars r. (bound_law ds _ _ _ _ (nothing_carried ds) vs vars r).grows;
+  clear = λ ds t vars inside. (type_law ds _ _ _ _ (nothing_carried ds) t vars inside unread).grows.told;
+}

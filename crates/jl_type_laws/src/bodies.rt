@@ -1,0 +1,32 @@
+//! Laws of the types in bodies and of the signatures of methods, where no fault stands (Julia manual, Methods).
+
+ghost use Rattle.std.specs.Prelude.{ℕ, ◌≡◌, Bool, List, IsTrue, None};
+ghost use Rattle.jl_calculus.specs.BodyTypes.{is_struct};
+ghost use Rattle.jl_grammar.specs.declared.tree.Head.{Head};
+ghost use Rattle.jl_typeread.specs.declared.tree.ArgText.{ArgText};
+ghost use Rattle.jl_typeread.specs.declared.tree.TypeText.{TypeText};
+ghost use Rattle.jl_resolve_forms.specs.declared.known.Known.{Known};
+ghost use Rattle.jl_resolve_forms.specs.declared.state.Scope.{Scope};
+ghost use Rattle.jl_resolve_forms.specs.declared.state.State.{State};
+ghost use Rattle.jl_resolve_forms.specs.Expressions.{signed};
+ghost use Rattle.jl_resolve_forms.specs.TypesIn.{Tests, body_written, made_at};
+ghost use Rattle.jl_type_laws.specs.Scripts.{DeclsKnown};
+ghost use Rattle.jl_type_laws.specs.Told.{StaticsFit, IsSeenType, IsMadeType, IsGoodSignature};
+
+/// A type in a body, behind which no fault stands, may stand where its static parameters are visible.
+pub fn law_body_type()
+    ensures { (t : Tests) (k : Known) → DeclsKnown k.decls → (flags : List Bool) (c : Scope) → StaticsFit flags c.statics → (text : TypeText) (s : State)
+        → (body_written t k text c s).after.fault ≡ None → IsSeenType t k.decls flags s (body_written t k text c s) }
+{}
+
+/// The type of an explicit constructor of a declared struct, behind which no fault stands, is a type of that struct.
+pub fn law_constructor_type()
+    ensures { (t : Tests) (k : Known) → DeclsKnown k.decls → (flags : List Bool) (c : Scope) → StaticsFit flags c.statics → (at p : ℕ) → IsTrue (is_struct k.decls p) → (xs : List ArgText) (s : State)
+        → (made_at t k at p xs c s).after.fault ≡ None → IsMadeType t k.decls flags s (made_at t k at p xs c s) }
+{}
+
+/// The signature of a method without a fault that nothing refuses is a good one.
+pub fn law_signature()
+    ensures { (t : Tests) (k : Known) → DeclsKnown k.decls → (types : ℕ) (h : Head)
+        → (signed t k types h).fault ≡ None → (signed t k types h).refusal ≡ None → IsGoodSignature t k.decls h (signed t k types h) }
+{}

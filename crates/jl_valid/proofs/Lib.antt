@@ -1,0 +1,14 @@
+pub mod FaultLemmas
+pub mod AddsLemmas
+pub mod ScopeLemmas
+pub mod FormLemmas
+pub mod CleanForms
+pub mod CleanTrees
+pub mod LawLemmas
+pub mod BareType
+pub mod TopLemmas
+pub mod NameLemmas
+pub mod TreeLemmas
+pub mod PlaceForms
+pub mod BlockForms
+pub mod TypeUses

@@ -1,0 +1,2 @@
+f(x) = x + y
+println(f(1))
