@@ -52,11 +52,12 @@ pub fn standing(alloc: Global, table: &Table, pair: &Pair) -> Result<&'static st
 }
 
 /// Pairs of signatures.
-pub static PAIRS: [Pair; 22] = [
+pub static PAIRS: [Pair; 24] = [
     // without variables, and of other lengths
     ("(Int64) to (Integer)", "", "i", "", "I"),
     ("(Int64) to (Int64, Int64)", "", "i", "", "ii"),
-    // parameters of types are invariant
+    // tuples are covariant, and parameters of types are invariant
+    ("(Tuple{Int64}) to (Tuple{Integer})", "", "ti", "", "tI"),
     ("(Box{Int64}) to (Box{Integer})", "", "Bi", "", "BI"),
     (
         "(Box{Int64}) to (Box{T}) where T<:Integer",
@@ -89,6 +90,13 @@ pub static PAIRS: [Pair; 22] = [
     // a variable that stands once is its upper bound, one that stands twice is a concrete type
     ("(T, T) where T to (Int64, Int64)", "za", "00", "", "ii"),
     ("(T, T) where T to (Any, Any)", "za", "00", "", "aa"),
+    (
+        "(T, T) where T<:Integer to (Integer, Integer)",
+        "zI",
+        "00",
+        "",
+        "II",
+    ),
     ("(T) where T to (Any)", "za", "0", "", "a"),
     ("(T) where T>:Int64 to (Any)", "ia", "0", "", "a"),
     (

@@ -1,6 +1,6 @@
 pub mod Owned
 pub mod StepLemmas
-pub mod Unclear
+pub mod Unknown
 pub mod Allowed
 pub mod OneAnswer
 pub mod OneResult

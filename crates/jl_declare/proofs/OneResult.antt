@@ -66,7 +66,7 @@ more_valid st k h fields e s a = go (told ds all r) refl a
     all = nat_eq st.allowed (length ds)
 
     go : (o : Option Judged) → told ds all r ≡ o → IsAnswer ds r.decl o (J.Kept e) → Declared (ds ++ e ∷ [])
-    go (Some t) i p = absurd (never_kept (is_among r.decl.name (decl_names ds)) r.reading.unclear r.whole all e (i ∙ ap (λ z. Some z) (sym p)))
+    go (Some t) i p = absurd (never_kept (is_among r.decl.name (decl_names ds)) r.reading.unknown r.whole all e (i ∙ ap (λ z. Some z) (sym p)))
     go None i p =
         let n = told_none ds all r i in
         let v = s.valid (same_length st.allowed (length ds) n.1) in

@@ -1,5 +1,5 @@
 -- One declaration more.
-use Rattle.std.proofs.Common.{◌≡◌, ◌∙◌, ap, sym, refl, subst, ℕ, ◌+◌, zero, suc, add-one, arith, Bool, true, false, not, cond, nat_eq, List, [], ◌∷◌, ◌++◌, map, length, drop, take, slice_get, append_assoc, Some, None}
+use Rattle.std.proofs.Common.{◌≡◌, ◌∙◌, ap, sym, refl, subst, ℕ, ◌+◌, zero, suc, add-one, arith, Bool, true, false, ◌&&◌, not, cond, nat_eq, List, [], ◌∷◌, ◌++◌, map, length, drop, take, slice_get, append_assoc, Some, None}
 use Rattle.std.proofs.lemmas.List.{length-append}
 use Rattle.std.proofs.Math.Seq.{take-length}
 use Rattle.jl_model.specs.declared.ty.Ty.{Ty}
@@ -21,7 +21,7 @@ use Rattle.jl_declare.specs.declared.judged.Judged.TheVariants as J
 use Rattle.jl_declare.specs.declared.read.Heading.{Heading}
 use Rattle.jl_declare.specs.declared.read.ReadDecl.{ReadDecl}
 use Rattle.jl_declare.specs.declared.state.Declarations.{Declarations}
-use Rattle.jl_declare.specs.Declaration.{fields_of, heading, declaration}
+use Rattle.jl_declare.specs.Declaration.{fields_of, heading, outline, declaration}
 use Rattle.jl_declare.specs.Judgement.{IsJudged, decl_names, told, IsAnswer, kept_in, shown, refusal_at}
 use Rattle.jl_declare.specs.Judgement as Q
 use Rattle.jl_declare.specs.Declarations.{declaring_of, with_fault, text_fault, answered, IsJudgement, IsDeclared}
@@ -51,7 +51,7 @@ asked false false true false e = let f : Some J.Unjudged ≡ None = e in cc
 asked false false false d e = let f : Some (J.Refused kind.WrongParameterCount) ≡ None = e in cc
 
 pub told_none : (ds : List Decl) (b : Bool) (r : ReadDecl) → told ds b r ≡ None → (r.whole ≡ true) × (b ≡ true)
-told_none ds b r e = asked (is_among r.decl.name (decl_names ds)) r.reading.unclear r.whole b e
+told_none ds b r e = asked (is_among r.decl.name (decl_names ds)) r.reading.unknown r.whole b e
 
 same_length : (m n : ℕ) → nat_eq m n ≡ true → m ≡ n
 same_length m n h = grind (arith, h)
@@ -66,19 +66,23 @@ own_read ds es k h fields r e i declared w =
     subst (λ (z : ReadDecl). HasOwnVariables z.decl) (sym e) (own_variables ds (subst Declared i declared) k h fields (sym (ap (λ (z : ReadDecl). z.whole) e) ∙ w))
 
 -- what is known behind the fields, and the declaration with them
-abbrev ended : Header → List FieldText → Decl → Types → ReadDecl
-ended h fields own ts = record { decl = record own { fields = fields_of fields ts.tys }; reading = ts.after; whole = nat_eq (length ts.after.vars) (length h.params) }
+abbrev ended : DeclKind → Header → List FieldText → Decl → Types → ReadDecl
+ended k h fields own ts =
+    let whole = nat_eq (length ts.after.vars) (length h.params) in
+    record { decl = cond (whole && not ts.after.unknown) (record own { fields = fields_of fields ts.tys }) (outline k h); reading = ts.after; whole = whole }
 
 abbrev fields_read : List Decl → List FieldText → Heading → Types
 fields_read ds fields x = all_read (ds ++ x.own ∷ []) (map (λ (f : FieldText). f.ty) fields) x.vars x.reading
 
-pub read_is : (ds : List Decl) (k : DeclKind) (h : Header) (fields : List FieldText) (x : Heading) (own d : Decl) (tys slice : List Ty) (fs : List Field) (r : Reading) (m n : ℕ)
-    → x ≡ heading ds k h → types tys r ≡ fields_read ds fields x → own ≡ x.own → slice ≡ tys → fs ≡ fields_of fields slice → d ≡ record own { fields = fs } → m ≡ length r.vars → n ≡ length h.params
+pub read_is : (ds : List Decl) (k : DeclKind) (h : Header) (fields : List FieldText) (x : Heading) (own full d : Decl) (tys slice : List Ty) (fs : List Field) (r : Reading) (m n : ℕ)
+    → x ≡ heading ds k h → types tys r ≡ fields_read ds fields x → own ≡ x.own → slice ≡ tys → fs ≡ fields_of fields slice → full ≡ record own { fields = fs } → d ≡ cond (nat_eq m n && not r.unknown) full (outline full.kind h) → m ≡ length r.vars → n ≡ length h.params
     → (let y : ReadDecl = record { decl = d; reading = r; whole = nat_eq m n } in y) ≡ declaration ds k h fields
-read_is ds k h fields x own d tys slice fs r m n e t o s f i a b =
-    let base : (let y : ReadDecl = record { decl = d; reading = r; whole = nat_eq m n } in y) ≡ ended h fields x.own (types tys r) =
-    λ j. record { decl = (i ∙ (λ l. record (o l) { fields = ((f ∙ ap (fields_of fields) s) l) })) j; reading = r; whole = nat_eq (a j) (b j) } in
-    base ∙ ap (ended h fields x.own) t ∙ ap (λ (z : Heading). ended h fields z.own (fields_read ds fields z)) e
+read_is ds k h fields x own full d tys slice fs r m n e t o s f i c a b =
+    let term : full ≡ record x.own { fields = fields_of fields tys } = i ∙ (λ l. record (o l) { fields = ((f ∙ ap (fields_of fields) s) l) }) in
+    let kind : full.kind ≡ k = ap (λ (z : Decl). z.kind) term ∙ ap (λ (z : Heading). z.own.kind) e in
+    let base : (let y : ReadDecl = record { decl = d; reading = r; whole = nat_eq m n } in y) ≡ ended k h fields x.own (types tys r) =
+    λ j. record { decl = (c ∙ (λ l. cond (nat_eq (a l) (b l) && not r.unknown) (term l) (outline (kind l) h))) j; reading = r; whole = nat_eq (a j) (b j) } in
+    base ∙ ap (ended k h fields x.own) t ∙ ap (λ (z : Heading). ended k h fields z.own (fields_read ds fields z)) e
 
 pub declared_is : (k : DeclKind) (h : Header) (fields : List FieldText) (old new : Declarations) (r : ReadDecl) (j : Judged)
     → r ≡ declaration old.decls k h fields

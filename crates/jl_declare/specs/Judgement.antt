@@ -42,7 +42,7 @@ decl_names ds = map (λ (d : Decl). d.name) ds
 abbrev pub told : List Decl → Bool → ReadDecl → Option Judged
 told ds all_allowed r =
     cond (is_among r.decl.name (decl_names ds)) (Some (J.Refused kind.DuplicateType))
-    (cond r.reading.unclear (Some J.Unjudged)
+    (cond r.reading.unknown (Some J.Unjudged)
     (cond (not r.whole) (Some (J.Refused kind.WrongParameterCount))
     (cond all_allowed None (Some J.Unjudged))))
 
@@ -57,7 +57,7 @@ kept_in (J.Kept e) = e ∷ []
 kept_in (J.Refused k) = []
 kept_in J.Unjudged = []
 
--- a declaration that is kept stands as it is kept, and every other as it is read
+-- a declaration that is kept stands as it is kept, and every other as it is read or outlined
 abbrev pub shown : Judged → Decl → Decl
 shown (J.Kept e) d = e
 shown (J.Refused k) d = d

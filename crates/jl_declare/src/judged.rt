@@ -64,7 +64,7 @@ pub fn told(decls: &[Decl], all_allowed: bool, read: &ReadDecl) -> Option<Judged
     if is_declared(decls, read.decl.name.as_slice()) {
         return Some(Judged::Refused(StaticKind::DuplicateType));
     }
-    if read.reading.unclear {
+    if read.reading.unknown {
         return Some(Judged::Unjudged);
     }
     if !read.whole {

@@ -1,17 +1,20 @@
 //! Declarations as they are read.
 
-ghost use Rattle.std.specs.Prelude.{◌≡◌, ◌++◌, ◌∷◌, [], map, drop, IfOk, OnOk};
+ghost use Rattle.std.specs.Prelude.{◌≡◌, ◌++◌, ◌∷◌, [], ◌&&◌, not, cond, map, drop, IfOk, OnOk};
+ghost use Rattle.jl_model.specs.AllRows.{each_var};
+ghost use Rattle.jl_model.specs.Rows.{free};
 ghost use Rattle.jl_grammar.specs.declared.tree.Field.{Field as FieldOf};
 ghost use Rattle.jl_written.specs.Reads.{typed, types};
 ghost use Rattle.jl_written.specs.Signatures.{option_reads, all_read};
-ghost use Rattle.jl_declare.specs.Declaration.{fields_of, heading, declaration};
+ghost use Rattle.jl_declare.specs.Declaration.{fields_of, heading, field_of, outline, declaration};
 
 use crate::copies::{copy_bounds, copy_decl};
 use jl_grammar::tree::{Field as FieldText, Header};
 use jl_model::rows::Row;
 use jl_model::shared::SharedList;
-use jl_model::ty::{Decl, DeclKind, Field, Fields, Ty};
-use jl_typeread::tree::TypeText;
+use jl_model::ty::{Bound, Bounds, Bytes, Decl, DeclKind, Field, Fields, Ty, Tys};
+use jl_typeread::tree::{TypeText, VarText};
+use jl_written::names::small;
 use jl_written::reading::{Reading, TypeVar};
 use jl_written::reads::{bind_all, read_type};
 use jl_written::signatures::unread;
@@ -25,7 +28,7 @@ pub struct Heading {
     pub reading: Reading,
 }
 
-/// A declaration as it is read, and what is known behind it.
+/// A declaration as it is read, or its outline where it is no term, and what is known behind it.
 #[derive(Drop)]
 pub struct ReadDecl {
     pub decl: Decl,
@@ -161,6 +164,67 @@ fn with_fields(decl: Decl, fields: Fields) -> Decl
     }
 }
 
+/// The parameters of an outline, which have no bounds.
+fn free_params(alloc: Global, params: &[VarText]) -> Result<Bounds, AllocError>
+    ensures { IfOk result (λ bs. bs ≡ map (λ v. free) params.now) }
+{
+    let mut out = Vec::new(alloc);
+    for _ in params {
+        out.push(Bound {
+            low: Ty::Union(Tys::empty()),
+            high: Ty::Any,
+        })?;
+    }
+    SharedList::from_vec(alloc, out)
+}
+
+/// The fields of an outline: each parameter is the type of one.
+fn param_fields(alloc: Global, name: &Bytes, params: &[Bound]) -> Result<Fields, AllocError>
+    ensures { IfOk result (λ fs. fs ≡ each_var (field_of name.now) 0 params.now) }
+{
+    let mut out = Vec::new(alloc);
+    for (number, _) in params.iter().enumerate() {
+        out.push(Field {
+            name: name.copy()?,
+            ty: Ty::Var(small(number)?),
+        })?;
+    }
+    SharedList::from_vec(alloc, out)
+}
+
+/// What stands for a declaration that is no term.
+fn outline(alloc: Global, kind: DeclKind, header: &Header) -> Result<Decl, AllocError>
+    ensures { IfOk result (λ d. d ≡ outline kind header.now) }
+{
+    let params = free_params(alloc, header.params.as_slice())?;
+    let fields = param_fields(alloc, &header.name.bytes, params.as_slice())?;
+    Ok(Decl {
+        name: header.name.bytes.copy()?,
+        kind,
+        params,
+        parent: Ty::Any,
+        fields,
+    })
+}
+
+/// A declaration that is a term, and the outline of another.
+fn term_or_outline(
+    alloc: Global,
+    decl: Decl,
+    whole: bool,
+    unknown: bool,
+    header: &Header,
+) -> Result<Decl, AllocError>
+    ensures { IfOk result (λ d. d ≡ cond (whole && not unknown) decl (outline decl.kind header.now)) }
+{
+    if whole && !unknown {
+        return Ok(decl);
+    }
+    let kind = decl.kind;
+    drop(decl);
+    outline(alloc, kind, header)
+}
+
 /// Reads a declaration behind others.
 pub fn read(
     alloc: Global,
@@ -177,9 +241,12 @@ pub fn read(
     let fields = fields_of(alloc, fields, tys.as_slice())?;
     let Heading { vars, own, reading } = heading;
     drop(vars);
+    let whole = reading.vars.len() == header.params.len();
+    let term = with_fields(own, fields);
+    let decl = term_or_outline(alloc, term, whole, reading.unknown, header)?;
     Ok(ReadDecl {
-        whole: reading.vars.len() == header.params.len(),
-        decl: with_fields(own, fields),
+        decl,
         reading,
+        whole,
     })
 }

@@ -4,8 +4,9 @@ use crate::declarations::declarations;
 use crate::known::known;
 use jl_grammar::tree::{Abstract, Fields, Header, Item, Name, Struct};
 use jl_model::rows::Row;
+use jl_model::shared::SharedList;
 use jl_model::ty::Bytes;
-use jl_typeread::tree::{TypeText, VarTexts};
+use jl_typeread::tree::{TypeText, VarText, VarTexts};
 use jl_written::fault::{Fault, StaticKind};
 use std::alloc::{AllocError, Global};
 use std::test::Fail;
@@ -53,6 +54,31 @@ fn child(
     }))
 }
 
+/// `struct NAME{P, P} <: PARENT end`, where the second parameter stands at offset 80 and the parent at 90.
+fn twice(
+    alloc: Global,
+    items: &mut Row<Item>,
+    at: u32,
+    text: &[u8],
+    param: &[u8],
+    parent: &[u8],
+) -> Result<(), AllocError> {
+    let mut params = Vec::new(alloc);
+    params.push(VarText::Free(70, bytes(alloc, param)?))?;
+    params.push(VarText::Free(80, bytes(alloc, param)?))?;
+    let name = bytes(alloc, text)?;
+    let parent = bytes(alloc, parent)?;
+    items.push(Item::Struct(Struct {
+        header: Header {
+            at: 0,
+            name: Name { at, bytes: name },
+            params: SharedList::from_vec(alloc, params)?,
+            parent: Some(TypeText::Name(90, parent)),
+        },
+        fields: Fields::empty(),
+    }))
+}
+
 /// How many types are in the table, how many are declared, and the first fault.
 #[derive(Clone, Copy, PartialEq, Eq)]
 struct Found {
@@ -76,6 +102,24 @@ fn of_two(alloc: Global, name: &[u8], second: &[u8], parent: &[u8]) -> Result<Fo
     abstract_type(alloc, &mut items, 14, name)?;
     child(alloc, &mut items, 27, second, parent)?;
     told_of(alloc, items.as_slice())
+}
+
+/// What is found of a struct with two parameters of one name.
+fn of_twice(alloc: Global, parent: &[u8]) -> Result<Found, AllocError> {
+    let mut items = Row::new(alloc);
+    twice(alloc, &mut items, 14, b"P", b"T", parent)?;
+    told_of(alloc, items.as_slice())
+}
+
+/// How many parameters and fields a struct without fields has, which has two parameters and an unknown parent.
+fn outlined(alloc: Global) -> Result<Option<(usize, usize)>, AllocError> {
+    let mut items = Row::new(alloc);
+    twice(alloc, &mut items, 14, b"P", b"T", b"Foo")?;
+    let found = declarations(alloc, items.as_slice())?;
+    match found.decls.as_slice().get(8) {
+        None => Ok(None),
+        Some(decl) => Ok(Some((decl.params.len(), decl.fields.len()))),
+    }
 }
 
 fn some(at: u32, kind: StaticKind) -> Option<Fault> {
@@ -123,6 +167,34 @@ fn an_unknown_parent_is_told_at_its_own_place(rt: HostRuntime) -> Result<(), Fai
         fault: some(90, StaticKind::UnknownType),
     };
     assert!(rt; of_two(rt.alloc(), b"A", b"B", b"Foo")? == due);
+    Ok(())
+}
+
+#[test]
+fn a_name_bound_twice_excuses_no_refusal(rt: HostRuntime) -> Result<(), Fail> {
+    let due = Found {
+        allowed: 8,
+        all: 9,
+        fault: some(14, StaticKind::SuperNotAbstract),
+    };
+    assert!(rt; of_twice(rt.alloc(), b"Int64")? == due);
+    Ok(())
+}
+
+#[test]
+fn a_name_bound_twice_is_told_where_nothing_refuses(rt: HostRuntime) -> Result<(), Fail> {
+    let due = Found {
+        allowed: 9,
+        all: 9,
+        fault: some(80, StaticKind::Rebound),
+    };
+    assert!(rt; of_twice(rt.alloc(), b"Real")? == due);
+    Ok(())
+}
+
+#[test]
+fn an_outline_has_its_parameters_and_a_field_of_each(rt: HostRuntime) -> Result<(), Fail> {
+    assert!(rt; outlined(rt.alloc())? == Some((2, 2)));
     Ok(())
 }
 

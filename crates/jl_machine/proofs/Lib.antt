@@ -6,3 +6,4 @@ pub mod Bodies
 pub mod Fitting
 pub mod Stepping
 pub mod Whole
+pub mod SizeLemmas

@@ -16,7 +16,8 @@ use Rattle.jl_machine.specs.declared.task.Task.{Task}
 use Rattle.jl_machine.specs.declared.task.Machine.{Machine}
 use Rattle.jl_machine.specs.Knows.{Knows}
 use Rattle.jl_machine.specs.declared.task.Phase.TheVariants as Ph
-use Rattle.jl_machine.specs.Fits.{setting, FitsWith, Fitting, Fits, MachineFits, Steps, phase_of, IsGoing, IsEnded, IsFresh, IsNew, IsRecordOf, HasEnded, IsRunOf}
+use Rattle.jl_machine.specs.Fits.{setting, FitsWith, Fitting, Fits, MachineFits, Steps, phase_of, IsGoing, IsEnded, IsFresh, IsNew, NewFits, LostFits, IsRecordOf, HasEnded, IsRunOf}
+use Rattle.jl_machine.specs.Plain.{IsPlainWork}
 use Rattle.jl_machine.specs.Weight.{turns_left}
 use Rattle.jl_machine.proofs.Traces.{append_nil}
 use Rattle.jl_machine.proofs.Equations.{every_passed}
@@ -68,6 +69,7 @@ module _ (P : Program) (fuel : ℕ) (k : Knows) where
         (subst (λ is. Run (setting P es fuel) None is o t.now.out t.calls []) trace whole)));
     learnt = rw (← trace) f.learnt;
     order = rw (← trace) f.order;
+    looks = rw (← trace) f.looks;
     own = rw (← trace) f.own;
   }
 
@@ -76,13 +78,33 @@ module _ (P : Program) (fuel : ℕ) (k : Knows) where
       let g : FitsWith P fuel k (Ended r.outcome) m.task = subst (λ w. Fits P fuel k w m.task) h.work f in
       ran_task m.task r.outcome g r h.trace refl h.out h.calls
 
+-- a new machine fits a fresh dispatcher
+pub fits_new_law : (k : Knows) → NewFits k
+fits_new_law k P fuel m = fits_new P fuel k m
+
+-- a lost machine fits each dispatcher
+pub fits_lost : (k : Knows) → LostFits k
+fits_lost k P fuel m lost = subst (λ w. Fits P fuel k w m.task) (sym lost) tt
+
 pub record_ok : (r : Result Record AllocError) (P : Program) (fuel : ℕ) (k : Knows) (m : Machine) → MachineFits P fuel k m → IfOk r (λ x. HasEnded x m) → IfOk r (λ x. IsRunOf P fuel k x)
 record_ok (Ok x) P fuel k m f h = ran_record P fuel k m x f h
 record_ok (Err e) P fuel k m f h = tt
 
 -- a step as the machine's fit
-pub step_fits : (P : Program) (k k' : Knows) (w w' : Work) (t t' : Task) → P ≡ k.program → Steps k w t k' w' t' → Fits P t.fuel k' w' t'
-step_fits P k k' w w' t t' e s = subst (λ Q. Fits Q t.fuel k' w' t') (sym e) (fits k.program t.fuel k' w' t' s.fits)
+pub step_fits : (P : Program) (k k' : Knows) (w w' : Work) (t t' : Task) → P ≡ k.program → Steps k w t k' w' t' → Fits P t'.fuel k' w' t'
+step_fits P k k' w w' t t' e s =
+    let f : FitsWith k.program t'.fuel k' w' t' = subst (λ n. FitsWith k.program n k' w' t') (sym s.fits.fuel_is) s.fits in
+    subst (λ Q. Fits Q t'.fuel k' w' t') (sym e) (fits k.program t'.fuel k' w' t' f)
+
+-- what fits as a point of a run, has ended or has something to do is not lost
+pub never_lost : (P : Program) (fuel : ℕ) (k : Knows) (w : Work) (t : Task) → FitsWith P fuel k w t → w ≡ Lost → ⊥
+never_lost P fuel k w t f lost = subst (IsPlainWork (length P.sites)) lost f.plain.work
+
+pub ended_never_lost : (w : Work) → phase_of w ≡ Ph.Ended → w ≡ Lost → ⊥
+ended_never_lost w h lost = let e : Ph.Lost ≡ Ph.Ended = subst (λ u. phase_of u ≡ Ph.Ended) lost h in cc
+
+pub going_never_lost : (w : Work) → phase_of w ≡ Ph.Going → w ≡ Lost → ⊥
+going_never_lost w h lost = let e : Ph.Lost ≡ Ph.Going = subst (λ u. phase_of u ≡ Ph.Going) lost h in cc
 
 -- a machine that fits and has something to do
 pub going : (w : Work) → phase_of w ≡ Ph.Going → IsGoing w

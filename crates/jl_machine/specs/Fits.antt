@@ -106,7 +106,7 @@ pub record HasLooked (before now : Knows) (w : ℕ) (t t' : Task) : Type 0 where
   pub looked : Looked before now w place
   pub task : t' ≡ record t { trace = t.trace ++ Look w place ∷ [] }
 
--- a machine that has met want of memory fits each dispatcher
+-- a task with this to do fits a dispatcher; one that has met want of memory fits each
 abbrev pub Fits : Program → ℕ → Knows → Work → Task → Type 0
 Fits P fuel k Lost t = Unit {0}
 Fits P fuel k (Eval e) t = FitsWith P fuel k (Eval e) t
@@ -120,6 +120,10 @@ Fits P fuel k (Ended o) t = FitsWith P fuel k (Ended o) t
 -- a machine fits a dispatcher, for this program and this fuel
 abbrev pub MachineFits : Program → ℕ → Knows → Machine → Type 0
 MachineFits P fuel k m = Fits P fuel k m.work m.task
+
+-- the machine has met want of memory, and does nothing more
+abbrev pub IsLost : Machine → Type 0
+IsLost m = m.work ≡ Lost
 
 -- the fuel of a machine
 abbrev pub fuel_of : Machine → ℕ
@@ -145,13 +149,14 @@ pub record IsFresh (k : Knows) : Type 0 where
   pub world : 14 ≤ k.world
   pub begun : 1 ≤ k.seen
 
--- what a task did is a run, over every list of events that agrees; its items are learnt and in order, and its own
--- definitions are those of the dispatcher
+-- what a task did is a run, over every list of events that agrees; its items are learnt and in order, and its looks and
+-- its own definitions are those of the dispatcher
 pub record IsRunOf (P : Program) (fuel : ℕ) (k : Knows) (r : Record) : Type 0 where
   pub program : k.program ≡ P
   pub runs : (es : List Event) → k.agrees es → Run (setting P es fuel) None r.trace r.outcome r.output r.calls []
   pub learnt : AllLearnt k r.trace
   pub order : IsInOrder 1 r.trace k.seen
+  pub looks : looks_of r.trace ≡ k.looks
   pub own : own_items r.trace ≡ k.own
 
 -- a machine that has done nothing yet
@@ -161,6 +166,14 @@ pub record IsNew (P : Program) (most : ℕ) (m : Machine) : Type 0 where
   pub fuel : m.task.fuel ≡ most
   pub trace : m.task.trace ≡ []
   pub calls : m.task.calls ≡ 0
+
+-- a new machine fits a fresh dispatcher of its program
+abbrev pub NewFits : Knows → Type 0
+NewFits k = (P : Program) (fuel : ℕ) (m : Machine) → P ≡ k.program → IsSimple P → IsFresh k → IsNew P fuel m → MachineFits P fuel k m
+
+-- a machine that has met want of memory fits each dispatcher
+abbrev pub LostFits : Knows → Type 0
+LostFits k = (P : Program) (fuel : ℕ) (m : Machine) → IsLost m → MachineFits P fuel k m
 
 -- a record is of a task, with this outcome
 pub record IsRecordOf (r : Record) (t : Task) (o : Outcome) : Type 0 where

@@ -1,5 +1,5 @@
 -- What a dispatcher means.
-use Rattle.std.specs.Prelude.{◌≡◌, ℕ, ◌+◌, ◌-◌, ◌<◌, ◌≤◌, List, [], ◌∷◌, ◌++◌}
+use Rattle.std.specs.Prelude.{◌≡◌, ℕ, ◌+◌, ◌-◌, ◌<◌, ◌≤◌, List, [], ◌∷◌, ◌++◌, take}
 use Rattle.jl_model.specs.declared.ty.Ty.{Ty}
 use Rattle.jl_calculus.specs.declared.history.Event.{Event}
 use Rattle.jl_calculus.specs.declared.history.TraceItem.{TraceItem}
@@ -8,7 +8,8 @@ use Rattle.jl_calculus.specs.declared.history.Choice.{Choice}
 use Rattle.jl_calculus.specs.declared.history.Choice.TheVariants as C
 use Rattle.jl_calculus.specs.declared.tree.Program.{Program}
 use Rattle.jl_calculus.specs.Past.{IsTrueOf}
-use Rattle.jl_calculus.specs.World.{Selects, site_of}
+use Rattle.jl_calculus.specs.World.{Selects, site_of, world_of}
+use Rattle.jl_machine.specs.Worlds.{IsWorld}
 
 pub record Knows : Type 1 where
   -- all answers speak of it
@@ -78,6 +79,11 @@ pub record Defined (before now : Knows) (site : ℕ) : Type 0 where
   pub place : before.seen < now.seen
   pub looks : now.looks ≡ before.looks
   pub own : now.own ≡ before.own ++ Def site (now.seen - 1) ∷ []
+
+-- a world that a definition made: the newest one of the events that the task has then seen
+pub record IsMade (now : Knows) (w : ℕ) : Type 0 where
+  pub right : (es : List Event) → now.agrees es → world_of (take now.seen es) ≡ w
+  pub world : IsWorld w now.world
 
 -- the world is the last one
 pub record Full (before now : Knows) : Type 0 where

@@ -3,4 +3,5 @@ pub mod Knows
 pub mod Performed
 pub mod Plain
 pub mod Weight
+pub mod Size
 pub mod Fits

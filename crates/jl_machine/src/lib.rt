@@ -3,6 +3,7 @@
 #![tactic(auto)]
 
 pub mod dispatcher;
+pub mod laws;
 mod operations;
 mod root;
 mod task;

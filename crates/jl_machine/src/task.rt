@@ -1,13 +1,14 @@
 //! One task as far as it has come, and its turns.
 
-ghost use Rattle.std.specs.Prelude.{◌≡◌, ◌<◌, ◌≤◌, ◌++◌, ◌∷◌, [], ℕ, IfOk, map, length};
+ghost use Rattle.std.specs.Prelude.{◌≡◌, ◌<◌, ◌≤◌, ◌+◌, ◌*◌, ◌++◌, ◌∷◌, [], ℕ, IfOk, IsErr, OnOk, OnErr, map, length};
 ghost use Rattle.jl_model.specs.declared.ty.Ty.{Ty};
 ghost use Rattle.jl_calculus.specs.declared.value.Value.{Value};
 ghost use Rattle.jl_calculus.specs.declared.point.Work.TheVariants as W;
 ghost use Rattle.jl_calculus.specs.declared.history.Outcome.{Outcome};
 ghost use Rattle.jl_calculus.specs.declared.tree.Item.TheVariants as I;
 ghost use Rattle.jl_calculus.specs.Run.{type_of};
-ghost use Rattle.jl_machine.specs.Fits.{looks_of, Fitting, Steps, IsGoing, phase_of, MachineFits, fuel_of, HasLooked, TurnSays, IsEnded, IsNew, IsRecordOf, HasEnded};
+ghost use Rattle.jl_machine.specs.Fits.{looks_of, Fitting, Steps, IsGoing, phase_of, MachineFits, fuel_of, HasLooked, TurnSays, IsEnded, IsLost, IsNew, IsRecordOf, HasEnded, turns_of};
+ghost use Rattle.jl_machine.specs.Size.{program_size};
 
 use crate::dispatcher::Dispatcher;
 use crate::turns;
@@ -266,9 +267,11 @@ impl Task {
 }
 
 impl Machine {
-    /// The root of a program, which has done nothing yet and may make so many calls.
+    /// The root of a program, which has done nothing yet and may make so many calls. The bound of its turns is in
+    /// proportion to the size of the program, for each of the calls and once besides.
     pub fn root(alloc: Global, program: &Program, fuel: u64) -> Result<Machine, AllocError>
-        ensures { IfOk result (λ m. IsNew program.now fuel m) }
+        ensures begun { IfOk result (λ m. IsNew program.now fuel m) }
+        ensures turns { IfOk result (λ m. turns_of program.now m ≤ 4 * (fuel + 1) * (program_size program.now + 1)) }
     {
         let top = program.top.copy()?;
         let now = Now {
@@ -291,16 +294,19 @@ impl Machine {
     }
 
     /// One turn. It keeps that the machine fits its dispatcher, and leaves fewer turns. After want of memory the machine
-    /// answers it at each later turn.
+    /// is lost: it answers so at each later turn.
     pub fn step<D: Dispatcher>(
         &mut self,
         program: &Program,
         with: &mut D,
     ) -> Result<Turn, AllocError>
         requires { MachineFits program.now (fuel_of self.old) (D.knows with.old) self.old }
-        ensures fits { IfOk result (λ _. MachineFits program.now (fuel_of self.old) (D.knows with.new) self.new) }
+        ensures fits { MachineFits program.now (fuel_of self.new) (D.knows with.new) self.new }
         ensures turn { IfOk result (λ turn. TurnSays program.now self.old self.new turn) }
         ensures fuel { IfOk result (λ _. fuel_of self.new ≡ fuel_of self.old) }
+        ensures lost { OnErr result (IsLost self.new) }
+        ensures kept { OnOk result (IsLost self.new → ⊥) }
+        ensures still { IsLost self.old → IsErr result }
     {
         match phase_at(&self.work) {
             Phase::Lost => Err(AllocError),
@@ -317,7 +323,8 @@ impl Machine {
         requires fits { Fitting (D.knows with.old) self.old.work self.old.task }
         requires program { program.now ≡ (D.knows with.old).program }
         requires going { IsGoing self.old.work }
-        ensures { IfOk result (λ _. Steps (D.knows with.old) self.old.work self.old.task (D.knows with.new) self.new.work self.new.task) }
+        ensures steps { IfOk result (λ _. Steps (D.knows with.old) self.old.work self.old.task (D.knows with.new) self.new.work self.new.task) }
+        ensures lost { OnErr result (IsLost self.new) }
     {
         let work = mem::replace(&mut self.work, Work::Lost);
         let next = self.task.turn(program, with, work)?;

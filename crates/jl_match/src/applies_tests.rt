@@ -212,7 +212,7 @@ fn answer(
 }
 
 /// Bounds, parts, types, and the bindings or `none`.
-static CASES: [(&str, &str, &str, &str); 53] = [
+static CASES: [(&str, &str, &str, &str); 56] = [
     // `same(x::T, y::T) where T`
     ("za", "00", "ii", "i"),
     ("za", "00", "ib", "none"),
@@ -271,6 +271,10 @@ static CASES: [(&str, &str, &str, &str); 53] = [
     ("zaza", "B01", "Bib", "ib"),
     ("zaza", "010", "ibi", "ib"),
     ("zaza", "010", "ibb", "none"),
+    // no variables
+    ("", "I", "i", ""),
+    ("", "I", "b", ""),
+    ("", "i", "b", "none"),
     // no parameters, too few or too many types, and a component that nothing is below
     ("", "", "", ""),
     ("", "", "i", "none"),

@@ -24,7 +24,8 @@ fn are_concrete(table: &Table, types: &[Ty]) -> bool
     true
 }
 
-/// Whether a type is concrete: a struct type, or a tuple of concrete types.
+/// Whether a type is concrete: a struct type, or a tuple of concrete types. A caller whose types come from a text asks this
+/// first, since `applies` requires that they are concrete.
 #[cycle(concrete)]
 #[tactic(auto, using(crate::proofs::KnownLemmas::knowing))]
 pub fn is_concrete(table: &Table, ty: &Ty) -> bool

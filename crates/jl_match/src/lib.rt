@@ -17,6 +17,7 @@ mod signature;
 mod values;
 
 pub use bindings::Bindings;
+pub use concrete::is_concrete;
 pub use jl_sig::{Sig, SigFault};
 pub use make::make_sig;
 pub use names::is_well_named;

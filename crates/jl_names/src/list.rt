@@ -3,7 +3,7 @@
 ghost use Rattle.std.specs.Prelude.{◌≡◌, ◌++◌, ◌∷◌, [], length, IfOk, OnOk};
 ghost use Rattle.jl_names.specs.Numbers.{number_in, placed};
 
-use crate::table::NameMap;
+use crate::table::{NameMap, small};
 use jl_model::shared::SharedList;
 use jl_model::ty::Bytes;
 use std::alloc::{AllocError, Global};
@@ -64,12 +64,10 @@ impl NameList {
         ensures { OnOk result (self.new ≡ self.old ++ name ∷ []) }
     {
         let place = self.names.len();
-        if place > 0xffff_ffff {
-            return Err(AllocError);
-        }
+        let number = small(place)?;
         let copy = name.copy()?;
         self.names.push(name)?;
-        match self.places.add(copy.as_slice(), place as u32) {
+        match self.places.add(copy.as_slice(), number) {
             Ok(()) => Ok(()),
             Err(error) => {
                 self.names.truncate(place);

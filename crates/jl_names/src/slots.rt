@@ -3,7 +3,7 @@
 ghost use Rattle.std.specs.Prelude.{◌≡◌, ◌++◌, ◌∷◌, [], length, take, OnOk, Some, None};
 ghost use Rattle.jl_names.specs.Numbers.{number_in, named_slots, count_named};
 
-use crate::table::NameMap;
+use crate::table::{NameMap, small};
 use jl_model::ty::Bytes;
 use std::alloc::{AllocError, Global};
 use std::marker::Model;
@@ -67,12 +67,10 @@ impl Slots {
         ensures { OnOk result (self.new ≡ self.old ++ Some name ∷ []) }
     {
         let slot = self.names.len();
-        if slot > 0xffff_ffff {
-            return Err(AllocError);
-        }
+        let number = small(slot)?;
         let copy = name.copy()?;
         self.names.push(Some(name))?;
-        match self.numbers.add(copy.as_slice(), slot as u32) {
+        match self.numbers.add(copy.as_slice(), number) {
             Ok(()) => Ok(()),
             Err(error) => {
                 self.names.truncate(slot);

@@ -1,11 +1,22 @@
 //! Names with numbers, each name once.
 
-ghost use Rattle.std.specs.Prelude.{◌≡◌, [], ◌+◌, take, length, OnOk, OnErr};
+ghost use Rattle.std.specs.Prelude.{◌≡◌, ◌≤◌, ◌^◌, [], ◌+◌, take, length, IfOk, OnOk, OnErr};
 ghost use Rattle.jl_names.specs.Numbers.{number_in, with_number};
 
 use indexmap::IndexMap;
 use std::alloc::{AllocError, Global};
 use std::marker::Model;
+
+/// The number of a place. The one error, which stands for want of memory, comes exactly from 2^32 on.
+pub(crate) fn small(place: usize) -> Result<u32, AllocError>
+    ensures number { IfOk result (λ n. n ≡ place) }
+    ensures limit { OnErr result (2 ^ 32 ≤ place) }
+{
+    if place > 0xffff_ffff {
+        return Err(AllocError);
+    }
+    Ok(place as u32)
+}
 
 /// Names with a number each, in the order in which they came. Contracts see the list of these pairs.
 #[derive(Drop)]

@@ -1,13 +1,15 @@
 -- The declarations of a script without a fault are all allowed, and have names that may be given; and its program is valid.
-use Rattle.std.proofs.Common.{subst, le_refl, ◌≡◌, ◌∙◌, ap, sym, refl, ℕ, arith, Bool, true, false, true≢false, cond, ◌&&◌, not, nat_eq, eq-eqb, List, [], ◌∷◌, ◌++◌, map, length, take, drop, Option, Some, None, append-nil, append_assoc, length-append}
+use Rattle.std.proofs.Common.{subst, le_refl, ◌≡◌, ◌∙◌, ap, sym, refl, ℕ, ◌+◌, arith, Bool, true, false, true≢false, cond, ◌&&◌, not, nat_eq, eq-eqb, List, [], ◌∷◌, ◌++◌, map, length, take, drop, Option, Some, None, append-nil, append_assoc, length-append}
 use Rattle.std.specs.List.{list_all}
 use Rattle.std.proofs.lemmas.List.Folds.{list_all-append}
 use Rattle.std.proofs.Math.Seq.{take_all, take-append_seam, drop-append_seam}
 use Rattle.jl_model.specs.declared.ty.Ty.{Ty}
+use Rattle.jl_model.specs.declared.ty.Bound.{Bound}
 use Rattle.jl_model.specs.declared.ty.Decl.{Decl}
 use Rattle.jl_model.specs.declared.ty.DeclKind.{DeclKind}
 use Rattle.jl_model.specs.declared.ty.DeclKind.TheVariants.{Abstract, Struct}
 use Rattle.jl_model.specs.declared.ty.Field.{Field}
+use Rattle.jl_model.specs.AllRows.{each_var}
 use Rattle.jl_model.specs.Ancestors.{builtin_types}
 use Rattle.jl_model.specs.Kept.{IsKept}
 use Rattle.jl_model.specs.Refusals.{Declared, table_with}
@@ -26,7 +28,7 @@ use Rattle.jl_type_laws.proofs.CarryLemmas.{nothing_carried}
 use Rattle.jl_type_laws.proofs.ReadLemmas.{option_law, all_law, bound_law}
 use Rattle.jl_declare.specs.declared.judged.Judged.{Judged}
 use Rattle.jl_declare.specs.declared.judged.Judged.TheVariants as J
-use Rattle.jl_declare.specs.Declaration.{fields_of, heading, declaration}
+use Rattle.jl_declare.specs.Declaration.{fields_of, heading, field_of, outline, declaration}
 use Rattle.jl_declare.specs.Declarations.{Declaring, no_declaration, with_fault, named_fault, text_fault, IsDeclared, DeclaresOne, Declares}
 use Rattle.jl_resolve_forms.specs.Top.{resolved}
 use Rattle.jl_resolve_forms.specs.TypesIn.{Tests}
@@ -59,6 +61,18 @@ fields_named _ ts G.no_fields = refl
 fields_named _ [] (G.more_fields f fs h g) = refl
 fields_named _ (t ∷ ts) (G.more_fields f fs h g) = and (is_field_name f.name.bytes) (list_all (λ (x : Field). is_field_name x.name) (fields_of fs ts)) h.name (fields_named fs ts g)
 
+outline_named : (name : List ℕ) (i : ℕ) (bs : List Bound) → is_field_name name ≡ true → list_all (λ (f : Field). is_field_name f.name) (each_var (field_of name) i bs) ≡ true
+outline_named name i [] h = refl
+outline_named name i (b ∷ bs) h = and (is_field_name name) (list_all (λ (f : Field). is_field_name f.name) (each_var (field_of name) (i + 1) bs)) h (outline_named name (i + 1) bs h)
+
+-- a declaration and its outline have names that may be given
+declared_named : (b : Bool) (k : DeclKind) (h : Header) (d : Decl) → is_field_name h.name.bytes ≡ true → is_free_name h.name.bytes ≡ true → d.name ≡ h.name.bytes
+    → list_all (λ (f : Field). is_field_name f.name) d.fields ≡ true → is_named (cond b d (outline k h)) ≡ true
+declared_named true k h d field free e fields = and (is_free_name d.name) (list_all (λ (f : Field). is_field_name f.name) d.fields) (ap is_free_name e ∙ free) fields
+declared_named false k h d field free e fields =
+    let o = outline k h in
+    and (is_free_name h.name.bytes) (list_all (λ (f : Field). is_field_name f.name) o.fields) free (outline_named h.name.bytes 0 o.params field)
+
 free_from : (name : List ℕ) → is_field_name name ≡ true → is_among name builtin_names ≡ false → is_free_name name ≡ true
 free_from name h e =
     and (is_identifier name) _ (left (is_identifier name) (not (is_among name reserved_words)) h)
@@ -87,10 +101,10 @@ judged_kept ds d _ at (kept e allowed is) n = refl
 judged_kept ds d _ at (refused f k named is) n = absurd (some_none (record { at = at; kind = k }) n)
 
 abbrev Told : List Decl → Decl → Bool → Bool → Bool → Bool → Judged → Type 0
-Told ds d among unclear part all j =
-    IsAnswer ds d (cond among (Some (J.Refused kind.DuplicateType)) (cond unclear (Some J.Unjudged) (cond part (Some (J.Refused kind.WrongParameterCount)) (cond all None (Some J.Unjudged))))) j
+Told ds d among unknown part all j =
+    IsAnswer ds d (cond among (Some (J.Refused kind.DuplicateType)) (cond unknown (Some J.Unjudged) (cond part (Some (J.Refused kind.WrongParameterCount)) (cond all None (Some J.Unjudged))))) j
 
-told_named : (ds : List Decl) (d : Decl) (among unclear part all : Bool) (j : Judged) → Told ds d among unclear part all j → is_named d ≡ true → is_named (shown j d) ≡ true
+told_named : (ds : List Decl) (d : Decl) (among unknown part all : Bool) (j : Judged) → Told ds d among unknown part all j → is_named d ≡ true → is_named (shown j d) ≡ true
 told_named ds d true unclear part all j e n = ap (λ z. is_named (shown z d)) e ∙ n
 told_named ds d false true part all j e n = ap (λ z. is_named (shown z d)) e ∙ n
 told_named ds d false false true all j e n = ap (λ z. is_named (shown z d)) e ∙ n
@@ -98,7 +112,7 @@ told_named ds d false false false true j e n = judged_named ds d j e n
 told_named ds d false false false false j e n = ap (λ z. is_named (shown z d)) e ∙ n
 
 told_kept :
-    (ds : List Decl) (d : Decl) (among unclear part all : Bool) (j : Judged) (at : ℕ) → Told ds d among unclear part all j → refusal_at at j ≡ None → unclear ≡ false → all ≡ true
+    (ds : List Decl) (d : Decl) (among unknown part all : Bool) (j : Judged) (at : ℕ) → Told ds d among unknown part all j → refusal_at at j ≡ None → unknown ≡ false → all ≡ true
     → length (kept_in j) ≡ 1
 told_kept ds d true unclear part all j at e n u a = absurd (some_none (record { at = at; kind = kind.DuplicateType }) (sym (ap (refusal_at at) e) ∙ n))
 told_kept ds d false true part all j at e n u a = absurd (true≢false u)
@@ -107,8 +121,8 @@ told_kept ds d false false false true j at e n u a = judged_kept ds d j at e n
 told_kept ds d false false false false j at e n u a = absurd (true≢false (sym a))
 
 -- without a fault each name in a declaration means something
-clear : (ds : List Decl) (k : DeclKind) (h : Header) (fields : List FieldText) → (declaration ds k h fields).reading.fault ≡ None → (declaration ds k h fields).reading.unclear ≡ false
-clear ds k h fields e =
+meant : (ds : List Decl) (k : DeclKind) (h : Header) (fields : List FieldText) → (declaration ds k h fields).reading.fault ≡ None → (declaration ds k h fields).reading.unknown ≡ false
+meant ds k h fields e =
     let s = all_bound ds h.params [] unread in
     let p = option_reads ds h.parent s.vars s.after in
     let x = heading ds k h in
@@ -117,7 +131,7 @@ clear ds k h fields e =
     let second = (option_law ds _ _ _ _ (nothing_carried ds) h.parent s.vars s.after).grows in
     let third = (all_law own _ _ _ _ (nothing_carried own) (map (λ (f : FieldText). f.ty) fields) x.vars x.reading).grows in
     let e2 = third.faultless e in
-    third.told e ∙ second.told e2 ∙ first.told (second.faultless e2)
+    third.named e ∙ second.named e2 ∙ first.named (second.faultless e2)
 
 -- ---- declarations, one after another
 
@@ -136,7 +150,7 @@ declared_goes k h fs st z formed fields (j, judged, is) e =
     let text = no_fault (with_fault st.fault (named_fault at h.name.bytes)) r.reading.fault outer.0 in
     let name = no_fault st.fault (named_fault at h.name.bytes) text.0 in
     let free = free_from h.name.bytes formed.name (no_named at h.name.bytes name.1) in
-    let own = and (is_free_name h.name.bytes) (list_all (λ (f : Field). is_field_name f.name) r.decl.fields) free (fields_named fs _ fields) in
+    let own = declared_named (r.whole && not r.reading.unknown) k h (record (heading st.decls k h).own { fields = _ }) formed.name free refl (fields_named fs _ fields) in
     let among = is_among r.decl.name (decl_names st.decls) in
     let all = nat_eq st.allowed (length st.decls) in
     let d = shown j r.decl in
@@ -145,9 +159,9 @@ declared_goes k h fs st z formed fields (j, judged, is) e =
       clean = name.0;
       more = d ∷ [];
       is = decls;
-      named = and (is_named d) true (told_named st.decls r.decl among r.reading.unclear (not r.whole) all j judged own) refl;
+      named = and (is_named d) true (told_named st.decls r.decl among r.reading.unknown (not r.whole) all j judged own) refl;
       allowed = λ so_far.
-          let one = told_kept st.decls r.decl among r.reading.unclear (not r.whole) all j at judged outer.1 (clear st.decls k h fs text.1) (eq-eqb st.allowed (length st.decls) so_far) in
+          let one = told_kept st.decls r.decl among r.reading.unknown (not r.whole) all j at judged outer.1 (meant st.decls k h fs text.1) (eq-eqb st.allowed (length st.decls) so_far) in
           omega (arith, ap (λ (y : Declaring). y.allowed) is, one, so_far, ap length decls, length-append st.decls (d ∷ []));
     }
 

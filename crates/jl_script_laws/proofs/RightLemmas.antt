@@ -1,5 +1,5 @@
 -- Tests that tell what holds over the declarations refuse what is not allowed.
-use Rattle.std.proofs.Common.{◌≡◌, ◌∙◌, sym, subst, true≢false, List, Option}
+use Rattle.std.proofs.Common.{◌∙◌, sym, subst, true≢false, List, Option}
 use Rattle.jl_model.specs.declared.ty.Decl.{Decl}
 use Rattle.jl_written.specs.declared.fault.StaticKind.{StaticKind}
 use Rattle.jl_resolve_forms.specs.TypesIn.{Tests}

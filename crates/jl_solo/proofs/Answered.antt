@@ -15,7 +15,7 @@ use Rattle.jl_calculus.specs.Past.{IsTrueOf, DefinesAt}
 use Rattle.jl_calculus.specs.Prelude.{prelude_numbers}
 use Rattle.jl_calculus.specs.World.{world_of, types_of, Chooses}
 use Rattle.jl_choice.specs.Methods.{methods_of, defs_from}
-use Rattle.jl_machine.specs.Knows.{Grew, Looked, Asked, IsRight, IsSite, Defined, Full}
+use Rattle.jl_machine.specs.Knows.{Grew, Looked, Asked, IsRight, IsSite, Defined, IsMade, Full}
 use Rattle.jl_solo.specs.Alone.{defs_of, events_of, GoesOn, knows_at, IsOfScript, IsAlone}
 use Rattle.jl_solo.proofs.EventLemmas.{defined_alone, length_more, take_defs, defs_push, get_last, own_push}
 use Rattle.jl_solo.proofs.ChoiceOf.{of_world, selects_goes, site_goes}
@@ -139,6 +139,13 @@ module _ (P : Program) (all : List ℕ) (h : IsAlone P all) where
 
   pub made_all : (n s : ℕ) → Defined (knows_at P (drop 14 all) n) (knows_at P (drop 14 (all ++ s ∷ [])) n) s
   made_all n s = subst (λ xs. Defined (knows_at P (drop 14 all) n) (knows_at P xs n) s) (sym (drop_push P all s h)) (made P (drop 14 all) n s)
+
+  pub made_world_all : (n w s : ℕ) → w ≡ length (all ++ s ∷ []) → IsMade (knows_at P (drop 14 (all ++ s ∷ [])) n) w
+  made_world_all n w s e =
+      let later : List ℕ = drop 14 (all ++ s ∷ []) in
+      let more : length later ≡ length (drop 14 all) + 1 = ap length (drop_push P all s h) ∙ length-append (drop 14 all) (s ∷ []) in
+      let same_world : 14 + length later ≡ w = omega (arith, e, more, length-append all (s ∷ []), all_length P all h) in
+      record { right = λ es g. (world_goes later es g).1 ∙ same_world; world = (omega (arith, same_world), omega (arith, same_world)) }
 
   pub alone_if : (s : ℕ) → length all < 65535 → 14 ≤ s → s < length P.sites → (b : Bool) → IsAlone P (cond b (all ++ s ∷ []) all)
   alone_if s most low high true = alone_push P all s h most low high

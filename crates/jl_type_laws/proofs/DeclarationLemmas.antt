@@ -1,5 +1,5 @@
 -- What is read of a declaration: its types name those before it and itself, and have no variables but its parameters.
-use Rattle.std.proofs.Common.{◌≡◌, ◌∙◌, ap, refl, ℕ, suc, ◌+◌, ◌≤◌, arith, Bool, true, false, nat_lt, List, [], ◌∷◌, ◌++◌, map, length, length-append, Option, None, Some}
+use Rattle.std.proofs.Common.{◌≡◌, ◌∙◌, ap, refl, ℕ, suc, ◌+◌, ◌≤◌, arith, Bool, true, false, nat_lt, List, [], ◌∷◌, ◌++◌, map, length, length-append, Option, None}
 use Rattle.std.specs.List.{flat_map, list_all}
 use Rattle.jl_model.specs.declared.ty.Ty.{Ty}
 use Rattle.jl_model.specs.declared.ty.Bound.{Bound}
@@ -17,6 +17,7 @@ use Rattle.jl_written.specs.Meaning.{var_of}
 use Rattle.jl_written.specs.Reads.{Typed, Types, Scoped, VarReads, unread, bound_name, guarded, bind, bind_all, var_reads}
 use Rattle.jl_written.specs.Signatures.{all_bound, all_read, option_reads}
 use Rattle.jl_type_laws.specs.Carried.{Passes, vars_pass, ReadingHas, Visible}
+use Rattle.jl_type_laws.specs.Grown.{Grows}
 use Rattle.jl_type_laws.specs.Scripts.{DeclsKnown}
 use Rattle.jl_type_laws.proofs.TextInduction.{EachText}
 use Rattle.jl_type_laws.proofs.GrowLemmas.{one_longer, grows_trans}
@@ -32,8 +33,7 @@ abbrev VarGrows : VarReads → Type 0
 VarGrows v = (vars : List TypeVar) (inside : Bool) (r : Reading) → length r.vars ≤ length (v.bounds vars inside r).after.vars
 
 bound_more : (at : ℕ) (name : List ℕ) (b : Bound) (vars : List TypeVar) (r : Reading) (o : Option TypeVar) → length r.vars + 1 ≤ length (bound_name at name b vars r o).after.vars
-bound_more at name b vars r None = let h = one_longer r.vars b in omega (arith, h)
-bound_more at name b vars r (Some v) = let h = one_longer r.vars b in omega (arith, h)
+bound_more at name b vars r o = let h = one_longer r.vars b in omega (arith, h)
 
 pub bound_count : (vs : List VarReads) → EachText VarGrows vs → (vars : List TypeVar) (inside : Bool) (r : Reading) → length r.vars + length vs ≤ length (bind_all vs vars inside r).after.vars
 bound_count [] l vars inside r = omega arith
@@ -142,10 +142,17 @@ module _ (ds : List Decl) (k : DeclsKnown ds) (params : List VarText) (parent : 
       let f = (all_law (ds ++ Own ∷ []) _ _ _ _ c fields Bounds.vars Parent.after).holds tt (λ v i. tt) (all_visible Bounds.vars) (reading_more (length ds) m l Parent.after parent_read.1) in
       all_pass (is_known m) Fields.tys f.0
 
-  -- without a fault each name means something
-  pub clear : Fields.after.fault ≡ None → Fields.after.unclear ≡ false
-  clear e =
+  grows : Grows unread Fields.after
+  grows =
       let lb = (bound_law ds _ _ _ _ (nothing_carried ds) params [] unread).grows in
       let lp = (option_law ds _ _ _ _ (nothing_carried ds) parent Bounds.vars Bounds.after).grows in
       let lf = (all_law (ds ++ Own ∷ []) _ _ _ _ (nothing_carried (ds ++ Own ∷ [])) fields Bounds.vars Parent.after).grows in
-      (grows_trans unread Parent.after Fields.after (grows_trans unread Bounds.after Parent.after lb lp) lf).told e
+      grows_trans unread Parent.after Fields.after (grows_trans unread Bounds.after Parent.after lb lp) lf
+
+  -- without a fault each name means something
+  pub named : Fields.after.fault ≡ None → Fields.after.unknown ≡ false
+  named e = grows.named e
+
+  -- and none is bound twice
+  pub clear : Fields.after.fault ≡ None → Fields.after.unclear ≡ false
+  clear e = grows.told e

@@ -31,12 +31,13 @@ pub no_shorter : (bs : List Bound) (b : Bound) → length bs ≤ length (bs ++ b
 no_shorter bs b = let e = one_longer bs b in omega (arith, e)
 
 pub grows_refl : (r : Reading) → Grows r r
-grows_refl r = record { longer = le_refl (length r.vars); faultless = λ e. e; told = λ e. refl; unclear = λ e. e; misplaced = λ e. e }
+grows_refl r = record { longer = le_refl (length r.vars); faultless = λ e. e; named = λ e. refl; told = λ e. refl; unclear = λ e. e; misplaced = λ e. e }
 
 pub grows_trans : (r s t : Reading) → Grows r s → Grows s t → Grows r t
 grows_trans r s t g h = record {
   longer = let a = g.longer in let b = h.longer in omega (arith, a, b);
   faultless = λ e. g.faultless (h.faultless e);
+  named = λ e. h.named e ∙ g.named (h.faultless e);
   told = λ e. h.told e ∙ g.told (h.faultless e);
   unclear = λ e. h.unclear (g.unclear e);
   misplaced = λ e. h.misplaced (g.misplaced e);
@@ -46,16 +47,29 @@ pub grows_note : (at : ℕ) (k : StaticKind) (r : Reading) → Grows r (note at 
 grows_note at k r = record {
   longer = le_refl (length r.vars);
   faultless = λ e. absurd (never_none r.fault (fault_at at k) e);
+  named = λ e. absurd (never_none r.fault (fault_at at k) e);
   told = λ e. absurd (never_none r.fault (fault_at at k) e);
   unclear = λ e. e;
   misplaced = λ e. e;
 }
 
--- a fault, and the text means no type
+-- a name means no type
+pub grows_unknown : (at : ℕ) (k : StaticKind) (r : Reading) → Grows r (record (note at k r) { unknown = true; unclear = true })
+grows_unknown at k r = record {
+  longer = le_refl (length r.vars);
+  faultless = λ e. absurd (never_none r.fault (fault_at at k) e);
+  named = λ e. absurd (never_none r.fault (fault_at at k) e);
+  told = λ e. absurd (never_none r.fault (fault_at at k) e);
+  unclear = λ e. refl;
+  misplaced = λ e. e;
+}
+
+-- a name is bound twice
 pub grows_unclear : (at : ℕ) (k : StaticKind) (r : Reading) → Grows r (record (note at k r) { unclear = true })
 grows_unclear at k r = record {
   longer = le_refl (length r.vars);
   faultless = λ e. absurd (never_none r.fault (fault_at at k) e);
+  named = λ e. absurd (never_none r.fault (fault_at at k) e);
   told = λ e. absurd (never_none r.fault (fault_at at k) e);
   unclear = λ e. refl;
   misplaced = λ e. e;
@@ -65,13 +79,14 @@ pub grows_brought : (inside : Bool) (r : Reading) → Grows r (brought inside r)
 grows_brought inside r = record {
   longer = le_refl (length r.vars);
   faultless = λ e. e;
+  named = λ e. refl;
   told = λ e. refl;
   unclear = λ e. e;
   misplaced = or_left r.misplaced inside;
 }
 
 pub grows_bound : (b : Bound) (r : Reading) → Grows r (record r { vars = r.vars ++ b ∷ [] })
-grows_bound b r = record { longer = no_shorter r.vars b; faultless = λ e. e; told = λ e. refl; unclear = λ e. e; misplaced = λ e. e }
+grows_bound b r = record { longer = no_shorter r.vars b; faultless = λ e. e; named = λ e. refl; told = λ e. refl; unclear = λ e. e; misplaced = λ e. e }
 
 pub grows_fresh : (b : Bound) (inside : Bool) (r : Reading) → Grows r (fresh b inside r).after
 grows_fresh b inside r = grows_trans r (brought inside r) (fresh b inside r).after (grows_brought inside r) (grows_bound b (brought inside r))

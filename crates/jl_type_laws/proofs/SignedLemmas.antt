@@ -1,5 +1,5 @@
 -- The signatures of methods: where no fault stands they are good, and fit what their bodies see.
-use Rattle.std.proofs.Common.{◌≡◌, ◌∙◌, sym, ap, refl, ℕ, zero, suc, ◌+◌, ◌<◌, arith, add-zero, Bool, true, false, nat_lt, List, [], ◌∷◌, ◌++◌, map, length, get_or, Option, None, Some}
+use Rattle.std.proofs.Common.{◌≡◌, ◌∙◌, sym, ap, refl, ℕ, zero, suc, ◌+◌, ◌<◌, arith, add-zero, Bool, true, false, nat_lt, List, [], ◌∷◌, ◌++◌, map, length, get_or, Option, None}
 use Rattle.std.specs.List.{flat_map, list_all}
 use Rattle.jl_model.specs.declared.ty.Bound.{Bound}
 use Rattle.jl_model.specs.declared.ty.Decl.{Decl}
@@ -40,8 +40,7 @@ usable_append [] v h g = (g, tt)
 usable_append (u ∷ vs) v h g = (h.0, usable_append vs v h.1 g)
 
 bound_usable : (at : ℕ) (name : List ℕ) (b : Bound) (vars : List TypeVar) (r : Reading) (o : Option TypeVar) → AllUsable vars → AllUsable (bound_name at name b vars r o).vars
-bound_usable at name b vars r None h = usable_append vars (record { name = name; number = length r.vars; usable = true }) h refl
-bound_usable at name b vars r (Some v) h = h
+bound_usable at name b vars r o h = usable_append vars (record { name = name; number = length r.vars; usable = true }) h refl
 
 pub all_usable : (vs : List VarReads) (vars : List TypeVar) (inside : Bool) (r : Reading) → AllUsable vars → AllUsable (bind_all vs vars inside r).vars
 all_usable [] vars inside r h = h

@@ -15,11 +15,11 @@ use Rattle.jl_written.specs.declared.reading.Named.TheVariants as M
 use Rattle.jl_written.specs.declared.reading.Place.{Place}
 use Rattle.jl_written.specs.declared.reading.Reading.{Reading}
 use Rattle.jl_written.specs.declared.reading.TypeVar.{TypeVar}
-use Rattle.jl_written.specs.Meaning.{place_from, place_of, var_of, nominal_of, word_of, var_or, named}
-use Rattle.jl_written.specs.Reads.{TypeReads, ArgReads, VarReads, note, unknown, used, fresh, missing, placed, placed_layer, arguments, members, bound_name, guarded, bind, bind_all, where_at, within, plain, applied}
+use Rattle.jl_written.specs.Meaning.{place_from, place_of, later, var_of, nominal_of, word_of, var_or, named}
+use Rattle.jl_written.specs.Reads.{TypeReads, ArgReads, VarReads, note, unknown, used, fresh, missing, placed, placed_layer, arguments, members, rebound, bound_name, guarded, bind, bind_all, where_at, within, plain, applied}
 use Rattle.jl_type_laws.specs.Grown.{Grows}
 use Rattle.jl_type_laws.specs.Carried.{AllHave, BoundHas, BoundsHave, PlacesHave, ReadingHas, Visible, NumbersHave, IsCarried}
-use Rattle.jl_type_laws.proofs.GrowLemmas.{one_longer, grows_refl, grows_trans, grows_note, grows_unclear, grows_brought, grows_bound, grows_fresh}
+use Rattle.jl_type_laws.proofs.GrowLemmas.{one_longer, grows_refl, grows_trans, grows_note, grows_unknown, grows_unclear, grows_brought, grows_bound, grows_fresh}
 use Rattle.jl_type_laws.proofs.TextInduction.{EachText}
 
 pub bounds_append : (P : Ty → Type 0) (bs : List Bound) (b : Bound) → BoundsHave P bs → BoundHas P b → BoundsHave P (bs ++ b ∷ [])
@@ -83,7 +83,7 @@ module _ (ds : List Decl) (P : Ty → Type 0) (N : ℕ → Type 0) (S : ℕ → 
   -- ---- single steps
 
   pub unknown_steps : {F : Type 0} (at : ℕ) (r : Reading) → Steps r (unknown at r).after F (P W.Any)
-  unknown_steps at r = record { grows = grows_unclear at kind.UnknownType r; holds = λ e n g h. (c.any, record { bounds = h.bounds; places = h.places }) }
+  unknown_steps at r = record { grows = grows_unknown at kind.UnknownType r; holds = λ e n g h. (c.any, record { bounds = h.bounds; places = h.places }) }
 
   used_grows : (at : ℕ) (usable : Bool) (r : Reading) → Grows r (used at usable r)
   used_grows at true r = grows_refl r
@@ -108,7 +108,7 @@ module _ (ds : List Decl) (P : Ty → Type 0) (N : ℕ → Type 0) (S : ℕ → 
 
   placed_layer_steps : {F : Type 0} (high : Ty) (y : Ty-F Ty) (r : Reading) → P high → Steps r (placed_layer high y r) F F
   placed_layer_steps high (L.Var v) r p = record {
-    grows = let g = grows_refl r in record { longer = g.longer; faultless = g.faultless; told = g.told; unclear = g.unclear; misplaced = g.misplaced };
+    grows = let g = grows_refl r in record { longer = g.longer; faultless = g.faultless; named = g.named; told = g.told; unclear = g.unclear; misplaced = g.misplaced };
     holds = λ e n g h. (g, record { bounds = h.bounds; places = places_append P r.places (record { var = v; high = high }) h.places p });
   }
   placed_layer_steps high L.Any r p = still r (λ g. g)
@@ -146,15 +146,23 @@ module _ (ds : List Decl) (P : Ty → Type 0) (N : ℕ → Type 0) (S : ℕ → 
 
   -- ---- variables
 
+  rebound_grows : (at : ℕ) (o : Option TypeVar) (r : Reading) → Grows r (rebound at o r)
+  rebound_grows at None r = grows_refl r
+  rebound_grows at (Some v) r = grows_unclear at kind.Rebound r
+
+  bound_grows : (at : ℕ) (o : Option TypeVar) (b : Bound) (r : Reading) → Grows (rebound at o r) (record (rebound at o r) { vars = r.vars ++ b ∷ [] })
+  bound_grows at None b r = grows_bound b r
+  bound_grows at (Some v) b r = grows_bound b (rebound at (Some v) r)
+
+  bound_has : (at : ℕ) (o : Option TypeVar) (bs : List Bound) (r : Reading) → BoundsHave P bs → PlacesHave P r.places → ReadingHas P (record (rebound at o r) { vars = bs })
+  bound_has at None bs r h g = record { bounds = h; places = g }
+  bound_has at (Some v) bs r h g = record { bounds = h; places = g }
+
   bound_name_steps : (at : ℕ) (name : List ℕ) (b : Bound) (vars : List TypeVar) (r : Reading) (o : Option TypeVar)
       → Steps r (bound_name at name b vars r o).after (BoundHas P b × Visible S vars) (Visible S (bound_name at name b vars r o).vars)
-  bound_name_steps at name b vars r None = record {
-    grows = grows_bound b r;
-    holds = λ e n g h. (visible_append S vars (record { name = name; number = length r.vars; usable = true }) g.1 (c.bound (length r.vars) (n (length r.vars) (one_longer r.vars b))), record { bounds = bounds_append P r.vars b h.bounds g.0; places = h.places });
-  }
-  bound_name_steps at name b vars r (Some v) = record {
-    grows = grows_trans r (record r { vars = r.vars ++ b ∷ [] }) (bound_name at name b vars r (Some v)).after (grows_bound b r) (grows_unclear at kind.Rebound (record r { vars = r.vars ++ b ∷ [] }));
-    holds = λ e n g h. (g.1, record { bounds = bounds_append P r.vars b h.bounds g.0; places = h.places });
+  bound_name_steps at name b vars r o = record {
+    grows = grows_trans r (rebound at o r) (bound_name at name b vars r o).after (rebound_grows at o r) (bound_grows at o b r);
+    holds = λ e n g h. (visible_append S vars (record { name = name; number = length r.vars; usable = true }) g.1 (c.bound (length r.vars) (n (length r.vars) (one_longer r.vars b))), bound_has at o (r.vars ++ b ∷ []) r (bounds_append P r.vars b h.bounds g.0) h.places);
   }
 
   guarded_case : {G : Type 0} (at : ℕ) (b : Bool) (r : Reading) → Steps r (cond b (note at kind.NameClash r) r) G G
@@ -217,13 +225,14 @@ module _ (ds : List Decl) (P : Ty → Type 0) (N : ℕ → Type 0) (S : ℕ → 
       (choose vars (same_text name (codes "Tuple")) M.Tuple _ tt
       (choose vars (same_text name (codes "Int")) (M.Nominal 4) far four place)))
 
-  var_case : (vars : List TypeVar) (b : Bool) (v : TypeVar) (o : Option TypeVar) (w : Named) → (Visible S vars → S v.number v.usable) → Fits vars (var_or o w) → Fits vars (var_or (cond b (Some v) o) w)
-  var_case vars true v o w f g = f
-  var_case vars false v o w f g = g
+  var_case : (vars : List TypeVar) (b : Bool) (v : TypeVar) (o : Option TypeVar) (w : Named) → (Visible S vars → S v.number v.usable) → Fits vars w → Fits vars (var_or o w) → Fits vars (var_or (later (cond b (Some v) None) o) w)
+  var_case vars true v None w f g h = f
+  var_case vars false v None w f g h = g
+  var_case vars b v (Some u) w f g h = h
 
   var_fits : (vars vs : List TypeVar) (name : List ℕ) (w : Named) → (Visible S vars → Visible S vs) → Fits vars w → Fits vars (var_or (var_of vs name) w)
   var_fits vars [] name w f g = g
-  var_fits vars (v ∷ vs) name w f g = var_case vars (same_text name v.name) v (var_of vs name) w (λ h. (f h).0) (var_fits vars vs name w (λ h. (f h).1) g)
+  var_fits vars (v ∷ vs) name w f g = var_case vars (same_text name v.name) v (var_of vs name) w (λ h. (f h).0) g (var_fits vars vs name w (λ h. (f h).1) g)
 
   named_fits : (vars : List TypeVar) (name : List ℕ) → Fits vars (named ds vars name)
   named_fits vars name = var_fits vars vars name (word_of ds name) (λ h. h) (word_fits vars name)

@@ -15,7 +15,7 @@ use Rattle.jl_written.specs.declared.reading.Named.{Named}
 use Rattle.jl_written.specs.declared.reading.Named.TheVariants as M
 use Rattle.jl_written.specs.declared.reading.Reading.{Reading}
 use Rattle.jl_written.specs.declared.reading.TypeVar.{TypeVar}
-use Rattle.jl_written.specs.Meaning.{var_of, word_of, var_or}
+use Rattle.jl_written.specs.Meaning.{later, var_of, word_of, var_or}
 use Rattle.jl_written.specs.Reads.{TypeReads, ArgReads, VarReads, note, unread, used, fresh, missing, placed, placed_layer, arguments, members, bound_name, guarded, bind, bind_all, where_at, within, plain, applied, type_step, arg_step, var_step, type_reads, arg_reads, var_reads}
 use Rattle.jl_written.specs.Signatures.{shifted, width_of}
 use Rattle.jl_type_laws.proofs.TextInduction.{EachText, TextCases, by_type}
@@ -91,10 +91,12 @@ found : List (List ℕ) → List ℕ → Bool
 found [] name = false
 found (n ∷ ns) name = cond (same_text name n) true (found ns name)
 
-has_cond : (b : Bool) (v : TypeVar) (o : Option TypeVar) → has (cond b (Some v) o) ≡ cond b true (has o)
+has_cond : (b : Bool) (v : TypeVar) (o : Option TypeVar) → has (later (cond b (Some v) None) o) ≡ cond b true (has o)
 unfolding has
-has_cond true v o = refl
-has_cond false v o = refl
+has_cond true v None = refl
+has_cond true v (Some u) = refl
+has_cond false v None = refl
+has_cond false v (Some u) = refl
 
 has_found : (vs : List TypeVar) (name : List ℕ) → has (var_of vs name) ≡ found (names_of vs) name
 unfolding has found
@@ -148,14 +150,10 @@ VarsAlike a b r q = (names_of a ≡ names_of b) × Same r q
 
 bound_wide : (at : ℕ) (name : List ℕ) (c d : Bound) (a b : List TypeVar) → names_of a ≡ names_of b → (r q : Reading) → Same r q → (o p : Option TypeVar) → has o ≡ has p
     → VarsAlike (bound_name at name c a r o).vars (bound_name at name d b q p).vars (bound_name at name c a r o).after (bound_name at name d b q p).after
-unfolding has
-bound_wide at name c d a b n r q h None None e =
+bound_wide at name c d a b n r q h o p e =
     let v : TypeVar = record { name = name; number = length r.vars; usable = true } in
     let u : TypeVar = record { name = name; number = length q.vars; usable = true } in
     (names_append a v ∙ ap (λ z. z ++ name ∷ []) n ∙ sym (names_append b u), longer r q c d h)
-bound_wide at name c d a b n r q h (Some v) (Some u) e = (n, longer r q c d h)
-bound_wide at name c d a b n r q h None (Some u) e = cc
-bound_wide at name c d a b n r q h (Some v) None e = cc
 
 bind_wide : (v : VarReads) → VarWide v → (a b : List TypeVar) → names_of a ≡ names_of b → (i : Bool) (r q : Reading) → Same r q
     → VarsAlike (bind v a i r).vars (bind v b i q).vars (bind v a i r).after (bind v b i q).after

@@ -14,12 +14,13 @@ ghost use Rattle.jl_type_laws.specs.Grown.{Grows};
 ghost use Rattle.jl_type_laws.specs.Scripts.{DeclsKnown};
 
 /// Reading only adds to what is known, whatever the text: variables come behind those that are known, a fault stays, and
-/// where no fault stands behind a text each name in it means something.
+/// where no fault stands behind a text each name in it means something, and none is bound twice.
 pub fn law_reading_only_adds()
     ensures one { (ds : List Decl) (t : TypeText) (vars : List TypeVar) (inside : Bool) (r : Reading) → Grows r (type_reads ds t vars inside r).after }
     ensures optional { (ds : List Decl) (t : Option TypeText) (vars : List TypeVar) (r : Reading) → Grows r (option_reads ds t vars r).after }
     ensures many { (ds : List Decl) (ts : List (Option TypeText)) (vars : List TypeVar) (r : Reading) → Grows r (all_read ds ts vars r).after }
     ensures variables { (ds : List Decl) (vs : List VarText) (vars : List TypeVar) (r : Reading) → Grows r (all_bound ds vs vars r).after }
+    ensures named { (ds : List Decl) (t : TypeText) (vars : List TypeVar) (inside : Bool) → (type_reads ds t vars inside unread).after.fault ≡ None → (type_reads ds t vars inside unread).after.unknown ≡ false }
     ensures clear { (ds : List Decl) (t : TypeText) (vars : List TypeVar) (inside : Bool) → (type_reads ds t vars inside unread).after.fault ≡ None → (type_reads ds t vars inside unread).after.unclear ≡ false }
 {}
 

@@ -32,6 +32,7 @@ use Rattle.jl_types.proofs.CoverLemmas.{each_in, all_from, normal_from, alike, u
 use Rattle.jl_types.proofs.SettleLemmas.{settles_equal, settles_pass}
 use Rattle.jl_types.proofs.FormedLemmas.{IsFit, lower_single, formed_equal, fits_grow}
 use Rattle.jl_types.proofs.KeptLemmas.{alts_pass}
+use Rattle.jl_types.proofs.NarrowLemmas.{reduce_short, member_narrow, members_narrow}
 
 -- members of lists
 candidate_in : (ds : List Decl) (x : Ty) (cs : List Ty) → Candidates ds cs → In x cs → Candidate ds x
@@ -88,6 +89,13 @@ module _ (ds : List Decl) (declared : Declared ds) (t s : Ty) (settles : Settles
       let P : Ty → Type 0 = λ z. p z ≡ true in
       each_in P x cs (subst (Each P) (sym cs_is) (alts_pass p h s (settles_pass (Formed ds) p h (λ a b g. g.kept p h) t s settles f))) (from x i)
 
+  -- NARROW
+  from_alts : (x : Ty) → In x ks → In x (alts s)
+  from_alts x i = subst (In x) cs_is (from x i)
+
+  few : length ks ≤ length (alts s)
+  few = omega (arith, reduce_short n cs [] ks reduces, ap (λ z. length z) cs_is)
+
   equal_back : (u v : Ty) → Equal n t u → Equal n t v → Equal n u v
   equal_back u v a b = equal_trans n law u t v (a.1, a.0) b
 
@@ -101,6 +109,7 @@ module _ (ds : List Decl) (declared : Declared ds) (t s : Ty) (settles : Settles
         normal = (candidate k i).normal;
         large = λ l v g q. large_left n law ks apart lower k v i l g (equal_back (V.Union ks) v equal_union q);
         kept = λ p h f. members_pass p h f k i;
+        narrow = member_narrow ds t s settles k (from_alts k i);
       }
 
   formed_large : HasLarge ks → Formed ds t (V.Union ks)
@@ -112,6 +121,7 @@ module _ (ds : List Decl) (declared : Declared ds) (t s : Ty) (settles : Settles
         normal = λ l. absurd (omega arith);
         large = λ l v g q. large_left n law ks apart lower r.0 v r.1 r.2 g (equal_back (V.Union ks) v equal_union q);
         kept = λ p h f. h.union_is ks ∙ all_from p ks (members_pass p h f);
+        narrow = members_narrow ds t s settles ks from_alts few;
       }
 
   formed_ordered : (us : List Ty) → (length ks ≡ 1 → ⊥) → AllSmall ks → IsPermutation ks us → IsSorted term_cmp us → Formed ds t (V.Union us)
@@ -133,6 +143,7 @@ module _ (ds : List Decl) (declared : Declared ds) (t s : Ty) (settles : Settles
         normal = λ k. normal;
         large = λ k v g q. let e : V.Union us ≡ v = normal_same n law (V.Union us) normal v g (equal_back (V.Union us) v same q) in let f : nodes (V.Union us) ≡ nodes v = ap nodes e in omega arith;
         kept = λ q h f. h.union_is us ∙ all_from q us (λ x i. members_pass q h f x (into x i));
+        narrow = members_narrow ds t s settles us (λ x i. from_alts x (into x i)) (omega (arith, long, few));
       }
 
   pub formed : (u : Ty) → Gathers ks u → Formed ds t u

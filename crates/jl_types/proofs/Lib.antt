@@ -13,6 +13,7 @@ pub mod FinalLemmas
 pub mod KeptLemmas
 pub mod SettleLemmas
 pub mod SortLemmas
+pub mod NarrowLemmas
 pub mod GatherLemmas
 pub mod PartsLemmas
 pub mod FormLemmas

@@ -10,7 +10,7 @@ use Rattle.jl_model.specs.declared.ty.Decl.{Decl}
 use Rattle.jl_model.specs.Ancestors.{table_of}
 use Rattle.jl_model.specs.Signature.{Both}
 use Rattle.jl_model.specs.Subtype.{Equal}
-use Rattle.jl_model.specs.Counts.{nodes, IsWithinLimits}
+use Rattle.jl_model.specs.Counts.{nodes, raw, IsWithinLimits}
 use Rattle.jl_model.specs.Order.{term_cmp}
 use Rattle.jl_model.specs.Normal.{IsNormal, IsNormalForm}
 use Rattle.jl_model.specs.Kept.{Settled}
@@ -25,11 +25,13 @@ pub record IsOfParts (p : Ty → Bool) : Type 0 where
   pub others : (k : ℕ) (ts us : List Ty) → p (V.Nominal k ts) ≡ true → length us ≡ length ts → list_all p us ≡ true → p (V.Nominal k us) ≡ true
 
 -- u equals t. Where it has at most 1,024 nodes it is the normal form; where it has more, so has every normal form of t.
+-- No part of it has more raw alternatives than t or a part of t.
 pub record Formed (ds : List Decl) (t u : Ty) : Type 0 where
   pub equal : Equal (table_of ds) t u
   pub normal : nodes u ≤ 1024 → IsNormal (table_of ds) u
   pub large : 1024 < nodes u → (v : Ty) → IsNormal (table_of ds) v → Equal (table_of ds) t v → 1024 < nodes v
   pub kept : (p : Ty → Bool) → IsOfParts p → p t ≡ true → p u ≡ true
+  pub narrow : (raw u).widest ≤ (raw t).widest
 
 -- the arguments of nominal types become what F says, and all else is as written
 module _ (F : Ty → Ty → Type 0) where

@@ -47,6 +47,7 @@ pub fn normal(alloc: Global, table: &Table, ty: &Ty) -> Result<Ty, NormFault>
     requires { IsTrue (is_known (length table.now) ty.now) }
     ensures form { IfOk result (λ u. IsNormalForm (table_of table.now) ty.now u) }
     ensures small { IfOk result (λ u. nodes u ≤ 1024) }
+    ensures fits { IfOk result (λ u. IsWithinLimits u) }
     ensures within { OnOk result (IsWithinLimits ty.now) }
     ensures known { IfOk result (λ u. IsTrue (is_known (length table.now) u)) }
     ensures closed { IfOk result (λ u. IsTrue (is_closed ty.now) → IsTrue (is_closed u)) }

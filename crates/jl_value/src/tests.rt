@@ -528,6 +528,30 @@ fn the_type_of_a_tuple_ends_at_its_limit(rt: HostRuntime) -> Result<(), MakeFaul
     Ok(())
 }
 
+/// The pair of a value with itself, so often.
+#[tactic(auto, using(crate::proofs::SampleValues::values))]
+fn doubled(alloc: Global, table: &Table, times: u32) -> Result<Value, MakeFault>
+    requires sample { table.now ≡ sample_types }
+    ensures { IfOk result (λ v. IsValid sample_types (datum v)) }
+{
+    let mut value = Value::Int(1);
+    for _ in 0..times {
+        let same = copy(&value)?;
+        value = double(alloc, table, value, same)?;
+    }
+    Ok(value)
+}
+
+#[test]
+fn the_type_of_tuples_in_tuples_ends_at_its_limit(rt: HostRuntime) -> Result<(), MakeFault> {
+    let alloc = rt.alloc();
+    let table = sample(alloc)?;
+    assert!(rt; doubled(alloc, &table, 9).is_ok());
+    let refused = doubled(alloc, &table, 10);
+    assert!(rt; is_fault(refused, MakeFault::TypeLimit));
+    Ok(())
+}
+
 /// What a tuple of one part gives, which is as deep as it may be.
 fn deep_tuple(alloc: Global, table: &Table) -> Result<Value, MakeFault>
     requires sample { table.now ≡ sample_types }

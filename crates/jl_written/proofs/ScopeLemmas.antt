@@ -1,5 +1,5 @@
 -- The variables of a `where` stand behind those that were visible before.
-use Rattle.std.proofs.Common.{◌≡◌, ◌∙◌, ◌++◌, ◌∷◌, [], ap, sym, refl, ℕ, Bool, List, Option, Some, None, length, take, map, append_assoc}
+use Rattle.std.proofs.Common.{◌≡◌, ◌∙◌, ◌++◌, ◌∷◌, [], ap, sym, refl, ℕ, Bool, List, Option, length, take, map, append_assoc}
 use Rattle.std.proofs.lemmas.List.{append-nil}
 use Rattle.std.proofs.Math.Seq.{take-append_seam}
 use Rattle.jl_model.specs.declared.ty.Bound.{Bound}
@@ -16,8 +16,7 @@ use Rattle.jl_typeread.specs.declared.tree.ArgText.TheFolds.{fold-roll-TypeText}
 use Rattle.jl_written.specs.Reads.{arg_step, type_step, var_step, ArgReads, type_reads, var_reads, TypeReads, VarReads, Scoped, typed, scoped, bound_name, bind, bind_all, guarded, where_at, within}
 
 one_more : (at : ℕ) (name : List ℕ) (b : Bound) (vars : List TypeVar) (r : Reading) (o : Option TypeVar) → (more : List TypeVar) × ((bound_name at name b vars r o).vars ≡ vars ++ more)
-one_more at name b vars r None = (_, refl)
-one_more at name b vars r (Some v) = ([], sym (append-nil vars))
+one_more at name b vars r o = (_, refl)
 
 more_of : (vs : List VarReads) (vars : List TypeVar) (inside : Bool) (r : Reading) → (more : List TypeVar) × ((bind_all vs vars inside r).vars ≡ vars ++ more)
 more_of [] vars inside r = ([], sym (append-nil vars))

@@ -14,10 +14,15 @@ place_from i (n ∷ ns) name = cond (same_text name n) (Some i) (place_from (i +
 abbrev pub place_of : List (List ℕ) → List ℕ → Option ℕ
 place_of names name = place_from 0 names name
 
--- the visible type variable of a name, the first of several
+-- the later of two variables, where there is one
+abbrev pub later : Option TypeVar → Option TypeVar → Option TypeVar
+later o None = o
+later o (Some v) = Some v
+
+-- the visible type variable of a name, the last of several
 abbrev pub var_of : List TypeVar → List ℕ → Option TypeVar
 var_of [] name = None
-var_of (v ∷ vs) name = cond (same_text name v.name) (Some v) (var_of vs name)
+var_of (v ∷ vs) name = later (cond (same_text name v.name) (Some v) None) (var_of vs name)
 
 -- the declared type of a name
 abbrev pub nominal_of : Option ℕ → Named

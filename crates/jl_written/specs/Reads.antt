@@ -59,7 +59,7 @@ behind us ts = record { tys = us ++ ts.tys; after = ts.after }
 
 -- nothing is known yet
 abbrev pub unread : Reading
-unread = record { vars = []; places = []; fault = None; unclear = false; misplaced = false }
+unread = record { vars = []; places = []; fault = None; unknown = false; unclear = false; misplaced = false }
 
 -- a fault stands at this place
 abbrev pub note : ℕ → StaticKind → Reading → Reading
@@ -67,7 +67,7 @@ note at k r = record r { fault = first_of r.fault (record { at = at; kind = k })
 
 -- a name that means no type: the text is no type, and `Any` stands for it
 abbrev pub unknown : ℕ → Reading → Typed
-unknown at r = record { ty = W.Any; after = record (note at kind.UnknownType r) { unclear = true } }
+unknown at r = record { ty = W.Any; after = record (note at kind.UnknownType r) { unknown = true; unclear = true } }
 
 -- a variable of the signature that no body may use
 abbrev pub used : ℕ → Bool → Reading → Reading
@@ -148,13 +148,17 @@ nominal_of k ts = record { ty = V.Nominal k ts.tys; after = ts.after }
 
 -- ---- variables
 
--- the next variable takes a name, unless that is visible already
+-- a name is bound where it is visible already
+abbrev pub rebound : ℕ → Option TypeVar → Reading → Reading
+rebound at None r = r
+rebound at (Some _) r = record (note at kind.Rebound r) { unclear = true }
+
+-- the next variable takes a name, and hides one that has it already
 abbrev pub bound_name : ℕ → List ℕ → Bound → List TypeVar → Reading → Option TypeVar → Scoped
-bound_name at name b vars r None = record {
+bound_name at name b vars r o = record {
   vars = vars ++ record { name = name; number = length r.vars; usable = true } ∷ [];
-  after = record r { vars = r.vars ++ b ∷ [] };
+  after = record (rebound at o r) { vars = r.vars ++ b ∷ [] };
 }
-bound_name at name b vars r (Some _) = record { vars = vars; after = record (note at kind.Rebound r) { vars = r.vars ++ b ∷ []; unclear = true } }
 
 -- a built-in name is bound
 abbrev pub guarded : ℕ → List ℕ → Reading → Reading

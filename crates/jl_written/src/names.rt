@@ -1,6 +1,6 @@
 //! What a name means where a type must stand.
 
-ghost use Rattle.std.specs.Prelude.{◌≡◌, ◌++◌, List, ℕ, map, option_copied, IfOk};
+ghost use Rattle.std.specs.Prelude.{◌≡◌, ◌≤◌, ◌^◌, ◌++◌, List, ℕ, map, option_copied, IfOk, OnErr};
 ghost use Rattle.jl_calculus.specs.Names.{is_among, same_text, builtin_names};
 ghost use Rattle.jl_model.specs.declared.ty.Decl.{Decl};
 ghost use Rattle.jl_written.specs.Meaning.{place_of, var_of, word_of, named};
@@ -61,9 +61,10 @@ pub fn is_builtin(word: &[u8]) -> bool
     is_one_of(words.as_slice(), word)
 }
 
-/// A number of a variable or a type. The one error, which stands for want of memory, comes past 2^32.
+/// A number of a variable or a type. The one error, which stands for want of memory, comes exactly from 2^32 on.
 pub fn small(number: usize) -> Result<u32, AllocError>
-    ensures { IfOk result (λ n. n ≡ number) }
+    ensures number { IfOk result (λ n. n ≡ number) }
+    ensures limit { OnErr result (2 ^ 32 ≤ number) }
 {
     if number > 0xffff_ffff {
         return Err(AllocError);
@@ -105,16 +106,18 @@ fn word_of(decls: &[Decl], name: &[u8]) -> Result<Named, AllocError>
     }
 }
 
-/// The place of a visible type variable.
+/// The visible type variable of a name, the last of several.
+#[tactic(auto, using(crate::proofs::TextLemmas::later_joins))]
 pub(crate) fn var_of<'a>(vars: &'a [TypeVar], name: &[u8]) -> Option<&'a TypeVar>
     ensures { option_copied result ≡ var_of vars.entry.now name.now }
 {
+    let mut found = None;
     for var in vars {
         if is_same(name, var.name.as_slice()) {
-            return Some(var);
+            found = Some(var);
         }
     }
-    None
+    found
 }
 
 /// What a name means where a type must stand: a visible type variable hides a declared type of its name.

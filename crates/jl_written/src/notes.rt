@@ -71,6 +71,7 @@ pub(crate) fn unknown(state: &mut Reading, at: u32) -> Ty
     ensures { typed result state.new ≡ unknown at state.old }
 {
     note(state, at, StaticKind::UnknownType);
+    state.unknown = true;
     state.unclear = true;
     Ty::Any
 }

@@ -34,13 +34,14 @@ pub struct Place {
 }
 
 /// What is known behind a part of the text: the bounds of the variables so far, by their numbers; the places of variables,
-/// in text order; the first fault; whether some name in a type is unknown or bound twice, so that the types are none; and
-/// whether a variable is brought in an invariant place of another nominal type.
+/// in text order; the first fault; whether some name in a type is unknown; whether one is unknown or bound where it is
+/// visible; and whether a variable is brought in an invariant place of another nominal type.
 #[derive(Drop)]
 pub struct Reading {
     pub vars: Row<Bound>,
     pub places: Row<Place>,
     pub fault: Option<Fault>,
+    pub unknown: bool,
     pub unclear: bool,
     pub misplaced: bool,
 }

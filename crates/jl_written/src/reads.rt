@@ -275,7 +275,7 @@ fn bind(
     }
 }
 
-/// The next variable takes a name, unless that is visible already.
+/// The next variable takes a name, and hides one that has it already.
 fn bind_name(
     vars: &mut Row<TypeVar>,
     state: &mut Reading,
@@ -290,18 +290,15 @@ fn bind_name(
     }
     let number = small(state.vars.len())?;
     state.vars.push(bound)?;
-    match var_of(vars.as_slice(), name.as_slice()) {
-        None => vars.push(TypeVar {
-            name: name.copy()?,
-            number,
-            usable: true,
-        }),
-        Some(_) => {
-            note(state, at, StaticKind::Rebound);
-            state.unclear = true;
-            Ok(())
-        }
+    if let Some(_) = var_of(vars.as_slice(), name.as_slice()) {
+        note(state, at, StaticKind::Rebound);
+        state.unclear = true;
     }
+    vars.push(TypeVar {
+        name: name.copy()?,
+        number,
+        usable: true,
+    })
 }
 
 /// The bounds of a variable: without a written upper bound `Any`, without a lower one `Union{}`.

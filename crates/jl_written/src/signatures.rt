@@ -22,6 +22,7 @@ pub fn unread(alloc: Global) -> Reading
         vars: Row::new(alloc),
         places: Row::new(alloc),
         fault: None,
+        unknown: false,
         unclear: false,
         misplaced: false,
     }
@@ -90,10 +91,7 @@ fn shifted(alloc: Global, by: usize, statics: &[TypeVar]) -> Result<Row<TypeVar>
 {
     let mut vars = Row::new(alloc);
     for var in statics {
-        if by > 0xffff_ffff {
-            return Err(AllocError);
-        }
-        let number = small(by + var.number as usize)?;
+        let number = small(small(by)? as usize + var.number as usize)?;
         vars.push(TypeVar {
             name: var.name.copy()?,
             number,

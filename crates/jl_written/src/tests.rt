@@ -124,6 +124,7 @@ fn an_unknown_name_is_a_fault_at_its_place(rt: HostRuntime) -> Result<(), Fail> 
         kind: StaticKind::UnknownType,
     };
     assert!(rt; reading.fault == Some(expected));
+    assert!(rt; reading.unknown);
     assert!(rt; reading.unclear);
     Ok(())
 }

@@ -1,16 +1,14 @@
 //! What the calls ask of what is handed to them: signatures that nothing refuses, and concrete types in normal form.
 
-ghost use Rattle.std.specs.Prelude.{◌≡◌, IsTrue, IfOk, MatchOption, length};
+ghost use Rattle.std.specs.Prelude.{◌≡◌, IfOk, MatchOption};
 ghost use Rattle.std.specs.List.{list_all};
-ghost use Rattle.jl_model.specs.Ancestors.{table_of};
-ghost use Rattle.jl_model.specs.Subtype.{opaque, is_concrete};
 ghost use Rattle.jl_model.specs.Valid.{is_known};
 ghost use Rattle.jl_match.specs.KeptRow.{AreConcrete};
 ghost use Rattle.jl_match.specs.SigRefused.{IsMade};
 
 use crate::halt::Halt;
-use jl_match::{is_well_named, make_sig};
-use jl_model::ty::{DeclKind, Ty, Written};
+use jl_match::{is_concrete, is_well_named, make_sig};
+use jl_model::ty::{Ty, Written};
 use jl_norm::norm;
 use jl_sig::{Sig, SigFault};
 use jl_types::Table;
@@ -43,40 +41,6 @@ fn is_known(ty: &Ty, count: u32) -> bool
         Ty::Tuple(parts) => are_known(parts.as_slice(), count),
         Ty::Nominal(name, arguments) => *name < count && are_known(arguments.as_slice(), count),
         Ty::Var(_) => true,
-    }
-}
-
-/// Whether all of these are concrete.
-#[cycle(concrete)]
-#[tactic(auto, using(jl_match::proofs::KnownLemmas::knowing))]
-fn are_concrete(table: &Table, types: &[Ty]) -> bool
-    requires known { IsTrue (list_all (is_known (length table.now)) types.now) }
-    ensures { result ≡ list_all (is_concrete (table_of table.now) opaque) types.now }
-{
-    for ty in types {
-        if !is_concrete(table, ty) {
-            return false;
-        }
-    }
-    true
-}
-
-/// Whether a type is concrete: a struct type, or a tuple of concrete types.
-#[cycle(concrete)]
-#[tactic(auto, using(jl_match::proofs::KnownLemmas::knowing))]
-fn is_concrete(table: &Table, ty: &Ty) -> bool
-    requires known { IsTrue (is_known (length table.now) ty.now) }
-    ensures { result ≡ is_concrete (table_of table.now) opaque ty.now }
-{
-    match ty {
-        Ty::Any => false,
-        Ty::Union(_) => false,
-        Ty::Tuple(parts) => are_concrete(table, parts.as_slice()),
-        Ty::Nominal(name, _) => match table.decl(*name).kind {
-            DeclKind::Abstract => false,
-            DeclKind::Struct => true,
-        },
-        Ty::Var(_) => false,
     }
 }
 

@@ -39,7 +39,7 @@ fn main(rt: HostRuntime) -> io::Result<()> {
     match compared(rt.alloc()) {
         Ok(report) => {
             println!(rt;
-                "types: {}, of which {} differ from their normal form",
+                "types: {}, of which {} do not equal their normal form",
                 report.types, report.unequal
             )?;
             println!(rt;

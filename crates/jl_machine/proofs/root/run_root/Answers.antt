@@ -5,8 +5,8 @@ use Rattle.jl_machine.proofs.root.run_root.Goals as goal
 
 pub turns-init : goal.turns-init
 turns-init g c = record {
-  fits = fits_new _ _ _ c.in_ok-machine.machine c.requires.program c.requires.simple c.requires.fresh c.in_ok-machine.ensures;
-  fuel = let new = c.in_ok-machine.ensures in new.fuel;
+  fits = fits_new _ _ _ c.in_ok-machine.machine c.requires.program c.requires.simple c.requires.fresh c.in_ok-machine.ensures.begun;
+  fuel = let new = c.in_ok-machine.ensures.begun in new.fuel;
 }
 
 pub step-requires : goal.step-requires
@@ -18,7 +18,7 @@ turns-smaller g c = rw c.in-Again.is at c.in_ok-step.ensures.turn
 
 pub turns-preserved : goal.turns-preserved
 turns-preserved g c = record {
-  fits = subst (λ (n : ℕ). MachineFits c.args.program.now n (g.D.Dispatcher.knows c.step.new.with) c.step.new.self) c.turns.invariant.fuel c.in_ok-step.ensures.fits;
+  fits = subst (λ (n : ℕ). MachineFits c.args.program.now n (g.D.Dispatcher.knows c.step.new.with) c.step.new.self) (c.in_ok-step.ensures.fuel ∙ c.turns.invariant.fuel) c.in_ok-step.ensures.fits;
   fuel = c.in_ok-step.ensures.fuel ∙ c.turns.invariant.fuel;
 }
 
@@ -28,4 +28,4 @@ record-requires g c = rw c.in-Done.is at c.in_ok-step.ensures.turn
 pub returns-in-Done : goal.returns-in-Done
 returns-in-Done g c =
     record_ok c.record.result _ _ _ c.step.new.self
-    (subst (λ (n : ℕ). MachineFits c.args.program.now n (g.D.Dispatcher.knows c.step.new.with) c.step.new.self) c.turns.invariant.fuel c.in_ok-step.ensures.fits) c.record.ensures
+    (subst (λ (n : ℕ). MachineFits c.args.program.now n (g.D.Dispatcher.knows c.step.new.with) c.step.new.self) (c.in_ok-step.ensures.fuel ∙ c.turns.invariant.fuel) c.in_ok-step.ensures.fits) c.record.ensures

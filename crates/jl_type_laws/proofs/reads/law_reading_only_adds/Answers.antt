@@ -9,5 +9,6 @@ returns c = record {
   optional = λ ds t vars r. (option_law ds _ _ _ _ (nothing_carried ds) t vars r).grows;
   many = λ ds ts vars r. (all_law ds _ _ _ _ (nothing_carried ds) ts vars r).grows;
   variables = λ ds vs vars r. (bound_law ds _ _ _ _ (nothing_carried ds) vs vars r).grows;
+  named = λ ds t vars inside. (type_law ds _ _ _ _ (nothing_carried ds) t vars inside unread).grows.named;
   clear = λ ds t vars inside. (type_law ds _ _ _ _ (nothing_carried ds) t vars inside unread).grows.told;
 }

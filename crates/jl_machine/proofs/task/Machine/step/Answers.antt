@@ -1,5 +1,5 @@
 use Rattle.std.proofs.Common.{refl, sym}
-use Rattle.jl_machine.proofs.Whole.{going, fitting, ended, step_fits, step_turns}
+use Rattle.jl_machine.proofs.Whole.{going, fitting, ended, step_fits, step_turns, never_lost, ended_never_lost, going_never_lost}
 use Rattle.jl_machine.proofs.task.Machine.step.Goals as goal
 
 pub go-requires-clause-fits : goal.go-requires-clause-fits
@@ -22,11 +22,23 @@ returns-in-Ended-clause-fuel g c = refl
 
 pub returns-in_ok-go-in-Going-clause-fits : goal.returns-in_ok-go-in-Going-clause-fits
 returns-in_ok-go-in-Going-clause-fits g c =
-    step_fits _ _ _ _ _ c.args.self.now.task _ (fitting _ _ c.args.self.now.work c.args.self.now.task (going _ (sym c.in-Going.ensures)) c.requires).0 c.in_ok-go-in-Going.ensures
+    step_fits _ _ _ _ _ c.args.self.now.task _ (fitting _ _ c.args.self.now.work c.args.self.now.task (going _ (sym c.in-Going.ensures)) c.requires).0 c.in_ok-go-in-Going.ensures.steps
 
 pub returns-in_ok-go-in-Going-clause-turn : goal.returns-in_ok-go-in-Going-clause-turn
 returns-in_ok-go-in-Going-clause-turn g c =
-    step_turns _ _ _ _ _ c.args.self.now.task _ (fitting _ _ c.args.self.now.work c.args.self.now.task (going _ (sym c.in-Going.ensures)) c.requires).0 c.in_ok-go-in-Going.ensures
+    step_turns _ _ _ _ _ c.args.self.now.task _ (fitting _ _ c.args.self.now.work c.args.self.now.task (going _ (sym c.in-Going.ensures)) c.requires).0 c.in_ok-go-in-Going.ensures.steps
 
 pub returns-in_ok-go-in-Going-clause-fuel : goal.returns-in_ok-go-in-Going-clause-fuel
-returns-in_ok-go-in-Going-clause-fuel g c = let s = c.in_ok-go-in-Going.ensures in s.fits.fuel_is
+returns-in_ok-go-in-Going-clause-fuel g c = let s = c.in_ok-go-in-Going.ensures.steps in s.fits.fuel_is
+
+pub returns-in-Ended-clause-kept : goal.returns-in-Ended-clause-kept
+returns-in-Ended-clause-kept g c = ended_never_lost _ (sym c.in-Ended.ensures)
+
+pub returns-in-Ended-clause-still : goal.returns-in-Ended-clause-still
+returns-in-Ended-clause-still g c = λ lost. absurd (ended_never_lost _ (sym c.in-Ended.ensures) lost)
+
+pub returns-in_ok-go-in-Going-clause-kept : goal.returns-in_ok-go-in-Going-clause-kept
+returns-in_ok-go-in-Going-clause-kept g c = let s = c.in_ok-go-in-Going.ensures.steps in never_lost _ _ _ _ _ s.fits
+
+pub returns-in_ok-go-in-Going-clause-still : goal.returns-in_ok-go-in-Going-clause-still
+returns-in_ok-go-in-Going-clause-still g c = λ lost. absurd (going_never_lost _ (sym c.in-Going.ensures) lost)

@@ -1,8 +1,8 @@
-use Rattle.std.proofs.Common.{sym, subst, arith, drop, is_ok}
-use Rattle.jl_machine.specs.Knows.{Grew, Defined}
+use Rattle.std.proofs.Common.{◌∙◌, ap, sym, subst, arith, drop, length, is_ok}
+use Rattle.jl_machine.specs.Knows.{Grew, Defined, IsMade}
 use Rattle.jl_solo.specs.Alone.{knows_at, IsAlone}
 use Rattle.jl_solo.specs.Solo.{knows_of}
-use Rattle.jl_solo.proofs.Answered.{full_all, grew_all, made_all, alone_if}
+use Rattle.jl_solo.proofs.Answered.{full_all, grew_all, made_all, made_world_all, asked, alone_if}
 use Rattle.jl_solo.proofs.solo.SoloDispatcher.define.Goals as goal
 
 pub returns-then-len-ge-LAST_WORLD-clause-full : goal.returns-then-len-ge-LAST_WORLD-clause-full
@@ -26,3 +26,15 @@ pub returns-in-Ok-clause-defined : goal.returns-in-Ok-clause-defined
 returns-in-Ok-clause-defined c =
     let s = c.args.self.now in
     subst (λ xs. Defined (knows_of s) (knows_at s.program.now (drop 14 xs) s.looks) c.args.site) (sym c.in-Ok.ensures.items) (made_all s.program.now s.sites.items s.alone s.looks c.args.site)
+
+pub returns-in-Ok-clause-world : goal.returns-in-Ok-clause-world
+returns-in-Ok-clause-world c =
+    let s = c.args.self.now in
+    let last = c.len-in-Ok.ensures ∙ c.push.new.self.ok.0 ∙ ap length c.in-Ok.ensures.items in
+    subst (λ xs. IsMade (knows_at s.program.now (drop 14 xs) s.looks) c.len-in-Ok.result) (sym c.in-Ok.ensures.items)
+    (made_world_all s.program.now s.sites.items s.alone s.looks c.len-in-Ok.result c.args.site last)
+
+pub returns-then-len-ge-LAST_WORLD-clause-refused : goal.returns-then-len-ge-LAST_WORLD-clause-refused
+returns-then-len-ge-LAST_WORLD-clause-refused c =
+    let s = c.args.self.now in
+    asked s.program.now (drop 14 s.sites.items) s.looks

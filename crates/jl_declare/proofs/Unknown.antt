@@ -20,8 +20,8 @@ first_some (Some g) f e = go (comes_before f g) e
     go true e = let h : Some f ≡ None = e in cc
     go false e = let h : Some g ≡ None = e in cc
 
-pub declaration_clear : (ds : List Decl) (k : DeclKind) (h : Header) (fields : List FieldText) → (declaration ds k h fields).reading.fault ≡ None → (declaration ds k h fields).reading.unclear ≡ false
-declaration_clear ds k h fields e =
+pub declaration_named : (ds : List Decl) (k : DeclKind) (h : Header) (fields : List FieldText) → (declaration ds k h fields).reading.fault ≡ None → (declaration ds k h fields).reading.unknown ≡ false
+declaration_named ds k h fields e =
     let s = all_bound ds h.params [] unread in
     let p = option_reads ds h.parent s.vars s.after in
     let x = heading ds k h in
@@ -30,4 +30,4 @@ declaration_clear ds k h fields e =
     let second = (option_law ds _ _ _ _ (nothing_carried ds) h.parent s.vars s.after).grows in
     let third = (all_law own _ _ _ _ (nothing_carried own) (map (λ (f : FieldText). f.ty) fields) x.vars x.reading).grows in
     let e2 = third.faultless e in
-    third.told e ∙ second.told e2 ∙ first.told (second.faultless e2)
+    third.named e ∙ second.named e2 ∙ first.named (second.faultless e2)
