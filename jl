@@ -2,7 +2,17 @@
 # Runs a script: ./jl WORDS < script
 # The proved binary is taken where one is built and no source is newer. Otherwise the script runs unproved.
 set -u
-here=$(cd "$(dirname "$0")" && pwd) || exit 6
+# The status where this script or the kit fails. No command ends with it.
+failed=70
+self=$0
+while [ -L "$self" ]; do
+    to=$(readlink "$self") || exit "$failed"
+    case $to in
+        /*) self=$to ;;
+        *) self=$(dirname -- "$self")/$to ;;
+    esac
+done
+here=$(CDPATH='' cd -- "$(dirname -- "$self")" && pwd) || exit "$failed"
 crates=$here/crates
 binary=$crates/jl_main/out/jl_main
 
@@ -16,6 +26,19 @@ is_stale() {
 if [ -x "$binary" ] && ! is_stale; then
     exec "$binary" "$@"
 fi
-echo "jl: no proved binary of these sources (./build makes it): runs unproved, at most 60 seconds and 1 MiB of output, shown at its end" >&2
-cd "$crates/jl_main" || exit 6
-exec rt try -- "$@"
+echo "jl: no proved binary of these sources (./build makes it): builds a minute or two, then runs unproved, at most 60 seconds and 1 MiB of output, shown at its end" >&2
+told=$(mktemp) || exit "$failed"
+trap 'rm -f "$told"' EXIT
+cd "$crates/jl_main" || exit "$failed"
+(exec 3<&0) 2>/dev/null || { echo "jl: standard input is closed" >&2; exit "$failed"; }
+exec 3<&0
+rt try -- "$@" <&3 2> "$told" &
+trap 'kill "$!"' HUP INT TERM
+wait "$!"
+status=$?
+cat "$told" >&2
+if ! grep -q '^run=ended ' "$told"; then
+    echo "jl: the run came to no end" >&2
+    status=$failed
+fi
+exit "$status"
