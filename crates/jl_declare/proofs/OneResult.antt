@@ -16,7 +16,8 @@ use Rattle.jl_declare.specs.declared.judged.Judged.{Judged}
 use Rattle.jl_declare.specs.declared.judged.Judged.TheVariants as J
 use Rattle.jl_declare.specs.declared.read.ReadDecl.{ReadDecl}
 use Rattle.jl_declare.specs.Declaration.{declaration}
-use Rattle.jl_declare.specs.Judgement.{IsJudged, kept, refused, decl_names, told, IsAnswer}
+use Rattle.jl_names.specs.Numbers.{names_of}
+use Rattle.jl_declare.specs.Judgement.{IsJudged, kept, refused, told, IsAnswer}
 use Rattle.jl_declare.specs.Declarations.{Declaring, no_declaration, text_fault, answered, IsJudgement, IsDeclared, DeclaresOne, Declares}
 use Rattle.jl_declare.proofs.Owned.{own_variables}
 use Rattle.jl_declare.proofs.StepLemmas.{told_none}
@@ -66,7 +67,7 @@ more_valid st k h fields e s a = go (told ds all r) refl a
     all = nat_eq st.allowed (length ds)
 
     go : (o : Option Judged) → told ds all r ≡ o → IsAnswer ds r.decl o (J.Kept e) → Declared (ds ++ e ∷ [])
-    go (Some t) i p = absurd (never_kept (is_among r.decl.name (decl_names ds)) r.reading.unknown r.whole all e (i ∙ ap (λ z. Some z) (sym p)))
+    go (Some t) i p = absurd (never_kept (is_among r.decl.name (names_of ds)) r.reading.unknown r.whole all e (i ∙ ap (λ z. Some z) (sym p)))
     go None i p =
         let n = told_none ds all r i in
         let v = s.valid (same_length st.allowed (length ds) n.1) in

@@ -22,7 +22,8 @@ use Rattle.jl_declare.specs.declared.read.Heading.{Heading}
 use Rattle.jl_declare.specs.declared.read.ReadDecl.{ReadDecl}
 use Rattle.jl_declare.specs.declared.state.Declarations.{Declarations}
 use Rattle.jl_declare.specs.Declaration.{fields_of, heading, outline, declaration}
-use Rattle.jl_declare.specs.Judgement.{IsJudged, decl_names, told, IsAnswer, kept_in, shown, refusal_at}
+use Rattle.jl_names.specs.Numbers.{names_of}
+use Rattle.jl_declare.specs.Judgement.{IsJudged, told, IsAnswer, kept_in, shown, refusal_at}
 use Rattle.jl_declare.specs.Judgement as Q
 use Rattle.jl_declare.specs.Declarations.{declaring_of, with_fault, text_fault, answered, IsJudgement, IsDeclared}
 use Rattle.jl_declare.proofs.Owned.{own_variables}
@@ -51,7 +52,7 @@ asked false false true false e = let f : Some J.Unjudged ≡ None = e in cc
 asked false false false d e = let f : Some (J.Refused kind.WrongParameterCount) ≡ None = e in cc
 
 pub told_none : (ds : List Decl) (b : Bool) (r : ReadDecl) → told ds b r ≡ None → (r.whole ≡ true) × (b ≡ true)
-told_none ds b r e = asked (is_among r.decl.name (decl_names ds)) r.reading.unknown r.whole b e
+told_none ds b r e = asked (is_among r.decl.name (names_of ds)) r.reading.unknown r.whole b e
 
 same_length : (m n : ℕ) → nat_eq m n ≡ true → m ≡ n
 same_length m n h = grind (arith, h)

@@ -1,5 +1,5 @@
 -- What is answered for a declaration (Julia manual, Types).
-use Rattle.std.specs.Prelude.{◌≡◌, Bool, not, cond, List, [], ◌∷◌, map, Option, Some, None, ℕ}
+use Rattle.std.specs.Prelude.{◌≡◌, Bool, not, cond, List, [], ◌∷◌, Option, Some, None, ℕ}
 use Rattle.jl_model.specs.declared.ty.Decl.{Decl}
 use Rattle.jl_model.specs.Kept.{IsKept}
 use Rattle.jl_model.specs.Refusals.{IsAllowed, table_with}
@@ -7,6 +7,7 @@ use Rattle.jl_norm.specs.declared.fault.DeclareFault.{DeclareFault}
 use Rattle.jl_norm.specs.declared.fault.DeclareFault.TheVariants as D
 use Rattle.jl_norm.specs.Refused.{Refused}
 use Rattle.jl_calculus.specs.Names.{is_among}
+use Rattle.jl_names.specs.Numbers.{names_of}
 use Rattle.jl_written.specs.declared.fault.Fault.{Fault}
 use Rattle.jl_written.specs.declared.fault.StaticKind.{StaticKind}
 use Rattle.jl_written.specs.declared.fault.StaticKind.TheVariants as kind
@@ -33,15 +34,12 @@ pub data IsJudged (ds : List Decl) (d : Decl) : Judged → Type 0 where
   kept : (e : Decl) → IsAllowed ds d → IsKept (table_with ds d) d e → IsJudged ds d (J.Kept e)
   refused : (f : DeclareFault) (k : StaticKind) → kind_of f ≡ Some k → Refused f ds d → IsJudged ds d (J.Refused k)
 
-abbrev pub decl_names : List Decl → List (List ℕ)
-decl_names ds = map (λ (d : Decl). d.name) ds
-
 -- What is told without a look into the table, where all declarations before are allowed or not: the name alone tells the
 -- first refusal, and the text the third. The others are asked only where each name means something and all declarations
 -- before are allowed.
 abbrev pub told : List Decl → Bool → ReadDecl → Option Judged
 told ds all_allowed r =
-    cond (is_among r.decl.name (decl_names ds)) (Some (J.Refused kind.DuplicateType))
+    cond (is_among r.decl.name (names_of ds)) (Some (J.Refused kind.DuplicateType))
     (cond r.reading.unknown (Some J.Unjudged)
     (cond (not r.whole) (Some (J.Refused kind.WrongParameterCount))
     (cond all_allowed None (Some J.Unjudged))))

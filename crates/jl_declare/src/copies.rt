@@ -1,9 +1,9 @@
-//! Copies of declarations, which share their parts.
+//! Copies of bounds, which share their parts.
 
 ghost use Rattle.std.specs.Prelude.{◌≡◌, IfOk};
 
 use jl_model::shared::SharedList;
-use jl_model::ty::{Bound, Bounds, Decl};
+use jl_model::ty::{Bound, Bounds};
 use std::alloc::{AllocError, Global};
 
 /// An equal bound.
@@ -25,17 +25,4 @@ pub fn copy_bounds(alloc: Global, bounds: &[Bound]) -> Result<Bounds, AllocError
         out.push(copy_bound(bound)?)?;
     }
     SharedList::from_vec(alloc, out)
-}
-
-/// An equal declaration.
-pub fn copy_decl(decl: &Decl) -> Result<Decl, AllocError>
-    ensures { IfOk result (λ copy. copy ≡ decl.now) }
-{
-    Ok(Decl {
-        name: decl.name.copy()?,
-        kind: decl.kind,
-        params: decl.params.copy()?,
-        parent: decl.parent.copy()?,
-        fields: decl.fields.copy()?,
-    })
 }

@@ -5,13 +5,12 @@ ghost use Rattle.jl_model.specs.Refusals.{Declared, HasOwnVariables};
 ghost use Rattle.jl_declare.specs.Judgement.{told, IsAnswer, kept_in, shown};
 ghost use Rattle.jl_declare.specs.Declarations.{declaring_of, no_declaration, with_fault, named_fault, text_fault, IsDeclared, DeclaresOne, Declares, HasAllowed};
 
-use crate::copies::copy_decl;
 use crate::judged::{Judged, judge, refusal_at, shown, told};
 use crate::read::{ReadDecl, read};
 use crate::state::Declarations;
 use jl_grammar::tree::{Field as FieldText, Header, Item, Name};
-use jl_model::rows::Row;
-use jl_model::ty::{Decl, DeclKind};
+use jl_model::ty::DeclKind;
+use jl_names::decls::{DeclList, copy_decl};
 use jl_types::Table;
 use jl_written::fault::{Fault, StaticKind};
 use jl_written::names::is_builtin;
@@ -24,7 +23,7 @@ fn builtin(alloc: Global) -> Result<Declarations, AllocError>
     ensures table { IfOk result (λ d. HasAllowed d) }
 {
     let table = Table::new(alloc)?;
-    let mut decls = Row::new(alloc);
+    let mut decls = DeclList::new(alloc);
     for number in 0..table.count() {
         decls.push(copy_decl(table.decl(number))?)?;
     }
@@ -71,7 +70,7 @@ fn text_fault(name: &Name, read: &ReadDecl, known: Option<Fault>) -> Option<Faul
 fn judgement(
     alloc: Global,
     table: &mut Table,
-    decls: &[Decl],
+    decls: &DeclList,
     read: &ReadDecl,
 ) -> Result<Judged, AllocError>
     requires table { table.old ≡ take (length table.old) decls.now }
@@ -104,7 +103,7 @@ fn add(
     ensures table { OnOk result (HasAllowed state.new) }
 {
     let read = read(alloc, &mut state.decls, kind, header, fields)?;
-    let judged = judgement(alloc, &mut state.table, state.decls.as_slice(), &read)?;
+    let judged = judgement(alloc, &mut state.table, &state.decls, &read)?;
     let fault = text_fault(&header.name, &read, state.fault);
     state.fault = with_fault(fault, refusal_at(header.name.at, &judged));
     state.decls.push(shown(judged, read.decl))?;

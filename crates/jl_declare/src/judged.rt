@@ -3,15 +3,15 @@
 ghost use Rattle.std.specs.Prelude.{◌≡◌, ◌++◌, [], IfOk, MatchOption};
 ghost use Rattle.jl_calculus.specs.Names.{is_among};
 ghost use Rattle.jl_model.specs.Refusals.{HasOwnVariables};
-ghost use Rattle.jl_declare.specs.Judgement.{kind_of, IsJudged, decl_names, told, kept_in, shown, refusal_at};
+ghost use Rattle.jl_names.specs.Numbers.{names_of};
+ghost use Rattle.jl_declare.specs.Judgement.{kind_of, IsJudged, told, kept_in, shown, refusal_at};
 
-use crate::copies::copy_decl;
 use crate::read::ReadDecl;
 use jl_model::ty::Decl;
+use jl_names::decls::{DeclList, copy_decl};
 use jl_norm::{DeclareFault, declare};
 use jl_types::Table;
 use jl_written::fault::{Fault, StaticKind};
-use jl_written::names::is_same;
 use std::alloc::{AllocError, Global};
 
 /// What is answered for a declaration.
@@ -45,19 +45,15 @@ fn kind_of(fault: DeclareFault) -> Option<StaticKind>
 }
 
 /// Whether one of these has this name.
-fn is_declared(decls: &[Decl], name: &[u8]) -> bool
-    ensures { result ≡ is_among name.now (decl_names decls.now) }
+#[tactic(auto, using(jl_resolve_forms::proofs::TableLemmas::among_is))]
+fn is_declared(decls: &DeclList, name: &[u8]) -> bool
+    ensures { result ≡ is_among name.now (names_of decls.now) }
 {
-    for decl in decls {
-        if is_same(name, decl.name.as_slice()) {
-            return true;
-        }
-    }
-    false
+    decls.find(name).is_some()
 }
 
 /// What is told without a look into the table.
-pub fn told(decls: &[Decl], all_allowed: bool, read: &ReadDecl) -> Option<Judged>
+pub fn told(decls: &DeclList, all_allowed: bool, read: &ReadDecl) -> Option<Judged>
     ensures means { result ≡ told decls.now all_allowed read.now }
     ensures nothing { MatchOption result (Unit {0}) (λ j. kept_in j ≡ []) }
 {

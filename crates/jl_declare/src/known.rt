@@ -5,8 +5,8 @@ ghost use Rattle.jl_calculus.specs.Prelude.{prelude_functions};
 ghost use Rattle.jl_declare.specs.Script.{known_of};
 
 use jl_grammar::tree::Item;
-use jl_model::rows::Row;
-use jl_model::ty::{Bytes, Decl};
+use jl_model::ty::Bytes;
+use jl_names::decls::DeclList;
 use jl_names::list::NameList;
 use jl_resolve_forms::defined::{methods_of, types_of, with_names};
 use jl_resolve_forms::known::Known;
@@ -40,14 +40,14 @@ fn texts(alloc: Global, words: &[&str]) -> Result<NameList, AllocError>
 
 /// What is known of a script with these declarations: its functions, the prelude's first, and the names that it gives to
 /// functions and types.
-pub fn known(alloc: Global, items: &[Item], decls: Row<Decl>) -> Result<Known, AllocError>
+pub fn known(alloc: Global, items: &[Item], decls: DeclList) -> Result<Known, AllocError>
     ensures { IfOk result (λ k. k ≡ known_of items.now decls) }
 {
     let methods = methods_of(alloc, items)?;
     let types = types_of(alloc, items)?;
     let functions = with_names(prelude_functions(alloc)?, methods.as_slice())?;
     Ok(Known {
-        decls: decls.into_shared(alloc)?,
+        decls,
         functions,
         methods,
         types,

@@ -8,11 +8,12 @@ ghost use Rattle.jl_written.specs.Reads.{typed, types};
 ghost use Rattle.jl_written.specs.Signatures.{option_reads, all_read};
 ghost use Rattle.jl_declare.specs.Declaration.{fields_of, heading, field_of, outline, declaration};
 
-use crate::copies::{copy_bounds, copy_decl};
+use crate::copies::copy_bounds;
 use jl_grammar::tree::{Field as FieldText, Header};
 use jl_model::rows::Row;
 use jl_model::shared::SharedList;
 use jl_model::ty::{Bound, Bounds, Bytes, Decl, DeclKind, Field, Fields, Ty, Tys};
+use jl_names::decls::{DeclList, FirstDecls, copy_decl};
 use jl_typeread::tree::{TypeText, VarText};
 use jl_written::names::small;
 use jl_written::reading::{Reading, TypeVar};
@@ -40,7 +41,7 @@ pub struct ReadDecl {
 /// A type that may be left out.
 fn option_read(
     alloc: Global,
-    decls: &[Decl],
+    decls: &FirstDecls<'_>,
     vars: &mut Row<TypeVar>,
     reading: &mut Reading,
     text: &Option<TypeText>,
@@ -57,7 +58,7 @@ fn option_read(
 /// A declaration up to its fields, behind others.
 fn read_heading(
     alloc: Global,
-    decls: &[Decl],
+    decls: &FirstDecls<'_>,
     kind: DeclKind,
     header: &Header,
 ) -> Result<Heading, AllocError>
@@ -82,7 +83,7 @@ fn read_heading(
 /// The types of fields.
 fn types_read(
     alloc: Global,
-    decls: &[Decl],
+    decls: &FirstDecls<'_>,
     vars: &mut Row<TypeVar>,
     reading: &mut Reading,
     fields: &[FieldText],
@@ -130,7 +131,7 @@ fn fields_of(alloc: Global, fields: &[FieldText], tys: &[Ty]) -> Result<Fields, 
 /// The types of the fields of a declaration, which sees itself.
 fn own_types(
     alloc: Global,
-    decls: &mut Row<Decl>,
+    decls: &mut DeclList,
     heading: &mut Heading,
     fields: &[FieldText],
 ) -> Result<Row<Ty>, AllocError>
@@ -138,16 +139,15 @@ fn own_types(
     ensures own { OnOk result (heading.new.own ≡ heading.old.own) }
     ensures kept { OnOk result (decls.new ≡ decls.old) }
 {
-    let count = decls.len();
     decls.push(copy_decl(&heading.own)?)?;
     let tys = types_read(
         alloc,
-        decls.as_slice(),
+        &decls.all(),
         &mut heading.vars,
         &mut heading.reading,
         fields,
     )?;
-    decls.truncate(count);
+    decls.pop();
     Ok(tys)
 }
 
@@ -228,7 +228,7 @@ fn term_or_outline(
 /// Reads a declaration behind others.
 pub fn read(
     alloc: Global,
-    decls: &mut Row<Decl>,
+    decls: &mut DeclList,
     kind: DeclKind,
     header: &Header,
     fields: &[FieldText],
@@ -236,7 +236,7 @@ pub fn read(
     ensures means { IfOk result (λ r. r ≡ declaration decls.old kind header.now fields.now) }
     ensures kept { OnOk result (decls.new ≡ decls.old) }
 {
-    let mut heading = read_heading(alloc, decls.as_slice(), kind, header)?;
+    let mut heading = read_heading(alloc, &decls.all(), kind, header)?;
     let tys = own_types(alloc, decls, &mut heading, fields)?;
     let fields = fields_of(alloc, fields, tys.as_slice())?;
     let Heading { vars, own, reading } = heading;

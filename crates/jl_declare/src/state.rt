@@ -1,7 +1,6 @@
 //! The declarations of a script that are read so far.
 
-use jl_model::rows::Row;
-use jl_model::ty::Decl;
+use jl_names::decls::DeclList;
 use jl_types::Table;
 use jl_written::fault::Fault;
 
@@ -11,6 +10,6 @@ use jl_written::fault::Fault;
 #[derive(Drop)]
 pub struct Declarations {
     pub table: Table,
-    pub decls: Row<Decl>,
+    pub decls: DeclList,
     pub fault: Option<Fault>,
 }

@@ -1,2 +1,3 @@
+pub mod DeclLemmas
 pub mod EntryLemmas
 pub mod NumberLemmas

@@ -62,7 +62,7 @@ firsts_from (x ∷ xs) es n =
 pub firsts_first : (es xs : List Numbered) (n : List ℕ) → es ≡ firsts xs → number_in es n ≡ number_in xs n
 firsts_first es xs n e = ap (λ z. number_in z n) e ∙ firsts_from xs [] n
 
-firsts_snoc : (xs : List Numbered) (x : Numbered) (es : List Numbered) → firsts_after es (xs ++ x ∷ []) ≡ with_number (firsts_after es xs) x
+pub firsts_snoc : (xs : List Numbered) (x : Numbered) (es : List Numbered) → firsts_after es (xs ++ x ∷ []) ≡ with_number (firsts_after es xs) x
 firsts_snoc [] x es = refl
 firsts_snoc (y ∷ ys) x es = firsts_snoc ys x (with_number es y)
 
@@ -70,7 +70,7 @@ firsts_snoc (y ∷ ys) x es = firsts_snoc ys x (with_number es y)
 pub firsts_push : (es fs xs ys : List Numbered) (x : Numbered) → es ≡ firsts xs → fs ≡ with_number es x → ys ≡ xs ++ x ∷ [] → fs ≡ firsts ys
 firsts_push es fs xs ys x e f g = f ∙ ap (λ z. with_number z x) e ∙ sym (firsts_snoc xs x []) ∙ ap firsts (sym g)
 
-placed_snoc : (ns : List (List ℕ)) (n : List ℕ) (i : ℕ) → placed i (ns ++ n ∷ []) ≡ placed i ns ++ (n, i + length ns) ∷ []
+pub placed_snoc : (ns : List (List ℕ)) (n : List ℕ) (i : ℕ) → placed i (ns ++ n ∷ []) ≡ placed i ns ++ (n, i + length ns) ∷ []
 placed_snoc [] n i = let e : i ≡ i + 0 = omega arith in ap (λ z. (n, z) ∷ []) e
 placed_snoc (m ∷ ms) n i = let e : i + 1 + length ms ≡ i + suc (length ms) = omega arith in ap (λ z. (m, i) ∷ z) (placed_snoc ms n (i + 1) ∙ ap (λ z. placed (i + 1) ms ++ (n, z) ∷ []) (e))
 

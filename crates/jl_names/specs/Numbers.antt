@@ -2,6 +2,7 @@
 use Rattle.std.specs.Prelude.{ℕ, ◌+◌, cond, List, [], ◌∷◌, ◌++◌, map, Option, Some, None, is_some}
 use Rattle.jl_calculus.specs.Names.{same_text}
 use Rattle.jl_grammar.specs.declared.tree.Name.{Name}
+use Rattle.jl_model.specs.declared.ty.Decl.{Decl}
 
 -- a name with a number
 abbrev pub Numbered : Type 0
@@ -33,6 +34,10 @@ placed i (n ∷ ns) = (n, i) ∷ placed (i + 1) ns
 -- names where they stand
 abbrev pub marked : List Name → List Numbered
 marked ns = map (λ (n : Name). (n.bytes, n.at)) ns
+
+-- the names of declarations
+abbrev pub names_of : List Decl → List (List ℕ)
+names_of ds = map (λ (d : Decl). d.name) ds
 
 -- the slots that have names, from number i on
 abbrev pub named_slots : ℕ → List (Option (List ℕ)) → List Numbered

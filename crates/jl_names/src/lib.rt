@@ -1,6 +1,7 @@
 //! Tables of names: what stands first under a name is found without a walk over all names.
 #![tactic(auto)]
 
+pub mod decls;
 pub mod list;
 pub mod marked;
 pub mod slots;

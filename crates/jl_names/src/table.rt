@@ -1,6 +1,6 @@
 //! Names with numbers, each name once.
 
-ghost use Rattle.std.specs.Prelude.{◌≡◌, ◌≤◌, ◌^◌, [], ◌+◌, take, length, IfOk, OnOk, OnErr};
+ghost use Rattle.std.specs.Prelude.{◌≡◌, ◌≤◌, ◌^◌, [], ◌+◌, ◌-◌, take, length, IfOk, OnOk, OnErr};
 ghost use Rattle.jl_names.specs.Numbers.{number_in, with_number};
 
 use indexmap::IndexMap;
@@ -72,6 +72,14 @@ impl NameMap {
         ensures { self.new ≡ take most self.old }
     {
         self.numbers.truncate(most);
+    }
+
+    /// All names but the last.
+    pub fn pop(&mut self)
+        ensures { self.new ≡ take (length self.old - 1) self.old }
+    {
+        let kept = self.numbers.len().saturating_sub(1);
+        self.numbers.truncate(kept);
     }
 
     pub fn len(&self) -> usize

@@ -1,11 +1,12 @@
 //! The tables, each on its happy path.
 
+use crate::decls::DeclList;
 use crate::list::NameList;
 use crate::marked::MarkedNames;
 use crate::slots::Slots;
 use jl_grammar::tree::Name;
 use jl_model::shared::SharedList;
-use jl_model::ty::Bytes;
+use jl_model::ty::{Bounds, Bytes, Decl, DeclKind, Fields, Ty};
 use std::alloc::{AllocError, Global};
 use std::test::Fail;
 
@@ -64,4 +65,45 @@ fn visible(slots: &mut Slots, name: Bytes) -> Result<(), AllocError> {
         Some(_) => Ok(()),
         None => slots.push(name),
     }
+}
+
+fn plain(alloc: Global, name: &[u8]) -> Result<Decl, AllocError> {
+    Ok(Decl {
+        name: text(alloc, name)?,
+        kind: DeclKind::Struct,
+        params: Bounds::empty(),
+        parent: Ty::Any,
+        fields: Fields::empty(),
+    })
+}
+
+#[test]
+fn the_first_declaration_of_a_name_is_found(rt: HostRuntime) -> Result<(), Fail> {
+    let alloc = rt.alloc();
+    let mut decls = DeclList::new(alloc);
+    decls.push(plain(alloc, b"A")?)?;
+    decls.push(plain(alloc, b"B")?)?;
+    decls.push(plain(alloc, b"A")?)?;
+    assert!(rt; decls.find(b"A") == Some(0) && decls.find(b"B") == Some(1));
+    assert!(rt; decls.first(1).find(b"A") == Some(0) && decls.first(1).find(b"B") == None);
+    assert!(rt; decls.first(9).find(b"B") == Some(1) && decls.all().find(b"C") == None);
+    assert!(rt; decls.first(1).get(0).is_some() && decls.first(1).get(1).is_none());
+    Ok(())
+}
+
+#[test]
+fn the_last_declaration_goes_with_its_name(rt: HostRuntime) -> Result<(), Fail> {
+    let alloc = rt.alloc();
+    let mut decls = DeclList::new(alloc);
+    decls.push(plain(alloc, b"A")?)?;
+    decls.push(plain(alloc, b"B")?)?;
+    decls.push(plain(alloc, b"A")?)?;
+    decls.pop();
+    assert!(rt; decls.find(b"A") == Some(0) && decls.len() == 2);
+    decls.pop();
+    assert!(rt; decls.find(b"B") == None && decls.as_slice().len() == 1);
+    decls.pop();
+    decls.pop();
+    assert!(rt; decls.find(b"A") == None && decls.len() == 0);
+    Ok(())
 }

@@ -3,7 +3,6 @@ use Rattle.std.proofs.Common.{◌≡◌, ◌∙◌, refl, sym, ap, ℕ, ◌+◌,
 use Rattle.jl_calculus.specs.Names.{same_text, is_among}
 use Rattle.jl_grammar.specs.declared.tree.Name.{Name}
 use Rattle.jl_names.specs.Numbers.{Numbered, number_in, placed, marked, named_slots}
-use Rattle.jl_written.specs.Meaning.{place_from, place_of}
 use Rattle.jl_resolve_forms.specs.Scopes.{slot_from, slot_of}
 use Rattle.jl_resolve_forms.specs.Expressions.{names_in}
 use Rattle.jl_resolve_forms.specs.Top.{first_at}
@@ -18,13 +17,6 @@ slot_is ss name = slot_in 0 ss name
 
 pub slot_back : (ss : List (Option (List ℕ))) (name : List ℕ) → slot_of ss name ≡ None → number_in (named_slots 0 ss) name ≡ None
 slot_back ss name h = slot_in 0 ss name ∙ h
-
-place_in : (i : ℕ) (ns : List (List ℕ)) (name : List ℕ) → number_in (placed i ns) name ≡ place_from i ns name
-place_in i [] name = refl
-place_in i (n ∷ ns) name = ap (cond (same_text name n) (Some i)) (place_in (i + 1) ns name)
-
-pub place_is : (ns : List (List ℕ)) (name : List ℕ) → number_in (placed 0 ns) name ≡ place_of ns name
-place_is ns name = place_in 0 ns name
 
 pub first_is : (ns : List Name) (name : List ℕ) → number_in (marked ns) name ≡ first_at ns name
 first_is [] name = refl

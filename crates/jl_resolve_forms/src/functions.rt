@@ -1,6 +1,6 @@
 //! What a called name is.
 
-ghost use Rattle.std.specs.Prelude.{◌≡◌, map, IfOk, List, ℕ};
+ghost use Rattle.std.specs.Prelude.{◌≡◌, map, List, ℕ};
 ghost use Rattle.jl_model.specs.declared.ty.Decl.{Decl};
 ghost use Rattle.jl_model.specs.Usable.{stands_in, is_outside_unions, is_usable};
 ghost use Rattle.jl_calculus.specs.Prelude.{prelude_functions};
@@ -12,10 +12,10 @@ use crate::scopes::slot_of;
 use crate::state::Scope;
 use jl_grammar::tree::Callee;
 use jl_model::ty::{Decl, DeclKind};
+use jl_names::decls::DeclList;
 use jl_names::list::NameList;
 use jl_token::token::Operator;
-use jl_written::names::{is_same, small};
-use std::alloc::AllocError;
+use jl_written::names::is_same;
 
 /// The names of the prelude's functions, by their numbers.
 const PRELUDE_FUNCTIONS: [&str; 12] = [
@@ -55,7 +55,7 @@ pub fn place_of_callee(callee: &Callee) -> u32
 }
 
 /// The place of a name in a list of names.
-#[tactic(auto, using(crate::proofs::TableLemmas::place_is))]
+#[tactic(auto, using(jl_written::proofs::PlaceLemmas::place_is))]
 fn place_of(names: &NameList, name: &[u8]) -> Option<u32>
     ensures { result ≡ place_of names.now name.now }
 {
@@ -75,51 +75,39 @@ fn place_of_word(words: &[&str], name: &[u8]) -> Option<usize>
 }
 
 /// The prelude's function of a name.
-fn prelude_function(name: &[u8]) -> Option<usize>
+fn prelude_function(name: &[u8]) -> Option<u32>
     ensures { result ≡ place_of prelude_functions name.now }
 {
     let words: [&str; 12] = PRELUDE_FUNCTIONS;
-    place_of_word(words.as_slice(), name)
-}
-
-fn small_option(number: Option<usize>) -> Result<Option<u32>, AllocError>
-    ensures { IfOk result (λ n. n ≡ number) }
-{
-    match number {
-        None => Ok(None),
-        Some(number) => Ok(Some(small(number)?)),
-    }
+    let place = place_of_word(words.as_slice(), name)?;
+    Some(place as u32)
 }
 
 /// The function of a name: one of the script or of the prelude, behind `Base` one of the prelude.
 #[tactic(auto, unfolding(crate::specs::Functions::function_of))]
-pub fn function_of(known: &Known, callee: &Callee, scope: &Scope) -> Result<Option<u32>, AllocError>
-    ensures { IfOk result (λ f. f ≡ function_of known.now callee.now scope.now) }
+pub fn function_of(known: &Known, callee: &Callee, scope: &Scope) -> Option<u32>
+    ensures { result ≡ function_of known.now callee.now scope.now }
 {
     match callee {
         Callee::Plain(name) => match slot_of(&scope.slots, name.bytes.as_slice()) {
-            None => Ok(place_of(&known.functions, name.bytes.as_slice())),
-            Some(_) => Ok(None),
+            None => place_of(&known.functions, name.bytes.as_slice()),
+            Some(_) => None,
         },
-        Callee::Base(_, name) => small_option(prelude_function(name.bytes.as_slice())),
-        Callee::Operator(_, operator) => Ok(function_of_operator(*operator)),
+        Callee::Base(_, name) => prelude_function(name.bytes.as_slice()),
+        Callee::Operator(_, operator) => function_of_operator(*operator),
     }
 }
 
 /// The first declaration of a name.
-fn declaration_of(decls: &[Decl], name: &[u8]) -> Option<usize>
+#[tactic(auto, using(jl_written::proofs::PlaceLemmas::place_is))]
+fn declaration_of(decls: &DeclList, name: &[u8]) -> Option<u32>
     ensures { result ≡ place_of (map (λ (d : Decl). d.name) decls.now) name.now }
 {
-    for (at, decl) in decls.iter().enumerate() {
-        if is_same(name, decl.name.as_slice()) {
-            return Some(at);
-        }
-    }
-    None
+    decls.find(name)
 }
 
 /// A declared struct: a built-in type has no constructor.
-fn if_struct(decls: &[Decl], place: Option<usize>) -> Option<usize>
+fn if_struct(decls: &[Decl], place: Option<u32>) -> Option<u32>
     ensures { result ≡ if_struct decls.now place }
 {
     let Some(number) = place else {
@@ -128,7 +116,7 @@ fn if_struct(decls: &[Decl], place: Option<usize>) -> Option<usize>
     if number < 8 {
         return None;
     }
-    match decls.get(number) {
+    match decls.get(number as usize) {
         None => None,
         Some(decl) => match decl.kind {
             DeclKind::Abstract => None,
@@ -139,25 +127,25 @@ fn if_struct(decls: &[Decl], place: Option<usize>) -> Option<usize>
 
 /// The declared struct of a name, unless a variable of that name is visible.
 #[tactic(auto, unfolding(crate::specs::Functions::struct_named))]
-pub fn struct_named(known: &Known, name: &[u8], scope: &Scope) -> Result<Option<u32>, AllocError>
-    ensures { IfOk result (λ p. p ≡ struct_named known.now name.now scope.now) }
+pub fn struct_named(known: &Known, name: &[u8], scope: &Scope) -> Option<u32>
+    ensures { result ≡ struct_named known.now name.now scope.now }
 {
     match slot_of(&scope.slots, name) {
         None => {
-            let decls = known.decls.as_slice();
-            small_option(if_struct(decls, declaration_of(decls, name)))
+            let found = declaration_of(&known.decls, name);
+            if_struct(known.decls.as_slice(), found)
         }
-        Some(_) => Ok(None),
+        Some(_) => None,
     }
 }
 
-fn struct_of(known: &Known, callee: &Callee, scope: &Scope) -> Result<Option<u32>, AllocError>
-    ensures { IfOk result (λ p. p ≡ struct_of known.now callee.now scope.now) }
+fn struct_of(known: &Known, callee: &Callee, scope: &Scope) -> Option<u32>
+    ensures { result ≡ struct_of known.now callee.now scope.now }
 {
     match callee {
         Callee::Plain(name) => struct_named(known, name.bytes.as_slice(), scope),
-        Callee::Base(_, _) => Ok(None),
-        Callee::Operator(_, _) => Ok(None),
+        Callee::Base(_, _) => None,
+        Callee::Operator(_, _) => None,
     }
 }
 
@@ -179,14 +167,14 @@ fn constructor(decls: &[Decl], number: u32) -> Called
 
 /// What a called name is.
 #[tactic(auto, unfolding(crate::specs::Functions::called))]
-pub fn called(known: &Known, callee: &Callee, scope: &Scope) -> Result<Called, AllocError>
-    ensures { IfOk result (λ d. d ≡ called known.now callee.now scope.now) }
+pub fn called(known: &Known, callee: &Callee, scope: &Scope) -> Called
+    ensures { result ≡ called known.now callee.now scope.now }
 {
-    match struct_of(known, callee, scope)? {
-        Some(number) => Ok(constructor(known.decls.as_slice(), number)),
-        None => match function_of(known, callee, scope)? {
-            Some(number) => Ok(Called::Function(number)),
-            None => Ok(Called::Unknown),
+    match struct_of(known, callee, scope) {
+        Some(number) => constructor(known.decls.as_slice(), number),
+        None => match function_of(known, callee, scope) {
+            Some(number) => Called::Function(number),
+            None => Called::Unknown,
         },
     }
 }

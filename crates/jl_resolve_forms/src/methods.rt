@@ -19,7 +19,8 @@ use jl_calculus::tree::{Expr as Code, Site};
 use jl_grammar::tree::{Callee, Head, Param};
 use jl_model::rows::Row;
 use jl_model::shared::SharedList;
-use jl_model::ty::{Decl, Ty, Tys, Written};
+use jl_model::ty::{Ty, Tys, Written};
+use jl_names::decls::FirstDecls;
 use jl_names::marked::MarkedNames;
 use jl_names::slots::Slots;
 use jl_sig::is_usable;
@@ -100,7 +101,7 @@ fn too_many(state: &State) -> Option<StaticKind>
 /// The types of parameters.
 fn all_read(
     alloc: Global,
-    decls: &[Decl],
+    decls: &FirstDecls<'_>,
     vars: &mut Row<TypeVar>,
     reading: &mut Reading,
     params: &[Param],
@@ -123,7 +124,7 @@ fn all_read(
 /// The types of a method's parameters, where the variables of its `where` are visible.
 fn signature(
     alloc: Global,
-    decls: &[Decl],
+    decls: &FirstDecls<'_>,
     params: &[Param],
     vars: &[VarText],
 ) -> Result<SignatureRead, AllocError>
@@ -209,7 +210,7 @@ fn signed<J: Judge>(
     ensures { IfOk result (λ g. g ≡ signed (tests (J.below judge.now) (J.signature_refusal judge.now) (J.body_refusal judge.now) (J.wide_struct judge.now)) known.now types head.now) }
 {
     let decls = declared_at(known, types);
-    let read = signature(alloc, decls, head.params.as_slice(), head.vars.as_slice())?;
+    let read = signature(alloc, &decls, head.params.as_slice(), head.vars.as_slice())?;
     let signed = signed_as(alloc, judge, read)?;
     Ok(signed)
 }
@@ -242,17 +243,11 @@ fn signed_as<J: Judge>(alloc: Global, judge: &J, read: SignatureRead) -> Result<
 }
 
 /// The function of a method's name.
-fn function_at(
-    alloc: Global,
-    known: &Known,
-    types: u32,
-    callee: &Callee,
-) -> Result<Option<u32>, AllocError>
-    ensures { IfOk result (λ f. f ≡ function_of known.now callee.now (bare_scope types)) }
+fn function_at(alloc: Global, known: &Known, types: u32, callee: &Callee) -> Option<u32>
+    ensures { result ≡ function_of known.now callee.now (bare_scope types) }
 {
     let scope = bare_scope(alloc, types);
-    let function = function_of(known, callee, &scope)?;
-    Ok(function)
+    function_of(known, callee, &scope)
 }
 
 /// The faults at the name of a method: its function, its signature, and its number.
@@ -311,7 +306,7 @@ pub fn opened<J: Judge>(
 ) -> Result<Opening, AllocError>
     ensures { IfOk result (λ o. opened_as o state.new ≡ opened (tests (J.below judge.now) (J.signature_refusal judge.now) (J.body_refusal judge.now) (J.wide_struct judge.now)) known.now head.now types state.old) }
 {
-    let function = function_at(alloc, known, types, &head.callee)?;
+    let function = function_at(alloc, known, types, &head.callee);
     let signed = signed(alloc, judge, known, types, head)?;
     name_checked(known, state, &head.callee, function, &signed);
     let number = defined_function(function);

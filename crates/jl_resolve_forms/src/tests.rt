@@ -11,7 +11,8 @@ use crate::top::top_bind;
 use jl_calculus::tree::Expr as Code;
 use jl_grammar::tree::{Callee, Expr, Head, Infix, Item, Method, Name};
 use jl_model::shared::{SharedList, SharedNode};
-use jl_model::ty::{Bytes, Decls};
+use jl_model::ty::Bytes;
+use jl_names::decls::DeclList;
 use jl_names::list::NameList;
 use jl_names::marked::MarkedNames;
 use jl_written::fault::{Fault, StaticKind};
@@ -36,7 +37,7 @@ fn known(alloc: Global) -> Result<Known, AllocError> {
     let mut methods = MarkedNames::new(alloc);
     methods.push(name(alloc, 3, b"f")?)?;
     Ok(Known {
-        decls: Decls::empty(),
+        decls: DeclList::new(alloc),
         functions,
         methods,
         types: MarkedNames::new(alloc),
@@ -87,7 +88,7 @@ fn called_with(alloc: Global, bound: &[u8]) -> Result<Called, AllocError> {
     let variable = name(alloc, 0, bound)?;
     bind(&mut scope, &mut state, &variable)?;
     let callee = Callee::Plain(name(alloc, 9, b"f")?);
-    called(&known, &callee, &scope)
+    Ok(called(&known, &callee, &scope))
 }
 
 #[test]

@@ -14,6 +14,7 @@ use crate::scopes::{merged, noted};
 use crate::state::{Scope, State};
 use jl_model::shared::SharedList;
 use jl_model::ty::{Bound, Bounds, Decl, Ty, Written};
+use jl_names::decls::FirstDecls;
 use jl_typeread::tree::{ArgText, TypeText};
 use jl_written::fault::StaticKind;
 use jl_written::reading::Reading;
@@ -21,16 +22,10 @@ use jl_written::signatures::{adopted, body_type, constructor_type};
 use std::alloc::{AllocError, Global};
 
 /// The types that are declared before a place.
-pub fn declared_at(known: &Known, types: u32) -> &[Decl]
-    ensures { result.now ≡ declared_at known.now types }
+pub fn declared_at(known: &Known, types: u32) -> FirstDecls<'_>
+    ensures { result ≡ declared_at known.now types }
 {
-    let decls = known.decls.as_slice();
-    let most = types as usize;
-    if most < decls.len() {
-        &decls[..most]
-    } else {
-        decls
-    }
+    known.decls.first(types as usize)
 }
 
 /// Where a type begins.
@@ -132,7 +127,7 @@ pub fn body_written<J: Judge>(
     ensures { IfOk result (λ w. wrote w state.new ≡ body_written (tests (J.below judge.now) (J.signature_refusal judge.now) (J.body_refusal judge.now) (J.wide_struct judge.now)) known.now text.now scope.now state.old) }
 {
     let decls = declared_at(known, scope.types);
-    let (ty, reading) = body_type(alloc, decls, scope.statics.as_slice(), text)?;
+    let (ty, reading) = body_type(alloc, &decls, scope.statics.as_slice(), text)?;
     let written = type_at(alloc, judge, state, begins(text), ty, &reading)?;
     Ok(written)
 }
@@ -183,7 +178,7 @@ pub fn made_at<J: Judge>(
     let bounds = params_of(known.decls.as_slice(), number);
     let (ty, reading) = constructor_type(
         alloc,
-        decls,
+        &decls,
         number,
         bounds,
         scope.statics.as_slice(),
@@ -195,13 +190,13 @@ pub fn made_at<J: Judge>(
 }
 
 /// The struct of an explicit constructor.
-pub fn made_struct(known: &Known, ty: &TypeText, scope: &Scope) -> Result<Option<u32>, AllocError>
-    ensures { IfOk result (λ p. p ≡ made_struct known.now (out-TypeText ty.now) scope.now) }
+pub fn made_struct(known: &Known, ty: &TypeText, scope: &Scope) -> Option<u32>
+    ensures { result ≡ made_struct known.now (out-TypeText ty.now) scope.now }
 {
     match ty {
         TypeText::Name(_, name) => struct_named(known, name.as_slice(), scope),
         TypeText::Applied(_, name, _) => struct_named(known, name.as_slice(), scope),
-        TypeText::Paren(_, _, _) => Ok(None),
+        TypeText::Paren(_, _, _) => None,
     }
 }
 

@@ -247,7 +247,7 @@ pub fn expr<J: Judge>(
         Expr::Number(_, number) => Ok(made::number(number)),
         Expr::Bool(_, truth) => Ok(Code::Bool(*truth)),
         Expr::Nothing(_) => Ok(Code::Nothing),
-        Expr::Name(at, name) => made::name(scope, state, *at, name),
+        Expr::Name(at, name) => Ok(made::name(scope, state, *at, name)),
         Expr::Paren(_, inner) => expr(alloc, judge, known, scope, state, inner.get()),
         Expr::Tuple(_, texts) => {
             made::tuple(exprs(alloc, judge, known, scope, state, texts.as_slice()))

@@ -69,16 +69,11 @@ pub(crate) fn number(number: &i64) -> Code
 }
 
 /// A name that is used as a value.
-pub(crate) fn name(
-    scope: &Scope,
-    state: &mut State,
-    at: u32,
-    name: &Bytes,
-) -> Result<Code, AllocError>
-    ensures { IfOk result (λ c. coded c state.new ≡ local at (slot_of scope.now.slots name.now) state.old) }
+pub(crate) fn name(scope: &Scope, state: &mut State, at: u32, name: &Bytes) -> Code
+    ensures { coded result state.new ≡ local at (slot_of scope.now.slots name.now) state.old }
 {
     let slot = forms::visible_slot(scope, name);
-    Ok(forms::local(state, at, slot))
+    forms::local(state, at, slot)
 }
 
 /// A tuple.
@@ -102,7 +97,7 @@ pub(crate) fn call<J: Judge>(
     ensures { Gives arguments result (λ ys c. coded c state.new ≡ call (tests (J.below judge.now) (J.signature_refusal judge.now) (J.body_refusal judge.now) (J.wide_struct judge.now)) known.now (place_of_callee callee.now) (called known.now callee.now scope.now) (codes ys state.old)) }
 {
     let arguments = arguments?;
-    let called = called(known, callee, scope)?;
+    let called = called(known, callee, scope);
     let at = place_of_callee(callee);
     forms::call(alloc, judge, known, state, at, called, arguments)
 }
@@ -118,7 +113,7 @@ pub(crate) fn latest(
     ensures { Gives arguments result (λ ys c. coded c state.new ≡ latest (place_of_callee callee.now) (function_of known.now callee.now scope.now) (codes ys state.old)) }
 {
     let arguments = arguments?;
-    let function = function_of(known, callee, scope)?;
+    let function = function_of(known, callee, scope);
     let at = place_of_callee(callee);
     Ok(forms::latest(state, at, function, arguments))
 }
@@ -260,7 +255,7 @@ pub(crate) fn begun<J: Judge>(
 ) -> Result<Option<Written>, AllocError>
     ensures { IfOk result (λ w. begun_as w state.new ≡ begun (tests (J.below judge.now) (J.signature_refusal judge.now) (J.body_refusal judge.now) (J.wide_struct judge.now)) known.now ty.now scope.now state.old) }
 {
-    match made_struct(known, ty, scope)? {
+    match made_struct(known, ty, scope) {
         None => Ok(None),
         Some(number) => {
             let at = begins(ty);

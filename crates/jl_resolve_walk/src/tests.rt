@@ -8,6 +8,7 @@ use jl_calculus::tree::{Expr as Code, Item as Statement};
 use jl_grammar::tree::{Callee, Expr, Head, Item, Method, Name, Param};
 use jl_model::shared::{SharedList, SharedNode};
 use jl_model::ty::{Bytes, Ty, Written};
+use jl_names::decls::DeclList;
 use jl_names::list::NameList;
 use jl_names::marked::MarkedNames;
 use jl_resolve_forms::judge::Judge;
@@ -74,7 +75,7 @@ fn known(alloc: Global) -> Result<Known, AllocError> {
     let mut methods = MarkedNames::new(alloc);
     methods.push(name(alloc, 0, b"f")?)?;
     Ok(Known {
-        decls: SharedList::empty(),
+        decls: DeclList::new(alloc),
         functions,
         methods,
         types: MarkedNames::new(alloc),

@@ -14,6 +14,7 @@ use jl_calculus::tree::{Expr as Code, Item as Statement, Items, Program};
 use jl_grammar::tree::{Item, Name};
 use jl_model::rows::Row;
 use jl_model::ty::{Decl, Decls};
+use jl_names::decls::copy_decl;
 use jl_resolve_forms::judge::Judge;
 use jl_resolve_forms::known::Known;
 use jl_resolve_forms::methods::bare_scope;
@@ -121,19 +122,6 @@ fn behind_builtin(decls: &[Decl]) -> &[Decl]
     if decls.len() < 8 { &[] } else { &decls[8..] }
 }
 
-/// An equal declaration, whose parts are shared.
-fn copied(decl: &Decl) -> Result<Decl, AllocError>
-    ensures { IfOk result (λ d. d ≡ decl.now) }
-{
-    Ok(Decl {
-        name: decl.name.copy()?,
-        kind: decl.kind,
-        params: decl.params.copy()?,
-        parent: decl.parent.copy()?,
-        fields: decl.fields.copy()?,
-    })
-}
-
 /// The declarations of a script.
 fn own_decls(alloc: Global, decls: &[Decl]) -> Result<Decls, AllocError>
     ensures { IfOk result (λ ds. ds ≡ drop 8 decls.now) }
@@ -141,7 +129,7 @@ fn own_decls(alloc: Global, decls: &[Decl]) -> Result<Decls, AllocError>
     let own = behind_builtin(decls);
     let mut out = Row::new(alloc);
     for decl in own {
-        out.push(copied(decl)?)?;
+        out.push(copy_decl(decl)?)?;
     }
     let out = out.into_shared(alloc)?;
     Ok(out)

@@ -34,7 +34,8 @@ use Rattle.jl_resolve_forms.specs.Top.{resolved}
 use Rattle.jl_resolve_forms.specs.TypesIn.{Tests}
 use Rattle.jl_valid.proofs.CleanTrees.{begins_clean}
 use Rattle.jl_declare.specs.Script.{known_of}
-use Rattle.jl_declare.specs.Judgement.{IsJudged, kept, refused, decl_names, IsAnswer, kept_in, shown, refusal_at}
+use Rattle.jl_names.specs.Numbers.{names_of}
+use Rattle.jl_declare.specs.Judgement.{IsJudged, kept, refused, IsAnswer, kept_in, shown, refusal_at}
 use Rattle.jl_valid.specs.Asked.{IsKnownOf, AreTold}
 use Rattle.jl_valid.proofs.AddsLemmas.{and, left, right}
 use Rattle.jl_valid.proofs.FaultLemmas.{some_none, first_some}
@@ -151,7 +152,7 @@ declared_goes k h fs st z formed fields (j, judged, is) e =
     let name = no_fault st.fault (named_fault at h.name.bytes) text.0 in
     let free = free_from h.name.bytes formed.name (no_named at h.name.bytes name.1) in
     let own = declared_named (r.whole && not r.reading.unknown) k h (record (heading st.decls k h).own { fields = _ }) formed.name free refl (fields_named fs _ fields) in
-    let among = is_among r.decl.name (decl_names st.decls) in
+    let among = is_among r.decl.name (names_of st.decls) in
     let all = nat_eq st.allowed (length st.decls) in
     let d = shown j r.decl in
     let decls : z.decls ≡ st.decls ++ d ∷ [] = ap (λ (y : Declaring). y.decls) is in

@@ -6,7 +6,7 @@ ghost use Rattle.jl_model.specs.declared.ty.Decl.{Decl};
 ghost use Rattle.jl_written.specs.Meaning.{place_of, var_of, word_of, named};
 
 use crate::reading::{Named, TypeVar};
-use jl_model::ty::Decl;
+use jl_names::decls::FirstDecls;
 use std::alloc::AllocError;
 
 /// The names that no script binds or defines.
@@ -73,36 +73,32 @@ pub fn small(number: usize) -> Result<u32, AllocError>
 }
 
 /// The first declaration of a name.
-fn place_of(decls: &[Decl], name: &[u8]) -> Option<usize>
+#[tactic(auto, using(crate::proofs::PlaceLemmas::place_is))]
+fn place_of(decls: &FirstDecls<'_>, name: &[u8]) -> Option<u32>
     ensures { result ≡ place_of (map (λ (d : Decl). d.name) decls.now) name.now }
 {
-    for (at, decl) in decls.iter().enumerate() {
-        if is_same(name, decl.name.as_slice()) {
-            return Some(at);
-        }
-    }
-    None
+    decls.find(name)
 }
 
 /// The meaning of a name that is no type variable.
-fn word_of(decls: &[Decl], name: &[u8]) -> Result<Named, AllocError>
-    ensures { IfOk result (λ n. n ≡ word_of decls.now name.now) }
+fn word_of(decls: &FirstDecls<'_>, name: &[u8]) -> Named
+    ensures { result ≡ word_of decls.now name.now }
 {
     if is_same(name, b"Any") {
-        return Ok(Named::Any);
+        return Named::Any;
     }
     if is_same(name, b"Union") {
-        return Ok(Named::Union);
+        return Named::Union;
     }
     if is_same(name, b"Tuple") {
-        return Ok(Named::Tuple);
+        return Named::Tuple;
     }
     if is_same(name, b"Int") {
-        return Ok(Named::Nominal(4));
+        return Named::Nominal(4);
     }
     match place_of(decls, name) {
-        None => Ok(Named::Unknown),
-        Some(at) => Ok(Named::Nominal(small(at)?)),
+        None => Named::Unknown,
+        Some(at) => Named::Nominal(at),
     }
 }
 
@@ -121,11 +117,11 @@ pub(crate) fn var_of<'a>(vars: &'a [TypeVar], name: &[u8]) -> Option<&'a TypeVar
 }
 
 /// What a name means where a type must stand: a visible type variable hides a declared type of its name.
-pub(crate) fn named(decls: &[Decl], vars: &[TypeVar], name: &[u8]) -> Result<Named, AllocError>
-    ensures { IfOk result (λ n. n ≡ named decls.now vars.now name.now) }
+pub(crate) fn named(decls: &FirstDecls<'_>, vars: &[TypeVar], name: &[u8]) -> Named
+    ensures { result ≡ named decls.now vars.now name.now }
 {
     match var_of(vars, name) {
-        Some(var) => Ok(Named::Variable(var.number, var.usable)),
+        Some(var) => Named::Variable(var.number, var.usable),
         None => word_of(decls, name),
     }
 }

@@ -12,15 +12,16 @@ use crate::names::{is_builtin, named, small, var_of};
 use crate::notes::{brought, fresh, missing, note, placed, unknown, used};
 use crate::reading::{Named, Reading, TypeVar};
 use jl_model::rows::Row;
-use jl_model::ty::{Bound, Bytes, Decl, Ty, Tys};
+use jl_model::ty::{Bound, Bytes, Ty, Tys};
+use jl_names::decls::FirstDecls;
 use jl_typeread::tree::{ArgText, TypeText, VarText};
 use std::alloc::{AllocError, Global};
 
 /// The declared bounds of a nominal type's arguments.
-fn params_of(decls: &[Decl], number: u32) -> &[Bound]
+fn params_of<'a>(decls: &'a FirstDecls<'_>, number: u32) -> &'a [Bound]
     ensures { result.now ≡ params_of (slice_get decls.now number) }
 {
-    match decls.get(number as usize) {
+    match decls.get(number) {
         None => &[],
         Some(decl) => decl.params.as_slice(),
     }
@@ -29,7 +30,7 @@ fn params_of(decls: &[Decl], number: u32) -> &[Bound]
 /// A nominal type of which no argument is written.
 fn bare(
     alloc: Global,
-    decls: &[Decl],
+    decls: &FirstDecls<'_>,
     state: &mut Reading,
     number: u32,
     inside: bool,
@@ -44,7 +45,7 @@ fn bare(
 /// A name without braces.
 fn plain(
     alloc: Global,
-    decls: &[Decl],
+    decls: &FirstDecls<'_>,
     state: &mut Reading,
     at: u32,
     name: Named,
@@ -69,7 +70,7 @@ fn plain(
 #[cycle(types)]
 fn applied(
     alloc: Global,
-    decls: &[Decl],
+    decls: &FirstDecls<'_>,
     vars: &mut Row<TypeVar>,
     state: &mut Reading,
     name: Named,
@@ -98,7 +99,7 @@ fn applied(
 #[cycle(types)]
 fn members(
     alloc: Global,
-    decls: &[Decl],
+    decls: &FirstDecls<'_>,
     vars: &mut Row<TypeVar>,
     state: &mut Reading,
     texts: &[ArgText],
@@ -119,7 +120,7 @@ fn members(
 #[cycle(types)]
 pub(crate) fn arguments(
     alloc: Global,
-    decls: &[Decl],
+    decls: &FirstDecls<'_>,
     vars: &mut Row<TypeVar>,
     state: &mut Reading,
     bounds: &[Bound],
@@ -155,7 +156,7 @@ fn behind_first(bounds: &[Bound]) -> &[Bound]
 #[cycle(types)]
 fn argument(
     alloc: Global,
-    decls: &[Decl],
+    decls: &FirstDecls<'_>,
     vars: &mut Row<TypeVar>,
     state: &mut Reading,
     text: &ArgText,
@@ -189,7 +190,7 @@ fn none() -> Ty
 #[cycle(types)]
 pub fn read_type(
     alloc: Global,
-    decls: &[Decl],
+    decls: &FirstDecls<'_>,
     vars: &mut Row<TypeVar>,
     state: &mut Reading,
     text: &TypeText,
@@ -200,11 +201,11 @@ pub fn read_type(
 {
     match text {
         TypeText::Name(at, name) => {
-            let name = named(decls, vars.as_slice(), name.as_slice())?;
+            let name = named(decls, vars.as_slice(), name.as_slice());
             plain(alloc, decls, state, *at, name, inside)
         }
         TypeText::Applied(at, name, texts) => {
-            let name = named(decls, vars.as_slice(), name.as_slice())?;
+            let name = named(decls, vars.as_slice(), name.as_slice());
             applied(
                 alloc,
                 decls,
@@ -240,7 +241,7 @@ fn where_at(state: &mut Reading, variables: &[VarText], inside: bool)
 #[cycle(types)]
 pub fn bind_all(
     alloc: Global,
-    decls: &[Decl],
+    decls: &FirstDecls<'_>,
     vars: &mut Row<TypeVar>,
     state: &mut Reading,
     variables: &[VarText],
@@ -258,7 +259,7 @@ pub fn bind_all(
 #[cycle(types)]
 fn bind(
     alloc: Global,
-    decls: &[Decl],
+    decls: &FirstDecls<'_>,
     vars: &mut Row<TypeVar>,
     state: &mut Reading,
     variable: &VarText,
@@ -305,7 +306,7 @@ fn bind_name(
 #[cycle(types)]
 fn bounds(
     alloc: Global,
-    decls: &[Decl],
+    decls: &FirstDecls<'_>,
     vars: &mut Row<TypeVar>,
     state: &mut Reading,
     variable: &VarText,

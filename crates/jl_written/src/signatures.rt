@@ -10,7 +10,8 @@ use crate::notes::copy_bound;
 use crate::reading::{Place, Reading, TypeVar};
 use crate::reads::{arguments, read_type};
 use jl_model::rows::Row;
-use jl_model::ty::{Bound, Decl, Ty};
+use jl_model::ty::{Bound, Ty};
+use jl_names::decls::FirstDecls;
 use jl_typeread::tree::{ArgText, TypeText};
 use std::alloc::{AllocError, Global};
 
@@ -104,7 +105,7 @@ fn shifted(alloc: Global, by: usize, statics: &[TypeVar]) -> Result<Row<TypeVar>
 /// How many variables a type in a body brings.
 fn width_of(
     alloc: Global,
-    decls: &[Decl],
+    decls: &FirstDecls<'_>,
     statics: &[TypeVar],
     text: &TypeText,
 ) -> Result<usize, AllocError>
@@ -121,7 +122,7 @@ fn width_of(
 /// type's own variables, and its own after that.
 pub fn body_type(
     alloc: Global,
-    decls: &[Decl],
+    decls: &FirstDecls<'_>,
     statics: &[TypeVar],
     text: &TypeText,
 ) -> Result<(Ty, Reading), AllocError>
@@ -137,7 +138,7 @@ pub fn body_type(
 /// The type of an explicit constructor, by the arguments in its braces, and what is known behind it.
 pub fn constructor_type(
     alloc: Global,
-    decls: &[Decl],
+    decls: &FirstDecls<'_>,
     number: u32,
     bounds: &[Bound],
     statics: &[TypeVar],

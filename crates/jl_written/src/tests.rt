@@ -10,6 +10,7 @@ use crate::signatures::{Order, adopted, body_type, constructor_type, unread};
 use jl_model::rows::Row;
 use jl_model::shared::{SharedList, SharedNode};
 use jl_model::ty::{Bound, Bounds, Bytes, Decl, DeclKind, Fields, Ty, Tys};
+use jl_names::decls::DeclList;
 use jl_typeread::tree::{ArgText, TypeText, VarText};
 use std::alloc::{AllocError, Global};
 use std::test::Fail;
@@ -55,13 +56,13 @@ fn plain(alloc: Global, text: &[u8], params: Bounds) -> Result<Decl, AllocError>
 }
 
 /// The types `Int64`, whose number is 0 here, and `Box{T<:Int64}`, whose number is 1.
-fn decls(alloc: Global) -> Result<Vec<Decl>, AllocError> {
+fn decls(alloc: Global) -> Result<DeclList, AllocError> {
     let mut bounds = Vec::new(alloc);
     bounds.push(Bound {
         low: Ty::Union(Tys::empty()),
         high: Ty::Nominal(0, Tys::empty()),
     })?;
-    let mut decls = Vec::new(alloc);
+    let mut decls = DeclList::new(alloc);
     decls.push(plain(alloc, b"Int64", Bounds::empty())?)?;
     decls.push(plain(alloc, b"Box", SharedList::from_vec(alloc, bounds)?)?)?;
     Ok(decls)
@@ -70,7 +71,7 @@ fn decls(alloc: Global) -> Result<Vec<Decl>, AllocError> {
 /// What a type means where no type variable is visible.
 fn read(alloc: Global, text: &TypeText) -> Result<(Ty, Reading), AllocError> {
     let decls = decls(alloc)?;
-    body_type(alloc, decls.as_slice(), &[], text)
+    body_type(alloc, &decls.all(), &[], text)
 }
 
 /// `Box{v}`, by the number of a variable
@@ -173,14 +174,7 @@ fn an_explicit_constructor_reads_its_arguments(rt: HostRuntime) -> Result<(), Fa
     let decls = decls(alloc)?;
     let mut arguments = Vec::new(alloc);
     arguments.push(ArgText::Exact(name(alloc, 4, b"Int64")?))?;
-    let (ty, reading) = constructor_type(
-        alloc,
-        decls.as_slice(),
-        1,
-        &[],
-        &[],
-        arguments.as_slice(),
-    )?;
+    let (ty, reading) = constructor_type(alloc, &decls.all(), 1, &[], &[], arguments.as_slice())?;
     let mut expected = Vec::new(alloc);
     expected.push(Ty::Nominal(0, Tys::empty()))?;
     let expected = Ty::Nominal(1, SharedList::from_vec(alloc, expected)?);
@@ -199,14 +193,14 @@ fn a_variable_of_a_where_is_visible_in_what_follows(rt: HostRuntime) -> Result<(
     texts.push(VarText::Free(7, bytes(alloc, b"T")?))?;
     bind_all(
         alloc,
-        decls.as_slice(),
+        &decls.all(),
         &mut vars,
         &mut state,
         texts.as_slice(),
         false,
     )?;
     let text = name(alloc, 3, b"T")?;
-    let ty = read_type(alloc, decls.as_slice(), &mut vars, &mut state, &text, false)?;
+    let ty = read_type(alloc, &decls.all(), &mut vars, &mut state, &text, false)?;
     assert!(rt; ty == Ty::Var(0));
     assert!(rt; state.fault == None);
     Ok(())

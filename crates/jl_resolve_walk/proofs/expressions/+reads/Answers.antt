@@ -52,8 +52,8 @@ expr-returns-in-Name g t c =
     let sc = c.args.scope.now in
     let e = c.args.text.now in
     record {
-      means = weaker c.name.result _ _ c.name.ensures (λ z m. form-Name ts k e c.in-Name.at c.in-Name.name sc st c.name.new.state z (slot_of sc.slots c.in-Name.name) c.in-Name.is refl m);
-      kept = always c.name.result _ refl;
+      means = form-Name ts k e c.in-Name.at c.in-Name.name sc st c.name.new.state c.name.result (slot_of sc.slots c.in-Name.name) c.in-Name.is refl c.name.ensures;
+      kept = refl;
     }
 
 pub expr-returns-in-Paren : goal.expr-returns-in-Paren
