@@ -5,8 +5,8 @@
 //! nominal types of `declared`.
 
 use crate::{SigFault, check_type};
-use jl_match::names::are_known;
 use jl_model::ty::{Bound, Bounds, Bytes, Decl, DeclKind, Fields, Ty, Tys, Written};
+use jl_norm::known::are_known;
 use jl_norm::{DeclareFault, declare, has_own_variables};
 use jl_sig::types::types_in;
 use jl_types::Table;

@@ -1,7 +1,7 @@
 -- What each part of a program may name, where it stands: the slots and static parameters that are visible, and where a
 -- `return` and a `Spawn` may stand. A block's bindings are visible to the end of that block, and the slot of a binding is the
 -- number of slots visible at it. So where a binding at slot x cuts the environment to x and sets it, each use of a slot finds
--- the binding that is visible there (Julia manual, Scope of Variables; the profile has no assignment).
+-- the binding that is visible there (Julia manual, Scope of Variables; the language has no assignment).
 use Rattle.std.specs.Prelude.{ℕ, ◌+◌, Bool, true, false, ◌&&◌, cond, not, nat_eq, nat_le, nat_lt, List, [], ◌∷◌, ◌++◌, map, length, get_or}
 use Rattle.std.specs.List.{list_all}
 use Rattle.std.specs.Str.{is_utf8}

@@ -1,5 +1,4 @@
 pub mod TellLemmas
-pub mod KnownLemmas
 pub mod AnswerLemmas
 pub mod TestLemmas
 pub mod JudgedLemmas

@@ -5,8 +5,8 @@ ghost use Rattle.jl_judge.specs.Right.{CanBeJudged, IsJudgedBelow};
 ghost use Rattle.jl_judge.specs.Judged.{IsJudgedAs};
 ghost use Rattle.jl_judge.specs.Tell.{Tells};
 
-use jl_match::names::is_known;
 use jl_model::ty::Ty;
+use jl_norm::known::is_known;
 use jl_norm::norm;
 use jl_types::{NormFault, Table, ground_sub};
 use std::alloc::{AllocError, Global};

@@ -23,7 +23,8 @@ use Rattle.jl_model.proofs.AncestorLemmas.{true_each}
 use Rattle.jl_model.proofs.PutLemmas.{and_l, and_r}
 use Rattle.jl_sig.specs.Prepared.{HasOwnVariables}
 use Rattle.jl_match.specs.KeptRow.{AreConcrete, Fits}
-use Rattle.jl_match.proofs.ListLemmas.{In, of_in, in_map, Good, absent, sought}
+use Rattle.jl_match.proofs.ListLemmas.{In, of_in, in_map, has_in}
+use Rattle.jl_search.proofs.GoodLemmas.{Good, absent, sought}
 use Rattle.jl_match.proofs.KindLemmas.{Comps, comps, own_only}
 use Rattle.jl_match.proofs.ComponentLemmas.{components_of, none_of}
 use Rattle.jl_match.proofs.RowForms.{choices_by, rows_at}
@@ -80,12 +81,12 @@ module _ (ds : List Decl) (declared : Declared ds) (s : Written) (own : HasOwnVa
 
   found_inner : (i o : Option Ty) → Good Same v i (flat_map inner s.parts) → In v (flat_map inner s.parts) → Same (or_type (or_else i o) W.Any)
   found_inner (Some y) o g h = g
-  found_inner None o g h = absurd (absent v (flat_map inner s.parts) g h)
+  found_inner None o g h = absurd (absent v (flat_map inner s.parts) g (has_in v (flat_map inner s.parts) h))
 
   found_outer : (i o : Option Ty) → Good Same v i (flat_map inner s.parts) → Good Same v o (flat_map outer s.parts) → In v (flat_map outer s.parts) → Same (or_type (or_else i o) W.Any)
   found_outer (Some y) o g k h = g
   found_outer None (Some y) g k h = k
-  found_outer None None g k h = absurd (absent v (flat_map outer s.parts) k h)
+  found_outer None None g k h = absurd (absent v (flat_map outer s.parts) k (has_in v (flat_map outer s.parts) h))
 
   found : (kind s v ≡ diagonal) ⊎ (kind s v ≡ bound) → Same (or_type (or_else (inner_found n s ts v) (outer_found s ts v)) W.Any)
   found (inl d) = found_outer (inner_found n s ts v) (outer_found s ts v) at_inner (at_outer d) (diagonal_stands s v outside d)
@@ -109,4 +110,4 @@ module _ (ds : List Decl) (declared : Declared ds) (s : Written) (own : HasOwnVa
       let plain : v < width s → vars_in (high s v) ≡ [] = λ l. none_of (vars_in (high s v)) (high_passes is_closed s.vars (and_l (list_all is_closed (bound_types s.vars)) (list_all is_component s.parts) well_placed) v l) in
       let g = onces_good ds declared s f v o plain s.parts parts r.parts among ts lefts fits.below in
       subst (λ z. Below n opaque z (high s v)) (sym q)
-      (sought (λ y. Below n opaque y (high s v)) v (outer_found s ts v) (flat_map outer s.parts) W.Any g (once_stands s v outside o))
+      (sought (λ y. Below n opaque y (high s v)) v (outer_found s ts v) (flat_map outer s.parts) W.Any g (has_in v (flat_map outer s.parts) (once_stands s v outside o)))

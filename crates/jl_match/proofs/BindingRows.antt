@@ -10,7 +10,7 @@ use Rattle.jl_model.specs.Ancestors.{named}
 use Rattle.jl_model.specs.Subtype.{Table, opaque}
 use Rattle.jl_model.specs.Bindings.{bindings}
 use Rattle.jl_sig.proofs.UsableLemmas.{stands-var, stands-union, stands-tuple, stands-nominal, outside-var, outside-union, outside-tuple, outside-nominal}
-use Rattle.jl_match.proofs.FindLemmas.{arg-var, inner-find-var, inner-find-nominal, inner-find-tuple, outer-find-var, outer-find-nominal, outer-find-tuple}
+use Rattle.jl_search.proofs.FindLemmas.{arg-var, inner-find-var, inner-find-nominal, inner-find-tuple, outer-find-var, outer-find-nominal, outer-find-tuple}
 
 abbrev one_variable : List Ty → Written
 one_variable ts = record { vars = free ∷ []; parts = ts }

@@ -13,7 +13,8 @@ use Rattle.jl_model.specs.SigRefusals.{is_argument, argument_step, is_component,
 use Rattle.jl_model.proofs.TypeInduction.{Each, by_cases}
 use Rattle.jl_model.proofs.FormLemmas.{all_firsts, all_seconds, vars-any, vars-union, vars-tuple}
 use Rattle.jl_model.proofs.PutLemmas.{and_l, and_r}
-use Rattle.jl_match.specs.KeptRow.{IsOpen, AreOpen, closed, variable, applied, open_end, open_more, IsComponent, AreComponents, any, variable as alone, union, tuple, nominal, components_end, components_more}
+use Rattle.jl_match.specs.KeptRow.{IsComponent, AreComponents, any, variable as alone, union, tuple, nominal, components_end, components_more}
+use Rattle.jl_search.specs.Open.{IsOpen, AreOpen, closed, variable, applied, open_end, open_more}
 
 argument-union : (ts : List Ty) → is_argument (V.Union ts) ≡ list_all is_closed ts
 argument-union ts = ap is_argument (sym (rolls-Union ts)) ∙ para-roll-Ty Bool argument_step (Union ts) ∙ all_firsts is_argument is_closed ts

@@ -21,7 +21,7 @@ use Rattle.jl_model.proofs.BelowLemmas.{below_part, part_below}
 use Rattle.jl_model.proofs.TransLemmas.{far, near}
 use Rattle.jl_model.proofs.DeclaredLemmas.{declared_lawful}
 use Rattle.jl_match.proofs.TupleLemmas.{Lone, lone_tuple}
-use Rattle.jl_match.proofs.AbstractLemmas.{ancestor_abstract}
+use Rattle.jl_search.proofs.AbstractLemmas.{ancestor_abstract}
 
 module _ (n : Table) where
   abbrev pub Concrete : Ty → Type 0

@@ -21,10 +21,11 @@ use Rattle.jl_model.proofs.HeightLemmas.{PartBy, by_any, by_tuple, by_nominal, b
 use Rattle.jl_model.proofs.BelowLemmas.{below_any, below_part, part_below, equals_both}
 use Rattle.jl_model.proofs.DeclaredLemmas.{declared_lawful}
 use Rattle.jl_model.specs.Found.{outer, inner}
-use Rattle.jl_match.specs.KeptRow.{EachVar, IsArgument, AreArguments, closed, variable, applied, arguments_end, arguments_more, IsPart, AreParts, any as part_any, variable as part_variable, tuple as part_tuple, nominal as part_nominal, parts_end, parts_more}
-use Rattle.jl_match.proofs.ListLemmas.{split}
-use Rattle.jl_match.proofs.FindLemmas as L
-use Rattle.jl_match.proofs.MeetLemmas.{parts_in, arguments_in, head_part, tail_parts}
+use Rattle.jl_match.specs.KeptRow.{IsArgument, AreArguments, closed, variable, applied, arguments_end, arguments_more, IsPart, AreParts, any as part_any, variable as part_variable, tuple as part_tuple, nominal as part_nominal, parts_end, parts_more}
+use Rattle.jl_search.specs.Open.{EachVar}
+use Rattle.jl_search.proofs.GoodLemmas.{split}
+use Rattle.jl_search.proofs.FindLemmas as L
+use Rattle.jl_match.proofs.PartLemmas.{parts_in, arguments_in, head_part, tail_parts}
 use Rattle.jl_match.proofs.TupleLemmas.{tuple_below, below_tuple}
 use Rattle.jl_match.proofs.ConcreteLemmas.{Concrete, concrete-var, parts_concrete, concrete_lone, all_lone, concrete_turns}
 

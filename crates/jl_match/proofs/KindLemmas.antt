@@ -13,7 +13,8 @@ use Rattle.jl_model.specs.Rows.{width, kind, vars_in}
 use Rattle.jl_model.proofs.TypeInduction.{Each, by_cases}
 use Rattle.jl_model.proofs.FormLemmas.{is_union, is_tuple, is_nominal, is_var, vars-any, vars-union, vars-tuple, vars-nominal, vars-var}
 use Rattle.jl_model.proofs.PutLemmas.{and_l, and_r}
-use Rattle.jl_match.specs.KeptRow.{EachVar, AreOpen, IsComponent, AreComponents, any, variable, union, tuple, nominal, components_end, components_more}
+use Rattle.jl_match.specs.KeptRow.{IsComponent, AreComponents, any, variable, union, tuple, nominal, components_end, components_more}
+use Rattle.jl_search.specs.Open.{EachVar, AreOpen}
 use Rattle.jl_match.proofs.ListLemmas.{In, in_left, in_right, in_either, each_of}
 
 -- equations

@@ -5,8 +5,6 @@ use Rattle.jl_model.specs.declared.ty.Ty.{Ty}
 use Rattle.jl_model.specs.declared.ty.Ty.TheVariants as W
 use Rattle.jl_model.specs.Rows.{vars_in}
 use Rattle.jl_model.proofs.FormLemmas.{vars-any, vars-var, vars-union, vars-tuple, vars-nominal}
-use Rattle.jl_model.proofs.KnownLemmas.{known-any, known-var, known-union, known-tuple, known-nominal}
-use Rattle.jl_match.proofs.PlaceLemmas.{all-suc}
 
 and_assoc : (a b c : Bool) → (a && (b && c)) ≡ ((a && b) && c)
 and_assoc true b c = refl
@@ -32,5 +30,3 @@ pub own_var : (m : ℕ) (t : Ty) (v : ℕ) → t ≡ W.Var v → nat_lt v m ≡ 
 own_var m t v e = and_true (nat_lt v m) ∙ sym (ap (λ z. below m (vars_in z)) e ∙ ap (below m) (vars-var v))
 
 pub ruleset owning = (own-suc, vars-any, vars-var, vars-union, vars-tuple, vars-nominal)
-
-pub ruleset knowing = (all-suc, known-any, known-var, known-union, known-tuple, known-nominal)

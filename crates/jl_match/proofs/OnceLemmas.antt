@@ -12,7 +12,7 @@ use Rattle.jl_model.specs.Found.{first, raised, parts_of, arguments_of, ancestor
 use Rattle.jl_model.proofs.TypeInduction.{Each, by_cases}
 use Rattle.jl_model.proofs.FormLemmas.{is_any, is_union, is_tuple, is_nominal, is_var, vars-nominal, vars-var}
 use Rattle.jl_match.proofs.ListLemmas.{In, in_left, in_right, in_each}
-use Rattle.jl_match.proofs.FindLemmas as L
+use Rattle.jl_search.proofs.FindLemmas as L
 use Rattle.jl_match.proofs.KindLemmas.{Inner, Comp, comp_any, comp_var, comp_union, comp_tuple, comp_nominal, Comps, comps_end, comps_more}
 
 module _ (v : ℕ) where

@@ -1,70 +1,10 @@
--- The tests on places and numbers of arguments, form by form.
-use Rattle.std.proofs.Common.{◌≡◌, ◌∙◌, sym, ap, ℕ, zero, suc, ◌+◌, ◌<◌, arith, add-one, Bool, true, false, ◌&&◌, nat_eq, List, [], ◌∷◌, map, length, drop, get_or, slice_get, ◌⊎◌, inl, inr}
-use Rattle.std.specs.List.{list_all}
-use Rattle.std.proofs.lemmas.List.{length-map}
-use Rattle.jl_model.specs.declared.ty.Ty.{Ty}
-use Rattle.jl_model.specs.declared.ty.Ty.TheOpen.{Any, Union, Tuple, Nominal, Var}
-use Rattle.jl_model.specs.declared.ty.Ty.TheViews.{rolls-Any, rolls-Union, rolls-Tuple, rolls-Nominal, rolls-Var}
-use Rattle.jl_model.specs.declared.ty.Ty.TheViews as V
-use Rattle.jl_model.specs.declared.ty.Ty.TheVariants as W
-use Rattle.jl_model.specs.declared.ty.Ty.TheFolds.{fold-roll-Ty}
-use Rattle.jl_model.specs.declared.ty.Bound.{Bound}
-use Rattle.jl_model.specs.declared.ty.Decl.{Decl}
-use Rattle.jl_model.specs.Refusals.{bound_types}
-use Rattle.jl_model.specs.Valid.{is_counted, counted_step, params_of}
+-- The tests on places, form by form.
 use Rattle.jl_model.proofs.AncestorLemmas.{slice_past}
-use Rattle.jl_model.proofs.FormLemmas.{all_of}
+use Rattle.jl_norm.proofs.ListLemmas.{all-suc}
 use Rattle.jl_sig.proofs.FitLemmas.{argument-any, argument-var, argument-union, argument-tuple, argument-nominal, component-any, component-var, component-union, component-tuple, component-nominal}
-
-pub all-suc : (p : Ty → Bool) (ts : List Ty) (i : ℕ) (t : Ty) → i < length ts → t ≡ get_or ts i t → list_all p (drop i ts) ≡ (p t && list_all p (drop (i + 1) ts))
-all-suc p [] i t h e = absurd (omega arith)
-all-suc p (x ∷ xs) zero t h e = ap (λ z. p z && list_all p xs) (sym e)
-all-suc p (x ∷ xs) (suc i) t h e = rw add-one (rw add-one at (all-suc p xs i t (omega arith) e))
-
-pub bounds-suc : (p : Ty → Bool) (bs : List Bound) (i : ℕ) (b : Bound) → i < length bs → b ≡ get_or bs i b
-    → list_all p (bound_types (drop i bs)) ≡ (p b.low && (p b.high && list_all p (bound_types (drop (i + 1) bs))))
-bounds-suc p [] i b h e = absurd (omega arith)
-bounds-suc p (x ∷ xs) zero b h e = ap (λ (z : Bound). p z.low && (p z.high && list_all p (bound_types xs))) (sym e)
-bounds-suc p (x ∷ xs) (suc i) b h e = rw add-one (rw add-one at (bounds-suc p xs i b (omega arith) e))
-
-pub ruleset along = (bounds-suc)
 
 pub ruleset arguing = (all-suc, argument-any, argument-var, argument-union, argument-tuple, argument-nominal)
 
 pub ruleset composing = (all-suc, component-any, component-var, component-union, component-tuple, component-nominal)
 
 pub ruleset naming = (slice_past)
-
--- the number of arguments
-pub counted-any : (ds : List Decl) → is_counted ds W.Any ≡ true
-counted-any ds = ap (is_counted ds) (sym rolls-Any) ∙ fold-roll-Ty Bool (counted_step ds) Any
-
-pub counted-var : (ds : List Decl) (v : ℕ) → is_counted ds (W.Var v) ≡ true
-counted-var ds v = ap (is_counted ds) (sym (rolls-Var v)) ∙ fold-roll-Ty Bool (counted_step ds) (Var v)
-
-pub counted-union : (ds : List Decl) (ts : List Ty) → is_counted ds (V.Union ts) ≡ list_all (is_counted ds) ts
-counted-union ds ts = ap (is_counted ds) (sym (rolls-Union ts)) ∙ fold-roll-Ty Bool (counted_step ds) (Union ts) ∙ all_of (is_counted ds) ts
-
-pub counted-tuple : (ds : List Decl) (ts : List Ty) → is_counted ds (V.Tuple ts) ≡ list_all (is_counted ds) ts
-counted-tuple ds ts = ap (is_counted ds) (sym (rolls-Tuple ts)) ∙ fold-roll-Ty Bool (counted_step ds) (Tuple ts) ∙ all_of (is_counted ds) ts
-
-pub counted-nominal : (ds : List Decl) (k : ℕ) (ts : List Ty) → is_counted ds (V.Nominal k ts) ≡ (nat_eq (length ts) (length (params_of (slice_get ds k))) && list_all (is_counted ds) ts)
-counted-nominal ds k ts =
-    ap (is_counted ds) (sym (rolls-Nominal k ts)) ∙ fold-roll-Ty Bool (counted_step ds) (Nominal k ts)
-    ∙ ap (λ b. nat_eq (length (map (is_counted ds) ts)) (length (params_of (slice_get ds k))) && b) (all_of (is_counted ds) ts)
-    ∙ ap (λ i. nat_eq i (length (params_of (slice_get ds k))) && list_all (is_counted ds) ts) (length-map ts (is_counted ds))
-
-pub ruleset counting = (all-suc, counted-any, counted-var, counted-union, counted-tuple, counted-nominal)
-
--- a test that goes on with another in the parts
-module _ (p q : Ty → Bool) where
-  pub either_case : ((ts : List Ty) → p (V.Union ts) ≡ list_all q ts) → ((ts : List Ty) → p (V.Tuple ts) ≡ list_all q ts) → (t : Ty) (ts ps : List Ty) (r : Bool)
-      → (t ≡ V.Union ts) ⊎ (t ≡ V.Tuple ts) → ps ≡ ts → r ≡ list_all q ps → r ≡ p t
-  either_case u v t ts ps r (inl e) f h = h ∙ ap (list_all q) f ∙ sym (ap p e ∙ u ts)
-  either_case u v t ts ps r (inr e) f h = h ∙ ap (list_all q) f ∙ sym (ap p e ∙ v ts)
-
-  pub nominal_case : (k : ℕ) (ts ps : List Ty) (b r : Bool) (t : Ty) → p (V.Nominal k ts) ≡ (b && list_all q ts) → t ≡ V.Nominal k ts → ps ≡ ts → b ≡ true → r ≡ list_all q ps → r ≡ p t
-  nominal_case k ts ps b r t n e f g h = h ∙ ap (list_all q) f ∙ ap (λ z. z && list_all q ts) (sym g) ∙ sym (ap p e ∙ n)
-
-  pub nominal_not : (k : ℕ) (ts : List Ty) (b : Bool) (t : Ty) → p (V.Nominal k ts) ≡ (b && list_all q ts) → t ≡ V.Nominal k ts → b ≡ false → false ≡ p t
-  nominal_not k ts b t n e g = ap (λ z. z && list_all q ts) (sym g) ∙ sym (ap p e ∙ n)

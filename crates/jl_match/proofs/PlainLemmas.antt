@@ -24,7 +24,7 @@ use Rattle.jl_model.proofs.FillLemmas.{ancestors_known}
 use Rattle.jl_model.proofs.DeclaredLemmas.{declared_lawful}
 use Rattle.jl_model.specs.Found.{first, or_else, or_type, or_none, raised, parts_of, arguments_of, ancestor, find_arg, find_inner, find_outer, found}
 use Rattle.jl_match.specs.KeptRow.{IsPlain, IsKeptRow, AreConcrete, AreGround}
-use Rattle.jl_match.proofs.FindLemmas as L
+use Rattle.jl_search.proofs.FindLemmas as L
 use Rattle.jl_match.proofs.RowLemmas.{lifted_normal, below_or}
 
 abbrev Closed : Ty → Type 0

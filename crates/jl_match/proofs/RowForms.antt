@@ -15,7 +15,7 @@ use Rattle.jl_model.specs.Signature.{Both, both_end, both_more}
 use Rattle.jl_model.proofs.TypeInduction.{Each, by_cases}
 use Rattle.jl_model.proofs.FormLemmas.{is_any, is_union, is_tuple, is_nominal, is_var, firsts, seconds, flat_seconds, alts-any, alts-union, alts-tuple, alts-nominal, vars-union, vars-tuple, vars-nominal, vars-var}
 use Rattle.jl_model.proofs.NormalLemmas.{In as Among, first, later}
-use Rattle.jl_match.specs.KeptRow.{EachVar, AreOpen, closed, open_end, open_more}
+use Rattle.jl_search.specs.Open.{EachVar, AreOpen, closed, open_end, open_more}
 use Rattle.jl_match.proofs.TupleLemmas.{InRows, row_first, row_later, choice_of}
 use Rattle.jl_match.proofs.SubstLemmas.{tuples_in}
 use Rattle.jl_match.proofs.KindLemmas.{Inner, Comp, comp_any, comp_var, comp_union, comp_tuple, comp_nominal, Comps, comps_end, comps_more}

@@ -1,5 +1,5 @@
 -- What holds of a kept row and of concrete types, and that the types found serve where any do.
-use Rattle.std.proofs.Common.{◌≡◌, ◌∙◌, sym, ap, subst, refl, ℕ, zero, suc, ◌<◌, ◌≤◌, arith, Bool, true, false, nat_eq, nat_lt, List, map, Some, ◌⊎◌, inl, inr}
+use Rattle.std.proofs.Common.{◌≡◌, ◌∙◌, sym, ap, subst, refl, ℕ, zero, suc, ◌<◌, ◌≤◌, arith, Bool, true, false, nat_eq, nat_lt, List, [], ◌∷◌, map, Some, ◌⊎◌, inl, inr}
 use Rattle.std.proofs.Math.Nat.{mod-eq_of_lt}
 use Rattle.std.specs.List.{flat_map}
 use Rattle.jl_model.specs.declared.ty.Ty.{Ty}
@@ -10,14 +10,13 @@ use Rattle.jl_model.specs.declared.ty.Decl.{Decl}
 use Rattle.jl_model.specs.declared.ty.Written.{Written}
 use Rattle.jl_model.specs.Ancestors.{table_of}
 use Rattle.jl_model.specs.Kinds.{unused, diagonal, bound}
-use Rattle.jl_model.specs.Rows.{width, low, kind, root, vars_in, Occurs}
+use Rattle.jl_model.specs.Rows.{width, kind, root, vars_in, Occurs}
 use Rattle.jl_model.specs.Subtype.{Table, opaque, lifted, is_concrete}
-use Rattle.jl_model.specs.Signature.{Row, top, Serves, Meet}
+use Rattle.jl_model.specs.Signature.{Row, Serves, Meet}
 use Rattle.jl_model.specs.Normal.{IsNormal, AllNormal, none, more}
 use Rattle.jl_model.specs.Refusals.{Declared}
 use Rattle.jl_model.proofs.TypeInduction.{Each}
 use Rattle.jl_model.proofs.FormLemmas.{is_any, is_tuple, is_nominal, is_var, vars-any, vars-tuple, vars-nominal, vars-var}
-use Rattle.jl_model.proofs.PutLemmas.{put-closed}
 use Rattle.jl_model.proofs.SelfLemmas.{below_self}
 use Rattle.jl_model.proofs.AncestorLemmas.{true_each}
 use Rattle.jl_model.proofs.TransLemmas.{below_trans, far, near}
@@ -25,12 +24,16 @@ use Rattle.jl_model.proofs.NormalLemmas.{kids_nominal, kids_tuple}
 use Rattle.jl_model.proofs.FillLemmas.{ancestors_normal}
 use Rattle.jl_model.proofs.DeclaredLemmas.{declared_lawful}
 use Rattle.jl_model.specs.Found.{outer, inner, found}
-use Rattle.jl_match.specs.KeptRow.{EachVar, IsPart, AreParts, any as part_any, variable as part_variable, tuple as part_tuple, nominal as part_nominal, parts_end, parts_more, IsPlace, AreKeptParts, IsKeptRow, AreConcrete, Fits}
-use Rattle.jl_match.proofs.ListLemmas.{In, in_of, of_in, in_left, in_right, in_either, in_map, map_in, each_of}
-use Rattle.jl_match.proofs.FindLemmas as L
+use Rattle.jl_match.specs.KeptRow.{IsPart, AreParts, any as part_any, variable as part_variable, tuple as part_tuple, nominal as part_nominal, parts_end, parts_more, IsPlace, AreKeptParts, IsKeptRow, AreConcrete, Fits}
+use Rattle.jl_search.specs.Open.{EachVar}
+use Rattle.jl_search.proofs.HasLemmas.{Has}
+use Rattle.jl_search.proofs.MeetLemmas.{LeftForms, Laws}
+use Rattle.jl_search.proofs.FoundLemmas.{RightRow, values}
+use Rattle.jl_match.proofs.ListLemmas.{In, in_of, of_in, in_left, in_right, in_either, in_map, map_in, each_of, has_in, in_has}
+use Rattle.jl_match.proofs.PartLemmas.{forms_of}
+use Rattle.jl_search.proofs.FindLemmas as L
 use Rattle.jl_match.proofs.ConcreteLemmas.{Concrete, concrete-var, parts_concrete}
 use Rattle.jl_match.proofs.FitLemmas.{meet_below, below_meet}
-use Rattle.jl_match.proofs.FoundLemmas.{LeftForms, RightRow, Laws, values}
 
 -- each variable of a part stands at a covariant or at an invariant place
 module _ (n : Table) where
@@ -137,14 +140,26 @@ module _ (ds : List Decl) (s : Written) (r : Row) (kept : IsKeptRow ds s r) wher
   is_low : (v : ℕ) → v < width s → nat_lt v (width s) ≡ true
   is_low v l = grind (arith, l)
 
-  right_row : RightRow n s r
+  inner_in : (v : ℕ) → Has (flat_map inner r.parts) v → In v (flat_map inner r.parts)
+  inner_in v h = in_has v (flat_map inner r.parts) h
+
+  outer_in : (w : ℕ) → Has (flat_map outer r.parts) w → In w (flat_map outer r.parts)
+  outer_in w h = in_has w (flat_map outer r.parts) h
+
+  occur : (w : ℕ) → In w (flat_map outer r.parts) → Occurs s (root s w) r.parts
+  occur w i = occurs_of w (outer_vars n r.parts kept.parts w i)
+
+  right_row : RightRow s r
   right_row = record {
-    forms = kept.parts;
-    inner_kind = λ v i. ((kept.invariant v (of_in (flat_map inner r.parts) v i)).1, inner_root v i);
-    places = places;
-    occur = λ w i. occurs_of w (outer_vars n r.parts kept.parts w i);
-    occur_inner = λ v i. subst (λ z. Occurs s z r.parts) (inner_root v i) (occurs_of v (inner_vars n r.parts kept.parts v i));
-    outer_kind = outer_kind;
+    forms = forms_of n r.parts kept.parts;
+    inner_kind = λ v h. (let i = inner_in v h in ((kept.invariant v (of_in (flat_map inner r.parts) v i)).1, inner_root v i));
+    places = λ v o. elim (places v o) [
+      | inl i ↦ inl (has_in v (flat_map inner r.parts) i)
+      | inr z ↦ inr (z.0, has_in z.0 (flat_map outer r.parts) z.1, z.2)
+    ];
+    occur = λ w h. occur w (outer_in w h);
+    occur_inner = λ v h. (let i = inner_in v h in subst (λ z. Occurs s z r.parts) (inner_root v i) (occurs_of v (inner_vars n r.parts kept.parts v i)));
+    outer_kind = λ w h. outer_kind w (outer_in w h);
     diagonal_root = λ w i d. own_root w (diagonal_low w d);
     range = λ v o. is_low v (low_of v o);
   }
@@ -160,7 +175,7 @@ module _ (ds : List Decl) (s : Written) (r : Row) (kept : IsKeptRow ds s r) wher
       each_of (λ w. ((kind s w ≡ diagonal) × (f (root s w) ≡ f w) × Concrete n (f w)) ⊎ (kind s (root s w) ≡ bound)) (flat_map outer r.parts)
       (λ w i. elim (kept.covariant w (of_in (flat_map outer r.parts) w i)).1 [
         | inl e ↦
-            let o : Occurs s w r.parts = subst (λ z. Occurs s z r.parts) e.1 (right_row.occur w i) in
+            let o : Occurs s w r.parts = subst (λ z. Occurs s z r.parts) e.1 (occur w i) in
             inl (e.0, ap f e.1, serves.sure w o e.0)
         | inr b ↦ inr b
       ])
@@ -183,6 +198,10 @@ pub record IsLeft (n : Table) (t : Ty) : Type 0 where
   pub concrete : Concrete n t
   pub normal : IsNormal n t
 
+pub each_unit : (ts : List Ty) → Each (λ t. Unit {0}) ts
+each_unit [] = tt
+each_unit (t ∷ ts) = (tt, each_unit ts)
+
 pub each_normal : (n : Table) (ts : List Ty) → Each (Concrete n) ts → AllNormal n ts → Each (IsLeft n) ts
 each_normal n ts c none = tt
 each_normal n ts c (more t us p q) = (record { concrete = c.0; normal = p }, each_normal n us c.1 q)
@@ -204,16 +223,23 @@ module _ (ds : List Decl) (declared : Declared ds) where
   no_variable : (v : ℕ) (P : Type 0) → IsLeft o (W.Var v) → P
   no_variable v P h = let e : true ≡ false = sym h.concrete ∙ concrete-var o v in cc
 
-  pub left_forms : LeftForms o opaque (IsLeft o)
+  pub left_forms : LeftForms o opaque (IsLeft o) (λ t. Unit {0})
   left_forms = record {
     part = λ xs h. each_normal o xs (parts_concrete o xs h.concrete) (kids_tuple o (declared_lawful ds declared) (V.Tuple xs) xs h.normal (outs-Tuple xs));
     raise = λ v h. no_variable v _ h;
-    argument = λ k m xs zs h l. lifted_normal k m xs zs (kids_nominal o (declared_lawful ds declared) (V.Nominal k xs) k xs h.normal (outs-Nominal k xs)) l;
-    sure = λ t u h e c. h.concrete;
+    argument = λ k m xs zs h l. (lifted_normal k m xs zs (kids_nominal o (declared_lawful ds declared) (V.Nominal k xs) k xs h.normal (outs-Nominal k xs)) l, each_unit zs);
+    inside = λ m xs h. each_unit xs;
+    sure = λ t u h e c. (h.concrete, tt);
   }
 
-  laws : Laws o opaque
-  laws = record { lift = λ t u b. b; trans = below_trans o (declared_lawful ds declared); self = below_self o }
+  laws : Laws o opaque (IsLeft o)
+  laws = record {
+    lift = λ t u b. b;
+    before = below_trans o (declared_lawful ds declared);
+    trans = λ t u v h. below_trans o (declared_lawful ds declared) t u v;
+    trans_closed = λ t u v h. below_trans o (declared_lawful ds declared) t u v;
+    self = below_self o;
+  }
 
   module _ (s : Written) (r : Row) (ts : List Ty) (kept : IsKeptRow ds s r) (types : AreConcrete ds ts) where
     concrete : Each (Concrete o) ts
@@ -229,8 +255,8 @@ module _ (ds : List Decl) (declared : Declared ds) where
     -- values are found
     pub found_fits : (f : ℕ → Ty) → Fits o s r ts f → Serves o opaque s r (found o opaque s r ts) × Meet o opaque s (found o opaque s r ts) ts r.parts
     found_fits f fits =
-        values ds declared opaque (IsLeft o) s r ts f laws left_forms (right_row ds s r kept) (each_normal o ts concrete types.normal)
-        (λ v c h. put-closed h (low s v) (kept.low v (low_of ds s r kept v c)).closed)
-        (λ v c h. put-closed h (top s r v) (kept.top v (low_of ds s r kept v c)).closed)
+        values ds declared opaque (IsLeft o) (λ t. Unit {0}) s r ts f laws left_forms (right_row ds s r kept) (each_normal o ts concrete types.normal)
+        (λ v c. (kept.low v (low_of ds s r kept v c)).closed)
+        (λ v c. (kept.top v (low_of ds s r kept v c)).closed)
         fits.serves
         (below_meet ds declared s f r.parts kept.parts ts (own_places ds s r kept f) (placed ds s r kept f fits.serves) concrete fits.below)

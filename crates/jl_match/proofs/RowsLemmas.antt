@@ -14,11 +14,11 @@ use Rattle.jl_model.specs.Signature.{Row, by_kind, top, is_diagonal, Both, both_
 use Rattle.jl_model.specs.Normal.{IsNormalForm}
 use Rattle.jl_model.specs.Valid.{is_known, is_closed}
 use Rattle.jl_model.specs.Refusals.{Declared}
-use Rattle.jl_model.specs.AllRows.{ArePicks, occurs, slot, Listed, all_rows}
+use Rattle.jl_model.specs.AllRows.{ArePicks, occurs, Listed, all_rows}
 use Rattle.jl_model.proofs.FormLemmas.{vars-any}
 use Rattle.jl_model.proofs.KnownLemmas.{known-any}
 use Rattle.jl_model.proofs.TransLemmas.{equal_trans}
-use Rattle.jl_model.proofs.NormalLemmas.{In as Among, normal_same}
+use Rattle.jl_model.proofs.NormalLemmas.{In as Among, first, later, normal_same}
 use Rattle.jl_model.proofs.DeclaredLemmas.{declared_lawful}
 use Rattle.jl_types.specs.Form.{Settles}
 use Rattle.jl_types.proofs.SettleLemmas.{settles_pass}
@@ -30,11 +30,15 @@ use Rattle.jl_match.specs.SigRows.{kept_row, AreKeptRows, AllStand, SomeStands, 
 use Rattle.jl_match.specs.Listed.{IsKeptSig}
 use Rattle.jl_sig.specs.Fit.{IsKeptRow as IsKeptListed, AreKeptRows as AreKeptListed, rows_end as listed_end, rows_more as listed_more}
 use Rattle.jl_sig.specs.declared.row.SigRow.{SigRow}
+use Rattle.jl_search.proofs.HasLemmas.{Has}
+use Rattle.jl_search.proofs.KindLemmas.{is_diag}
+use Rattle.jl_search.proofs.ListedLemmas.{IsListed, listed, is_row, row_listed, slot_at, long_row, above_in, only_any, left_true}
 use Rattle.jl_match.proofs.TupleLemmas.{each_in}
 use Rattle.jl_match.proofs.RowForms.{Form, form_any, plain_alts}
 use Rattle.jl_match.proofs.KeepLemmas as K
 use Rattle.jl_match.proofs.ComponentLemmas.{components_of, none_of}
-use Rattle.jl_match.proofs.ListedLemmas.{Has, has_first, has_later, IsListed, listed, is_row, row_listed, same_pick, list_of, chosen_from, chosen_long, above_in, only_any, diagonal_low, diag_of, left_true}
+use Rattle.jl_match.proofs.KindLemmas.{own_only}
+use Rattle.jl_match.proofs.RowLemmas.{below_or}
 
 both_long : (P : Ty → Ty → Type 0) (xs ys : List Ty) → Both P xs ys → length xs ≡ length ys
 both_long P xs ys both_end = refl
@@ -45,12 +49,20 @@ at_both P xs ys v both_end l = absurd (omega arith)
 at_both P xs ys zero (both_more x y vs ws p r) l = p
 at_both P xs ys (suc v) (both_more x y vs ws p r) l = at_both P vs ws v r (omega arith)
 
+among_of : (xs : List Ty) (x : Ty) → Has xs x → Among x xs
+among_of [] x h = absurd h
+among_of (y ∷ ys) x (inl e) = first y ys (sym e)
+among_of (y ∷ ys) x (inr h) = later y ys (among_of ys x h)
+
 module _ (ds : List Decl) (declared : Declared ds) (s : Written) (bs : List Bound) (picks : ℕ → List Ty) (sig : IsKeptSig ds s bs) (are : ArePicks (table_of ds) s picks) where
   abbrev n : Table
   n = table_of ds
 
   abbrev t : Written
   t = with_bounds s bs
+
+  small : (v : ℕ) → kind s v ≡ diagonal → v < width s
+  small v d = elim (below_or v (width s)) [ inl l ↦ l | inr g ↦ let e : unused ≡ diagonal = sym (own_only s sig.own v g) ∙ d in cc ]
 
   -- the normal form of a known type is known
   known_form : (a u : Ty) → IsNormalForm n a u → is_known (length ds) a ≡ true → is_known (length ds) u ≡ true
@@ -79,16 +91,13 @@ module _ (ds : List Decl) (declared : Declared ds) (s : Written) (bs : List Boun
   any_plain a u e k =
       plain_of W.Any u (form_any W.Any outs-Any) vars-any (known-any (length ds)) (subst (λ z. Settles (IsNormalForm n) z u) e k)
 
-  slot_plain : (row : List Ty) (v : ℕ) (b : Bool) (a u : Ty) → (is_diagonal (kind s v) && occurs s v row) ≡ b → v < width s → Among a (cond b (picks v) (W.Any ∷ [])) → Settles (IsNormalForm n) a u → IsPlain ds u
+  slot_plain : (row : List Ty) (v : ℕ) (b : Bool) (a u : Ty) → (is_diagonal (kind s v) && occurs s v row) ≡ b → v < width s → Has (cond b (picks v) (W.Any ∷ [])) a → Settles (IsNormalForm n) a u → IsPlain ds u
   slot_plain row v true a u e l i k =
-      let d = diag_of n s picks sig.own are (kind s v) (left_true n s picks sig.own are (is_diagonal (kind s v)) (occurs s v row) e) in
-      alternative_plain v a u l (above_in n s picks sig.own are (low s v) a (alts (high s v)) (picks v) (are v d) i).0 k
-  slot_plain row v false a u e l i k = any_plain a u (only_any n s picks sig.own are a i) k
+      let d = is_diag (kind s v) (left_true (is_diagonal (kind s v)) (occurs s v row) e) in
+      alternative_plain v a u l (among_of (alts (high s v)) a (above_in n (low s v) a (alts (high s v)) (picks v) (are v d) i).0) k
+  slot_plain row v false a u e l i k = any_plain a u (only_any a i) k
 
-  long_chosen : (l : Listed) → IsListed n s picks sig.own are l → length l.chosen ≡ width s
-  long_chosen l h = chosen_long n s picks sig.own are (slot s picks l.parts) 0 s.vars l.chosen h.choice
-
-  kept_of : (l : Listed) (k : SigRow) → IsListed n s picks sig.own are l → IsKeptListed ds l k → AreKept ds s (row_of l.parts l.chosen) bs k.parts k.chosen
+  kept_of : (l : Listed) (k : SigRow) → IsListed n s small picks are l → IsKeptListed ds l k → AreKept ds s (row_of l.parts l.chosen) bs k.parts k.chosen
   kept_of l k h q = record {
     own = sig.own;
     placed = components_of s.parts sig.placed;
@@ -97,65 +106,65 @@ module _ (ds : List Decl) (declared : Declared ds) (s : Written) (bs : List Boun
     high = sig.high;
     plain = λ v i.
         slot_plain l.parts v (is_diagonal (kind s v) && occurs s v l.parts) (at l.chosen v) (at k.chosen v) refl i
-        (chosen_from n s picks sig.own are (slot s picks l.parts) s.vars l.chosen h.choice v i)
-        (at_both (Settles (IsNormalForm n)) l.chosen k.chosen v q.chosen (omega (arith, i, long_chosen l h)));
+        (slot_at n s small picks are l h v i)
+        (at_both (Settles (IsNormalForm n)) l.chosen k.chosen v q.chosen (omega (arith, i, long_row n s small picks are l h)));
     chosen = λ v d o.
-        let i = diagonal_low n s picks sig.own are v d in
-        K.settled_equal ds declared (at l.chosen v) (at k.chosen v) (at_both (Settles (IsNormalForm n)) l.chosen k.chosen v q.chosen (omega (arith, i, long_chosen l h)));
+        let i = small v d in
+        K.settled_equal ds declared (at l.chosen v) (at k.chosen v) (at_both (Settles (IsNormalForm n)) l.chosen k.chosen v q.chosen (omega (arith, i, long_row n s small picks are l h)));
     parts = q.parts;
   }
 
-  row_stands : (l : Listed) (k : SigRow) → IsListed n s picks sig.own are l → IsKeptListed ds l k → StandsFor n s t (row_of l.parts l.chosen) (kept_row k)
-  row_stands l k h q = K.stands ds declared s (row_of l.parts l.chosen) bs k.parts k.chosen (is_row n s picks sig.own are l h) (kept_of l k h q)
+  row_stands : (l : Listed) (k : SigRow) → IsListed n s small picks are l → IsKeptListed ds l k → StandsFor n s t (row_of l.parts l.chosen) (kept_row k)
+  row_stands l k h q = K.stands ds declared s (row_of l.parts l.chosen) bs k.parts k.chosen (is_row n s small picks are l h) (kept_of l k h q)
 
-  all_stand : (ls : List Listed) (ks : List SigRow) → ((l : Listed) → Has l ls → IsListed n s picks sig.own are l) → AreKeptListed ds ls ks → AllStand n s t ks
+  all_stand : (ls : List Listed) (ks : List SigRow) → ((l : Listed) → Has ls l → IsListed n s small picks are l) → AreKeptListed ds ls ks → AllStand n s t ks
   all_stand ls ks h listed_end = tt
   all_stand ls ks h (listed_more l k ms js q r) =
-      let i = h l (has_first l ms refl) in
-      ((row_of l.parts l.chosen, is_row n s picks sig.own are l i, row_stands l k i q), all_stand ms js (λ m j. h m (has_later l ms j)) r)
+      let i = h l (inl refl) in
+      ((row_of l.parts l.chosen, is_row n s small picks are l i, row_stands l k i q), all_stand ms js (λ m j. h m (inr j)) r)
 
-  all_kept : (ls : List Listed) (ks : List SigRow) → ((l : Listed) → Has l ls → IsListed n s picks sig.own are l) → AreKeptListed ds ls ks → AreKeptRows ds t ks
+  all_kept : (ls : List Listed) (ks : List SigRow) → ((l : Listed) → Has ls l → IsListed n s small picks are l) → AreKeptListed ds ls ks → AreKeptRows ds t ks
   all_kept ls ks h listed_end = tt
   all_kept ls ks h (listed_more l k ms js q r) =
-      let i = h l (has_first l ms refl) in (
-        sym (both_long (Settles (IsNormalForm n)) l.chosen k.chosen q.chosen) ∙ long_chosen l i ∙ sym sig.long,
-        K.kept_row ds declared s (row_of l.parts l.chosen) bs k.parts k.chosen (is_row n s picks sig.own are l i) (kept_of l k i q),
-        all_kept ms js (λ m j. h m (has_later l ms j)) r,
+      let i = h l (inl refl) in (
+        sym (both_long (Settles (IsNormalForm n)) l.chosen k.chosen q.chosen) ∙ long_row n s small picks are l i ∙ sym sig.long,
+        K.kept_row ds declared s (row_of l.parts l.chosen) bs k.parts k.chosen (is_row n s small picks are l i) (kept_of l k i q),
+        all_kept ms js (λ m j. h m (inr j)) r,
       )
 
   -- a row with the same parts, and the same alternatives where they count
-  same_top : (r : Row) (l : Listed) (v : ℕ) (k : Kind) → kind s v ≡ k → (kind s v ≡ diagonal → at l.chosen v ≡ r.chosen v) → by_kind k (at l.chosen v) (high s v) ≡ by_kind k (r.chosen v) (high s v)
-  same_top r l v unused e h = refl
-  same_top r l v once e h = refl
-  same_top r l v diagonal e h = h e
-  same_top r l v bound e h = refl
+  abbrev Agrees : Row → List Ty → Type 0
+  Agrees r us = (v : ℕ) → kind s v ≡ diagonal → at us v ≡ r.chosen v
 
-  stands_too : (r : Row) (k : SigRow) → StandsFor n s t (row_of r.parts (list_of n s picks sig.own are r).chosen) (kept_row k) → StandsFor n s t r (kept_row k)
-  stands_too r k h = record {
+  same_top : (r : Row) (us : List Ty) (v : ℕ) (k : Kind) → kind s v ≡ k → Agrees r us → by_kind k (at us v) (high s v) ≡ by_kind k (r.chosen v) (high s v)
+  same_top r us v unused e h = refl
+  same_top r us v once e h = refl
+  same_top r us v diagonal e h = h v e
+  same_top r us v bound e h = refl
+
+  stands_too : (r : Row) (us : List Ty) (k : SigRow) → Agrees r us → StandsFor n s t (row_of r.parts us) (kept_row k) → StandsFor n s t r (kept_row k)
+  stands_too r us k a h = record {
     width = h.width;
     kinds = h.kinds;
     parts = h.parts;
     low = h.low;
-    top = λ v o.
-        let l = list_of n s picks sig.own are r in
-        subst (λ z. Equal n z (top t (kept_row k) v)) (same_top r l v (kind s v) refl (λ d. same_pick n s picks sig.own are r v d o)) (h.top v o);
+    top = λ v o. subst (λ z. Equal n z (top t (kept_row k) v)) (same_top r us v (kind s v) refl a) (h.top v o);
     stays = h.stays;
     comes = h.comes;
   }
 
-  some_stands : (r : Row) (l : Listed) → l ≡ list_of n s picks sig.own are r → (ls : List Listed) (ks : List SigRow) → ((l : Listed) → Has l ls → IsListed n s picks sig.own are l) → AreKeptListed ds ls ks → Has l ls → SomeStands n s t r ks
-  some_stands r l e ls ks h listed_end i = elim i [ ]
-  some_stands r l e ls ks h (listed_more m k ms js q p) (has_first y ys f) =
-      let g : m ≡ list_of n s picks sig.own are r = sym f ∙ e in
-      let a = row_stands m k (h m (has_first m ms refl)) q in
-      inl (stands_too r k (subst (λ (z : Listed). StandsFor n s t (row_of z.parts z.chosen) (kept_row k)) g a))
-  some_stands r l e ls ks h (listed_more m k ms js q p) (has_later y ys i) = inr (some_stands r l e ms js (λ z j. h z (has_later m ms j)) p i)
+  some_stands : (r : Row) (l : Listed) → l.parts ≡ r.parts → Agrees r l.chosen → (ls : List Listed) (ks : List SigRow) → ((l : Listed) → Has ls l → IsListed n s small picks are l) → AreKeptListed ds ls ks → Has ls l → SomeStands n s t r ks
+  some_stands r l e a ls ks h listed_end i = absurd i
+  some_stands r l e a ls ks h (listed_more m k ms js q p) (inl f) =
+      let b = subst (λ (z : Listed). StandsFor n s t (row_of z.parts z.chosen) (kept_row k)) f (row_stands m k (h m (inl refl)) q) in
+      inl (stands_too r l.chosen k a (subst (λ z. StandsFor n s t (row_of z l.chosen) (kept_row k)) e b))
+  some_stands r l e a ls ks h (listed_more m k ms js q p) (inr i) = inr (some_stands r l e a ms js (λ z j. h z (inr j)) p i)
 
   pub rows_of : (ks : List SigRow) → AreKeptListed ds (all_rows s picks) ks → AreRowsOf n s t ks
   rows_of ks h = record {
-    each = all_stand (all_rows s picks) ks (listed n s picks sig.own are) h;
-    all = λ r row. some_stands r (list_of n s picks sig.own are r) refl (all_rows s picks) ks (listed n s picks sig.own are) h (row_listed n s picks sig.own are r row);
+    each = all_stand (all_rows s picks) ks (listed n s small picks are) h;
+    all = λ r row. (let i = row_listed n s small picks are r row in some_stands r i.item i.parts i.chosen (all_rows s picks) ks (listed n s small picks are) h i.has);
   }
 
   pub rows_kept : (ks : List SigRow) → AreKeptListed ds (all_rows s picks) ks → AreKeptRows ds t ks
-  rows_kept ks h = all_kept (all_rows s picks) ks (listed n s picks sig.own are) h
+  rows_kept ks h = all_kept (all_rows s picks) ks (listed n s small picks are) h

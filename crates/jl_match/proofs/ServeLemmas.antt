@@ -15,9 +15,10 @@ use Rattle.jl_model.proofs.FormLemmas.{vars-any, vars-union, vars-tuple, vars-no
 use Rattle.jl_model.proofs.PutLemmas.{and_l, and_r, put-closed}
 use Rattle.jl_types.specs.Ground.{IsGround}
 use Rattle.jl_types.proofs.GroundLemmas.{Tells}
-use Rattle.jl_match.specs.KeptRow.{lacks, Within, ServesAt, IsPlain, IsKeptRow}
+use Rattle.jl_match.specs.KeptRow.{Within, ServesAt, IsPlain, IsKeptRow}
+use Rattle.jl_search.specs.Absent.{lacks}
 use Rattle.jl_match.proofs.ListLemmas.{In, in_of, of_in, in_left, in_right, in_either, in_map, map_in}
-use Rattle.jl_match.proofs.OccurLemmas.{lack-any, lack-union, lack-tuple, lack-nominal, lack-var}
+use Rattle.jl_search.proofs.OccurLemmas.{lack-any, lack-union, lack-tuple, lack-nominal, lack-var}
 use Rattle.jl_match.proofs.RowLemmas.{low_of}
 use Rattle.jl_match.proofs.TestLemmas.{get-same}
 

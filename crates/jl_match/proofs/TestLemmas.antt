@@ -24,10 +24,11 @@ use Rattle.jl_model.proofs.DeclaredLemmas.{declared_lawful}
 use Rattle.jl_types.specs.Ground.{IsGround}
 use Rattle.jl_types.proofs.GroundLemmas.{Tells, normal-at, all-at}
 use Rattle.jl_model.specs.Found.{outer}
-use Rattle.jl_match.specs.KeptRow.{IsArgument, AreArguments, closed, variable, applied, arguments_end, arguments_more, IsPart, AreParts, any as part_any, variable as part_variable, tuple as part_tuple, nominal as part_nominal, parts_end, parts_more, EachVar, IsPlace, IsKeptPart, AreKeptParts, AreGround}
-use Rattle.jl_match.proofs.ListLemmas.{split}
-use Rattle.jl_match.proofs.FindLemmas as L
-use Rattle.jl_match.proofs.MeetLemmas.{parts_in, arguments_in}
+use Rattle.jl_match.specs.KeptRow.{IsArgument, AreArguments, closed, variable, applied, arguments_end, arguments_more, IsPart, AreParts, any as part_any, variable as part_variable, tuple as part_tuple, nominal as part_nominal, parts_end, parts_more, IsPlace, IsKeptPart, AreKeptParts, AreGround}
+use Rattle.jl_search.specs.Open.{EachVar}
+use Rattle.jl_search.proofs.GoodLemmas.{split}
+use Rattle.jl_search.proofs.FindLemmas as L
+use Rattle.jl_match.proofs.PartLemmas.{parts_in, arguments_in}
 use Rattle.jl_match.proofs.RowLemmas.{lifted_normal}
 use Rattle.jl_match.proofs.KnownLemmas.{known_parts}
 

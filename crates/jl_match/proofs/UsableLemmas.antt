@@ -16,7 +16,7 @@ use Rattle.jl_model.proofs.TypeInduction.{Each, by_cases}
 use Rattle.jl_model.proofs.PutLemmas.{and_l, and_r}
 use Rattle.jl_sig.proofs.UsableLemmas.{stands-union, outside-union, outside-tuple}
 use Rattle.jl_match.proofs.ListLemmas.{In, in_left, in_right, any_in, in_any}
-use Rattle.jl_match.proofs.FindLemmas as L
+use Rattle.jl_search.proofs.FindLemmas as L
 use Rattle.jl_match.proofs.KindLemmas.{places-tuple, places-nominal, places-var, lacking, lack_all, each_lacking}
 
 -- a number is in a list, or not

@@ -9,7 +9,7 @@ use Rattle.jl_model.specs.Signature.{Row, top, is_diagonal}
 use Rattle.jl_model.proofs.AncestorLemmas.{get_before, long-snoc}
 use Rattle.jl_types.proofs.TableLemmas.{get-past}
 use Rattle.jl_model.specs.Found.{find_inner, find_outer, first, or_type, found}
-use Rattle.jl_match.proofs.AbstractLemmas.{get_end}
+use Rattle.jl_search.proofs.AbstractLemmas.{get_end}
 use Rattle.jl_match.proofs.RowLemmas.{below_or}
 
 -- the values so far are those of F

@@ -2,11 +2,10 @@
 use Rattle.std.proofs.Common.{◌≡◌, ◌∙◌, sym, ap, subst, refl, ℕ, ◌<◌, cond, nat_eq, List, [], ◌∷◌, map, None, Some, inl, true, length}
 use Rattle.std.specs.List.{flat_map}
 use Rattle.jl_model.specs.declared.ty.Ty.{Ty}
-use Rattle.jl_model.specs.declared.ty.Ty.TheOpen.{Any, Union, Tuple, Nominal, Var}
-use Rattle.jl_model.specs.declared.ty.Ty.TheViews.{out-Ty, outs-Nominal, rolls-Union}
+use Rattle.jl_model.specs.declared.ty.Ty.TheOpen.{Any, Tuple, Nominal, Var}
+use Rattle.jl_model.specs.declared.ty.Ty.TheViews.{out-Ty, outs-Nominal}
 use Rattle.jl_model.specs.declared.ty.Ty.TheViews as V
 use Rattle.jl_model.specs.declared.ty.Ty.TheVariants as W
-use Rattle.jl_model.specs.declared.ty.Ty.TheFolds.{fold-roll-Ty, para-roll-Ty}
 use Rattle.jl_model.specs.declared.ty.Decl.{Decl}
 use Rattle.jl_model.specs.declared.ty.Written.{Written}
 use Rattle.jl_model.specs.Ancestors.{table_of}
@@ -14,7 +13,7 @@ use Rattle.jl_model.specs.Kinds.{diagonal, once}
 use Rattle.jl_model.specs.Rows.{alts, choices, forms, width, high, kind, root, place_of, vars_in}
 use Rattle.jl_model.specs.Subtype.{Table, opaque, put, lifted, Below, Covered, Found, Part, Equals, Equal, below, none as nothing, more, here, there}
 use Rattle.jl_model.specs.Signature.{Both, both_end, both_more}
-use Rattle.jl_model.specs.Found.{first, raised, parts_of, or_none, ancestor, find_arg, find_inner, find_outer, outer, outer_step, inner, inner_step}
+use Rattle.jl_model.specs.Found.{first, raised, parts_of, or_none, ancestor, find_arg, find_inner, find_outer, outer, inner}
 use Rattle.jl_model.specs.Refusals.{Declared}
 use Rattle.jl_model.proofs.TypeInduction.{Each}
 use Rattle.jl_model.proofs.FormLemmas.{is_any, is_union, is_tuple, is_nominal, is_var, alts-nominal, put-tuple, put-nominal, put-var, vars-tuple, vars-var}
@@ -28,10 +27,11 @@ use Rattle.jl_model.proofs.TransLemmas.{below_trans}
 use Rattle.jl_model.proofs.NormalLemmas.{In as Among, first as among_first, later as among_later}
 use Rattle.jl_types.proofs.KeptLemmas.{alts_pass}
 use Rattle.jl_types.proofs.PartsLemmas.{closed_parts}
-use Rattle.jl_match.specs.KeptRow.{AreOpen}
-use Rattle.jl_match.proofs.ListLemmas.{In, Good, good_both, good_same, bare_good, at_var, in_left, in_right}
-use Rattle.jl_match.proofs.FindLemmas as L
-use Rattle.jl_match.proofs.OpenFound.{args_good}
+use Rattle.jl_search.specs.Open.{AreOpen}
+use Rattle.jl_match.proofs.ListLemmas.{In, in_left, in_right}
+use Rattle.jl_search.proofs.GoodLemmas.{Good, good_map, good_both, good_same, bare_good, at_var}
+use Rattle.jl_search.proofs.FindLemmas as L
+use Rattle.jl_search.proofs.OpenFound.{args_good}
 use Rattle.jl_match.proofs.TupleLemmas.{below_tuple, each_in}
 use Rattle.jl_match.proofs.ComponentLemmas.{none_of}
 use Rattle.jl_match.proofs.SubstLemmas.{tuples_in}
@@ -39,13 +39,7 @@ use Rattle.jl_match.proofs.ConcreteLemmas.{Concrete, concrete_lone, concrete_tur
 use Rattle.jl_match.proofs.KindLemmas.{Comp, comp_any, comp_var, comp_union, comp_tuple, comp_nominal, Comps, comps_end, comps_more}
 use Rattle.jl_match.proofs.RowForms.{forms-tuple, forms-nominal, forms-var, choices_by, only}
 use Rattle.jl_match.proofs.FitLemmas.{both_put}
-use Rattle.jl_match.proofs.RowLemmas.{IsLeft, left_forms}
-
-inner-union : (ts : List Ty) → inner (V.Union ts) ≡ []
-inner-union ts = ap inner (sym (rolls-Union ts)) ∙ para-roll-Ty (List ℕ) inner_step (Union ts)
-
-outer-union : (ts : List Ty) → outer (V.Union ts) ≡ []
-outer-union ts = ap outer (sym (rolls-Union ts)) ∙ fold-roll-Ty (List ℕ) outer_step (Union ts)
+use Rattle.jl_match.proofs.RowLemmas.{IsLeft, each_unit, left_forms}
 
 -- an alternative of a type without variables has none
 alternative_closed : (t a : Ty) → vars_in t ≡ [] → Among a (alts t) → vars_in a ≡ []
@@ -95,11 +89,13 @@ module _ (ds : List Decl) (declared : Declared ds) (s : Written) (f : ℕ → Ty
       let lift : lifted n j xs k ≡ Some zs = ap (lifted n j xs) (sym g) ∙ q in
       let left = left_forms ds declared in
       let d = is_nominal u k ts o in
+      let a = left.argument j k xs zs (subst (IsLeft n) (is_nominal x j xs i) h) lift in
       good_same Same v (find_inner n opaque v u x) (first (map (find_arg v) ts) zs) (inner u) (flat_map vars_in ts)
       (ap (λ y. find_inner n opaque v y x) d ∙ L.inner-find-nominal n opaque v x k ts ∙ ap (λ y. first (map (find_arg v) ts) (ancestor n k (raised opaque y))) i
       ∙ ap (λ y. first (map (find_arg v) ts) (or_none y)) lift)
       (ap inner d ∙ L.inner-nominal k ts)
-      (args_good ds declared F v ts p zs (left.argument j k xs zs (subst (IsLeft n) (is_nominal x j xs i) h) lift) (subst (Equals n zs) r (equals_of n zs ws z)))
+      (good_map (λ y. Same y × Unit {0}) Same v (λ y q. q.0) (first (map (find_arg v) ts) zs) (flat_map vars_in ts)
+      (args_good ds declared F v (λ y. Unit {0}) (λ m xs h. each_unit xs) ts p zs a.0 a.1 (subst (Equals n zs) r (equals_of n zs ws z))))
 
   mutual
     inner_good : (u : Ty) → Comp s u → (a : Ty) → Among a (G u) → (x : Ty) → IsLeft n x → B x a → Good Same v (find_inner n opaque v u x) (inner u)
@@ -111,7 +107,7 @@ module _ (ds : List Decl) (declared : Declared ds) (s : Written) (f : ℕ → Ty
         bare_good Same v (find_inner n opaque v u x) (inner u) (ap (λ z. find_inner n opaque v z x) m ∙ L.inner-find-var n opaque v x w) (ap inner m ∙ L.inner-var w)
     inner_good u (comp_union t ts o p) a i x h b =
         let m = is_union u ts o in
-        bare_good Same v (find_inner n opaque v u x) (inner u) (ap (λ z. find_inner n opaque v z x) m ∙ L.inner-find-union n opaque v x ts) (ap inner m ∙ inner-union ts)
+        bare_good Same v (find_inner n opaque v u x) (inner u) (ap (λ z. find_inner n opaque v z x) m ∙ L.inner-find-union n opaque v x ts) (ap inner m ∙ L.inner-union ts)
     inner_good u (comp_tuple t ts o p) a i x h b =
         let m = is_tuple u ts o in
         let r = tuples_in a (choices (map G ts)) (subst (Among a) (ap G m ∙ forms-tuple at ts) i) in
@@ -151,7 +147,7 @@ module _ (ds : List Decl) (declared : Declared ds) (s : Written) (f : ℕ → Ty
           (at_var P v w x (nat_eq v w) refl (λ e. at_place w l e a (subst (Among a) (ap G m ∙ forms-var at w) i) c x h b))
       outer_good u (comp_union t ts o p) a i c x h b =
           let m = is_union u ts o in
-          bare_good P v (find_outer opaque v u x) (outer u) (ap (λ z. find_outer opaque v z x) m ∙ L.outer-find-union opaque v x ts) (ap outer m ∙ outer-union ts)
+          bare_good P v (find_outer opaque v u x) (outer u) (ap (λ z. find_outer opaque v z x) m ∙ L.outer-find-union opaque v x ts) (ap outer m ∙ L.outer-union ts)
       outer_good u (comp_tuple t ts o p) a i c x h b =
           let m = is_tuple u ts o in
           let r = tuples_in a (choices (map G ts)) (subst (Among a) (ap G m ∙ forms-tuple at ts) i) in

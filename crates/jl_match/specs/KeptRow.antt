@@ -1,11 +1,10 @@
 -- What the walk over a row asks of it: the row of a signature that nothing refuses, whose bounds and arguments without
 -- variables stand in normal form.
-use Rattle.std.specs.Prelude.{ℕ, ◌%◌, ◌≡◌, ◌<◌, ◌≤◌, ◌⊎◌, Bool, true, false, not, nat_eq, nat_lt, IsTrue, List, [], ◌∷◌, length, get_or}
+use Rattle.std.specs.Prelude.{ℕ, ◌≡◌, ◌<◌, ◌≤◌, ◌⊎◌, Bool, false, nat_lt, IsTrue, List, [], ◌∷◌, length, get_or}
 use Rattle.std.specs.List.{flat_map, list_all, Contains}
 use Rattle.jl_model.specs.declared.ty.Ty.{Ty}
-use Rattle.jl_model.specs.declared.ty.Ty.TheOpen.{Ty-F, Any, Union, Tuple, Nominal, Var}
+use Rattle.jl_model.specs.declared.ty.Ty.TheOpen.{Any, Union, Tuple, Nominal, Var}
 use Rattle.jl_model.specs.declared.ty.Ty.TheViews.{out-Ty}
-use Rattle.jl_model.specs.declared.ty.Ty.TheFolds.{fold-Ty}
 use Rattle.jl_model.specs.declared.ty.Decl.{Decl}
 use Rattle.jl_model.specs.declared.ty.Written.{Written}
 use Rattle.jl_model.specs.Ancestors.{table_of}
@@ -18,6 +17,7 @@ use Rattle.jl_model.specs.Normal.{IsNormal, AllNormal, IsNormalForm}
 use Rattle.jl_types.specs.Form.{Settles}
 use Rattle.jl_model.specs.Valid.{is_known}
 use Rattle.jl_model.specs.Found.{inner, outer}
+use Rattle.jl_search.specs.Open.{EachVar, AreOpen}
 
 module _ (n : Table) where
   mutual
@@ -68,10 +68,6 @@ pub record AreDiagonals (s : Written) (bs : List Bool) : Type 0 where
   pub long : length bs ≡ width s
   pub kinds : (v : ℕ) → v < width s → get_or bs v false ≡ is_diagonal (kind s v)
 
-abbrev pub EachVar : (ℕ → Type 0) → List ℕ → Type 0
-EachVar P [] = Unit {0}
-EachVar P (n ∷ ns) = P n × EachVar P ns
-
 -- what may stand at a covariant place: a diagonal variable, or an atom of a bound one
 abbrev pub IsPlace : Written → ℕ → Type 0
 IsPlace s w = (root s w < width s) × (((kind s w ≡ diagonal) × (root s w ≡ w)) ⊎ ((kind s (root s w) ≡ bound) × (kind s w ≡ diagonal → ⊥)))
@@ -88,17 +84,6 @@ pub record AreKeptParts (ds : List Decl) (s : Written) (us : List Ty) : Type 0 w
 pub record AreGround (ds : List Decl) (ts : List Ty) : Type 0 where
   pub normal : AllNormal (table_of ds) ts
   pub known : IsTrue (list_all (is_known (length ds)) ts)
-
-abbrev pub lacks_step : ℕ → ℕ → Ty-F Bool → Bool
-lacks_step m v Any = true
-lacks_step m v (Union bs) = list_all (λ b. b) bs
-lacks_step m v (Tuple bs) = list_all (λ b. b) bs
-lacks_step m v (Nominal _ bs) = list_all (λ b. b) bs
-lacks_step m v (Var w) = not (nat_eq (w % m) v)
-
--- of m variables, neither v nor an atom of it stands in a type
-abbrev pub lacks : ℕ → ℕ → Ty → Bool
-lacks m v = fold-Ty Bool (lacks_step m v)
 
 -- what is asked of the type put for a variable of a row
 abbrev pub Within : Table → Ty → Ty → Bool → Ty → Type 0
@@ -130,17 +115,6 @@ pub record StandsFor (n : Table) (s t : Written) (r k : Row) : Type 0 where
   pub top : (v : ℕ) → Occurs s v r.parts → Equal n (top s r v) (top t k v)
   pub stays : (v : ℕ) → Occurs s v r.parts → Occurs t v k.parts
   pub comes : (v : ℕ) → Occurs t v k.parts → Occurs s v r.parts
-
-mutual
-  -- an argument of a nominal type: no variable stands in a union or tuple of it
-  pub data IsOpen : Ty → Type 0 where
-    closed : (t : Ty) → vars_in t ≡ [] → IsOpen t
-    variable : (t : Ty) (v : ℕ) → out-Ty t ≡ Var v → IsOpen t
-    applied : (t : Ty) (k : ℕ) (ts : List Ty) → out-Ty t ≡ Nominal k ts → AreOpen ts → IsOpen t
-
-  pub data AreOpen : List Ty → Type 0 where
-    open_end : AreOpen []
-    open_more : (t : Ty) (ts : List Ty) → IsOpen t → AreOpen ts → AreOpen (t ∷ ts)
 
 mutual
   -- a component of a signature: no variable stands in a union or tuple below a nominal type

@@ -8,9 +8,9 @@ ghost use Rattle.jl_match.specs.KeptRow.{AreConcrete};
 ghost use Rattle.jl_sig.specs.Prepared.{IsSigOf};
 
 use crate::concrete::is_concrete;
-use crate::names::is_known;
 use crate::{Bindings, Sig, SigFault, applies, is_well_named, make_sig};
 use jl_model::ty::{Bound, Bounds, Bytes, Decl, DeclKind, Fields, Ty, Tys, Written};
+use jl_norm::known::is_known;
 use jl_norm::{DeclareFault, declare, has_own_variables};
 use jl_types::closed::is_closed;
 use jl_types::{Table, normal};

@@ -9,7 +9,6 @@ pub mod laws;
 mod make;
 mod meet;
 pub mod names;
-mod occurs;
 pub mod places;
 mod row;
 mod serve;

@@ -8,8 +8,8 @@ ghost use Rattle.jl_model.specs.Signature.{Both, Meets};
 ghost use Rattle.jl_types.specs.Ground.{IsGround};
 ghost use Rattle.jl_match.specs.KeptRow.{AreDiagonals, IsKeptPart, AreKeptParts, AreGround};
 
-use crate::find::lifted;
 use jl_model::ty::{Ty, Written};
+use jl_search::find::lifted;
 use jl_types::same::{same, same_all_put};
 use jl_types::{Table, ground_sub};
 use std::alloc::{AllocError, Global};

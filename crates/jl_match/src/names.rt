@@ -4,12 +4,12 @@
 ghost use Rattle.std.specs.Prelude.{◌≡◌, IsTrue, length, nat_lt, slice_get};
 ghost use Rattle.std.specs.List.{flat_map, list_all};
 ghost use Rattle.jl_model.specs.Rows.{vars_in};
-ghost use Rattle.jl_model.specs.Refusals.{bound_types};
 ghost use Rattle.jl_model.specs.SigRefusals.{types_in};
 ghost use Rattle.jl_sig.specs.Prepared.{HasOwnVariables};
 ghost use Rattle.jl_model.specs.Valid.{is_counted, is_known, params_of};
 
-use jl_model::ty::{Bound, Ty, Written};
+use jl_model::ty::{Ty, Written};
+use jl_norm::known::{are_bounds_known, are_known};
 use jl_types::Table;
 
 /// How many parameters a type has.
@@ -25,7 +25,7 @@ fn param_count(table: &Table, name: u32) -> usize
 
 /// Whether each nominal type in these has its declared number of arguments.
 #[cycle(counted)]
-#[tactic(auto, using(crate::proofs::PlaceLemmas::counting))]
+#[tactic(auto, using(jl_norm::proofs::ListLemmas::counts))]
 pub fn are_counted(table: &Table, types: &[Ty]) -> bool
     ensures { result ≡ list_all (is_counted table.now) types.now }
 {
@@ -39,7 +39,7 @@ pub fn are_counted(table: &Table, types: &[Ty]) -> bool
 
 /// Whether each nominal type in a type has its declared number of arguments.
 #[cycle(counted)]
-#[tactic(auto, using(crate::proofs::PlaceLemmas::counting))]
+#[tactic(auto, using(jl_norm::proofs::ListLemmas::counts))]
 fn is_counted(table: &Table, ty: &Ty) -> bool
     ensures { result ≡ is_counted table.now ty.now }
 {
@@ -80,47 +80,6 @@ fn is_own(ty: &Ty, count: u64) -> bool
         Ty::Nominal(_, arguments) => are_own(arguments.as_slice(), count),
         Ty::Var(variable) => u64::from(*variable) < count,
     }
-}
-
-/// Whether each nominal type in these has a number below `count`.
-#[cycle(known)]
-#[tactic(auto, using(crate::proofs::NameLemmas::knowing))]
-pub fn are_known(types: &[Ty], count: u64) -> bool
-    ensures { result ≡ list_all (is_known count) types.now }
-{
-    for ty in types {
-        if !is_known(ty, count) {
-            return false;
-        }
-    }
-    true
-}
-
-/// Whether each nominal type in a type has a number below `count`.
-#[cycle(known)]
-#[tactic(auto, using(crate::proofs::NameLemmas::knowing))]
-pub fn is_known(ty: &Ty, count: u64) -> bool
-    ensures { result ≡ is_known count ty.now }
-{
-    match ty {
-        Ty::Any => true,
-        Ty::Union(parts) | Ty::Tuple(parts) => are_known(parts.as_slice(), count),
-        Ty::Nominal(name, parts) => u64::from(*name) < count && are_known(parts.as_slice(), count),
-        Ty::Var(_) => true,
-    }
-}
-
-/// Whether each nominal type in bounds has a number below `count`.
-#[tactic(auto, using(crate::proofs::PlaceLemmas::along))]
-fn are_bounds_known(bounds: &[Bound], count: u64) -> bool
-    ensures { result ≡ list_all (is_known count) (bound_types bounds.now) }
-{
-    for bound in bounds {
-        if !is_known(&bound.low, count) || !is_known(&bound.high, count) {
-            return false;
-        }
-    }
-    true
 }
 
 /// Whether a signature names only types of the table and its own variables.

@@ -2,13 +2,12 @@
 
 ghost use Rattle.std.specs.Prelude.{◌≡◌, ◌<◌, ◌↔◌, IsTrue};
 ghost use Rattle.std.specs.List.{list_all};
-ghost use Rattle.jl_model.specs.Valid.{is_closed};
-ghost use Rattle.jl_model.specs.Refusals.{bound_types};
 ghost use Rattle.jl_model.specs.SigRefusals.{are_placed, is_argument, is_component, UnusedVariable};
 
-use jl_model::ty::{Bound, Ty, Written};
+use jl_model::ty::{Ty, Written};
+use jl_norm::places::are_bounds_closed;
 use jl_sig::{Kind, kind_of};
-use jl_types::closed::{are_closed, is_closed};
+use jl_types::closed::are_closed;
 
 /// Whether no variable stands in a union or a tuple in these.
 #[cycle(arguments)]
@@ -64,19 +63,6 @@ fn is_component(ty: &Ty) -> bool
         Ty::Nominal(_, parts) => are_arguments(parts.as_slice()),
         Ty::Var(_) => true,
     }
-}
-
-/// Whether no variable stands in a bound.
-#[tactic(auto, using(crate::proofs::PlaceLemmas::along))]
-fn are_bounds_closed(bounds: &[Bound]) -> bool
-    ensures { result ≡ list_all is_closed (bound_types bounds.now) }
-{
-    for bound in bounds {
-        if !is_closed(&bound.low) || !is_closed(&bound.high) {
-            return false;
-        }
-    }
-    true
 }
 
 /// Whether no variable stands in a bound, or in a union or a tuple below a nominal type.

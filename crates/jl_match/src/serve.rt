@@ -9,9 +9,9 @@ ghost use Rattle.jl_types.specs.Ground.{IsGround};
 ghost use Rattle.jl_match.specs.KeptRow.{row_of, AreDiagonals, AreGround, IsKeptRow, Within, ServesAt};
 
 use crate::concrete::is_concrete;
-use crate::occurs::all_lack;
 use crate::values::top;
 use jl_model::ty::{Ty, Written};
+use jl_search::occurs::all_lack;
 use jl_types::{Table, ground_sub};
 use std::alloc::AllocError;
 

@@ -18,7 +18,7 @@ use Rattle.jl_model.proofs.HeightLemmas.{Ways}
 use Rattle.jl_model.proofs.KnownLemmas.{Known, nominal_known, agree_back, below_move}
 use Rattle.jl_model.proofs.FillLemmas.{declared_agree}
 use Rattle.jl_norm.proofs.InheritLemmas.{Has, AllHave, has_union, has_tuple, has_nominal, have_none, have_more, union_has, tuple_has, nominal_has, inherits}
-use Rattle.jl_norm.proofs.PlaceLemmas.{closed-nominal}
+use Rattle.jl_types.proofs.PartsLemmas.{closed-nominal}
 use Rattle.jl_norm.proofs.KeepLemmas.{nominal_below, argument_nominal}
 use Rattle.jl_norm.proofs.OrderLemmas.{below_near, normal_like}
 use Rattle.jl_norm.proofs.NextLemmas.{Alike, neither, parents, nears_next, arguments_ways, form_closed}

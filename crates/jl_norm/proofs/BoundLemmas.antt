@@ -23,7 +23,8 @@ use Rattle.jl_model.proofs.TransLemmas.{below_trans, equal_trans}
 use Rattle.jl_model.proofs.KnownLemmas.{Known, union_known, tuple_known, nominal_known}
 use Rattle.jl_norm.specs.Refused.{IsWellWritten}
 use Rattle.jl_norm.proofs.InheritLemmas.{Has, AllHave, has_any, has_var, has_union, has_tuple, has_nominal, have_none, have_more, inherits}
-use Rattle.jl_norm.proofs.PlaceLemmas.{closed-union, closed-tuple, closed-nominal, free-union, free-tuple, placed-union, placed-tuple, placed-nominal, field-union, field-tuple, field-nominal}
+use Rattle.jl_norm.proofs.PlaceLemmas.{free-union, free-tuple, placed-union, placed-tuple, placed-nominal, field-union, field-tuple, field-nominal}
+use Rattle.jl_types.proofs.PartsLemmas.{closed-union, closed-tuple, closed-nominal}
 use Rattle.jl_norm.proofs.PartLemmas.{AnyVar, AnyName, NoVar, free_known}
 use Rattle.jl_norm.proofs.GivenLemmas.{AllGiven, given-any, given-var, given-union, given-tuple, given-nominal, given_left, given_right, given_both, given_none, given_each, each_given, given_at, at_given}
 use Rattle.jl_norm.proofs.KeepLemmas.{with_lawful, bounds_are_closed, parent_is_known, fields_are_placed}

@@ -21,7 +21,7 @@ use Rattle.jl_model.proofs.BelowLemmas.{part_below}
 use Rattle.jl_model.proofs.DeclaredLemmas.{not_false, next_lawful}
 use Rattle.jl_norm.specs.Refused.{IsWellWritten}
 use Rattle.jl_norm.proofs.ListLemmas.{all-types}
-use Rattle.jl_norm.proofs.PlaceLemmas.{closed-var}
+use Rattle.jl_types.proofs.PartsLemmas.{closed-var}
 
 -- what a well written declaration has
 module _ (ds : List Decl) (d : Decl) (w : IsWellWritten ds d) where

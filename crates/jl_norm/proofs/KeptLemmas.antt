@@ -26,13 +26,13 @@ use Rattle.jl_model.proofs.NormalLemmas.{normal_same}
 use Rattle.jl_model.proofs.KnownLemmas.{Known, union_known, tuple_known, nominal_known}
 use Rattle.jl_model.proofs.DeclaredLemmas.{not_false}
 use Rattle.jl_types.specs.Form.{IsTooLarge, IsKeptTooLarge}
-use Rattle.jl_types.proofs.PartsLemmas.{known_parts, closed_parts}
+use Rattle.jl_types.proofs.PartsLemmas.{known_parts, closed_parts, closed-nominal, closed-var, closed-union, closed-tuple}
 use Rattle.jl_types.proofs.ExistLemmas.{exists}
 use Rattle.jl_types.proofs.KeptOnceLemmas.{settled_same, all_settled_same}
 use Rattle.jl_types.proofs.PlaceLemmas.{known_up, free_is_placed}
 use Rattle.jl_norm.specs.Refused.{IsWellWritten}
 use Rattle.jl_norm.specs.Large.{SomeTooLarge, SomeKeptTooLarge, IsKeptLimit}
-use Rattle.jl_norm.proofs.PlaceLemmas.{free-any, free-union, free-tuple, placed-union, placed-tuple, placed-nominal, placed-var, field-any, field-var, field-union, field-tuple, field-nominal, closed-nominal, closed-var, closed-union, closed-tuple, free-nominal}
+use Rattle.jl_norm.proofs.PlaceLemmas.{free-any, free-union, free-tuple, placed-union, placed-tuple, placed-nominal, placed-var, field-any, field-var, field-union, field-tuple, field-nominal, free-nominal}
 use Rattle.jl_norm.proofs.PartLemmas.{free_known, form_up, form_down}
 use Rattle.jl_norm.proofs.SizeLemmas.{within_front, bounds_within, parent_within}
 use Rattle.jl_norm.proofs.KeepLemmas.{with_lawful, argument_nominal, argument_var, parent_is_known, parent_is_placed, bounds_are_known, fields_are_known, fields_are_placed}

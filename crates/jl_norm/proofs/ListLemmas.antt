@@ -16,7 +16,6 @@ use Rattle.jl_model.specs.Refusals.{bound_types, types_of}
 use Rattle.jl_model.specs.Valid.{is_counted, counted_step, params_of}
 use Rattle.jl_model.proofs.FormLemmas.{all_of}
 use Rattle.jl_model.proofs.AncestorLemmas.{slice_before, slice_last, slice_past}
-use Rattle.jl_model.proofs.KnownLemmas.{known-any, known-var, known-union, known-tuple, known-nominal}
 
 pub all-suc : (p : Ty → Bool) (ts : List Ty) (i : ℕ) (t : Ty) → i < length ts → t ≡ get_or ts i t → list_all p (drop i ts) ≡ (p t && list_all p (drop (i + 1) ts))
 all-suc p [] i t h e = absurd (omega arith)
@@ -47,8 +46,6 @@ pub all-types : (p : Ty → Bool) (d : Decl) → list_all p (types_of d) ≡ (li
 all-types p d = all-append p (bound_types d.params) (d.parent ∷ field_types d.fields)
 
 pub ruleset along = (bounds-suc, fields-suc, all-types)
-
-pub ruleset knowns = (all-suc, known-any, known-var, known-union, known-tuple, known-nominal)
 
 pub ruleset places = (slice_before, slice_last, slice_past)
 

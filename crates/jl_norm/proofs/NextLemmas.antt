@@ -26,7 +26,7 @@ use Rattle.jl_model.proofs.TransLemmas.{put_equal}
 use Rattle.jl_model.proofs.KnownLemmas.{Known, nominal_known}
 use Rattle.jl_model.proofs.DeclaredLemmas.{declared_lawful}
 use Rattle.jl_norm.proofs.InheritLemmas.{Has, AllHave, has_any, has_var, has_union, has_tuple, has_nominal, have_none, have_more, have_each, union_has, tuple_has, nominal_has, inherits}
-use Rattle.jl_norm.proofs.PlaceLemmas.{closed-any, closed-var, closed-union, closed-tuple, closed-nominal}
+use Rattle.jl_types.proofs.PartsLemmas.{closed-any, closed-var, closed-union, closed-tuple, closed-nominal}
 use Rattle.jl_norm.proofs.PartLemmas.{NoVar, AnyName, form_known}
 use Rattle.jl_norm.proofs.KeepLemmas.{nominal_below}
 use Rattle.jl_norm.proofs.OrderLemmas.{Nears}

@@ -24,7 +24,7 @@ use Rattle.jl_types.proofs.KeptOnceLemmas.{settled_same, settled_nominal}
 use Rattle.jl_types.proofs.PlaceLemmas.{free_is_known}
 use Rattle.jl_norm.specs.Refused.{IsWellWritten}
 use Rattle.jl_norm.specs.Judged.{IsArgument, IsJudged, IsGroundBound, bound_at}
-use Rattle.jl_norm.proofs.PlaceLemmas.{closed-nominal}
+use Rattle.jl_types.proofs.PartsLemmas.{closed-nominal}
 use Rattle.jl_norm.proofs.KeepLemmas.{with_lawful, arguments_form, nominal_form}
 use Rattle.jl_norm.proofs.KeptLemmas.{closed_free}
 use Rattle.jl_norm.proofs.PartLemmas.{form_known, form_up, form_down}

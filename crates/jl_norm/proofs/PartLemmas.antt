@@ -16,7 +16,8 @@ use Rattle.jl_model.proofs.PutLemmas.{and_l, and_r}
 use Rattle.jl_model.proofs.AncestorLemmas.{Lawful, true_each, each_true}
 use Rattle.jl_model.proofs.KnownLemmas.{Known, known-any, known-var, union_known, tuple_known, nominal_known, known_union, known_tuple, known_nominal, agree_back, below_move, normal_move}
 use Rattle.jl_model.proofs.FillLemmas.{declared_agree}
-use Rattle.jl_norm.proofs.PlaceLemmas.{closed-any, closed-union, closed-tuple, closed-nominal, free-var, free-union, free-tuple, free-nominal}
+use Rattle.jl_norm.proofs.PlaceLemmas.{free-var, free-union, free-tuple, free-nominal}
+use Rattle.jl_types.proofs.PartsLemmas.{closed-any, closed-union, closed-tuple, closed-nominal}
 use Rattle.jl_norm.proofs.InheritLemmas.{Has, AllHave, has_any, has_var, has_union, has_tuple, has_nominal, have_none, have_more, have_each, union_has, tuple_has, nominal_has, inherits}
 
 -- each nominal type is below m

@@ -1,49 +1,15 @@
 -- The equations of the tests on places, one for each form.
-use Rattle.std.proofs.Common.{◌≡◌, ◌∙◌, sym, ap, refl, ℕ, suc, arith, Bool, true, false, ◌&&◌, not, nat_eq, List, [], ◌∷◌, ◌++◌, length}
-use Rattle.std.specs.List.{flat_map, list_all}
+use Rattle.std.proofs.Common.{◌≡◌, ◌∙◌, sym, ap, ℕ, Bool, true, false, ◌&&◌, not, nat_eq, List}
+use Rattle.std.specs.List.{list_all}
 use Rattle.jl_model.specs.declared.ty.Ty.{Ty}
 use Rattle.jl_model.specs.declared.ty.Ty.TheOpen.{Any, Union, Tuple, Nominal, Var}
 use Rattle.jl_model.specs.declared.ty.Ty.TheViews.{rolls-Any, rolls-Union, rolls-Tuple, rolls-Nominal, rolls-Var}
 use Rattle.jl_model.specs.declared.ty.Ty.TheViews as V
 use Rattle.jl_model.specs.declared.ty.Ty.TheVariants as W
 use Rattle.jl_model.specs.declared.ty.Ty.TheFolds.{fold-roll-Ty, para-roll-Ty}
-use Rattle.jl_model.specs.Rows.{vars_in}
-use Rattle.jl_model.specs.Valid.{is_closed}
 use Rattle.jl_model.specs.Refusals.{is_free_of, free_step, is_placed, placed_step, is_placed_field, arguments_step}
-use Rattle.jl_model.proofs.FormLemmas.{all_of, all_firsts, all_seconds, vars-any, vars-var, vars-union, vars-tuple, vars-nominal}
+use Rattle.jl_model.proofs.FormLemmas.{all_of, all_firsts, all_seconds}
 use Rattle.jl_norm.proofs.ListLemmas.{all-suc}
-
--- without variables
-abbrev none : List ℕ → Bool
-none ns = nat_eq (length ns) 0
-
-none-append : (ns ms : List ℕ) → none (ns ++ ms) ≡ (none ns && none ms)
-none-append [] ms = refl
-none-append (n ∷ ns) ms = positive (length (ns ++ ms)) ∙ sym (ap (λ b. b && none ms) (positive (length ns)))
-  where
-    positive : (i : ℕ) → nat_eq (suc i) 0 ≡ false
-    positive i = grind arith
-
-closed-all : (ts : List Ty) → none (flat_map vars_in ts) ≡ list_all is_closed ts
-closed-all [] = refl
-closed-all (t ∷ ts) = none-append (vars_in t) (flat_map vars_in ts) ∙ ap (λ b. is_closed t && b) (closed-all ts)
-
-pub closed-any : is_closed W.Any ≡ true
-closed-any = ap none vars-any
-
-pub closed-var : (v : ℕ) → is_closed (W.Var v) ≡ false
-closed-var v = ap none (vars-var v)
-
-pub closed-union : (ts : List Ty) → is_closed (V.Union ts) ≡ list_all is_closed ts
-closed-union ts = ap none (vars-union ts) ∙ closed-all ts
-
-pub closed-tuple : (ts : List Ty) → is_closed (V.Tuple ts) ≡ list_all is_closed ts
-closed-tuple ts = ap none (vars-tuple ts) ∙ closed-all ts
-
-pub closed-nominal : (k : ℕ) (ts : List Ty) → is_closed (V.Nominal k ts) ≡ list_all is_closed ts
-closed-nominal k ts = ap none (vars-nominal k ts) ∙ closed-all ts
-
-pub ruleset closings = (all-suc, closed-any, closed-var, closed-union, closed-tuple, closed-nominal)
 
 module _ (m : ℕ) where
   -- without variables and the type m

@@ -1,4 +1,4 @@
-//! Whether a declaration names only types that are declared.
+//! Whether types, bounds and a declaration name only types that are declared.
 
 ghost use Rattle.std.specs.Prelude.{◌≡◌, IsTrue, ◌↔◌, length, true};
 ghost use Rattle.std.specs.List.{list_all};
@@ -11,8 +11,8 @@ use jl_types::Table;
 
 /// Whether each nominal type in these has a number below `count`.
 #[cycle(known)]
-#[tactic(auto, using(crate::proofs::ListLemmas::knowns))]
-fn are_known(types: &[Ty], count: u64) -> bool
+#[tactic(auto, using(jl_types::proofs::PartsLemmas::knowing))]
+pub fn are_known(types: &[Ty], count: u64) -> bool
     ensures { result ≡ list_all (is_known count) types.now }
 {
     for ty in types {
@@ -25,7 +25,7 @@ fn are_known(types: &[Ty], count: u64) -> bool
 
 /// Whether each nominal type in a type has a number below `count`.
 #[cycle(known)]
-#[tactic(auto, using(crate::proofs::ListLemmas::knowns))]
+#[tactic(auto, using(jl_types::proofs::PartsLemmas::knowing))]
 pub fn is_known(ty: &Ty, count: u64) -> bool
     ensures { result ≡ is_known count ty.now }
 {
@@ -37,9 +37,9 @@ pub fn is_known(ty: &Ty, count: u64) -> bool
     }
 }
 
-/// Whether the bounds are known.
+/// Whether each nominal type in bounds has a number below `count`.
 #[tactic(auto, using(crate::proofs::ListLemmas::along))]
-fn are_bounds_known(bounds: &[Bound], count: u64) -> bool
+pub fn are_bounds_known(bounds: &[Bound], count: u64) -> bool
     ensures { result ≡ list_all (is_known count) (bound_types bounds.now) }
 {
     for bound in bounds {
@@ -64,7 +64,7 @@ fn are_fields_known(fields: &[Field], count: u64) -> bool
 }
 
 /// Whether each type in a declaration is declared before it, or is the new struct itself in a field.
-pub fn is_known_decl(table: &Table, decl: &Decl) -> bool
+pub(crate) fn is_known_decl(table: &Table, decl: &Decl) -> bool
     ensures { result ≡ is_known_decl table.now decl.now }
 {
     let count = u64::from(table.count());

@@ -17,8 +17,9 @@ ghost use Rattle.jl_norm.specs.Judged.{IsArgument, IsJudged, IsGroundBound, Judg
 ghost use Rattle.jl_norm.specs.Refused.{IsWellWritten};
 
 use crate::counted::bounds_of;
-use crate::places::{is_closed, is_free};
+use crate::places::is_free;
 use jl_model::ty::{Bound, Decl, Ty, Tys};
+use jl_types::closed::is_closed;
 use jl_types::put::put_all;
 use jl_types::same::{same_all, same_all_put};
 use jl_types::{NormFault, Table, ground_sub, normal, settled};

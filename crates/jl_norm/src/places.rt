@@ -1,6 +1,6 @@
 //! Where variables and the new type itself may stand in a declaration.
 
-ghost use Rattle.std.specs.Prelude.{◌≡◌, length};
+ghost use Rattle.std.specs.Prelude.{◌≡◌};
 ghost use Rattle.std.specs.List.{list_all};
 ghost use Rattle.jl_model.specs.Kept.{field_types};
 ghost use Rattle.jl_model.specs.Valid.{is_closed};
@@ -8,35 +8,7 @@ ghost use Rattle.jl_model.specs.Refusals.{bound_types, is_free_of, is_placed, is
 
 use jl_model::ty::{Bound, Decl, Field, Ty};
 use jl_types::Table;
-
-/// Whether no variable stands in these.
-#[cycle(closed)]
-#[tactic(auto, using(crate::proofs::PlaceLemmas::closings))]
-fn are_closed(types: &[Ty]) -> bool
-    ensures { result ≡ list_all is_closed types.now }
-{
-    for ty in types {
-        if !is_closed(ty) {
-            return false;
-        }
-    }
-    true
-}
-
-/// Whether no variable stands in a type.
-#[cycle(closed)]
-#[tactic(auto, using(crate::proofs::PlaceLemmas::closings))]
-pub fn is_closed(ty: &Ty) -> bool
-    ensures { result ≡ is_closed ty.now }
-{
-    match ty {
-        Ty::Any => true,
-        Ty::Union(parts) | Ty::Tuple(parts) | Ty::Nominal(_, parts) => {
-            are_closed(parts.as_slice())
-        }
-        Ty::Var(_) => false,
-    }
-}
+use jl_types::closed::is_closed;
 
 /// Whether neither a variable nor this nominal type stands in these.
 #[cycle(free)]
@@ -55,7 +27,7 @@ fn are_free(types: &[Ty], own: u32) -> bool
 /// Whether neither a variable nor this nominal type stands in a type.
 #[cycle(free)]
 #[tactic(auto, using(crate::proofs::PlaceLemmas::frees))]
-pub fn is_free(ty: &Ty, own: u32) -> bool
+pub(crate) fn is_free(ty: &Ty, own: u32) -> bool
     ensures { result ≡ is_free_of own ty.now }
 {
     match ty {
@@ -122,9 +94,9 @@ fn is_placed_field(ty: &Ty, own: u32) -> bool
     }
 }
 
-/// Whether no variable stands in the bounds.
+/// Whether no variable stands in bounds.
 #[tactic(auto, using(crate::proofs::ListLemmas::along))]
-fn are_bounds_closed(bounds: &[Bound]) -> bool
+pub fn are_bounds_closed(bounds: &[Bound]) -> bool
     ensures { result ≡ list_all is_closed (bound_types bounds.now) }
 {
     for bound in bounds {
@@ -150,7 +122,7 @@ fn are_fields_placed(fields: &[Field], own: u32) -> bool
 
 /// Whether no variable stands in a bound or in a union or tuple inside the parent, and neither a variable nor the new type
 /// itself in a union or tuple under an argument in a field.
-pub fn is_placed_decl(table: &Table, decl: &Decl) -> bool
+pub(crate) fn is_placed_decl(table: &Table, decl: &Decl) -> bool
     ensures { result ≡ is_placed_decl table.now decl.now }
 {
     let own = table.count();

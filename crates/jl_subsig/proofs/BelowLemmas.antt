@@ -24,7 +24,7 @@ use Rattle.jl_sig.specs.declared.row.SigRow.{SigRow}
 use Rattle.jl_sig.specs.declared.sig.Sig.{Sig}
 use Rattle.jl_sig.specs.SigParts.{kept_of, bounded_of}
 use Rattle.jl_subsig.specs.Side.{held, tops, IsPlain, IsItem, ArePlain, IsRigid, closed, applied, AreHeld, Every, AnyOf}
-use Rattle.jl_subsig.proofs.HasLemmas.{Has, has_left, has_right, none_has, has_none}
+use Rattle.jl_search.proofs.HasLemmas.{Has, has_left, has_right, none_has, has_none}
 use Rattle.jl_subsig.proofs.LiftLemmas.{lift}
 use Rattle.jl_subsig.proofs.OrderLemmas.{before, after}
 use Rattle.jl_subsig.proofs.HeldLemmas as H

@@ -14,9 +14,9 @@ use Rattle.jl_model.proofs.PutLemmas.{put-closed, put_all-put}
 use Rattle.jl_model.proofs.AncestorLemmas.{Lawful, eq_of}
 use Rattle.jl_model.proofs.TransLemmas.{equal_trans}
 use Rattle.jl_subsig.specs.Scoped.{IsScoped, IsOrdered}
-use Rattle.jl_subsig.proofs.HasLemmas.{Has, has_left, has_right, has_flat, has_map, has_of, of_has, has_none}
-use Rattle.jl_subsig.proofs.FormsLemmas.{has_choices, choices_has}
-use Rattle.jl_subsig.proofs.PartLemmas.{Plain, AllPlain, tuple_parts, nominal_arguments, var_number, head_plain, tail_plain, plain_single}
+use Rattle.jl_search.proofs.HasLemmas.{Has, has_left, has_right, has_flat, has_map, has_of, of_has, has_none}
+use Rattle.jl_search.proofs.PickLemmas.{has_choices, choices_has}
+use Rattle.jl_search.proofs.PartLemmas.{Plain, AllPlain, tuple_parts, nominal_arguments, var_number, head_plain, tail_plain, plain_single}
 use Rattle.jl_subsig.proofs.ScopeLemmas.{IsSlot, Never, Bare, Small, root_own, low_none, top_closed, own_small, row_plain, diagonal_small}
 use Rattle.jl_subsig.proofs.PutBelowLemmas.{put_opaque, equals_put, lifted_put}
 use Rattle.jl_subsig.proofs.SubsumeLemmas.{bare_vars}

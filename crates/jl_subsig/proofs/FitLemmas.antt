@@ -21,9 +21,9 @@ use Rattle.jl_model.proofs.HeightLemmas.{PartBy, by_any, by_tuple, by_nominal, b
 use Rattle.jl_model.proofs.BelowLemmas.{below_any, below_part}
 use Rattle.jl_model.proofs.TransLemmas.{below_trans}
 use Rattle.jl_subsig.specs.Scoped.{IsScoped}
-use Rattle.jl_subsig.proofs.HasLemmas.{Has, Picks, has_left, has_right, has_flat, of_has}
+use Rattle.jl_search.proofs.HasLemmas.{Has, Picks, has_left, has_right, has_flat, of_has}
 use Rattle.jl_subsig.proofs.FormsLemmas.{any_form, union_form, form_union, tuple_form, form_tuple, nominal_form, var_form, form_var}
-use Rattle.jl_subsig.proofs.PartLemmas.{Plain, plain_any, plain_tuple, plain_nominal, plain_var, AllPlain, all_end, all_more, plain_single}
+use Rattle.jl_search.proofs.PartLemmas.{Plain, plain_any, plain_tuple, plain_nominal, plain_var, AllPlain, all_end, all_more, plain_single}
 use Rattle.jl_subsig.proofs.LiftLemmas.{each_has, alt_fine, alt_below}
 use Rattle.jl_subsig.proofs.ScopeLemmas.{root_own, root_atom, at_atoms, an_atom, Never, Bare, alts_closed, high_none, high_at, high_atom, bound_plain, top_closed}
 use Rattle.jl_subsig.proofs.PutBelowLemmas.{alt_some, tuple_below}

@@ -26,12 +26,12 @@ use Rattle.jl_model.proofs.DeclaredLemmas.{declared_lawful}
 use Rattle.jl_sig.specs.declared.row.SigRow.{SigRow}
 use Rattle.jl_sig.specs.declared.sig.Sig.{Sig}
 use Rattle.jl_sig.specs.SigParts.{kept_of}
-use Rattle.jl_subsig.specs.Found.{first, or_none, or_type, raised, parts_of, arguments_of, ancestor, find_inner, find_outer, found, outer}
+use Rattle.jl_model.specs.Found.{first, or_none, or_type, raised, parts_of, arguments_of, ancestor, find_inner, find_outer, found, outer}
 use Rattle.jl_subsig.specs.Side.{row_of, held, sided, IsItem, IsLeftPart, AreLeftParts, AreValues, IsSide}
-use Rattle.jl_subsig.proofs.HasLemmas.{Has, has_left, has_right, has_map, of_has, has_none, none_has}
-use Rattle.jl_subsig.proofs.PartLemmas.{Plain, AllPlain, all_end, all_more, plain_map, tuple_parts, nominal_arguments, var_number}
+use Rattle.jl_search.proofs.HasLemmas.{Has, has_left, has_right, has_map, of_has, has_none, none_has}
+use Rattle.jl_search.proofs.PartLemmas.{Plain, AllPlain, all_end, all_more, plain_map, tuple_parts, nominal_arguments, var_number}
 use Rattle.jl_subsig.proofs.ScopeLemmas.{IsSlot, Small, bare_plain_n, bound_plain_n, root_own, slot_high_by}
-use Rattle.jl_subsig.proofs.EqualLemmas.{IsArgument, AreArguments, closed, variable, applied, arguments_end, arguments_more}
+use Rattle.jl_search.specs.Open.{IsOpen, AreOpen, closed, variable, applied, open_end, open_more}
 use Rattle.jl_subsig.proofs.LeftLemmas.{IsLeft, lifted_at}
 use Rattle.jl_subsig.proofs.LeftPartLemmas.{plain_left, tuple_left, left-at}
 use Rattle.jl_subsig.proofs.BelowLemmas.{plain_item}
@@ -39,31 +39,31 @@ use Rattle.jl_subsig.proofs.HitLemmas.{Hit, inner_hits, outer_hits}
 use Rattle.jl_subsig.proofs.SideLemmas as S
 
 -- arguments put in patterns are arguments
-closed_all : (ts : List Ty) → flat_map vars_in ts ≡ [] → AreArguments ts
-closed_all [] e = arguments_end
+closed_all : (ts : List Ty) → flat_map vars_in ts ≡ [] → AreOpen ts
+closed_all [] e = open_end
 closed_all (t ∷ ts) e =
-    arguments_more t ts (closed t (none_has (vars_in t) (λ v i. has_none (flat_map vars_in (t ∷ ts)) v e (has_left (vars_in t) (flat_map vars_in ts) v i))))
+    open_more t ts (closed t (none_has (vars_in t) (λ v i. has_none (flat_map vars_in (t ∷ ts)) v e (has_left (vars_in t) (flat_map vars_in ts) v i))))
     (closed_all ts (none_has (flat_map vars_in ts) (λ v i. has_none (flat_map vars_in (t ∷ ts)) v e (has_right (vars_in t) (flat_map vars_in ts) v i))))
 
-arguments_in : (t : Ty) (k : ℕ) (xs : List Ty) → out-Ty t ≡ Nominal k xs → IsArgument t → AreArguments xs
+arguments_in : (t : Ty) (k : ℕ) (xs : List Ty) → out-Ty t ≡ Nominal k xs → IsOpen t → AreOpen xs
 arguments_in t k xs o (closed s e) = closed_all xs (sym (vars-nominal k xs) ∙ sym (ap vars_in (is_nominal t k xs o)) ∙ e)
 arguments_in t k xs o (variable s v e) = let c : Nominal k xs ≡ Var v = sym o ∙ e in cc
-arguments_in t k xs o (applied s j ts e h) = let c : Nominal j ts ≡ Nominal k xs = sym e ∙ o in let i : ts ≡ xs = cc in subst AreArguments i h
+arguments_in t k xs o (applied s j ts e h) = let c : Nominal j ts ≡ Nominal k xs = sym e ∙ o in let i : ts ≡ xs = cc in subst AreOpen i h
 
-at_argument : (xs : List Ty) (v : ℕ) → AreArguments xs → IsArgument (at xs v)
-at_argument xs v arguments_end = closed W.Any vars-any
-at_argument xs zero (arguments_more t ts p q) = p
-at_argument xs (suc v) (arguments_more t ts p q) = at_argument ts v q
+at_argument : (xs : List Ty) (v : ℕ) → AreOpen xs → IsOpen (at xs v)
+at_argument xs v open_end = closed W.Any vars-any
+at_argument xs zero (open_more t ts p q) = p
+at_argument xs (suc v) (open_more t ts p q) = at_argument ts v q
 
-module _ (xs : List Ty) (given : AreArguments xs) where
+module _ (xs : List Ty) (given : AreOpen xs) where
   abbrev Filled : Ty → Type 0
-  Filled t = is_pattern t ≡ true → IsArgument (put (at xs) t)
+  Filled t = is_pattern t ≡ true → IsOpen (put (at xs) t)
 
-  filled_all : (ts : List Ty) → Each Filled ts → list_all is_pattern ts ≡ true → AreArguments (map (put (at xs)) ts)
-  filled_all [] e h = arguments_end
-  filled_all (t ∷ ts) e h = arguments_more (put (at xs) t) (map (put (at xs)) ts) (e.0 (and_l (is_pattern t) (list_all is_pattern ts) h)) (filled_all ts e.1 (and_r (is_pattern t) (list_all is_pattern ts) h))
+  filled_all : (ts : List Ty) → Each Filled ts → list_all is_pattern ts ≡ true → AreOpen (map (put (at xs)) ts)
+  filled_all [] e h = open_end
+  filled_all (t ∷ ts) e h = open_more (put (at xs) t) (map (put (at xs)) ts) (e.0 (and_l (is_pattern t) (list_all is_pattern ts) h)) (filled_all ts e.1 (and_r (is_pattern t) (list_all is_pattern ts) h))
 
-  whole_filled : (t : Ty) → vars_in t ≡ [] → IsArgument (put (at xs) t)
+  whole_filled : (t : Ty) → vars_in t ≡ [] → IsOpen (put (at xs) t)
   whole_filled t e = closed (put (at xs) t) (ap vars_in (put-closed (at xs) t e) ∙ e)
 
   filled : (t : Ty) → Filled t
@@ -72,7 +72,7 @@ module _ (xs : List Ty) (given : AreArguments xs) where
     union = λ ts e h. whole_filled (V.Union ts) (vars-union ts ∙ empty_of (flat_map vars_in ts) (sym (pattern-union ts) ∙ h));
     tuple = λ ts e h. whole_filled (V.Tuple ts) (vars-tuple ts ∙ empty_of (flat_map vars_in ts) (sym (pattern-tuple ts) ∙ h));
     nominal = λ k ts e h. applied (put (at xs) (V.Nominal k ts)) k (map (put (at xs)) ts) (ap out-Ty (put-nominal (at xs) k ts) ∙ outs-Nominal k (map (put (at xs)) ts)) (filled_all ts e (sym (pattern-nominal k ts) ∙ h));
-    var = λ v h. subst IsArgument (sym (put-var (at xs) v)) (at_argument xs v given);
+    var = λ v h. subst IsOpen (sym (put-var (at xs) v)) (at_argument xs v given);
   })
     where
       empty_of : (ns : List ℕ) → is_empty ns ≡ true → ns ≡ []
@@ -83,7 +83,7 @@ module _ (xs : List Ty) (given : AreArguments xs) where
   each_filled [] = tt
   each_filled (t ∷ ts) = (filled t, each_filled ts)
 
-  pub fills : (ts : List Ty) → list_all is_pattern ts ≡ true → AreArguments (map (put (at xs)) ts)
+  pub fills : (ts : List Ty) → list_all is_pattern ts ≡ true → AreOpen (map (put (at xs)) ts)
   fills ts h = filled_all ts (each_filled ts) h
 
 module _ (ds : List Decl) (declared : Declared ds) where
@@ -97,9 +97,9 @@ module _ (ds : List Decl) (declared : Declared ds) where
   unfolding table_of
   known_far k m ys u = ancestors_known ds declared k m ys u
 
-  lifted_arguments : (k m : ℕ) (xs zs : List Ty) (b : Bool) → nat_eq k m ≡ b → AreArguments xs → lifted (table_of ds) k xs m ≡ Some zs → AreArguments zs
-  lifted_arguments k m xs zs true e a l = subst AreArguments (near n law k m xs zs e l) a
-  lifted_arguments k m xs zs false e a l = let r = far n law k m xs zs e l in subst AreArguments r.2 (fills xs a r.0 (law.patterns k m r.0 r.1))
+  lifted_arguments : (k m : ℕ) (xs zs : List Ty) (b : Bool) → nat_eq k m ≡ b → AreOpen xs → lifted (table_of ds) k xs m ≡ Some zs → AreOpen zs
+  lifted_arguments k m xs zs true e a l = subst AreOpen (near n law k m xs zs e l) a
+  lifted_arguments k m xs zs false e a l = let r = far n law k m xs zs e l in subst AreOpen r.2 (fills xs a r.0 (law.patterns k m r.0 r.1))
 
   lifted_known : (k m : ℕ) (xs zs : List Ty) (b : Bool) → nat_eq k m ≡ b → Each (Known (length ds)) xs → lifted (table_of ds) k xs m ≡ Some zs → Each (Known (length ds)) zs
   lifted_known k m xs zs true e a l = subst (Each (Known (length ds))) (near n law k m xs zs e l) a
@@ -124,7 +124,7 @@ module _ (ds : List Decl) (declared : Declared ds) where
     -- an argument in one
     pub record Arg (t : Ty) : Type 0 where
       pub item : IsItem ds t
-      pub argument : IsArgument t
+      pub argument : IsOpen t
       pub over : (w : ℕ) → Has (vars_in t) w → Has names w
 
     lefty_each : (xs : List Ty) → AllPlain (IsSlot (kept_of s)) Sh xs → ((k : ℕ) → Has (flat_map vars_in xs) k → Has names (root (kept_of s) k)) → ((i : ℕ) (t : Ty) → Has xs t → IsLeftPart ds (held s r) t) → Each Lefty xs
@@ -183,9 +183,9 @@ module _ (ds : List Decl) (declared : Declared ds) where
     parts : (t : Ty) → Lefty t → Each Lefty (parts_of (raised (held s r) (out-Ty t)))
     parts t h = let k = stood t (out-Ty t) refl h in parts_by k.ty (raised (held s r) (out-Ty t)) k.form k.lefty
 
-    join : (zs : List Ty) → AllNormal (table_of ds) zs → AreArguments zs → Each (Known (length ds)) zs → ((w : ℕ) → Has (flat_map vars_in zs) w → Has names w) → Each Arg zs
-    join zs none arguments_end k o = tt
-    join zs (more t ts p q) (arguments_more a as_ b c) k o = (
+    join : (zs : List Ty) → AllNormal (table_of ds) zs → AreOpen zs → Each (Known (length ds)) zs → ((w : ℕ) → Has (flat_map vars_in zs) w → Has names w) → Each Arg zs
+    join zs none open_end k o = tt
+    join zs (more t ts p q) (open_more a as_ b c) k o = (
       record { item = record { normal = p; known = k.0; whole = S.argument_whole t b }; argument = b; over = λ w i. o w (has_left (vars_in t) (flat_map vars_in ts) w i) },
       join ts q c k.1 (λ w i. o w (has_right (vars_in t) (flat_map vars_in ts) w i)),
     )

@@ -27,7 +27,7 @@ use Rattle.jl_types.proofs.ExistLemmas.{exists}
 use Rattle.jl_types.proofs.DecideLemmas.{Decided, above}
 use Rattle.jl_subsig.specs.Scoped.{IsOrdered}
 use Rattle.jl_subsig.specs.Alike.{IsKeptForm}
-use Rattle.jl_subsig.proofs.HasLemmas.{Has, of_has}
+use Rattle.jl_search.proofs.HasLemmas.{Has, of_has}
 
 module _ (ds : List Decl) (declared : Declared ds) where
   abbrev n : Table

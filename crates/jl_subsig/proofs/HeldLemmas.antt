@@ -18,6 +18,7 @@ use Rattle.jl_model.proofs.SelfLemmas.{equal_self}
 use Rattle.jl_sig.specs.declared.row.SigRow.{SigRow}
 use Rattle.jl_sig.specs.declared.sig.Sig.{Sig}
 use Rattle.jl_sig.specs.SigParts.{kept_of, bounded_of, diagonals_of, alternatives_of}
+use Rattle.jl_search.proofs.KindLemmas.{is_diag, less_or}
 use Rattle.jl_subsig.specs.Side.{held, tops, IsPlain, IsPlainForm, IsTold, AreHeld}
 use Rattle.jl_subsig.proofs.ScopeLemmas.{is_less}
 
@@ -27,22 +28,9 @@ any_plain ds = record { normal = normal_any W.Any outs-Any; known = known-any (l
 pub same_form : (ds : List Decl) (t : Ty) → IsPlain ds t → IsPlainForm ds t t
 same_form ds t h = record { closed = h.closed; plain = h; equal = equal_self (table_of ds) t }
 
-pub less_or : (k m : ℕ) → (k < m) ⊎ (nat_lt k m ≡ false)
-less_or k m = by_test (nat_lt k m) refl
-  where
-    by_test : (b : Bool) → nat_lt k m ≡ b → (k < m) ⊎ (nat_lt k m ≡ false)
-    by_test true e = inl (grind (arith, e))
-    by_test false e = inr e
-
 pub true_or : (b : Bool) → (b ≡ true) ⊎ (b ≡ false)
 true_or true = inl refl
 true_or false = inr refl
-
-pub is_diag : (k : Kind) → is_diagonal k ≡ true → k ≡ diagonal
-is_diag unused h = let e : false ≡ true = h in cc
-is_diag once h = let e : false ≡ true = h in cc
-is_diag diagonal h = refl
-is_diag bound h = let e : false ≡ true = h in cc
 
 pub other_kind : (k : Kind) (t u : Ty) → is_diagonal k ≡ false → by_kind k t u ≡ u
 other_kind unused t u h = refl

@@ -7,9 +7,9 @@ use Rattle.jl_model.specs.declared.ty.Ty.TheViews as V
 use Rattle.jl_model.specs.declared.ty.Ty.TheVariants as W
 use Rattle.jl_model.specs.Subtype.{Table, Fixed}
 use Rattle.jl_model.proofs.TypeInduction.{Each, by_cases}
-use Rattle.jl_subsig.specs.Found.{first, or_else, raised, parts_of, arguments_of, ancestor, find_arg, find_inner, find_outer, outer}
-use Rattle.jl_subsig.proofs.HasLemmas.{Has, has_left, has_right}
-use Rattle.jl_subsig.proofs.FindLemmas as L
+use Rattle.jl_model.specs.Found.{first, or_else, raised, parts_of, arguments_of, ancestor, find_arg, find_inner, find_outer, outer}
+use Rattle.jl_search.proofs.HasLemmas.{Has, has_left, has_right}
+use Rattle.jl_search.proofs.FindLemmas as L
 
 -- what is found, if anything
 abbrev pub Hit : (Ty → Type 0) → Option Ty → Type 0

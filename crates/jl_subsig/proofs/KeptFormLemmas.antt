@@ -1,9 +1,9 @@
 -- A signature and its kept form differ in equal arguments alone, and the kept form has what the laws ask.
-use Rattle.std.proofs.Common.{◌≡◌, ◌∙◌, sym, ap, subst, refl, ℕ, ◌+◌, ◌<◌, arith, Bool, true, nat_eq, nat_lt, List, [], ◌∷◌, ◌++◌, length, inl, inr}
+use Rattle.std.proofs.Common.{◌≡◌, ◌∙◌, sym, ap, subst, refl, ℕ, ◌+◌, ◌<◌, arith, true, nat_eq, nat_lt, List, [], ◌∷◌, ◌++◌, length, inl, inr}
 use Rattle.std.specs.List.{flat_map, list_all}
 use Rattle.jl_model.specs.declared.ty.Ty.{Ty}
-use Rattle.jl_model.specs.declared.ty.Ty.TheOpen.{Any, Var}
-use Rattle.jl_model.specs.declared.ty.Ty.TheViews.{out-Ty, outs-Nominal, outs-Var, rolls-Any, rolls-Var}
+use Rattle.jl_model.specs.declared.ty.Ty.TheOpen.{Var}
+use Rattle.jl_model.specs.declared.ty.Ty.TheViews.{out-Ty, outs-Nominal, outs-Var, rolls-Var}
 use Rattle.jl_model.specs.declared.ty.Ty.TheVariants as W
 use Rattle.jl_model.specs.declared.ty.Ty.TheFolds.{para-roll-Ty}
 use Rattle.jl_model.specs.declared.ty.Decl.{Decl}
@@ -26,10 +26,13 @@ use Rattle.jl_types.specs.Form.{Settles, AllSettle, any, var, union, tuple, nomi
 use Rattle.jl_types.proofs.ExistLemmas.{exists}
 use Rattle.jl_types.proofs.PartsLemmas.{closed_parts}
 use Rattle.jl_subsig.specs.Alike.{EqualArguments, Alike, AreAlike, IsKeptForm}
-use Rattle.jl_subsig.specs.Scoped.{IsScoped, IsPlaced, IsOrdered, HasNormalArguments, is_argument, argument_step, is_component, component_step}
-use Rattle.jl_subsig.proofs.HasLemmas.{Has, has_left, has_right, has_split, has_of, all_has, none_has, has_none}
-use Rattle.jl_subsig.proofs.EqualLemmas.{IsArgument, AreArguments, closed, variable, applied, arguments_end, arguments_more, nominal_form}
-use Rattle.jl_subsig.proofs.RightLemmas.{Allowed, allowed_seeds, argument-union, argument-tuple, argument-nominal, component-union, component-tuple, component-nominal}
+use Rattle.jl_subsig.specs.Scoped.{IsScoped, IsPlaced, IsOrdered, HasNormalArguments}
+use Rattle.jl_model.specs.SigRefusals.{is_argument, is_component}
+use Rattle.jl_search.proofs.HasLemmas.{Has, has_left, has_right, has_split, has_of, all_has, none_has, has_none}
+use Rattle.jl_search.proofs.EqualLemmas.{nominal_form}
+use Rattle.jl_search.specs.Open.{IsOpen, AreOpen, closed, variable, applied, open_end, open_more}
+use Rattle.jl_subsig.proofs.RightLemmas.{Allowed, allowed_seeds}
+use Rattle.jl_sig.proofs.FitLemmas.{argument-any, argument-var, argument-union, argument-tuple, argument-nominal, component-any, component-var, component-union, component-tuple, component-nominal}
 use Rattle.jl_subsig.proofs.LeftLemmas.{NormalIn, given-any, given-union, given-tuple, given-nominal}
 use Rattle.jl_subsig.proofs.AlikeLemmas.{alike_equal, alike_vars, all_vars}
 use Rattle.jl_subsig.proofs.MatchLemmas.{Matches, matches_of}
@@ -45,18 +48,6 @@ given-var : (v : ℕ) → given_in (W.Var v) ≡ []
 given-var v = ap given_in (sym (rolls-Var v)) ∙ para-roll-Ty (List Given) given_step (Var v)
 
 -- types without variables stand at any place
-argument-any : is_argument W.Any ≡ true
-argument-any = ap is_argument (sym rolls-Any) ∙ para-roll-Ty Bool argument_step Any
-
-argument-var : (v : ℕ) → is_argument (W.Var v) ≡ true
-argument-var v = ap is_argument (sym (rolls-Var v)) ∙ para-roll-Ty Bool argument_step (Var v)
-
-component-any : is_component W.Any ≡ true
-component-any = ap is_component (sym rolls-Any) ∙ para-roll-Ty Bool component_step Any
-
-component-var : (v : ℕ) → is_component (W.Var v) ≡ true
-component-var v = ap is_component (sym (rolls-Var v)) ∙ para-roll-Ty Bool component_step (Var v)
-
 all_none : (ts : List Ty) → flat_map vars_in ts ≡ [] → list_all is_closed ts ≡ true
 all_none [] h = refl
 all_none (t ∷ ts) h =
@@ -84,14 +75,14 @@ bare_argument = by_cases Bare (record {
 })
 
 mutual
-  argument_is : (t : Ty) → IsArgument t → is_argument t ≡ true
+  argument_is : (t : Ty) → IsOpen t → is_argument t ≡ true
   argument_is t (closed u e) = bare_argument t e
   argument_is t (variable u v e) = ap is_argument (is_var t v e) ∙ argument-var v
   argument_is t (applied u k ts e p) = ap is_argument (is_nominal t k ts e) ∙ argument-nominal k ts ∙ arguments_are ts p
 
-  arguments_are : (ts : List Ty) → AreArguments ts → list_all is_argument ts ≡ true
-  arguments_are ts arguments_end = refl
-  arguments_are ts (arguments_more t us p r) = both_true (is_argument t) (list_all is_argument us) (argument_is t p) (arguments_are us r)
+  arguments_are : (ts : List Ty) → AreOpen ts → list_all is_argument ts ≡ true
+  arguments_are ts open_end = refl
+  arguments_are ts (open_more t us p r) = both_true (is_argument t) (list_all is_argument us) (argument_is t p) (arguments_are us r)
 
 module _ (ds : List Decl) (declared : Declared ds) where
   abbrev n : Table
@@ -113,7 +104,7 @@ module _ (ds : List Decl) (declared : Declared ds) where
 
   mutual
     -- the normal form of an argument is one, with the same variables
-    argument_form : (t u : Ty) → IsArgument t → Form t u → (vars_in t ≡ vars_in u) × IsArgument u
+    argument_form : (t u : Ty) → IsOpen t → Form t u → (vars_in t ≡ vars_in u) × IsOpen u
     argument_form t u (closed s e) h = let v = closed_form t u e h in (e ∙ sym v, closed u v)
     argument_form t u (variable s v e) h =
         let i = is_var t v e in
@@ -125,21 +116,21 @@ module _ (ds : List Decl) (declared : Declared ds) where
         let q = arguments_form ts r.0 p r.2 r.3 in
         (ap vars_in i ∙ vars-nominal k ts ∙ q.0 ∙ sym (ap vars_in r.1 ∙ vars-nominal k r.0), applied u k r.0 (ap out-Ty r.1 ∙ outs-Nominal k r.0) q.1)
 
-    arguments_form : (ts us : List Ty) → AreArguments ts → Equals n us ts → AllNormal n us → (flat_map vars_in ts ≡ flat_map vars_in us) × AreArguments us
-    arguments_form ts us arguments_end equals_end q = (refl, arguments_end)
-    arguments_form ts us (arguments_more t vs p ps) (equals_more u t2 ws vs2 b c e) (normals_more u2 ws2 g gs) =
+    arguments_form : (ts us : List Ty) → AreOpen ts → Equals n us ts → AllNormal n us → (flat_map vars_in ts ≡ flat_map vars_in us) × AreOpen us
+    arguments_form ts us open_end equals_end q = (refl, open_end)
+    arguments_form ts us (open_more t vs p ps) (equals_more u t2 ws vs2 b c e) (normals_more u2 ws2 g gs) =
         let one = argument_form t u p (record { normal = g; equal = (c, b) }) in
         let rest = arguments_form vs ws ps e gs in
-        (ap (λ z. z ++ flat_map vars_in vs) one.0 ∙ ap (λ z. vars_in u ++ z) rest.0, arguments_more u ws one.1 rest.1)
+        (ap (λ z. z ++ flat_map vars_in vs) one.0 ∙ ap (λ z. vars_in u ++ z) rest.0, open_more u ws one.1 rest.1)
 
-  forms_alike : (ts us : List Ty) → AreArguments ts → Both Form ts us → Both (EqualArguments n) ts us × AreArguments us
-  forms_alike ts us arguments_end both_end = (both_end, arguments_end)
-  forms_alike ts us (arguments_more t vs p ps) (both_more t2 u vs2 ws h r) =
+  forms_alike : (ts us : List Ty) → AreOpen ts → Both Form ts us → Both (EqualArguments n) ts us × AreOpen us
+  forms_alike ts us open_end both_end = (both_end, open_end)
+  forms_alike ts us (open_more t vs p ps) (both_more t2 u vs2 ws h r) =
       let one = argument_form t u p h in
       let rest = forms_alike vs ws ps r in
-      (both_more t u vs ws (h.equal, one.0) rest.0, arguments_more u ws one.1 rest.1)
+      (both_more t u vs ws (h.equal, one.0) rest.0, open_more u ws one.1 rest.1)
 
-  pub forms_vars : (ts us : List Ty) → AreArguments ts → Both Form ts us → flat_map vars_in ts ≡ flat_map vars_in us
+  pub forms_vars : (ts us : List Ty) → AreOpen ts → Both Form ts us → flat_map vars_in ts ≡ flat_map vars_in us
   forms_vars ts us p h = all_vars n ts us (forms_alike ts us p h).0
 
   mutual

@@ -16,7 +16,7 @@ use Rattle.jl_model.proofs.AncestorLemmas.{Lawful}
 use Rattle.jl_model.proofs.TransLemmas.{below_trans}
 use Rattle.jl_subsig.specs.Alike.{EqualArguments, Alike, AreAlike}
 use Rattle.jl_subsig.proofs.MatchLemmas.{Matches, matches_of}
-use Rattle.jl_subsig.proofs.HasLemmas.{has_of, of_has}
+use Rattle.jl_search.proofs.HasLemmas.{has_of, of_has}
 use Rattle.jl_subsig.proofs.ScopeLemmas.{has_or, which}
 use Rattle.jl_subsig.proofs.SureLemmas.{Sure, AllSure, sure_end, sure_more, sure_tuple, sure_nominal, sure_var, sure_of, of_sure}
 use Rattle.jl_subsig.proofs.OrderLemmas.{before, after}

@@ -21,15 +21,16 @@ use Rattle.jl_model.proofs.NormalLemmas.{normal_same}
 use Rattle.jl_model.proofs.DeclaredLemmas.{declared_lawful}
 use Rattle.jl_types.specs.Form.{Settles, AllSettle, any, var, union, tuple, nominal, none, more}
 use Rattle.jl_types.proofs.SettleLemmas.{Grows, settles_equal}
-use Rattle.jl_subsig.specs.Scoped.{IsScoped, IsPlaced, is_component}
+use Rattle.jl_subsig.specs.Scoped.{IsScoped, IsPlaced}
+use Rattle.jl_model.specs.SigRefusals.{is_component}
 use Rattle.jl_subsig.specs.Alike.{IsKeptForm, IsKeptRow}
-use Rattle.jl_subsig.proofs.HasLemmas.{Has, has_of, of_has, all_has}
+use Rattle.jl_search.proofs.HasLemmas.{Has, has_of, of_has, all_has}
 use Rattle.jl_subsig.proofs.ScopeLemmas.{IsSlot, SmallN, components_plain_n, high_none, has_or}
 use Rattle.jl_subsig.proofs.PairLemmas.{pairs_end, pairs_more, TyPairs, RowPairs, pairs_left, pairs_right, all_of_pairs, alts_pairs, settle_any, settle_var, settle_union, settle_tuple, settle_nominal}
 use Rattle.jl_subsig.proofs.RowPairLemmas.{row_component_pairs}
 use Rattle.jl_subsig.proofs.MatchLemmas.{Matches, matches_of, lows, highs}
-use Rattle.jl_subsig.proofs.PartLemmas.{Plain, plain_any, plain_tuple, plain_nominal, plain_var, AllPlain, all_end, all_more}
-use Rattle.jl_subsig.proofs.EqualLemmas.{AreArguments}
+use Rattle.jl_search.proofs.PartLemmas.{Plain, plain_any, plain_tuple, plain_nominal, plain_var, AllPlain, all_end, all_more}
+use Rattle.jl_search.specs.Open.{AreOpen}
 use Rattle.jl_subsig.proofs.RightLemmas.{Allowed, allowed_seeds}
 use Rattle.jl_subsig.proofs.KeptFormLemmas.{kept_is_alike, forms_vars}
 
@@ -165,7 +166,7 @@ module _ (n : Table) (law : Lawful n) where
         )
 
 -- IN THE TABLE OF VALID DECLARATIONS the variables of a kept row are those of the row.
-module _ (ds : List Decl) (declared : Declared ds) (D : ℕ → Type 0) (Q : List Ty → Type 0) (arguments : (xs : List Ty) → Q xs → AreArguments xs) where
+module _ (ds : List Decl) (declared : Declared ds) (D : ℕ → Type 0) (Q : List Ty → Type 0) (arguments : (xs : List Ty) → Q xs → AreOpen xs) where
   mutual
     kept_vars : (t u : Ty) → Plain D Q t → Settles (IsNormalForm (table_of ds)) t u → vars_in t ≡ vars_in u
     kept_vars t u (plain_any x e) h = ap vars_in (is_any t e ∙ sym (is_any u (settle_any (IsNormalForm (table_of ds)) t u e h)))
@@ -189,12 +190,12 @@ module _ (ds : List Decl) (declared : Declared ds) (s k : Written) (scope : IsSc
   match = matches_of order s k (kept_is_alike ds declared s k scope placed kept)
 
   abbrev Shape : List Ty → Type 0
-  Shape = SmallN s scope AreArguments Allowed allowed_seeds (λ v. inr (high_none s scope v))
+  Shape = SmallN s scope AreOpen Allowed allowed_seeds (λ v. inr (high_none s scope v))
 
   same_vars : (ts us : List Ty) → Has (components s) ts → TyPairs (Settles (IsNormalForm order)) ts us → flat_map vars_in ts ≡ flat_map vars_in us
   same_vars ts us h p =
       all_kept_vars ds declared (IsSlot s) Shape (λ xs q. q.1) ts us
-      (components_plain_n s scope AreArguments Allowed allowed_seeds (λ v. inr (high_none s scope v)) ts h (λ t i. inl (all_has is_component s.parts t placed i))) (all_of_pairs (IsNormalForm order) ts us p)
+      (components_plain_n s scope AreOpen Allowed allowed_seeds (λ v. inr (high_none s scope v)) ts h (λ t i. inl (all_has is_component s.parts t placed i))) (all_of_pairs (IsNormalForm order) ts us p)
 
   pub kept_row : (r q : Row) → IsRow order s r → IsKeptRow order s r q → IsRow order k q
   kept_row r q row h = row_kept order (declared_lawful ds declared) s k match kept same_vars r q row h

@@ -21,10 +21,10 @@ use Rattle.jl_model.proofs.DeclaredLemmas.{declared_lawful}
 use Rattle.jl_sig.specs.declared.row.SigRow.{SigRow}
 use Rattle.jl_sig.specs.declared.sig.Sig.{Sig}
 use Rattle.jl_sig.specs.SigParts.{kept_of}
-use Rattle.jl_subsig.specs.Found.{raised, outer}
+use Rattle.jl_model.specs.Found.{raised, outer}
 use Rattle.jl_subsig.specs.Side.{held, tops, IsPlain, IsTold, IsLeftPart, AreLeftParts}
-use Rattle.jl_subsig.proofs.HasLemmas.{Has, has_left, has_right, has_of, of_has, has_none, has_split}
-use Rattle.jl_subsig.proofs.FindLemmas.{outer-any, outer-union, outer-tuple, outer-nominal, outer-var}
+use Rattle.jl_search.proofs.HasLemmas.{Has, has_left, has_right, has_of, of_has, has_none, has_split}
+use Rattle.jl_search.proofs.FindLemmas.{outer-any, outer-union, outer-tuple, outer-nominal, outer-var}
 use Rattle.jl_subsig.proofs.HeldLemmas.{top_kept}
 use Rattle.jl_subsig.proofs.BelowLemmas.{item-at, plain_item, tuple_items}
 

@@ -1,6 +1,5 @@
-pub mod HasLemmas
 pub mod FormsLemmas
-pub mod PartLemmas
+pub mod MadeLemmas
 pub mod ScopeLemmas
 pub mod LiftLemmas
 pub mod ReflexiveLemmas
@@ -9,11 +8,6 @@ pub mod SureLemmas
 pub mod FitLemmas
 pub mod SubsumeLemmas
 pub mod OrderLemmas
-pub mod FindLemmas
-pub mod GoodLemmas
-pub mod EqualLemmas
-pub mod MeetLemmas
-pub mod FoundLemmas
 pub mod RightLemmas
 pub mod EnvLemmas
 pub mod LeftLemmas
@@ -24,7 +18,6 @@ pub mod AlikeLemmas
 pub mod MatchLemmas
 pub mod KeptLemmas
 pub mod ChainLemmas
-pub mod AbstractLemmas
 pub mod LeftBelowLemmas
 pub mod MiddleLemmas
 pub mod TransitiveLemmas
@@ -42,9 +35,7 @@ pub mod OwnLemmas
 pub mod RankLemmas
 pub mod SomeLemmas
 pub mod AncestorSteps
-pub mod SearchLemmas
 pub mod LeftPartLemmas
-pub mod OccurLemmas
 pub mod SureSteps
 pub mod ValueSteps
 pub mod ServeSteps
@@ -53,7 +44,6 @@ pub mod HitLemmas
 pub mod SideLemmas
 pub mod FoundItems
 pub mod RowSteps
-pub mod ListedLemmas
 pub mod SigSides
 pub mod OrderSteps
 pub mod CompareLemmas

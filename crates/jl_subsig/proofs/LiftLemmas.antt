@@ -11,7 +11,7 @@ use Rattle.jl_model.proofs.TypeInduction.{Each}
 use Rattle.jl_model.proofs.FormLemmas.{alts-union}
 use Rattle.jl_model.proofs.SelfLemmas.{Fine, alts_fine, below_self}
 use Rattle.jl_model.proofs.HeightLemmas.{found_any, part_any}
-use Rattle.jl_subsig.proofs.HasLemmas.{Has}
+use Rattle.jl_search.proofs.HasLemmas.{Has}
 
 pub each_has : (P : Ty → Type 0) (ts : List Ty) → Each P ts → (t : Ty) → Has ts t → P t
 each_has P [] e t h = absurd h

@@ -9,7 +9,7 @@ use Rattle.jl_model.specs.declared.ty.Ty.TheVariants as W
 use Rattle.jl_model.specs.declared.ty.Decl.{Decl}
 use Rattle.jl_model.specs.declared.ty.Written.{Written}
 use Rattle.jl_model.specs.Ancestors.{table_of}
-use Rattle.jl_model.specs.Kinds.{Kind, unused, once, diagonal, bound}
+use Rattle.jl_model.specs.Kinds.{diagonal, bound}
 use Rattle.jl_model.specs.Rows.{width, kind, root}
 use Rattle.jl_model.specs.Subtype.{Table, Fixed, put, at, lifted, Below, Equals, Equal, equals_end, equals_more}
 use Rattle.jl_model.specs.Signature.{Both, both_end, both_more, Meets, Meet, any, tuple, nominal, same, atom, raise_tuple, raise_nominal, meet_end, meet_more, is_diagonal}
@@ -22,10 +22,11 @@ use Rattle.jl_model.proofs.NormalLemmas.{normal_same, equals_same, kids_nominal}
 use Rattle.jl_model.proofs.AncestorLemmas.{Lawful}
 use Rattle.jl_model.proofs.DeclaredLemmas.{declared_lawful}
 use Rattle.jl_types.proofs.GroundLemmas.{Tells}
-use Rattle.jl_subsig.specs.Scoped.{is_argument}
-use Rattle.jl_subsig.specs.Found.{raised}
+use Rattle.jl_model.specs.SigRefusals.{is_argument}
+use Rattle.jl_model.specs.Found.{raised}
+use Rattle.jl_search.proofs.KindLemmas.{is_diag}
 use Rattle.jl_subsig.specs.Side.{lift_to, IsPlace, IsRightPart, AreRightParts, right_any, right_variable, right_tuple, right_nominal, right_end, right_more}
-use Rattle.jl_subsig.proofs.EqualLemmas.{IsArgument, AreArguments, closed, variable, applied, arguments_end, arguments_more}
+use Rattle.jl_search.specs.Open.{IsOpen, AreOpen, closed, variable, applied, open_end, open_more}
 use Rattle.jl_subsig.proofs.RightLemmas.{arguments_of}
 use Rattle.jl_subsig.proofs.LeftLemmas.{lifted_at}
 
@@ -174,16 +175,16 @@ module _ (n : Table) (law : Lawful n) (vs : List Ty) (normal : (v : ℕ) → IsN
   normal_tail t ts (more a b p q) = q
 
   mutual
-    put_normal : (u : Ty) → IsArgument u → IsNormal n u → IsNormal n (put (at vs) u)
+    put_normal : (u : Ty) → IsOpen u → IsNormal n u → IsNormal n (put (at vs) u)
     put_normal u (closed t e) h = subst (IsNormal n) (sym (put-closed (at vs) u e)) h
     put_normal u (variable t v o) h = subst (IsNormal n) (sym (ap (put (at vs)) (is_var u v o) ∙ put-var (at vs) v)) (normal v)
     put_normal u (applied t k us o a) h =
         let ws = map (put (at vs)) us in
         subst (IsNormal n) (sym (ap (put (at vs)) (is_nominal u k us o) ∙ put-nominal (at vs) k us)) (normal_nominal (V.Nominal k ws) k ws (outs-Nominal k ws) (put_normals us a (kids_nominal n law u k us h o)))
 
-    pub put_normals : (us : List Ty) → AreArguments us → AllNormal n us → AllNormal n (map (put (at vs)) us)
-    put_normals us arguments_end h = none
-    put_normals us (arguments_more u ws p q) h = more (put (at vs) u) (map (put (at vs)) ws) (put_normal u p (normal_head u ws h)) (put_normals ws q (normal_tail u ws h))
+    pub put_normals : (us : List Ty) → AreOpen us → AllNormal n us → AllNormal n (map (put (at vs)) us)
+    put_normals us open_end h = none
+    put_normals us (open_more u ws p q) h = more (put (at vs) u) (map (put (at vs)) ws) (put_normal u p (normal_head u ws h)) (put_normals ws q (normal_tail u ws h))
 
 -- the parts of a right part
 pub right_parts : (n : Table) (s : Written) (u : Ty) (us vs : List Ty) → u ≡ V.Tuple us → vs ≡ us → IsRightPart n s u → AreRightParts n s vs
@@ -238,12 +239,6 @@ pub right-at : (n : Table) (s : Written) (us : List Ty) (i : ℕ) (u : Ty) → A
 right-at n s us i u right_end l e = absurd (omega arith)
 right-at n s us zero u (right_more t ts p q) l e = subst (IsRightPart n s) (sym e) p
 right-at n s us (suc i) u (right_more t ts p q) l e = right-at n s ts i u q (omega arith) e
-
-is_diag : (k : Kind) → is_diagonal k ≡ true → k ≡ diagonal
-is_diag unused h = let e : false ≡ true = h in cc
-is_diag once h = let e : false ≡ true = h in cc
-is_diag diagonal h = refl
-is_diag bound h = let e : false ≡ true = h in cc
 
 module _ (ds : List Decl) (declared : Declared ds) (g : Fixed) (s : Written) (vs : List Ty) where
   abbrev o : Table

@@ -13,7 +13,7 @@ use Rattle.jl_model.proofs.AncestorLemmas.{Lawful}
 use Rattle.jl_model.proofs.HeightLemmas.{PartBy, by_any, by_tuple, by_nominal, by_self, part_of}
 use Rattle.jl_model.proofs.BelowLemmas.{below_part, part_below, equals_both}
 use Rattle.jl_model.proofs.TransLemmas.{below_trans}
-use Rattle.jl_subsig.proofs.HasLemmas.{Has, has_flat, has_none}
+use Rattle.jl_search.proofs.HasLemmas.{Has, has_flat, has_none}
 use Rattle.jl_subsig.proofs.LiftLemmas.{lift_part, covered_from, covered_at, found_in, found_single, alt_fine, alt_below}
 use Rattle.jl_subsig.proofs.ScopeLemmas.{alts_within}
 use Rattle.jl_subsig.proofs.PutBelowLemmas.{alt_some, none_below}

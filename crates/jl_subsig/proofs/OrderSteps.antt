@@ -15,8 +15,9 @@ use Rattle.jl_sig.specs.declared.row.SigRow.{SigRow}
 use Rattle.jl_sig.specs.declared.sig.Sig.{Sig}
 use Rattle.jl_sig.specs.SigParts.{written_of, kept_of, rows_of}
 use Rattle.jl_sig.specs.Prepared.{IsSigOf}
+use Rattle.jl_search.proofs.KindLemmas.{is_diag}
 use Rattle.jl_subsig.specs.Side.{row_of, IsSide, Every, AnyOf}
-use Rattle.jl_subsig.proofs.HasLemmas.{Has}
+use Rattle.jl_search.proofs.HasLemmas.{Has}
 use Rattle.jl_subsig.proofs.KeptLemmas.{order_alike, sig_below_alike, turned_signatures}
 use Rattle.jl_subsig.proofs.KeptFormLemmas.{kept_is_alike}
 use Rattle.jl_subsig.proofs.SigSides as S
@@ -27,7 +28,7 @@ module _ (a : Written) (l m : Row) (chosen : (v : ℕ) → kind a v ≡ diagonal
   pub top_same : (v : ℕ) → top a l v ≡ top a m v
   top_same v = elim (H.true_or (is_diagonal (kind a v))) [
     | inl d ↦
-        let k = H.is_diag (kind a v) d in
+        let k = is_diag (kind a v) d in
         ap (λ z. by_kind z (l.chosen v) (high a v)) k ∙ chosen v k ∙ sym (ap (λ z. by_kind z (m.chosen v) (high a v)) k)
     | inr d ↦ H.other_kind (kind a v) (l.chosen v) (high a v) d ∙ sym (H.other_kind (kind a v) (m.chosen v) (high a v) d)
   ]

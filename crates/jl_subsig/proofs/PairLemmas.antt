@@ -10,7 +10,7 @@ use Rattle.jl_model.specs.Rows.{forms, alts, choices}
 use Rattle.jl_model.specs.Signature.{Both, both_end, both_more}
 use Rattle.jl_model.proofs.FormLemmas.{is_any, is_union, is_tuple, is_nominal, is_var}
 use Rattle.jl_types.specs.Form.{Settles, AllSettle, any, var, union, tuple, nominal, none, more}
-use Rattle.jl_subsig.proofs.HasLemmas.{Has}
+use Rattle.jl_search.proofs.HasLemmas.{Has}
 use Rattle.jl_subsig.proofs.FormsLemmas.{forms-any, forms-var, forms-union, forms-tuple, forms-nominal}
 
 -- lists of the same length, one by one

@@ -17,8 +17,8 @@ use Rattle.jl_model.proofs.FormLemmas.{is_var, is_tuple, is_nominal, alts-var, p
 use Rattle.jl_model.proofs.PutLemmas.{put-closed}
 use Rattle.jl_model.proofs.SelfLemmas.{own_arguments, equal_self}
 use Rattle.jl_subsig.specs.Scoped.{IsScoped}
-use Rattle.jl_subsig.proofs.HasLemmas.{Has, has_left, has_right, has_map, has_of, of_has, has_none}
-use Rattle.jl_subsig.proofs.PartLemmas.{Plain, plain_any, plain_tuple, plain_nominal, plain_var, AllPlain, all_end, all_more}
+use Rattle.jl_search.proofs.HasLemmas.{Has, has_left, has_right, has_map, has_of, of_has, has_none}
+use Rattle.jl_search.proofs.PartLemmas.{Plain, plain_any, plain_tuple, plain_nominal, plain_var, AllPlain, all_end, all_more}
 use Rattle.jl_subsig.proofs.LiftLemmas.{refl_below, found_below, alt_below, found_in, part_single, equals_self}
 use Rattle.jl_subsig.proofs.ScopeLemmas.{IsSlot, slot_diagonal, slot_atom, Small, root_own, root_atom, row_plain, occurs_small, low_none, low_at, high_at, top_closed}
 

@@ -1,12 +1,10 @@
 -- What holds of a right row by its making.
-use Rattle.std.proofs.Common.{◌≡◌, ◌∙◌, sym, ap, subst, refl, ℕ, ◌+◌, ◌≤◌, arith, Bool, true, false, cond, nat_eq, List, [], ◌∷◌, map, length, ◌⊎◌, inl, inr}
+use Rattle.std.proofs.Common.{◌≡◌, ◌∙◌, sym, ap, subst, refl, ℕ, ◌+◌, ◌≤◌, arith, true, false, cond, nat_eq, List, [], ◌∷◌, map, length, ◌⊎◌, inl, inr}
 use Rattle.std.specs.List.{flat_map, list_all}
 use Rattle.jl_model.specs.declared.ty.Ty.{Ty}
-use Rattle.jl_model.specs.declared.ty.Ty.TheOpen.{Union, Tuple, Nominal}
-use Rattle.jl_model.specs.declared.ty.Ty.TheViews.{outs-Nominal, outs-Var, rolls-Union, rolls-Tuple, rolls-Nominal}
+use Rattle.jl_model.specs.declared.ty.Ty.TheViews.{outs-Nominal, outs-Var}
 use Rattle.jl_model.specs.declared.ty.Ty.TheViews as V
 use Rattle.jl_model.specs.declared.ty.Ty.TheVariants as W
-use Rattle.jl_model.specs.declared.ty.Ty.TheFolds.{para-roll-Ty}
 use Rattle.jl_model.specs.declared.ty.Written.{Written}
 use Rattle.jl_model.specs.Kinds.{Places, Kind, unused, once, diagonal, bound, nowhere, plus_all, below_nominal, places, kind_of}
 use Rattle.jl_model.specs.Rows.{forms, alts, width, high, kind, atom, root, place_of, components, vars_in, Occurs}
@@ -14,39 +12,25 @@ use Rattle.jl_model.specs.Subtype.{Table}
 use Rattle.jl_model.specs.Signature.{Row, IsRow}
 use Rattle.jl_model.specs.Valid.{is_closed}
 use Rattle.jl_model.proofs.TypeInduction.{Each, by_cases}
-use Rattle.jl_model.proofs.FormLemmas.{is_any, is_tuple, is_nominal, is_var, all_seconds, all_firsts, vars-any, vars-union, vars-tuple, vars-nominal, vars-var}
+use Rattle.jl_model.proofs.FormLemmas.{is_any, is_tuple, is_nominal, is_var, vars-any, vars-union, vars-tuple, vars-nominal, vars-var}
 use Rattle.jl_model.proofs.PutLemmas.{and_l, and_r}
-use Rattle.jl_subsig.specs.Found.{outer, inner}
-use Rattle.jl_subsig.specs.Scoped.{IsScoped, is_argument, argument_step, is_component, component_step, IsPlaced}
-use Rattle.jl_subsig.proofs.HasLemmas.{Has, Picks, has_left, has_right, has_split, has_map, map_has, has_flat, flat_has, has_of, of_has, all_has, none_has, has_none}
-use Rattle.jl_subsig.proofs.FormsLemmas.{choices_has, any_form, union_form, tuple_form, nominal_form, var_form}
-use Rattle.jl_subsig.proofs.PartLemmas.{Plain, plain_any, plain_tuple, plain_nominal, plain_var, AllPlain, all_end, all_more, all_map, Seeds}
+use Rattle.jl_model.specs.Found.{outer, inner}
+use Rattle.jl_sig.proofs.FitLemmas.{argument-union, argument-tuple, argument-nominal, component-union, component-tuple, component-nominal}
+use Rattle.jl_subsig.specs.Scoped.{IsScoped, IsPlaced}
+use Rattle.jl_model.specs.SigRefusals.{is_argument, is_component}
+use Rattle.jl_search.proofs.HasLemmas.{Has, Picks, has_left, has_right, has_split, has_map, map_has, has_flat, flat_has, has_of, of_has, all_has, none_has, has_none}
+use Rattle.jl_subsig.proofs.FormsLemmas.{any_form, union_form, tuple_form, nominal_form, var_form}
+use Rattle.jl_search.proofs.PickLemmas.{choices_has}
+use Rattle.jl_search.proofs.PartLemmas.{Plain, plain_any, plain_tuple, plain_nominal, plain_var, AllPlain, all_end, all_more, all_map}
+use Rattle.jl_subsig.proofs.MadeLemmas.{Seeds}
 use Rattle.jl_subsig.proofs.LiftLemmas.{each_has}
 use Rattle.jl_subsig.proofs.ScopeLemmas.{IsSlot, slot_diagonal, slot_atom, SmallN, row_plain_n, is_less, root_own, root_atom, at_atoms, alts_closed, high_none, diagonal_small, bound_small, occurs_small, places-union, places-tuple, places-nominal, places-var}
-use Rattle.jl_subsig.proofs.FindLemmas as L
-use Rattle.jl_subsig.proofs.EqualLemmas.{IsArgument, AreArguments, closed, variable, applied, arguments_end, arguments_more}
-use Rattle.jl_subsig.proofs.MeetLemmas.{AnyNumber}
-use Rattle.jl_subsig.proofs.FoundLemmas.{RightRow}
+use Rattle.jl_search.proofs.FindLemmas as L
+use Rattle.jl_search.specs.Open.{IsOpen, AreOpen, closed, variable, applied, open_end, open_more}
+use Rattle.jl_search.proofs.MeetLemmas.{AnyNumber}
+use Rattle.jl_search.proofs.FoundLemmas.{RightRow}
 
 -- allowed places
-pub argument-union : (ts : List Ty) → is_argument (V.Union ts) ≡ list_all is_closed ts
-argument-union ts = ap is_argument (sym (rolls-Union ts)) ∙ para-roll-Ty Bool argument_step (Union ts) ∙ all_firsts is_argument is_closed ts
-
-pub argument-tuple : (ts : List Ty) → is_argument (V.Tuple ts) ≡ list_all is_closed ts
-argument-tuple ts = ap is_argument (sym (rolls-Tuple ts)) ∙ para-roll-Ty Bool argument_step (Tuple ts) ∙ all_firsts is_argument is_closed ts
-
-pub argument-nominal : (k : ℕ) (ts : List Ty) → is_argument (V.Nominal k ts) ≡ list_all is_argument ts
-argument-nominal k ts = ap is_argument (sym (rolls-Nominal k ts)) ∙ para-roll-Ty Bool argument_step (Nominal k ts) ∙ all_seconds is_argument ts
-
-pub component-union : (ts : List Ty) → is_component (V.Union ts) ≡ list_all is_component ts
-component-union ts = ap is_component (sym (rolls-Union ts)) ∙ para-roll-Ty Bool component_step (Union ts) ∙ all_seconds is_component ts
-
-pub component-tuple : (ts : List Ty) → is_component (V.Tuple ts) ≡ list_all is_component ts
-component-tuple ts = ap is_component (sym (rolls-Tuple ts)) ∙ para-roll-Ty Bool component_step (Tuple ts) ∙ all_seconds is_component ts
-
-pub component-nominal : (k : ℕ) (ts : List Ty) → is_component (V.Nominal k ts) ≡ list_all is_argument ts
-component-nominal k ts = ap is_component (sym (rolls-Nominal k ts)) ∙ para-roll-Ty Bool component_step (Nominal k ts) ∙ all_firsts is_component is_argument ts
-
 no_length : (ns : List ℕ) → nat_eq (length ns) 0 ≡ true → ns ≡ []
 no_length [] h = refl
 no_length (n ∷ ns) h = let e : length (n ∷ ns) ≡ 0 = grind (arith, h) in absurd (omega arith)
@@ -55,13 +39,13 @@ flat_none : (ts : List Ty) → list_all is_closed ts ≡ true → flat_map vars_
 flat_none ts h = none_has (flat_map vars_in ts) (λ v i. let r = flat_has vars_in ts v i in has_none (vars_in r.0) v (no_length (vars_in r.0) (all_has is_closed ts r.0 h r.1)) r.2)
 
 abbrev Told : Ty → Type 0
-Told t = is_argument t ≡ true → IsArgument t
+Told t = is_argument t ≡ true → IsOpen t
 
-all_told : (ts : List Ty) → Each Told ts → list_all is_argument ts ≡ true → AreArguments ts
-all_told [] e h = arguments_end
-all_told (t ∷ ts) e h = arguments_more t ts (e.0 (and_l (is_argument t) (list_all is_argument ts) h)) (all_told ts e.1 (and_r (is_argument t) (list_all is_argument ts) h))
+all_told : (ts : List Ty) → Each Told ts → list_all is_argument ts ≡ true → AreOpen ts
+all_told [] e h = open_end
+all_told (t ∷ ts) e h = open_more t ts (e.0 (and_l (is_argument t) (list_all is_argument ts) h)) (all_told ts e.1 (and_r (is_argument t) (list_all is_argument ts) h))
 
-argument_of : (t : Ty) → is_argument t ≡ true → IsArgument t
+argument_of : (t : Ty) → is_argument t ≡ true → IsOpen t
 argument_of = by_cases Told (record {
   any = λ h. closed W.Any vars-any;
   union = λ ts e h. closed (V.Union ts) (vars-union ts ∙ flat_none ts (sym (argument-union ts) ∙ h));
@@ -70,14 +54,14 @@ argument_of = by_cases Told (record {
   var = λ v h. variable (W.Var v) v (outs-Var v);
 })
 
-pub arguments_of : (ts : List Ty) → list_all is_argument ts ≡ true → AreArguments ts
-arguments_of [] h = arguments_end
-arguments_of (t ∷ ts) h = arguments_more t ts (argument_of t (and_l (is_argument t) (list_all is_argument ts) h)) (arguments_of ts (and_r (is_argument t) (list_all is_argument ts) h))
+pub arguments_of : (ts : List Ty) → list_all is_argument ts ≡ true → AreOpen ts
+arguments_of [] h = open_end
+arguments_of (t ∷ ts) h = open_more t ts (argument_of t (and_l (is_argument t) (list_all is_argument ts) h)) (arguments_of ts (and_r (is_argument t) (list_all is_argument ts) h))
 
-closed_arguments : (ts : List Ty) → flat_map vars_in ts ≡ [] → AreArguments ts
-closed_arguments [] h = arguments_end
+closed_arguments : (ts : List Ty) → flat_map vars_in ts ≡ [] → AreOpen ts
+closed_arguments [] h = open_end
 closed_arguments (t ∷ ts) h =
-    arguments_more t ts (closed t (none_has (vars_in t) (λ v i. has_none (flat_map vars_in (t ∷ ts)) v h (has_left (vars_in t) (flat_map vars_in ts) v i))))
+    open_more t ts (closed t (none_has (vars_in t) (λ v i. has_none (flat_map vars_in (t ∷ ts)) v h (has_left (vars_in t) (flat_map vars_in ts) v i))))
     (closed_arguments ts (none_has (flat_map vars_in ts) (λ v i. has_none (flat_map vars_in (t ∷ ts)) v h (has_right (vars_in t) (flat_map vars_in ts) v i))))
 
 -- a component, or a type without variables
@@ -88,11 +72,11 @@ allowed_member : (t : Ty) (ts : List Ty) → is_component t ≡ list_all is_comp
 allowed_member t ts c e (inl a) u h = inl (all_has is_component ts u (sym c ∙ a) h)
 allowed_member t ts c e (inr a) u h = inr (none_has (vars_in u) (λ v i. has_none (vars_in t) v a (subst (λ z. Has z v) (sym e) (has_flat vars_in ts u v h i))))
 
-allowed_nominal : (k : ℕ) (ts : List Ty) → Allowed (V.Nominal k ts) → AreArguments ts
+allowed_nominal : (k : ℕ) (ts : List Ty) → Allowed (V.Nominal k ts) → AreOpen ts
 allowed_nominal k ts (inl a) = arguments_of ts (sym (component-nominal k ts) ∙ a)
 allowed_nominal k ts (inr a) = closed_arguments ts (sym (vars-nominal k ts) ∙ a)
 
-pub allowed_seeds : Seeds Allowed AreArguments
+pub allowed_seeds : Seeds Allowed AreOpen
 allowed_seeds = record {
   union = λ ts a u h. allowed_member (V.Union ts) ts (component-union ts) (vars-union ts) a u h;
   tuple = λ ts a u h. allowed_member (V.Tuple ts) ts (component-tuple ts) (vars-tuple ts) a u h;
@@ -250,8 +234,8 @@ module _ (D : ℕ → Type 0) (Q : List Ty → Type 0) where
     ]
 
 module _ (n : Table) (b : Written) (scope : IsScoped b) (placed : IsPlaced b) (r : Row) (row : IsRow n b r) where
-  plains : AllPlain (IsSlot b) (SmallN b scope AreArguments Allowed allowed_seeds (λ v. inr (high_none b scope v))) r.parts
-  plains = row_plain_n b scope AreArguments Allowed allowed_seeds (λ v. inr (high_none b scope v)) n r row (λ t h. inl (all_has is_component b.parts t placed h))
+  plains : AllPlain (IsSlot b) (SmallN b scope AreOpen Allowed allowed_seeds (λ v. inr (high_none b scope v))) r.parts
+  plains = row_plain_n b scope AreOpen Allowed allowed_seeds (λ v. inr (high_none b scope v)) n r row (λ t h. inl (all_has is_component b.parts t placed h))
 
   kind_bound : (v : ℕ) → Has (flat_map inner r.parts) v → kind b v ≡ bound
   kind_bound v h =
@@ -265,7 +249,7 @@ module _ (n : Table) (b : Written) (scope : IsScoped b) (placed : IsPlaced b) (r
   occurs_of w i = of_has (map (root b) (flat_map vars_in r.parts)) (root b w) (has_map (root b) (flat_map vars_in r.parts) w i)
 
   abbrev Shape : List Ty → Type 0
-  Shape = SmallN b scope AreArguments Allowed allowed_seeds (λ v. inr (high_none b scope v))
+  Shape = SmallN b scope AreOpen Allowed allowed_seeds (λ v. inr (high_none b scope v))
 
   abbrev AtOuter : ℕ → Type 0
   AtOuter v = (w : ℕ) × Has (flat_map outer r.parts) w × (root b w ≡ v)
@@ -288,7 +272,7 @@ module _ (n : Table) (b : Written) (scope : IsScoped b) (placed : IsPlaced b) (r
 
   pub right_row : RightRow b r
   right_row = record {
-    forms = all_map (IsSlot b) AnyNumber Shape AreArguments (λ k d. tt) (λ xs q. q.1) r.parts plains;
+    forms = all_map (IsSlot b) AnyNumber Shape AreOpen (λ k d. tt) (λ xs q. q.1) r.parts plains;
     inner_kind = λ v h. (kind_bound v h, inner_root v h);
     places = find_place;
     occur = λ w h. occurs_of w (outer_slots (IsSlot b) Shape r.parts plains w h).1;

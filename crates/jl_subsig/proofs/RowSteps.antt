@@ -19,14 +19,15 @@ use Rattle.jl_model.proofs.DeclaredLemmas.{declared_lawful}
 use Rattle.jl_sig.specs.declared.row.SigRow.{SigRow}
 use Rattle.jl_sig.specs.declared.sig.Sig.{Sig}
 use Rattle.jl_sig.specs.SigParts.{kept_of}
-use Rattle.jl_subsig.specs.Found.{found, outer}
+use Rattle.jl_model.specs.Found.{found, outer}
+use Rattle.jl_search.proofs.KindLemmas.{is_diag, less_or}
 use Rattle.jl_subsig.specs.Side.{row_of, held, sided, IsSide}
-use Rattle.jl_subsig.proofs.HasLemmas.{Has, has_of, of_has, has_none}
+use Rattle.jl_search.proofs.HasLemmas.{Has, has_of, of_has, has_none}
 use Rattle.jl_subsig.proofs.ScopeLemmas.{root_own, occurs_small}
 use Rattle.jl_subsig.proofs.OrderLemmas.{before, after}
 use Rattle.jl_subsig.proofs.RightLemmas.{right_row}
 use Rattle.jl_subsig.proofs.LeftLemmas.{IsLeft, IsOver, lefts, left_forms, left_laws}
-use Rattle.jl_subsig.proofs.FoundLemmas.{RightRow, values}
+use Rattle.jl_search.proofs.FoundLemmas.{RightRow, values}
 use Rattle.jl_subsig.proofs.FoundItems.{at_found, to_left}
 use Rattle.jl_subsig.proofs.SideLemmas as S
 use Rattle.jl_subsig.proofs.HeldLemmas as H
@@ -92,7 +93,7 @@ module _ (ds : List Decl) (declared : Declared ds) (s : Sig) (r : SigRow) (side 
   tops_by : (v : ℕ) → v < width (kept_of o) → Same (table_of ds) (top (kept_of o) (row_of q) v) (top (sided o) (row_of q) v)
   tops_by v l = elim (H.true_or (is_diagonal (kind (kept_of o) v))) [
     | inl d ↦
-        let k = H.is_diag (kind (kept_of o) v) d in
+        let k = is_diag (kind (kept_of o) v) d in
         let e : top (kept_of o) (row_of q) v ≡ top (sided o) (row_of q) v = ap (λ z. by_kind z (at q.chosen v) (high (kept_of o) v)) k ∙ sym (ap (λ z. by_kind z (at q.chosen v) (high (sided o) v)) k) in
         let c = (S.top_sided ds declared o q other v).closed in
         record { left = ap vars_in e ∙ c; right = c; equal = subst (λ z. Equal (table_of ds) (top (kept_of o) (row_of q) v) z) e (equal_self (table_of ds) (top (kept_of o) (row_of q) v)) }
@@ -140,7 +141,7 @@ module _ (ds : List Decl) (declared : Declared ds) (s : Sig) (r : SigRow) (side 
   complete (h, serves, over, meet) =
       values ds declared (held s r) P Q (sided o) (row_of q) r.parts h (left_laws ds declared (kept_of s) side.scoped side.ordered side.normal (row_of r) side.row)
       (left_forms ds declared (kept_of s) side.scoped side.ordered side.normal (row_of r) side.row) right (lefts ds declared (kept_of s) side.scoped side.ordered side.normal (row_of r) side.row)
-      (S.low_sided ds declared o q other) (λ v. (S.top_sided ds declared o q other v).closed) (λ t e w i. absurd (has_none (vars_in t) w e i)) (there h serves)
+      (λ v i. S.low_sided ds declared o q other v) (λ v i. (S.top_sided ds declared o q other v).closed) (there h serves)
       (meet_move (table_of ds) (held s r) (kept_of o) (sided o) (sym roots) (λ v. refl) h r.parts q.parts meet)
 
   -- what is found is over the left row
@@ -156,7 +157,7 @@ module _ (ds : List Decl) (declared : Declared ds) (s : Sig) (r : SigRow) (side 
       past e = rw e refl
   over_found serves v (inl l) w i =
       at_found ds declared s r side o q other v l (λ y. (Has (flat_map outer q.parts) v → kind (sided o) v ≡ diagonal → is_concrete (table_of ds) (held s r) y ≡ true) → (w : ℕ) → Has (vars_in y) w → Has names w)
-      (λ y e h j c. ((left_forms ds declared (kept_of s) side.scoped side.ordered side.normal (row_of r) side.row).sure y y (to_left ds declared s r side o q other y h) (equal_self (table_of ds) y) (c j (H.is_diag (kind (sided o) v) e))).1)
+      (λ y e h j c. ((left_forms ds declared (kept_of s) side.scoped side.ordered side.normal (row_of r) side.row).sure y y (to_left ds declared s r side o q other y h) (equal_self (table_of ds) y) (c j (is_diag (kind (sided o) v) e))).1)
       (λ y h c. h.over) (λ c w j. absurd (has_none (vars_in (top (sided o) (row_of q) v)) w (S.top_sided ds declared o q other v).closed j))
       (λ j d. serves.sure v (subst (λ z. Occurs (sided o) z q.parts) (root_own (sided o) v l) (right.occur v j)) d) w i
 
@@ -164,6 +165,6 @@ module _ (ds : List Decl) (declared : Declared ds) (s : Sig) (r : SigRow) (side 
   sound serves meet = (
     f,
     back f serves,
-    (λ v w c. of_has names w (over_found serves v (H.less_or v (width (sided o))) w (has_of (vars_in (f v)) w c))),
+    (λ v w c. of_has names w (over_found serves v (less_or v (width (sided o))) w (has_of (vars_in (f v)) w c))),
     meet_move (table_of ds) (held s r) (sided o) (kept_of o) roots (λ v. refl) f r.parts q.parts meet,
   )

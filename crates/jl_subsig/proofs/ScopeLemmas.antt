@@ -20,9 +20,11 @@ use Rattle.jl_model.proofs.TypeInduction.{Each, by_cases}
 use Rattle.jl_model.proofs.PutLemmas.{and_l, and_r}
 use Rattle.jl_model.proofs.FormLemmas.{is_any, is_tuple, is_nominal, is_var, vars-any, vars-union, vars-tuple, vars-nominal, vars-var}
 use Rattle.jl_subsig.specs.Scoped.{IsScoped}
-use Rattle.jl_subsig.proofs.HasLemmas.{Has, Picks, has_left, has_right, has_split, map_has, has_flat, has_of, of_has, all_has, none_has, has_none}
-use Rattle.jl_subsig.proofs.FormsLemmas.{choices_has, any_form, union_form, tuple_form, nominal_form, var_form}
-use Rattle.jl_subsig.proofs.PartLemmas.{Plain, plain_any, plain_tuple, plain_nominal, plain_var, AllPlain, all_end, all_more, all_map, Seeds, seeds_both, made, all_parts, plain_map}
+use Rattle.jl_search.proofs.HasLemmas.{Has, Picks, has_left, has_right, has_split, map_has, has_flat, has_of, of_has, all_has, none_has, has_none}
+use Rattle.jl_subsig.proofs.FormsLemmas.{any_form, union_form, tuple_form, nominal_form, var_form}
+use Rattle.jl_search.proofs.PickLemmas.{choices_has}
+use Rattle.jl_search.proofs.PartLemmas.{Plain, plain_any, plain_tuple, plain_nominal, plain_var, AllPlain, all_end, all_more, all_map, plain_map}
+use Rattle.jl_subsig.proofs.MadeLemmas.{Seeds, seeds_both, made, all_parts}
 
 less : (a b : ℕ) → nat_lt a b ≡ true → a < b
 less a b h = grind (arith, h)

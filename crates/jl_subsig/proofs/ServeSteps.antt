@@ -16,9 +16,11 @@ use Rattle.jl_types.proofs.GroundLemmas.{Tells}
 use Rattle.jl_sig.specs.declared.row.SigRow.{SigRow}
 use Rattle.jl_sig.specs.declared.sig.Sig.{Sig}
 use Rattle.jl_sig.specs.SigParts.{kept_of, bounded_of}
-use Rattle.jl_subsig.specs.Side.{row_of, sided, tops, lacks, Within, ServesAt, IsItem, IsTold, AreValues, IsRightRow}
-use Rattle.jl_subsig.proofs.HasLemmas.{Has, has_left, has_right, has_split, has_map, map_has, has_of, of_has}
-use Rattle.jl_subsig.proofs.OccurLemmas.{lack-any, lack-union, lack-tuple, lack-nominal, lack-var}
+use Rattle.jl_search.proofs.KindLemmas.{is_diag, less_or}
+use Rattle.jl_subsig.specs.Side.{row_of, sided, tops, Within, ServesAt, IsItem, IsTold, AreValues, IsRightRow}
+use Rattle.jl_search.specs.Absent.{lacks}
+use Rattle.jl_search.proofs.HasLemmas.{Has, has_left, has_right, has_split, has_map, map_has, has_of, of_has}
+use Rattle.jl_search.proofs.OccurLemmas.{lack-any, lack-union, lack-tuple, lack-nominal, lack-var}
 use Rattle.jl_subsig.proofs.HeldLemmas as H
 
 abbrev In : ℕ → List ℕ → Type 0
@@ -102,7 +104,7 @@ present s v m parts e h =
 pub top_sided : (s : Sig) (r : SigRow) → IsTold s r → length (bounded_of s).vars ≡ width (kept_of s) → (v : ℕ) → v < width (kept_of s) → tops (bounded_of s).vars s r v ≡ top (sided s) (row_of r) v
 top_sided s r told wide v l = elim (H.true_or (is_diagonal (kind (kept_of s) v))) [
   | inl d ↦
-      let k = H.is_diag (kind (kept_of s) v) d in
+      let k = is_diag (kind (kept_of s) v) d in
       H.top_own s r told (bounded_of s).vars wide v l ∙ ap (λ z. cond z (at r.chosen v) (get_or (bounded_of s).vars v free).high) d ∙ sym (ap (λ z. by_kind z (at r.chosen v) (high (sided s) v)) k)
   | inr d ↦ H.top_own s r told (bounded_of s).vars wide v l ∙ ap (λ z. cond z (at r.chosen v) (get_or (bounded_of s).vars v free).high) d ∙ sym (H.other_kind (kind (kept_of s) v) (at r.chosen v) (high (sided s) v) d)
 ]
@@ -152,7 +154,7 @@ module _ (ds : List Decl) (g : Fixed) (s : Sig) (r : SigRow) (f : ℕ → Ty) (r
   serves_at h v o = (
     subst (λ z. Below n g z (f v)) (low_stays v) (h.least v o),
     subst (Below n g (f v)) (top_stays v) (h.most v o),
-    (λ d. h.sure v o (H.is_diag (kind (sided s) v) d)),
+    (λ d. h.sure v o (is_diag (kind (sided s) v) d)),
   )
 
   pub serves_all : ((v : ℕ) → v < width (kept_of s) → ServesAt n g (sided s) (row_of r) f v) → Serves n g (sided s) (row_of r) f
@@ -163,4 +165,4 @@ module _ (ds : List Decl) (g : Fixed) (s : Sig) (r : SigRow) (f : ℕ → Ty) (r
   }
 
 pub below_or : (v k : ℕ) → v < k + 1 → (v < k) ⊎ (k ≡ v)
-below_or v k l = elim (H.less_or v k) [ inl i ↦ inl i | inr e ↦ inr (omega (arith, l, (let j : k ≤ v = grind (arith, e) in j))) ]
+below_or v k l = elim (less_or v k) [ inl i ↦ inl i | inr e ↦ inr (omega (arith, l, (let j : k ≤ v = grind (arith, e) in j))) ]

@@ -1,12 +1,9 @@
 -- The parts of a kept row, as left parts and as right parts.
-use Rattle.std.proofs.Common.{◌≡◌, ◌∙◌, sym, ap, subst, refl, ℕ, zero, suc, ◌+◌, ◌<◌, ◌≤◌, ◌%◌, arith, Bool, true, false, nat_eq, nat_lt, List, [], ◌∷◌, ◌++◌, map, length, get_or, ◌⊎◌, inl, inr}
+use Rattle.std.proofs.Common.{◌≡◌, ◌∙◌, sym, ap, subst, refl, ℕ, zero, suc, ◌+◌, ◌<◌, ◌≤◌, ◌%◌, arith, true, false, nat_eq, nat_lt, List, [], ◌∷◌, ◌++◌, map, length, get_or, ◌⊎◌, inl, inr}
 use Rattle.std.specs.List.{flat_map, list_all, Contains}
 use Rattle.jl_model.specs.declared.ty.Ty.{Ty}
-use Rattle.jl_model.specs.declared.ty.Ty.TheOpen.{Any, Var}
-use Rattle.jl_model.specs.declared.ty.Ty.TheViews.{out-Ty, outs-Any, outs-Tuple, outs-Nominal, outs-Var, rolls-Any, rolls-Var}
 use Rattle.jl_model.specs.declared.ty.Ty.TheViews as V
 use Rattle.jl_model.specs.declared.ty.Ty.TheVariants as W
-use Rattle.jl_model.specs.declared.ty.Ty.TheFolds.{para-roll-Ty}
 use Rattle.jl_model.specs.declared.ty.Decl.{Decl}
 use Rattle.jl_model.specs.declared.ty.Written.{Written}
 use Rattle.jl_model.specs.declared.ty.Bound.{Bound}
@@ -27,15 +24,18 @@ use Rattle.jl_sig.specs.declared.row.SigRow.{SigRow}
 use Rattle.jl_sig.specs.declared.sig.Sig.{Sig}
 use Rattle.jl_sig.specs.SigParts.{kept_of, bounded_of}
 use Rattle.jl_sig.proofs.WholeLemmas.{Carries, Rows, chosen_have, forms_have}
-use Rattle.jl_subsig.specs.Scoped.{is_argument, argument_step, is_component}
-use Rattle.jl_subsig.specs.Found.{outer}
+use Rattle.jl_model.specs.SigRefusals.{is_argument, is_component}
+use Rattle.jl_model.specs.Found.{outer}
+use Rattle.jl_search.proofs.KindLemmas.{is_diag, less_or}
 use Rattle.jl_subsig.specs.Side.{row_of, held, sided, IsPlain, AreLeftParts, IsPlace, IsRightPart, AreRightParts, right_any, right_variable, right_tuple, right_nominal, right_end, right_more, IsRightRow, IsSide}
-use Rattle.jl_subsig.proofs.HasLemmas.{Has, has_left, has_right, has_split, has_of, all_has, has_none, none_has}
-use Rattle.jl_subsig.proofs.PartLemmas.{Plain, plain_any, plain_tuple, plain_nominal, plain_var, AllPlain, all_end, all_more, Seeds, seeds_both}
+use Rattle.jl_search.proofs.HasLemmas.{Has, has_left, has_right, has_split, has_of, all_has, has_none, none_has}
+use Rattle.jl_search.proofs.PartLemmas.{Plain, plain_any, plain_tuple, plain_nominal, plain_var, AllPlain, all_end, all_more}
+use Rattle.jl_subsig.proofs.MadeLemmas.{Seeds, seeds_both}
 use Rattle.jl_subsig.proofs.ScopeLemmas.{IsSlot, slot_diagonal, slot_atom, SmallN, BareN, row_plain_n, root_own, root_atom, atom_past, high_none, foreign, occurs_small, diagonal_small}
-use Rattle.jl_subsig.proofs.FindLemmas.{outer-any, outer-tuple, outer-nominal, outer-var}
-use Rattle.jl_subsig.proofs.EqualLemmas.{IsArgument, AreArguments, closed, variable, applied, arguments_end, arguments_more}
-use Rattle.jl_subsig.proofs.RightLemmas.{argument-union, argument-tuple, argument-nominal, Allowed, allowed_seeds}
+use Rattle.jl_search.proofs.FindLemmas.{outer-any, outer-tuple, outer-nominal, outer-var}
+use Rattle.jl_search.specs.Open.{IsOpen, AreOpen, closed, variable, applied, open_end, open_more}
+use Rattle.jl_subsig.proofs.RightLemmas.{Allowed, allowed_seeds}
+use Rattle.jl_sig.proofs.FitLemmas.{argument-any, argument-var, argument-union, argument-tuple, argument-nominal}
 use Rattle.jl_subsig.proofs.LeftLemmas.{NormalIn, normal_seeds, normal_bound, normal_component, high_in}
 use Rattle.jl_subsig.proofs.HeldLemmas as H
 
@@ -55,12 +55,6 @@ module _ (m : ℕ) where
   }
 
 -- arguments, as the test tells them
-argument-any : is_argument W.Any ≡ true
-argument-any = ap is_argument (sym rolls-Any) ∙ para-roll-Ty Bool argument_step Any
-
-argument-var : (v : ℕ) → is_argument (W.Var v) ≡ true
-argument-var v = ap is_argument (sym (rolls-Var v)) ∙ para-roll-Ty Bool argument_step (Var v)
-
 all_closed : (ts : List Ty) → flat_map vars_in ts ≡ [] → list_all is_closed ts ≡ true
 all_closed [] e = refl
 all_closed (t ∷ ts) e =
@@ -88,17 +82,17 @@ closed_argument = by_cases Plainly (record {
 })
 
 mutual
-  pub argument_told : (t : Ty) → IsArgument t → is_argument t ≡ true
+  pub argument_told : (t : Ty) → IsOpen t → is_argument t ≡ true
   argument_told t (closed s e) = closed_argument t e
   argument_told t (variable s v o) = ap is_argument (is_var t v o) ∙ argument-var v
   argument_told t (applied s k ts o h) = ap is_argument (is_nominal t k ts o) ∙ argument-nominal k ts ∙ arguments_told ts h
 
-  pub arguments_told : (ts : List Ty) → AreArguments ts → list_all is_argument ts ≡ true
-  arguments_told ts arguments_end = refl
-  arguments_told ts (arguments_more t us p q) = both_true (is_argument t) (list_all is_argument us) (argument_told t p) (arguments_told us q)
+  pub arguments_told : (ts : List Ty) → AreOpen ts → list_all is_argument ts ≡ true
+  arguments_told ts open_end = refl
+  arguments_told ts (open_more t us p q) = both_true (is_argument t) (list_all is_argument us) (argument_told t p) (arguments_told us q)
 
 -- an argument is an item, where it is a normal form
-pub argument_whole : (t : Ty) → IsArgument t → is_single t ≡ false → vars_in t ≡ []
+pub argument_whole : (t : Ty) → IsOpen t → is_single t ≡ false → vars_in t ≡ []
 argument_whole t (closed s e) h = e
 argument_whole t (variable s v o) h = let c : true ≡ false = sym (ap no_union o) ∙ h in cc
 argument_whole t (applied s k ts o a) h = let c : true ≡ false = sym (ap no_union o) ∙ h in cc
@@ -115,14 +109,14 @@ module _ (ds : List Decl) (declared : Declared ds) (s : Sig) (r : SigRow) (side 
 
   -- what holds of the arguments in the row
   abbrev pub N : List Ty → Type 0
-  N xs = AllNormal (table_of ds) xs × (AreArguments xs × (list_all (is_known (length ds)) xs ≡ true))
+  N xs = AllNormal (table_of ds) xs × (AreOpen xs × (list_all (is_known (length ds)) xs ≡ true))
 
   abbrev pub M : Ty → Type 0
   M t = NormalIn (table_of ds) t × (Allowed t × Known (length ds) t)
 
   pub seeds : Seeds M N
-  seeds = seeds_both (NormalIn (table_of ds)) (λ t. Allowed t × Known (length ds) t) (AllNormal (table_of ds)) (λ xs. AreArguments xs × (list_all (is_known (length ds)) xs ≡ true)) (normal_seeds (table_of ds))
-      (seeds_both Allowed (Known (length ds)) AreArguments (λ xs. list_all (is_known (length ds)) xs ≡ true) allowed_seeds (known_seeds (length ds)))
+  seeds = seeds_both (NormalIn (table_of ds)) (λ t. Allowed t × Known (length ds) t) (AllNormal (table_of ds)) (λ xs. AreOpen xs × (list_all (is_known (length ds)) xs ≡ true)) (normal_seeds (table_of ds))
+      (seeds_both Allowed (Known (length ds)) AreOpen (λ xs. list_all (is_known (length ds)) xs ≡ true) allowed_seeds (known_seeds (length ds)))
 
   known_high : (v : ℕ) → is_known (length ds) (high (kept_of s) v) ≡ true
   known_high v = by_place (high_in (kept_of s).vars v)
@@ -271,13 +265,13 @@ module _ (ds : List Decl) (declared : Declared ds) (s : Sig) (r : SigRow) (side 
   past_kept v e = let w = side.held.wide in let j : width (kept_of s) ≤ v = grind (arith, e) in omega (arith, j, w)
 
   pub low_sided : (v : ℕ) → vars_in (low (sided s) v) ≡ []
-  low_sided v = elim (H.less_or v (width (kept_of s))) [
+  low_sided v = elim (less_or v (width (kept_of s))) [
     | inl i ↦ (side.held.lows v i).plain.closed
     | inr e ↦ ap (λ (b : Bound). vars_in b.low) (free_past (bounded_of s).vars v (past_kept v e)) ∙ vars-union []
   ]
 
   high_sided : (v : ℕ) → IsPlain ds (high (sided s) v)
-  high_sided v = elim (H.less_or v (width (kept_of s))) [
+  high_sided v = elim (less_or v (width (kept_of s))) [
     | inl i ↦ (side.held.highs v i).plain
     | inr e ↦ subst (λ (b : Bound). IsPlain ds b.high) (sym (free_past (bounded_of s).vars v (past_kept v e))) (H.any_plain ds)
   ]
@@ -288,7 +282,7 @@ module _ (ds : List Decl) (declared : Declared ds) (s : Sig) (r : SigRow) (side 
   pub top_sided : (v : ℕ) → IsPlain ds (top (sided s) (row_of r) v)
   top_sided v = elim (H.true_or (is_diagonal (kind (kept_of s) v))) [
     | inl d ↦
-        let k = H.is_diag (kind (kept_of s) v) d in
+        let k = is_diag (kind (kept_of s) v) d in
         subst (IsPlain ds) (sym (ap (λ z. by_kind z (at r.chosen v) (high (sided s) v)) k)) (side.held.chosen v (chosen_small v k) k)
     | inr d ↦ subst (IsPlain ds) (sym (H.other_kind (kind (kept_of s) v) (at r.chosen v) (high (sided s) v) d)) (high_sided v)
   ]

@@ -2,11 +2,9 @@
 use Rattle.std.proofs.Common.{◌≡◌, ◌∙◌, sym, ap, subst, refl, ℕ, zero, suc, ◌+◌, ◌<◌, ◌≤◌, arith, Bool, true, false, nat_lt, List, [], ◌∷◌, ◌++◌, map, length, get_or, ◌⊎◌, inl, inr}
 use Rattle.std.specs.List.{flat_map, list_all}
 use Rattle.jl_model.specs.declared.ty.Ty.{Ty}
-use Rattle.jl_model.specs.declared.ty.Ty.TheOpen.{Ty-F, Any, Union, Tuple, Nominal, Var}
 use Rattle.jl_model.specs.declared.ty.Ty.TheViews.{out-Ty, outs-Any, outs-Union}
 use Rattle.jl_model.specs.declared.ty.Ty.TheViews as V
 use Rattle.jl_model.specs.declared.ty.Ty.TheVariants as W
-use Rattle.jl_model.specs.declared.ty.Ty.TheFolds.{para-Ty}
 use Rattle.jl_model.specs.declared.ty.Bound.{Bound}
 use Rattle.jl_model.specs.declared.ty.Decl.{Decl}
 use Rattle.jl_model.specs.Ancestors.{table_of}
@@ -17,8 +15,7 @@ use Rattle.jl_model.specs.Subtype.{Table, at, Equal}
 use Rattle.jl_model.specs.Normal.{IsNormal, AllNormal, IsNormalForm, no_union, is_single, any as normal_any, var as normal_var, nominal as normal_nominal, tuple as normal_tuple, none as normals_end, more as normals_more}
 use Rattle.jl_model.specs.Valid.{is_known, is_closed}
 use Rattle.jl_model.specs.Refusals.{Declared, bound_types}
-use Rattle.jl_model.specs.SigRefusals as R
-use Rattle.jl_model.specs.SigRefusals.{are_placed, IsAllowedSig}
+use Rattle.jl_model.specs.SigRefusals.{are_placed, is_component, IsAllowedSig}
 use Rattle.jl_model.specs.AllRows.{Listed, each_var, all_rows}
 use Rattle.jl_model.proofs.TypeInduction.{Each}
 use Rattle.jl_model.proofs.FormLemmas.{is_any, is_union, is_tuple, is_nominal, vars-union}
@@ -39,13 +36,13 @@ use Rattle.jl_sig.specs.Fit.{AreKeptRows, rows_end, rows_more}
 use Rattle.jl_sig.specs.Fit as F
 use Rattle.jl_sig.specs.Prepared.{IsSigOf}
 use Rattle.jl_sig.proofs.WholeLemmas.{Carries, forms_have}
-use Rattle.jl_subsig.specs.Scoped as C
+use Rattle.jl_search.proofs.KindLemmas.{less_or}
 use Rattle.jl_subsig.specs.Scoped.{IsScoped, IsPlaced, IsOrdered, HasNormalArguments}
 use Rattle.jl_subsig.specs.Alike.{IsKeptForm, IsKeptRow}
 use Rattle.jl_subsig.specs.Side.{row_of, IsPlain, IsPlainForm, IsSide}
-use Rattle.jl_subsig.proofs.HasLemmas.{Has, has_of, of_has, all_has}
-use Rattle.jl_subsig.proofs.PartLemmas.{Plain, plain_any, plain_tuple, plain_nominal, plain_var, AllPlain, all_end, all_more}
-use Rattle.jl_subsig.proofs.ScopeLemmas.{Never, bound_plain_n, alts_closed, low_none, high_none, foreign, has_or}
+use Rattle.jl_search.proofs.HasLemmas.{Has, has_of, of_has, all_has}
+use Rattle.jl_search.proofs.PartLemmas.{Plain, plain_any, plain_tuple, plain_nominal, plain_var, AllPlain, all_end, all_more}
+use Rattle.jl_subsig.proofs.ScopeLemmas.{diagonal_small, Never, bound_plain_n, alts_closed, low_none, high_none, foreign, has_or}
 use Rattle.jl_subsig.proofs.PairLemmas.{settle_any}
 use Rattle.jl_subsig.proofs.MatchLemmas.{Matches, matches_of, lows, highs}
 use Rattle.jl_subsig.proofs.AlikeLemmas.{alike_equal}
@@ -54,29 +51,8 @@ use Rattle.jl_subsig.proofs.KeptFormLemmas.{closed_form, kept_is_alike, kept_is_
 use Rattle.jl_subsig.proofs.KeptRowLemmas.{kept_once, kept_row, row_of_kept}
 use Rattle.jl_subsig.proofs.GlueLemmas.{bounds_ordered}
 use Rattle.jl_subsig.proofs.GroundNone.{none_ground}
-use Rattle.jl_subsig.proofs.ListedLemmas as L
+use Rattle.jl_search.proofs.ListedLemmas as L
 use Rattle.jl_subsig.proofs.HeldLemmas as H
-
--- the tests of places are one
-argument_step : (x : Ty-F (Ty × Bool)) → R.argument_step x ≡ C.argument_step x
-argument_step Any = refl
-argument_step (Union es) = refl
-argument_step (Tuple es) = refl
-argument_step (Nominal k es) = refl
-argument_step (Var v) = refl
-
-argument_same : R.is_argument ≡ C.is_argument
-argument_same = λ i. para-Ty Bool (λ x. argument_step x i)
-
-component_step : (x : Ty-F (Ty × Bool)) → R.component_step x ≡ C.component_step x
-component_step Any = refl
-component_step (Union es) = refl
-component_step (Tuple es) = refl
-component_step (Nominal k es) = λ i. list_all (λ e. argument_same i e.0) es
-component_step (Var v) = refl
-
-component_same : R.is_component ≡ C.is_component
-component_same = λ i. para-Ty Bool (λ x. component_step x i)
 
 small_name : (k m : ℕ) → k < m → nat_lt k m ≡ true
 small_name k m l = grind (arith, l)
@@ -239,10 +215,10 @@ module _ (ds : List Decl) (declared : Declared ds) where
     placed_true = elim (H.true_or (are_placed (written_of g))) [ inl e ↦ e | inr e ↦ absurd (kept.placed.placed e) ]
 
     pub scoped : IsScoped (written_of g)
-    scoped = record { own = kept.placed.own; closed = and_l (list_all is_closed (bound_types (written_of g).vars)) (list_all R.is_component (written_of g).parts) placed_true }
+    scoped = record { own = kept.placed.own; closed = and_l (list_all is_closed (bound_types (written_of g).vars)) (list_all is_component (written_of g).parts) placed_true }
 
     pub placed : IsPlaced (written_of g)
-    placed = ap (λ (p : Ty → Bool). list_all p (written_of g).parts) (sym component_same) ∙ and_r (list_all is_closed (bound_types (written_of g).vars)) (list_all R.is_component (written_of g).parts) placed_true
+    placed = and_r (list_all is_closed (bound_types (written_of g).vars)) (list_all is_component (written_of g).parts) placed_true
 
     pub form : IsKeptForm (table_of ds) (written_of g) (kept_of g)
     form = record { bounds = kept.kept.bounds; parts = kept.kept.parts }
@@ -290,7 +266,7 @@ module _ (ds : List Decl) (declared : Declared ds) where
     diagonal_told v =
         let f : ℕ → Bool = λ v. is_diagonal (kind (written_of g) v) in
         let long : length (diagonals_of g) ≡ width (written_of g) = ap length kept.diagonals ∙ each_long f 0 (written_of g).vars in
-        elim (H.less_or v (width (written_of g))) [
+        elim (less_or v (width (written_of g))) [
           | inl l ↦
               let e : 0 + v ≡ v = omega arith in
               ap (λ z. get_or z v false) kept.diagonals ∙ get_each f 0 (written_of g).vars v l ∙ ap f e ∙ ap is_diagonal (match.kinds v)
@@ -359,17 +335,20 @@ module _ (ds : List Decl) (declared : Declared ds) where
     abbrev picks : ℕ → List Ty
     picks = kept.rows.1.picks
 
+    small : (v : ℕ) → kind (written_of g) v ≡ diagonal → v < width (written_of g)
+    small = diagonal_small (written_of g) scoped
+
     listed_has : (r : Listed) → Has kept.rows.0 r → Has (all_rows (written_of g) kept.rows.1.picks) r
     listed_has r h = subst (λ z. Has z r) kept.rows.1.are h
 
-    kept_of_listed : (l : Listed) (q : SigRow) → L.IsListed (table_of ds) (written_of g) scoped kept.rows.1.picks kept.rows.1.hold l → F.IsKeptRow ds l q → IsKeptRow (table_of ds) (written_of g) (L.listed_row l) (row_of q)
+    kept_of_listed : (l : Listed) (q : SigRow) → L.IsListed (table_of ds) (written_of g) small kept.rows.1.picks kept.rows.1.hold l → F.IsKeptRow ds l q → IsKeptRow (table_of ds) (written_of g) (L.listed_row l) (row_of q)
     kept_of_listed l q h k =
         let settle = both_at (Settles Form) (any W.Any outs-Any) l.chosen q.chosen k.chosen in
         record {
           parts = k.parts;
           chosen = λ v d. settle v;
           others = λ v f.
-              let e : at l.chosen v ≡ W.Any = L.other_any (table_of ds) (written_of g) scoped kept.rows.1.picks kept.rows.1.hold l h v f in
+              let e : at l.chosen v ≡ W.Any = L.other_any (table_of ds) (written_of g) small kept.rows.1.picks kept.rows.1.hold l h v f in
               e ∙ sym (is_any (at q.chosen v) (settle_any Form W.Any (at q.chosen v) outs-Any (subst (λ z. Settles Form z (at q.chosen v)) e (settle v))));
         }
 
@@ -377,10 +356,10 @@ module _ (ds : List Decl) (declared : Declared ds) where
     pub side : (q : SigRow) → Has (rows_of g) q → IsSide ds g q
     side q h =
         let a = aligned kept.rows.0 (rows_of g) kept.rows.2 q h in
-        let l = L.listed (table_of ds) (written_of g) scoped kept.rows.1.picks kept.rows.1.hold a.0 (listed_has a.0 a.1) in
-        let r = L.is_row (table_of ds) (written_of g) scoped kept.rows.1.picks kept.rows.1.hold a.0 l in
+        let l = L.listed (table_of ds) (written_of g) small kept.rows.1.picks kept.rows.1.hold a.0 (listed_has a.0 a.1) in
+        let r = L.is_row (table_of ds) (written_of g) small kept.rows.1.picks kept.rows.1.hold a.0 l in
         let row = kept_row ds declared (written_of g) (kept_of g) scoped placed form (L.listed_row a.0) (row_of q) r (kept_of_listed a.0 q l a.2) in
-        let long : length q.chosen ≡ width (kept_of g) = sym (both_long (Settles Form) (a.0).chosen q.chosen a.2.chosen) ∙ L.long_row (table_of ds) (written_of g) scoped kept.rows.1.picks kept.rows.1.hold a.0 l ∙ match.width in
+        let long : length q.chosen ≡ width (kept_of g) = sym (both_long (Settles Form) (a.0).chosen q.chosen a.2.chosen) ∙ L.long_row (table_of ds) (written_of g) small kept.rows.1.picks kept.rows.1.hold a.0 l ∙ match.width in
         side_of q row long
 
     -- and each row of the kept form is one of them, as far as its choices count
@@ -393,7 +372,7 @@ module _ (ds : List Decl) (declared : Declared ds) where
     pub all_kept : (m : Row) → IsRow (table_of ds) (kept_of g) m → Kept m
     all_kept m row =
         let r = row_of_kept ds declared (written_of g) (kept_of g) scoped placed form m row in
-        let l = L.row_listed (table_of ds) (written_of g) scoped kept.rows.1.picks kept.rows.1.hold r.0 r.1 in
+        let l = L.row_listed (table_of ds) (written_of g) small kept.rows.1.picks kept.rows.1.hold r.0 r.1 in
         let a = aligns kept.rows.0 (rows_of g) kept.rows.2 l.item (subst (λ z. Has z l.item) (sym kept.rows.1.are) l.has) in
         record {
           item = a.0;

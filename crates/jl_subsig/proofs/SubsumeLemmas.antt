@@ -18,9 +18,9 @@ use Rattle.jl_model.proofs.AncestorLemmas.{Lawful}
 use Rattle.jl_model.proofs.BelowLemmas.{below_any}
 use Rattle.jl_model.proofs.TransLemmas.{below_trans}
 use Rattle.jl_subsig.specs.Scoped.{IsScoped}
-use Rattle.jl_subsig.proofs.HasLemmas.{Has, has_left, has_right, has_flat, has_map, has_of, of_has, has_none}
-use Rattle.jl_subsig.proofs.FormsLemmas.{has_choices, choices_has}
-use Rattle.jl_subsig.proofs.PartLemmas.{Plain, plain_any, plain_tuple, plain_nominal, plain_var, AllPlain, all_end, all_more, plain_single, tuple_parts, nominal_arguments, var_number}
+use Rattle.jl_search.proofs.HasLemmas.{Has, has_left, has_right, has_flat, has_map, has_of, of_has, has_none}
+use Rattle.jl_search.proofs.PickLemmas.{has_choices, choices_has}
+use Rattle.jl_search.proofs.PartLemmas.{Plain, plain_any, plain_tuple, plain_nominal, plain_var, AllPlain, all_end, all_more, plain_single, tuple_parts, nominal_arguments, var_number}
 use Rattle.jl_subsig.proofs.ScopeLemmas.{IsSlot, Small, Never, Bare, alts_within, root_own, own_small, low_none, low_at, high_at, top_closed, row_plain, bare_plain, slot_high, occurs_small, diagonal_small}
 use Rattle.jl_subsig.proofs.PutBelowLemmas.{Env, Over, put_from, put_to, put_below, put_covered, put_opaque, put_nominal, equals_put, tuple_below, nominal_below, lifted_put}
 use Rattle.jl_subsig.proofs.SureLemmas.{Sure, AllSure, sure_end, sure_more, sure_tuple, sure_nominal, sure_var, sure_of, of_sure, all_sure_of, sure_parts}

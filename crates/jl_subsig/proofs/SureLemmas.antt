@@ -17,7 +17,7 @@ use Rattle.jl_model.proofs.AncestorLemmas.{Lawful, eq_of}
 use Rattle.jl_model.proofs.HeightLemmas.{PartBy, by_any, by_tuple, by_nominal, by_self}
 use Rattle.jl_model.proofs.BelowLemmas.{below_part}
 use Rattle.jl_model.proofs.TransLemmas.{far}
-use Rattle.jl_subsig.proofs.PartLemmas.{Plain, plain_any, plain_tuple, plain_nominal, plain_var, AllPlain, all_end, all_more, plain_single}
+use Rattle.jl_search.proofs.PartLemmas.{Plain, plain_any, plain_tuple, plain_nominal, plain_var, AllPlain, all_end, all_more, plain_single}
 
 module _ (n : Table) (g : Fixed) where
   pub concrete-any : is_concrete n g W.Any ≡ false

@@ -8,8 +8,8 @@ use Rattle.jl_model.specs.Subtype.{Table, Fixed, at}
 use Rattle.jl_model.specs.Signature.{Row, top, is_diagonal}
 use Rattle.jl_model.proofs.AncestorLemmas.{get_before, long-snoc}
 use Rattle.jl_types.proofs.TableLemmas.{get-past}
-use Rattle.jl_subsig.specs.Found.{find_inner, find_outer, first, or_type, found}
-use Rattle.jl_subsig.proofs.AbstractLemmas.{get_end}
+use Rattle.jl_model.specs.Found.{find_inner, find_outer, first, or_type, found}
+use Rattle.jl_search.proofs.AbstractLemmas.{get_end}
 
 below_or : (v m : ℕ) → (v < m) ⊎ (m ≤ v)
 below_or v m = by_test (nat_lt v m) refl

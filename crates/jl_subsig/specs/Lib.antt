@@ -1,5 +1,4 @@
 pub mod Scoped
-pub mod Found
 pub mod Values
 pub mod Alike
 pub mod Chain

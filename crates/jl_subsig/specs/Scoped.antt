@@ -1,9 +1,7 @@
 -- What the laws of the order ask of a signature. A signature that nothing refuses has it, in its kept form.
-use Rattle.std.specs.Prelude.{ℕ, ◌≡◌, ◌<◌, ◌⊎◌, Bool, true, false, nat_lt, IsTrue, ◌++◌}
+use Rattle.std.specs.Prelude.{ℕ, ◌≡◌, ◌<◌, ◌⊎◌, false, nat_lt, IsTrue, ◌++◌}
 use Rattle.std.specs.List.{flat_map, list_all, Contains}
 use Rattle.jl_model.specs.declared.ty.Ty.{Ty}
-use Rattle.jl_model.specs.declared.ty.Ty.TheOpen.{Ty-F, Any, Union, Tuple, Nominal, Var}
-use Rattle.jl_model.specs.declared.ty.Ty.TheFolds.{para-Ty}
 use Rattle.jl_model.specs.declared.ty.Written.{Written}
 use Rattle.jl_model.specs.Kinds.{diagonal, bound}
 use Rattle.jl_model.specs.Rows.{alts, width, low, high, kind, vars_in}
@@ -11,33 +9,12 @@ use Rattle.jl_model.specs.Subtype.{Table, opaque, Below, is_concrete}
 use Rattle.jl_model.specs.Normal.{IsNormal}
 use Rattle.jl_model.specs.Valid.{is_closed}
 use Rattle.jl_model.specs.Refusals.{bound_types, Given, given_in}
+use Rattle.jl_model.specs.SigRefusals.{is_component}
 
 -- each variable in its components is one of its own, and no variable stands in its bounds
 pub record IsScoped (s : Written) : Type 0 where
   pub own : IsTrue (list_all (λ v. nat_lt v (width s)) (flat_map vars_in s.parts))
   pub closed : IsTrue (list_all is_closed (bound_types s.vars))
-
-abbrev pub argument_step : Ty-F (Ty × Bool) → Bool
-argument_step Any = true
-argument_step (Union es) = list_all (λ e. is_closed e.0) es
-argument_step (Tuple es) = list_all (λ e. is_closed e.0) es
-argument_step (Nominal _ es) = list_all (λ e. e.1) es
-argument_step (Var _) = true
-
--- no variable stands in a union or a tuple
-abbrev pub is_argument : Ty → Bool
-is_argument = para-Ty Bool argument_step
-
-abbrev pub component_step : Ty-F (Ty × Bool) → Bool
-component_step Any = true
-component_step (Union es) = list_all (λ e. e.1) es
-component_step (Tuple es) = list_all (λ e. e.1) es
-component_step (Nominal _ es) = list_all (λ e. is_argument e.0) es
-component_step (Var _) = true
-
--- no variable stands in a union or a tuple below a nominal type
-abbrev pub is_component : Ty → Bool
-is_component = para-Ty Bool component_step
 
 -- its variables stand at allowed places
 abbrev pub IsPlaced : Written → Type 0

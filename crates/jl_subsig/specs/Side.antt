@@ -1,10 +1,9 @@
 -- A row of a signature with what is kept of both, for the walks over two rows.
-use Rattle.std.specs.Prelude.{ℕ, ◌-◌, ◌%◌, ◌/◌, ◌≡◌, ◌<◌, Bool, true, false, not, cond, nat_eq, nat_lt, IsTrue, ◌⊎◌, List, [], ◌∷◌, ◌++◌, map, length, get_or, Option, None}
+use Rattle.std.specs.Prelude.{ℕ, ◌-◌, ◌%◌, ◌/◌, ◌≡◌, ◌<◌, Bool, false, cond, nat_lt, IsTrue, ◌⊎◌, List, [], ◌∷◌, ◌++◌, map, length, get_or, Option, None}
 use Rattle.std.specs.List.{flat_map, list_all, Contains}
 use Rattle.jl_model.specs.declared.ty.Ty.{Ty}
 use Rattle.jl_model.specs.declared.ty.Ty.TheOpen.{Ty-F, Any, Union, Tuple, Nominal, Var}
 use Rattle.jl_model.specs.declared.ty.Ty.TheViews.{out-Ty}
-use Rattle.jl_model.specs.declared.ty.Ty.TheFolds.{fold-Ty}
 use Rattle.jl_model.specs.declared.ty.Bound.{Bound}
 use Rattle.jl_model.specs.declared.ty.Decl.{Decl}
 use Rattle.jl_model.specs.declared.ty.Written.{Written}
@@ -18,8 +17,9 @@ use Rattle.jl_model.specs.Valid.{is_known}
 use Rattle.jl_model.specs.Refusals.{bound_types}
 use Rattle.jl_types.specs.Ground.{AreSingles}
 use Rattle.jl_sig.specs.declared.row.SigRow.{SigRow}
-use Rattle.jl_subsig.specs.Scoped.{is_argument, IsScoped, IsPlaced, IsOrdered, HasNormalArguments}
-use Rattle.jl_subsig.specs.Found.{outer}
+use Rattle.jl_subsig.specs.Scoped.{IsScoped, IsPlaced, IsOrdered, HasNormalArguments}
+use Rattle.jl_model.specs.SigRefusals.{is_argument}
+use Rattle.jl_model.specs.Found.{outer}
 use Rattle.jl_sig.specs.declared.sig.Sig.{Sig}
 use Rattle.jl_sig.specs.SigParts.{kept_of, bounded_of, diagonals_of, alternatives_of}
 
@@ -117,17 +117,6 @@ ServesAt n g s r f v = Occurs s v r.parts → Within n g (low s v) (top s r v) (
 pub record AreValues (ds : List Decl) (m : ℕ) (vs : List Ty) : Type 0 where
   pub long : length vs ≡ m
   pub items : (v : ℕ) → v < m → IsItem ds (at vs v)
-
-abbrev pub lacks_step : ℕ → ℕ → Ty-F Bool → Bool
-lacks_step m v Any = true
-lacks_step m v (Union bs) = list_all (λ b. b) bs
-lacks_step m v (Tuple bs) = list_all (λ b. b) bs
-lacks_step m v (Nominal _ bs) = list_all (λ b. b) bs
-lacks_step m v (Var w) = not (nat_eq (w % m) v)
-
--- of m variables, neither v nor an atom of it stands in a type
-abbrev pub lacks : ℕ → ℕ → Ty → Bool
-lacks m v = fold-Ty Bool (lacks_step m v)
 
 -- the list tells which variables are diagonal
 pub record AreDiagonalsOf (s : Sig) : Type 0 where

@@ -1,22 +1,19 @@
 //! Searches for what stands at the places of a variable of a right row. Each goes along a part of that row and a left part
 //! at once, where a fixed variable of the left stands for its upper bound; it never fails and never turns back.
 
-ghost use Rattle.std.specs.Prelude.{◌≡◌, ◌<◌, IsTrue, IfOk, MatchOption, List, map, length};
-ghost use Rattle.std.specs.List.{list_all};
+ghost use Rattle.std.specs.Prelude.{◌≡◌, IfOk, MatchOption, List, map};
 ghost use Rattle.jl_model.specs.declared.ty.Ty.{Ty, out-Ty};
 ghost use Rattle.jl_model.specs.declared.ty.Ty.TheOpen.{Any, Tuple};
 ghost use Rattle.jl_model.specs.Ancestors.{table_of};
-ghost use Rattle.jl_model.specs.Subtype.{lifted};
-ghost use Rattle.jl_model.specs.Valid.{is_known};
-ghost use Rattle.jl_subsig.specs.Found.{find_arg, find_inner, find_outer, first, raised, arguments_of};
+ghost use Rattle.jl_model.specs.Found.{find_inner, find_outer, first, raised};
 ghost use Rattle.jl_subsig.specs.Side.{held, lift_to, IsTold, IsLeftPart, AreLeftParts};
 
 use crate::top::top;
 use jl_model::ty::{Ty, Tys};
+use jl_search::find::{first_argument, lifted};
 use jl_sig::Sig;
 use jl_sig::row::SigRow;
 use jl_types::Table;
-use jl_types::put::put_all;
 use std::alloc::{AllocError, Global};
 
 /// A type, or of a fixed variable its upper bound, if that is not `Any`.
@@ -38,29 +35,6 @@ pub fn parts<'a>(left: &'a Sig, row: &'a SigRow, ty: &'a Ty) -> Option<&'a [Ty]>
     match raise(left, row, ty) {
         Some(Ty::Tuple(parts)) => Some(parts.as_slice()),
         _ => None,
-    }
-}
-
-/// The arguments of the ancestor `target` of a nominal type, or of the type itself.
-fn lifted(
-    alloc: Global,
-    table: &Table,
-    name: u32,
-    arguments: &Tys,
-    target: u32,
-) -> Result<Option<Tys>, AllocError>
-    requires { name < length table.now }
-    ensures { IfOk result (λ found. found ≡ lifted (table_of table.now) name arguments.now target) }
-{
-    if name == target {
-        return Ok(Some(arguments.copy()?));
-    }
-    match table.up(name, target) {
-        None => Ok(None),
-        Some(over) => {
-            let found = put_all(alloc, over.as_slice(), arguments.as_slice())?;
-            Ok(Some(found))
-        }
     }
 }
 
@@ -87,60 +61,9 @@ pub fn ancestor(
     }
 }
 
-/// The arguments of a nominal type.
-fn arguments(ty: &Ty) -> &[Ty]
-    ensures { result.now ≡ arguments_of (out-Ty ty.now) }
-{
-    match ty {
-        Ty::Any => &[],
-        Ty::Union(_) => &[],
-        Ty::Tuple(_) => &[],
-        Ty::Nominal(_, arguments) => arguments.as_slice(),
-        Ty::Var(_) => &[],
-    }
-}
-
-/// What stands at the first place of the variable in these arguments.
-#[cycle(argument)]
-#[tactic(auto, using(crate::proofs::SearchLemmas::searching))]
-fn first_argument(variable: usize, patterns: &[Ty], types: &[Ty]) -> Result<Option<Ty>, AllocError>
-    ensures { IfOk result (λ hit. hit ≡ first (map (find_arg variable) patterns.now) types.now) }
-{
-    for (i, pattern) in patterns.iter().enumerate() {
-        if i >= types.len() {
-            return Ok(None);
-        }
-        let hit = in_argument(variable, pattern, &types[i])?;
-        if hit.is_some() {
-            return Ok(hit);
-        }
-    }
-    Ok(None)
-}
-
-/// What stands at the first place of the variable in an argument.
-#[cycle(argument)]
-#[tactic(auto, using(crate::proofs::SearchLemmas::searching))]
-fn in_argument(variable: usize, pattern: &Ty, ty: &Ty) -> Result<Option<Ty>, AllocError>
-    ensures { IfOk result (λ hit. hit ≡ find_arg variable pattern.now ty.now) }
-{
-    match pattern {
-        Ty::Any => Ok(None),
-        Ty::Union(_) => Ok(None),
-        Ty::Tuple(_) => Ok(None),
-        Ty::Nominal(_, patterns) => first_argument(variable, patterns.as_slice(), arguments(ty)),
-        Ty::Var(number) => {
-            if variable == *number as usize {
-                return Ok(Some(ty.copy()?));
-            }
-            Ok(None)
-        }
-    }
-}
-
 /// What stands at the first invariant place of the variable in these parts of a right row.
 #[cycle(inner)]
-#[tactic(auto, using(crate::proofs::SearchLemmas::searching))]
+#[tactic(auto, using(jl_search::proofs::SearchLemmas::searching))]
 pub fn first_inner(
     alloc: Global,
     table: &Table,
@@ -168,7 +91,7 @@ pub fn first_inner(
 
 /// What stands at the first invariant place of the variable in a part of a right row.
 #[cycle(inner)]
-#[tactic(auto, using(crate::proofs::SearchLemmas::searching))]
+#[tactic(auto, using(jl_search::proofs::SearchLemmas::searching))]
 fn in_inner(
     alloc: Global,
     table: &Table,
@@ -209,7 +132,7 @@ fn in_inner(
 
 /// What stands at the first covariant place of the variable in these parts of a right row.
 #[cycle(outer)]
-#[tactic(auto, using(crate::proofs::SearchLemmas::searching))]
+#[tactic(auto, using(jl_search::proofs::SearchLemmas::searching))]
 pub fn first_outer(
     left: &Sig,
     row: &SigRow,
@@ -234,7 +157,7 @@ pub fn first_outer(
 
 /// What stands at the first covariant place of the variable in a part of a right row.
 #[cycle(outer)]
-#[tactic(auto, using(crate::proofs::SearchLemmas::searching))]
+#[tactic(auto, using(jl_search::proofs::SearchLemmas::searching))]
 fn in_outer(
     left: &Sig,
     row: &SigRow,

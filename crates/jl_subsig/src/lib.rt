@@ -8,7 +8,6 @@ mod concrete;
 mod find;
 pub mod laws;
 mod meet;
-mod occurs;
 mod order;
 mod row;
 mod serve;

@@ -10,9 +10,9 @@ ghost use Rattle.jl_subsig.specs.Side.{row_of, held, sided, IsItem, AreHeld, Are
 
 use crate::below::is_below;
 use crate::concrete::is_concrete;
-use crate::occurs::all_lack;
 use crate::top::top;
 use jl_model::ty::Ty;
+use jl_search::occurs::all_lack;
 use jl_sig::Sig;
 use jl_sig::row::SigRow;
 use jl_types::Table;

@@ -5,7 +5,7 @@ ghost use Rattle.jl_model.specs.Ancestors.{table_of};
 ghost use Rattle.jl_model.specs.Rows.{width};
 ghost use Rattle.jl_model.specs.Subtype.{at};
 ghost use Rattle.jl_sig.specs.SigParts.{kept_of};
-ghost use Rattle.jl_subsig.specs.Found.{find_inner, find_outer, first, found};
+ghost use Rattle.jl_model.specs.Found.{find_inner, find_outer, first, found};
 ghost use Rattle.jl_subsig.specs.Side.{row_of, held, sided, IsTold, AreHeld, AreLeftParts};
 
 use crate::find::{first_inner, first_outer};

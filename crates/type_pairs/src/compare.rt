@@ -1,9 +1,9 @@
 //! The order by normal forms beside the plain order, over all pairs of some types.
 
 use crate::halt::Halt;
-use crate::known::is_known;
 use crate::plain::{is_below, is_equal};
 use jl_model::ty::Ty;
+use jl_norm::known::is_known;
 use jl_norm::norm;
 use jl_types::{Table, ground_sub};
 use std::alloc::Global;
@@ -61,7 +61,7 @@ struct Answer {
 
 /// The normal form of a type.
 fn form(alloc: Global, table: &Table, ty: &Ty) -> Result<Ty, Halt> {
-    if !is_known(ty, table.count()) {
+    if !is_known(ty, u64::from(table.count())) {
         return Err(Halt::Unknown);
     }
     Ok(norm(alloc, table, ty)?)
@@ -77,7 +77,8 @@ fn by_definition(alloc: Global, table: &Table, a: &Ty, b: &Ty) -> Result<Answer,
 
 /// By their normal forms.
 fn by_forms(alloc: Global, table: &Table, a: &Ty, b: &Ty) -> Result<Answer, Halt> {
-    if !is_known(a, table.count()) || !is_known(b, table.count()) {
+    let count = u64::from(table.count());
+    if !is_known(a, count) || !is_known(b, count) {
         return Err(Halt::Unknown);
     }
     let a = norm(alloc, table, a)?;

@@ -6,7 +6,6 @@ mod compare;
 mod declared;
 mod generate;
 mod halt;
-mod known;
 mod plain;
 
 use crate::compare::{Tally, compare_all, unequal_forms};

@@ -4,8 +4,8 @@ use Rattle.jl_model.specs.Subtype.{opaque}
 use Rattle.jl_model.specs.Valid.{is_known}
 use Rattle.jl_types.proofs.GroundLemmas.{size-tuple, size-at, all-at}
 use Rattle.jl_model.specs.Found.{find_inner, find_arg, first}
-use Rattle.jl_match.proofs.FindLemmas.{inner-find-any, inner-find-union, inner-find-tuple, inner-find-nominal, inner-find-var}
-use Rattle.jl_match.proofs.SearchLemmas.{parts_known}
+use Rattle.jl_search.proofs.FindLemmas.{inner-find-any, inner-find-union, inner-find-tuple, inner-find-nominal, inner-find-var}
+use Rattle.jl_match.proofs.KnownLemmas.{parts_known}
 use Rattle.jl_match.proofs.find.+inner.Goals as goal
 
 pub in_inner-first_inner-requires : goal.in_inner-first_inner-requires

@@ -1,6 +1,6 @@
 use Rattle.std.proofs.Common.{◌≡◌, ◌∙◌, sym, ap, slice_get, ℕ, true, false, nat_eq, length, arith}
 use Rattle.jl_model.specs.Valid.{is_counted, params_of}
-use Rattle.jl_match.proofs.PlaceLemmas.{either_case, nominal_case, nominal_not, counted-union, counted-tuple, counted-nominal}
+use Rattle.jl_norm.proofs.ListLemmas.{either_case, nominal_case, nominal_not, counted-union, counted-tuple, counted-nominal}
 use Rattle.jl_match.proofs.names.+counted.Goals as goal
 
 pub is_counted-returns-in-Union : goal.is_counted-returns-in-Union

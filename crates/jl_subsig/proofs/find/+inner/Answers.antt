@@ -2,10 +2,11 @@ use Rattle.std.proofs.Common.{◌≡◌, ◌∙◌, sym, ap, ap₂, subst, map, 
 use Rattle.jl_model.specs.declared.ty.Ty.TheViews.{out-Ty}
 use Rattle.jl_model.specs.Ancestors.{table_of}
 use Rattle.jl_types.proofs.GroundLemmas.{size-tuple, size-at}
-use Rattle.jl_subsig.specs.Found.{find_inner, find_arg, first, parts_of, raised, ancestor, or_none}
+use Rattle.jl_model.specs.Found.{find_inner, find_arg, first, parts_of, raised, ancestor, or_none}
 use Rattle.jl_subsig.specs.Side.{held, lift_to}
-use Rattle.jl_subsig.proofs.FindLemmas.{inner-find-any, inner-find-union, inner-find-tuple, inner-find-nominal, inner-find-var}
-use Rattle.jl_subsig.proofs.SearchLemmas.{first-none, no_parts, ancestor_is}
+use Rattle.jl_search.proofs.FindLemmas.{inner-find-any, inner-find-union, inner-find-tuple, inner-find-nominal, inner-find-var}
+use Rattle.jl_search.proofs.SearchLemmas.{first-none}
+use Rattle.jl_subsig.proofs.AncestorSteps.{no_parts, ancestor_is}
 use Rattle.jl_subsig.proofs.LeftPartLemmas.{left-at, raised_tuple}
 use Rattle.jl_subsig.proofs.find.+inner.Goals as goal
 

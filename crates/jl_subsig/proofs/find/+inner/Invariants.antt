@@ -2,7 +2,7 @@ use Rattle.std.proofs.Common.{◌≡◌, ◌+◌, ◌*◌, map, drop}
 use Rattle.jl_model.specs.declared.ty.Ty.TheViews.{size-Ty}
 use Rattle.jl_types.specs.Ground.{tallest}
 use Rattle.jl_model.specs.Ancestors.{table_of}
-use Rattle.jl_subsig.specs.Found.{find_inner, first}
+use Rattle.jl_model.specs.Found.{find_inner, first}
 use Rattle.jl_subsig.specs.Side.{held}
 use Rattle.jl_subsig.proofs.find.+inner.Given as goal
 

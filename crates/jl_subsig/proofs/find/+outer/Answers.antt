@@ -1,9 +1,10 @@
 use Rattle.std.proofs.Common.{◌∙◌, sym, ap, map}
 use Rattle.jl_model.specs.declared.ty.Ty.TheViews.{out-Ty}
-use Rattle.jl_subsig.specs.Found.{find_outer, first, raised}
+use Rattle.jl_model.specs.Found.{find_outer, first, raised}
 use Rattle.jl_subsig.specs.Side.{held}
-use Rattle.jl_subsig.proofs.FindLemmas.{outer-find-tuple}
-use Rattle.jl_subsig.proofs.SearchLemmas.{first-none, no_parts}
+use Rattle.jl_search.proofs.FindLemmas.{outer-find-tuple}
+use Rattle.jl_search.proofs.SearchLemmas.{first-none}
+use Rattle.jl_subsig.proofs.AncestorSteps.{no_parts}
 use Rattle.jl_subsig.proofs.find.+outer.Goals as goal
 
 pub in_outer-returns-in-None : goal.in_outer-returns-in-None

@@ -1,5 +1,5 @@
 use Rattle.std.proofs.Common.{◌≡◌, map, drop}
-use Rattle.jl_subsig.specs.Found.{find_outer, first}
+use Rattle.jl_model.specs.Found.{find_outer, first}
 use Rattle.jl_subsig.specs.Side.{held}
 use Rattle.jl_subsig.proofs.find.+outer.Given as goal
 

@@ -3,7 +3,7 @@ use Rattle.jl_model.specs.declared.ty.Ty.TheViews.{out-Ty, outs-Nominal}
 use Rattle.jl_model.specs.Ancestors.{table_of}
 use Rattle.jl_subsig.specs.Side.{held, lift_to}
 use Rattle.jl_subsig.proofs.LeftPartLemmas.{nominal_left}
-use Rattle.jl_subsig.proofs.SearchLemmas.{lift_none}
+use Rattle.jl_subsig.proofs.AncestorSteps.{lift_none}
 use Rattle.jl_subsig.proofs.find.ancestor.Goals as goal
 
 pub lifted-requires : goal.lifted-requires

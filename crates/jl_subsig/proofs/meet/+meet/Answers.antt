@@ -7,7 +7,7 @@ use Rattle.jl_model.specs.Subtype.{at}
 use Rattle.jl_model.specs.Signature.{Both, both_end, Meets}
 use Rattle.jl_types.proofs.GroundLemmas.{both_long, both_at, size-tuple, size-at}
 use Rattle.jl_sig.specs.SigParts.{kept_of}
-use Rattle.jl_subsig.specs.Found.{raised}
+use Rattle.jl_model.specs.Found.{raised}
 use Rattle.jl_subsig.specs.Side.{held, sided}
 use Rattle.jl_subsig.proofs.FixedLemmas.{fast_closed}
 use Rattle.jl_subsig.proofs.HeldLemmas.{high_none}

@@ -4,7 +4,7 @@ use Rattle.jl_model.specs.Rows.{width}
 use Rattle.jl_model.specs.Subtype.{at}
 use Rattle.jl_model.specs.Signature.{Serves, Meets, Both}
 use Rattle.jl_sig.specs.SigParts.{kept_of}
-use Rattle.jl_subsig.specs.Found.{found}
+use Rattle.jl_model.specs.Found.{found}
 use Rattle.jl_subsig.specs.Side.{row_of, held, sided, AreLeftParts, AreRightParts, AreValues}
 use Rattle.jl_subsig.proofs.SideLemmas.{left_parts, right_parts, right_row}
 use Rattle.jl_subsig.proofs.FoundItems.{values_found}

@@ -6,7 +6,8 @@ use Rattle.jl_model.specs.Ancestors.{table_of}
 use Rattle.jl_model.specs.Rows.{free, width, low, Occurs}
 use Rattle.jl_model.specs.Signature.{top}
 use Rattle.jl_sig.specs.SigParts.{kept_of}
-use Rattle.jl_subsig.specs.Side.{row_of, held, sided, tops, lacks}
+use Rattle.jl_subsig.specs.Side.{row_of, held, sided, tops}
+use Rattle.jl_search.specs.Absent.{lacks}
 use Rattle.jl_subsig.proofs.ServeSteps.{absent, present, value-at, bound-at, top_sided, one_serves}
 use Rattle.jl_subsig.proofs.serve.serves_one.Goals as goal
 

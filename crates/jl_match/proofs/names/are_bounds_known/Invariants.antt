@@ -1,8 +1,0 @@
-use Rattle.std.proofs.Common.{◌≡◌, drop}
-use Rattle.std.specs.List.{list_all}
-use Rattle.jl_model.specs.Valid.{is_known}
-use Rattle.jl_model.specs.Refusals.{bound_types}
-use Rattle.jl_match.proofs.names.are_bounds_known.Given as goal
-
-abbrev pub invariant-loop-bound : goal.invariant-loop-bound
-invariant-loop-bound l = list_all (is_known l.count) (bound_types l.bounds) ≡ list_all (is_known l.count) (bound_types (drop l.bound-index l.bounds))

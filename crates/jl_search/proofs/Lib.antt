@@ -1,0 +1,15 @@
+pub mod HasLemmas
+pub mod PickLemmas
+pub mod KindLemmas
+pub mod FindLemmas
+pub mod SearchLemmas
+pub mod OccurLemmas
+pub mod LiftedLemmas
+pub mod AbstractLemmas
+pub mod GoodLemmas
+pub mod EqualLemmas
+pub mod PartLemmas
+pub mod MeetLemmas
+pub mod OpenFound
+pub mod FoundLemmas
+pub mod ListedLemmas
