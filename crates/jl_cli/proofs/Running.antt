@@ -55,7 +55,7 @@ unread left left' held source_rose sink_rose words is r rose = record { bytes = 
 
 pub unread_for_memory : (left left' held : Option (List ℕ)) (source_rose sink_rose : Type 0) (words : List (List ℕ)) → IsCommand words → (bytes : List ℕ) × (length bytes ≤ 1048577) × Gives left bytes left'
     → HasRun words left left' held held source_rose sink_rose 6 None
-unread_for_memory left left' held source_rose sink_rose words is r = record { bytes = r.0; written = []; read = r.2; wrote = Takes-none held; limited = r.1; all_read = λ e four six lt. absurd (six refl); answer = no_memory is refl }
+unread_for_memory left left' held source_rose sink_rose words is r = record { bytes = r.0; written = []; read = r.2; wrote = Takes-none held; limited = r.1; all_read = λ e four six lt. absurd (six refl refl refl); answer = no_memory is refl }
 
 -- the words are a command exactly where the test says so
 is_command : (c : Command) → IsCommand (words_of c)

@@ -104,6 +104,6 @@ pub record HasRun (words : List (List ℕ)) (left left' held held' : Option (Lis
   pub wrote : Takes held written held'
   -- at most one byte past the limit is read
   pub limited : length bytes ≤ 1048577
-  -- all that the source had was read, or one byte past the limit
-  pub all_read : IsCommand words → (status ≡ 4 → ⊥) → (status ≡ 6 → ⊥) → length bytes < 1048577 → NothingLeft left'
+  -- all that the source had was read, or one byte past the limit, unless reading failed, or memory was refused before anything was due
+  pub all_read : IsCommand words → (status ≡ 4 → ⊥) → (status ≡ 6 → written ≡ [] → history ≡ None → ⊥) → length bytes < 1048577 → NothingLeft left'
   pub answer : IsAnswer words bytes written source_rose sink_rose status history

@@ -85,6 +85,10 @@ pub record IsMade (now : Knows) (w : ℕ) : Type 0 where
   pub right : (es : List Event) → now.agrees es → world_of (take now.seen es) ≡ w
   pub world : IsWorld w now.world
 
+-- the task knows that the world is the last one: in each list that agrees, it is that of the events that the task has seen
+abbrev pub IsFull : Knows → Type 0
+IsFull now = (es : List Event) → now.agrees es → IsTrueOf es now.task (WorldFull now.seen)
+
 -- the world is the last one
 pub record Full (before now : Knows) : Type 0 where
   pub told : Told now (WorldFull now.seen)

@@ -4,7 +4,7 @@ ghost use Rattle.std.specs.Prelude.{◌≡◌, ◌<◌, ◌^◌, ◌≤◌, IsTr
 ghost use Rattle.std.specs.List.{list_all};
 ghost use Rattle.jl_calculus.specs.Simple.{is_plain};
 ghost use Rattle.jl_calculus.specs.declared.history.DefineFault.TheVariants.{WorldLimit};
-ghost use Rattle.jl_machine.specs.Knows.{Knows, Grew, Looked, Asked, IsRight, IsSite, Defined, IsMade, Full};
+ghost use Rattle.jl_machine.specs.Knows.{Knows, Grew, Looked, Asked, IsRight, IsSite, Defined, IsMade, Full, IsFull};
 ghost use Rattle.jl_machine.specs.Worlds.{IsWorld};
 
 use jl_calculus::history::{Choice, DefineFault, Seen};
@@ -36,14 +36,16 @@ pub trait Dispatcher {
         requires { (1 ≤ definition) × (definition ≤ (knows self.now).world) }
         ensures { IsSite (knows self.now) definition result };
 
-    /// Makes a definition of a site, and answers its world. Where it answers an error, nothing was made.
+    /// Makes a definition of a site, and answers its world. Where it answers an error, nothing was made. `WorldLimit` comes only
+    /// where the world is full, and wherever the task knows that it is.
     fn define(&mut self, site: u32) -> Result<u32, DefineFault>
         requires { (14 ≤ site) × (site < length (knows self.old).program.sites) }
         ensures grew { Grew (knows self.old) (knows self.new) }
         ensures defined { IfOk result (λ _. Defined (knows self.old) (knows self.new) site) }
         ensures world { IfOk result (λ w. IsMade (knows self.new) w) }
         ensures refused { OnErr result (Asked (knows self.old) (knows self.new)) }
-        ensures full { result ≡ Err WorldLimit → Full (knows self.old) (knows self.new) };
+        ensures full { result ≡ Err WorldLimit → Full (knows self.old) (knows self.new) }
+        ensures limit { IsFull (knows self.old) → result ≡ Err WorldLimit };
 
     /// The length of the history that the task has seen.
     fn seen(&self) -> u32

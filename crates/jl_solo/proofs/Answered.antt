@@ -15,7 +15,7 @@ use Rattle.jl_calculus.specs.Past.{IsTrueOf, DefinesAt}
 use Rattle.jl_calculus.specs.Prelude.{prelude_numbers}
 use Rattle.jl_calculus.specs.World.{world_of, types_of, Chooses}
 use Rattle.jl_choice.specs.Methods.{methods_of, defs_from}
-use Rattle.jl_machine.specs.Knows.{Grew, Looked, Asked, IsRight, IsSite, Defined, IsMade, Full}
+use Rattle.jl_machine.specs.Knows.{Grew, Looked, Asked, IsRight, IsSite, Defined, IsMade, Full, IsFull}
 use Rattle.jl_solo.specs.Alone.{defs_of, events_of, GoesOn, knows_at, IsOfScript, IsAlone}
 use Rattle.jl_solo.proofs.EventLemmas.{defined_alone, length_more, take_defs, defs_push, get_last, own_push}
 use Rattle.jl_solo.proofs.ChoiceOf.{of_world, selects_goes, site_goes}
@@ -133,6 +133,14 @@ module _ (P : Program) (all : List ℕ) (h : IsAlone P all) where
 
   pub full_all : (n : ℕ) → 65535 ≤ length all → Full (knows_at P (drop 14 all) n) (knows_at P (drop 14 all) n)
   full_all n l = full P (drop 14 all) n (omega (arith, l, h.most, all_length P all h))
+
+  pub not_full_all : (n : ℕ) → length all < 65535 → IsFull (knows_at P (drop 14 all) n) → ⊥
+  not_full_all n l full =
+      let sites : List ℕ = drop 14 all in
+      let es : List Event = events_of 0 sites ++ [] in
+      let goes : GoesOn sites es = (0, [], refl) in
+      let last : 14 + length sites ≡ 65535 = sym (world_goes sites es goes).1 ∙ (full es goes).1 in
+      absurd (omega (arith, l, last, all_length P all h))
 
   pub grew_all : (n s : ℕ) → Grew (knows_at P (drop 14 all) n) (knows_at P (drop 14 (all ++ s ∷ [])) n)
   grew_all n s = subst (λ xs. Grew (knows_at P (drop 14 all) n) (knows_at P xs n)) (sym (drop_push P all s h)) (grew P (drop 14 all) n s)
