@@ -7,15 +7,16 @@ use Rattle.jl_model.specs.declared.ty.Decl.{Decl}
 use Rattle.jl_model.specs.Rows.{free}
 use Rattle.jl_model.specs.Ancestors.{table_of}
 use Rattle.jl_model.specs.Subtype.{opaque, Below}
-use Rattle.jl_model.specs.Counts.{nodes}
+use Rattle.jl_model.specs.Counts.{nodes, IsWithinLimits}
 use Rattle.jl_model.specs.Normal.{IsNormalForm}
 use Rattle.jl_model.specs.Valid.{is_known, is_closed, params_of}
 use Rattle.jl_model.specs.Refusals.{Given, Between}
 use Rattle.jl_types.specs.Form.{IsTooLarge}
 use Rattle.jl_types.specs.Ground.{IsGround}
 
--- u is the normal form of t, and small
+-- t is within the limits as it is written, and u is its normal form, and small
 pub record IsSmallForm (ds : List Decl) (t u : Ty) : Type 0 where
+  pub within : IsWithinLimits t
   pub form : IsNormalForm (table_of ds) t u
   pub small : nodes u ≤ 1024
   pub known : IsTrue (is_known (length ds) u)

@@ -30,7 +30,7 @@ loop-argument-preserved c =
     elim c.if-is_closed.branch [
       | then-is_closed+in_ok-ty+in_ok-push_argument w ↦
           closed_step ds as_ i a (record { of = a.of; place = a.place; ty = w.in_ok-ty.ty }) old c.if-is_closed.forms.items c.loop-argument-test.true c.argument-item.is (sym c.is_closed.ensures ∙ w.if-is_closed.true)
-          (record { form = w.in_ok-ty.ensures.form; small = w.in_ok-ty.ensures.small; known = w.in_ok-ty.ensures.known }) refl refl
+          (record { within = w.in_ok-ty.ensures.within; form = w.in_ok-ty.ensures.form; small = w.in_ok-ty.ensures.small; known = w.in_ok-ty.ensures.known }) refl refl
           (ap (λ z. z.items) w.forms-is ∙ w.in_ok-push_argument.ensures) c.loop-argument.invariant
       | else-is_closed w ↦
           λ hs r. subst (λ z. AreFormed ds (all_given as_) (all_given z.items ++ hs)) (sym w.forms-is) (open_step ds as_ i a old c.loop-argument-test.true c.argument-item.is (sym c.is_closed.ensures ∙ w.if-is_closed.false) c.loop-argument.invariant hs r)

@@ -36,8 +36,8 @@ loop-bound-preserved c = λ cs r.
     let ds = c.args.table.now in
     let b = c.bound-item.result in
     bounds_step (IsSmallForm ds) c.args.bounds.now c.loop-bound.bound-index b (record { low = c.in_ok-low.low; high = c.in_ok-high.high }) c.loop-bound.forms.items c.push_bound.new.bounds.items c.loop-bound-test.true c.bound-item.is
-    (record { form = c.in_ok-low.ensures.form; small = c.in_ok-low.ensures.small; known = c.in_ok-low.ensures.known })
-    (record { form = c.in_ok-high.ensures.form; small = c.in_ok-high.ensures.small; known = c.in_ok-high.ensures.known })
+    (record { within = c.in_ok-low.ensures.within; form = c.in_ok-low.ensures.form; small = c.in_ok-low.ensures.small; known = c.in_ok-low.ensures.known })
+    (record { within = c.in_ok-high.ensures.within; form = c.in_ok-high.ensures.form; small = c.in_ok-high.ensures.small; known = c.in_ok-high.ensures.known })
     c.in_ok-push_bound.ensures c.loop-bound.invariant cs r
 
 pub returns-clause-forms : goal.returns-clause-forms
