@@ -3,6 +3,7 @@ use Rattle.std.proofs.Common.{◌≡◌, ◌∙◌, ap, sym, refl, subst, ℕ, �
 use Rattle.std.proofs.lemmas.List.{length-append}
 use Rattle.std.proofs.Math.Seq.{take-length}
 use Rattle.jl_model.specs.declared.ty.Ty.{Ty}
+use Rattle.jl_model.specs.declared.ty.Bound.{Bound}
 use Rattle.jl_model.specs.declared.ty.Decl.{Decl}
 use Rattle.jl_model.specs.declared.ty.DeclKind.{DeclKind}
 use Rattle.jl_model.specs.declared.ty.Field.{Field}
@@ -12,10 +13,12 @@ use Rattle.jl_model.proofs.AncestorLemmas.{slice_last}
 use Rattle.jl_calculus.specs.Names.{is_among}
 use Rattle.jl_grammar.specs.declared.tree.Field.{Field as FieldText}
 use Rattle.jl_grammar.specs.declared.tree.Header.{Header}
+use Rattle.jl_typeread.specs.declared.tree.VarText.{VarText}
 use Rattle.jl_written.specs.declared.fault.StaticKind.TheVariants as kind
 use Rattle.jl_written.specs.declared.reading.Reading.{Reading}
-use Rattle.jl_written.specs.Reads.{Types, types}
-use Rattle.jl_written.specs.Signatures.{all_read}
+use Rattle.jl_written.specs.declared.reading.TypeVar.{TypeVar}
+use Rattle.jl_written.specs.Reads.{Types, Typed, Scoped, types, typed, scoped, unread, bind_all, var_reads}
+use Rattle.jl_written.specs.Signatures.{all_read, option_reads}
 use Rattle.jl_declare.specs.declared.judged.Judged.{Judged}
 use Rattle.jl_declare.specs.declared.judged.Judged.TheVariants as J
 use Rattle.jl_declare.specs.declared.read.Heading.{Heading}
@@ -35,6 +38,35 @@ pub slice_drop : {X : Type 0} (xs : List X) (i : ℕ) (x : X) → slice_get xs i
 slice_drop [] i x e = let f : None ≡ Some x = e in cc
 slice_drop (y ∷ ys) zero x e = ap (λ z. z ∷ ys) (some_same y x e)
 slice_drop (y ∷ ys) (suc i) x e = rw add-one (rw add-one at (slice_drop ys i x e))
+
+-- a declaration up to its fields, step by step
+pub heading_is :
+    (ds ds1 : List Decl) (k : DeclKind) (h : Header) (statics vars vars1 vars2 : List TypeVar) (r r1 r2 : Reading) (texts : List VarText) (bs : List Bound) (parent : Ty) (name : List ℕ) (fields : List Field)
+    → ds1 ≡ ds → statics ≡ [] → vars ≡ [] → r ≡ unread → texts ≡ h.params → scoped (statics ++ vars1) r1 ≡ bind_all (map (var_reads ds1) texts) (statics ++ vars) false r
+    → bs ≡ r1.vars → typed parent r2 ≡ option_reads ds1 h.parent (statics ++ vars1) r1 → vars2 ≡ vars1 → name ≡ h.name.bytes → fields ≡ []
+    → (let x : Heading = record { vars = vars2; own = record { name = name; kind = k; params = bs; parent = parent; fields = fields }; reading = r2 } in x) ≡ heading ds k h
+heading_is ds ds1 k h statics vars vars1 vars2 r r1 r2 texts bs parent name fields d e v u t b p o w n f =
+    ap (λ (z : List TypeVar). of z name bs parent fields r2) w
+    ∙ ap (λ (z : List ℕ). of vars1 z bs parent fields r2) n
+    ∙ ap (λ (z : List Field). of vars1 h.name.bytes bs parent z r2) f
+    ∙ ap (λ (z : List Bound). of vars1 h.name.bytes z parent [] r2) p
+    ∙ ap (λ (z : Typed). of vars1 h.name.bytes r1.vars z.ty [] z.after) read
+    ∙ ap (λ (z : Scoped). of z.vars h.name.bytes z.after.vars (option_reads ds h.parent z.vars z.after).ty [] (option_reads ds h.parent z.vars z.after).after) bound
+  where
+    of : List TypeVar → List ℕ → List Bound → Ty → List Field → Reading → Heading
+    of vs m cs q fs s = record { vars = vs; own = record { name = m; kind = k; params = cs; parent = q; fields = fs }; reading = s }
+
+    bound : scoped vars1 r1 ≡ bind_all (map (var_reads ds) h.params) [] false unread
+    bound =
+        sym (ap (λ (z : List TypeVar). scoped (z ++ vars1) r1) e) ∙ b
+        ∙ ap (λ (z : List Decl). bind_all (map (var_reads z) texts) (statics ++ vars) false r) d
+        ∙ ap (λ (z : List VarText). bind_all (map (var_reads ds) z) (statics ++ vars) false r) t
+        ∙ ap (λ (z : List TypeVar). bind_all (map (var_reads ds) h.params) (z ++ vars) false r) e
+        ∙ ap (λ (z : List TypeVar). bind_all (map (var_reads ds) h.params) z false r) v
+        ∙ ap (bind_all (map (var_reads ds) h.params) [] false) u
+
+    read : typed parent r2 ≡ option_reads ds h.parent vars1 r1
+    read = o ∙ ap (λ (z : List Decl). option_reads z h.parent (statics ++ vars1) r1) d ∙ ap (λ (z : List TypeVar). option_reads ds h.parent (z ++ vars1) r1) e
 
 -- what is read back from the table is what was added to it
 pub kept_is : (ds new : List Decl) (e f : Decl) (k : ℕ) → new ≡ ds ++ e ∷ [] → k ≡ length ds → slice_get new k ≡ Some f → f ≡ e

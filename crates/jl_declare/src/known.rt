@@ -10,6 +10,7 @@ use jl_names::decls::DeclList;
 use jl_names::list::NameList;
 use jl_resolve_forms::defined::{methods_of, types_of, with_names};
 use jl_resolve_forms::known::Known;
+use jl_resolve_forms::known_decls::KnownDecls;
 use std::alloc::{AllocError, Global};
 
 /// The names of the prelude's functions, by their numbers.
@@ -47,7 +48,7 @@ pub fn known(alloc: Global, items: &[Item], decls: DeclList) -> Result<Known, Al
     let types = types_of(alloc, items)?;
     let functions = with_names(prelude_functions(alloc)?, methods.as_slice())?;
     Ok(Known {
-        decls,
+        decls: KnownDecls::of(alloc, decls)?,
         functions,
         methods,
         types,

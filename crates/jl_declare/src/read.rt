@@ -16,15 +16,16 @@ use jl_model::ty::{Bound, Bounds, Bytes, Decl, DeclKind, Field, Fields, Ty, Tys}
 use jl_names::decls::{DeclList, FirstDecls, copy_decl};
 use jl_typeread::tree::{TypeText, VarText};
 use jl_written::names::small;
-use jl_written::reading::{Reading, TypeVar};
+use jl_written::reading::Reading;
 use jl_written::reads::{bind_all, read_type};
 use jl_written::signatures::unread;
+use jl_written::vars::{Around, TypeVars};
 use std::alloc::{AllocError, Global};
 
 /// A declaration up to its fields: its visible parameters, what it is so far, and what is known behind it.
 #[derive(Drop)]
 pub struct Heading {
-    pub vars: Row<TypeVar>,
+    pub vars: TypeVars,
     pub own: Decl,
     pub reading: Reading,
 }
@@ -41,17 +42,17 @@ pub struct ReadDecl {
 /// A type that may be left out.
 fn option_read(
     alloc: Global,
-    decls: &FirstDecls<'_>,
-    vars: &mut Row<TypeVar>,
+    around: &Around<'_>,
+    vars: &mut TypeVars,
     reading: &mut Reading,
     text: &Option<TypeText>,
 ) -> Result<Ty, AllocError>
-    ensures means { IfOk result (λ t. typed t reading.new ≡ option_reads decls.now text.now vars.old reading.old) }
+    ensures means { IfOk result (λ t. typed t reading.new ≡ option_reads around.now.decls.now text.now (around.now.statics ++ vars.old) reading.old) }
     ensures kept { OnOk result (vars.new ≡ vars.old) }
 {
     match text {
         None => Ok(Ty::Any),
-        Some(text) => read_type(alloc, decls, vars, reading, text, false),
+        Some(text) => read_type(alloc, around, vars, reading, text, false),
     }
 }
 
@@ -64,12 +65,13 @@ fn read_heading(
 ) -> Result<Heading, AllocError>
     ensures { IfOk result (λ h. h ≡ heading decls.now kind header.now) }
 {
-    let mut vars = Row::new(alloc);
+    let around = Around::top(decls);
+    let mut vars = TypeVars::new(alloc);
     let mut reading = unread(alloc);
     let texts = header.params.as_slice();
-    bind_all(alloc, decls, &mut vars, &mut reading, texts, false)?;
+    bind_all(alloc, &around, &mut vars, &mut reading, texts, false)?;
     let params = copy_bounds(alloc, reading.vars.as_slice())?;
-    let parent = option_read(alloc, decls, &mut vars, &mut reading, &header.parent)?;
+    let parent = option_read(alloc, &around, &mut vars, &mut reading, &header.parent)?;
     let own = Decl {
         name: header.name.bytes.copy()?,
         kind,
@@ -83,17 +85,17 @@ fn read_heading(
 /// The types of fields.
 fn types_read(
     alloc: Global,
-    decls: &FirstDecls<'_>,
-    vars: &mut Row<TypeVar>,
+    around: &Around<'_>,
+    vars: &mut TypeVars,
     reading: &mut Reading,
     fields: &[FieldText],
 ) -> Result<Row<Ty>, AllocError>
-    ensures means { IfOk result (λ ts. types ts reading.new ≡ all_read decls.now (map (λ (f : FieldOf). f.ty) fields.now) vars.old reading.old) }
+    ensures means { IfOk result (λ ts. types ts reading.new ≡ all_read around.now.decls.now (map (λ (f : FieldOf). f.ty) fields.now) (around.now.statics ++ vars.old) reading.old) }
     ensures kept { OnOk result (vars.new ≡ vars.old) }
 {
     let mut tys = Row::new(alloc);
     for field in fields {
-        let ty = option_read(alloc, decls, vars, reading, &field.ty)?;
+        let ty = option_read(alloc, around, vars, reading, &field.ty)?;
         tys.push(ty)?;
     }
     Ok(tys)
@@ -142,7 +144,7 @@ fn own_types(
     decls.push(copy_decl(&heading.own)?)?;
     let tys = types_read(
         alloc,
-        &decls.all(),
+        &Around::top(&decls.all()),
         &mut heading.vars,
         &mut heading.reading,
         fields,

@@ -6,7 +6,7 @@ use Rattle.jl_model.specs.declared.ty.Decl.{Decl}
 use Rattle.jl_names.specs.Numbers.{Numbered, number_in, with_number, firsts, placed, names_of}
 use Rattle.jl_names.proofs.NumberLemmas.{or_else, number_append, firsts_first, firsts_snoc, placed_snoc, place_push}
 
-text_self : (n : List ℕ) → same_text n n ≡ true
+pub text_self : (n : List ℕ) → same_text n n ≡ true
 text_self [] = refl
 text_self (x ∷ xs) = ap (λ b. b && same_text xs xs) (let e : (x == x) ≡ true = grind arith in e) ∙ text_self xs
 

@@ -1,16 +1,25 @@
 -- The entries of a map as names with numbers.
 use Rattle.std.proofs.Common.{◌≡◌, ◌∙◌, refl, sym, ap, ℕ, Bool, true, false, cond, if◌then◌else◌, ◌&&◌, ◌==◌, nat_eq, List, [], ◌∷◌, ◌++◌, map, take, zero, suc, Option, Some, None, is_some}
 use Rattle.std.specs.Cmp.Lexicographic.{pointwise}
-use Rattle.std.specs.Map.{lookup}
+use Rattle.std.specs.Map.{lookup, set_value}
 use Rattle.indexmap.specs.IndexMap.{insert_entry}
 use Rattle.jl_calculus.specs.Names.{same_text}
-use Rattle.jl_names.specs.Numbers.{Numbered, number_in, with_number}
+use Rattle.jl_names.specs.Numbers.{Numbered, number_in, with_number, renumbered}
 
 pub same_bytes : (a b : List ℕ) → pointwise nat_eq a b ≡ same_text a b
 same_bytes [] [] = refl
 same_bytes [] (y ∷ ys) = refl
 same_bytes (x ∷ xs) [] = refl
 same_bytes (x ∷ xs) (y ∷ ys) = ap (λ b. (x == y) && b) (same_bytes xs ys)
+
+-- where a name has no number, nothing changes
+pub renumbered_none : (name : List ℕ) (v : ℕ) (es : List Numbered) → number_in es name ≡ None → renumbered es (name, v) ≡ es
+renumbered_none name v [] h = refl
+renumbered_none name v (e ∷ es) h = by (same_text name e.0) refl h (renumbered_none name v es)
+  where
+    by : (b : Bool) → same_text name e.0 ≡ b → cond b (Some e.1) (number_in es name) ≡ None → (number_in es name ≡ None → renumbered es (name, v) ≡ es) → cond b ((e.0, v) ∷ es) (e ∷ renumbered es (name, v)) ≡ e ∷ es
+    by true g f r = absurd (let z : Some e.1 ≡ None = f in cc)
+    by false g f r = ap (λ z. e ∷ z) (r f)
 
 module _ {K : Type 0} (items : K → List ℕ) where
   abbrev pub pairs : List (K × ℕ) → List Numbered
@@ -35,6 +44,17 @@ module _ {K : Type 0} (items : K → List ℕ) where
   pub inserted : (eq : K → K → Bool) (k : K) (v : ℕ) → ((x : K) → eq k x ≡ same_text (items k) (items x)) → (es : List (K × ℕ)) → number_in (pairs es) (items k) ≡ None
       → pairs (insert_entry eq es k v) ≡ with_number (pairs es) (items k, v)
   inserted eq k v h es g = appended eq k v h es g ∙ sym (ap (λ o. cond (is_some o) (pairs es) (pairs es ++ (items k, v) ∷ [])) g)
+
+  -- another number for a name
+  pub renumbered_is : (test : K → Bool) (name : List ℕ) (v : ℕ) → ((k : K) → test k ≡ same_text name (items k)) → (es : List (K × ℕ)) → pairs (set_value test es v) ≡ renumbered (pairs es) (name, v)
+  renumbered_is test name v h [] = refl
+  renumbered_is test name v h (e ∷ es) =
+      by (test e.0) ∙ ap (λ b. cond b ((items e.0, v) ∷ pairs es) ((items e.0, e.1) ∷ pairs (set_value test es v))) (h e.0)
+      ∙ ap (λ z. cond (same_text name (items e.0)) ((items e.0, v) ∷ pairs es) ((items e.0, e.1) ∷ z)) (renumbered_is test name v h es)
+    where
+      by : (b : Bool) → pairs (cond b ((e.0, v) ∷ es) (e ∷ set_value test es v)) ≡ cond b ((items e.0, v) ∷ pairs es) ((items e.0, e.1) ∷ pairs (set_value test es v))
+      by true = refl
+      by false = refl
 
   pub cut : (most : ℕ) (es : List (K × ℕ)) → pairs (take most es) ≡ take most (pairs es)
   cut zero es = refl

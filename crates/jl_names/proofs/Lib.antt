@@ -1,3 +1,4 @@
 pub mod DeclLemmas
 pub mod EntryLemmas
 pub mod NumberLemmas
+pub mod StackLemmas

@@ -17,6 +17,15 @@ number_in (e ∷ es) name = cond (same_text name e.0) (Some e.1) (number_in es n
 abbrev pub with_number : List Numbered → Numbered → List Numbered
 with_number es e = cond (is_some (number_in es e.0)) es (es ++ e ∷ [])
 
+-- another number for a name that has one
+abbrev pub renumbered : List Numbered → Numbered → List Numbered
+renumbered [] e = []
+renumbered (x ∷ xs) e = cond (same_text e.0 x.0) ((x.0, e.1) ∷ xs) (x ∷ renumbered xs e)
+
+-- one more name, or another number for one that has a number
+abbrev pub with_newer : List Numbered → Numbered → List Numbered
+with_newer es e = cond (is_some (number_in es e.0)) (renumbered es e) (es ++ e ∷ [])
+
 -- names one after another, behind others
 abbrev pub firsts_after : List Numbered → List Numbered → List Numbered
 firsts_after es [] = es

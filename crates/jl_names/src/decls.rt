@@ -91,9 +91,10 @@ impl DeclList {
         }
     }
 
-    /// All declarations but the last.
+    /// All declarations but the last, where there is one.
     pub fn pop(&mut self)
-        ensures { (ds : List Decl) (d : Decl) → self.old ≡ ds ++ d ∷ [] → self.new ≡ ds }
+        ensures last { (ds : List Decl) (d : Decl) → self.old ≡ ds ++ d ∷ [] → self.new ≡ ds }
+        ensures none { self.old ≡ [] → self.new ≡ [] }
     {
         let count = self.decls.len();
         if count == 0 {

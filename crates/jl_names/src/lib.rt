@@ -5,6 +5,7 @@ pub mod decls;
 pub mod list;
 pub mod marked;
 pub mod slots;
+pub mod stack;
 pub mod table;
 #[cfg(test)]
 mod tests;

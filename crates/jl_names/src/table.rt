@@ -1,7 +1,7 @@
 //! Names with numbers, each name once.
 
 ghost use Rattle.std.specs.Prelude.{◌≡◌, ◌≤◌, ◌^◌, [], ◌+◌, ◌-◌, take, length, IfOk, OnOk, OnErr};
-ghost use Rattle.jl_names.specs.Numbers.{number_in, with_number};
+ghost use Rattle.jl_names.specs.Numbers.{number_in, with_number, renumbered, with_newer};
 
 use indexmap::IndexMap;
 use std::alloc::{AllocError, Global};
@@ -64,6 +64,27 @@ impl NameMap {
         }
         let key = Vec::from_slice(self.alloc, name)?;
         self.numbers.insert(key, number)?;
+        Ok(())
+    }
+
+    /// Another number for a name. A name that has none stays without.
+    pub fn renumber(&mut self, name: &[u8], number: u32)
+        ensures { self.new ≡ renumbered self.old (name.now, number) }
+    {
+        if let Some(old) = self.numbers.get_mut(name) {
+            *old = number;
+        }
+    }
+
+    /// One more name with its number; a name that has one gets this in its place.
+    pub fn put(&mut self, name: &[u8], number: u32) -> Result<(), AllocError>
+        ensures put { OnOk result (self.new ≡ with_newer self.old (name.now, number)) }
+        ensures refused { OnErr result (self.new ≡ self.old) }
+    {
+        if self.find(name).is_none() {
+            return self.add(name, number);
+        }
+        self.renumber(name, number);
         Ok(())
     }
 

@@ -4,6 +4,7 @@ use crate::decls::DeclList;
 use crate::list::NameList;
 use crate::marked::MarkedNames;
 use crate::slots::Slots;
+use crate::stack::NameStack;
 use jl_grammar::tree::Name;
 use jl_model::shared::SharedList;
 use jl_model::ty::{Bounds, Bytes, Decl, DeclKind, Fields, Ty};
@@ -41,6 +42,25 @@ fn a_marked_name_is_found_where_it_stands_first(rt: HostRuntime) -> Result<(), F
     })?;
     assert!(rt; names.find(b"f") == Some(7) && names.find(b"g") == None);
     assert!(rt; names.as_slice().len() == 2);
+    Ok(())
+}
+
+#[test]
+fn the_last_of_several_hides_the_others(rt: HostRuntime) -> Result<(), Fail> {
+    let alloc = rt.alloc();
+    let mut names = NameStack::new(alloc);
+    names.push(text(alloc, b"T")?)?;
+    names.push(text(alloc, b"S")?)?;
+    names.push(text(alloc, b"T")?)?;
+    assert!(rt;
+        names.find(b"T") == Some(2) && names.find(b"S") == Some(1) && names.find(b"U") == None
+    );
+    names.truncate(2);
+    assert!(rt; names.find(b"T") == Some(0) && names.find(b"S") == Some(1) && names.len() == 2);
+    names.truncate(1);
+    assert!(rt; names.find(b"S") == None);
+    names.push(text(alloc, b"U")?)?;
+    assert!(rt; names.find(b"S") == None && names.find(b"U") == Some(1));
     Ok(())
 }
 

@@ -18,26 +18,26 @@ use Rattle.jl_resolve_forms.specs.declared.state.State.{State}
 use Rattle.jl_resolve_forms.specs.TypesIn.{Tests, wrote, declared_at, begins, type_at, made_type, body_written, made_at}
 
 pub body_steps :
-    (t : Tests) (k : Known) (text : TypeText) (c : Scope) (s s1 : State) (ds : List Decl) (vs : List TypeVar) (at : ℕ) (ty : Ty) (r : Reading) (w : Written)
-    → ds ≡ declared_at k c.types → vs ≡ c.statics → at ≡ begins text → typed ty r ≡ body_type ds vs text → wrote w s1 ≡ type_at t at (typed ty r) s
+    (t : Tests) (k : Known) (text : TypeText) (c : Scope) (s s1 : State) (ds : List Decl) (at : ℕ) (ty : Ty) (r : Reading) (w : Written)
+    → ds ≡ declared_at k c.types → at ≡ begins text → typed ty r ≡ body_type ds c.statics text → wrote w s1 ≡ type_at t at (typed ty r) s
     → wrote w s1 ≡ body_written t k text c s
 unfolding body_written
-body_steps t k text c s s1 ds vs at ty r w e1 e2 e3 e4 e5 =
-    e5
-    ∙ ap (λ (z : Typed). type_at t at z s) (e4 ∙ ap (λ (z : List Decl). body_type z vs text) e1 ∙ ap (λ (z : List TypeVar). body_type (declared_at k c.types) z text) e2)
-    ∙ ap (λ (z : ℕ). type_at t z (body_type (declared_at k c.types) c.statics text) s) e3
+body_steps t k text c s s1 ds at ty r w e1 e2 e3 e4 =
+    e4
+    ∙ ap (λ (z : Typed). type_at t at z s) (e3 ∙ ap (λ (z : List Decl). body_type z c.statics text) e1)
+    ∙ ap (λ (z : ℕ). type_at t z (body_type (declared_at k c.types) c.statics text) s) e2
 
 pub made_steps :
-    (t : Tests) (k : Known) (at p : ℕ) (xs : List ArgText) (c : Scope) (s s1 : State) (ds : List Decl) (bs : List Bound) (vs : List TypeVar) (ty : Ty) (r : Reading) (counted : Bool) (w : Written)
-    → ds ≡ declared_at k c.types → bs ≡ params_of (slice_get k.decls p) → vs ≡ c.statics → counted ≡ nat_eq (length xs) (length bs)
-    → typed ty r ≡ constructor_type ds p bs vs xs → wrote w s1 ≡ made_type t at (typed ty r) counted s
+    (t : Tests) (k : Known) (at p : ℕ) (xs : List ArgText) (c : Scope) (s s1 : State) (ds : List Decl) (bs : List Bound) (ty : Ty) (r : Reading) (counted : Bool) (w : Written)
+    → ds ≡ declared_at k c.types → bs ≡ params_of (slice_get k.decls p) → counted ≡ nat_eq (length xs) (length bs)
+    → typed ty r ≡ constructor_type ds p bs c.statics xs → wrote w s1 ≡ made_type t at (typed ty r) counted s
     → wrote w s1 ≡ made_at t k at p xs c s
 unfolding made_at
-made_steps t k at p xs c s s1 ds bs vs ty r counted w e1 e2 e3 e4 e5 e6 =
-    let read = e5 ∙ ap (λ (z : List Decl). constructor_type z p bs vs xs) e1 ∙ ap (λ (z : List TypeVar). constructor_type (declared_at k c.types) p bs z xs) e3 in
-    e6
+made_steps t k at p xs c s s1 ds bs ty r counted w e1 e2 e3 e4 e5 =
+    let read = e4 ∙ ap (λ (z : List Decl). constructor_type z p bs c.statics xs) e1 in
+    e5
     ∙ ap (λ (z : Typed). made_type t at z counted s) read
-    ∙ ap (λ (z : Bool). made_type t at (constructor_type (declared_at k c.types) p bs c.statics xs) z s) e4
+    ∙ ap (λ (z : Bool). made_type t at (constructor_type (declared_at k c.types) p bs c.statics xs) z s) e3
     ∙ ap (λ (z : List Bound). made_type t at (constructor_type (declared_at k c.types) p z c.statics xs) (nat_eq (length xs) (length z)) s) e2
 
 -- one more element of a list that a loop makes

@@ -55,7 +55,8 @@ use Rattle.jl_resolve_forms.specs.declared.state.SignatureRead.{SignatureRead}
 use Rattle.jl_resolve_forms.specs.declared.state.Signed.{Signed}
 use Rattle.jl_resolve_forms.specs.declared.state.State.{State}
 use Rattle.jl_resolve_forms.specs.Scopes.{Seen, seen, slot_of, note, noted, merged, with_slot, bind}
-use Rattle.jl_resolve_forms.specs.Functions.{place_of_callee, function_of, struct_named, called, finds_parameters}
+use Rattle.jl_resolve_forms.specs.Functions.{place_of_callee, function_of, struct_named, called}
+use Rattle.jl_resolve_forms.specs.Parameters.{finds_parameters}
 use Rattle.jl_resolve_forms.specs.TypesIn.{Tests, declared_at, refusal, begins, one_type, body_written, made_at}
 
 -- ---- what a part becomes

@@ -1,12 +1,7 @@
 -- What a called name is (Julia manual, Functions; Constructors).
-use Rattle.std.specs.Prelude.{ℕ, Bool, false, ◌&&◌, cond, nat_le, nat_eq, List, map, length, Option, Some, None, slice_get}
-use Rattle.std.specs.List.{list_all}
+use Rattle.std.specs.Prelude.{ℕ, ◌&&◌, cond, nat_le, nat_eq, List, map, length, Option, Some, None, slice_get}
 use Rattle.jl_model.specs.declared.ty.Decl.{Decl}
-use Rattle.jl_model.specs.declared.ty.Written.{Written}
-use Rattle.jl_model.specs.AllRows.{each_var}
 use Rattle.jl_model.specs.Ancestors.{is_struct_kind}
-use Rattle.jl_model.specs.Kept.{field_types}
-use Rattle.jl_model.specs.Usable.{is_usable}
 use Rattle.jl_model.specs.Valid.{params_of}
 use Rattle.jl_calculus.specs.Prelude.{prelude_functions}
 use Rattle.jl_token.specs.declared.token.Operator.{Operator}
@@ -77,11 +72,3 @@ called_from ds None None = D.Unknown
 
 unfoldable pub called : Known → Callee → Scope → Called
 called k f c = called_from k.decls (struct_of k f c) (function_of k f c)
-
--- the field types of a struct make all its parameters usable
-abbrev pub fields_signature : Decl → Written
-fields_signature d = record { vars = d.params; parts = field_types d.fields }
-
-abbrev pub finds_parameters : Option Decl → Bool
-finds_parameters None = false
-finds_parameters (Some d) = list_all (λ b. b) (each_var (is_usable (fields_signature d)) 0 d.params)

@@ -1,5 +1,6 @@
 pub mod Scopes
 pub mod Functions
+pub mod Parameters
 pub mod TypesIn
 pub mod Expressions
 pub mod Defined

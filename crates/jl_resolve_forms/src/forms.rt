@@ -1,13 +1,9 @@
 //! What a form becomes, once its parts are read.
 
-ghost use Rattle.std.specs.Prelude.{◌≡◌, ◌∷◌, [], IfOk, slice_get, length};
+ghost use Rattle.std.specs.Prelude.{◌≡◌, ◌∷◌, [], IfOk, length};
 ghost use Rattle.jl_calculus.specs.declared.tree.Stmt.TheVariants as S;
 ghost use Rattle.jl_resolve_forms.specs.Scopes.{slot_of, seen, bind};
-ghost use Rattle.std.specs.List.{list_all};
-ghost use Rattle.jl_model.specs.AllRows.{each_var};
-ghost use Rattle.jl_model.specs.Usable.{is_usable};
 ghost use Rattle.jl_calculus.specs.declared.tree.Expr.TheViews as C;
-ghost use Rattle.jl_resolve_forms.specs.Functions.{finds_parameters, fields_signature};
 ghost use Rattle.jl_resolve_forms.specs.TypesIn.{tests};
 ghost use Rattle.jl_resolve_forms.specs.Expressions.{coded, codes, stated, said, local, prefix_code, infix_code, counted, latest, call, chained, inferred_refusal, part_number};
 
@@ -20,8 +16,7 @@ use jl_calculus::tree::{Expr as Code, Exprs as Codes, Item, Stmt};
 use jl_grammar::tree::{Infix, Name, Prefix};
 use jl_model::rows::Share;
 use jl_model::shared::{SharedList, SharedNode};
-use jl_model::ty::{Bound, Bytes, Decl, Ty, Tys, Written};
-use jl_sig::is_usable;
+use jl_model::ty::{Bytes, Ty, Tys};
 use jl_written::fault::StaticKind;
 use jl_written::names::small;
 use std::alloc::{AllocError, Global};
@@ -132,41 +127,6 @@ pub fn latest(state: &mut State, at: u32, function: Option<u32>, arguments: Code
     }
 }
 
-/// Whether the field types of a struct make all its parameters usable.
-fn finds_parameters(alloc: Global, decls: &[Decl], number: u32) -> Result<bool, AllocError>
-    ensures { IfOk result (λ b. b ≡ finds_parameters (slice_get decls.now number)) }
-{
-    match decls.get(number as usize) {
-        None => Ok(false),
-        Some(decl) => are_usable(&fields_signature(alloc, decl)?, decl.params.as_slice()),
-    }
-}
-
-fn are_usable(written: &Written, params: &[Bound]) -> Result<bool, AllocError>
-    ensures { IfOk result (λ b. b ≡ list_all (λ b. b) (each_var (is_usable written.now) 0 params.now)) }
-{
-    for (variable, _) in params.iter().enumerate() {
-        if !is_usable(written, small(variable)?) {
-            return Ok(false);
-        }
-    }
-    Ok(true)
-}
-
-/// The signature of a struct's fields.
-fn fields_signature(alloc: Global, decl: &Decl) -> Result<Written, AllocError>
-    ensures { IfOk result (λ w. w ≡ fields_signature decl.now) }
-{
-    let mut parts = Vec::new(alloc);
-    for field in decl.fields.as_slice() {
-        parts.push(field.ty.copy()?)?;
-    }
-    Ok(Written {
-        vars: decl.params.copy()?,
-        parts: SharedList::from_vec(alloc, parts)?,
-    })
-}
-
 /// What refuses an inferred constructor.
 fn inferred_refusal<J: Judge>(
     alloc: Global,
@@ -176,7 +136,7 @@ fn inferred_refusal<J: Judge>(
 ) -> Result<Option<StaticKind>, AllocError>
     ensures { IfOk result (λ k. k ≡ inferred_refusal (tests (J.below judge.now) (J.signature_refusal judge.now) (J.body_refusal judge.now) (J.wide_struct judge.now)) known.now number) }
 {
-    if !finds_parameters(alloc, known.decls.as_slice(), number)? {
+    if !known.decls.finds_parameters(number) {
         return Ok(Some(StaticKind::StaticParameterUse));
     }
     if judge.is_wide(alloc, number)? {

@@ -2,10 +2,9 @@
 
 ghost use Rattle.std.specs.Prelude.{◌≡◌, map, List, ℕ};
 ghost use Rattle.jl_model.specs.declared.ty.Decl.{Decl};
-ghost use Rattle.jl_model.specs.Usable.{stands_in, is_outside_unions, is_usable};
 ghost use Rattle.jl_calculus.specs.Prelude.{prelude_functions};
 ghost use Rattle.jl_written.specs.Meaning.{place_of};
-ghost use Rattle.jl_resolve_forms.specs.Functions.{function_of_operator, place_of_callee, function_of, if_struct, struct_named, struct_of, constructor, called, finds_parameters};
+ghost use Rattle.jl_resolve_forms.specs.Functions.{function_of_operator, place_of_callee, function_of, if_struct, struct_named, struct_of, constructor, called};
 
 use crate::known::{Called, Known};
 use crate::scopes::slot_of;
@@ -132,8 +131,8 @@ pub fn struct_named(known: &Known, name: &[u8], scope: &Scope) -> Option<u32>
 {
     match slot_of(&scope.slots, name) {
         None => {
-            let found = declaration_of(&known.decls, name);
-            if_struct(known.decls.as_slice(), found)
+            let found = declaration_of(known.decls.list(), name);
+            if_struct(known.decls.list().as_slice(), found)
         }
         Some(_) => None,
     }
@@ -171,7 +170,7 @@ pub fn called(known: &Known, callee: &Callee, scope: &Scope) -> Called
     ensures { result ≡ called known.now callee.now scope.now }
 {
     match struct_of(known, callee, scope) {
-        Some(number) => constructor(known.decls.as_slice(), number),
+        Some(number) => constructor(known.decls.list().as_slice(), number),
         None => match function_of(known, callee, scope) {
             Some(number) => Called::Function(number),
             None => Called::Unknown,

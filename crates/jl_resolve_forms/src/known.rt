@@ -1,8 +1,8 @@
 //! What is known of a script before its statements are read.
 
+use crate::known_decls::KnownDecls;
 use jl_calculus::tree::Expr;
 use jl_model::shared::SharedNode;
-use jl_names::decls::DeclList;
 use jl_names::list::NameList;
 use jl_names::marked::MarkedNames;
 
@@ -10,7 +10,7 @@ use jl_names::marked::MarkedNames;
 /// functions and to types, where they stand, in text order.
 #[derive(Drop)]
 pub struct Known {
-    pub decls: DeclList,
+    pub decls: KnownDecls,
     pub functions: NameList,
     pub methods: MarkedNames,
     pub types: MarkedNames,

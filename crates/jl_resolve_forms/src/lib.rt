@@ -7,6 +7,7 @@ pub mod forms;
 pub mod functions;
 pub mod judge;
 pub mod known;
+pub mod known_decls;
 pub mod methods;
 pub mod scopes;
 pub mod state;

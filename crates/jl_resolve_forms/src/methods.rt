@@ -1,6 +1,8 @@
 //! A method up to its body: its function, its signature, and what its body sees.
 
-ghost use Rattle.std.specs.Prelude.{◌≡◌, map, length, IfOk, OnOk};
+ghost use Rattle.std.specs.Prelude.{◌≡◌, ◌++◌, map, length, IfOk, OnOk};
+ghost use Rattle.jl_model.specs.AllRows.{each_var};
+ghost use Rattle.jl_model.specs.Usable.{is_usable};
 ghost use Rattle.jl_calculus.specs.Names.{is_among};
 ghost use Rattle.jl_written.specs.Reads.{types};
 ghost use Rattle.jl_written.specs.Signatures.{all_read, signature, written_of};
@@ -23,13 +25,14 @@ use jl_model::ty::{Ty, Tys, Written};
 use jl_names::decls::FirstDecls;
 use jl_names::marked::MarkedNames;
 use jl_names::slots::Slots;
-use jl_sig::is_usable;
+use jl_sig::{is_usable, usable_variables};
 use jl_typeread::tree::VarText;
 use jl_written::fault::StaticKind;
 use jl_written::names::{is_builtin, small};
 use jl_written::reading::{Reading, TypeVar};
 use jl_written::reads::{bind_all, read_type};
 use jl_written::signatures::{adopted, unread};
+use jl_written::vars::{Around, TypeVars};
 use std::alloc::{AllocError, Global};
 
 /// Neither slots nor static parameters are visible.
@@ -38,7 +41,7 @@ pub fn bare_scope(alloc: Global, types: u32) -> Scope
 {
     Scope {
         slots: Slots::new(alloc),
-        statics: Row::new(alloc),
+        statics: TypeVars::new(alloc),
         types,
     }
 }
@@ -101,20 +104,20 @@ fn too_many(state: &State) -> Option<StaticKind>
 /// The types of parameters.
 fn all_read(
     alloc: Global,
-    decls: &FirstDecls<'_>,
-    vars: &mut Row<TypeVar>,
+    around: &Around<'_>,
+    vars: &mut TypeVars,
     reading: &mut Reading,
     params: &[Param],
 ) -> Result<Tys, AllocError>
-    ensures means { IfOk result (λ ts. types ts reading.new ≡ all_read decls.now (map type_of params.now) vars.old reading.old) }
+    ensures means { IfOk result (λ ts. types ts reading.new ≡ all_read around.now.decls.now (map type_of params.now) (around.now.statics ++ vars.old) reading.old) }
     ensures kept { OnOk result (vars.new ≡ vars.old) }
 {
     let mut tys = Row::new(alloc);
     for param in params {
         let ty = match param {
             Param::Name(_) => Ty::Any,
-            Param::Typed(_, text) => read_type(alloc, decls, vars, reading, text, false)?,
-            Param::Unnamed(_, text) => read_type(alloc, decls, vars, reading, text, false)?,
+            Param::Typed(_, text) => read_type(alloc, around, vars, reading, text, false)?,
+            Param::Unnamed(_, text) => read_type(alloc, around, vars, reading, text, false)?,
         };
         tys.push(ty)?;
     }
@@ -130,10 +133,11 @@ fn signature(
 ) -> Result<SignatureRead, AllocError>
     ensures { IfOk result (λ r. signature_as r ≡ signature decls.now (map type_of params.now) vars.now) }
 {
-    let mut visible = Row::new(alloc);
+    let around = Around::top(decls);
+    let mut visible = TypeVars::new(alloc);
     let mut reading = unread(alloc);
-    bind_all(alloc, decls, &mut visible, &mut reading, vars, false)?;
-    let types = all_read(alloc, decls, &mut visible, &mut reading, params)?;
+    bind_all(alloc, &around, &mut visible, &mut reading, vars, false)?;
+    let types = all_read(alloc, &around, &mut visible, &mut reading, params)?;
     Ok(SignatureRead {
         vars: visible,
         types,
@@ -159,14 +163,26 @@ fn signature_refusal<J: Judge>(
     judge.refuses_signature(alloc, written)
 }
 
+/// Whether a body may use a variable, where the flags tell this of the signature's own.
+fn is_flagged(written: &Written, flags: &[bool], number: u32) -> bool
+    requires { flags.now ≡ each_var (is_usable written.now) 0 written.now.vars }
+    ensures { result ≡ is_usable written.now number }
+{
+    match flags.get(number as usize) {
+        None => is_usable(written, number),
+        Some(flag) => *flag,
+    }
+}
+
 /// A static parameter, with whether it is usable in the body.
-fn static_parameter(written: &Written, var: &TypeVar) -> Result<TypeVar, AllocError>
+fn static_parameter(written: &Written, flags: &[bool], var: &TypeVar) -> Result<TypeVar, AllocError>
+    requires { flags.now ≡ each_var (is_usable written.now) 0 written.now.vars }
     ensures { IfOk result (λ v. v ≡ static_parameter written.now var.now) }
 {
     Ok(TypeVar {
         name: var.name.copy()?,
         number: var.number,
-        usable: is_usable(written, var.number),
+        usable: is_flagged(written, flags, var.number),
     })
 }
 
@@ -175,12 +191,13 @@ fn static_parameters(
     alloc: Global,
     written: &Written,
     vars: &[TypeVar],
-) -> Result<Row<TypeVar>, AllocError>
+) -> Result<TypeVars, AllocError>
     ensures { IfOk result (λ vs. vs ≡ static_parameters written.now vars.now) }
 {
-    let mut statics = Row::new(alloc);
+    let flags = usable_variables(alloc, written)?;
+    let mut statics = TypeVars::new(alloc);
     for var in vars {
-        statics.push(static_parameter(written, var)?)?;
+        statics.push(static_parameter(written, flags.as_slice(), var)?)?;
     }
     Ok(statics)
 }

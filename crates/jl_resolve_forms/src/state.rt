@@ -2,18 +2,18 @@
 
 use crate::cells::Cells;
 use jl_calculus::tree::{Expr, Site};
-use jl_model::rows::Row;
 use jl_model::ty::{Tys, Written};
 use jl_names::slots::Slots;
 use jl_written::fault::{Fault, StaticKind};
-use jl_written::reading::{Reading, TypeVar};
+use jl_written::reading::Reading;
+use jl_written::vars::TypeVars;
 
 /// What is visible at a place: the slots, each with its name, where it has one; the static parameters of the method; and
 /// how many types are declared before, the built-in ones among them.
 #[derive(Drop)]
 pub struct Scope {
     pub slots: Slots,
-    pub statics: Row<TypeVar>,
+    pub statics: TypeVars,
     pub types: u32,
 }
 
@@ -36,7 +36,7 @@ pub struct Opening {
 /// The signature of a method: the variables of its `where`, the signature, its first fault, and what refuses it.
 #[derive(Drop)]
 pub struct Signed {
-    pub vars: Row<TypeVar>,
+    pub vars: TypeVars,
     pub sig: Written,
     pub fault: Option<Fault>,
     pub refusal: Option<StaticKind>,
@@ -45,7 +45,7 @@ pub struct Signed {
 /// The types of a method's parameters: the variables of its `where`, the types, and what is known behind them.
 #[derive(Drop)]
 pub struct SignatureRead {
-    pub vars: Row<TypeVar>,
+    pub vars: TypeVars,
     pub types: Tys,
     pub reading: Reading,
 }

@@ -4,6 +4,7 @@ use crate::defined::{methods_of, with_names};
 use crate::forms::infix_code;
 use crate::functions::called;
 use crate::known::{Called, Known};
+use crate::known_decls::KnownDecls;
 use crate::methods::bare_scope;
 use crate::scopes::{bind, slot_of};
 use crate::state::State;
@@ -11,7 +12,7 @@ use crate::top::top_bind;
 use jl_calculus::tree::Expr as Code;
 use jl_grammar::tree::{Callee, Expr, Head, Infix, Item, Method, Name};
 use jl_model::shared::{SharedList, SharedNode};
-use jl_model::ty::Bytes;
+use jl_model::ty::{Bound, Bounds, Bytes, Decl, DeclKind, Field, Fields, Ty, Tys};
 use jl_names::decls::DeclList;
 use jl_names::list::NameList;
 use jl_names::marked::MarkedNames;
@@ -37,7 +38,7 @@ fn known(alloc: Global) -> Result<Known, AllocError> {
     let mut methods = MarkedNames::new(alloc);
     methods.push(name(alloc, 3, b"f")?)?;
     Ok(Known {
-        decls: DeclList::new(alloc),
+        decls: KnownDecls::of(alloc, DeclList::new(alloc))?,
         functions,
         methods,
         types: MarkedNames::new(alloc),
@@ -158,5 +159,52 @@ fn the_methods_of_a_script_name_its_functions(rt: HostRuntime) -> Result<(), Fai
     assert!(rt; names.as_slice().len() == 1);
     let functions = with_names(NameList::new(alloc), names.as_slice())?;
     assert!(rt; functions.len() == 1);
+    Ok(())
+}
+
+/// `struct A{T, S}; x::ty end`
+fn with_field(alloc: Global, ty: Ty) -> Result<Decl, AllocError> {
+    let mut params = Vec::new(alloc);
+    for _ in 0..2 {
+        params.push(Bound {
+            low: Ty::Union(Tys::empty()),
+            high: Ty::Any,
+        })?;
+    }
+    let mut fields = Vec::new(alloc);
+    fields.push(Field {
+        name: bytes(alloc, b"x")?,
+        ty,
+    })?;
+    Ok(Decl {
+        name: bytes(alloc, b"A")?,
+        kind: DeclKind::Struct,
+        params: Bounds::from_vec(alloc, params)?,
+        parent: Ty::Any,
+        fields: Fields::from_vec(alloc, fields)?,
+    })
+}
+
+/// The variables of both parameters.
+fn both(alloc: Global) -> Result<Tys, AllocError> {
+    let mut tys = Vec::new(alloc);
+    tys.push(Ty::Var(0))?;
+    tys.push(Ty::Var(1))?;
+    Tys::from_vec(alloc, tys)
+}
+
+#[test]
+fn a_constructor_infers_the_parameters_that_stand_outside_unions(
+    rt: HostRuntime,
+) -> Result<(), Fail> {
+    let alloc = rt.alloc();
+    let mut decls = DeclList::new(alloc);
+    decls.push(with_field(alloc, Ty::Tuple(both(alloc)?))?)?;
+    decls.push(with_field(alloc, Ty::Union(both(alloc)?))?)?;
+    decls.push(with_field(alloc, Ty::Var(0))?)?;
+    let known = KnownDecls::of(alloc, decls)?;
+    assert!(rt; known.finds_parameters(0) && !known.finds_parameters(1));
+    assert!(rt; !known.finds_parameters(2) && !known.finds_parameters(3));
+    assert!(rt; known.list().len() == 3);
     Ok(())
 }

@@ -25,7 +25,7 @@ use std::alloc::{AllocError, Global};
 pub fn declared_at(known: &Known, types: u32) -> FirstDecls<'_>
     ensures { result ≡ declared_at known.now types }
 {
-    known.decls.first(types as usize)
+    known.decls.list().first(types as usize)
 }
 
 /// Where a type begins.
@@ -127,7 +127,7 @@ pub fn body_written<J: Judge>(
     ensures { IfOk result (λ w. wrote w state.new ≡ body_written (tests (J.below judge.now) (J.signature_refusal judge.now) (J.body_refusal judge.now) (J.wide_struct judge.now)) known.now text.now scope.now state.old) }
 {
     let decls = declared_at(known, scope.types);
-    let (ty, reading) = body_type(alloc, &decls, scope.statics.as_slice(), text)?;
+    let (ty, reading) = body_type(alloc, &decls, &scope.statics, text)?;
     let written = type_at(alloc, judge, state, begins(text), ty, &reading)?;
     Ok(written)
 }
@@ -175,15 +175,8 @@ pub fn made_at<J: Judge>(
     ensures { IfOk result (λ w. wrote w state.new ≡ made_at (tests (J.below judge.now) (J.signature_refusal judge.now) (J.body_refusal judge.now) (J.wide_struct judge.now)) known.now at number texts.now scope.now state.old) }
 {
     let decls = declared_at(known, scope.types);
-    let bounds = params_of(known.decls.as_slice(), number);
-    let (ty, reading) = constructor_type(
-        alloc,
-        &decls,
-        number,
-        bounds,
-        scope.statics.as_slice(),
-        texts,
-    )?;
+    let bounds = params_of(known.decls.list().as_slice(), number);
+    let (ty, reading) = constructor_type(alloc, &decls, number, bounds, &scope.statics, texts)?;
     let counted = texts.len() == bounds.len();
     let written = made_type(alloc, judge, state, at, ty, &reading, counted)?;
     Ok(written)

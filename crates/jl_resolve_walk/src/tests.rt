@@ -13,6 +13,7 @@ use jl_names::list::NameList;
 use jl_names::marked::MarkedNames;
 use jl_resolve_forms::judge::Judge;
 use jl_resolve_forms::known::Known;
+use jl_resolve_forms::known_decls::KnownDecls;
 use jl_written::fault::{Fault, StaticKind};
 use jl_written::signatures::Order;
 use std::alloc::{AllocError, Global};
@@ -75,7 +76,7 @@ fn known(alloc: Global) -> Result<Known, AllocError> {
     let mut methods = MarkedNames::new(alloc);
     methods.push(name(alloc, 0, b"f")?)?;
     Ok(Known {
-        decls: DeclList::new(alloc),
+        decls: KnownDecls::of(alloc, DeclList::new(alloc))?,
         functions,
         methods,
         types: MarkedNames::new(alloc),

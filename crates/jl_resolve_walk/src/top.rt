@@ -150,7 +150,7 @@ fn program_as(
         fault,
     } = state;
     let program = Program {
-        decls: own_decls(alloc, known.decls.as_slice())?,
+        decls: own_decls(alloc, known.decls.list().as_slice())?,
         functions: known.functions.shared(alloc)?,
         sites: sites.into_shared(alloc)?,
         spawns: spawns.into_shared(alloc)?,

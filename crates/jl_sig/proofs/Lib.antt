@@ -24,3 +24,4 @@ pub mod InferredLemmas
 pub mod FieldSigLemmas
 pub mod ReadyLemmas
 pub mod BareLemmas
+pub mod FlagLemmas

@@ -10,3 +10,4 @@ pub mod Samples
 pub mod Inferred
 pub mod Readied
 pub mod SamplePrograms
+pub mod Flags

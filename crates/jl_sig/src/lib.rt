@@ -20,6 +20,7 @@ mod rows;
 mod sig;
 pub mod types;
 mod usable;
+mod usable_flags;
 mod variables;
 
 pub use build::all_rows;
@@ -28,6 +29,7 @@ pub use kind::{Kind, kind_of};
 pub use ready::Ready;
 pub use sig::{Prepared, Sig, prepare};
 pub use usable::is_usable;
+pub use usable_flags::usable_variables;
 pub use variables::kinds;
 
 #[cfg(test)]

@@ -204,8 +204,11 @@ fn mixed(alloc: Global) -> Result<Written, AllocError> {
 #[test]
 fn a_variable_outside_unions_is_usable(rt: HostRuntime) -> Result<(), Fail> {
     let written = mixed(rt.alloc())?;
+    let flags = crate::usable_variables(rt.alloc(), &written)?;
+    assert!(rt; flags.len() == 4);
     for (variable, want) in &USABLE {
         assert!(rt; crate::is_usable(&written, *variable) == *want);
+        assert!(rt; flags[*variable as usize] == *want);
     }
     Ok(())
 }

@@ -1,5 +1,5 @@
 -- The signatures of methods: where no fault stands they are good, and fit what their bodies see.
-use Rattle.std.proofs.Common.{◌≡◌, ◌∙◌, sym, ap, refl, ℕ, zero, suc, ◌+◌, ◌<◌, arith, add-zero, Bool, true, false, nat_lt, List, [], ◌∷◌, ◌++◌, map, length, get_or, Option, None}
+use Rattle.std.proofs.Common.{◌≡◌, ◌∙◌, sym, ap, refl, ℕ, zero, suc, ◌+◌, ◌<◌, arith, Bool, true, false, nat_lt, List, [], ◌∷◌, ◌++◌, map, length, Option, None}
 use Rattle.std.specs.List.{flat_map, list_all}
 use Rattle.jl_model.specs.declared.ty.Bound.{Bound}
 use Rattle.jl_model.specs.declared.ty.Decl.{Decl}
@@ -20,6 +20,7 @@ use Rattle.jl_written.specs.Signatures.{all_bound, all_read, option_reads, writt
 use Rattle.jl_resolve_forms.specs.declared.known.Known.{Known}
 use Rattle.jl_resolve_forms.specs.Expressions.{type_of, static_parameters, signed}
 use Rattle.jl_resolve_forms.specs.TypesIn.{Tests, declared_at}
+use Rattle.jl_resolve_forms.proofs.FlagLemmas.{each_var_at}
 use Rattle.jl_type_laws.specs.Carried.{vars_pass, Visible, WhereUsable}
 use Rattle.jl_type_laws.specs.Scripts.{DeclsKnown}
 use Rattle.jl_type_laws.specs.Told.{StaticsFit, IsGoodSignature}
@@ -50,11 +51,6 @@ all_usable (v ∷ vs) vars inside r h =
     all_usable vs s.vars inside s.after (bound_usable v.at v.name b.bound vars (guarded v.at v.name b.after) (var_of vars v.name) h)
 
 -- ---- static parameters
-
-each_var_at : {A : Type 0} (f : ℕ → A) (bs : List Bound) (i v : ℕ) (d : A) → v < length bs → get_or (each_var f i bs) v d ≡ f (i + v)
-each_var_at f [] i v d l = absurd (omega (arith, l))
-each_var_at f (b ∷ bs) i zero d l = ap f (sym (add-zero i))
-each_var_at f (b ∷ bs) i (suc v) d l = each_var_at f bs (i + 1) v d (omega (arith, l)) ∙ ap f (let e : (i + 1) + v ≡ i + suc v = omega arith in e)
 
 lt_of : (v n : ℕ) → nat_lt v n ≡ true → v < n
 lt_of v n e = grind (arith, e)

@@ -15,7 +15,7 @@ use Rattle.jl_written.specs.declared.reading.Named.{Named}
 use Rattle.jl_written.specs.declared.reading.Named.TheVariants as M
 use Rattle.jl_written.specs.declared.reading.Reading.{Reading}
 use Rattle.jl_written.specs.declared.reading.TypeVar.{TypeVar}
-use Rattle.jl_written.specs.Meaning.{later, var_of, word_of, var_or}
+use Rattle.jl_written.specs.Meaning.{names_of, later, var_of, word_of, var_or}
 use Rattle.jl_written.specs.Reads.{TypeReads, ArgReads, VarReads, note, unread, used, fresh, missing, placed, placed_layer, arguments, members, bound_name, guarded, bind, bind_all, where_at, within, plain, applied, type_step, arg_step, var_step, type_reads, arg_reads, var_reads}
 use Rattle.jl_written.specs.Signatures.{shifted, width_of}
 use Rattle.jl_type_laws.proofs.TextInduction.{EachText, TextCases, by_type}
@@ -23,9 +23,6 @@ use Rattle.jl_type_laws.proofs.ReadLemmas.{each_map}
 
 abbrev Same : Reading → Reading → Type 0
 Same r q = length r.vars ≡ length q.vars
-
-abbrev pub names_of : List TypeVar → List (List ℕ)
-names_of vs = map (λ (v : TypeVar). v.name) vs
 
 longer : (r q : Reading) (b d : Bound) → Same r q → length (r.vars ++ b ∷ []) ≡ length (q.vars ++ d ∷ [])
 longer r q b d h = let e = length-append r.vars (b ∷ []) in let f = length-append q.vars (d ∷ []) in omega (arith, e, f, h)

@@ -40,7 +40,8 @@ use Rattle.jl_resolve_forms.specs.declared.known.Called.TheVariants as D
 use Rattle.jl_resolve_forms.specs.declared.state.Scope.{Scope}
 use Rattle.jl_resolve_forms.specs.declared.state.State.{State}
 use Rattle.jl_resolve_forms.specs.Scopes.{slot_of, noted, merged}
-use Rattle.jl_resolve_forms.specs.Functions.{function_of_operator, place_of_callee, unless_slot, function_of, if_struct, struct_named, struct_of, constructor, called_from, called, finds_parameters}
+use Rattle.jl_resolve_forms.specs.Functions.{function_of_operator, place_of_callee, unless_slot, function_of, if_struct, struct_named, struct_of, constructor, called_from, called}
+use Rattle.jl_resolve_forms.specs.Parameters.{finds_parameters}
 use Rattle.jl_resolve_forms.specs.TypesIn.{Tests, declared_at, refusal, begins, one_type, made_refusal, type_at, made_type, body_written, made_at}
 use Rattle.jl_resolve_forms.specs.Expressions.{Reads, Codes, all_coded, counted, latest, inferred_refusal, call, made_struct, made_args, made, expr_step}
 use Rattle.jl_valid.specs.Adds.{got, no_got, got_both, got_in, got_codes, Fits, Adds}

@@ -1,3 +1,4 @@
 pub mod PlaceLemmas
 pub mod TextLemmas
 pub mod ScopeLemmas
+pub mod VarLemmas

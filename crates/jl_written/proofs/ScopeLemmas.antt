@@ -1,6 +1,6 @@
 -- The variables of a `where` stand behind those that were visible before.
 use Rattle.std.proofs.Common.{◌≡◌, ◌∙◌, ◌++◌, ◌∷◌, [], ap, sym, refl, ℕ, Bool, List, Option, length, take, map, append_assoc}
-use Rattle.std.proofs.lemmas.List.{append-nil}
+use Rattle.std.proofs.lemmas.List.{append-nil, append_cancel_left}
 use Rattle.std.proofs.Math.Seq.{take-append_seam}
 use Rattle.jl_model.specs.declared.ty.Bound.{Bound}
 use Rattle.jl_written.specs.declared.reading.Reading.{Reading}
@@ -27,12 +27,6 @@ more_of (v ∷ vs) vars inside r =
     let rest = more_of vs s.vars inside s.after in
     (one.0 ++ rest.0, rest.1 ∙ ap (λ x. x ++ rest.0) one.1 ∙ append_assoc vars one.0 rest.0)
 
--- cut to their number, the visible variables are those of before
-pub cut_to : (vs : List VarReads) (vars : List TypeVar) (inside : Bool) (r : Reading) → take (length vars) (bind_all vs vars inside r).vars ≡ vars
-cut_to vs vars inside r =
-    let m = more_of vs vars inside r in
-    ap (take (length vars)) m.1 ∙ take-append_seam vars m.0
-
 -- a type in parentheses, step by step: the variables of its `where`, and then the type
 pub within_steps :
     (t : TypeReads) (vs : List VarReads) (vars vars1 : List TypeVar) (inside : Bool) (r r1 r2 r3 : Reading) (ty : Ty)
@@ -42,12 +36,14 @@ within_steps t vs vars vars1 inside r r1 r2 r3 ty w b e =
     let s = b ∙ ap (bind_all vs vars inside) w in
     e ∙ ap (λ (z : Scoped). t z.vars inside z.after) s
 
--- the visible variables behind it
+-- cut to their number, the variables behind it are those of before
 pub within_kept :
-    (vs : List VarReads) (vars vars1 vars2 : List TypeVar) (inside : Bool) (r1 r2 : Reading)
-    → scoped vars1 r2 ≡ bind_all vs vars inside r1 → vars2 ≡ vars1 → take (length vars) vars2 ≡ vars
-within_kept vs vars vars1 vars2 inside r1 r2 b e =
-    ap (take (length vars)) (e ∙ ap (λ (z : Scoped). z.vars) b) ∙ cut_to vs vars inside r1
+    (vs : List VarReads) (statics vars vars1 vars2 : List TypeVar) (inside : Bool) (r1 r2 : Reading)
+    → scoped (statics ++ vars1) r2 ≡ bind_all vs (statics ++ vars) inside r1 → vars2 ≡ vars1 → take (length vars) vars2 ≡ vars
+within_kept vs statics vars vars1 vars2 inside r1 r2 b e =
+    let m = more_of vs (statics ++ vars) inside r1 in
+    let f = append_cancel_left statics vars1 (vars ++ m.0) (ap (λ (z : Scoped). z.vars) b ∙ m.1 ∙ append_assoc statics vars m.0) in
+    ap (take (length vars)) (e ∙ f) ∙ take-append_seam vars m.0
 
 paren_is :
     (ds : List Decl) (at : ℕ) (t : TypeText) (vs : List VarText) (vars : List TypeVar) (inside : Bool) (r : Reading)

@@ -14,6 +14,9 @@ place_from i (n ∷ ns) name = cond (same_text name n) (Some i) (place_from (i +
 abbrev pub place_of : List (List ℕ) → List ℕ → Option ℕ
 place_of names name = place_from 0 names name
 
+abbrev pub names_of : List TypeVar → List (List ℕ)
+names_of vs = map (λ (v : TypeVar). v.name) vs
+
 -- the later of two variables, where there is one
 abbrev pub later : Option TypeVar → Option TypeVar → Option TypeVar
 later o None = o

@@ -59,6 +59,11 @@ signature ds ts vs = let s = all_bound ds vs [] unread in record { vars = s.vars
 abbrev pub shifted : ℕ → List TypeVar → List TypeVar
 shifted n vars = map (λ (v : TypeVar). record { name = v.name; number = n + v.number; usable = v.usable }) vars
 
+-- no method is around a type, or one with static parameters
+abbrev pub or_no_vars : Option (List TypeVar) → List TypeVar
+or_no_vars None = []
+or_no_vars (Some vars) = vars
+
 -- how many variables a type in a body brings
 abbrev pub width_of : List Decl → List TypeVar → TypeText → ℕ
 width_of ds statics t = length (type_reads ds t (shifted 0 statics) false unread).after.vars

@@ -9,3 +9,4 @@ pub mod reads;
 pub mod signatures;
 #[cfg(test)]
 mod tests;
+pub mod vars;

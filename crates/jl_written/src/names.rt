@@ -1,11 +1,11 @@
-//! What a name means where a type must stand.
+//! What a name that is no type variable means where a type must stand.
 
-ghost use Rattle.std.specs.Prelude.{◌≡◌, ◌≤◌, ◌^◌, ◌++◌, List, ℕ, map, option_copied, IfOk, OnErr};
+ghost use Rattle.std.specs.Prelude.{◌≡◌, ◌≤◌, ◌^◌, List, ℕ, map, IfOk, OnErr};
 ghost use Rattle.jl_calculus.specs.Names.{is_among, same_text, builtin_names};
 ghost use Rattle.jl_model.specs.declared.ty.Decl.{Decl};
-ghost use Rattle.jl_written.specs.Meaning.{place_of, var_of, word_of, named};
+ghost use Rattle.jl_written.specs.Meaning.{place_of, word_of};
 
-use crate::reading::{Named, TypeVar};
+use crate::reading::Named;
 use jl_names::decls::FirstDecls;
 use std::alloc::AllocError;
 
@@ -81,7 +81,7 @@ fn place_of(decls: &FirstDecls<'_>, name: &[u8]) -> Option<u32>
 }
 
 /// The meaning of a name that is no type variable.
-fn word_of(decls: &FirstDecls<'_>, name: &[u8]) -> Named
+pub(crate) fn word_of(decls: &FirstDecls<'_>, name: &[u8]) -> Named
     ensures { result ≡ word_of decls.now name.now }
 {
     if is_same(name, b"Any") {
@@ -99,29 +99,5 @@ fn word_of(decls: &FirstDecls<'_>, name: &[u8]) -> Named
     match place_of(decls, name) {
         None => Named::Unknown,
         Some(at) => Named::Nominal(at),
-    }
-}
-
-/// The visible type variable of a name, the last of several.
-#[tactic(auto, using(crate::proofs::TextLemmas::later_joins))]
-pub(crate) fn var_of<'a>(vars: &'a [TypeVar], name: &[u8]) -> Option<&'a TypeVar>
-    ensures { option_copied result ≡ var_of vars.entry.now name.now }
-{
-    let mut found = None;
-    for var in vars {
-        if is_same(name, var.name.as_slice()) {
-            found = Some(var);
-        }
-    }
-    found
-}
-
-/// What a name means where a type must stand: a visible type variable hides a declared type of its name.
-pub(crate) fn named(decls: &FirstDecls<'_>, vars: &[TypeVar], name: &[u8]) -> Named
-    ensures { result ≡ named decls.now vars.now name.now }
-{
-    match var_of(vars, name) {
-        Some(var) => Named::Variable(var.number, var.usable),
-        None => word_of(decls, name),
     }
 }

@@ -1,6 +1,6 @@
 //! Reading the text of a type.
 
-ghost use Rattle.std.specs.Prelude.{◌≡◌, [], List, map, drop, slice_get, IfOk, OnOk};
+ghost use Rattle.std.specs.Prelude.{◌≡◌, ◌++◌, [], List, map, drop, slice_get, IfOk, OnOk};
 ghost use Rattle.jl_model.specs.Valid.{params_of};
 ghost use Rattle.jl_model.specs.declared.ty.Decl.{Decl};
 ghost use Rattle.jl_model.specs.declared.ty.Ty.TheViews as V;
@@ -8,9 +8,10 @@ ghost use Rattle.jl_written.specs.Meaning.{var_of};
 ghost use Rattle.jl_written.specs.Reads.{typed, types, scoped, bounded, within, nominal_of, missing, plain, applied, arguments, members, bind, bind_all, bound_name, guarded, where_at, type_reads, arg_reads, var_reads};
 
 use crate::fault::StaticKind;
-use crate::names::{is_builtin, named, small, var_of};
+use crate::names::{is_builtin, small};
 use crate::notes::{brought, fresh, missing, note, placed, unknown, used};
 use crate::reading::{Named, Reading, TypeVar};
+use crate::vars::{Around, TypeVars, is_bound, named};
 use jl_model::rows::Row;
 use jl_model::ty::{Bound, Bytes, Ty, Tys};
 use jl_names::decls::FirstDecls;
@@ -70,23 +71,23 @@ fn plain(
 #[cycle(types)]
 fn applied(
     alloc: Global,
-    decls: &FirstDecls<'_>,
-    vars: &mut Row<TypeVar>,
+    around: &Around<'_>,
+    vars: &mut TypeVars,
     state: &mut Reading,
     name: Named,
     at: u32,
     texts: &[ArgText],
     inside: bool,
 ) -> Result<Ty, AllocError>
-    ensures means { IfOk result (λ t. typed t state.new ≡ applied decls.now at name (map (arg_reads decls.now) texts.now) vars.old inside state.old) }
+    ensures means { IfOk result (λ t. typed t state.new ≡ applied around.now.decls.now at name (map (arg_reads around.now.decls.now) texts.now) (around.now.statics ++ vars.old) inside state.old) }
     ensures kept { OnOk result (vars.new ≡ vars.old) }
 {
     match name {
-        Named::Union => Ok(Ty::Union(members(alloc, decls, vars, state, texts, inside)?)),
-        Named::Tuple => Ok(Ty::Tuple(members(alloc, decls, vars, state, texts, inside)?)),
+        Named::Union => Ok(Ty::Union(members(alloc, around, vars, state, texts, inside)?)),
+        Named::Tuple => Ok(Ty::Tuple(members(alloc, around, vars, state, texts, inside)?)),
         Named::Nominal(number) => {
-            let bounds = params_of(decls, number);
-            let tys = arguments(alloc, decls, vars, state, bounds, texts, inside)?;
+            let bounds = params_of(around.decls, number);
+            let tys = arguments(alloc, around, vars, state, bounds, texts, inside)?;
             Ok(Ty::Nominal(number, tys))
         }
         Named::Variable(_, _) => Ok(unknown(state, at)),
@@ -99,18 +100,18 @@ fn applied(
 #[cycle(types)]
 fn members(
     alloc: Global,
-    decls: &FirstDecls<'_>,
-    vars: &mut Row<TypeVar>,
+    around: &Around<'_>,
+    vars: &mut TypeVars,
     state: &mut Reading,
     texts: &[ArgText],
     inside: bool,
 ) -> Result<Tys, AllocError>
-    ensures means { IfOk result (λ ts. types ts state.new ≡ members (map (arg_reads decls.now) texts.now) vars.old inside state.old) }
+    ensures means { IfOk result (λ ts. types ts state.new ≡ members (map (arg_reads around.now.decls.now) texts.now) (around.now.statics ++ vars.old) inside state.old) }
     ensures kept { OnOk result (vars.new ≡ vars.old) }
 {
     let mut tys = Row::new(alloc);
     for text in texts {
-        let ty = argument(alloc, decls, vars, state, text, inside, inside)?;
+        let ty = argument(alloc, around, vars, state, text, inside, inside)?;
         tys.push(ty)?;
     }
     tys.into_shared(alloc)
@@ -120,20 +121,20 @@ fn members(
 #[cycle(types)]
 pub(crate) fn arguments(
     alloc: Global,
-    decls: &FirstDecls<'_>,
-    vars: &mut Row<TypeVar>,
+    around: &Around<'_>,
+    vars: &mut TypeVars,
     state: &mut Reading,
     bounds: &[Bound],
     texts: &[ArgText],
     inside: bool,
 ) -> Result<Tys, AllocError>
-    ensures means { IfOk result (λ ts. types ts state.new ≡ arguments bounds.now (map (arg_reads decls.now) texts.now) vars.old inside state.old) }
+    ensures means { IfOk result (λ ts. types ts state.new ≡ arguments bounds.now (map (arg_reads around.now.decls.now) texts.now) (around.now.statics ++ vars.old) inside state.old) }
     ensures kept { OnOk result (vars.new ≡ vars.old) }
 {
     let mut tys = Row::new(alloc);
     let mut left = bounds;
     for text in texts {
-        let ty = argument(alloc, decls, vars, state, text, inside, true)?;
+        let ty = argument(alloc, around, vars, state, text, inside, true)?;
         placed(state, left, &ty)?;
         tys.push(ty)?;
         left = behind_first(left);
@@ -156,24 +157,24 @@ fn behind_first(bounds: &[Bound]) -> &[Bound]
 #[cycle(types)]
 fn argument(
     alloc: Global,
-    decls: &FirstDecls<'_>,
-    vars: &mut Row<TypeVar>,
+    around: &Around<'_>,
+    vars: &mut TypeVars,
     state: &mut Reading,
     text: &ArgText,
     outer: bool,
     inner: bool,
 ) -> Result<Ty, AllocError>
-    ensures means { IfOk result (λ t. typed t state.new ≡ arg_reads decls.now text.now vars.old outer inner state.old) }
+    ensures means { IfOk result (λ t. typed t state.new ≡ arg_reads around.now.decls.now text.now (around.now.statics ++ vars.old) outer inner state.old) }
     ensures kept { OnOk result (vars.new ≡ vars.old) }
 {
     match text {
-        ArgText::Exact(ty) => read_type(alloc, decls, vars, state, ty, inner),
+        ArgText::Exact(ty) => read_type(alloc, around, vars, state, ty, inner),
         ArgText::Below(_, ty) => {
-            let high = read_type(alloc, decls, vars, state, ty, inner)?;
+            let high = read_type(alloc, around, vars, state, ty, inner)?;
             fresh(state, Bound { low: none(), high }, outer)
         }
         ArgText::Above(_, ty) => {
-            let low = read_type(alloc, decls, vars, state, ty, inner)?;
+            let low = read_type(alloc, around, vars, state, ty, inner)?;
             fresh(state, Bound { low, high: Ty::Any }, outer)
         }
     }
@@ -190,25 +191,25 @@ fn none() -> Ty
 #[cycle(types)]
 pub fn read_type(
     alloc: Global,
-    decls: &FirstDecls<'_>,
-    vars: &mut Row<TypeVar>,
+    around: &Around<'_>,
+    vars: &mut TypeVars,
     state: &mut Reading,
     text: &TypeText,
     inside: bool,
 ) -> Result<Ty, AllocError>
-    ensures means { IfOk result (λ t. typed t state.new ≡ type_reads decls.now text.now vars.old inside state.old) }
+    ensures means { IfOk result (λ t. typed t state.new ≡ type_reads around.now.decls.now text.now (around.now.statics ++ vars.old) inside state.old) }
     ensures kept { OnOk result (vars.new ≡ vars.old) }
 {
     match text {
         TypeText::Name(at, name) => {
-            let name = named(decls, vars.as_slice(), name.as_slice());
-            plain(alloc, decls, state, *at, name, inside)
+            let name = named(around, vars, name.as_slice())?;
+            plain(alloc, around.decls, state, *at, name, inside)
         }
         TypeText::Applied(at, name, texts) => {
-            let name = named(decls, vars.as_slice(), name.as_slice());
+            let name = named(around, vars, name.as_slice())?;
             applied(
                 alloc,
-                decls,
+                around,
                 vars,
                 state,
                 name,
@@ -220,8 +221,8 @@ pub fn read_type(
         TypeText::Paren(_, ty, variables) => {
             let visible = vars.len();
             where_at(state, variables.as_slice(), inside);
-            bind_all(alloc, decls, vars, state, variables.as_slice(), inside)?;
-            let ty = read_type(alloc, decls, vars, state, ty.get(), inside)?;
+            bind_all(alloc, around, vars, state, variables.as_slice(), inside)?;
+            let ty = read_type(alloc, around, vars, state, ty.get(), inside)?;
             vars.truncate(visible);
             Ok(ty)
         }
@@ -241,16 +242,16 @@ fn where_at(state: &mut Reading, variables: &[VarText], inside: bool)
 #[cycle(types)]
 pub fn bind_all(
     alloc: Global,
-    decls: &FirstDecls<'_>,
-    vars: &mut Row<TypeVar>,
+    around: &Around<'_>,
+    vars: &mut TypeVars,
     state: &mut Reading,
     variables: &[VarText],
     inside: bool,
 ) -> Result<(), AllocError>
-    ensures { OnOk result (scoped vars.new state.new ≡ bind_all (map (var_reads decls.now) variables.now) vars.old inside state.old) }
+    ensures { OnOk result (scoped (around.now.statics ++ vars.new) state.new ≡ bind_all (map (var_reads around.now.decls.now) variables.now) (around.now.statics ++ vars.old) inside state.old) }
 {
     for variable in variables {
-        bind(alloc, decls, vars, state, variable, inside)?;
+        bind(alloc, around, vars, state, variable, inside)?;
     }
     Ok(())
 }
@@ -259,39 +260,40 @@ pub fn bind_all(
 #[cycle(types)]
 fn bind(
     alloc: Global,
-    decls: &FirstDecls<'_>,
-    vars: &mut Row<TypeVar>,
+    around: &Around<'_>,
+    vars: &mut TypeVars,
     state: &mut Reading,
     variable: &VarText,
     inside: bool,
 ) -> Result<(), AllocError>
-    ensures { OnOk result (scoped vars.new state.new ≡ bind (var_reads decls.now variable.now) vars.old inside state.old) }
+    ensures { OnOk result (scoped (around.now.statics ++ vars.new) state.new ≡ bind (var_reads around.now.decls.now variable.now) (around.now.statics ++ vars.old) inside state.old) }
 {
-    let bound = bounds(alloc, decls, vars, state, variable, inside)?;
+    let bound = bounds(alloc, around, vars, state, variable, inside)?;
     match variable {
-        VarText::Free(at, name) => bind_name(vars, state, *at, name, bound),
-        VarText::Below(at, name, _) => bind_name(vars, state, *at, name, bound),
-        VarText::Above(at, name, _) => bind_name(vars, state, *at, name, bound),
-        VarText::Between(_, at, name, _) => bind_name(vars, state, *at, name, bound),
+        VarText::Free(at, name) => bind_name(around, vars, state, *at, name, bound),
+        VarText::Below(at, name, _) => bind_name(around, vars, state, *at, name, bound),
+        VarText::Above(at, name, _) => bind_name(around, vars, state, *at, name, bound),
+        VarText::Between(_, at, name, _) => bind_name(around, vars, state, *at, name, bound),
     }
 }
 
 /// The next variable takes a name, and hides one that has it already.
 fn bind_name(
-    vars: &mut Row<TypeVar>,
+    around: &Around<'_>,
+    vars: &mut TypeVars,
     state: &mut Reading,
     at: u32,
     name: &Bytes,
     bound: Bound,
 ) -> Result<(), AllocError>
-    ensures { OnOk result (scoped vars.new state.new ≡ bound_name at name.now bound vars.old (guarded at name.now state.old) (var_of vars.old name.now)) }
+    ensures { OnOk result (scoped (around.now.statics ++ vars.new) state.new ≡ bound_name at name.now bound (around.now.statics ++ vars.old) (guarded at name.now state.old) (var_of (around.now.statics ++ vars.old) name.now)) }
 {
     if is_builtin(name.as_slice()) {
         note(state, at, StaticKind::NameClash);
     }
     let number = small(state.vars.len())?;
     state.vars.push(bound)?;
-    if let Some(_) = var_of(vars.as_slice(), name.as_slice()) {
+    if is_bound(around, vars, name.as_slice()) {
         note(state, at, StaticKind::Rebound);
         state.unclear = true;
     }
@@ -306,13 +308,13 @@ fn bind_name(
 #[cycle(types)]
 fn bounds(
     alloc: Global,
-    decls: &FirstDecls<'_>,
-    vars: &mut Row<TypeVar>,
+    around: &Around<'_>,
+    vars: &mut TypeVars,
     state: &mut Reading,
     variable: &VarText,
     inside: bool,
 ) -> Result<Bound, AllocError>
-    ensures means { IfOk result (λ b. bounded b state.new ≡ (var_reads decls.now variable.now).bounds vars.old inside state.old) }
+    ensures means { IfOk result (λ b. bounded b state.new ≡ (var_reads around.now.decls.now variable.now).bounds (around.now.statics ++ vars.old) inside state.old) }
     ensures kept { OnOk result (vars.new ≡ vars.old) }
 {
     match variable {
@@ -321,16 +323,16 @@ fn bounds(
             high: Ty::Any,
         }),
         VarText::Below(_, _, ty) => {
-            let high = read_type(alloc, decls, vars, state, ty, inside)?;
+            let high = read_type(alloc, around, vars, state, ty, inside)?;
             Ok(Bound { low: none(), high })
         }
         VarText::Above(_, _, ty) => {
-            let low = read_type(alloc, decls, vars, state, ty, inside)?;
+            let low = read_type(alloc, around, vars, state, ty, inside)?;
             Ok(Bound { low, high: Ty::Any })
         }
         VarText::Between(low, _, _, high) => {
-            let low = read_type(alloc, decls, vars, state, low, inside)?;
-            let high = read_type(alloc, decls, vars, state, high, inside)?;
+            let low = read_type(alloc, around, vars, state, low, inside)?;
+            let high = read_type(alloc, around, vars, state, high, inside)?;
             Ok(Bound { low, high })
         }
     }

@@ -3,12 +3,12 @@
 ghost use Rattle.std.specs.Prelude.{◌≡◌, ◌+◌, OnOk, IfOk, Bool, false};
 ghost use Rattle.jl_model.specs.declared.ty.Ty.{Ty};
 ghost use Rattle.jl_written.specs.Reads.{typed, unread, type_reads};
-ghost use Rattle.jl_written.specs.Signatures.{adopted_at, adopted, shifted, width_of, body_type, constructor_type};
+ghost use Rattle.jl_written.specs.Signatures.{adopted_at, adopted, width_of, body_type, constructor_type};
 
-use crate::names::small;
 use crate::notes::copy_bound;
-use crate::reading::{Place, Reading, TypeVar};
+use crate::reading::{Place, Reading};
 use crate::reads::{arguments, read_type};
+use crate::vars::{Around, Statics, TypeVars};
 use jl_model::rows::Row;
 use jl_model::ty::{Bound, Ty};
 use jl_names::decls::FirstDecls;
@@ -86,34 +86,22 @@ fn copies(alloc: Global, vars: &[Bound]) -> Result<Vec<Bound>, AllocError>
     Ok(bounds)
 }
 
-/// The static parameters of a body, behind so many variables of a type.
-fn shifted(alloc: Global, by: usize, statics: &[TypeVar]) -> Result<Row<TypeVar>, AllocError>
-    ensures { IfOk result (λ vs. vs ≡ shifted by statics.now) }
-{
-    let mut vars = Row::new(alloc);
-    for var in statics {
-        let number = small(small(by)? as usize + var.number as usize)?;
-        vars.push(TypeVar {
-            name: var.name.copy()?,
-            number,
-            usable: var.usable,
-        })?;
-    }
-    Ok(vars)
-}
-
 /// How many variables a type in a body brings.
 fn width_of(
     alloc: Global,
     decls: &FirstDecls<'_>,
-    statics: &[TypeVar],
+    statics: &TypeVars,
     text: &TypeText,
 ) -> Result<usize, AllocError>
     ensures { IfOk result (λ n. n ≡ width_of decls.now statics.now text.now) }
 {
-    let mut vars = shifted(alloc, 0, statics)?;
+    let around = Around {
+        decls,
+        statics: Statics::behind(statics, 0)?,
+    };
+    let mut vars = TypeVars::new(alloc);
     let mut state = unread(alloc);
-    let ty = read_type(alloc, decls, &mut vars, &mut state, text, false)?;
+    let ty = read_type(alloc, &around, &mut vars, &mut state, text, false)?;
     drop(ty);
     Ok(state.vars.len())
 }
@@ -123,15 +111,19 @@ fn width_of(
 pub fn body_type(
     alloc: Global,
     decls: &FirstDecls<'_>,
-    statics: &[TypeVar],
+    statics: &TypeVars,
     text: &TypeText,
 ) -> Result<(Ty, Reading), AllocError>
     ensures { IfOk result (λ r. typed r.0 r.1 ≡ body_type decls.now statics.now text.now) }
 {
     let width = width_of(alloc, decls, statics, text)?;
-    let mut vars = shifted(alloc, width, statics)?;
+    let around = Around {
+        decls,
+        statics: Statics::behind(statics, width)?,
+    };
+    let mut vars = TypeVars::new(alloc);
     let mut state = unread(alloc);
-    let ty = read_type(alloc, decls, &mut vars, &mut state, text, false)?;
+    let ty = read_type(alloc, &around, &mut vars, &mut state, text, false)?;
     Ok((ty, state))
 }
 
@@ -141,13 +133,17 @@ pub fn constructor_type(
     decls: &FirstDecls<'_>,
     number: u32,
     bounds: &[Bound],
-    statics: &[TypeVar],
+    statics: &TypeVars,
     texts: &[ArgText],
 ) -> Result<(Ty, Reading), AllocError>
     ensures { IfOk result (λ r. typed r.0 r.1 ≡ constructor_type decls.now number bounds.now statics.now texts.now) }
 {
-    let mut vars = shifted(alloc, 0, statics)?;
+    let around = Around {
+        decls,
+        statics: Statics::behind(statics, 0)?,
+    };
+    let mut vars = TypeVars::new(alloc);
     let mut state = unread(alloc);
-    let tys = arguments(alloc, decls, &mut vars, &mut state, bounds, texts, false)?;
+    let tys = arguments(alloc, &around, &mut vars, &mut state, bounds, texts, false)?;
     Ok((Ty::Nominal(number, tys), state))
 }

@@ -7,7 +7,7 @@ use crate::notes::first_of;
 use crate::reading::{Reading, TypeVar};
 use crate::reads::{bind_all, read_type};
 use crate::signatures::{Order, adopted, body_type, constructor_type, unread};
-use jl_model::rows::Row;
+use crate::vars::{Around, TypeVars};
 use jl_model::shared::{SharedList, SharedNode};
 use jl_model::ty::{Bound, Bounds, Bytes, Decl, DeclKind, Fields, Ty, Tys};
 use jl_names::decls::DeclList;
@@ -71,7 +71,7 @@ fn decls(alloc: Global) -> Result<DeclList, AllocError> {
 /// What a type means where no type variable is visible.
 fn read(alloc: Global, text: &TypeText) -> Result<(Ty, Reading), AllocError> {
     let decls = decls(alloc)?;
-    body_type(alloc, &decls.all(), &[], text)
+    body_type(alloc, &decls.all(), &TypeVars::new(alloc), text)
 }
 
 /// `Box{v}`, by the number of a variable
@@ -174,7 +174,15 @@ fn an_explicit_constructor_reads_its_arguments(rt: HostRuntime) -> Result<(), Fa
     let decls = decls(alloc)?;
     let mut arguments = Vec::new(alloc);
     arguments.push(ArgText::Exact(name(alloc, 4, b"Int64")?))?;
-    let (ty, reading) = constructor_type(alloc, &decls.all(), 1, &[], &[], arguments.as_slice())?;
+    let statics = TypeVars::new(alloc);
+    let (ty, reading) = constructor_type(
+        alloc,
+        &decls.all(),
+        1,
+        &[],
+        &statics,
+        arguments.as_slice(),
+    )?;
     let mut expected = Vec::new(alloc);
     expected.push(Ty::Nominal(0, Tys::empty()))?;
     let expected = Ty::Nominal(1, SharedList::from_vec(alloc, expected)?);
@@ -187,21 +195,53 @@ fn an_explicit_constructor_reads_its_arguments(rt: HostRuntime) -> Result<(), Fa
 fn a_variable_of_a_where_is_visible_in_what_follows(rt: HostRuntime) -> Result<(), Fail> {
     let alloc = rt.alloc();
     let decls = decls(alloc)?;
-    let mut vars: Row<TypeVar> = Row::new(alloc);
+    let all = decls.all();
+    let around = Around::top(&all);
+    let mut vars = TypeVars::new(alloc);
     let mut state = unread(alloc);
     let mut texts = Vec::new(alloc);
     texts.push(VarText::Free(7, bytes(alloc, b"T")?))?;
     bind_all(
         alloc,
-        &decls.all(),
+        &around,
         &mut vars,
         &mut state,
         texts.as_slice(),
         false,
     )?;
     let text = name(alloc, 3, b"T")?;
-    let ty = read_type(alloc, &decls.all(), &mut vars, &mut state, &text, false)?;
+    let ty = read_type(alloc, &around, &mut vars, &mut state, &text, false)?;
     assert!(rt; ty == Ty::Var(0));
     assert!(rt; state.fault == None);
+    Ok(())
+}
+
+/// The static parameters `T`, `S` and `T`, of which the last hides the first.
+fn statics(alloc: Global) -> Result<TypeVars, AllocError> {
+    let mut vars = TypeVars::new(alloc);
+    for (number, name) in [b"T", b"S", b"T"].iter().enumerate() {
+        vars.push(TypeVar {
+            name: bytes(alloc, *name)?,
+            number: number as u32,
+            usable: true,
+        })?;
+    }
+    Ok(vars)
+}
+
+#[test]
+fn static_parameters_have_the_numbers_behind_those_of_the_type(
+    rt: HostRuntime,
+) -> Result<(), Fail> {
+    let alloc = rt.alloc();
+    let decls = decls(alloc)?;
+    let mut vars = statics(alloc)?;
+    let boxed = boxed(alloc, ArgText::Exact(name(alloc, 4, b"T")?))?;
+    let (ty, reading) = body_type(alloc, &decls.all(), &vars, &scoped(alloc, boxed, b"U")?)?;
+    assert!(rt; ty == box_of(alloc, 3)?);
+    assert!(rt; reading.vars.len() == 1 && reading.fault == None);
+    vars.truncate(2);
+    let (ty, _) = body_type(alloc, &decls.all(), &vars, &name(alloc, 0, b"T")?)?;
+    assert!(rt; ty == Ty::Var(0));
     Ok(())
 }

@@ -1,4 +1,4 @@
-use Rattle.std.proofs.Common.{◌≡◌, drop, map}
+use Rattle.std.proofs.Common.{◌≡◌, ◌++◌, drop, map}
 use Rattle.jl_written.specs.Reads.{behind}
 use Rattle.jl_written.specs.Signatures.{all_read}
 use Rattle.jl_grammar.specs.declared.tree.Field.{Field}
@@ -6,7 +6,7 @@ use Rattle.jl_declare.proofs.read.types_read.Given as goal
 
 abbrev pub invariant-loop-field : goal.invariant-loop-field
 invariant-loop-field l = record {
-  means : behind l.tys (all_read l.decls (map (λ (f : Field). f.ty) (drop l.field-index l.fields)) l.vars l.reading)
-      ≡ behind l.initial.tys (all_read l.decls (map (λ (f : Field). f.ty) l.fields) l.initial.vars l.initial.reading);
+  means : behind l.tys (all_read l.around.decls.now (map (λ (f : Field). f.ty) (drop l.field-index l.fields)) (l.around.statics ++ l.vars) l.reading)
+      ≡ behind l.initial.tys (all_read l.around.decls.now (map (λ (f : Field). f.ty) l.fields) (l.around.statics ++ l.initial.vars) l.initial.reading);
   kept : l.vars ≡ l.initial.vars;
 }

@@ -1,4 +1,4 @@
-use Rattle.std.proofs.Common.{◌≡◌, drop, map}
+use Rattle.std.proofs.Common.{◌≡◌, ◌++◌, drop, map}
 use Rattle.jl_written.specs.Reads.{behind}
 use Rattle.jl_written.specs.Signatures.{all_read}
 use Rattle.jl_resolve_forms.specs.Expressions.{type_of}
@@ -6,6 +6,6 @@ use Rattle.jl_resolve_forms.proofs.methods.all_read.Given as goal
 
 abbrev pub invariant-loop-param : goal.invariant-loop-param
 invariant-loop-param l = record {
-  means : behind l.tys (all_read l.decls (map type_of (drop l.param-index l.params)) l.vars l.reading) ≡ behind l.initial.tys (all_read l.decls (map type_of l.params) l.initial.vars l.initial.reading);
+  means : behind l.tys (all_read l.around.decls.now (map type_of (drop l.param-index l.params)) (l.around.statics ++ l.vars) l.reading) ≡ behind l.initial.tys (all_read l.around.decls.now (map type_of l.params) (l.around.statics ++ l.initial.vars) l.initial.reading);
   kept : l.vars ≡ l.initial.vars;
 }

@@ -1,4 +1,4 @@
-use Rattle.std.proofs.Common.{◌≡◌, ◌∙◌, ap, refl}
+use Rattle.std.proofs.Common.{◌≡◌, ◌∙◌, ap, arith, refl}
 use Rattle.jl_resolve_forms.specs.Scopes.{slot_of}
 use Rattle.jl_resolve_forms.specs.TypesIn.{tests}
 use Rattle.jl_resolve_forms.specs.Expressions.{coded, stated, shown, listed, tried, one_said, one_shown, one_evaluated, one_tried, bare_scope, part_number, expr_reads, stmt_reads, piece_reads, eval_reads, branch_reads}
@@ -6,6 +6,8 @@ use Rattle.jl_resolve_walk.proofs.Forms.{part, form-Number, form-Bool, form-Noth
 use Rattle.jl_resolve_walk.proofs.GivenLemmas.{given, given_on, both_given, weaker, always, ok_at}
 use Rattle.jl_resolve_walk.proofs.Lists.{codes_step, codes_end, codes_start, pieces_step, pieces_end, pieces_start, arms_step, arms_end, arms_start, items_step, items_end, items_start, block_step, block_end, block_kept, block_start}
 use Rattle.jl_resolve_walk.proofs.Parts.{says-Bind, says-Return, says-ReturnNothing, says-Do, shows-Text, shows-Show, evals-Method, evals-Do, tries, method-long, method-short}
+use denote.Param.Weighed.{most}
+use Rattle.jl_grammar.specs.declared.tree.Eval.TheViews as E
 use Rattle.jl_resolve_walk.proofs.expressions.+reads.Goals as goal
 
 pub expr-returns-in-Number : goal.expr-returns-in-Number
@@ -553,3 +555,9 @@ method-returns-in_ok-number-in-Short g t c =
     let st = c.args.state.now in
     let e = c.args.text.now in
     both_given c.expr-code.result c.finished-in-Short.result _ _ _ _ c.finished-in-Short.ensures c.expr-code.ensures.means c.expr-code.ensures.kept (λ y z m h d. method-short ts k e c.in-Short.field-0 c.in-Short.head c.in-Short.body c.get.result.now c.args.types c.in_ok-number-in-Short.opening c.expr-code.new.scope st c.started-in-Short.new.state c.expr-code.new.state c.finished-in-Short.new.state c.in_ok-number-in-Short.number z y c.in-Short.is c.in_ok-number-in-Short.ensures c.get.ensures h m d)
+
+pub method-block-code-requires : goal.method-block-code-requires
+method-block-code-requires g t c = λ κs h.
+    let n = ap E.size-Method c.in-Long.is ∙ E.sized-Long c.in-Long.field-0 c.in-Long.head c.in-Long.body in
+    let m = ap (λ z. most (λ x. E.size-Stmt x) z) c.as_slice.ensures in
+    (omega (arith, n, m, c.decreases), h)

@@ -1,22 +1,22 @@
-use Rattle.std.proofs.Common.{◌≡◌, drop, map}
+use Rattle.std.proofs.Common.{◌≡◌, ◌++◌, drop, map}
 use Rattle.jl_written.specs.Reads.{behind, arguments, members, bind_all, arg_reads, var_reads}
 use Rattle.jl_written.proofs.reads.+types.Given as goal
 
 abbrev pub invariant-members-loop-text : goal.invariant-members-loop-text
 invariant-members-loop-text l = record {
-  means : behind l.tys (members (map (arg_reads l.decls) (drop l.text-index l.texts)) l.vars l.inside l.state)
-      ≡ behind l.initial.tys (members (map (arg_reads l.decls) l.texts) l.initial.vars l.inside l.initial.state);
+  means : behind l.tys (members (map (arg_reads l.around.decls.now) (drop l.text-index l.texts)) (l.around.statics ++ l.vars) l.inside l.state)
+      ≡ behind l.initial.tys (members (map (arg_reads l.around.decls.now) l.texts) (l.around.statics ++ l.initial.vars) l.inside l.initial.state);
   kept : l.vars ≡ l.initial.vars;
 }
 
 abbrev pub invariant-arguments-loop-text : goal.invariant-arguments-loop-text
 invariant-arguments-loop-text l = record {
-  means : behind l.tys (arguments l.left (map (arg_reads l.decls) (drop l.text-index l.texts)) l.vars l.inside l.state)
-      ≡ behind l.initial.tys (arguments l.initial.left (map (arg_reads l.decls) l.texts) l.initial.vars l.inside l.initial.state);
+  means : behind l.tys (arguments l.left (map (arg_reads l.around.decls.now) (drop l.text-index l.texts)) (l.around.statics ++ l.vars) l.inside l.state)
+      ≡ behind l.initial.tys (arguments l.initial.left (map (arg_reads l.around.decls.now) l.texts) (l.around.statics ++ l.initial.vars) l.inside l.initial.state);
   kept : l.vars ≡ l.initial.vars;
 }
 
 abbrev pub invariant-bind_all-loop-variable : goal.invariant-bind_all-loop-variable
 invariant-bind_all-loop-variable l =
-    bind_all (map (var_reads l.decls) (drop l.variable-index l.variables)) l.vars l.inside l.state
-    ≡ bind_all (map (var_reads l.decls) l.variables) l.initial.vars l.inside l.initial.state
+    bind_all (map (var_reads l.around.decls.now) (drop l.variable-index l.variables)) (l.around.statics ++ l.vars) l.inside l.state
+    ≡ bind_all (map (var_reads l.around.decls.now) l.variables) (l.around.statics ++ l.initial.vars) l.inside l.initial.state

@@ -1,0 +1,107 @@
+//! Names of which a later one hides an equal one before it.
+
+ghost use Rattle.std.specs.Prelude.{◌≡◌, ◌++◌, ◌∷◌, ◌-◌, [], length, take, OnOk, OnErr};
+ghost use Rattle.jl_names.specs.Stacks.{last_place};
+
+use crate::table::{NameMap, small};
+use jl_model::ty::Bytes;
+use std::alloc::{AllocError, Global};
+use std::marker::Model;
+
+/// A name, and the place of the one before it that it hides.
+#[derive(Drop)]
+pub struct Stacked {
+    name: Bytes,
+    hides: Option<u32>,
+}
+
+/// Names in order, of which the last goes first; the last of several is found. Contracts see the list of names. A place of
+/// the table counts where a name stands that is that name.
+#[derive(Drop)]
+pub struct NameStack {
+    names: Vec<Stacked>,
+    places: NameMap,
+}
+
+impl Model for NameStack {
+    ghost use Rattle.std.specs.Prelude.{List, ℕ};
+    ghost use Rattle.std.specs.Coded.{coded_list, coded_ℕ};
+    ghost use Rattle.jl_names.specs.Stacks.{texts_of, IsStack};
+
+    ghost Value = { List (List ℕ) };
+
+    ghost coded = { coded_list (coded_list coded_ℕ) };
+
+    ghost view = { λ t. texts_of t.names.items };
+
+    ghost invariant = { λ t. IsStack t.names.items t.places };
+}
+
+impl NameStack {
+    pub fn new(alloc: Global) -> NameStack
+        ensures { result ≡ [] }
+    {
+        NameStack {
+            names: Vec::new(alloc),
+            places: NameMap::new(alloc),
+        }
+    }
+
+    pub fn len(&self) -> usize
+        ensures { result ≡ length self.now }
+    {
+        self.names.len()
+    }
+
+    /// The place of a name, the last of several.
+    pub fn find(&self, name: &[u8]) -> Option<u32>
+        ensures { result ≡ last_place self.now name.now }
+    {
+        let place = self.places.find(name)?;
+        let found = self.names.get(place as usize)?;
+        if found.name.as_slice() == name {
+            Some(place)
+        } else {
+            None
+        }
+    }
+
+    /// One more name. Want of memory stands for more than 2^32 of them, too.
+    pub fn push(&mut self, name: Bytes) -> Result<(), AllocError>
+        ensures pushed { OnOk result (self.new ≡ self.old ++ name ∷ []) }
+        ensures refused { OnErr result (self.new ≡ self.old) }
+    {
+        let place = self.names.len();
+        let number = small(place)?;
+        let copy = name.copy()?;
+        let hides = self.find(copy.as_slice());
+        self.names.push(Stacked { name, hides })?;
+        match self.places.put(copy.as_slice(), number) {
+            Ok(()) => Ok(()),
+            Err(error) => {
+                self.names.truncate(place);
+                Err(error)
+            }
+        }
+    }
+
+    /// All names but the last.
+    fn pop(&mut self)
+        ensures { self.new ≡ take (length self.old - 1) self.old }
+    {
+        if let Some(last) = self.names.pop() {
+            if let Some(place) = last.hides {
+                self.places.renumber(last.name.as_slice(), place);
+            }
+        }
+    }
+
+    /// Only so many of the names, from the first on.
+    pub fn truncate(&mut self, most: usize)
+        ensures { self.new ≡ take most self.old }
+    {
+        while self.names.len() > most {
+            self.pop();
+        }
+    }
+}

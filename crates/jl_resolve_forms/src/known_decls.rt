@@ -1,0 +1,106 @@
+//! The declarations of a script, and which structs have constructors whose type arguments are inferred.
+
+ghost use Rattle.std.specs.Prelude.{◌≡◌, slice_get, IfOk};
+ghost use Rattle.std.specs.List.{list_all};
+ghost use Rattle.jl_resolve_forms.specs.Parameters.{finds_all, finds_parameters, fields_signature, all_find};
+
+use jl_model::shared::SharedList;
+use jl_model::ty::{Decl, Written};
+use jl_names::decls::DeclList;
+use jl_sig::usable_variables;
+use std::alloc::{AllocError, Global};
+use std::marker::Model;
+
+/// Declarations, and of each whether the field types of a struct make all its parameters usable. Contracts see the list of
+/// declarations.
+#[derive(Drop)]
+pub struct KnownDecls {
+    decls: DeclList,
+    finds: Vec<bool>,
+}
+
+impl Model for KnownDecls {
+    ghost use Rattle.std.specs.Prelude.{List, ◌≡◌};
+    ghost use Rattle.std.specs.Coded.{coded_list};
+    ghost use Rattle.jl_model.specs.contracts.ty.Decl as e;
+    ghost use Rattle.jl_model.specs.declared.ty.Decl.{Decl};
+    ghost use Rattle.jl_resolve_forms.specs.Parameters.{all_find};
+
+    ghost Value = { List Decl };
+
+    ghost coded = { coded_list e.the_row.coded };
+
+    ghost view = { λ t. t.decls };
+
+    ghost invariant = { λ t. t.finds.items ≡ all_find t.decls };
+}
+
+impl KnownDecls {
+    pub fn of(alloc: Global, decls: DeclList) -> Result<KnownDecls, AllocError>
+        ensures { IfOk result (λ known. known ≡ decls) }
+    {
+        let finds = all_find(alloc, decls.as_slice())?;
+        Ok(KnownDecls { decls, finds })
+    }
+
+    pub fn list(&self) -> &DeclList
+        ensures { result.now ≡ self.now }
+    {
+        &self.decls
+    }
+
+    /// Whether the field types of a struct make all its parameters usable.
+    pub fn finds_parameters(&self, number: u32) -> bool
+        ensures { result ≡ finds_parameters (slice_get self.now number) }
+    {
+        match self.finds.get(number as usize) {
+            None => false,
+            Some(finds) => *finds,
+        }
+    }
+}
+
+/// Of each declaration, whether the field types of a struct make all its parameters usable.
+fn all_find(alloc: Global, decls: &[Decl]) -> Result<Vec<bool>, AllocError>
+    ensures { IfOk result (λ finds. finds.items ≡ all_find decls.now) }
+{
+    let mut finds = Vec::new(alloc);
+    for decl in decls {
+        finds.push(finds_all(alloc, decl)?)?;
+    }
+    Ok(finds)
+}
+
+/// Whether the field types of a struct make all its parameters usable.
+fn finds_all(alloc: Global, decl: &Decl) -> Result<bool, AllocError>
+    ensures { IfOk result (λ b. b ≡ finds_all decl.now) }
+{
+    let written = fields_signature(alloc, decl)?;
+    let flags = usable_variables(alloc, &written)?;
+    Ok(are_all(flags.as_slice()))
+}
+
+fn are_all(flags: &[bool]) -> bool
+    ensures { result ≡ list_all (λ b. b) flags.now }
+{
+    for flag in flags {
+        if !*flag {
+            return false;
+        }
+    }
+    true
+}
+
+/// The signature of a struct's fields.
+fn fields_signature(alloc: Global, decl: &Decl) -> Result<Written, AllocError>
+    ensures { IfOk result (λ w. w ≡ fields_signature decl.now) }
+{
+    let mut parts = Vec::new(alloc);
+    for field in decl.fields.as_slice() {
+        parts.push(field.ty.copy()?)?;
+    }
+    Ok(Written {
+        vars: decl.params.copy()?,
+        parts: SharedList::from_vec(alloc, parts)?,
+    })
+}

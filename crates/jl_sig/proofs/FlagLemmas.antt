@@ -1,0 +1,116 @@
+-- Flags that are set one after another.
+use Rattle.std.proofs.Common.{◌≡◌, ◌∙◌, sym, ap, refl, ℕ, zero, suc, ◌+◌, ◌≤◌, ◌<◌, arith, Bool, true, false, cond, ◌&&◌, ◌||◌, not, nat_eq, List, [], ◌∷◌, map, length, drop, get_or, slice_set}
+use Rattle.std.specs.List.{list_all, list_any}
+use Rattle.jl_model.specs.declared.ty.Ty.{Ty}
+use Rattle.jl_model.specs.declared.ty.Bound.{Bound}
+use Rattle.jl_model.specs.declared.ty.Written.{Written}
+use Rattle.jl_model.specs.AllRows.{each_var}
+use Rattle.jl_model.specs.Usable.{stands_in, is_outside_unions, is_usable}
+use Rattle.jl_sig.specs.Flags.{with_flag}
+use Rattle.jl_sig.proofs.UsableLemmas.{any-suc, all-suc}
+
+pub with_same : (p q : ℕ → Bool) (b : Bool) (i : ℕ) (bs : List Bool) → ((v : ℕ) → p v ≡ q v) → with_flag p b i bs ≡ with_flag q b i bs
+with_same p q b i [] h = refl
+with_same p q b i (c ∷ bs) h = ap (λ t. cond t b c ∷ with_flag p b (i + 1) bs) (h i) ∙ ap (λ z. cond (q i) b c ∷ z) (with_same p q b (i + 1) bs h)
+
+pub with_none : (p : ℕ → Bool) (b : Bool) (i : ℕ) (bs : List Bool) → ((v : ℕ) → p v ≡ false) → with_flag p b i bs ≡ bs
+with_none p b i [] h = refl
+with_none p b i (c ∷ bs) h = ap (λ t. cond t b c ∷ with_flag p b (i + 1) bs) (h i) ∙ ap (λ z. c ∷ z) (with_none p b (i + 1) bs h)
+
+pub with_both : (p q : ℕ → Bool) (b : Bool) (i : ℕ) (bs : List Bool) → with_flag q b i (with_flag p b i bs) ≡ with_flag (λ v. p v || q v) b i bs
+with_both p q b i [] = refl
+with_both p q b i (c ∷ bs) = ap (λ z. cond (q i) b (cond (p i) b c) ∷ z) (with_both p q b (i + 1) bs) ∙ ap (λ z. z ∷ with_flag (λ v. p v || q v) b (i + 1) bs) (by (p i) (q i))
+  where
+    by : (x y : Bool) → cond y b (cond x b c) ≡ cond (x || y) b c
+    by true true = refl
+    by true false = refl
+    by false y = refl
+
+-- one variable
+past : (n : ℕ) (b : Bool) (i : ℕ) (bs : List Bool) → n < i → with_flag (λ v. nat_eq v n) b i bs ≡ bs
+past n b i [] l = refl
+past n b i (c ∷ bs) l =
+    let e : nat_eq i n ≡ false = grind (arith, l) in
+    ap (λ t. cond t b c ∷ with_flag (λ v. nat_eq v n) b (i + 1) bs) e ∙ ap (λ z. c ∷ z) (past n b (i + 1) bs (omega (arith, l)))
+
+one_at : (k i : ℕ) (b : Bool) (bs : List Bool) → with_flag (λ v. nat_eq v (i + k)) b i bs ≡ slice_set bs k b
+one_at k i b [] = refl
+one_at zero i b (c ∷ bs) =
+    let e : nat_eq i (i + 0) ≡ true = grind arith in
+    let l : i + 0 < i + 1 = omega arith in
+    ap (λ t. cond t b c ∷ with_flag (λ v. nat_eq v (i + 0)) b (i + 1) bs) e ∙ ap (λ z. b ∷ z) (past (i + 0) b (i + 1) bs l)
+one_at (suc k) i b (c ∷ bs) =
+    let e : nat_eq i (i + suc k) ≡ false = grind arith in
+    let s : i + suc k ≡ (i + 1) + k = omega arith in
+    ap (λ t. cond t b c ∷ with_flag (λ v. nat_eq v (i + suc k)) b (i + 1) bs) e
+    ∙ ap (λ n. c ∷ with_flag (λ v. nat_eq v n) b (i + 1) bs) s ∙ ap (λ z. c ∷ z) (one_at k (i + 1) b bs)
+
+pub one_set : (n : ℕ) (b : Bool) (bs : List Bool) → slice_set bs n b ≡ with_flag (λ v. nat_eq v n) b 0 bs
+one_set n b bs = let e : n ≡ 0 + n = omega arith in sym (ap (λ k. with_flag (λ v. nat_eq v k) b 0 bs) e ∙ one_at n 0 b bs)
+
+beyond : (n : ℕ) (b : Bool) (i : ℕ) (bs : List Bool) → i + length bs ≤ n → with_flag (λ v. nat_eq v n) b i bs ≡ bs
+beyond n b i [] l = refl
+beyond n b i (c ∷ bs) l =
+    let e : nat_eq i n ≡ false = grind (arith, l) in
+    ap (λ t. cond t b c ∷ with_flag (λ v. nat_eq v n) b (i + 1) bs) e ∙ ap (λ z. c ∷ z) (beyond n b (i + 1) bs (omega (arith, l)))
+
+pub none_set : (n : ℕ) (b : Bool) (bs : List Bool) → length bs ≤ n → bs ≡ with_flag (λ v. nat_eq v n) b 0 bs
+none_set n b bs l = sym (beyond n b 0 bs (omega (arith, l)))
+
+-- one type after another
+module _ (p : ℕ → Ty → Bool) (b : Bool) (ts : List Ty) (i : ℕ) (t : Ty) (l : i < length ts) (e : t ≡ get_or ts i t) (bs fs : List Bool) where
+  pub step_any : fs ≡ with_flag (λ v. p v t) b 0 bs → with_flag (λ v. list_any (p v) (drop (i + 1) ts)) b 0 fs ≡ with_flag (λ v. list_any (p v) (drop i ts)) b 0 bs
+  step_any h =
+      ap (with_flag (λ v. list_any (p v) (drop (i + 1) ts)) b 0) h ∙ with_both (λ v. p v t) (λ v. list_any (p v) (drop (i + 1) ts)) b 0 bs
+      ∙ sym (with_same (λ v. list_any (p v) (drop i ts)) (λ v. p v t || list_any (p v) (drop (i + 1) ts)) b 0 bs (λ v. any-suc (p v) ts i t l e))
+
+  pub step_all : fs ≡ with_flag (λ v. not (p v t)) b 0 bs → with_flag (λ v. not (list_all (p v) (drop (i + 1) ts))) b 0 fs ≡ with_flag (λ v. not (list_all (p v) (drop i ts))) b 0 bs
+  step_all h =
+      ap (with_flag (λ v. not (list_all (p v) (drop (i + 1) ts))) b 0) h ∙ with_both (λ v. not (p v t)) (λ v. not (list_all (p v) (drop (i + 1) ts))) b 0 bs
+      ∙ sym (with_same (λ v. not (list_all (p v) (drop i ts))) (λ v. not (p v t) || not (list_all (p v) (drop (i + 1) ts))) b 0 bs (λ v. ap not (all-suc (p v) ts i t l e) ∙ apart (p v t) (list_all (p v) (drop (i + 1) ts))))
+    where
+      apart : (x y : Bool) → not (x && y) ≡ (not x || not y)
+      apart true y = refl
+      apart false y = refl
+
+pub not_not : (b : Bool) → not (not b) ≡ b
+not_not true = refl
+not_not false = refl
+
+-- no type is left
+pub all_done : {A : Type 0} (xs : List A) (i : ℕ) → length xs ≤ i → drop i xs ≡ []
+all_done [] zero l = refl
+all_done [] (suc i) l = refl
+all_done (x ∷ xs) zero l = absurd (omega (arith, l))
+all_done (x ∷ xs) (suc i) l = all_done xs i (omega (arith, l))
+
+-- all variables
+both : (s o : Bool) → cond (not o) false (cond s true false) ≡ (s && o)
+both true true = refl
+both true false = refl
+both false true = refl
+both false false = refl
+
+module _ (w : Written) where
+  abbrev stands : ℕ → Bool
+  stands v = list_any (stands_in v) w.parts
+
+  abbrev outside : ℕ → Bool
+  outside v = list_all (is_outside_unions v) w.parts
+
+  usable_from : (i : ℕ) (bs : List Bound) → with_flag (λ v. not (outside v)) false i (with_flag stands true i (map (λ (b : Bound). false) bs)) ≡ each_var (is_usable w) i bs
+  usable_from i [] = refl
+  usable_from i (b ∷ bs) =
+      ap (λ z. z ∷ with_flag (λ v. not (outside v)) false (i + 1) (with_flag stands true (i + 1) (map (λ (b : Bound). false) bs))) (both (stands i) (outside i))
+      ∙ ap (λ z. is_usable w i ∷ z) (usable_from (i + 1) bs)
+
+  pub usable_all :
+      with_flag (λ v. not (list_all (is_outside_unions v) w.parts)) false 0 (with_flag (λ v. list_any (stands_in v) w.parts) true 0 (map (λ (b : Bound). false) w.vars)) ≡ each_var (is_usable w) 0 w.vars
+  usable_all = usable_from 0 w.vars
+
+pub usable_steps : (w : Written) (ps : List Ty) (vs : List Bound) (fs gs hs : List Bool) → ps ≡ w.parts → vs ≡ w.vars → fs ≡ map (λ (b : Bound). false) vs → gs ≡ with_flag (λ v. list_any (stands_in v) ps) true 0 fs
+    → hs ≡ with_flag (λ v. not (list_all (is_outside_unions v) ps)) false 0 gs → hs ≡ each_var (is_usable w) 0 w.vars
+usable_steps w ps vs fs gs hs p v f g h =
+    h ∙ ap (with_flag (λ v. not (list_all (is_outside_unions v) ps)) false 0) (g ∙ ap (with_flag (λ v. list_any (stands_in v) ps) true 0) (f ∙ ap (map (λ (b : Bound). false)) v))
+    ∙ ap (λ z. with_flag (λ v. not (list_all (is_outside_unions v) z)) false 0 (with_flag (λ v. list_any (stands_in v) z) true 0 (map (λ (b : Bound). false) w.vars))) p
+    ∙ usable_all w

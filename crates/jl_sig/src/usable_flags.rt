@@ -1,0 +1,89 @@
+//! Which variables of a signature a method's body may use, of all of them in one walk.
+
+ghost use Rattle.std.specs.Prelude.{◌≡◌, nat_eq, not, map, false, IfOk};
+ghost use Rattle.std.specs.List.{list_all, list_any};
+ghost use Rattle.jl_model.specs.AllRows.{each_var};
+ghost use Rattle.jl_model.specs.Usable.{stands_in, is_outside_unions, is_usable};
+ghost use Rattle.jl_sig.specs.Flags.{with_flag};
+
+use jl_model::ty::{Bound, Ty, Written};
+use std::alloc::{AllocError, Global};
+
+/// No variable has its flag.
+fn no_flags(alloc: Global, vars: &[Bound]) -> Result<Vec<bool>, AllocError>
+    ensures { IfOk result (λ flags. flags.items ≡ map (λ _. false) vars.now) }
+{
+    let mut flags = Vec::new(alloc);
+    for _ in vars {
+        flags.push(false)?;
+    }
+    Ok(flags)
+}
+
+fn set(variable: u32, value: bool, flags: &mut Vec<bool>)
+    ensures { flags.new.items ≡ with_flag (λ v. nat_eq v variable) value 0 flags.old.items }
+{
+    let variable = variable as usize;
+    if variable < flags.len() {
+        flags[variable] = value;
+    }
+}
+
+/// Each variable that stands in one of these has this flag.
+#[cycle(set_stands)]
+fn set_standing_in(types: &[Ty], value: bool, flags: &mut Vec<bool>)
+    ensures { flags.new.items ≡ with_flag (λ v. list_any (stands_in v) types.now) value 0 flags.old.items }
+{
+    for ty in types {
+        set_standing(ty, value, flags);
+    }
+}
+
+/// Each variable that stands in a type has this flag.
+#[cycle(set_stands)]
+fn set_standing(ty: &Ty, value: bool, flags: &mut Vec<bool>)
+    ensures { flags.new.items ≡ with_flag (λ v. stands_in v ty.now) value 0 flags.old.items }
+{
+    match ty {
+        Ty::Any => {}
+        Ty::Union(members) => set_standing_in(members.as_slice(), value, flags),
+        Ty::Tuple(parts) => set_standing_in(parts.as_slice(), value, flags),
+        Ty::Nominal(_, arguments) => set_standing_in(arguments.as_slice(), value, flags),
+        Ty::Var(variable) => set(*variable, value, flags),
+    }
+}
+
+/// No variable that stands in a union in one of these has its flag.
+#[cycle(clear_unions)]
+fn clear_unions_in(types: &[Ty], flags: &mut Vec<bool>)
+    ensures { flags.new.items ≡ with_flag (λ v. not (list_all (is_outside_unions v) types.now)) false 0 flags.old.items }
+{
+    for ty in types {
+        clear_unions(ty, flags);
+    }
+}
+
+/// No variable that stands in a union in a type has its flag.
+#[cycle(clear_unions)]
+fn clear_unions(ty: &Ty, flags: &mut Vec<bool>)
+    ensures { flags.new.items ≡ with_flag (λ v. not (is_outside_unions v ty.now)) false 0 flags.old.items }
+{
+    match ty {
+        Ty::Any => {}
+        Ty::Union(members) => set_standing_in(members.as_slice(), false, flags),
+        Ty::Tuple(parts) => clear_unions_in(parts.as_slice(), flags),
+        Ty::Nominal(_, arguments) => clear_unions_in(arguments.as_slice(), flags),
+        Ty::Var(_) => {}
+    }
+}
+
+/// Which variables of a signature a method's body may use, by their numbers.
+pub fn usable_variables(alloc: Global, written: &Written) -> Result<Vec<bool>, AllocError>
+    ensures { IfOk result (λ flags. flags.items ≡ each_var (is_usable written.now) 0 written.now.vars) }
+{
+    let parts = written.parts.as_slice();
+    let mut flags = no_flags(alloc, written.vars.as_slice())?;
+    set_standing_in(parts, true, &mut flags);
+    clear_unions_in(parts, &mut flags);
+    Ok(flags)
+}

@@ -1,0 +1,203 @@
+//! The type variables that are visible where a type stands, and what a name means there.
+
+ghost use Rattle.std.specs.Prelude.{◌≡◌, ◌++◌, ◌∷◌, [], length, take, is_some, slice_get, option_copied, IfOk, OnOk};
+ghost use Rattle.jl_written.specs.Meaning.{var_of, var_or, named};
+ghost use Rattle.jl_written.specs.Signatures.{shifted};
+
+use crate::names::{small, word_of};
+use crate::reading::{Named, TypeVar};
+use jl_names::decls::FirstDecls;
+use jl_names::stack::NameStack;
+use std::alloc::{AllocError, Global};
+use std::marker::Model;
+
+/// Type variables in order, of which a later one hides an earlier one of its name. Contracts see the list of variables.
+#[derive(Drop)]
+pub struct TypeVars {
+    vars: Vec<TypeVar>,
+    names: NameStack,
+}
+
+impl Model for TypeVars {
+    ghost use Rattle.std.specs.Prelude.{List, ◌≡◌};
+    ghost use Rattle.std.specs.Coded.{coded_list};
+    ghost use Rattle.jl_written.specs.contracts.reading.TypeVar as e;
+    ghost use Rattle.jl_written.specs.declared.reading.TypeVar.{TypeVar};
+    ghost use Rattle.jl_written.specs.Meaning.{names_of};
+
+    ghost Value = { List TypeVar };
+
+    ghost coded = { coded_list e.the_row.coded };
+
+    ghost view = { λ t. t.vars.items };
+
+    ghost invariant = { λ t. t.names ≡ names_of t.vars.items };
+}
+
+impl TypeVars {
+    pub fn new(alloc: Global) -> TypeVars
+        ensures { result ≡ [] }
+    {
+        TypeVars {
+            vars: Vec::new(alloc),
+            names: NameStack::new(alloc),
+        }
+    }
+
+    pub fn as_slice(&self) -> &[TypeVar]
+        ensures { result.now ≡ self.now }
+    {
+        self.vars.as_slice()
+    }
+
+    pub fn len(&self) -> usize
+        ensures { result ≡ length self.now }
+    {
+        self.vars.len()
+    }
+
+    /// The variable of a name, the last of several.
+    pub fn find(&self, name: &[u8]) -> Option<&TypeVar>
+        ensures { option_copied result ≡ var_of self.now name.now }
+    {
+        let place = self.names.find(name)?;
+        at(self.vars.as_slice(), place)
+    }
+
+    /// One more variable. Want of memory stands for more than 2^32 of them, too.
+    pub fn push(&mut self, var: TypeVar) -> Result<(), AllocError>
+        ensures { OnOk result (self.new ≡ self.old ++ var ∷ []) }
+    {
+        let place = self.vars.len();
+        let name = var.name.copy()?;
+        self.vars.push(var)?;
+        match self.names.push(name) {
+            Ok(()) => Ok(()),
+            Err(error) => {
+                self.vars.truncate(place);
+                Err(error)
+            }
+        }
+    }
+
+    /// Only so many of the variables, from the first on.
+    pub fn truncate(&mut self, most: usize)
+        ensures { self.new ≡ take most self.old }
+    {
+        self.vars.truncate(most);
+        self.names.truncate(most);
+    }
+}
+
+fn at(vars: &[TypeVar], place: u32) -> Option<&TypeVar>
+    ensures { option_copied result ≡ slice_get vars.now place }
+{
+    vars.get(place as usize)
+}
+
+/// The static parameters of the method around a type, whose numbers stand behind those of so many variables of the type.
+/// Contracts see the list of them, with these numbers.
+#[derive(Drop)]
+pub struct Statics<'a> {
+    vars: Option<&'a TypeVars>,
+    by: u32,
+}
+
+impl<'a> Model for Statics<'a> {
+    ghost use Rattle.std.specs.Prelude.{List, option_copied};
+    ghost use Rattle.std.specs.Coded.{coded_list};
+    ghost use Rattle.jl_written.specs.contracts.reading.TypeVar as e;
+    ghost use Rattle.jl_written.specs.declared.reading.TypeVar.{TypeVar};
+    ghost use Rattle.jl_written.specs.Signatures.{or_no_vars, shifted};
+
+    ghost Value = { List TypeVar };
+
+    ghost coded = { coded_list e.the_row.coded };
+
+    ghost view = { λ t. shifted t.by (or_no_vars (option_copied t.vars)) };
+}
+
+impl<'a> Statics<'a> {
+    /// No method is around.
+    pub fn none() -> Statics<'a>
+        ensures { result ≡ [] }
+    {
+        Statics { vars: None, by: 0 }
+    }
+
+    /// Want of memory stands for 2^32 variables of the type, too.
+    pub fn behind(vars: &'a TypeVars, by: usize) -> Result<Statics<'a>, AllocError>
+        ensures { IfOk result (λ s. s ≡ shifted by vars.now) }
+    {
+        Ok(Statics {
+            vars: Some(vars),
+            by: small(by)?,
+        })
+    }
+
+    /// Whether one has this name.
+    pub fn has(&self, name: &[u8]) -> bool
+        ensures { result ≡ is_some (var_of self.now name.now) }
+    {
+        match self.vars {
+            None => false,
+            Some(vars) => vars.find(name).is_some(),
+        }
+    }
+
+    /// What a name means where one that is no static parameter means the other. Want of memory stands for a number of 2^32, too.
+    pub fn named_or(&self, name: &[u8], other: Named) -> Result<Named, AllocError>
+        ensures { IfOk result (λ n. n ≡ var_or (var_of self.now name.now) other) }
+    {
+        match self.vars {
+            None => Ok(other),
+            Some(vars) => match vars.find(name) {
+                None => Ok(other),
+                Some(var) => {
+                    let number = small(self.by as usize + var.number as usize)?;
+                    Ok(Named::Variable(number, var.usable))
+                }
+            },
+        }
+    }
+}
+
+/// What is visible around a type: the declared types, and the static parameters of the method that it stands in.
+#[derive(Drop)]
+pub struct Around<'a> {
+    pub decls: &'a FirstDecls<'a>,
+    pub statics: Statics<'a>,
+}
+
+impl<'a> Around<'a> {
+    /// No method is around.
+    pub fn top(decls: &'a FirstDecls<'a>) -> Around<'a>
+        ensures decls { result.decls.now ≡ decls.now }
+        ensures statics { result.statics ≡ [] }
+    {
+        Around {
+            decls,
+            statics: Statics::none(),
+        }
+    }
+}
+
+/// Whether a type variable of this name is visible.
+pub(crate) fn is_bound(around: &Around<'_>, vars: &TypeVars, name: &[u8]) -> bool
+    ensures { result ≡ is_some (var_of (around.now.statics ++ vars.now) name.now) }
+{
+    vars.find(name).is_some() || around.statics.has(name)
+}
+
+/// What a name means where a type must stand: a visible type variable hides a declared type of its name.
+pub(crate) fn named(around: &Around<'_>, vars: &TypeVars, name: &[u8]) -> Result<Named, AllocError>
+    ensures { IfOk result (λ n. n ≡ named around.now.decls.now (around.now.statics ++ vars.now) name.now) }
+{
+    match vars.find(name) {
+        Some(var) => Ok(Named::Variable(var.number, var.usable)),
+        None => {
+            let named = around.statics.named_or(name, word_of(around.decls, name))?;
+            Ok(named)
+        }
+    }
+}
