@@ -10,11 +10,11 @@ ghost use Rattle.jl_body.specs.TypeRefused.{TypeRefused};
 use crate::forms::small_forms;
 use crate::statics::without_statics;
 use jl_match::names::are_counted;
-use jl_match::places::{are_placed, has_unused};
+use jl_match::places::are_placed;
 use jl_model::ty::Written;
-use jl_sig::SigFault;
 use jl_sig::forms::{have_crossed, have_outside};
 use jl_sig::types::types_in;
+use jl_sig::{SigFault, has_unused};
 use jl_types::{NormFault, Table};
 use std::alloc::Global;
 
@@ -36,7 +36,8 @@ fn check_beside(
     if !are_placed(plain) {
         return Err(SigFault::VariablePlace);
     }
-    if has_unused(written) {
+    let unused = has_unused(alloc, written)?;
+    if unused {
         return Err(SigFault::UnusedVariable);
     }
     if written.parts.len() > MOST_COMPONENTS {

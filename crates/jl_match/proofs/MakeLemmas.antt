@@ -1,16 +1,11 @@
 -- From the bounds and arguments in normal form to those that are written.
-use Rattle.std.proofs.Common.{◌≡◌, ◌∙◌, sym, ap, subst, refl, ℕ, zero, suc, ◌+◌, ◌<◌, ◌≤◌, arith, true, false, IsTrue, List, [], ◌∷◌, length, ◌⊎◌, inl, inr}
+use Rattle.std.proofs.Common.{◌≡◌, ◌∙◌, sym, ap, subst, refl, ℕ, zero, suc, ◌+◌, ◌<◌, arith, true, false, IsTrue, List, [], ◌∷◌}
 use Rattle.std.specs.List.{Contains}
 use Rattle.jl_model.specs.declared.ty.Ty.{Ty}
 use Rattle.jl_model.specs.declared.ty.Bound.{Bound as VarBound}
 use Rattle.jl_model.specs.declared.ty.Decl.{Decl}
 use Rattle.jl_model.specs.declared.ty.Written.{Written}
 use Rattle.jl_model.specs.Ancestors.{table_of}
-use Rattle.jl_model.specs.Kinds.{unused, once, diagonal, bound}
-use Rattle.jl_sig.specs.KindIn.{kind_in}
-use Rattle.jl_sig.specs.declared.kind.Kind.{Kind}
-use Rattle.jl_sig.specs.declared.kind.Kind.TheVariants.{Unused, Once, Diagonal, Bound}
-use Rattle.jl_model.specs.Rows.{kind}
 use Rattle.jl_model.specs.Signature.{Both, both_more}
 use Rattle.jl_model.specs.Subtype.{Table, opaque, Below}
 use Rattle.jl_model.specs.Valid.{is_closed}
@@ -106,19 +101,3 @@ module _ (ds : List Decl) (declared : Declared ds) where
 
   pub arguments_ground : (gs : List Given) (as_ : List Argument) → AreFormed ds gs (all_given as_) → (a : Argument) → Contains as_ a → IsGround ds a.ty
   arguments_ground gs as_ f a c = formed_ground gs (all_given as_) f (given a) (given_contains as_ a c)
-
--- UNUSED VARIABLES
-pub kind_unused : (k : Kind) → kind_in k ≡ unused → k ≡ Unused
-kind_unused Unused h = refl
-kind_unused Once h = absurd (let f : once ≡ unused = h in cc)
-kind_unused Diagonal h = absurd (let f : diagonal ≡ unused = h in cc)
-kind_unused Bound h = absurd (let f : bound ≡ unused = h in cc)
-
-le_or : (i v : ℕ) → i ≤ v → (i ≡ v) ⊎ (i + 1 ≤ v)
-le_or zero zero l = inl refl
-le_or zero (suc v) l = inr (omega arith)
-le_or (suc i) zero l = absurd (omega arith)
-le_or (suc i) (suc v) l = elim (le_or i v (omega arith)) [ inl e ↦ inl (ap suc e) | inr b ↦ inr (omega arith) ]
-
-pub next_unused : (s : Written) (i : ℕ) → (kind s i ≡ unused → ⊥) → (v : ℕ) × (i ≤ v) × (v < length s.vars) × (kind s v ≡ unused) → (v : ℕ) × (i + 1 ≤ v) × (v < length s.vars) × (kind s v ≡ unused)
-next_unused s i h (v, l, b, e) = elim (le_or i v l) [ inl q ↦ absurd (h (ap (kind s) q ∙ e)) | inr r ↦ (v, r, b, e) ]

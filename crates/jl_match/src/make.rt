@@ -9,11 +9,11 @@ ghost use Rattle.jl_model.specs.SigRefusals.{types_in, IsAllowedSig};
 ghost use Rattle.jl_match.specs.SigRefused.{SigRefused, IsMade};
 
 use crate::names::are_counted;
-use crate::places::{are_placed, has_unused};
+use crate::places::are_placed;
 use jl_model::ty::Written;
 use jl_sig::forms::{have_crossed, have_outside};
 use jl_sig::types::types_in;
-use jl_sig::{Prepared, Sig, SigFault, prepare};
+use jl_sig::{Prepared, Sig, SigFault, has_unused, prepare};
 use jl_types::{NormFault, Table};
 use std::alloc::Global;
 
@@ -31,7 +31,8 @@ pub fn make_sig(alloc: Global, table: &Table, written: &Written) -> Result<Sig, 
     if !are_placed(written) {
         return Err(SigFault::VariablePlace);
     }
-    if has_unused(written) {
+    let unused = has_unused(alloc, written)?;
+    if unused {
         return Err(SigFault::UnusedVariable);
     }
     if written.parts.len() > MOST_PARAMETERS {

@@ -1,12 +1,11 @@
 //! Where the variables of a signature stand.
 
-ghost use Rattle.std.specs.Prelude.{◌≡◌, ◌<◌, ◌↔◌, IsTrue};
+ghost use Rattle.std.specs.Prelude.{◌≡◌};
 ghost use Rattle.std.specs.List.{list_all};
-ghost use Rattle.jl_model.specs.SigRefusals.{are_placed, is_argument, is_component, UnusedVariable};
+ghost use Rattle.jl_model.specs.SigRefusals.{are_placed, is_argument, is_component};
 
 use jl_model::ty::{Ty, Written};
 use jl_norm::places::are_bounds_closed;
-use jl_sig::{Kind, kind_of};
 use jl_types::closed::are_closed;
 
 /// Whether no variable stands in a union or a tuple in these.
@@ -70,19 +69,4 @@ pub fn are_placed(written: &Written) -> bool
     ensures { result ≡ are_placed written.now }
 {
     are_bounds_closed(written.vars.as_slice()) && are_components(written.parts.as_slice())
-}
-
-/// Whether a variable has no place.
-pub fn has_unused(written: &Written) -> bool
-    ensures { IsTrue result ↔ UnusedVariable written.now }
-{
-    for variable in 0..written.vars.len() {
-        if matches!(
-            kind_of(written.parts.as_slice(), variable as u64),
-            Kind::Unused
-        ) {
-            return true;
-        }
-    }
-    false
 }

@@ -25,3 +25,4 @@ pub mod FieldSigLemmas
 pub mod ReadyLemmas
 pub mod BareLemmas
 pub mod FlagLemmas
+pub mod UnusedLemmas

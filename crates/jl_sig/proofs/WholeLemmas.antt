@@ -101,7 +101,7 @@ hidden v = by_cases (Hidden v) (record {
     off true e = absurd (let f : true ≡ false = e in cc)
     off false e = (refl, refl)
 
-all_hidden : (v : ℕ) (ts : List Ty) → list_any (stands_in v) ts ≡ false → ((plus_all (map (places v) ts)).covariant ≡ 0) × ((plus_all (map (places v) ts)).invariant ≡ 0)
+pub all_hidden : (v : ℕ) (ts : List Ty) → list_any (stands_in v) ts ≡ false → ((plus_all (map (places v) ts)).covariant ≡ 0) × ((plus_all (map (places v) ts)).invariant ≡ 0)
 all_hidden v ts h = none_place v ts (each ts) h
   where
     each : (us : List Ty) → Each (Hidden v) us
@@ -219,7 +219,7 @@ diagonal_places p h = by_test (nat_eq p.invariant 0) refl h
     by_test true e g = grind (arith, e)
     by_test false e g = absurd (let f : bound ≡ diagonal = g in cc)
 
-unused_places : (p : Places) → p.covariant ≡ 0 → p.invariant ≡ 0 → kind_of p ≡ unused
+pub unused_places : (p : Places) → p.covariant ≡ 0 → p.invariant ≡ 0 → kind_of p ≡ unused
 unused_places p c i = rw (i, c) refl
 
 -- ROWS

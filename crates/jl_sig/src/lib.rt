@@ -29,7 +29,7 @@ pub use kind::{Kind, kind_of};
 pub use ready::Ready;
 pub use sig::{Prepared, Sig, prepare};
 pub use usable::is_usable;
-pub use usable_flags::usable_variables;
+pub use usable_flags::{has_unused, usable_variables};
 pub use variables::kinds;
 
 #[cfg(test)]

@@ -1,9 +1,10 @@
-//! Which variables of a signature a method's body may use, of all of them in one walk.
+//! Which variables of a signature stand in it, and which a method's body may use, of all of them in one walk.
 
-ghost use Rattle.std.specs.Prelude.{◌≡◌, nat_eq, not, map, false, IfOk};
+ghost use Rattle.std.specs.Prelude.{◌≡◌, ◌↔◌, nat_eq, not, map, false, IsTrue, IfOk};
 ghost use Rattle.std.specs.List.{list_all, list_any};
 ghost use Rattle.jl_model.specs.AllRows.{each_var};
 ghost use Rattle.jl_model.specs.Usable.{stands_in, is_outside_unions, is_usable};
+ghost use Rattle.jl_model.specs.SigRefusals.{UnusedVariable};
 ghost use Rattle.jl_sig.specs.Flags.{with_flag};
 
 use jl_model::ty::{Bound, Ty, Written};
@@ -75,6 +76,27 @@ fn clear_unions(ty: &Ty, flags: &mut Vec<bool>)
         Ty::Nominal(_, arguments) => clear_unions_in(arguments.as_slice(), flags),
         Ty::Var(_) => {}
     }
+}
+
+fn has_clear(flags: &[bool]) -> bool
+    ensures { result ≡ list_any not flags.now }
+{
+    for flag in flags {
+        if !*flag {
+            return true;
+        }
+    }
+    false
+}
+
+/// Whether a variable of a signature stands in none of its types.
+pub fn has_unused(alloc: Global, written: &Written) -> Result<bool, AllocError>
+    ensures { IfOk result (λ b. IsTrue b ↔ UnusedVariable written.now) }
+{
+    let mut flags = no_flags(alloc, written.vars.as_slice())?;
+    set_standing_in(written.parts.as_slice(), true, &mut flags);
+    let unused = has_clear(flags.as_slice());
+    Ok(unused)
 }
 
 /// Which variables of a signature a method's body may use, by their numbers.

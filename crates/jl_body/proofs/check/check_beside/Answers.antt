@@ -13,8 +13,8 @@ returns-in-Err-TypeLimit c =
     let ds = c.args.table.now in
     let t = c.args.written.now in
     let few : TooManyParameters t → ⊥ = λ h. omega (arith, c.len.ensures, c.if-len-gt-MOST_COMPONENTS.false, h) in
-    let w = well_written ds t c.args.plain.now c.as_slice.result.now c.are_placed.result c.has_unused.result c.are_counted.result c.requires.plain (c.as_slice.ensures.value ∙ c.in_ok-types.ensures)
-    c.are_placed.ensures c.if-not-are_placed.false c.has_unused.ensures c.if-has_unused.false few c.are_counted.ensures c.if-not-are_counted.false in
+    let w = well_written ds t c.args.plain.now c.as_slice.result.now c.are_placed.result c.in_ok-unused.unused c.are_counted.result c.requires.plain (c.as_slice.ensures.value ∙ c.in_ok-types.ensures)
+    c.are_placed.ensures c.if-not-are_placed.false c.in_ok-unused.ensures c.if-unused.false few c.are_counted.ensures c.if-not-are_counted.false in
     (w, c.in-Err-TypeLimit.ensures.limit (ap (λ z. Err z) c.in-Err-TypeLimit.field-0-is))
 
 pub have_crossed-requires : goal.have_crossed-requires
@@ -29,8 +29,8 @@ returns-then-have_crossed c =
     let ds = c.args.table.now in
     let t = c.args.written.now in
     let few : TooManyParameters t → ⊥ = λ h. omega (arith, c.len.ensures, c.if-len-gt-MOST_COMPONENTS.false, h) in
-    let w = well_written ds t c.args.plain.now c.as_slice.result.now c.are_placed.result c.has_unused.result c.are_counted.result c.requires.plain (c.as_slice.ensures.value ∙ c.in_ok-types.ensures)
-    c.are_placed.ensures c.if-not-are_placed.false c.has_unused.ensures c.if-has_unused.false few c.are_counted.ensures c.if-not-are_counted.false in
+    let w = well_written ds t c.args.plain.now c.as_slice.result.now c.are_placed.result c.in_ok-unused.unused c.are_counted.result c.requires.plain (c.as_slice.ensures.value ∙ c.in_ok-types.ensures)
+    c.are_placed.ensures c.if-not-are_placed.false c.in_ok-unused.ensures c.if-unused.false few c.are_counted.ensures c.if-not-are_counted.false in
     let b = subst (λ z. Both (IsSmallForm ds) (bound_types t.vars) (bound_types z)) (sym c.as_slice-3.ensures) c.in-Ok.ensures.forms.bounds in
     (w, c.in-Ok.ensures.forms.small, crossed_written ds c.valid.ensures t.vars c.as_slice-3.result.now b (c.have_crossed.ensures.0 c.if-have_crossed.true))
 
@@ -46,8 +46,8 @@ returns-then-have_outside c =
     let ds = c.args.table.now in
     let t = c.args.written.now in
     let few : TooManyParameters t → ⊥ = λ h. omega (arith, c.len.ensures, c.if-len-gt-MOST_COMPONENTS.false, h) in
-    let w = well_written ds t c.args.plain.now c.as_slice.result.now c.are_placed.result c.has_unused.result c.are_counted.result c.requires.plain (c.as_slice.ensures.value ∙ c.in_ok-types.ensures)
-    c.are_placed.ensures c.if-not-are_placed.false c.has_unused.ensures c.if-has_unused.false few c.are_counted.ensures c.if-not-are_counted.false in
+    let w = well_written ds t c.args.plain.now c.as_slice.result.now c.are_placed.result c.in_ok-unused.unused c.are_counted.result c.requires.plain (c.as_slice.ensures.value ∙ c.in_ok-types.ensures)
+    c.are_placed.ensures c.if-not-are_placed.false c.in_ok-unused.ensures c.if-unused.false few c.are_counted.ensures c.if-not-are_counted.false in
     let b = subst (λ z. Both (IsSmallForm ds) (bound_types t.vars) (bound_types z)) (sym c.as_slice-3.ensures) c.in-Ok.ensures.forms.bounds in
     let a = subst (λ z. AreFormed ds (arguments_in t) (all_given z)) (sym c.as_slice-4.ensures.value) c.in-Ok.ensures.forms.arguments in
     let o = not_crossed ds c.valid.ensures t c.as_slice-3.result.now c.have_crossed.result b c.have_crossed.ensures c.if-have_crossed.false in
@@ -58,8 +58,8 @@ returns c =
     let ds = c.args.table.now in
     let t = c.args.written.now in
     let few : TooManyParameters t → ⊥ = λ h. omega (arith, c.len.ensures, c.if-len-gt-MOST_COMPONENTS.false, h) in
-    let w = well_written ds t c.args.plain.now c.as_slice.result.now c.are_placed.result c.has_unused.result c.are_counted.result c.requires.plain (c.as_slice.ensures.value ∙ c.in_ok-types.ensures)
-    c.are_placed.ensures c.if-not-are_placed.false c.has_unused.ensures c.if-has_unused.false few c.are_counted.ensures c.if-not-are_counted.false in
+    let w = well_written ds t c.args.plain.now c.as_slice.result.now c.are_placed.result c.in_ok-unused.unused c.are_counted.result c.requires.plain (c.as_slice.ensures.value ∙ c.in_ok-types.ensures)
+    c.are_placed.ensures c.if-not-are_placed.false c.in_ok-unused.ensures c.if-unused.false few c.are_counted.ensures c.if-not-are_counted.false in
     let b = subst (λ z. Both (IsSmallForm ds) (bound_types t.vars) (bound_types z)) (sym c.as_slice-3.ensures) c.in-Ok.ensures.forms.bounds in
     let a = subst (λ z. AreFormed ds (arguments_in t) (all_given z)) (sym c.as_slice-4.ensures.value) c.in-Ok.ensures.forms.arguments in
     let o = not_crossed ds c.valid.ensures t c.as_slice-3.result.now c.have_crossed.result b c.have_crossed.ensures c.if-have_crossed.false in

@@ -34,7 +34,7 @@ returns-then-have_crossed c =
     let s = c.args.written.now in
     let w : IsWellWritten ds s = record {
       placed = λ h. let f : true ≡ false = sym c.if-not-are_placed.false ∙ c.are_placed.ensures ∙ h in cc;
-      used = λ h. let g = c.has_unused.ensures.1 h in let f : true ≡ false = sym g ∙ c.if-has_unused.false in cc;
+      used = λ h. let g = c.in_ok-unused.ensures.1 h in let f : true ≡ false = sym g ∙ c.if-unused.false in cc;
       few = λ h. omega (arith, c.len.ensures, c.if-len-gt-MOST_PARAMETERS.false, h);
       counted = λ h. let f : true ≡ false = sym c.if-not-are_counted.false ∙ c.are_counted.ensures ∙ ap (list_all (is_counted ds)) (c.as_slice.ensures.value ∙ c.in_ok-types.ensures) ∙ h in cc;
     } in
@@ -49,7 +49,7 @@ returns-then-have_outside c =
     let s = c.args.written.now in
     let w : IsWellWritten ds s = record {
       placed = λ h. let f : true ≡ false = sym c.if-not-are_placed.false ∙ c.are_placed.ensures ∙ h in cc;
-      used = λ h. let g = c.has_unused.ensures.1 h in let f : true ≡ false = sym g ∙ c.if-has_unused.false in cc;
+      used = λ h. let g = c.in_ok-unused.ensures.1 h in let f : true ≡ false = sym g ∙ c.if-unused.false in cc;
       few = λ h. omega (arith, c.len.ensures, c.if-len-gt-MOST_PARAMETERS.false, h);
       counted = λ h. let f : true ≡ false = sym c.if-not-are_counted.false ∙ c.are_counted.ensures ∙ ap (list_all (is_counted ds)) (c.as_slice.ensures.value ∙ c.in_ok-types.ensures) ∙ h in cc;
     } in
@@ -67,7 +67,7 @@ returns c =
     let s = c.args.written.now in
     let w : IsWellWritten ds s = record {
       placed = λ h. let f : true ≡ false = sym c.if-not-are_placed.false ∙ c.are_placed.ensures ∙ h in cc;
-      used = λ h. let g = c.has_unused.ensures.1 h in let f : true ≡ false = sym g ∙ c.if-has_unused.false in cc;
+      used = λ h. let g = c.in_ok-unused.ensures.1 h in let f : true ≡ false = sym g ∙ c.if-unused.false in cc;
       few = λ h. omega (arith, c.len.ensures, c.if-len-gt-MOST_PARAMETERS.false, h);
       counted = λ h. let f : true ≡ false = sym c.if-not-are_counted.false ∙ c.are_counted.ensures ∙ ap (list_all (is_counted ds)) (c.as_slice.ensures.value ∙ c.in_ok-types.ensures) ∙ h in cc;
     } in
