@@ -2,7 +2,7 @@
 
 use crate::halt::Halt;
 use crate::order::signature;
-use jl_calculus::history::Choice;
+use jl_program::choice::Choice;
 use jl_subsig::{Method, choose};
 use jl_types::Table;
 use std::alloc::Global;

@@ -11,7 +11,7 @@ use crate::choice::{THREES, TWOS, of_four, of_none, of_one, of_three, of_two};
 use crate::halt::Halt;
 use crate::notation::declared;
 use crate::order::{PAIRS, standing};
-use jl_calculus::history::Choice;
+use jl_program::choice::Choice;
 use jl_types::Table;
 use std::io;
 

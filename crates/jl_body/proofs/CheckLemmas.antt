@@ -9,7 +9,7 @@ use Rattle.jl_model.specs.Signature.{Both}
 use Rattle.jl_model.specs.Valid.{is_counted}
 use Rattle.jl_model.specs.Refusals.{Declared, Given, bound_types}
 use Rattle.jl_model.specs.SigRefusals.{are_placed, types_in, arguments_in, UnusedVariable, TooManyParameters, BoundsCrossed, BoundBroken}
-use Rattle.jl_calculus.specs.BodyTypes.{without_statics}
+use Rattle.jl_program.specs.BodyTypes.{without_statics}
 use Rattle.jl_sig.specs.Forms.{IsSmallForm, AreFormed, HasCrossed, HasOutside}
 use Rattle.jl_match.proofs.MakeLemmas.{crossed_kept, outside_kept, outside_written}
 use Rattle.jl_body.specs.TypeRefused.{IsWellWritten}

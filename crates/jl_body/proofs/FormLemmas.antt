@@ -12,7 +12,7 @@ use Rattle.jl_model.specs.Valid.{is_known}
 use Rattle.jl_model.specs.Refusals.{Declared, Given, bound_types}
 use Rattle.jl_model.specs.SigRefusals.{types_in, arguments_in, ManyRows, VariablePlace}
 use Rattle.jl_model.specs.AllRows.{Listed}
-use Rattle.jl_calculus.specs.BodyTypes.{without_statics}
+use Rattle.jl_program.specs.BodyTypes.{without_statics}
 use Rattle.jl_sig.specs.Parts.{HasWide}
 use Rattle.jl_sig.specs.Forms.{IsSmallForm, AreFormed}
 use Rattle.jl_sig.specs.Prepared.{IsExpandable, AreAllRows}

@@ -9,7 +9,7 @@ use Rattle.jl_model.specs.Subtype.{put}
 use Rattle.jl_model.proofs.TypeInduction.{Each, by_cases}
 use Rattle.jl_model.proofs.FormLemmas.{put-any, put-union, put-tuple, put-nominal, put-var, vars-any, vars-union, vars-tuple, vars-nominal, vars-var}
 use Rattle.jl_model.proofs.PutLemmas.{both_true}
-use Rattle.jl_calculus.specs.BodyTypes.{own_or_any, without_statics}
+use Rattle.jl_program.specs.BodyTypes.{own_or_any, without_statics}
 use Rattle.jl_sig.specs.Prepared.{HasOwnVariables}
 use Rattle.jl_match.proofs.NameLemmas.{all-append}
 

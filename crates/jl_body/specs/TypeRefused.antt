@@ -4,7 +4,7 @@ use Rattle.jl_model.specs.declared.ty.Decl.{Decl}
 use Rattle.jl_model.specs.declared.ty.Written.{Written}
 use Rattle.jl_model.specs.Ancestors.{table_of}
 use Rattle.jl_model.specs.SigRefusals.{VariablePlace, UnusedVariable, TooManyParameters, WrongParameterCount, ManyNodes, ManyAlternatives, LargeForm, ManyRows, BoundsCrossed, BoundBroken}
-use Rattle.jl_calculus.specs.BodyTypes.{without_statics}
+use Rattle.jl_program.specs.BodyTypes.{without_statics}
 use Rattle.jl_sig.specs.declared.fault.SigFault.{SigFault}
 use Rattle.jl_sig.specs.declared.fault.SigFault.TheVariants as fault
 

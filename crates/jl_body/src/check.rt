@@ -4,7 +4,7 @@ ghost use Rattle.std.specs.Prelude.{◌≡◌, IsTrue, MatchResult, length};
 ghost use Rattle.std.specs.List.{list_all};
 ghost use Rattle.jl_model.specs.Valid.{is_known};
 ghost use Rattle.jl_model.specs.SigRefusals.{types_in};
-ghost use Rattle.jl_calculus.specs.BodyTypes.{IsAllowedType, without_statics};
+ghost use Rattle.jl_program.specs.BodyTypes.{IsAllowedType, without_statics};
 ghost use Rattle.jl_body.specs.TypeRefused.{TypeRefused};
 
 use crate::forms::small_forms;

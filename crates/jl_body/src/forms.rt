@@ -6,7 +6,7 @@ ghost use Rattle.jl_model.specs.Ancestors.{table_of};
 ghost use Rattle.jl_model.specs.Valid.{is_known};
 ghost use Rattle.jl_model.specs.SigRefusals.{types_in, ManyRows, VariablePlace};
 ghost use Rattle.jl_types.specs.declared.normal_form.NormFault.TheVariants.{TypeLimit};
-ghost use Rattle.jl_calculus.specs.BodyTypes.{without_statics};
+ghost use Rattle.jl_program.specs.BodyTypes.{without_statics};
 ghost use Rattle.jl_sig.specs.Prepared.{IsExpandable};
 ghost use Rattle.jl_body.specs.TypeRefused.{BodyTypeLimit};
 ghost use Rattle.jl_body.specs.NormalForms.{AreFormsOf};

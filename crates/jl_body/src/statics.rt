@@ -2,7 +2,7 @@
 
 ghost use Rattle.std.specs.Prelude.{◌≡◌, IfOk, length, map};
 ghost use Rattle.jl_model.specs.Subtype.{put};
-ghost use Rattle.jl_calculus.specs.BodyTypes.{own_or_any, without_statics};
+ghost use Rattle.jl_program.specs.BodyTypes.{own_or_any, without_statics};
 
 use jl_model::ty::{Ty, Tys, Written};
 use std::alloc::{AllocError, Global};

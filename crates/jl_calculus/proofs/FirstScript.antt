@@ -8,17 +8,15 @@ use Rattle.jl_model.specs.declared.ty.Ty.TheViews as W
 use Rattle.jl_model.specs.declared.ty.Ty.TheFolds.{fold-roll-Ty}
 use Rattle.jl_model.specs.Ancestors.{named}
 use Rattle.std.specs.Fmt.{digits}
-use Rattle.jl_calculus.specs.declared.datum.Datum.{Datum}
-use Rattle.jl_calculus.specs.declared.datum.Datum.TheOpen as D
-use Rattle.jl_calculus.specs.declared.datum.Datum.TheFolds.{fold-roll-Datum}
-use Rattle.jl_calculus.specs.declared.tree.Expr.TheVariants as E
-use Rattle.jl_calculus.specs.declared.tree.Item.TheVariants as I
-use Rattle.jl_calculus.specs.declared.tree.Piece.TheVariants as Pi
-use Rattle.jl_calculus.specs.declared.tree.Site.{Site}
-use Rattle.jl_calculus.specs.declared.tree.Program.{Program}
-use Rattle.jl_calculus.specs.declared.value.Value.TheVariants as V
-use Rattle.jl_calculus.specs.declared.history.Fault.{Fault}
-use Rattle.jl_calculus.specs.declared.history.Fault.TheVariants as F
+use Rattle.jl_program.specs.declared.datum.Datum.{Datum}
+use Rattle.jl_program.specs.declared.datum.Datum.TheOpen as D
+use Rattle.jl_program.specs.declared.datum.Datum.TheFolds.{fold-roll-Datum}
+use Rattle.jl_program.specs.declared.tree.Expr.TheVariants as E
+use Rattle.jl_program.specs.declared.tree.Item.TheVariants as I
+use Rattle.jl_program.specs.declared.tree.Piece.TheVariants as Pi
+use Rattle.jl_program.specs.declared.value.Value.TheVariants as V
+use Rattle.jl_program.specs.declared.fault.Fault.{Fault}
+use Rattle.jl_program.specs.declared.fault.Fault.TheVariants as F
 use Rattle.jl_calculus.specs.declared.history.Outcome.{Outcome}
 use Rattle.jl_calculus.specs.declared.history.Outcome.TheVariants as O
 use Rattle.jl_calculus.specs.declared.history.Event.{Event}
@@ -26,38 +24,27 @@ use Rattle.jl_calculus.specs.declared.history.Event.TheVariants as Ev
 use Rattle.jl_calculus.specs.declared.history.TraceItem.{TraceItem}
 use Rattle.jl_calculus.specs.declared.history.TraceItem.TheVariants.{Look, Def}
 use Rattle.jl_calculus.specs.declared.history.Record.{Record}
-use Rattle.jl_calculus.specs.Prelude.{prelude_functions, prelude_sites, plain, two, int64, bool}
+use Rattle.jl_program.specs.Prelude.{plain, two, int64, bool}
 use Rattle.jl_calculus.specs.Host.{host_meaning}
-use Rattle.jl_calculus.specs.Text.{fault_text, error_line, value_text, datum_text, datum_step, type_text, type_step, type_name, in_braces, arguments, tuple_text}
-use Rattle.jl_calculus.specs.Meaning.{datum}
-use Rattle.jl_calculus.specs.declared.tree.Expr.{Expr}
-use Rattle.jl_calculus.specs.declared.tree.Piece.{Piece}
-use Rattle.jl_calculus.specs.declared.tree.Expr.TheViews as X
-use Rattle.jl_calculus.specs.declared.value.Value.{Value}
-use Rattle.jl_calculus.specs.declared.history.Choice.{Choice}
-use Rattle.jl_calculus.specs.declared.tree.Start.{Start}
-use Rattle.jl_calculus.specs.declared.history.Choice.TheVariants as C
+use Rattle.jl_program.specs.Text.{fault_text, error_line, value_text, datum_text, datum_step, type_text, type_step, type_name, in_braces, arguments, tuple_text}
+use Rattle.jl_program.specs.Meaning.{datum}
+use Rattle.jl_program.specs.declared.tree.Expr.{Expr}
+use Rattle.jl_program.specs.declared.tree.Piece.{Piece}
+use Rattle.jl_program.specs.declared.tree.Expr.TheViews as X
+use Rattle.jl_program.specs.declared.value.Value.{Value}
+use Rattle.jl_program.specs.declared.choice.Choice.{Choice}
+use Rattle.jl_program.specs.declared.tree.Start.{Start}
+use Rattle.jl_program.specs.declared.choice.Choice.TheVariants as C
 use Rattle.jl_calculus.specs.Run.{Setting, State, chosen, Then, IsEnd, Caller, Run, calls, runs, runs_item, prints, with_scope, first_state, open_calls}
-use Rattle.jl_calculus.specs.World.{world_of, site_of, types_of, Selects}
+use Rattle.jl_program.specs.Scope.{types_of}
+use Rattle.jl_calculus.specs.World.{world_of, site_of, Selects}
 use Rattle.jl_model.specs.Choice.{Method}
 use Rattle.std.specs.List.{Contains}
-use Rattle.jl_calculus.proofs.FirstChoices.{only_choice, no_other_choice, any_applies, two_apply}
+use Rattle.jl_program.proofs.FirstProgram.{f_site, P}
+use Rattle.jl_program.proofs.FirstChoices.{only_choice, no_other_choice, any_applies, two_apply}
 use Rattle.jl_calculus.proofs.Forms.{int_runs, local_runs, call_runs, print_runs, show_runs, define_runs, do_runs, from_int, from_local, from_call, from_print, from_show, from_define, from_do}
 use Rattle.jl_calculus.specs.Past.{own_events, own_items, own_starts, IsInOrder, IsTrueOf, done_of, tasks_of}
 use Rattle.jl_calculus.specs.Legal.{AreTrueOf, first_place, fuel_of, IsRunning, IsFinished, IsRight, IsLegal, text_of, status_of}
-
-abbrev pub f_site : Site
-f_site = record { function = 12; sig = plain (T.Any ∷ []); body = X.Call 0 (E.Local 0 ∷ E.Int (pos 1) ∷ []) }
-
--- the program of the script
-abbrev pub P : Program
-P = record {
-  decls = [];
-  functions = prelude_functions ++ codes "f" ∷ [];
-  sites = prelude_sites ++ f_site ∷ [];
-  spawns = [];
-  top = I.Define 14 ∷ I.Do (X.Print (Pi.Show (X.Call 12 (E.Int (pos 2) ∷ [])) ∷ []) true) ∷ [];
-}
 
 abbrev trace : List TraceItem
 trace = Look 14 1 ∷ Def 14 1 ∷ Look 15 2 ∷ []

@@ -1,20 +1,20 @@
 -- What a part of the tree of each form runs as.
 use Rattle.std.proofs.Common.{◌≡◌, sym, ap, ◌∙◌, subst, ℕ, ℤ, Bool, List, [], ◌++◌, get_or}
-use Rattle.jl_calculus.specs.declared.value.Value.TheVariants as V
+use Rattle.jl_program.specs.declared.value.Value.TheVariants as V
 use Rattle.jl_calculus.specs.declared.history.Outcome.{Outcome}
-use Rattle.jl_calculus.specs.declared.tree.Expr.{Expr, out-Expr}
-use Rattle.jl_calculus.specs.declared.tree.Expr.TheOpen.{Expr-F, Stmt-F, Item-F, Piece-F}
-use Rattle.jl_calculus.specs.declared.tree.Expr.TheOpen as F
-use Rattle.jl_calculus.specs.declared.tree.Expr.TheVariants as E
-use Rattle.jl_calculus.specs.declared.tree.Expr.TheViews as W
-use Rattle.jl_calculus.specs.declared.tree.Expr.TheViews.{outs-Int, outs-Local, outs-Call, outs-Print, outs-Define, outs-Show}
-use Rattle.jl_calculus.specs.declared.tree.Item.{Item}
-use Rattle.jl_calculus.specs.declared.tree.Item.TheVariants as I
-use Rattle.jl_calculus.specs.declared.tree.Piece.{Piece}
-use Rattle.jl_calculus.specs.declared.tree.Piece.TheVariants as Pi
-use Rattle.jl_calculus.specs.declared.tree.Stmt.{Stmt}
+use Rattle.jl_program.specs.declared.tree.Expr.{Expr, out-Expr}
+use Rattle.jl_program.specs.declared.tree.Expr.TheOpen.{Expr-F, Stmt-F, Item-F, Piece-F}
+use Rattle.jl_program.specs.declared.tree.Expr.TheOpen as F
+use Rattle.jl_program.specs.declared.tree.Expr.TheVariants as E
+use Rattle.jl_program.specs.declared.tree.Expr.TheViews as W
+use Rattle.jl_program.specs.declared.tree.Expr.TheViews.{outs-Int, outs-Local, outs-Call, outs-Print, outs-Define, outs-Show}
+use Rattle.jl_program.specs.declared.tree.Item.{Item}
+use Rattle.jl_program.specs.declared.tree.Item.TheVariants as I
+use Rattle.jl_program.specs.declared.tree.Piece.{Piece}
+use Rattle.jl_program.specs.declared.tree.Piece.TheVariants as Pi
+use Rattle.jl_program.specs.declared.tree.Stmt.{Stmt}
 use Rattle.jl_calculus.specs.Run.{Setting, State, Then, Runs, ItemRuns, PieceRuns, Caller, each_runs, texts_run, looks, defines, expr_runs, item_runs, piece_runs, runs, runs_stmt, runs_item, runs_piece, prints, newline}
-use Rattle.jl_calculus.specs.Text.{value_text}
+use Rattle.jl_program.specs.Text.{value_text}
 use Rattle.jl_calculus.proofs.Layers.{runs_is, item_is, piece_is}
 
 module _ (g : Setting) (Ends : Outcome → State → Type 0) (called : Caller) where

@@ -1,14 +1,14 @@
 -- What a part of the tree runs as is what its layer runs as.
-use Rattle.std.proofs.Common.{◌≡◌, ℕ, List, [], ◌∷◌, ◌++◌, map, refl, sym, ap, ◌∙◌}
-use Rattle.jl_calculus.specs.declared.value.Value.TheVariants as V
+use Rattle.std.proofs.Common.{◌≡◌, List, [], ◌∷◌, ◌++◌, map, refl, sym, ap, ◌∙◌}
+use Rattle.jl_program.specs.declared.value.Value.TheVariants as V
 use Rattle.jl_calculus.specs.declared.history.Outcome.{Outcome}
-use Rattle.jl_calculus.specs.declared.tree.Expr.{Expr, out-Expr, roll-out-Expr}
-use Rattle.jl_calculus.specs.declared.tree.Item.{Item, out-Item, roll-out-Item}
-use Rattle.jl_calculus.specs.declared.tree.Piece.{Piece, out-Piece, roll-out-Piece}
-use Rattle.jl_calculus.specs.declared.tree.Expr.TheOpen.{Expr-F, Stmt-F, Item-F, Piece-F}
-use Rattle.jl_calculus.specs.declared.tree.Expr.TheOpen as F
-use Rattle.jl_calculus.specs.declared.tree.Expr.TheFolds.{map-Expr, map-Stmt, map-Item, map-Piece, rec-roll-Expr, rec-roll-Item, rec-roll-Piece}
-use Rattle.jl_calculus.specs.Run.{Setting, State, Runs, ItemRuns, PieceRuns, Caller, each_runs, texts_run, items_run, expr_runs, stmt_runs, item_runs, piece_runs, runs, runs_stmt, runs_item, runs_piece, prints, newline}
+use Rattle.jl_program.specs.declared.tree.Expr.{Expr, out-Expr, roll-out-Expr}
+use Rattle.jl_program.specs.declared.tree.Item.{Item, out-Item, roll-out-Item}
+use Rattle.jl_program.specs.declared.tree.Piece.{Piece, out-Piece, roll-out-Piece}
+use Rattle.jl_program.specs.declared.tree.Expr.TheOpen.{Expr-F, Stmt-F, Item-F, Piece-F}
+use Rattle.jl_program.specs.declared.tree.Expr.TheOpen as F
+use Rattle.jl_program.specs.declared.tree.Expr.TheFolds.{map-Expr, map-Stmt, map-Item, map-Piece, rec-roll-Expr, rec-roll-Item, rec-roll-Piece}
+use Rattle.jl_calculus.specs.Run.{Setting, State, Runs, ItemRuns, PieceRuns, Caller, each_runs, texts_run, expr_runs, stmt_runs, item_runs, piece_runs, runs, runs_stmt, runs_item, runs_piece, prints, newline}
 
 module _ {X Y : Type 0} (v : X → Y) where
   each_natural : (k : Y → Runs) (xs : List X) → each_runs (λ x. k (v x)) xs ≡ each_runs k (map v xs)

@@ -6,23 +6,24 @@ use Rattle.jl_model.specs.declared.ty.Key.{Key}
 use Rattle.jl_model.specs.declared.ty.Ty.{Ty}
 use Rattle.jl_model.specs.Choice.{Method}
 use Rattle.jl_model.specs.Signature.{Applicable, both_end}
-use Rattle.jl_calculus.specs.declared.tree.Expr.TheVariants as E
-use Rattle.jl_calculus.specs.declared.tree.Site.{Site}
-use Rattle.jl_calculus.specs.declared.tree.Start.{Start}
-use Rattle.jl_calculus.specs.declared.tree.Program.{Program}
-use Rattle.jl_calculus.specs.declared.value.Value.TheVariants as V
-use Rattle.jl_calculus.specs.declared.history.Fault.TheVariants as F
+use Rattle.jl_program.specs.declared.tree.Expr.TheVariants as E
+use Rattle.jl_program.specs.declared.tree.Site.{Site}
+use Rattle.jl_program.specs.declared.tree.Start.{Start}
+use Rattle.jl_program.specs.declared.tree.Program.{Program}
+use Rattle.jl_program.specs.declared.value.Value.TheVariants as V
+use Rattle.jl_program.specs.declared.fault.Fault.TheVariants as F
 use Rattle.jl_calculus.specs.declared.history.Outcome.{Outcome}
 use Rattle.jl_calculus.specs.declared.history.Outcome.TheVariants as O
 use Rattle.jl_calculus.specs.declared.history.Event.{Event}
 use Rattle.jl_calculus.specs.declared.history.Event.TheVariants as Ev
 use Rattle.jl_calculus.specs.declared.history.Record.{Record}
 use Rattle.jl_calculus.specs.declared.history.TraceItem.TheVariants.{Spawn, Fetch}
-use Rattle.jl_calculus.specs.Prelude.{prelude_functions, prelude_sites, plain, int64}
+use Rattle.jl_program.specs.Prelude.{prelude_functions, prelude_sites, plain, int64}
 use Rattle.jl_calculus.specs.Past.{tasks_of, own_events, own_starts, IsTrueOf}
 use Rattle.jl_calculus.specs.Legal.{first_place, start_of, path_order, text_of, status_of}
-use Rattle.jl_calculus.specs.World.{world_of, types_of, site_of, methods_in}
-use Rattle.jl_calculus.proofs.FirstChoices.{applies_by}
+use Rattle.jl_program.specs.Scope.{types_of}
+use Rattle.jl_calculus.specs.World.{world_of, site_of, methods_in}
+use Rattle.jl_program.proofs.FirstChoices.{applies_by}
 use Rattle.jl_calculus.specs.Kept.{Covers, IsFilled, keys_of, fills_of, Touches}
 
 -- ---- tasks

@@ -7,17 +7,17 @@ use Rattle.jl_model.specs.declared.ty.Ty.TheOpen as L
 use Rattle.jl_model.specs.declared.ty.Ty.TheViews.{rolls-Nominal}
 use Rattle.jl_model.specs.declared.ty.Ty.TheFolds.{fold-roll-Ty}
 use Rattle.jl_model.specs.Choice.{Method}
-use Rattle.jl_calculus.specs.declared.tree.Expr.{Expr}
-use Rattle.jl_calculus.specs.declared.tree.Piece.{Piece}
-use Rattle.jl_calculus.specs.declared.tree.Expr.TheVariants as E
-use Rattle.jl_calculus.specs.declared.tree.Expr.TheViews as X
-use Rattle.jl_calculus.specs.declared.tree.Item.TheVariants as I
-use Rattle.jl_calculus.specs.declared.tree.Piece.TheVariants as Pi
-use Rattle.jl_calculus.specs.declared.tree.Site.{Site}
-use Rattle.jl_calculus.specs.declared.tree.Program.{Program}
-use Rattle.jl_calculus.specs.declared.value.Value.{Value}
-use Rattle.jl_calculus.specs.declared.value.Value.TheVariants as V
-use Rattle.jl_calculus.specs.declared.history.Fault.TheVariants as F
+use Rattle.jl_program.specs.declared.tree.Expr.{Expr}
+use Rattle.jl_program.specs.declared.tree.Piece.{Piece}
+use Rattle.jl_program.specs.declared.tree.Expr.TheVariants as E
+use Rattle.jl_program.specs.declared.tree.Expr.TheViews as X
+use Rattle.jl_program.specs.declared.tree.Item.TheVariants as I
+use Rattle.jl_program.specs.declared.tree.Piece.TheVariants as Pi
+use Rattle.jl_program.specs.declared.tree.Site.{Site}
+use Rattle.jl_program.specs.declared.tree.Program.{Program}
+use Rattle.jl_program.specs.declared.value.Value.{Value}
+use Rattle.jl_program.specs.declared.value.Value.TheVariants as V
+use Rattle.jl_program.specs.declared.fault.Fault.TheVariants as F
 use Rattle.jl_calculus.specs.declared.history.Outcome.{Outcome}
 use Rattle.jl_calculus.specs.declared.history.Outcome.TheVariants as O
 use Rattle.jl_calculus.specs.declared.history.Event.{Event}
@@ -25,15 +25,16 @@ use Rattle.jl_calculus.specs.declared.history.Event.TheVariants as Ev
 use Rattle.jl_calculus.specs.declared.history.TraceItem.{TraceItem}
 use Rattle.jl_calculus.specs.declared.history.TraceItem.TheVariants.{Look, Def}
 use Rattle.jl_calculus.specs.declared.history.Record.{Record}
-use Rattle.jl_calculus.specs.declared.history.Choice.TheVariants as C
-use Rattle.jl_calculus.specs.Prelude.{prelude_functions, prelude_sites, plain, two, int64}
-use Rattle.jl_calculus.specs.Text.{type_text, type_step, value_text}
+use Rattle.jl_program.specs.declared.choice.Choice.TheVariants as C
+use Rattle.jl_program.specs.Prelude.{prelude_functions, prelude_sites, plain, two, int64}
+use Rattle.jl_program.specs.Text.{type_text, type_step, value_text}
 use Rattle.jl_calculus.specs.Past.{done_of}
 use Rattle.jl_calculus.specs.Legal.{IsLegal, text_of, status_of}
-use Rattle.jl_calculus.specs.World.{types_of, Selects}
+use Rattle.jl_program.specs.Scope.{types_of}
+use Rattle.jl_calculus.specs.World.{Selects}
 use Rattle.jl_calculus.specs.Run.{Setting, State, Then, IsEnd, Caller, Run, calls, runs, runs_item, runs_piece, texts_run, prints, with_scope, first_state, open_calls}
 use Rattle.jl_calculus.proofs.Forms.{int_runs, local_runs, call_runs, print_runs, show_runs, text_runs, define_runs, do_runs}
-use Rattle.jl_calculus.proofs.FirstChoices.{only_choice, any_applies, two_apply}
+use Rattle.jl_program.proofs.FirstChoices.{only_choice, any_applies, two_apply}
 
 int64-text : (P : Program) → P.decls ≡ [] → type_text P int64 ≡ codes "Int64"
 int64-text P e = ap (type_text P) (sym (rolls-Nominal 4 [])) ∙ fold-roll-Ty (List ℕ) (type_step P) (L.Nominal 4 [])

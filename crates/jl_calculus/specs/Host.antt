@@ -2,10 +2,10 @@
 use Rattle.std.specs.Prelude.{ℕ, ℤ, pos, negsuc, Bool, cond, not, ◌&&◌, int_lt, int_div, int_rem, List, [], ◌∷◌, get_or}
 use Rattle.std.specs.Ordering.{int_eq}
 use Rattle.std.specs.Int.{int_wrapping_add, int_wrapping_sub, int_wrapping_mul, int_wrapping_neg, w64}
-use Rattle.jl_calculus.specs.declared.value.Value.TheVariants as V
+use Rattle.jl_program.specs.declared.value.Value.TheVariants as V
 use Rattle.jl_calculus.specs.declared.history.Outcome.{Outcome}
 use Rattle.jl_calculus.specs.declared.history.Outcome.TheVariants as O
-use Rattle.jl_calculus.specs.declared.history.Fault.TheVariants.{DivideError}
+use Rattle.jl_program.specs.declared.fault.Fault.TheVariants.{DivideError}
 
 -- a number, or a truth value
 abbrev pub number : ℤ → Outcome

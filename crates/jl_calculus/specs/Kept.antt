@@ -7,9 +7,10 @@ use Rattle.jl_model.specs.Signature.{Applicable}
 use Rattle.std.specs.List.{Contains}
 use Rattle.jl_calculus.specs.declared.history.Event.{Event}
 use Rattle.jl_calculus.specs.declared.history.Event.TheVariants as Ev
-use Rattle.jl_calculus.specs.declared.history.Choice.TheVariants as C
-use Rattle.jl_calculus.specs.declared.tree.Program.{Program}
-use Rattle.jl_calculus.specs.World.{world_of, types_of, methods_in, site_of, Selects}
+use Rattle.jl_program.specs.declared.choice.Choice.TheVariants as C
+use Rattle.jl_program.specs.declared.tree.Program.{Program}
+use Rattle.jl_program.specs.Scope.{types_of}
+use Rattle.jl_calculus.specs.World.{world_of, methods_in, Selects}
 
 -- how many keys and how many rows there is room for
 pub record Places : Type 0 where

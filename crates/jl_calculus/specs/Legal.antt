@@ -7,11 +7,11 @@ use Rattle.jl_calculus.specs.declared.history.Outcome.{Outcome}
 use Rattle.jl_calculus.specs.declared.history.Outcome.TheVariants as O
 use Rattle.jl_calculus.specs.declared.history.TraceItem.{TraceItem}
 use Rattle.jl_calculus.specs.declared.history.Record.{Record}
-use Rattle.jl_calculus.specs.declared.tree.Start.{Start}
-use Rattle.jl_calculus.specs.declared.tree.Program.{Program}
+use Rattle.jl_program.specs.declared.tree.Start.{Start}
+use Rattle.jl_program.specs.declared.tree.Program.{Program}
 use Rattle.jl_calculus.specs.Past.{tasks_of, done_of, IsTrueOf, IsInOrder, own_items, own_events, own_starts}
-use Rattle.jl_calculus.specs.Run.{Setting, Run}
-use Rattle.jl_calculus.specs.Text.{error_line}
+use Rattle.jl_calculus.specs.Run.{Run}
+use Rattle.jl_program.specs.Text.{error_line}
 use Rattle.jl_calculus.specs.World.{world_of}
 
 -- the fuel of each task, where a Begin stands first

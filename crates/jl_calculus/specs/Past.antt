@@ -1,12 +1,12 @@
 -- What is true of the events so far, and the order of a trace.
-use Rattle.std.specs.Prelude.{ℕ, ◌+◌, ◌≡◌, ◌<◌, ◌≤◌, cond, nat_eq, List, [], ◌∷◌, ◌++◌, length, take, slice_get, Option, None, Some, IfSome, IsSome}
+use Rattle.std.specs.Prelude.{ℕ, ◌+◌, ◌≡◌, ◌≤◌, cond, nat_eq, List, [], ◌∷◌, length, take, slice_get, Option, None, Some}
 use Rattle.jl_calculus.specs.declared.history.Event.{Event}
 use Rattle.jl_calculus.specs.declared.history.Event.TheVariants as Ev
 use Rattle.jl_calculus.specs.declared.history.Outcome.{Outcome}
 use Rattle.jl_calculus.specs.declared.history.TraceItem.{TraceItem}
 use Rattle.jl_calculus.specs.declared.history.TraceItem.TheVariants.{Look, Def, Spawn, Fetch, WorldFull, TaskFull}
 use Rattle.jl_calculus.specs.declared.history.Record.{Record}
-use Rattle.jl_calculus.specs.declared.tree.Start.{Start}
+use Rattle.jl_program.specs.declared.tree.Start.{Start}
 use Rattle.jl_calculus.specs.World.{world_of}
 
 -- the tasks that were started, the root among them

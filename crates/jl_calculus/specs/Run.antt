@@ -7,34 +7,36 @@ use Rattle.std.specs.Prelude.{◌≡◌, ℕ, ℤ, pos, zero, suc, ◌+◌, List
 use Rattle.jl_model.specs.declared.ty.Ty.{Ty}
 use Rattle.jl_model.specs.declared.ty.Bound.{Bound}
 use Rattle.jl_model.specs.declared.ty.Written.{Written}
-use Rattle.jl_model.specs.Ancestors.{named}
 use Rattle.jl_model.specs.Subtype.{Table}
-use Rattle.jl_calculus.specs.declared.value.Value.{Value}
-use Rattle.jl_calculus.specs.declared.value.Value.TheVariants as V
+use Rattle.jl_program.specs.declared.value.Value.{Value}
+use Rattle.jl_program.specs.declared.value.Value.TheVariants as V
 use Rattle.jl_calculus.specs.declared.history.Event.{Event}
 use Rattle.jl_calculus.specs.declared.history.TraceItem.{TraceItem}
 use Rattle.jl_calculus.specs.declared.history.TraceItem.TheVariants.{Look, Def, WorldFull}
-use Rattle.jl_calculus.specs.declared.history.Choice.{Choice}
-use Rattle.jl_calculus.specs.declared.history.Choice.TheVariants as C
+use Rattle.jl_program.specs.declared.choice.Choice.{Choice}
+use Rattle.jl_program.specs.declared.choice.Choice.TheVariants as C
 use Rattle.jl_calculus.specs.declared.history.Outcome.{Outcome}
 use Rattle.jl_calculus.specs.declared.history.Outcome.TheVariants as O
-use Rattle.jl_calculus.specs.declared.history.Fault.TheVariants.{NoMethod, Ambiguous, FuelSpent, StackLimit, WorldLimit}
-use Rattle.jl_calculus.specs.declared.tree.Expr.{Expr}
-use Rattle.jl_calculus.specs.declared.tree.Stmt.{Stmt}
-use Rattle.jl_calculus.specs.declared.tree.Item.{Item}
-use Rattle.jl_calculus.specs.declared.tree.Piece.{Piece}
-use Rattle.jl_calculus.specs.declared.tree.Expr.TheOpen.{Expr-F, Stmt-F, Item-F, Piece-F}
-use Rattle.jl_calculus.specs.declared.tree.Expr.TheOpen as F
-use Rattle.jl_calculus.specs.declared.tree.Expr.TheFolds.{rec-Expr, rec-Stmt, rec-Item, rec-Piece}
-use Rattle.jl_calculus.specs.declared.tree.Expr.TheVariants as E
-use Rattle.jl_calculus.specs.declared.tree.Site.{Site}
-use Rattle.jl_calculus.specs.declared.tree.Start.{Start}
-use Rattle.jl_calculus.specs.declared.tree.Program.{Program}
+use Rattle.jl_program.specs.declared.fault.Fault.TheVariants.{NoMethod, Ambiguous, FuelSpent, StackLimit, WorldLimit}
+use Rattle.jl_program.specs.declared.tree.Expr.{Expr}
+use Rattle.jl_program.specs.declared.tree.Stmt.{Stmt}
+use Rattle.jl_program.specs.declared.tree.Item.{Item}
+use Rattle.jl_program.specs.declared.tree.Piece.{Piece}
+use Rattle.jl_program.specs.declared.tree.Expr.TheOpen.{Expr-F, Stmt-F, Item-F, Piece-F}
+use Rattle.jl_program.specs.declared.tree.Expr.TheOpen as F
+use Rattle.jl_program.specs.declared.tree.Expr.TheFolds.{rec-Expr, rec-Stmt, rec-Item, rec-Piece}
+use Rattle.jl_program.specs.declared.tree.Expr.TheVariants as E
+use Rattle.jl_program.specs.declared.tree.Site.{Site}
+use Rattle.jl_program.specs.declared.tree.Start.{Start}
+use Rattle.jl_program.specs.declared.tree.Program.{Program}
 use Rattle.jl_calculus.specs.Host.{host_meaning}
 use Rattle.jl_calculus.specs.Kept.{Places, Keeps}
-use Rattle.jl_calculus.specs.Prelude.{prelude_count}
-use Rattle.jl_calculus.specs.Text.{value_text}
-use Rattle.jl_calculus.specs.World.{site_of, types_of, Selects}
+use Rattle.jl_program.specs.Prelude.{prelude_count}
+use Rattle.jl_program.specs.Scope.{types_of}
+use Rattle.jl_program.specs.Text.{value_text}
+use Rattle.jl_program.specs.TypeOf.{type_of}
+use Rattle.jl_program.specs.Scope.{types_of}
+use Rattle.jl_calculus.specs.World.{site_of, Selects}
 
 -- what a run is over: the program, the events, the places of the cache, if they are asked of, and the fuel
 pub record Setting : Type 0 where
@@ -64,15 +66,6 @@ with_calls s calls = record { env = s.env; bindings = s.bindings; left = s.left;
 
 abbrev pub prints : State → List ℕ → State
 prints s text = record { env = s.env; bindings = s.bindings; left = s.left; calls = s.calls; out = s.out ++ text; starts = s.starts }
-
--- the concrete type of a value
-abbrev pub type_of : Value → Ty
-type_of (V.Int n) = named 4
-type_of (V.Bool b) = named 5
-type_of V.Nothing = named 6
-type_of (V.Task n) = named 7
-type_of (V.Tuple t vs) = t
-type_of (V.Struct t vs) = t
 
 abbrev pub newline : Bool → List ℕ
 newline true = codes "\n"

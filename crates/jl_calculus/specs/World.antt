@@ -1,18 +1,16 @@
 -- Events, the worlds that they make, and the choice for a call in a world (Julia manual, Redefining Methods; Belyakova
 -- et al., OOPSLA 2020).
-use Rattle.std.specs.Prelude.{ℕ, ◌+◌, ◌-◌, ◌≡◌, cond, nat_eq, List, [], ◌∷◌, ◌++◌, map, length, take, get_or, slice_get, Option, None, Some}
+use Rattle.std.specs.Prelude.{ℕ, ◌+◌, ◌-◌, cond, nat_eq, List, [], ◌∷◌, ◌++◌, length, take, get_or, slice_get, Option, None, Some}
 use Rattle.jl_model.specs.declared.ty.Ty.{Ty}
-use Rattle.jl_model.specs.declared.ty.Key.{Key}
-use Rattle.jl_model.specs.Ancestors.{builtin_types, table_of}
-use Rattle.jl_model.specs.Subtype.{Table}
-use Rattle.jl_model.specs.Choice.{Method, ChoosesMethod, ChoosesNone, ChoosesAmbiguous}
+use Rattle.jl_model.specs.Choice.{Method}
 use Rattle.jl_calculus.specs.declared.history.Event.{Event}
 use Rattle.jl_calculus.specs.declared.history.Event.TheVariants as Ev
-use Rattle.jl_calculus.specs.declared.history.Choice.{Choice}
-use Rattle.jl_calculus.specs.declared.history.Choice.TheVariants as C
-use Rattle.jl_calculus.specs.declared.tree.Site.{Site}
-use Rattle.jl_calculus.specs.declared.tree.Program.{Program}
-use Rattle.jl_calculus.specs.Prelude.{prelude_numbers}
+use Rattle.jl_program.specs.declared.choice.Choice.{Choice}
+use Rattle.jl_program.specs.declared.tree.Site.{Site}
+use Rattle.jl_program.specs.declared.tree.Program.{Program}
+use Rattle.jl_program.specs.Chooses.{Chooses}
+use Rattle.jl_program.specs.Prelude.{prelude_numbers}
+use Rattle.jl_program.specs.Scope.{types_of}
 
 -- the sites that the events define, in order
 abbrev pub defined : List Event → List ℕ
@@ -36,10 +34,6 @@ site_of es d = get_or (definitions es) (d - 1) 0
 abbrev pub world_of : List Event → ℕ
 world_of es = 14 + length (defined es)
 
--- the table of nominal types of a program: the built-in ones, then the declared ones
-abbrev pub types_of : Program → Table
-types_of P = table_of (builtin_types ++ P.decls)
-
 -- one more method, where the site is of this function
 abbrev pub method_at : Option Site → ℕ → ℕ → List Method → List Method
 method_at None f number ms = ms
@@ -53,12 +47,6 @@ methods_from P f number (site ∷ sites) = method_at (slice_get P.sites site) f 
 -- the methods of a function in a world: the definitions of world w are the first w
 abbrev pub methods_in : Program → List Event → ℕ → ℕ → List Method
 methods_in P es f w = methods_from P f 1 (take w (definitions es))
-
--- the choice among methods for arguments of these types
-abbrev pub Chooses : Table → List Method → List Ty → Choice → Type 0
-Chooses n ms ts (C.Method d) = ChoosesMethod n ms ts d
-Chooses n ms ts C.None = ChoosesNone n ms ts
-Chooses n ms ts (C.Ambiguous a b) = ChoosesAmbiguous n ms ts a b
 
 -- the choice for a call of a function with arguments of these types in a world
 abbrev pub Selects : Program → List Event → ℕ → List Ty → ℕ → Choice → Type 0

@@ -1,52 +1,21 @@
 //! Outcomes, traces, events and histories.
 
-use crate::tree::Start;
-use crate::value::Value;
 use jl_model::shared::SharedList;
-use jl_model::ty::{Bytes, Key, Ty, Tys};
+use jl_model::ty::{Bytes, Key};
+use jl_program::fault::Fault;
+use jl_program::tree::Start;
+use jl_program::value::Value;
 
 /// The steps of a task that others may see, in order.
 pub type TraceItems = SharedList<TraceItem>;
 /// Events, in order.
 pub type Events = SharedList<Event>;
 
-/// Why a task ended without a value.
-#[derive(Drop)]
-pub enum Fault {
-    /// The function, the types of the arguments and the world.
-    NoMethod(u32, Tys, u32),
-    /// The function, the types of the arguments and two definitions of which neither is the more specific.
-    Ambiguous(u32, Tys, u32, u32),
-    NoConstructor(Ty, Tys),
-    DivideError,
-    FieldType(Ty, Bytes, Ty),
-    BadParameter(Ty),
-    NoField(Ty, Bytes),
-    NoIndex(Ty, u64),
-    NotBool(Ty),
-    NotTask(Ty),
-    TaskFailed(u32),
-    FuelSpent(u64),
-    StackLimit,
-    WorldLimit,
-    TaskLimit,
-    TypeLimit,
-    ValueLimit,
-}
-
 /// How a task ended.
 #[derive(Drop)]
 pub enum Outcome {
     Value(Value),
     Error(Fault),
-}
-
-/// What a call runs. The numbers are those of definitions, that is of the worlds that they made.
-#[derive(Clone, Copy, PartialEq, Eq, Debug)]
-pub enum Choice {
-    Method(u32),
-    None,
-    Ambiguous(u32, u32),
 }
 
 /// A definition: the world that it made and its site.

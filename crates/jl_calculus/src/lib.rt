@@ -1,10 +1,4 @@
-//! What a program is, what running it means, and what a history of a run is.
+//! What running a program means, and what a history of a run is.
 #![tactic(auto)]
 
-pub mod datum;
 pub mod history;
-pub mod point;
-#[cfg(test)]
-mod tests;
-pub mod tree;
-pub mod value;

@@ -3,8 +3,8 @@ use Rattle.std.proofs.Common.{◌≡◌, ap, refl, ℕ, zero, suc, ◌<◌, arit
 use Rattle.jl_model.specs.declared.ty.Ty.{Ty}
 use Rattle.jl_model.specs.declared.ty.Ty.TheViews.{outs-Any, outs-Nominal}
 use Rattle.jl_model.specs.Subtype.{Table, lifted}
-use Rattle.jl_calculus.specs.declared.tree.Program.{Program}
-use Rattle.jl_calculus.specs.World.{types_of}
+use Rattle.jl_program.specs.declared.tree.Program.{Program}
+use Rattle.jl_program.specs.Scope.{types_of}
 use Rattle.jl_choice.proofs.SimpleTypes.{both}
 use Rattle.jl_model.specs.Ancestors.{Ancestor, builtin_types, lines_after, args_of, table_of}
 

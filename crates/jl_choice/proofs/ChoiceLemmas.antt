@@ -7,9 +7,10 @@ use Rattle.jl_model.specs.Subtype.{Table}
 use Rattle.jl_model.specs.Signature.{StrictlyBelow, SameSignature}
 use Rattle.jl_model.specs.Choice.{Method, IsCandidate, IsBest, IsUnordered, IsFirstUnordered, IsFirstTwo}
 use Rattle.jl_calculus.specs.declared.history.Def.{Def}
-use Rattle.jl_calculus.specs.declared.tree.Program.{Program}
+use Rattle.jl_program.specs.declared.tree.Program.{Program}
 use Rattle.jl_calculus.specs.Simple.{is_plain, IsSimple}
-use Rattle.jl_calculus.specs.World.{types_of, Chooses}
+use Rattle.jl_program.specs.Scope.{types_of}
+use Rattle.jl_program.specs.Chooses.{Chooses}
 use Rattle.jl_choice.specs.Methods.{method_of, methods_of, worlds}
 use Rattle.jl_choice.specs.Decide.{strictly_below, candidates, below_others, most_specific, unordered_pair, first_two, by_pair, by_best, choice_among}
 use Rattle.jl_choice.proofs.SimpleDefs.{sig, Decided, decided, same_to, same_from, strict_to, strict_from, unordered_to, unordered_from}

@@ -6,7 +6,7 @@ use Rattle.std.proofs.lemmas.List.Kept.{AllPairs-from_increasing}
 use Rattle.jl_model.specs.declared.ty.Ty.{Ty}
 use Rattle.jl_model.specs.Choice.{Method}
 use Rattle.jl_calculus.specs.declared.history.Def.{Def}
-use Rattle.jl_calculus.specs.declared.tree.Program.{Program}
+use Rattle.jl_program.specs.declared.tree.Program.{Program}
 use Rattle.jl_choice.specs.Methods.{method_of, methods_of, worlds}
 use Rattle.jl_choice.specs.Decide.{applies, same_sig, sig_below, candidates}
 use Rattle.jl_choice.proofs.PartLemmas.{parts_transitive}

@@ -4,9 +4,9 @@ use Rattle.std.specs.List.{Contains}
 use Rattle.jl_model.specs.declared.ty.Ty.{Ty}
 use Rattle.jl_model.specs.Subtype.{Table}
 use Rattle.jl_model.specs.Choice.{Method, Applies, IsBest, IsUnordered, IsFirstUnordered, IsFirstTwo, ChoosesNone, ChoosesAmbiguous}
-use Rattle.jl_calculus.specs.declared.history.Choice.{Choice}
-use Rattle.jl_calculus.specs.declared.history.Choice.TheVariants as C
-use Rattle.jl_calculus.specs.World.{Chooses}
+use Rattle.jl_program.specs.declared.choice.Choice.{Choice}
+use Rattle.jl_program.specs.declared.choice.Choice.TheVariants as C
+use Rattle.jl_program.specs.Chooses.{Chooses}
 
 -- a number above those of all methods
 top : List Method → ℕ

@@ -3,12 +3,14 @@ use Rattle.std.proofs.Common.{◌≡◌, ◌∙◌, ap, subst, refl, ℕ, zero, 
 use Rattle.std.specs.List.Sorted.{IsStrictlyIncreasing}
 use Rattle.jl_model.specs.declared.ty.Ty.{Ty}
 use Rattle.jl_model.specs.Choice.{Method}
-use Rattle.jl_calculus.specs.declared.history.Choice.{Choice}
+use Rattle.jl_program.specs.declared.choice.Choice.{Choice}
 use Rattle.jl_calculus.specs.declared.history.Def.{Def}
 use Rattle.jl_calculus.specs.declared.history.Event.{Event}
-use Rattle.jl_calculus.specs.declared.tree.Site.{Site}
-use Rattle.jl_calculus.specs.declared.tree.Program.{Program}
-use Rattle.jl_calculus.specs.World.{definitions, method_at, methods_from, types_of, Chooses, Selects}
+use Rattle.jl_program.specs.declared.tree.Site.{Site}
+use Rattle.jl_program.specs.declared.tree.Program.{Program}
+use Rattle.jl_program.specs.Scope.{types_of}
+use Rattle.jl_program.specs.Chooses.{Chooses}
+use Rattle.jl_calculus.specs.World.{definitions, method_at, methods_from, Selects}
 use Rattle.jl_choice.specs.Methods.{methods_of, worlds, def_at, defs_from}
 
 module _ (P : Program) (f : ℕ) where

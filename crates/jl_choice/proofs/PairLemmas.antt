@@ -2,7 +2,7 @@
 use Rattle.std.proofs.Common.{◌≡◌, ◌∙◌, sym, ap, subst, refl, ◌<◌, ◌≤◌, ◌⊎◌, inl, inr, arith, true, List, [], ◌∷◌, Option, None, Some}
 use Rattle.std.specs.List.{find}
 use Rattle.jl_calculus.specs.declared.history.Def.{Def}
-use Rattle.jl_calculus.specs.declared.tree.Program.{Program}
+use Rattle.jl_program.specs.declared.tree.Program.{Program}
 use Rattle.jl_choice.specs.Decide.{unordered, pair_or, unordered_pair}
 use Rattle.jl_choice.proofs.DefLemmas.{In, Rises, Finds, find_some, find_none}
 

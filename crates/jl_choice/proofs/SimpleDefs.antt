@@ -7,10 +7,10 @@ use Rattle.jl_model.specs.declared.ty.Written.{Written}
 use Rattle.jl_model.specs.Subtype.{Table}
 use Rattle.jl_model.specs.Signature.{Applicable, SigBelow, StrictlyBelow, SameSignature}
 use Rattle.jl_calculus.specs.declared.history.Def.{Def}
-use Rattle.jl_calculus.specs.declared.tree.Site.{Site}
-use Rattle.jl_calculus.specs.declared.tree.Program.{Program}
+use Rattle.jl_program.specs.declared.tree.Site.{Site}
+use Rattle.jl_program.specs.declared.tree.Program.{Program}
 use Rattle.jl_calculus.specs.Simple.{is_plain, IsSimple, IsSimpleSite, IsSimpleSignature}
-use Rattle.jl_calculus.specs.World.{types_of}
+use Rattle.jl_program.specs.Scope.{types_of}
 use Rattle.jl_choice.specs.Methods.{sig_of, method_of}
 use Rattle.jl_choice.specs.Decide.{applies, sig_below, same_sig, strictly_below, unordered}
 use Rattle.jl_choice.proofs.SimpleTypes.{both}

@@ -8,8 +8,8 @@ use Rattle.jl_model.specs.Rows.{components, place_of, kind, root, vars_in, Occur
 use Rattle.jl_model.specs.Subtype.{Table, Fixed, opaque, put, Below}
 use Rattle.jl_model.specs.Signature.{Row, IsRow, Serves, Both, both_end, both_more, fixed, Meet, Applicable, SigBelow}
 use Rattle.jl_calculus.specs.Simple.{is_simple_type, is_plain, IsSimpleSignature}
-use Rattle.jl_calculus.specs.declared.tree.Program.{Program}
-use Rattle.jl_calculus.specs.World.{types_of}
+use Rattle.jl_program.specs.declared.tree.Program.{Program}
+use Rattle.jl_program.specs.Scope.{types_of}
 use Rattle.jl_choice.specs.Simple.{type_below, parts_below}
 use Rattle.jl_choice.proofs.SimpleTypes.{both, form_of, simple_of_plain, choices_of_simple, put_in_simple, vars_of_parts, any_has_no_variables}
 use Rattle.jl_choice.proofs.SimpleBelow.{type_from_below, below_from_type}

@@ -4,14 +4,16 @@ ghost use Rattle.std.specs.Prelude.{◌≡◌, IsTrue, IfOk};
 ghost use Rattle.std.specs.List.{list_all, list_any, find};
 ghost use Rattle.std.specs.List.Sorted.{IsStrictlyIncreasing};
 ghost use Rattle.jl_calculus.specs.Simple.{is_plain, IsSimple};
-ghost use Rattle.jl_calculus.specs.World.{types_of, Chooses};
+ghost use Rattle.jl_program.specs.Scope.{types_of};
+ghost use Rattle.jl_program.specs.Chooses.{Chooses};
 ghost use Rattle.jl_choice.specs.Methods.{methods_of, worlds};
 ghost use Rattle.jl_choice.specs.Decide.{candidates, same_sig, below_others, most_specific, unordered, unordered_pair, choice_among};
 
 use crate::order::{has_same_signature, is_applicable, is_strictly_below};
-use jl_calculus::history::{Choice, Def};
-use jl_calculus::tree::Program;
+use jl_calculus::history::Def;
 use jl_model::ty::Ty;
+use jl_program::choice::Choice;
+use jl_program::tree::Program;
 use std::alloc::{AllocError, Global};
 
 /// The choice among the methods that these definitions of one function make, for arguments of these types: the method

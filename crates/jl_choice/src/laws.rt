@@ -5,8 +5,8 @@ ghost use Rattle.std.specs.Prelude.{◌≡◌, List};
 ghost use Rattle.jl_model.specs.declared.ty.Ty.{Ty};
 ghost use Rattle.jl_model.specs.Subtype.{Table};
 ghost use Rattle.jl_model.specs.Choice.{Method, Applies, IsBest, ChoosesNone};
-ghost use Rattle.jl_calculus.specs.declared.history.Choice.{Choice};
-ghost use Rattle.jl_calculus.specs.World.{Chooses};
+ghost use Rattle.jl_program.specs.declared.choice.Choice.{Choice};
+ghost use Rattle.jl_program.specs.Chooses.{Chooses};
 
 /// There is no candidate exactly where no method applies.
 pub fn law_none()

@@ -5,8 +5,8 @@ ghost use Rattle.jl_choice.specs.Simple.{type_below, parts_below};
 ghost use Rattle.jl_choice.specs.Decide.{applies, parameters, sig_below, same_sig, strictly_below};
 
 use jl_calculus::history::Def;
-use jl_calculus::tree::Program;
 use jl_model::ty::Ty;
+use jl_program::tree::Program;
 
 /// Whether a simple type is below another: `Any` is above all, and a concrete type is above itself alone.
 fn is_below(lower: &Ty, upper: &Ty) -> bool

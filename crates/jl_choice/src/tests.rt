@@ -8,10 +8,11 @@ ghost use Rattle.jl_calculus.specs.Simple.{is_simple_type, is_plain, IsSimple, I
 ghost use Rattle.jl_choice.specs.Methods.{worlds};
 
 use crate::choose;
-use jl_calculus::history::{Choice, Def};
-use jl_calculus::tree::{Expr, Program, Site};
+use jl_calculus::history::Def;
 use jl_model::shared::SharedList;
 use jl_model::ty::{Ty, Written};
+use jl_program::choice::Choice;
+use jl_program::tree::{Expr, Program, Site};
 use std::alloc::{AllocError, Global};
 use std::test::Fail;
 

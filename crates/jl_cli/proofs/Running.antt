@@ -3,7 +3,7 @@ use Rattle.std.proofs.Common.{◌≡◌, ℕ, ◌<◌, ◌≤◌, List, [], ◌�
 use Rattle.std.specs.Borrow.{Bor}
 use Rattle.std.proofs.lemmas.Slice.Eq.{bytes_eq-Decides}
 use Rattle.jl_calculus.specs.declared.history.History.{History}
-use Rattle.jl_calculus.specs.declared.tree.Program.{Program}
+use Rattle.jl_program.specs.declared.tree.Program.{Program}
 use Rattle.jl_calculus.specs.Legal.{IsLegal, fuel_of, text_of, status_of}
 use Rattle.jl_calculus.specs.Simple.{IsSimple}
 use Rattle.jl_cli.specs.declared.answering.Due.{Due}

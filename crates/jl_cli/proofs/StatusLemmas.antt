@@ -1,7 +1,7 @@
 -- Bytes that are a program have no fault, and mean one program alone.
 use Rattle.std.proofs.Common.{◌≡◌, ◌↔◌, ℕ, List, Option, Ok, Err, refl, sym, subst, arith}
 use Rattle.jl_calculus.specs.declared.history.History.{History}
-use Rattle.jl_calculus.specs.declared.tree.Program.{Program}
+use Rattle.jl_program.specs.declared.tree.Program.{Program}
 use Rattle.jl_calculus.specs.Simple.{IsSimple}
 use Rattle.jl_grammar.specs.declared.tree.Script.{Script}
 use Rattle.jl_token.specs.declared.token.Token.{Token}

@@ -2,9 +2,9 @@
 use Rattle.std.specs.Prelude.{ℕ, ◌≡◌, ◌<◌, ◌≤◌, codes, decimal, List, [], ◌∷◌, ◌++◌, map, length, take, drop, Option, None, Some, Ok, Err}
 use Rattle.std.specs.Borrow.{Bor}
 use Rattle.jl_calculus.specs.declared.history.History.{History}
-use Rattle.jl_calculus.specs.declared.tree.Program.{Program}
+use Rattle.jl_program.specs.declared.tree.Program.{Program}
 use Rattle.jl_calculus.specs.Legal.{IsLegal, fuel_of, text_of, status_of}
-use Rattle.jl_calculus.specs.Prelude.{prelude_count}
+use Rattle.jl_program.specs.Prelude.{prelude_count}
 use Rattle.jl_calculus.specs.Simple.{IsSimple}
 use Rattle.jl_grammar.specs.declared.tree.Script.{Script}
 use Rattle.jl_reader.specs.declared.fault.SyntaxFault.{SyntaxFault}

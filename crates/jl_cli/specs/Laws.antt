@@ -1,7 +1,7 @@
 -- What is due, told by its status.
 use Rattle.std.specs.Prelude.{ℕ, ◌≡◌, ◌⊎◌, List, Option, None}
 use Rattle.jl_calculus.specs.declared.history.History.{History}
-use Rattle.jl_calculus.specs.declared.tree.Program.{Program}
+use Rattle.jl_program.specs.declared.tree.Program.{Program}
 use Rattle.jl_calculus.specs.Legal.{IsLegal}
 use Rattle.jl_calculus.specs.Simple.{IsSimple}
 use Rattle.jl_cli.specs.Due.{AreProgram, IsFaultLine, ok_line}

@@ -1,7 +1,7 @@
 //! What is due for a script's bytes.
 
 ghost use Rattle.std.specs.Prelude.{◌≡◌, ℕ, List, None, IfOk, MatchResult, drop, length};
-ghost use Rattle.jl_calculus.specs.Prelude.{prelude_count};
+ghost use Rattle.jl_program.specs.Prelude.{prelude_count};
 ghost use Rattle.jl_cli.specs.Due.{IsDue, IsFaultLine, AreScript, AreProgram, run_words, check_words, ok_line};
 ghost use Rattle.jl_cli.specs.Words.{words_of};
 
@@ -9,10 +9,10 @@ use crate::command::Command;
 use crate::faults::{line, static_line, syntax_line, token_line};
 use crate::place::append_number;
 use jl_calculus::history::History;
-use jl_calculus::tree::Program;
 use jl_grammar::tree::Script;
 use jl_model::rows::Row;
 use jl_model::ty::Bytes;
+use jl_program::tree::Program;
 use jl_reader::read;
 use jl_resolve::program;
 use jl_solo::{is_simple, run_alone, status, text};

@@ -6,7 +6,7 @@ use Rattle.jl_model.specs.declared.ty.DeclKind.{DeclKind}
 use Rattle.jl_model.specs.declared.ty.DeclKind.TheVariants.{Abstract, Struct}
 use Rattle.jl_model.specs.Kept.{IsKept}
 use Rattle.jl_model.specs.Refusals.{table_with, Declared, builtin, added, IsAllowed}
-use Rattle.jl_calculus.specs.Names.{is_among}
+use Rattle.jl_program.specs.Names.{is_among}
 use Rattle.jl_grammar.specs.declared.tree.Field.{Field as FieldText}
 use Rattle.jl_grammar.specs.declared.tree.Header.{Header}
 use Rattle.jl_grammar.specs.declared.tree.Item.{Item}

@@ -10,7 +10,7 @@ use Rattle.jl_model.specs.declared.ty.Field.{Field}
 use Rattle.jl_model.specs.Kept.{IsKept}
 use Rattle.jl_model.specs.Refusals.{Declared, HasOwnVariables, IsAllowed, table_with}
 use Rattle.jl_model.proofs.AncestorLemmas.{slice_last}
-use Rattle.jl_calculus.specs.Names.{is_among}
+use Rattle.jl_program.specs.Names.{is_among}
 use Rattle.jl_grammar.specs.declared.tree.Field.{Field as FieldText}
 use Rattle.jl_grammar.specs.declared.tree.Header.{Header}
 use Rattle.jl_typeread.specs.declared.tree.VarText.{VarText}

@@ -4,7 +4,7 @@ use Rattle.jl_model.specs.declared.ty.Decl.{Decl}
 use Rattle.jl_model.specs.declared.ty.DeclKind.{DeclKind}
 use Rattle.jl_model.specs.declared.ty.DeclKind.TheVariants.{Abstract, Struct}
 use Rattle.jl_model.specs.Ancestors.{builtin_types}
-use Rattle.jl_calculus.specs.Names.{is_among, builtin_names}
+use Rattle.jl_program.specs.Names.{is_among, builtin_names}
 use Rattle.jl_grammar.specs.declared.tree.Field.{Field as FieldText}
 use Rattle.jl_grammar.specs.declared.tree.Header.{Header}
 use Rattle.jl_grammar.specs.declared.tree.Item.{Item}

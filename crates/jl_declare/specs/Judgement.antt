@@ -6,7 +6,7 @@ use Rattle.jl_model.specs.Refusals.{IsAllowed, table_with}
 use Rattle.jl_norm.specs.declared.fault.DeclareFault.{DeclareFault}
 use Rattle.jl_norm.specs.declared.fault.DeclareFault.TheVariants as D
 use Rattle.jl_norm.specs.Refused.{Refused}
-use Rattle.jl_calculus.specs.Names.{is_among}
+use Rattle.jl_program.specs.Names.{is_among}
 use Rattle.jl_names.specs.Numbers.{names_of}
 use Rattle.jl_written.specs.declared.fault.Fault.{Fault}
 use Rattle.jl_written.specs.declared.fault.StaticKind.{StaticKind}

@@ -1,7 +1,7 @@
 //! What is answered for a declaration.
 
 ghost use Rattle.std.specs.Prelude.{◌≡◌, ◌++◌, [], IfOk, MatchOption};
-ghost use Rattle.jl_calculus.specs.Names.{is_among};
+ghost use Rattle.jl_program.specs.Names.{is_among};
 ghost use Rattle.jl_model.specs.Refusals.{HasOwnVariables};
 ghost use Rattle.jl_names.specs.Numbers.{names_of};
 ghost use Rattle.jl_declare.specs.Judgement.{kind_of, IsJudged, told, kept_in, shown, refusal_at};

@@ -1,7 +1,7 @@
 //! What is known of a script before its statements are read.
 
 ghost use Rattle.std.specs.Prelude.{◌≡◌, map, IfOk};
-ghost use Rattle.jl_calculus.specs.Prelude.{prelude_functions};
+ghost use Rattle.jl_program.specs.Prelude.{prelude_functions};
 ghost use Rattle.jl_declare.specs.Script.{known_of};
 
 use jl_grammar::tree::Item;

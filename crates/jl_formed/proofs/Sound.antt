@@ -18,7 +18,7 @@ use Rattle.jl_typeread.specs.declared.sign.Lexeme.{Lexeme}
 use Rattle.jl_typeread.specs.declared.sign.Sign.{Sign}
 use Rattle.jl_typeread.specs.declared.sign.Sign.TheVariants as S
 use Rattle.jl_typeread.specs.declared.sign.Word.{Word}
-use Rattle.jl_calculus.specs.Names.{same_text, is_among, reserved_words, continues_name, is_word, is_identifier}
+use Rattle.jl_program.specs.Names.{same_text, is_among, reserved_words, continues_name, is_word, is_identifier}
 use Rattle.jl_grammar.specs.declared.mark.Around.{Around}
 use Rattle.jl_grammar.specs.declared.mark.Previous.{Previous}
 use Rattle.jl_grammar.specs.declared.mark.Previous.TheVariants.{Other}

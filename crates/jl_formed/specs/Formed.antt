@@ -37,7 +37,7 @@ use Rattle.jl_grammar.specs.declared.tree.Script.{Script}
 use Rattle.jl_grammar.specs.declared.tree.Stmt.{Stmt}
 use Rattle.jl_grammar.specs.declared.tree.Stmt.TheVariants as S
 use Rattle.jl_grammar.specs.Marks.{is_function}
-use Rattle.jl_calculus.specs.Names.{is_field_name}
+use Rattle.jl_program.specs.Names.{is_field_name}
 
 -- a name: an identifier that is not reserved
 abbrev pub IsName : List ℕ → Type 0

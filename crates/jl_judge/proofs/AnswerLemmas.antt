@@ -3,7 +3,7 @@ use Rattle.std.proofs.Common.{◌≡◌, ◌∙◌, sym, refl, Bool, true, false
 use Rattle.jl_model.specs.declared.ty.Decl.{Decl}
 use Rattle.jl_model.specs.declared.ty.Written.{Written}
 use Rattle.jl_model.specs.SigRefusals.{VariablePlace, UnusedVariable, TooManyParameters, WrongParameterCount, TypeLimit, BoundsCrossed, BoundBroken}
-use Rattle.jl_calculus.specs.BodyTypes.{without_statics}
+use Rattle.jl_program.specs.BodyTypes.{without_statics}
 use Rattle.jl_match.specs.SigRefused as sig
 use Rattle.jl_body.specs.TypeRefused as body
 use Rattle.jl_body.specs.TypeRefused.{BodyTypeLimit}

@@ -6,7 +6,7 @@ use Rattle.jl_model.specs.declared.ty.Decl.{Decl}
 use Rattle.jl_model.specs.declared.ty.Written.{Written}
 use Rattle.jl_model.specs.Rows.{vars_in}
 use Rattle.jl_model.specs.SigRefusals.{TypeLimit}
-use Rattle.jl_calculus.specs.BodyTypes.{fields_signature}
+use Rattle.jl_program.specs.BodyTypes.{fields_signature}
 use Rattle.jl_sig.specs.Prepared.{HasOwnVariables}
 use Rattle.jl_resolve_forms.specs.TypesIn.{Tests}
 use Rattle.jl_judge.specs.Right.{IsJudgedBelow, NamesDeclared, IsRight}

@@ -5,7 +5,7 @@ use Rattle.jl_model.specs.declared.ty.Decl.{Decl}
 use Rattle.jl_model.specs.declared.ty.Written.{Written}
 use Rattle.jl_model.specs.Refusals.{Declared}
 use Rattle.jl_model.specs.SigRefusals.{VariablePlace, UnusedVariable, TooManyParameters, WrongParameterCount, TypeLimit, BoundsCrossed, BoundBroken, IsAllowedSig}
-use Rattle.jl_calculus.specs.BodyTypes.{fields_signature, without_statics, IsAllowedType}
+use Rattle.jl_program.specs.BodyTypes.{fields_signature, without_statics, IsAllowedType}
 use Rattle.jl_types.proofs.DecideLemmas.{Decided}
 use Rattle.jl_sig.specs.Prepared.{HasOwnVariables}
 use Rattle.jl_sig.specs.Fields.{fields_in, fields_of}

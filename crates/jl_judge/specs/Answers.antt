@@ -3,7 +3,7 @@ use Rattle.std.specs.Prelude.{List, Option, None, Some}
 use Rattle.jl_model.specs.declared.ty.Decl.{Decl}
 use Rattle.jl_model.specs.declared.ty.Written.{Written}
 use Rattle.jl_model.specs.SigRefusals.{IsAllowedSig}
-use Rattle.jl_calculus.specs.BodyTypes.{IsAllowedType}
+use Rattle.jl_program.specs.BodyTypes.{IsAllowedType}
 use Rattle.jl_sig.specs.declared.fault.SigFault.TheVariants as fault
 use Rattle.jl_match.specs.SigRefused.{SigRefused}
 use Rattle.jl_body.specs.TypeRefused.{TypeRefused}

@@ -10,7 +10,7 @@ use Rattle.jl_model.specs.Normal.{IsNormalForm}
 use Rattle.jl_model.specs.SigRefusals.{types_in, IsAllowedSig, TypeLimit}
 use Rattle.jl_model.specs.Subtype.{opaque, Below}
 use Rattle.jl_model.specs.Valid.{is_known}
-use Rattle.jl_calculus.specs.BodyTypes.{fields_signature, IsAllowedType}
+use Rattle.jl_program.specs.BodyTypes.{fields_signature, IsAllowedType}
 use Rattle.jl_sig.specs.Prepared.{HasOwnVariables}
 use Rattle.jl_resolve_forms.specs.TypesIn.{Tests}
 use Rattle.jl_judge.specs.Answers.{SigAnswer, BodyAnswer}

@@ -16,7 +16,7 @@ use Rattle.jl_model.specs.Rows.{alts, free, high, kind, low, width}
 use Rattle.jl_model.specs.SigRefusals.{types_in, arguments_in, ManyNodes, ManyAlternatives, LargeForm, ManyRows, VariablePlace, UnusedVariable, TooManyParameters, WrongParameterCount, TypeLimit, BoundsCrossed, BoundBroken, are_placed}
 use Rattle.jl_model.specs.Subtype.{Table, opaque, Below}
 use Rattle.jl_model.specs.Valid.{is_closed, is_counted, params_of}
-use Rattle.jl_calculus.specs.BodyTypes.{without_statics}
+use Rattle.jl_program.specs.BodyTypes.{without_statics}
 use Rattle.jl_types.proofs.DecideLemmas.{Decided}
 use Rattle.jl_sig.proofs.BuildLemmas.{not_many}
 use Rattle.jl_sig.proofs.SearchLemmas.{Some}

@@ -8,7 +8,7 @@ use Rattle.jl_model.specs.Refusals.{Declared}
 use Rattle.jl_model.specs.Rows.{vars_in}
 use Rattle.jl_model.specs.SigRefusals.{types_in, VariablePlace, UnusedVariable, TooManyParameters, WrongParameterCount, TypeLimit, BoundsCrossed, BoundBroken}
 use Rattle.jl_model.specs.Valid.{is_known}
-use Rattle.jl_calculus.specs.BodyTypes.{fields_signature, without_statics}
+use Rattle.jl_program.specs.BodyTypes.{fields_signature, without_statics}
 use Rattle.jl_types.proofs.DecideLemmas.{Decided}
 use Rattle.jl_body.specs.TypeRefused.{BodyTypeLimit}
 use Rattle.jl_written.specs.declared.fault.StaticKind.{StaticKind}

@@ -2,24 +2,24 @@
 use Rattle.std.proofs.Common.{◌≡◌, ℕ, ℤ, pos, zero, suc, ◌+◌, ◌<◌, ◌≤◌, max, List, [], ◌∷◌, map, length, Bool, true, false, cond, nat_lt, refl, ap, ◌∙◌, arith, slice_get, get_or, Option, None, Some, All, IsTrue}
 use Rattle.jl_model.specs.declared.ty.Bound.{Bound}
 use Rattle.jl_model.specs.declared.ty.Written.{Written}
-use Rattle.jl_calculus.specs.declared.value.Value.{Value}
-use Rattle.jl_calculus.specs.declared.value.Value.TheVariants as V
+use Rattle.jl_program.specs.declared.value.Value.{Value}
+use Rattle.jl_program.specs.declared.value.Value.TheVariants as V
 use Rattle.jl_calculus.specs.declared.history.Outcome.{Outcome}
 use Rattle.jl_calculus.specs.declared.history.Outcome.TheVariants as O
-use Rattle.jl_calculus.specs.declared.tree.Expr.{Expr}
-use Rattle.jl_calculus.specs.declared.tree.Expr.TheVariants as E
-use Rattle.jl_calculus.specs.declared.tree.Site.{Site}
-use Rattle.jl_calculus.specs.declared.tree.Program.{Program}
+use Rattle.jl_program.specs.declared.tree.Expr.{Expr}
+use Rattle.jl_program.specs.declared.tree.Expr.TheVariants as E
+use Rattle.jl_program.specs.declared.tree.Site.{Site}
+use Rattle.jl_program.specs.declared.tree.Program.{Program}
 use Rattle.std.specs.Ordering.{int_eq}
 use Rattle.jl_model.specs.Ancestors.{named}
 use Rattle.jl_model.specs.declared.ty.Ty.TheOpen.{Nominal}
 use Rattle.jl_model.specs.declared.ty.Ty.TheViews.{outs-Nominal}
-use Rattle.jl_calculus.specs.declared.history.Fault.TheVariants.{DivideError}
-use Rattle.jl_calculus.specs.declared.tree.Expr.TheViews.{outs-Nothing}
+use Rattle.jl_program.specs.declared.fault.Fault.TheVariants.{DivideError}
+use Rattle.jl_program.specs.declared.tree.Expr.TheViews.{outs-Nothing}
 use Rattle.jl_calculus.specs.Host.{overflows, quotient, remainder, meanings, host_meaning}
 use Rattle.jl_calculus.specs.Run.{Body, operation, code, code_of, body_of, number_of, operates}
 use Rattle.jl_calculus.specs.Simple.{is_simple, IsSimple, IsSimpleSite, is_plain_layer, is_plain}
-use Rattle.jl_calculus.specs.Run.{type_of}
+use Rattle.jl_program.specs.TypeOf.{type_of}
 use Rattle.jl_machine.specs.Plain.{Every, is_plain_value}
 use Rattle.jl_machine.specs.Weight.{expr_weight, heaviest}
 use Rattle.jl_machine.proofs.Equations.{expr_layer, expr_weighs, simple_expr_layer, simple_is, fails}

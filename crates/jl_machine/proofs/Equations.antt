@@ -1,12 +1,12 @@
 -- One equation for each form: its weight, and whether it is simple, by its layer.
 use Rattle.std.proofs.Common.{◌≡◌, ℕ, Bool, true, false, ◌&&◌, List, [], ◌∷◌, map, refl, sym, ap, ◌∙◌, subst, ◌++◌, IsTrue}
 use Rattle.std.specs.List.{list_all}
-use Rattle.jl_calculus.specs.declared.tree.Expr.{Expr, out-Expr, roll-out-Expr}
-use Rattle.jl_calculus.specs.declared.tree.Item.{Item, out-Item, roll-out-Item}
-use Rattle.jl_calculus.specs.declared.tree.Piece.{Piece, out-Piece, roll-out-Piece}
-use Rattle.jl_calculus.specs.declared.tree.Stmt.{Stmt}
-use Rattle.jl_calculus.specs.declared.tree.Expr.TheOpen.{Expr-F, Item-F, Piece-F}
-use Rattle.jl_calculus.specs.declared.tree.Expr.TheFolds.{map-Expr, map-Item, map-Piece, fold-Stmt, fold-roll-Expr, fold-roll-Item, fold-roll-Piece}
+use Rattle.jl_program.specs.declared.tree.Expr.{Expr, out-Expr, roll-out-Expr}
+use Rattle.jl_program.specs.declared.tree.Item.{Item, out-Item, roll-out-Item}
+use Rattle.jl_program.specs.declared.tree.Piece.{Piece, out-Piece, roll-out-Piece}
+use Rattle.jl_program.specs.declared.tree.Stmt.{Stmt}
+use Rattle.jl_program.specs.declared.tree.Expr.TheOpen.{Expr-F, Item-F, Piece-F}
+use Rattle.jl_program.specs.declared.tree.Expr.TheFolds.{map-Expr, map-Item, map-Piece, fold-Stmt, fold-roll-Expr, fold-roll-Item, fold-roll-Piece}
 use Rattle.jl_calculus.specs.Simple.{simple_expr_step, simple_item_step, simple_piece_step, simple_stmt_step, is_simple, is_simple_item, is_simple_piece}
 use Rattle.jl_machine.specs.Plain.{Every}
 use Rattle.jl_machine.specs.Weight.{expr_weight_step, item_weight_step, piece_weight_step, stmt_weight_step, expr_weight, item_weight, piece_weight}

@@ -4,30 +4,32 @@ use Rattle.std.proofs.lemmas.Bool.{lt-ltb, le-ltb}
 use Rattle.std.specs.declared.alloc.AllocError.{AllocError}
 use Rattle.jl_model.specs.declared.ty.Ty.{Ty}
 use Rattle.jl_model.specs.declared.ty.Bound.{Bound}
-use Rattle.jl_calculus.specs.declared.value.Value.{Value}
-use Rattle.jl_calculus.specs.declared.value.Value.TheVariants as V
-use Rattle.jl_calculus.specs.declared.tree.Expr.{Expr}
-use Rattle.jl_calculus.specs.declared.tree.Item.{Item, out-Item}
-use Rattle.jl_calculus.specs.declared.tree.Item.TheVariants as I
-use Rattle.jl_calculus.specs.declared.tree.Program.{Program}
-use Rattle.jl_calculus.specs.declared.tree.Start.{Start}
+use Rattle.jl_program.specs.declared.value.Value.{Value}
+use Rattle.jl_program.specs.declared.value.Value.TheVariants as V
+use Rattle.jl_program.specs.declared.tree.Expr.{Expr}
+use Rattle.jl_program.specs.declared.tree.Item.{Item, out-Item}
+use Rattle.jl_program.specs.declared.tree.Item.TheVariants as I
+use Rattle.jl_program.specs.declared.tree.Program.{Program}
+use Rattle.jl_program.specs.declared.tree.Start.{Start}
 use Rattle.jl_calculus.specs.declared.history.Event.{Event}
 use Rattle.jl_calculus.specs.declared.history.TraceItem.{TraceItem}
 use Rattle.jl_calculus.specs.declared.history.TraceItem.TheVariants.{Look, Def, WorldFull}
-use Rattle.jl_calculus.specs.declared.history.Choice.{Choice}
-use Rattle.jl_calculus.specs.declared.history.Choice.TheVariants as C
+use Rattle.jl_program.specs.declared.choice.Choice.{Choice}
+use Rattle.jl_program.specs.declared.choice.Choice.TheVariants as C
 use Rattle.jl_calculus.specs.declared.history.Outcome.{Outcome}
 use Rattle.jl_calculus.specs.declared.history.Outcome.TheVariants as O
-use Rattle.jl_calculus.specs.declared.history.Fault.TheVariants.{NoMethod, Ambiguous, FuelSpent, StackLimit, WorldLimit}
-use Rattle.jl_calculus.specs.declared.point.Frame.TheVariants as Fr
-use Rattle.jl_calculus.specs.declared.point.Work.{Work}
-use Rattle.jl_calculus.specs.declared.point.Work.TheVariants.{Eval, Give, Calling, Items, Defining, Pieces, Ended, Lost}
-use Rattle.jl_calculus.specs.declared.point.Now.{Now}
+use Rattle.jl_program.specs.declared.fault.Fault.TheVariants.{NoMethod, Ambiguous, FuelSpent, StackLimit, WorldLimit}
+use Rattle.jl_machine.specs.declared.point.Frame.TheVariants as Fr
+use Rattle.jl_machine.specs.declared.point.Work.{Work}
+use Rattle.jl_machine.specs.declared.point.Work.TheVariants.{Eval, Give, Calling, Items, Defining, Pieces, Ended, Lost}
+use Rattle.jl_machine.specs.declared.point.Now.{Now}
 use Rattle.jl_calculus.specs.Past.{IsInOrder, place, past, own_items}
-use Rattle.jl_calculus.specs.World.{site_of, types_of, Selects}
-use Rattle.jl_calculus.specs.Run.{Setting, State, Then, IsEnd, Run, Body, operation, code, binds_of, Binds, body_of, chosen, answers, performs, calls, runs, runs_item, runs_piece, runs_stmt, item_runs, items_run, with_calls, with_scope, type_of, operates, open_calls}
-use Rattle.jl_calculus.specs.Point.{Point, begun, given, go_pieces, gives, leaves, state_of, Finishes}
-use Rattle.jl_calculus.proofs.Steps.{at_begun, at_given, at_pieces}
+use Rattle.jl_program.specs.Scope.{types_of}
+use Rattle.jl_calculus.specs.World.{site_of, Selects}
+use Rattle.jl_program.specs.TypeOf.{type_of}
+use Rattle.jl_calculus.specs.Run.{Setting, State, Then, IsEnd, Run, Body, operation, code, binds_of, Binds, body_of, chosen, answers, performs, calls, runs, runs_item, runs_piece, runs_stmt, item_runs, items_run, with_calls, with_scope, operates, open_calls}
+use Rattle.jl_machine.specs.Point.{Point, begun, given, go_pieces, gives, leaves, state_of, Finishes}
+use Rattle.jl_machine.proofs.Steps.{at_begun, at_given, at_pieces}
 use Rattle.jl_calculus.proofs.Layers.{item_is}
 use Rattle.jl_machine.specs.declared.task.Task.{Task}
 use Rattle.jl_machine.specs.Knows.{Knows, Grew, Told, Looked, Asked, IsRight, IsSite, Defined, Full}

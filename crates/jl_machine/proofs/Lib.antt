@@ -1,5 +1,6 @@
 pub mod Performing
 pub mod Equations
+pub mod Steps
 pub mod Turning
 pub mod Traces
 pub mod Bodies

@@ -1,18 +1,18 @@
 -- A weight is at most four times a size, so a machine begins with few turns.
 use Rattle.std.proofs.Common.{◌≡◌, ℕ, zero, suc, ◌+◌, ◌-◌, ◌*◌, ◌≤◌, max, List, [], ◌∷◌, map, sym, ap, ◌∙◌, subst, arith, suc-mul, mul_comm, mul_assoc}
-use Rattle.jl_calculus.specs.declared.tree.Expr.{Expr, roll-Expr}
-use Rattle.jl_calculus.specs.declared.tree.Item.{Item, roll-Item}
-use Rattle.jl_calculus.specs.declared.tree.Piece.{Piece, roll-Piece}
-use Rattle.jl_calculus.specs.declared.tree.Stmt.{Stmt, roll-Stmt}
-use Rattle.jl_calculus.specs.declared.tree.Site.{Site}
-use Rattle.jl_calculus.specs.declared.tree.Program.{Program}
-use Rattle.jl_calculus.specs.declared.tree.Expr.TheOpen.{Expr-F, Stmt-F, Item-F, Piece-F}
-use Rattle.jl_calculus.specs.declared.tree.Expr.TheOpen as F
-use Rattle.jl_calculus.specs.declared.tree.Expr.TheFolds.{ind-Expr, ind-Item, map-Expr, map-Item, map-Piece, fold-Piece, fold-Stmt, fold-roll-Expr, fold-roll-Item, fold-roll-Piece, fold-roll-Stmt}
-use Rattle.jl_calculus.specs.declared.value.Value.TheVariants as V
-use Rattle.jl_calculus.specs.declared.point.Work.TheVariants.{Items}
-use Rattle.jl_calculus.specs.declared.point.Now.{Now}
-use Rattle.jl_calculus.specs.Measures.{total}
+use Rattle.jl_program.specs.declared.tree.Expr.{Expr, roll-Expr}
+use Rattle.jl_program.specs.declared.tree.Item.{Item, roll-Item}
+use Rattle.jl_program.specs.declared.tree.Piece.{Piece, roll-Piece}
+use Rattle.jl_program.specs.declared.tree.Stmt.{Stmt, roll-Stmt}
+use Rattle.jl_program.specs.declared.tree.Site.{Site}
+use Rattle.jl_program.specs.declared.tree.Program.{Program}
+use Rattle.jl_program.specs.declared.tree.Expr.TheOpen.{Expr-F, Stmt-F, Item-F, Piece-F}
+use Rattle.jl_program.specs.declared.tree.Expr.TheOpen as F
+use Rattle.jl_program.specs.declared.tree.Expr.TheFolds.{ind-Expr, ind-Item, map-Expr, map-Item, map-Piece, fold-Piece, fold-Stmt, fold-roll-Expr, fold-roll-Item, fold-roll-Piece, fold-roll-Stmt}
+use Rattle.jl_program.specs.declared.value.Value.TheVariants as V
+use Rattle.jl_machine.specs.declared.point.Work.TheVariants.{Items}
+use Rattle.jl_machine.specs.declared.point.Now.{Now}
+use Rattle.jl_program.specs.Measures.{total}
 use Rattle.jl_calculus.specs.Run.{open_calls}
 use Rattle.jl_machine.specs.declared.task.Machine.{Machine}
 use Rattle.jl_machine.specs.Fits.{IsNew, turns_of}

@@ -3,27 +3,28 @@ use Rattle.std.proofs.Common.{◌≡◌, ℕ, ◌+◌, ◌-◌, ◌*◌, ◌<◌
 use Rattle.std.proofs.lemmas.Bool.{ltb-true, leb-true}
 use Rattle.std.specs.declared.alloc.AllocError.{AllocError}
 use Rattle.jl_model.specs.declared.ty.Ty.{Ty}
-use Rattle.jl_calculus.specs.declared.value.Value.{Value}
-use Rattle.jl_calculus.specs.declared.value.Value.TheVariants as V
-use Rattle.jl_calculus.specs.declared.tree.Expr.{Expr}
-use Rattle.jl_calculus.specs.declared.tree.Expr.TheViews as X
-use Rattle.jl_calculus.specs.declared.tree.Item.{Item, out-Item}
-use Rattle.jl_calculus.specs.declared.tree.Item.TheVariants as I
-use Rattle.jl_calculus.specs.declared.tree.Piece.{Piece}
-use Rattle.jl_calculus.specs.declared.tree.Program.{Program}
+use Rattle.jl_program.specs.declared.value.Value.{Value}
+use Rattle.jl_program.specs.declared.value.Value.TheVariants as V
+use Rattle.jl_program.specs.declared.tree.Expr.{Expr}
+use Rattle.jl_program.specs.declared.tree.Expr.TheViews as X
+use Rattle.jl_program.specs.declared.tree.Item.{Item, out-Item}
+use Rattle.jl_program.specs.declared.tree.Item.TheVariants as I
+use Rattle.jl_program.specs.declared.tree.Piece.{Piece}
+use Rattle.jl_program.specs.declared.tree.Program.{Program}
 use Rattle.jl_calculus.specs.declared.history.TraceItem.TheVariants.{Look, Def, WorldFull}
-use Rattle.jl_calculus.specs.declared.history.Choice.TheVariants as C
+use Rattle.jl_program.specs.declared.choice.Choice.TheVariants as C
 use Rattle.jl_calculus.specs.declared.history.Outcome.{Outcome}
 use Rattle.jl_calculus.specs.declared.history.Outcome.TheVariants as O
-use Rattle.jl_calculus.specs.declared.history.Fault.TheVariants.{NoMethod, Ambiguous, FuelSpent, StackLimit, WorldLimit}
-use Rattle.jl_calculus.specs.declared.point.Frame.TheVariants as Fr
-use Rattle.jl_calculus.specs.declared.point.Work.{Work}
-use Rattle.jl_calculus.specs.declared.point.Work.TheVariants.{Eval, Give, Calling, Items, Defining, Pieces, Ended}
-use Rattle.jl_calculus.specs.declared.point.Now.{Now}
-use Rattle.jl_calculus.specs.Run.{IsEnd, body_of, type_of}
+use Rattle.jl_program.specs.declared.fault.Fault.TheVariants.{NoMethod, Ambiguous, FuelSpent, StackLimit, WorldLimit}
+use Rattle.jl_machine.specs.declared.point.Frame.TheVariants as Fr
+use Rattle.jl_machine.specs.declared.point.Work.{Work}
+use Rattle.jl_machine.specs.declared.point.Work.TheVariants.{Eval, Give, Calling, Items, Defining, Pieces, Ended}
+use Rattle.jl_machine.specs.declared.point.Now.{Now}
+use Rattle.jl_program.specs.TypeOf.{type_of}
+use Rattle.jl_calculus.specs.Run.{IsEnd, body_of}
 use Rattle.jl_calculus.specs.Simple.{is_simple_item}
-use Rattle.jl_calculus.specs.Point.{Point, begun, given, go_pieces, Finishes}
-use Rattle.jl_calculus.proofs.Steps.{at_begun, at_given, at_pieces}
+use Rattle.jl_machine.specs.Point.{Point, begun, given, go_pieces, Finishes}
+use Rattle.jl_machine.proofs.Steps.{at_begun, at_given, at_pieces}
 use Rattle.jl_machine.specs.declared.task.Task.{Task}
 use Rattle.jl_machine.specs.Knows.{Knows, Grew, Asked, IsRight, IsSite, Defined, Full}
 use Rattle.jl_machine.specs.Performed.{performed}

@@ -2,8 +2,8 @@
 use Rattle.std.proofs.Common.{◌≡◌, ℕ, ◌+◌, ◌<◌, ◌≤◌, List, [], ◌∷◌, ◌++◌, refl, sym, ap, ◌∙◌, arith, length, zero-add}
 use Rattle.jl_calculus.specs.declared.history.TraceItem.{TraceItem}
 use Rattle.jl_calculus.specs.declared.history.TraceItem.TheVariants.{Look, Def, Spawn, Fetch, WorldFull, TaskFull}
-use Rattle.jl_calculus.specs.declared.point.Frame.{Frame}
-use Rattle.jl_calculus.specs.declared.point.Frame.TheVariants as Fr
+use Rattle.jl_machine.specs.declared.point.Frame.{Frame}
+use Rattle.jl_machine.specs.declared.point.Frame.TheVariants as Fr
 use Rattle.jl_calculus.specs.Past.{IsInOrder, place, past, own_items}
 use Rattle.jl_machine.specs.Knows.{Knows, Grew}
 use Rattle.jl_machine.specs.Fits.{looks_of, AllLearnt, AreWorlds}

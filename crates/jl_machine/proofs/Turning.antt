@@ -1,20 +1,20 @@
 -- A turn of the machine's own keeps worlds and plain forms, and leaves fewer turns.
 use Rattle.std.proofs.Common.{◌≡◌, ℕ, zero, suc, ◌+◌, ◌<◌, ◌≤◌, List, [], ◌∷◌, ◌++◌, Bool, true, false, refl, sym, subst, arith, get_or, IsTrue, map}
-use Rattle.jl_calculus.specs.declared.value.Value.{Value}
-use Rattle.jl_calculus.specs.declared.value.Value.TheVariants as V
-use Rattle.jl_calculus.specs.declared.tree.Expr.{Expr, out-Expr}
-use Rattle.jl_calculus.specs.declared.tree.Item.{Item, out-Item}
-use Rattle.jl_calculus.specs.declared.tree.Piece.{Piece, out-Piece}
-use Rattle.jl_calculus.specs.declared.tree.Stmt.{Stmt}
-use Rattle.jl_calculus.specs.declared.tree.Expr.TheOpen.{Expr-F, Item-F, Piece-F}
-use Rattle.jl_calculus.specs.declared.tree.Expr.TheOpen as F
-use Rattle.jl_calculus.specs.declared.tree.Program.{Program}
-use Rattle.jl_calculus.specs.declared.point.Frame.{Frame}
-use Rattle.jl_calculus.specs.declared.point.Frame.TheVariants.{Args, AfterItem, Showing, Body}
-use Rattle.jl_calculus.specs.declared.point.Work.{Work}
-use Rattle.jl_calculus.specs.declared.point.Work.TheVariants.{Eval, Give, Pieces}
-use Rattle.jl_calculus.specs.declared.point.Now.{Now}
-use Rattle.jl_calculus.specs.Point.{Point, go_args, go_piece, go_pieces, begun_layer, begun, taken, given}
+use Rattle.jl_program.specs.declared.value.Value.{Value}
+use Rattle.jl_program.specs.declared.value.Value.TheVariants as V
+use Rattle.jl_program.specs.declared.tree.Expr.{Expr, out-Expr}
+use Rattle.jl_program.specs.declared.tree.Item.{Item, out-Item}
+use Rattle.jl_program.specs.declared.tree.Piece.{Piece, out-Piece}
+use Rattle.jl_program.specs.declared.tree.Stmt.{Stmt}
+use Rattle.jl_program.specs.declared.tree.Expr.TheOpen.{Expr-F, Item-F, Piece-F}
+use Rattle.jl_program.specs.declared.tree.Expr.TheOpen as F
+use Rattle.jl_program.specs.declared.tree.Program.{Program}
+use Rattle.jl_machine.specs.declared.point.Frame.{Frame}
+use Rattle.jl_machine.specs.declared.point.Frame.TheVariants.{Args, AfterItem, Showing, Body}
+use Rattle.jl_machine.specs.declared.point.Work.{Work}
+use Rattle.jl_machine.specs.declared.point.Work.TheVariants.{Eval, Give, Pieces}
+use Rattle.jl_machine.specs.declared.point.Now.{Now}
+use Rattle.jl_machine.specs.Point.{Point, go_args, go_piece, go_pieces, begun_layer, begun, taken, given}
 use Rattle.jl_calculus.specs.Simple.{is_simple, is_simple_piece}
 use Rattle.jl_machine.specs.Worlds.{IsWorld}
 use Rattle.jl_machine.specs.Fits.{AreWorlds}

@@ -1,16 +1,16 @@
 -- A new machine fits a fresh dispatcher, and one that ended has run.
 use Rattle.std.proofs.Common.{◌≡◌, ℕ, ◌≤◌, ◌<◌, List, [], ◌∷◌, ◌++◌, refl, sym, ap, ◌∙◌, subst, arith, length, Result, Ok, Err, IfOk, Option, None}
 use Rattle.std.specs.declared.alloc.AllocError.{AllocError}
-use Rattle.jl_calculus.specs.declared.value.Value.TheVariants as V
+use Rattle.jl_program.specs.declared.value.Value.TheVariants as V
 use Rattle.jl_calculus.specs.declared.history.TraceItem.{TraceItem}
 use Rattle.jl_calculus.specs.declared.history.Outcome.{Outcome}
 use Rattle.jl_calculus.specs.declared.history.Record.{Record}
-use Rattle.jl_calculus.specs.declared.tree.Program.{Program}
-use Rattle.jl_calculus.specs.declared.point.Work.{Work}
-use Rattle.jl_calculus.specs.declared.point.Work.TheVariants.{Eval, Give, Calling, Items, Defining, Pieces, Ended, Lost}
-use Rattle.jl_calculus.specs.declared.point.Now.{Now}
+use Rattle.jl_program.specs.declared.tree.Program.{Program}
+use Rattle.jl_machine.specs.declared.point.Work.{Work}
+use Rattle.jl_machine.specs.declared.point.Work.TheVariants.{Eval, Give, Calling, Items, Defining, Pieces, Ended, Lost}
+use Rattle.jl_machine.specs.declared.point.Now.{Now}
 use Rattle.jl_calculus.specs.Run.{IsEnd, Run, open_calls}
-use Rattle.jl_calculus.specs.Point.{Finishes}
+use Rattle.jl_machine.specs.Point.{Finishes}
 use Rattle.jl_calculus.specs.Simple.{IsSimple, is_simple_item}
 use Rattle.jl_machine.specs.declared.task.Task.{Task}
 use Rattle.jl_machine.specs.declared.task.Machine.{Machine}

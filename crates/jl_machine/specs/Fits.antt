@@ -1,19 +1,19 @@
 -- When a machine fits a dispatcher: all that it did and all that is left to do make a run of the calculus.
 use Rattle.std.specs.Prelude.{◌≡◌, ℕ, ◌+◌, ◌≤◌, ◌<◌, List, [], ◌∷◌, ◌++◌, length, Option, None}
-use Rattle.jl_calculus.specs.declared.value.Value.TheVariants as V
+use Rattle.jl_program.specs.declared.value.Value.TheVariants as V
 use Rattle.jl_calculus.specs.declared.history.Event.{Event}
 use Rattle.jl_calculus.specs.declared.history.Outcome.{Outcome}
 use Rattle.jl_calculus.specs.declared.history.Record.{Record}
 use Rattle.jl_calculus.specs.declared.history.TraceItem.{TraceItem}
 use Rattle.jl_calculus.specs.declared.history.TraceItem.TheVariants.{Look, Def, Spawn, Fetch, WorldFull, TaskFull}
-use Rattle.jl_calculus.specs.declared.tree.Program.{Program}
-use Rattle.jl_calculus.specs.declared.point.Frame.{Frame}
-use Rattle.jl_calculus.specs.declared.point.Frame.TheVariants as Fr
-use Rattle.jl_calculus.specs.declared.point.Work.{Work}
-use Rattle.jl_calculus.specs.declared.point.Work.TheVariants.{Eval, Give, Calling, Items, Defining, Pieces, Ended, Lost}
+use Rattle.jl_program.specs.declared.tree.Program.{Program}
+use Rattle.jl_machine.specs.declared.point.Frame.{Frame}
+use Rattle.jl_machine.specs.declared.point.Frame.TheVariants as Fr
+use Rattle.jl_machine.specs.declared.point.Work.{Work}
+use Rattle.jl_machine.specs.declared.point.Work.TheVariants.{Eval, Give, Calling, Items, Defining, Pieces, Ended, Lost}
 use Rattle.jl_calculus.specs.Past.{IsInOrder, own_items}
 use Rattle.jl_calculus.specs.Run.{Setting, IsEnd, Run, open_calls}
-use Rattle.jl_calculus.specs.Point.{Finishes}
+use Rattle.jl_machine.specs.Point.{Finishes}
 use Rattle.jl_calculus.specs.Simple.{IsSimple}
 use Rattle.jl_machine.specs.declared.task.Task.{Task}
 use Rattle.jl_machine.specs.declared.task.Machine.{Machine}

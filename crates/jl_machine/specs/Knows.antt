@@ -4,9 +4,9 @@ use Rattle.jl_model.specs.declared.ty.Ty.{Ty}
 use Rattle.jl_calculus.specs.declared.history.Event.{Event}
 use Rattle.jl_calculus.specs.declared.history.TraceItem.{TraceItem}
 use Rattle.jl_calculus.specs.declared.history.TraceItem.TheVariants.{Look, Def, WorldFull}
-use Rattle.jl_calculus.specs.declared.history.Choice.{Choice}
-use Rattle.jl_calculus.specs.declared.history.Choice.TheVariants as C
-use Rattle.jl_calculus.specs.declared.tree.Program.{Program}
+use Rattle.jl_program.specs.declared.choice.Choice.{Choice}
+use Rattle.jl_program.specs.declared.choice.Choice.TheVariants as C
+use Rattle.jl_program.specs.declared.tree.Program.{Program}
 use Rattle.jl_calculus.specs.Past.{IsTrueOf}
 use Rattle.jl_calculus.specs.World.{Selects, site_of, world_of}
 use Rattle.jl_machine.specs.Worlds.{IsWorld}

@@ -4,4 +4,5 @@ pub mod Performed
 pub mod Plain
 pub mod Weight
 pub mod Size
+pub mod Point
 pub mod Fits

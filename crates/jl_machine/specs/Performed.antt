@@ -1,16 +1,16 @@
 -- What a method does, as data.
 use Rattle.std.specs.Prelude.{ℕ, ◌-◌, List, [], ◌∷◌, Option, None, Some}
-use Rattle.jl_calculus.specs.declared.value.Value.{Value}
+use Rattle.jl_program.specs.declared.value.Value.{Value}
 use Rattle.jl_calculus.specs.declared.history.Outcome.{Outcome}
 use Rattle.jl_calculus.specs.declared.history.Outcome.TheVariants as O
-use Rattle.jl_calculus.specs.declared.tree.Expr.{Expr}
-use Rattle.jl_calculus.specs.declared.tree.Expr.TheVariants as E
-use Rattle.jl_calculus.specs.declared.tree.Site.{Site}
-use Rattle.jl_calculus.specs.declared.point.Frame.TheVariants as Fr
-use Rattle.jl_calculus.specs.declared.point.Work.{Work}
-use Rattle.jl_calculus.specs.declared.point.Work.TheVariants.{Eval, Give, Ended}
-use Rattle.jl_calculus.specs.declared.point.Now.{Now}
-use Rattle.jl_calculus.specs.Point.{Point}
+use Rattle.jl_program.specs.declared.tree.Expr.{Expr}
+use Rattle.jl_program.specs.declared.tree.Expr.TheVariants as E
+use Rattle.jl_program.specs.declared.tree.Site.{Site}
+use Rattle.jl_machine.specs.declared.point.Frame.TheVariants as Fr
+use Rattle.jl_machine.specs.declared.point.Work.{Work}
+use Rattle.jl_machine.specs.declared.point.Work.TheVariants.{Eval, Give, Ended}
+use Rattle.jl_machine.specs.declared.point.Now.{Now}
+use Rattle.jl_machine.specs.Point.{Point}
 use Rattle.jl_calculus.specs.Run.{Body, operation, code, operates}
 
 -- the body of a site; `nothing` where there is none

@@ -1,12 +1,12 @@
 -- The points of a run at which only forms that have rules are left to do, and only plain values are there.
 use Rattle.std.specs.Prelude.{ℕ, ◌≡◌, ◌<◌, ◌≤◌, Bool, true, false, IsTrue, List, [], ◌∷◌, length}
-use Rattle.jl_calculus.specs.declared.value.Value.{Value}
-use Rattle.jl_calculus.specs.declared.value.Value.TheVariants as V
-use Rattle.jl_calculus.specs.declared.point.Frame.{Frame}
-use Rattle.jl_calculus.specs.declared.point.Frame.TheVariants.{Args, AfterItem, Showing, Body}
-use Rattle.jl_calculus.specs.declared.point.Work.{Work}
-use Rattle.jl_calculus.specs.declared.point.Work.TheVariants.{Eval, Give, Calling, Items, Defining, Pieces, Ended, Lost}
-use Rattle.jl_calculus.specs.declared.point.Now.{Now}
+use Rattle.jl_program.specs.declared.value.Value.{Value}
+use Rattle.jl_program.specs.declared.value.Value.TheVariants as V
+use Rattle.jl_machine.specs.declared.point.Frame.{Frame}
+use Rattle.jl_machine.specs.declared.point.Frame.TheVariants.{Args, AfterItem, Showing, Body}
+use Rattle.jl_machine.specs.declared.point.Work.{Work}
+use Rattle.jl_machine.specs.declared.point.Work.TheVariants.{Eval, Give, Calling, Items, Defining, Pieces, Ended, Lost}
+use Rattle.jl_machine.specs.declared.point.Now.{Now}
 use Rattle.jl_calculus.specs.Simple.{is_simple, is_simple_item, is_simple_piece}
 
 -- each member of a list passes a test

@@ -1,19 +1,19 @@
 -- How many turns are left, at most: a bound that each turn lowers.
 use Rattle.std.specs.Prelude.{ℕ, ◌+◌, ◌-◌, ◌*◌, max, List, [], ◌∷◌, map}
-use Rattle.jl_calculus.specs.declared.tree.Expr.{Expr}
-use Rattle.jl_calculus.specs.declared.tree.Item.{Item}
-use Rattle.jl_calculus.specs.declared.tree.Piece.{Piece}
-use Rattle.jl_calculus.specs.declared.tree.Expr.TheOpen.{Expr-F, Stmt-F, Item-F, Piece-F}
-use Rattle.jl_calculus.specs.declared.tree.Expr.TheOpen as F
-use Rattle.jl_calculus.specs.declared.tree.Expr.TheFolds.{fold-Expr, fold-Item, fold-Piece}
-use Rattle.jl_calculus.specs.declared.tree.Site.{Site}
-use Rattle.jl_calculus.specs.declared.tree.Program.{Program}
-use Rattle.jl_calculus.specs.declared.point.Frame.{Frame}
-use Rattle.jl_calculus.specs.declared.point.Frame.TheVariants.{Args, AfterItem, Showing, Body}
-use Rattle.jl_calculus.specs.declared.point.Work.{Work}
-use Rattle.jl_calculus.specs.declared.point.Work.TheVariants.{Eval, Give, Calling, Items, Defining, Pieces, Ended, Lost}
-use Rattle.jl_calculus.specs.declared.point.Now.{Now}
-use Rattle.jl_calculus.specs.Measures.{total}
+use Rattle.jl_program.specs.declared.tree.Expr.{Expr}
+use Rattle.jl_program.specs.declared.tree.Item.{Item}
+use Rattle.jl_program.specs.declared.tree.Piece.{Piece}
+use Rattle.jl_program.specs.declared.tree.Expr.TheOpen.{Expr-F, Stmt-F, Item-F, Piece-F}
+use Rattle.jl_program.specs.declared.tree.Expr.TheOpen as F
+use Rattle.jl_program.specs.declared.tree.Expr.TheFolds.{fold-Expr, fold-Item, fold-Piece}
+use Rattle.jl_program.specs.declared.tree.Site.{Site}
+use Rattle.jl_program.specs.declared.tree.Program.{Program}
+use Rattle.jl_machine.specs.declared.point.Frame.{Frame}
+use Rattle.jl_machine.specs.declared.point.Frame.TheVariants.{Args, AfterItem, Showing, Body}
+use Rattle.jl_machine.specs.declared.point.Work.{Work}
+use Rattle.jl_machine.specs.declared.point.Work.TheVariants.{Eval, Give, Calling, Items, Defining, Pieces, Ended, Lost}
+use Rattle.jl_machine.specs.declared.point.Now.{Now}
+use Rattle.jl_program.specs.Measures.{total}
 
 abbrev pub expr_weight_step : Expr-F ℕ ℕ ℕ ℕ → ℕ
 expr_weight_step (F.Call f xs) = 3 + total xs

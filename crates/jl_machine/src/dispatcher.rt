@@ -7,8 +7,9 @@ ghost use Rattle.jl_calculus.specs.declared.history.DefineFault.TheVariants.{Wor
 ghost use Rattle.jl_machine.specs.Knows.{Knows, Grew, Looked, Asked, IsRight, IsSite, Defined, IsMade, Full, IsFull};
 ghost use Rattle.jl_machine.specs.Worlds.{IsWorld};
 
-use jl_calculus::history::{Choice, DefineFault, Seen};
+use jl_calculus::history::{DefineFault, Seen};
 use jl_model::ty::Key;
+use jl_program::choice::Choice;
 use std::alloc::AllocError;
 
 /// What a task asks of the run that it belongs to: the newest world, the choice of a method, a new definition.

@@ -5,6 +5,7 @@
 pub mod dispatcher;
 pub mod laws;
 mod operations;
+pub mod point;
 mod root;
 mod task;
 #[cfg(test)]

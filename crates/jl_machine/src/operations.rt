@@ -1,12 +1,13 @@
 //! The operations of the prelude.
 
 ghost use Rattle.std.specs.Prelude.{◌≡◌, get_or};
-ghost use Rattle.jl_calculus.specs.declared.value.Value.TheVariants.{Nothing};
+ghost use Rattle.jl_program.specs.declared.value.Value.TheVariants.{Nothing};
 ghost use Rattle.jl_calculus.specs.Host.{quotient, remainder, host_meaning};
 ghost use Rattle.jl_calculus.specs.Run.{number_of, operates};
 
-use jl_calculus::history::{Fault, Outcome};
-use jl_calculus::value::Value;
+use jl_calculus::history::Outcome;
+use jl_program::fault::Fault;
+use jl_program::value::Value;
 
 fn number(n: i64) -> Outcome
     ensures { result ≡ Outcome.Value (Value.Int n) }

@@ -7,7 +7,7 @@ ghost use Rattle.jl_machine.specs.Fits.{IsFresh, IsRunOf};
 use crate::dispatcher::Dispatcher;
 use crate::task::{Machine, Turn};
 use jl_calculus::history::Record;
-use jl_calculus::tree::Program;
+use jl_program::tree::Program;
 use std::alloc::{AllocError, Global};
 
 /// Runs the root of a program to its end, with so many calls. The record is a run over every list of events that agrees

@@ -2,23 +2,25 @@
 
 ghost use Rattle.std.specs.Prelude.{◌≡◌, ◌<◌, ◌≤◌, ◌+◌, ◌*◌, ◌++◌, ◌∷◌, [], ℕ, IfOk, IsErr, OnOk, OnErr, map, length};
 ghost use Rattle.jl_model.specs.declared.ty.Ty.{Ty};
-ghost use Rattle.jl_calculus.specs.declared.value.Value.{Value};
-ghost use Rattle.jl_calculus.specs.declared.point.Work.TheVariants as W;
+ghost use Rattle.jl_program.specs.declared.value.Value.{Value};
+ghost use Rattle.jl_machine.specs.declared.point.Work.TheVariants as W;
 ghost use Rattle.jl_calculus.specs.declared.history.Outcome.{Outcome};
-ghost use Rattle.jl_calculus.specs.declared.tree.Item.TheVariants as I;
-ghost use Rattle.jl_calculus.specs.Run.{type_of};
+ghost use Rattle.jl_program.specs.declared.tree.Item.TheVariants as I;
+ghost use Rattle.jl_program.specs.TypeOf.{type_of};
 ghost use Rattle.jl_machine.specs.Fits.{looks_of, Fitting, Steps, IsGoing, phase_of, MachineFits, fuel_of, HasLooked, TurnSays, IsEnded, IsLost, IsNew, IsRecordOf, HasEnded, turns_of};
 ghost use Rattle.jl_machine.specs.Size.{program_size};
 
 use crate::dispatcher::Dispatcher;
+use crate::point::{Frame, Now, Work};
 use crate::turns;
-use jl_calculus::history::{Choice, DefineFault, Fault, Outcome, Record, TraceItem};
-use jl_calculus::point::{Frame, Now, Work};
-use jl_calculus::tree::{Expr, Item, Program};
-use jl_calculus::value::Value;
+use jl_calculus::history::{DefineFault, Outcome, Record, TraceItem};
 use jl_model::rows::{Rest, Row, Stack};
 use jl_model::shared::SharedList;
 use jl_model::ty::{Key, Tys};
+use jl_program::choice::Choice;
+use jl_program::fault::Fault;
+use jl_program::tree::{Expr, Item, Program};
+use jl_program::value::Value;
 use std::alloc::{AllocError, Global};
 use std::mem;
 

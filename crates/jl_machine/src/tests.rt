@@ -1,8 +1,9 @@
 //! The operations of the prelude where a sum wraps, a quotient is negative and a division has no answer.
 
 use crate::operations::operate;
-use jl_calculus::history::{Fault, Outcome};
-use jl_calculus::value::Value;
+use jl_calculus::history::Outcome;
+use jl_program::fault::Fault;
+use jl_program::value::Value;
 use std::test::Fail;
 
 /// The site of `+`.

@@ -1,19 +1,20 @@
 //! What the machine does by itself. Each of these answers what comes next.
 
 ghost use Rattle.std.specs.Prelude.{◌≡◌, ◌<◌, [], ◌∷◌, ◌++◌, IfOk, get_or, slice_get};
-ghost use Rattle.jl_calculus.specs.declared.value.Value.TheVariants.{Nothing};
-ghost use Rattle.jl_calculus.specs.Run.{type_of, body_of};
-ghost use Rattle.jl_calculus.specs.Point.{pushes, go_args, go_pieces, begun, taken, given};
+ghost use Rattle.jl_program.specs.declared.value.Value.TheVariants.{Nothing};
+ghost use Rattle.jl_program.specs.TypeOf.{type_of};
+ghost use Rattle.jl_calculus.specs.Run.{body_of};
+ghost use Rattle.jl_machine.specs.Point.{pushes, go_args, go_pieces, begun, taken, given};
 ghost use Rattle.jl_machine.specs.Performed.{answered, performed, entered, expr_at};
 
 use crate::operations::operate;
+use crate::point::{Frame, Now, Work};
 use jl_calculus::history::Outcome;
-use jl_calculus::point::{Frame, Now, Work};
-use jl_calculus::tree::{Expr, Piece, Program};
-use jl_calculus::value::Value;
 use jl_model::rows::{Rest, Row, Share};
 use jl_model::shared::SharedList;
 use jl_model::ty::Ty;
+use jl_program::tree::{Expr, Piece, Program};
+use jl_program::value::Value;
 use jl_text::append_value;
 use std::alloc::{AllocError, Global};
 use std::mem;

@@ -1,7 +1,7 @@
 -- Declarations by their names: one more, one less, and the first so many.
 use Rattle.std.proofs.Common.{◌≡◌, ◌∙◌, refl, sym, ap, ℕ, zero, suc, ◌+◌, ◌-◌, ◌≤◌, ◌<◌, arith, Bool, true, false, cond, ◌&&◌, ◌==◌, List, [], ◌∷◌, ◌++◌, length, take, get_or, slice_get, Option, Some, None, is_some, length-append}
 use Rattle.std.proofs.lemmas.List.{map-append, length-map, take-map, take_at}
-use Rattle.jl_calculus.specs.Names.{same_text}
+use Rattle.jl_program.specs.Names.{same_text}
 use Rattle.jl_model.specs.declared.ty.Decl.{Decl}
 use Rattle.jl_names.specs.Numbers.{Numbered, number_in, with_number, firsts, placed, names_of}
 use Rattle.jl_names.proofs.NumberLemmas.{or_else, number_append, firsts_first, firsts_snoc, placed_snoc, place_push}

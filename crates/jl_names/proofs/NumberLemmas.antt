@@ -2,7 +2,7 @@
 use Rattle.std.proofs.Common.{◌≡◌, ◌∙◌, refl, sym, ap, ℕ, suc, ◌+◌, ◌-◌, ◌≤◌, arith, Bool, true, false, cond, ◌&&◌, ◌==◌, List, [], ◌∷◌, ◌++◌, length, take, drop, Option, Some, None, is_some, append-nil, length-append, length-drop}
 use Rattle.std.proofs.lemmas.List.{take-append-drop}
 use Rattle.std.proofs.Math.Seq.{take-append_seam}
-use Rattle.jl_calculus.specs.Names.{same_text}
+use Rattle.jl_program.specs.Names.{same_text}
 use Rattle.jl_grammar.specs.declared.tree.Name.{Name}
 use Rattle.jl_names.specs.Numbers.{Numbered, number_in, with_number, firsts_after, firsts, placed, marked, named_slots, count_named}
 

@@ -3,7 +3,7 @@ use Rattle.std.proofs.Common.{◌≡◌, ◌∙◌, refl, sym, ap, ℕ, zero, su
 use Rattle.std.proofs.lemmas.List.{append-nil, map-append, length-map, take_at}
 use Rattle.std.specs.Cmp.Lexicographic.{pointwise}
 use Rattle.std.specs.Option.{option_or}
-use Rattle.jl_calculus.specs.Names.{same_text}
+use Rattle.jl_program.specs.Names.{same_text}
 use Rattle.jl_names.specs.declared.stack.Stacked.{Stacked}
 use Rattle.jl_names.specs.Numbers.{Numbered, number_in, renumbered, with_newer}
 use Rattle.jl_names.specs.Stacks.{last_from, last_place, hidden_after, texts_of, hides_of, IsStack}

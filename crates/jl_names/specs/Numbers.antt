@@ -1,6 +1,6 @@
 -- Names with numbers, and the first number of a name.
 use Rattle.std.specs.Prelude.{ℕ, ◌+◌, cond, List, [], ◌∷◌, ◌++◌, map, Option, Some, None, is_some}
-use Rattle.jl_calculus.specs.Names.{same_text}
+use Rattle.jl_program.specs.Names.{same_text}
 use Rattle.jl_grammar.specs.declared.tree.Name.{Name}
 use Rattle.jl_model.specs.declared.ty.Decl.{Decl}
 

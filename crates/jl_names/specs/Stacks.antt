@@ -1,7 +1,7 @@
 -- Names of which a later one hides an equal one before it.
 use Rattle.std.specs.Prelude.{◌≡◌, ℕ, ◌+◌, cond, List, [], ◌∷◌, ◌++◌, map, Option, Some, None}
 use Rattle.std.specs.Option.{option_or}
-use Rattle.jl_calculus.specs.Names.{same_text}
+use Rattle.jl_program.specs.Names.{same_text}
 use Rattle.jl_names.specs.declared.stack.Stacked.{Stacked}
 use Rattle.jl_names.specs.Numbers.{Numbered, number_in}
 

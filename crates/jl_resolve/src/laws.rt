@@ -1,7 +1,7 @@
 //! Laws of what a script means. They are about definitions alone: each function does nothing, and its contract is the law.
 
 ghost use Rattle.std.specs.Prelude.{◌≡◌, ℕ, Option};
-ghost use Rattle.jl_calculus.specs.declared.tree.Program.{Program};
+ghost use Rattle.jl_program.specs.declared.tree.Program.{Program};
 ghost use Rattle.jl_grammar.specs.declared.tree.Script.{Script};
 ghost use Rattle.jl_written.specs.declared.fault.Fault.{Fault};
 ghost use Rattle.jl_resolve.specs.Program.{ComesTo};

@@ -1,7 +1,7 @@
 //! The program of a script.
 
 ghost use Rattle.std.specs.Prelude.{◌≡◌, MatchResult, IfOk, None};
-ghost use Rattle.jl_calculus.specs.Valid.{IsValid};
+ghost use Rattle.jl_program.specs.Valid.{IsValid};
 ghost use Rattle.jl_formed.specs.Formed.{FormedScript};
 ghost use Rattle.jl_judge.specs.Right.{IsRight};
 ghost use Rattle.jl_resolve_forms.specs.TypesIn.{Tests};

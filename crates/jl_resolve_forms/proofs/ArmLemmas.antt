@@ -1,7 +1,7 @@
 -- The last branch of an `if` with `elseif`s is the innermost.
 use Rattle.std.proofs.Common.{◌≡◌, ◌++◌, ◌∷◌, [], refl, ap, List}
-use Rattle.jl_calculus.specs.declared.tree.Expr.{Expr as Code}
-use Rattle.jl_calculus.specs.declared.tree.Expr.TheViews as X
+use Rattle.jl_program.specs.declared.tree.Expr.{Expr as Code}
+use Rattle.jl_program.specs.declared.tree.Expr.TheViews as X
 use Rattle.jl_resolve_forms.specs.declared.known.Arm.{Arm}
 use Rattle.jl_resolve_forms.specs.Expressions.{chained}
 

@@ -1,8 +1,8 @@
 -- The functions and types of a script: their names where they stand, in text order.
 use Rattle.std.specs.Prelude.{ℕ, cond, List, [], ◌∷◌, ◌++◌}
 use Rattle.std.specs.List.{flat_map}
-use Rattle.jl_calculus.specs.Names.{is_among}
-use Rattle.jl_calculus.specs.Prelude.{prelude_functions}
+use Rattle.jl_program.specs.Names.{is_among}
+use Rattle.jl_program.specs.Prelude.{prelude_functions}
 use Rattle.jl_grammar.specs.declared.tree.Branch.{Branch}
 use Rattle.jl_grammar.specs.declared.tree.Callee.{Callee}
 use Rattle.jl_grammar.specs.declared.tree.Callee.TheVariants as C

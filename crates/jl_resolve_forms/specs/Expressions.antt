@@ -5,17 +5,17 @@ use Rattle.std.specs.Prelude.{ℕ, true, false, cond, nat_lt, nat_le, List, [], 
 use Rattle.jl_model.specs.declared.ty.Written.{Written}
 use Rattle.jl_model.specs.Ancestors.{named as nominal}
 use Rattle.jl_model.specs.Usable.{is_usable}
-use Rattle.jl_calculus.specs.declared.tree.Expr.{Expr as Code}
-use Rattle.jl_calculus.specs.declared.tree.Expr.TheVariants as W
-use Rattle.jl_calculus.specs.declared.tree.Expr.TheViews as X
-use Rattle.jl_calculus.specs.declared.tree.Item.{Item}
-use Rattle.jl_calculus.specs.declared.tree.Item.TheVariants as I
-use Rattle.jl_calculus.specs.declared.tree.Piece.{Piece}
-use Rattle.jl_calculus.specs.declared.tree.Piece.TheVariants as P
-use Rattle.jl_calculus.specs.declared.tree.Site.{Site}
-use Rattle.jl_calculus.specs.declared.tree.Stmt.{Stmt}
-use Rattle.jl_calculus.specs.declared.tree.Stmt.TheVariants as S
-use Rattle.jl_calculus.specs.Names.{is_among, builtin_names}
+use Rattle.jl_program.specs.declared.tree.Expr.{Expr as Code}
+use Rattle.jl_program.specs.declared.tree.Expr.TheVariants as W
+use Rattle.jl_program.specs.declared.tree.Expr.TheViews as X
+use Rattle.jl_program.specs.declared.tree.Item.{Item}
+use Rattle.jl_program.specs.declared.tree.Item.TheVariants as I
+use Rattle.jl_program.specs.declared.tree.Piece.{Piece}
+use Rattle.jl_program.specs.declared.tree.Piece.TheVariants as P
+use Rattle.jl_program.specs.declared.tree.Site.{Site}
+use Rattle.jl_program.specs.declared.tree.Stmt.{Stmt}
+use Rattle.jl_program.specs.declared.tree.Stmt.TheVariants as S
+use Rattle.jl_program.specs.Names.{is_among, builtin_names}
 use Rattle.jl_typeread.specs.declared.tree.ArgText.{ArgText}
 use Rattle.jl_typeread.specs.declared.tree.TypeText.{TypeText}
 use Rattle.jl_typeread.specs.declared.tree.VarText.{VarText}

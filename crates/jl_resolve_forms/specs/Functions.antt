@@ -3,7 +3,7 @@ use Rattle.std.specs.Prelude.{ℕ, ◌&&◌, cond, nat_le, nat_eq, List, map, le
 use Rattle.jl_model.specs.declared.ty.Decl.{Decl}
 use Rattle.jl_model.specs.Ancestors.{is_struct_kind}
 use Rattle.jl_model.specs.Valid.{params_of}
-use Rattle.jl_calculus.specs.Prelude.{prelude_functions}
+use Rattle.jl_program.specs.Prelude.{prelude_functions}
 use Rattle.jl_token.specs.declared.token.Operator.{Operator}
 use Rattle.jl_token.specs.declared.token.Operator.TheVariants as O
 use Rattle.jl_grammar.specs.declared.tree.Callee.{Callee}

@@ -1,6 +1,6 @@
 -- What is visible at a place, and what a part of the text adds to it (Julia manual, Scope of Variables).
 use Rattle.std.specs.Prelude.{ℕ, ◌+◌, cond, List, [], ◌∷◌, ◌++◌, Option, Some, None}
-use Rattle.jl_calculus.specs.Names.{same_text, is_among, builtin_names}
+use Rattle.jl_program.specs.Names.{same_text, is_among, builtin_names}
 use Rattle.jl_grammar.specs.declared.tree.Name.{Name}
 use Rattle.jl_written.specs.declared.fault.Fault.{Fault}
 use Rattle.jl_written.specs.declared.fault.StaticKind.{StaticKind}

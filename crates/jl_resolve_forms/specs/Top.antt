@@ -1,10 +1,10 @@
 -- The statements at the top, and the program of a script whose declarations are known.
 use Rattle.std.specs.Prelude.{ℕ, ◌+◌, max, cond, drop, List, [], ◌∷◌, ◌++◌, length, Option, Some, None}
-use Rattle.jl_calculus.specs.declared.tree.Item.{Item as Code}
-use Rattle.jl_calculus.specs.declared.tree.Item.TheVariants as I
-use Rattle.jl_calculus.specs.declared.tree.Program.{Program}
-use Rattle.jl_calculus.specs.Names.{same_text}
-use Rattle.jl_calculus.specs.Prelude.{prelude_sites}
+use Rattle.jl_program.specs.declared.tree.Item.{Item as Code}
+use Rattle.jl_program.specs.declared.tree.Item.TheVariants as I
+use Rattle.jl_program.specs.declared.tree.Program.{Program}
+use Rattle.jl_program.specs.Names.{same_text}
+use Rattle.jl_program.specs.Prelude.{prelude_sites}
 use Rattle.jl_grammar.specs.declared.tree.Item.{Item}
 use Rattle.jl_grammar.specs.declared.tree.Item.TheVariants as N
 use Rattle.jl_grammar.specs.declared.tree.Name.{Name}

@@ -1,7 +1,7 @@
 //! The functions and types of a script: their names where they stand, in text order.
 
 ghost use Rattle.std.specs.Prelude.{◌≡◌, ◌++◌, ◌∷◌, [], map, OnOk, IfOk};
-ghost use Rattle.jl_calculus.specs.Names.{is_among};
+ghost use Rattle.jl_program.specs.Names.{is_among};
 ghost use Rattle.jl_resolve_forms.specs.Defined.{own_name, joined, in_expr, in_method, in_stmt, in_eval, in_piece, in_branch, in_item, type_name, methods_of, types_of, with_names, functions_of};
 
 use jl_grammar::tree::{Branch, Callee, Eval, Expr, Item, Method, Name, Piece, Stmt};

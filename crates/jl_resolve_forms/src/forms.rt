@@ -1,9 +1,9 @@
 //! What a form becomes, once its parts are read.
 
 ghost use Rattle.std.specs.Prelude.{◌≡◌, ◌∷◌, [], IfOk, length};
-ghost use Rattle.jl_calculus.specs.declared.tree.Stmt.TheVariants as S;
+ghost use Rattle.jl_program.specs.declared.tree.Stmt.TheVariants as S;
 ghost use Rattle.jl_resolve_forms.specs.Scopes.{slot_of, seen, bind};
-ghost use Rattle.jl_calculus.specs.declared.tree.Expr.TheViews as C;
+ghost use Rattle.jl_program.specs.declared.tree.Expr.TheViews as C;
 ghost use Rattle.jl_resolve_forms.specs.TypesIn.{tests};
 ghost use Rattle.jl_resolve_forms.specs.Expressions.{coded, codes, stated, said, local, prefix_code, infix_code, counted, latest, call, chained, inferred_refusal, part_number};
 
@@ -12,11 +12,11 @@ use crate::known::{Arm, Called, Known};
 use crate::scopes::{bind, note, noted, slot_of};
 use crate::state::{Scope, State};
 use crate::types::one_type;
-use jl_calculus::tree::{Expr as Code, Exprs as Codes, Item, Stmt};
 use jl_grammar::tree::{Infix, Name, Prefix};
 use jl_model::rows::Share;
 use jl_model::shared::{SharedList, SharedNode};
 use jl_model::ty::{Bytes, Ty, Tys};
+use jl_program::tree::{Expr as Code, Exprs as Codes, Item, Stmt};
 use jl_written::fault::StaticKind;
 use jl_written::names::small;
 use std::alloc::{AllocError, Global};

@@ -2,7 +2,7 @@
 
 ghost use Rattle.std.specs.Prelude.{◌≡◌, map, List, ℕ};
 ghost use Rattle.jl_model.specs.declared.ty.Decl.{Decl};
-ghost use Rattle.jl_calculus.specs.Prelude.{prelude_functions};
+ghost use Rattle.jl_program.specs.Prelude.{prelude_functions};
 ghost use Rattle.jl_written.specs.Meaning.{place_of};
 ghost use Rattle.jl_resolve_forms.specs.Functions.{function_of_operator, place_of_callee, function_of, if_struct, struct_named, struct_of, constructor, called};
 

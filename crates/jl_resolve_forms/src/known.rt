@@ -1,10 +1,10 @@
 //! What is known of a script before its statements are read.
 
 use crate::known_decls::KnownDecls;
-use jl_calculus::tree::Expr;
 use jl_model::shared::SharedNode;
 use jl_names::list::NameList;
 use jl_names::marked::MarkedNames;
+use jl_program::tree::Expr;
 
 /// The declarations, the built-in ones first; the functions, the prelude's first; and the names that the script gives to
 /// functions and to types, where they stand, in text order.

@@ -1,9 +1,9 @@
 //! What is visible at a place, and what the text so far has given.
 
 use crate::cells::Cells;
-use jl_calculus::tree::{Expr, Site};
 use jl_model::ty::{Tys, Written};
 use jl_names::slots::Slots;
+use jl_program::tree::{Expr, Site};
 use jl_written::fault::{Fault, StaticKind};
 use jl_written::reading::Reading;
 use jl_written::vars::TypeVars;

@@ -1,7 +1,7 @@
 //! The statements at the top, and the program of a script whose declarations are known.
 
 ghost use Rattle.std.specs.Prelude.{◌≡◌, ◌++◌, IfOk, OnOk, option_copied};
-ghost use Rattle.jl_calculus.specs.Prelude.{prelude_sites};
+ghost use Rattle.jl_program.specs.Prelude.{prelude_sites};
 ghost use Rattle.jl_resolve_forms.specs.Scopes.{seen};
 ghost use Rattle.jl_resolve_forms.specs.TypesIn.{tests};
 ghost use Rattle.jl_resolve_forms.specs.Top.{first_at, clash, clashes, top_bind};

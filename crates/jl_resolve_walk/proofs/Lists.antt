@@ -3,11 +3,11 @@ use Rattle.std.proofs.Common.{◌≡◌, ◌∙◌, ◌+◌, ◌<◌, ◌≤◌,
 use Rattle.std.proofs.lemmas.List.{append-nil}
 use Rattle.std.proofs.Math.Seq.{drop-cons}
 use Rattle.std.proofs.Math.ListN.{drop_of_length-le}
-use Rattle.jl_calculus.specs.declared.tree.Expr.{Expr as Code}
-use Rattle.jl_calculus.specs.declared.tree.Expr.TheViews as X
-use Rattle.jl_calculus.specs.declared.tree.Item.{Item}
-use Rattle.jl_calculus.specs.declared.tree.Piece.{Piece}
-use Rattle.jl_calculus.specs.declared.tree.Stmt.{Stmt}
+use Rattle.jl_program.specs.declared.tree.Expr.{Expr as Code}
+use Rattle.jl_program.specs.declared.tree.Expr.TheViews as X
+use Rattle.jl_program.specs.declared.tree.Item.{Item}
+use Rattle.jl_program.specs.declared.tree.Piece.{Piece}
+use Rattle.jl_program.specs.declared.tree.Stmt.{Stmt}
 use Rattle.jl_resolve_forms.specs.declared.known.Arm.{Arm}
 use Rattle.jl_resolve_forms.specs.declared.state.Scope.{Scope}
 use Rattle.jl_resolve_forms.specs.declared.state.State.{State}

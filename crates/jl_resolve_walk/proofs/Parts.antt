@@ -1,13 +1,13 @@
 -- What a statement, a piece of a print, a branch, a statement of an evaluated block and a method are read as, once their parts are read.
 use Rattle.std.proofs.Common.{◌≡◌, ◌∙◌, ap, sym, ℕ, List, length, map}
-use Rattle.jl_calculus.specs.declared.tree.Expr.{Expr as Code}
-use Rattle.jl_calculus.specs.declared.tree.Expr.TheVariants as W
-use Rattle.jl_calculus.specs.declared.tree.Item.{Item}
-use Rattle.jl_calculus.specs.declared.tree.Item.TheVariants as I
-use Rattle.jl_calculus.specs.declared.tree.Piece.{Piece as Shown}
-use Rattle.jl_calculus.specs.declared.tree.Piece.TheVariants as P
-use Rattle.jl_calculus.specs.declared.tree.Stmt.{Stmt as Statement}
-use Rattle.jl_calculus.specs.declared.tree.Stmt.TheVariants as S
+use Rattle.jl_program.specs.declared.tree.Expr.{Expr as Code}
+use Rattle.jl_program.specs.declared.tree.Expr.TheVariants as W
+use Rattle.jl_program.specs.declared.tree.Item.{Item}
+use Rattle.jl_program.specs.declared.tree.Item.TheVariants as I
+use Rattle.jl_program.specs.declared.tree.Piece.{Piece as Shown}
+use Rattle.jl_program.specs.declared.tree.Piece.TheVariants as P
+use Rattle.jl_program.specs.declared.tree.Stmt.{Stmt as Statement}
+use Rattle.jl_program.specs.declared.tree.Stmt.TheVariants as S
 use Rattle.jl_grammar.specs.declared.tree.Branch.{Branch}
 use Rattle.jl_grammar.specs.declared.tree.Eval.{Eval}
 use Rattle.jl_grammar.specs.declared.tree.Expr.{Expr}

@@ -3,9 +3,9 @@ use Rattle.std.proofs.Common.{◌≡◌, ◌∙◌, ◌+◌, ◌<◌, ◌≤◌,
 use Rattle.std.proofs.lemmas.List.{append-nil}
 use Rattle.std.proofs.Math.Seq.{drop-cons}
 use Rattle.std.proofs.Math.ListN.{drop_of_length-le}
-use Rattle.jl_calculus.specs.declared.tree.Expr.{Expr as Code}
-use Rattle.jl_calculus.specs.declared.tree.Item.{Item as Statement}
-use Rattle.jl_calculus.specs.declared.tree.Item.TheVariants as I
+use Rattle.jl_program.specs.declared.tree.Expr.{Expr as Code}
+use Rattle.jl_program.specs.declared.tree.Item.{Item as Statement}
+use Rattle.jl_program.specs.declared.tree.Item.TheVariants as I
 use Rattle.jl_grammar.specs.declared.tree.Abstract.{Abstract}
 use Rattle.jl_grammar.specs.declared.tree.Expr.{Expr}
 use Rattle.jl_grammar.specs.declared.tree.Item.{Item}

@@ -1,8 +1,8 @@
 -- The parameters of the built-in definitions.
 use Rattle.std.specs.Prelude.{ℕ, List, [], ◌∷◌}
 use Rattle.jl_model.specs.declared.ty.Ty.{Ty}
-use Rattle.jl_calculus.specs.declared.tree.Site.{Site}
-use Rattle.jl_calculus.specs.Prelude.{int64, bool, two, builtin_site}
+use Rattle.jl_program.specs.declared.tree.Site.{Site}
+use Rattle.jl_program.specs.Prelude.{int64, bool, two, builtin_site}
 use Rattle.jl_resolve_walk.specs.declared.beginning.Shape.{Shape}
 use Rattle.jl_resolve_walk.specs.declared.beginning.Shape.TheVariants.{Integer, Integers, Truth, Truths}
 

@@ -2,13 +2,13 @@
 
 ghost use Rattle.std.specs.Prelude.{◌≡◌, IfOk};
 ghost use Rattle.jl_model.specs.Ancestors.{named};
-ghost use Rattle.jl_calculus.specs.Prelude.{prelude_sites, builtin_site};
+ghost use Rattle.jl_program.specs.Prelude.{prelude_sites, builtin_site};
 ghost use Rattle.jl_resolve_forms.specs.Top.{beginning};
 ghost use Rattle.jl_resolve_walk.specs.Builtin.{shape_types};
 
-use jl_calculus::tree::{Expr as Code, Site};
 use jl_model::shared::SharedList;
 use jl_model::ty::{Ty, Tys, Written};
+use jl_program::tree::{Expr as Code, Site};
 use jl_resolve_forms::cells::Cells;
 use jl_resolve_forms::state::State;
 use jl_written::fault::Fault;

@@ -5,11 +5,11 @@ ghost use Rattle.jl_resolve_forms.specs.TypesIn.{tests};
 ghost use Rattle.jl_resolve_forms.specs.Expressions.{coded, codes, stated, shown, pieces, listed, items, tried, arms, defined, one_said, one_shown, one_evaluated, one_tried, all_coded, all_shown, all_evaluated, all_tried, block_of, expr_reads, stmt_reads, piece_reads, eval_reads, branch_reads, method_reads};
 
 use crate::made;
-use jl_calculus::tree::{
-    Expr as Code, Exprs as Codes, Item, Items, Piece as Shown, Pieces as Showns, Stmt as Statement,
-};
 use jl_grammar::tree::{Branch, Eval, Expr, Method, Piece, Stmt};
 use jl_model::rows::Row;
+use jl_program::tree::{
+    Expr as Code, Exprs as Codes, Item, Items, Piece as Shown, Pieces as Showns, Stmt as Statement,
+};
 use jl_resolve_forms::judge::Judge;
 use jl_resolve_forms::known::{Arm, Known};
 use jl_resolve_forms::methods::bare_scope;

@@ -2,24 +2,24 @@
 //! read for want of memory, neither is the form.
 
 ghost use Rattle.std.specs.Prelude.{◌≡◌, ◌∷◌, ◌++◌, [], IfOk, OnOk, length, take};
-ghost use Rattle.jl_calculus.specs.declared.tree.Expr.TheViews as C;
-ghost use Rattle.jl_calculus.specs.declared.tree.Expr.TheVariants as W;
-ghost use Rattle.jl_calculus.specs.declared.tree.Item.TheVariants as I;
-ghost use Rattle.jl_calculus.specs.declared.tree.Piece.TheVariants as P;
-ghost use Rattle.jl_calculus.specs.declared.tree.Stmt.TheVariants as S;
+ghost use Rattle.jl_program.specs.declared.tree.Expr.TheViews as C;
+ghost use Rattle.jl_program.specs.declared.tree.Expr.TheVariants as W;
+ghost use Rattle.jl_program.specs.declared.tree.Item.TheVariants as I;
+ghost use Rattle.jl_program.specs.declared.tree.Piece.TheVariants as P;
+ghost use Rattle.jl_program.specs.declared.tree.Stmt.TheVariants as S;
 ghost use Rattle.jl_resolve_forms.specs.Functions.{called, function_of, place_of_callee};
 ghost use Rattle.jl_resolve_forms.specs.Scopes.{bind, slot_of};
 ghost use Rattle.jl_resolve_forms.specs.TypesIn.{tests, begins};
 ghost use Rattle.jl_resolve_forms.specs.Expressions.{coded, codes, stated, said, defined, is_below, local, call, chained, closed, infix_code, latest, part_number, prefix_code};
 ghost use Rattle.jl_resolve_walk.specs.Steps.{Gives, begun_as, begun, ended, awaited, spawned_at, tested, started_as, started};
 
-use jl_calculus::tree::{
-    Expr as Code, Exprs as Codes, Item, Items, Piece as Shown, Pieces as Showns, Stmt as Statement,
-};
 use jl_grammar::tree::{Callee, Head, Infix, Name, Prefix};
 use jl_model::rows::Row;
 use jl_model::shared::SharedNode;
 use jl_model::ty::{Bytes, Written};
+use jl_program::tree::{
+    Expr as Code, Exprs as Codes, Item, Items, Piece as Shown, Pieces as Showns, Stmt as Statement,
+};
 use jl_resolve_forms::forms;
 use jl_resolve_forms::functions::{called, function_of, place_of_callee};
 use jl_resolve_forms::judge::Judge;

@@ -10,11 +10,11 @@ ghost use Rattle.jl_resolve_walk.specs.Steps.{tops_behind, one_type_more, top_bo
 use crate::beginning::beginning;
 use crate::expressions::{expr, method};
 use crate::program::Resolved;
-use jl_calculus::tree::{Expr as Code, Item as Statement, Items, Program};
 use jl_grammar::tree::{Item, Name};
 use jl_model::rows::Row;
 use jl_model::ty::{Decl, Decls};
 use jl_names::decls::copy_decl;
+use jl_program::tree::{Expr as Code, Item as Statement, Items, Program};
 use jl_resolve_forms::judge::Judge;
 use jl_resolve_forms::known::Known;
 use jl_resolve_forms::methods::bare_scope;

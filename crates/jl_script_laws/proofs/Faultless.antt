@@ -13,8 +13,8 @@ use Rattle.jl_model.specs.AllRows.{each_var}
 use Rattle.jl_model.specs.Ancestors.{builtin_types}
 use Rattle.jl_model.specs.Kept.{IsKept}
 use Rattle.jl_model.specs.Refusals.{Declared, table_with}
-use Rattle.jl_calculus.specs.Names.{is_among, builtin_names, reserved_words, is_identifier, is_field_name, is_free_name}
-use Rattle.jl_calculus.specs.Valid.{IsValid, is_named}
+use Rattle.jl_program.specs.Names.{is_among, builtin_names, reserved_words, is_identifier, is_field_name, is_free_name}
+use Rattle.jl_program.specs.Valid.{IsValid, is_named}
 use Rattle.jl_grammar.specs.declared.tree.Field.{Field as FieldText}
 use Rattle.jl_grammar.specs.declared.tree.Header.{Header}
 use Rattle.jl_grammar.specs.declared.tree.Item.{Item}

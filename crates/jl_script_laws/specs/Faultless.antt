@@ -2,7 +2,7 @@
 use Rattle.std.specs.Prelude.{◌≡◌, IsTrue, length, take, drop}
 use Rattle.std.specs.List.{list_all}
 use Rattle.jl_model.specs.Ancestors.{builtin_types}
-use Rattle.jl_calculus.specs.Valid.{is_named}
+use Rattle.jl_program.specs.Valid.{is_named}
 use Rattle.jl_declare.specs.Declarations.{Declaring}
 
 -- the built-in types come first, the declared ones have names that may be given, and all are allowed

@@ -4,7 +4,7 @@
 ghost use Rattle.std.specs.Prelude.{List, ◌≡◌, take, None};
 ghost use Rattle.jl_model.specs.declared.ty.Decl.{Decl};
 ghost use Rattle.jl_model.specs.Refusals.{Declared};
-ghost use Rattle.jl_calculus.specs.Valid.{IsValid};
+ghost use Rattle.jl_program.specs.Valid.{IsValid};
 ghost use Rattle.jl_grammar.specs.declared.tree.Item.{Item};
 ghost use Rattle.jl_formed.specs.Formed.{FormedItems};
 ghost use Rattle.jl_resolve_forms.specs.Top.{resolved};

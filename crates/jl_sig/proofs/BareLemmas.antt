@@ -1,11 +1,11 @@
 -- The prelude alone is a valid program.
 use Rattle.std.proofs.Common.{◌≡◌, refl, arith, All, List, [], ◌∷◌}
 use Rattle.jl_model.specs.Refusals.{builtin}
-use Rattle.jl_calculus.specs.BodyTypes.{IsAllowedType, IsSmallStruct}
-use Rattle.jl_calculus.specs.Gathered.{own_types, own_struct, written_types, inferred_structs}
-use Rattle.jl_calculus.specs.Scope.{all_types}
-use Rattle.jl_calculus.specs.Valid.{IsValid, IsValidSite}
-use Rattle.jl_calculus.proofs.ValidLayers.{in-nothing}
+use Rattle.jl_program.specs.BodyTypes.{IsAllowedType, IsSmallStruct}
+use Rattle.jl_program.specs.Gathered.{own_types, own_struct, written_types, inferred_structs}
+use Rattle.jl_program.specs.Scope.{all_types}
+use Rattle.jl_program.specs.Valid.{IsValid, IsValidSite}
+use Rattle.jl_program.proofs.ValidLayers.{in-nothing}
 use Rattle.jl_sig.specs.SamplePrograms.{bare}
 
 none : {X : Type 0} (Is : X → Type 0) (xs : List X) → xs ≡ [] → All Is xs

@@ -3,11 +3,11 @@ use Rattle.std.proofs.Common.{◌≡◌, refl, sym, subst, ℕ, suc, ◌<◌, ar
 use Rattle.std.specs.List.{list_any}
 use Rattle.std.proofs.lemmas.Bool.{eqb-true}
 use Rattle.jl_model.specs.declared.ty.Decl.{Decl}
-use Rattle.jl_calculus.specs.declared.tree.Program.{Program}
-use Rattle.jl_calculus.specs.BodyTypes.{IsSmallStruct}
-use Rattle.jl_calculus.specs.Gathered.{inferred_structs}
-use Rattle.jl_calculus.specs.Scope.{all_types}
-use Rattle.jl_calculus.specs.Valid.{IsValid}
+use Rattle.jl_program.specs.declared.tree.Program.{Program}
+use Rattle.jl_program.specs.BodyTypes.{IsSmallStruct}
+use Rattle.jl_program.specs.Gathered.{inferred_structs}
+use Rattle.jl_program.specs.Scope.{all_types}
+use Rattle.jl_program.specs.Valid.{IsValid}
 use Rattle.jl_sig.specs.declared.sig.Sig.{Sig}
 use Rattle.jl_sig.specs.Inferred.{is_one_of, IsSmall, AreSmall, IsFieldSig}
 

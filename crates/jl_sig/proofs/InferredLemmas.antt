@@ -2,19 +2,19 @@
 use Rattle.std.proofs.Common.{◌≡◌, ◌∙◌, refl, sym, ap, ℕ, zero, suc, ◌+◌, ◌<◌, arith, add-one, ℤ, Bool, List, [], ◌∷◌, ◌++◌, append_assoc, append-nil, map, drop, length, get_or}
 use Rattle.std.specs.List.{flat_map}
 use Rattle.jl_model.specs.declared.ty.Written.{Written}
-use Rattle.jl_calculus.specs.declared.tree.Expr.{Expr}
-use Rattle.jl_calculus.specs.declared.tree.Item.{Item}
-use Rattle.jl_calculus.specs.declared.tree.Piece.{Piece}
-use Rattle.jl_calculus.specs.declared.tree.Site.{Site}
-use Rattle.jl_calculus.specs.declared.tree.Stmt.{Stmt}
-use Rattle.jl_calculus.specs.declared.tree.Expr.TheOpen as F
-use Rattle.jl_calculus.specs.declared.tree.Expr.TheVariants as E
-use Rattle.jl_calculus.specs.declared.tree.Expr.TheViews as X
-use Rattle.jl_calculus.specs.declared.tree.Item.TheVariants as I
-use Rattle.jl_calculus.specs.declared.tree.Piece.TheVariants as Pi
-use Rattle.jl_calculus.specs.declared.tree.Stmt.TheVariants as S
-use Rattle.jl_calculus.specs.Gathered.{of_expr, of_stmt, of_item, of_piece, own_struct}
-use Rattle.jl_calculus.proofs.ValidLayers.{in-layer, in-show, in-text, in-define, in-top-bind, in-top-do, in-bind, in-do, in-return}
+use Rattle.jl_program.specs.declared.tree.Expr.{Expr}
+use Rattle.jl_program.specs.declared.tree.Item.{Item}
+use Rattle.jl_program.specs.declared.tree.Piece.{Piece}
+use Rattle.jl_program.specs.declared.tree.Site.{Site}
+use Rattle.jl_program.specs.declared.tree.Stmt.{Stmt}
+use Rattle.jl_program.specs.declared.tree.Expr.TheOpen as F
+use Rattle.jl_program.specs.declared.tree.Expr.TheVariants as E
+use Rattle.jl_program.specs.declared.tree.Expr.TheViews as X
+use Rattle.jl_program.specs.declared.tree.Item.TheVariants as I
+use Rattle.jl_program.specs.declared.tree.Piece.TheVariants as Pi
+use Rattle.jl_program.specs.declared.tree.Stmt.TheVariants as S
+use Rattle.jl_program.specs.Gathered.{of_expr, of_stmt, of_item, of_piece, own_struct}
+use Rattle.jl_program.proofs.ValidLayers.{in-layer, in-show, in-text, in-define, in-top-bind, in-top-do, in-bind, in-do, in-return}
 use Rattle.jl_sig.specs.Inferred.{in_bodies}
 
 abbrev pub of : Expr → List ℕ

@@ -6,11 +6,11 @@ use Rattle.jl_model.specs.Ancestors.{builtin_types}
 use Rattle.jl_model.specs.Refusals.{Declared, builtin, added, IsReady}
 use Rattle.jl_model.specs.declared.ty.Written.{Written}
 use Rattle.std.proofs.lemmas.List.Elements.{All-append}
-use Rattle.jl_calculus.specs.declared.tree.Program.{Program}
-use Rattle.jl_calculus.specs.declared.tree.Site.{Site}
-use Rattle.jl_calculus.specs.Scope.{all_types}
-use Rattle.jl_calculus.specs.Valid.{IsValid}
-use Rattle.jl_calculus.proofs.SiteSigs.{sites_valid}
+use Rattle.jl_program.specs.declared.tree.Program.{Program}
+use Rattle.jl_program.specs.declared.tree.Site.{Site}
+use Rattle.jl_program.specs.Scope.{all_types}
+use Rattle.jl_program.specs.Valid.{IsValid}
+use Rattle.jl_program.proofs.SiteSigs.{sites_valid}
 use Rattle.jl_sig.specs.declared.sig.Sig.{Sig}
 use Rattle.jl_sig.specs.Prepared.{IsSigOf}
 use Rattle.jl_sig.specs.Readied.{sigs_of, AreSigsOf, HasValidSigs}

@@ -3,11 +3,11 @@
 use Rattle.std.specs.Prelude.{ℕ, ◌≡◌, true, All, List, Option, map}
 use Rattle.jl_model.specs.declared.ty.Decl.{Decl}
 use Rattle.jl_model.specs.declared.ty.Written.{Written}
-use Rattle.jl_calculus.specs.declared.tree.Program.{Program}
-use Rattle.jl_calculus.specs.declared.tree.Site.{Site}
-use Rattle.jl_calculus.specs.Gathered.{inferred_structs}
-use Rattle.jl_calculus.specs.Scope.{all_types}
-use Rattle.jl_calculus.specs.Valid.{IsValid, IsValidSig}
+use Rattle.jl_program.specs.declared.tree.Program.{Program}
+use Rattle.jl_program.specs.declared.tree.Site.{Site}
+use Rattle.jl_program.specs.Gathered.{inferred_structs}
+use Rattle.jl_program.specs.Scope.{all_types}
+use Rattle.jl_program.specs.Valid.{IsValid, IsValidSig}
 use Rattle.jl_sig.specs.declared.sig.Sig.{Sig}
 use Rattle.jl_sig.specs.Fields.{fields_of}
 use Rattle.jl_sig.specs.Inferred.{is_one_of, AreFieldSigs}

@@ -2,9 +2,9 @@
 use Rattle.std.specs.Prelude.{ℕ, Bool, true, false, List, [], ◌∷◌}
 use Rattle.jl_model.specs.declared.ty.Ty.{Ty}
 use Rattle.jl_model.specs.Ancestors.{named}
-use Rattle.jl_calculus.specs.declared.tree.Program.{Program}
-use Rattle.jl_calculus.specs.declared.tree.Site.{Site}
-use Rattle.jl_calculus.specs.Prelude.{prelude_functions, prelude_sites, builtin_site}
+use Rattle.jl_program.specs.declared.tree.Program.{Program}
+use Rattle.jl_program.specs.declared.tree.Site.{Site}
+use Rattle.jl_program.specs.Prelude.{prelude_functions, prelude_sites, builtin_site}
 
 -- a type once or twice
 abbrev pub row_types : ℕ → Bool → List Ty

@@ -2,10 +2,10 @@
 
 ghost use Rattle.std.specs.Prelude.{◌≡◌, ◌++◌, IfOk, OnOk};
 ghost use Rattle.std.specs.List.{flat_map};
-ghost use Rattle.jl_calculus.specs.Gathered.{of_expr, of_stmt, of_item, of_piece, own_struct, inferred_structs};
+ghost use Rattle.jl_program.specs.Gathered.{of_expr, of_stmt, of_item, of_piece, own_struct, inferred_structs};
 ghost use Rattle.jl_sig.specs.Inferred.{in_bodies};
 
-use jl_calculus::tree::{Expr, Item, Piece, Program, Site, Stmt};
+use jl_program::tree::{Expr, Item, Piece, Program, Site, Stmt};
 use std::alloc::{AllocError, Global};
 
 /// Adds those in expressions.

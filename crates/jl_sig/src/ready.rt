@@ -3,9 +3,9 @@
 ghost use Rattle.std.specs.Prelude.{◌≡◌, ◌<◌, ◌++◌, IfOk, MatchOption, Some, false, length, slice_get};
 ghost use Rattle.jl_model.specs.Ancestors.{builtin_types};
 ghost use Rattle.jl_model.specs.Refusals.{Declared};
-ghost use Rattle.jl_calculus.specs.Scope.{all_types};
-ghost use Rattle.jl_calculus.specs.Gathered.{inferred_structs};
-ghost use Rattle.jl_calculus.specs.Valid.{IsValid};
+ghost use Rattle.jl_program.specs.Scope.{all_types};
+ghost use Rattle.jl_program.specs.Gathered.{inferred_structs};
+ghost use Rattle.jl_program.specs.Valid.{IsValid};
 ghost use Rattle.jl_sig.specs.Inferred.{is_one_of};
 ghost use Rattle.jl_sig.specs.Prepared.{IsSigOf};
 ghost use Rattle.jl_sig.specs.Readied.{sigs_of, AreSigsOf, HasValidSigs, HasFieldSig};
@@ -14,8 +14,8 @@ ghost use Rattle.jl_sig.specs.SigParts.{written_of};
 use crate::field_sigs::field_sigs;
 use crate::inferred::inferred_structs;
 use crate::sig::Sig;
-use jl_calculus::tree::{Program, Site};
 use jl_model::ty::Decl;
+use jl_program::tree::{Program, Site};
 use jl_types::Table;
 use std::alloc::{AllocError, Global};
 use std::marker::Model;
@@ -31,9 +31,9 @@ pub struct Ready {
 }
 
 impl Model for Ready {
-    ghost use Rattle.jl_calculus.specs.declared.tree.Program.{Program};
+    ghost use Rattle.jl_program.specs.declared.tree.Program.{Program};
     ghost use Rattle.jl_sig.specs.Readied.{IsReadied};
-    ghost use Rattle.jl_calculus.specs.contracts.tree.Program as e;
+    ghost use Rattle.jl_program.specs.contracts.tree.Program as e;
 
     ghost Value = { Program };
 

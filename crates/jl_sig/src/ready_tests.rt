@@ -1,12 +1,12 @@
 //! A program is kept with its table and its signatures.
 
 ghost use Rattle.std.specs.Prelude.{◌≡◌, IfOk};
-ghost use Rattle.jl_calculus.specs.Prelude.{prelude_functions, prelude_sites};
+ghost use Rattle.jl_program.specs.Prelude.{prelude_functions, prelude_sites};
 ghost use Rattle.jl_sig.specs.SamplePrograms.{row_types, row_site, bare};
 
 use crate::Ready;
-use jl_calculus::tree::{Expr, Exprs, Items, Names, Program, Site, Sites};
 use jl_model::ty::{Bounds, Bytes, Decls, Ty, Tys, Written};
+use jl_program::tree::{Expr, Exprs, Items, Names, Program, Site, Sites};
 use std::alloc::{AllocError, Global};
 use std::test::Fail;
 

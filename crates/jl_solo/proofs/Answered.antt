@@ -3,17 +3,19 @@ use Rattle.std.proofs.Common.{◌≡◌, ◌∙◌, ap, sym, subst, refl, ℕ, s
 use Rattle.std.proofs.lemmas.List.Elements.{All-push}
 use Rattle.std.proofs.lemmas.List.{drop-append-le, length-take-le}
 use Rattle.jl_model.specs.declared.ty.Ty.{Ty}
-use Rattle.jl_calculus.specs.declared.history.Choice.{Choice}
+use Rattle.jl_program.specs.declared.choice.Choice.{Choice}
 use Rattle.jl_calculus.specs.declared.history.Event.{Event}
 use Rattle.jl_calculus.specs.declared.history.Event.TheVariants as Ev
 use Rattle.jl_calculus.specs.declared.history.TraceItem.{TraceItem}
 use Rattle.jl_calculus.specs.declared.history.TraceItem.TheVariants.{Look, WorldFull}
 use Rattle.jl_calculus.specs.declared.history.TraceItem.TheVariants as Item
 use Rattle.jl_calculus.specs.declared.history.Def.{Def}
-use Rattle.jl_calculus.specs.declared.tree.Program.{Program}
+use Rattle.jl_program.specs.declared.tree.Program.{Program}
 use Rattle.jl_calculus.specs.Past.{IsTrueOf, DefinesAt}
-use Rattle.jl_calculus.specs.Prelude.{prelude_numbers}
-use Rattle.jl_calculus.specs.World.{world_of, types_of, Chooses}
+use Rattle.jl_program.specs.Prelude.{prelude_numbers}
+use Rattle.jl_program.specs.Scope.{types_of}
+use Rattle.jl_program.specs.Chooses.{Chooses}
+use Rattle.jl_calculus.specs.World.{world_of}
 use Rattle.jl_choice.specs.Methods.{methods_of, defs_from}
 use Rattle.jl_machine.specs.Knows.{Grew, Looked, Asked, IsRight, IsSite, Defined, IsMade, Full, IsFull}
 use Rattle.jl_solo.specs.Alone.{defs_of, events_of, GoesOn, knows_at, IsOfScript, IsAlone}

@@ -1,7 +1,7 @@
 -- A program without declarations and variables, told by lengths.
 use Rattle.std.proofs.Common.{◌≡◌, ap, refl, ℕ, arith, List, [], ◌∷◌, length}
-use Rattle.jl_calculus.specs.declared.tree.Program.{Program}
-use Rattle.jl_calculus.specs.declared.tree.Site.{Site}
+use Rattle.jl_program.specs.declared.tree.Program.{Program}
+use Rattle.jl_program.specs.declared.tree.Site.{Site}
 use Rattle.jl_calculus.specs.Simple.{IsSimple, IsSimpleSite}
 use Rattle.jl_solo.specs.Alone.{IsBare, IsBareSite}
 

@@ -4,14 +4,16 @@ use Rattle.std.specs.List.{Contains}
 use Rattle.std.proofs.lemmas.List.{take-append-le, get_or_append_left}
 use Rattle.jl_model.specs.declared.ty.Ty.{Ty}
 use Rattle.jl_model.specs.Choice.{Method}
-use Rattle.jl_calculus.specs.declared.history.Choice.{Choice}
-use Rattle.jl_calculus.specs.declared.history.Choice.TheVariants as C
+use Rattle.jl_program.specs.declared.choice.Choice.{Choice}
+use Rattle.jl_program.specs.declared.choice.Choice.TheVariants as C
 use Rattle.jl_calculus.specs.declared.history.Def.{Def}
 use Rattle.jl_calculus.specs.declared.history.Event.{Event}
-use Rattle.jl_calculus.specs.declared.tree.Site.{Site}
-use Rattle.jl_calculus.specs.declared.tree.Program.{Program}
-use Rattle.jl_calculus.specs.Prelude.{prelude_numbers}
-use Rattle.jl_calculus.specs.World.{defined, definitions, method_at, methods_from, site_of, types_of, Chooses, Selects}
+use Rattle.jl_program.specs.declared.tree.Site.{Site}
+use Rattle.jl_program.specs.declared.tree.Program.{Program}
+use Rattle.jl_program.specs.Prelude.{prelude_numbers}
+use Rattle.jl_program.specs.Scope.{types_of}
+use Rattle.jl_program.specs.Chooses.{Chooses}
+use Rattle.jl_calculus.specs.World.{defined, definitions, method_at, methods_from, site_of, Selects}
 use Rattle.jl_choice.specs.Methods.{methods_of, def_at, defs_from}
 use Rattle.jl_choice.proofs.MethodLemmas.{methods_of_defs, selects_from_chooses}
 use Rattle.jl_machine.specs.Knows.{IsOfWorld}

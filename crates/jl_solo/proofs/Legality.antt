@@ -7,7 +7,7 @@ use Rattle.jl_calculus.specs.declared.history.Event.{Event}
 use Rattle.jl_calculus.specs.declared.history.Event.TheVariants as Ev
 use Rattle.jl_calculus.specs.declared.history.Record.{Record}
 use Rattle.jl_calculus.specs.declared.history.TraceItem.{TraceItem}
-use Rattle.jl_calculus.specs.declared.tree.Program.{Program}
+use Rattle.jl_program.specs.declared.tree.Program.{Program}
 use Rattle.jl_calculus.specs.Legal.{start_of, IsRunning, AreTrueOf, IsFinished, IsLegalAfter, IsLegal}
 use Rattle.jl_calculus.specs.Past.{tasks_of, done_of, IsInOrder, own_starts}
 use Rattle.jl_calculus.specs.Run.{Run}

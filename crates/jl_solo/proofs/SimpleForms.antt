@@ -6,19 +6,19 @@ use Rattle.jl_model.specs.declared.ty.Ty.{Ty}
 use Rattle.jl_model.specs.declared.ty.Ty.TheVariants as T
 use Rattle.jl_model.specs.declared.ty.Ty.TheViews as U
 use Rattle.jl_model.specs.declared.ty.Written.{Written}
-use Rattle.jl_calculus.specs.declared.tree.Expr.{Expr, out-Expr}
-use Rattle.jl_calculus.specs.declared.tree.Item.{Item, out-Item, roll-Item, roll-out-Item}
-use Rattle.jl_calculus.specs.declared.tree.Piece.{Piece, out-Piece, roll-Piece, roll-out-Piece}
-use Rattle.jl_calculus.specs.declared.tree.Stmt.{Stmt}
-use Rattle.jl_calculus.specs.declared.tree.Site.{Site}
-use Rattle.jl_calculus.specs.declared.tree.Program.{Program}
-use Rattle.jl_calculus.specs.declared.tree.Expr.TheOpen.{Expr-F, Item-F, Piece-F}
-use Rattle.jl_calculus.specs.declared.tree.Expr.TheOpen as F
-use Rattle.jl_calculus.specs.declared.tree.Expr.TheVariants as E
-use Rattle.jl_calculus.specs.declared.tree.Expr.TheViews as X
-use Rattle.jl_calculus.specs.declared.tree.Item.TheVariants as I
-use Rattle.jl_calculus.specs.declared.tree.Piece.TheVariants as P
-use Rattle.jl_calculus.specs.declared.tree.Expr.TheFolds.{fold-roll-Item, fold-roll-Piece}
+use Rattle.jl_program.specs.declared.tree.Expr.{Expr, out-Expr}
+use Rattle.jl_program.specs.declared.tree.Item.{Item, out-Item, roll-Item, roll-out-Item}
+use Rattle.jl_program.specs.declared.tree.Piece.{Piece, out-Piece, roll-Piece, roll-out-Piece}
+use Rattle.jl_program.specs.declared.tree.Stmt.{Stmt}
+use Rattle.jl_program.specs.declared.tree.Site.{Site}
+use Rattle.jl_program.specs.declared.tree.Program.{Program}
+use Rattle.jl_program.specs.declared.tree.Expr.TheOpen.{Expr-F, Item-F, Piece-F}
+use Rattle.jl_program.specs.declared.tree.Expr.TheOpen as F
+use Rattle.jl_program.specs.declared.tree.Expr.TheVariants as E
+use Rattle.jl_program.specs.declared.tree.Expr.TheViews as X
+use Rattle.jl_program.specs.declared.tree.Item.TheVariants as I
+use Rattle.jl_program.specs.declared.tree.Piece.TheVariants as P
+use Rattle.jl_program.specs.declared.tree.Expr.TheFolds.{fold-roll-Item, fold-roll-Piece}
 use Rattle.jl_calculus.specs.Simple.{simple_expr_step, simple_item_step, simple_piece_step, simple_stmt_step, is_simple, is_simple_item, is_simple_piece, is_simple_layer, is_simple_type, IsSimple, IsSimpleSite}
 use Rattle.jl_machine.proofs.Equations.{simple_is, simple_expr_layer}
 use Rattle.jl_solo.specs.SimpleSites.{is_simple_site, has_simple_parts}

@@ -3,10 +3,10 @@ use Rattle.std.specs.Prelude.{ℕ, ◌+◌, ◌≡◌, ◌<◌, ◌≤◌, All, 
 use Rattle.std.specs.List.{list_all}
 use Rattle.jl_calculus.specs.declared.history.Event.{Event}
 use Rattle.jl_calculus.specs.declared.history.Event.TheVariants as Ev
-use Rattle.jl_calculus.specs.declared.tree.Program.{Program}
-use Rattle.jl_calculus.specs.declared.tree.Site.{Site}
+use Rattle.jl_program.specs.declared.tree.Program.{Program}
+use Rattle.jl_program.specs.declared.tree.Site.{Site}
 use Rattle.jl_calculus.specs.Past.{IsTrueOf, own_events}
-use Rattle.jl_calculus.specs.Prelude.{prelude_numbers}
+use Rattle.jl_program.specs.Prelude.{prelude_numbers}
 use Rattle.jl_calculus.specs.Simple.{is_simple, is_simple_item, is_simple_type}
 use Rattle.jl_machine.specs.Knows.{Knows}
 

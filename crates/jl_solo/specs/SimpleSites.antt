@@ -1,8 +1,8 @@
 -- Whether a program is simple, as a test.
 use Rattle.std.specs.Prelude.{ℕ, Bool, ◌&&◌, nat_eq, length}
 use Rattle.std.specs.List.{list_all}
-use Rattle.jl_calculus.specs.declared.tree.Site.{Site}
-use Rattle.jl_calculus.specs.declared.tree.Program.{Program}
+use Rattle.jl_program.specs.declared.tree.Site.{Site}
+use Rattle.jl_program.specs.declared.tree.Program.{Program}
 use Rattle.jl_calculus.specs.Simple.{is_simple, is_simple_item, is_simple_type}
 
 -- a site, in a program of so many: no variables, simple types and a simple body

@@ -5,9 +5,9 @@ ghost use Rattle.jl_calculus.specs.Legal.{IsLegal, outcome_line, status_of, text
 ghost use Rattle.jl_calculus.specs.Past.{done_of};
 
 use jl_calculus::history::{Event, History, Outcome, Record};
-use jl_calculus::tree::Program;
 use jl_model::rows::Row;
 use jl_model::ty::Bytes;
+use jl_program::tree::Program;
 use jl_text::append_error_line;
 use std::alloc::{AllocError, Global};
 

@@ -7,9 +7,9 @@ ghost use Rattle.jl_solo.specs.Alone.{defs_of};
 
 use crate::solo::Solo;
 use jl_calculus::history::{Event, History};
-use jl_calculus::tree::Program;
 use jl_machine::run_root;
 use jl_model::rows::Row;
+use jl_program::tree::Program;
 use std::alloc::{AllocError, Global};
 
 /// Appends the definitions of these sites, by the root.

@@ -5,8 +5,8 @@ ghost use Rattle.std.specs.List.{list_all};
 ghost use Rattle.jl_calculus.specs.Simple.{is_simple, is_simple_item, is_simple_piece, is_simple_type, IsSimple};
 ghost use Rattle.jl_solo.specs.SimpleSites.{is_simple_site, has_simple_parts};
 
-use jl_calculus::tree::{Expr, Item, Piece, Program, Site};
 use jl_model::ty::Ty;
+use jl_program::tree::{Expr, Item, Piece, Program, Site};
 
 /// Whether expressions are simple, in a program of so many sites.
 #[cycle(simple)]

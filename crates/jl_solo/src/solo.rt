@@ -1,16 +1,17 @@
 //! A dispatcher for a task that runs alone.
 
 ghost use Rattle.std.specs.Prelude.{◌≡◌, ◌≤◌, IfOk, length, slice_get};
-ghost use Rattle.jl_calculus.specs.Prelude.{prelude_numbers};
+ghost use Rattle.jl_program.specs.Prelude.{prelude_numbers};
 ghost use Rattle.jl_calculus.specs.Simple.{IsSimple};
 ghost use Rattle.jl_choice.specs.Methods.{defs_from};
 ghost use Rattle.jl_solo.specs.Alone.{IsAlone, is_of};
 
-use jl_calculus::history::{Choice, Def, DefineFault, Seen};
-use jl_calculus::tree::Program;
+use jl_calculus::history::{Def, DefineFault, Seen};
 use jl_choice::choose;
 use jl_machine::dispatcher::Dispatcher;
 use jl_model::ty::Key;
+use jl_program::choice::Choice;
+use jl_program::tree::Program;
 use std::alloc::{AllocError, Global};
 
 /// The last world.

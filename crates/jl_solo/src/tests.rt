@@ -5,9 +5,9 @@ ghost use Rattle.std.specs.List.{list_all};
 ghost use Rattle.jl_calculus.specs.Simple.{is_simple, is_simple_item, is_simple_type, IsSimple, IsSimpleSite, IsSimpleSignature};
 
 use crate::{run_alone, status, text};
-use jl_calculus::tree::{Expr, Exprs, Item, Items, Names, Piece, Pieces, Program, Site, Sites};
 use jl_model::shared::SharedList;
 use jl_model::ty::{Ty, Tys, Written};
+use jl_program::tree::{Expr, Exprs, Item, Items, Names, Piece, Pieces, Program, Site, Sites};
 use std::alloc::{AllocError, Global};
 use std::test::Fail;
 

@@ -6,7 +6,7 @@ use Rattle.jl_model.specs.declared.ty.Written.{Written}
 use Rattle.jl_model.specs.Subtype.{Table}
 use Rattle.jl_model.specs.Signature.{Applicable, SigBelow, StrictlyBelow, SameSignature}
 use Rattle.jl_model.specs.Choice.{Method, IsCandidate, IsBest, IsUnordered, IsFirstUnordered, IsFirstTwo}
-use Rattle.jl_calculus.specs.World.{Chooses}
+use Rattle.jl_program.specs.Chooses.{Chooses}
 use Rattle.jl_subsig.specs.declared.choice.Ranked.{Ranked}
 use Rattle.jl_subsig.specs.Decide.{nth, AreCompared, sig_below, same_sig, strictly_below, unordered, candidates, below_others, most_specific, unordered_pair, first_two, by_pair, by_best, choice_among}
 use Rattle.jl_subsig.proofs.ChoiceLists.{In, Rises, both, all_to, all_from, find_some, find_none, stands_from_kept, kept_from_stands, kept_rises}

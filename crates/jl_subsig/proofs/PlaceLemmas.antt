@@ -6,7 +6,7 @@ use Rattle.jl_model.specs.declared.ty.Ty.{Ty}
 use Rattle.jl_model.specs.Choice as M
 use Rattle.jl_model.specs.Signature.{Applicable}
 use Rattle.jl_model.specs.Subtype.{Table}
-use Rattle.jl_calculus.specs.World.{Chooses}
+use Rattle.jl_program.specs.Chooses.{Chooses}
 use Rattle.jl_sig.specs.SigParts.{written_of}
 use Rattle.jl_subsig.specs.declared.choice.Method.{Method}
 use Rattle.jl_subsig.specs.declared.choice.Ranked.{Ranked}

@@ -7,8 +7,8 @@ use Rattle.jl_model.specs.Choice as M
 use Rattle.jl_model.specs.Signature.{SigBelow}
 use Rattle.jl_model.specs.SigRefusals.{IsAllowedSig}
 use Rattle.jl_model.specs.Subtype.{Table}
-use Rattle.jl_calculus.specs.declared.history.Choice.{Choice}
-use Rattle.jl_calculus.specs.declared.history.Choice.TheVariants as C
+use Rattle.jl_program.specs.declared.choice.Choice.{Choice}
+use Rattle.jl_program.specs.declared.choice.Choice.TheVariants as C
 use Rattle.jl_sig.specs.Prepared.{IsSigOf}
 use Rattle.jl_sig.specs.SigParts.{written_of}
 use Rattle.jl_subsig.specs.declared.choice.Method.{Method}

@@ -7,15 +7,15 @@ ghost use Rattle.jl_model.specs.declared.ty.Ty.{Ty};
 ghost use Rattle.jl_model.specs.Ancestors.{table_of};
 ghost use Rattle.jl_model.specs.Signature.{Applicable};
 ghost use Rattle.jl_model.specs.SigRefusals.{IsAllowedSig};
-ghost use Rattle.jl_calculus.specs.World.{Chooses};
+ghost use Rattle.jl_program.specs.Chooses.{Chooses};
 ghost use Rattle.jl_sig.specs.Prepared.{IsSigOf};
 ghost use Rattle.jl_sig.specs.SigParts.{written_of};
 ghost use Rattle.jl_subsig.specs.Side.{Every};
 ghost use Rattle.jl_subsig.specs.Decide.{methods_in, IsSound, IsCompared, AreCompared, ranks, sig_below, same_sig, strictly_below, candidates, below_others, most_specific, unordered, unordered_pair, choice_among};
 
 use crate::order::sig_sub;
-use jl_calculus::history::Choice;
 use jl_model::shared::SharedList;
+use jl_program::choice::Choice;
 use jl_sig::Sig;
 use jl_types::Table;
 use std::alloc::{AllocError, Global};

@@ -1,6 +1,6 @@
 -- What is left to write of a list of texts.
 use Rattle.std.proofs.Common.{ℕ, zero, suc, List, map, drop}
-use Rattle.jl_calculus.specs.Text.{joined, joined_more}
+use Rattle.jl_program.specs.Text.{joined, joined_more}
 
 -- texts from a place on, with ", " before each but the one at place 0
 abbrev pub joined_from : ℕ → List (List ℕ) → List ℕ

@@ -1,16 +1,16 @@
 -- The texts of values of each form, and their nodes.
 use Rattle.std.proofs.Common.{◌≡◌, ℕ, ℤ, Bool, decimal, zero, suc, ◌+◌, ◌<◌, ◌≤◌, codes, List, [], ◌∷◌, ◌++◌, map, length, get_or, refl, ap, ◌∙◌, arith}
 use Rattle.jl_model.specs.declared.ty.Ty.{Ty}
-use Rattle.jl_calculus.specs.declared.tree.Program.{Program}
-use Rattle.jl_calculus.specs.declared.datum.Datum.{Datum}
-use Rattle.jl_calculus.specs.declared.datum.Datum.TheOpen as D
-use Rattle.jl_calculus.specs.declared.datum.Datum.TheFolds.{fold-roll-Datum}
-use Rattle.jl_calculus.specs.declared.value.Value.{Value}
-use Rattle.jl_calculus.specs.declared.value.Value.TheVariants as V
-use Rattle.jl_calculus.specs.Meaning.{datum}
-use Rattle.jl_calculus.specs.Measures.{nodes, nodes_all, nodes_step}
+use Rattle.jl_program.specs.declared.tree.Program.{Program}
+use Rattle.jl_program.specs.declared.datum.Datum.{Datum}
+use Rattle.jl_program.specs.declared.datum.Datum.TheOpen as D
+use Rattle.jl_program.specs.declared.datum.Datum.TheFolds.{fold-roll-Datum}
+use Rattle.jl_program.specs.declared.value.Value.{Value}
+use Rattle.jl_program.specs.declared.value.Value.TheVariants as V
+use Rattle.jl_program.specs.Meaning.{datum}
+use Rattle.jl_program.specs.Measures.{nodes, nodes_all, nodes_step}
 use Rattle.std.specs.Fmt.{signed_decimal}
-use Rattle.jl_calculus.specs.Text.{type_text, value_text, datum_text, datum_step, bool_text, tuple_text, in_parentheses}
+use Rattle.jl_program.specs.Text.{type_text, value_text, datum_text, datum_step, bool_text, tuple_text, in_parentheses}
 
 -- the texts of values are those of what they mean
 texts-of : (P : Program) (vs : List Value) → map (datum_text P) (map datum vs) ≡ map (value_text P) vs

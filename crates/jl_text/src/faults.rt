@@ -1,14 +1,14 @@
 //! The texts of faults, and the line that tells one.
 
 ghost use Rattle.std.specs.Prelude.{◌≡◌, ◌++◌, codes, decimal, IfOk, OnOk};
-ghost use Rattle.jl_calculus.specs.Text.{function_name, type_text, types_text, fault_text, error_line};
+ghost use Rattle.jl_program.specs.Text.{function_name, type_text, types_text, fault_text, error_line};
 
 use crate::numbers::append_unsigned;
 use crate::types::{append_argument_types, append_type};
-use jl_calculus::history::Fault;
-use jl_calculus::tree::Program;
 use jl_model::rows::Row;
 use jl_model::ty::{Bytes, Ty};
+use jl_program::fault::Fault;
+use jl_program::tree::Program;
 use std::alloc::{AllocError, Global};
 
 /// The name of a function, and no bytes where there is none of this number.

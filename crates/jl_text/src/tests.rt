@@ -3,11 +3,11 @@
 use crate::{
     append_error_line, append_fault, append_type, append_value, fault_text, type_text, value_text,
 };
-use jl_calculus::history::Fault;
-use jl_calculus::tree::{Exprs, Items, Names, Program, Sites};
-use jl_calculus::value::{Value, Values};
 use jl_model::rows::Row;
 use jl_model::ty::{Bounds, Bytes, Decl, DeclKind, Decls, Fields, Ty, Tys};
+use jl_program::fault::Fault;
+use jl_program::tree::{Exprs, Items, Names, Program, Sites};
+use jl_program::value::{Value, Values};
 use std::alloc::{AllocError, Global};
 use std::process::Abort;
 use std::test::Fail;

@@ -1,11 +1,11 @@
 //! The texts of types (Julia manual, Types: Parametric Types, UnionAll Types).
 
 ghost use Rattle.std.specs.Prelude.{◌≡◌, ◌+◌, ◌++◌, map, IfOk, OnOk};
-ghost use Rattle.jl_calculus.specs.Text.{type_name, type_text, in_braces, arguments, joined, types_text};
+ghost use Rattle.jl_program.specs.Text.{type_name, type_text, in_braces, arguments, joined, types_text};
 
-use jl_calculus::tree::Program;
 use jl_model::rows::Row;
 use jl_model::ty::{Bytes, Ty};
+use jl_program::tree::Program;
 use std::alloc::{AllocError, Global};
 
 /// How many nominal types are built in. Declared types are numbered from here on.

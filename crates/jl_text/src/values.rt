@@ -1,15 +1,15 @@
 //! The texts of values.
 
 ghost use Rattle.std.specs.Prelude.{◌≡◌, ◌++◌, map, codes, decimal, IfOk, OnOk};
-ghost use Rattle.jl_calculus.specs.Meaning.{datum};
-ghost use Rattle.jl_calculus.specs.Text.{value_text, bool_text, joined, in_parentheses, tuple_text};
+ghost use Rattle.jl_program.specs.Meaning.{datum};
+ghost use Rattle.jl_program.specs.Text.{value_text, bool_text, joined, in_parentheses, tuple_text};
 
 use crate::numbers::{append_signed, append_unsigned};
 use crate::types::append_type;
-use jl_calculus::tree::Program;
-use jl_calculus::value::Value;
 use jl_model::rows::Row;
 use jl_model::ty::Bytes;
+use jl_program::tree::Program;
+use jl_program::value::Value;
 use std::alloc::{AllocError, Global};
 
 /// The text of a truth value.

@@ -12,7 +12,7 @@ use Rattle.jl_model.specs.Rows.{vars_in}
 use Rattle.jl_model.specs.SigRefusals.{types_in}
 use Rattle.jl_model.specs.Valid.{is_known}
 use Rattle.jl_model.proofs.PutLemmas.{both_true}
-use Rattle.jl_calculus.specs.BodyTypes.{may_stand, is_seen}
+use Rattle.jl_program.specs.BodyTypes.{may_stand, is_seen}
 use Rattle.jl_typeread.specs.declared.tree.TypeText.{TypeText}
 use Rattle.jl_written.specs.declared.fault.Fault.{Fault}
 use Rattle.jl_written.specs.declared.fault.StaticKind.{StaticKind}

@@ -10,7 +10,7 @@ use Rattle.jl_model.specs.Valid.{is_known}
 use Rattle.jl_model.proofs.PutLemmas.{both_true}
 use Rattle.jl_typeread.specs.declared.tree.TypeText.{TypeText}
 use Rattle.jl_typeread.specs.declared.tree.VarText.{VarText}
-use Rattle.jl_calculus.specs.Names.{is_among, builtin_names}
+use Rattle.jl_program.specs.Names.{is_among, builtin_names}
 use Rattle.jl_written.specs.declared.reading.Reading.{Reading}
 use Rattle.jl_written.specs.declared.reading.TypeVar.{TypeVar}
 use Rattle.jl_written.specs.Meaning.{var_of}

@@ -11,7 +11,7 @@ use Rattle.jl_model.specs.Valid.{is_known, params_of}
 use Rattle.jl_model.proofs.FormLemmas.{vars-nominal}
 use Rattle.jl_model.proofs.KnownLemmas.{known-nominal}
 use Rattle.jl_model.proofs.PutLemmas.{and_r, both_true}
-use Rattle.jl_calculus.specs.BodyTypes.{may_stand, is_struct, is_struct_type}
+use Rattle.jl_program.specs.BodyTypes.{may_stand, is_struct, is_struct_type}
 use Rattle.jl_typeread.specs.declared.tree.ArgText.{ArgText}
 use Rattle.jl_written.specs.declared.fault.StaticKind.{StaticKind}
 use Rattle.jl_written.specs.declared.fault.StaticKind.TheVariants as kind

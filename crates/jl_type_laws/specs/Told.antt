@@ -5,8 +5,8 @@ use Rattle.jl_model.specs.declared.ty.Decl.{Decl}
 use Rattle.jl_model.specs.Rows.{vars_in}
 use Rattle.jl_model.specs.SigRefusals.{types_in}
 use Rattle.jl_model.specs.Valid.{is_known}
-use Rattle.jl_calculus.specs.BodyTypes.{is_seen, is_made}
-use Rattle.jl_calculus.specs.Scope.{in_body}
+use Rattle.jl_program.specs.BodyTypes.{is_seen, is_made}
+use Rattle.jl_program.specs.Scope.{in_body}
 use Rattle.jl_grammar.specs.declared.tree.Head.{Head}
 use Rattle.jl_written.specs.declared.reading.TypeVar.{TypeVar}
 use Rattle.jl_resolve_forms.specs.declared.state.Signed.{Signed}

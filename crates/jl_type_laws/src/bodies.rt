@@ -1,7 +1,7 @@
 //! Laws of the types in bodies and of the signatures of methods, where no fault stands (Julia manual, Methods).
 
 ghost use Rattle.std.specs.Prelude.{ℕ, ◌≡◌, Bool, List, IsTrue, None};
-ghost use Rattle.jl_calculus.specs.BodyTypes.{is_struct};
+ghost use Rattle.jl_program.specs.BodyTypes.{is_struct};
 ghost use Rattle.jl_grammar.specs.declared.tree.Head.{Head};
 ghost use Rattle.jl_typeread.specs.declared.tree.ArgText.{ArgText};
 ghost use Rattle.jl_typeread.specs.declared.tree.TypeText.{TypeText};

@@ -2,13 +2,13 @@
 use Rattle.std.proofs.Common.{cond, nat_eq, nat_lt, ltb-true, ltb-false, ◌≡◌, ◌∙◌, ap, sym, refl, subst, ℕ, ◌+◌, ◌≤◌, ◌<◌, arith, Bool, true, false, ◌&&◌, List, [], ◌∷◌, ◌++◌, length, get_or, None, append_assoc, length-append, append-nil}
 use Rattle.std.proofs.Math.Seq.{get_or-append_seam}
 use Rattle.std.proofs.lemmas.List.{map-append}
-use Rattle.jl_calculus.specs.declared.tree.Expr.{Expr as Code}
-use Rattle.jl_calculus.specs.declared.tree.Program.{Program}
-use Rattle.jl_calculus.specs.declared.tree.Site.{Site}
-use Rattle.jl_calculus.specs.BodyTypes.{IsAllowedType, IsSmallStruct}
-use Rattle.jl_calculus.specs.Gathered.{Layer, of_expr, own_place, own_types, own_struct, times}
-use Rattle.jl_calculus.specs.Scope.{View, Scope as Standing, in_task, is_valid_expr, are_valid_tasks, nothing_seen}
-use Rattle.jl_calculus.specs.Valid.{IsValidSite}
+use Rattle.jl_program.specs.declared.tree.Expr.{Expr as Code}
+use Rattle.jl_program.specs.declared.tree.Program.{Program}
+use Rattle.jl_program.specs.declared.tree.Site.{Site}
+use Rattle.jl_program.specs.BodyTypes.{IsAllowedType, IsSmallStruct}
+use Rattle.jl_program.specs.Gathered.{Layer, of_expr, own_place, own_types, own_struct, times}
+use Rattle.jl_program.specs.Scope.{View, Scope as Standing, in_task, is_valid_expr, are_valid_tasks, nothing_seen}
+use Rattle.jl_program.specs.Valid.{IsValidSite}
 use Rattle.jl_grammar.specs.declared.tree.Name.{Name}
 use Rattle.jl_resolve_forms.specs.declared.known.Known.{Known}
 use Rattle.jl_resolve_forms.specs.declared.state.State.{State}

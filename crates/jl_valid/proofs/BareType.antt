@@ -15,7 +15,7 @@ use Rattle.jl_model.specs.Refusals.{Given, given_in, given_step}
 use Rattle.jl_model.specs.AllRows.{rows_with}
 use Rattle.jl_model.specs.SigRefusals.{is_component, component_step, VariablePlace, ManyNodes, ManyAlternatives, LargeForm, ManyRows}
 use Rattle.jl_model.proofs.FormLemmas.{put-nominal}
-use Rattle.jl_calculus.specs.BodyTypes.{IsAllowedType, own_or_any, without_statics}
+use Rattle.jl_program.specs.BodyTypes.{IsAllowedType, own_or_any, without_statics}
 use Rattle.jl_resolve_forms.specs.TypesIn.{one_type}
 use Rattle.jl_valid.proofs.AddsLemmas.{and}
 

@@ -1,21 +1,21 @@
 -- Blocks, `if`s, prints and evaluated blocks: where the parts are good, the form is.
 use Rattle.std.proofs.Common.{append_assoc, ◌≡◌, ◌∙◌, ap, sym, refl, ℕ, arith, Bool, false, cond, ◌&&◌, nat_lt, nat_le, nat_eq, List, [], ◌∷◌, ◌++◌, map, length, None, lt-ltb, le-leb, eq-eqb, append-nil}
 use Rattle.std.specs.List.{list_all, flat_map}
-use Rattle.jl_calculus.specs.declared.tree.Expr.{Expr as Code}
-use Rattle.jl_calculus.specs.declared.tree.Expr.TheOpen as V
-use Rattle.jl_calculus.specs.declared.tree.Expr.TheVariants as W
-use Rattle.jl_calculus.specs.declared.tree.Expr.TheViews as X
-use Rattle.jl_calculus.specs.declared.tree.Item.{Item}
-use Rattle.jl_calculus.specs.declared.tree.Piece.{Piece}
-use Rattle.jl_calculus.specs.declared.tree.Stmt.{Stmt}
-use Rattle.jl_calculus.specs.declared.tree.Item.TheVariants as I
-use Rattle.jl_calculus.specs.declared.tree.Piece.TheVariants as Q
-use Rattle.jl_calculus.specs.declared.tree.Stmt.TheVariants as S
-use Rattle.jl_calculus.specs.declared.tree.Program.{Program}
-use Rattle.jl_calculus.specs.Gathered.{of_stmt, of_item, of_piece, own_place, own_types, own_struct}
-use Rattle.jl_calculus.specs.Prelude.{prelude_count}
-use Rattle.jl_calculus.specs.Scope.{View, Scope as Standing, Statement, nothing_seen, bound, evaluated as evaluated_at, in_turn, all_in, item_of, is_valid_expr, is_valid_piece, expr_step as valid_step, item_step as valid_item, piece_step as valid_text_step, stmt_step as valid_stmt}
-use Rattle.jl_calculus.proofs.ValidLayers.{in-bind, in-return, in-do, in-text, in-show, in-define, in-top-do, in-top-bind, stmt_of, valid-nothing, valid-block, valid-eval, valid-print, valid-show, valid-text, valid-define, valid-top-do, valid-bind, valid-do, valid-return}
+use Rattle.jl_program.specs.declared.tree.Expr.{Expr as Code}
+use Rattle.jl_program.specs.declared.tree.Expr.TheOpen as V
+use Rattle.jl_program.specs.declared.tree.Expr.TheVariants as W
+use Rattle.jl_program.specs.declared.tree.Expr.TheViews as X
+use Rattle.jl_program.specs.declared.tree.Item.{Item}
+use Rattle.jl_program.specs.declared.tree.Piece.{Piece}
+use Rattle.jl_program.specs.declared.tree.Stmt.{Stmt}
+use Rattle.jl_program.specs.declared.tree.Item.TheVariants as I
+use Rattle.jl_program.specs.declared.tree.Piece.TheVariants as Q
+use Rattle.jl_program.specs.declared.tree.Stmt.TheVariants as S
+use Rattle.jl_program.specs.declared.tree.Program.{Program}
+use Rattle.jl_program.specs.Gathered.{of_stmt, of_item, of_piece, own_place, own_types, own_struct}
+use Rattle.jl_program.specs.Prelude.{prelude_count}
+use Rattle.jl_program.specs.Scope.{View, Scope as Standing, Statement, nothing_seen, bound, evaluated as evaluated_at, in_turn, all_in, item_of, is_valid_expr, is_valid_piece, expr_step as valid_step, item_step as valid_item, piece_step as valid_text_step, stmt_step as valid_stmt}
+use Rattle.jl_program.proofs.ValidLayers.{in-bind, in-return, in-do, in-text, in-show, in-define, in-top-do, in-top-bind, stmt_of, valid-nothing, valid-block, valid-eval, valid-print, valid-show, valid-text, valid-define, valid-top-do, valid-bind, valid-do, valid-return}
 use Rattle.jl_grammar.specs.declared.tree.Eval.TheOpen as F
 use Rattle.jl_grammar.specs.declared.tree.Name.{Name}
 use Rattle.jl_resolve_forms.specs.declared.known.Arm.{Arm}

@@ -3,20 +3,20 @@ use Rattle.std.proofs.Common.{◌∙◌, append-nil, ◌≡◌, ap, refl, ℕ, �
 use Rattle.std.specs.List.{flat_map}
 use Rattle.std.proofs.lemmas.List.{length-map}
 use Rattle.jl_model.specs.declared.ty.Written.{Written}
-use Rattle.jl_calculus.specs.declared.tree.Expr.{Expr as Code, roll-Expr}
-use Rattle.jl_calculus.specs.declared.tree.Item.{Item}
-use Rattle.jl_calculus.specs.declared.tree.Piece.{Piece}
-use Rattle.jl_calculus.specs.declared.tree.Stmt.{Stmt}
-use Rattle.jl_calculus.specs.declared.tree.Expr.TheFolds.{map-Expr}
-use Rattle.jl_calculus.specs.declared.tree.Expr.TheOpen.{Expr-F}
-use Rattle.jl_calculus.specs.declared.tree.Expr.TheOpen as V
-use Rattle.jl_calculus.specs.declared.tree.Expr.TheVariants as W
-use Rattle.jl_calculus.specs.declared.tree.Expr.TheViews as X
-use Rattle.jl_calculus.specs.declared.tree.Program.{Program}
-use Rattle.jl_calculus.specs.Gathered.{gathers, of_expr, of_item, of_piece, of_stmt, own_place, own_types, own_struct}
-use Rattle.jl_calculus.specs.Names.{is_identifier, is_field_name}
-use Rattle.jl_calculus.specs.Scope.{View, Scope as Standing, is_valid_expr, all_in, expr_step as valid_step}
-use Rattle.jl_calculus.proofs.ValidLayers.{in-layer, valid-int, valid-truth, valid-nothing, valid-local, valid-call, valid-parts, valid-field, valid-part, valid-egal, valid-if, valid-and, valid-or, valid-fetch, valid-latest}
+use Rattle.jl_program.specs.declared.tree.Expr.{Expr as Code, roll-Expr}
+use Rattle.jl_program.specs.declared.tree.Item.{Item}
+use Rattle.jl_program.specs.declared.tree.Piece.{Piece}
+use Rattle.jl_program.specs.declared.tree.Stmt.{Stmt}
+use Rattle.jl_program.specs.declared.tree.Expr.TheFolds.{map-Expr}
+use Rattle.jl_program.specs.declared.tree.Expr.TheOpen.{Expr-F}
+use Rattle.jl_program.specs.declared.tree.Expr.TheOpen as V
+use Rattle.jl_program.specs.declared.tree.Expr.TheVariants as W
+use Rattle.jl_program.specs.declared.tree.Expr.TheViews as X
+use Rattle.jl_program.specs.declared.tree.Program.{Program}
+use Rattle.jl_program.specs.Gathered.{gathers, of_expr, of_item, of_piece, of_stmt, own_place, own_types, own_struct}
+use Rattle.jl_program.specs.Names.{is_identifier, is_field_name}
+use Rattle.jl_program.specs.Scope.{View, Scope as Standing, is_valid_expr, all_in, expr_step as valid_step}
+use Rattle.jl_program.proofs.ValidLayers.{in-layer, valid-int, valid-truth, valid-nothing, valid-local, valid-call, valid-parts, valid-field, valid-part, valid-egal, valid-if, valid-and, valid-or, valid-fetch, valid-latest}
 use Rattle.jl_grammar.specs.declared.tree.Eval.TheOpen as F
 use Rattle.jl_grammar.specs.declared.tree.Infix.{Infix}
 use Rattle.jl_grammar.specs.declared.tree.Infix.TheVariants as N

@@ -5,7 +5,7 @@ use Rattle.jl_model.specs.declared.ty.Decl.{Decl}
 use Rattle.jl_model.specs.declared.ty.Written.{Written}
 use Rattle.jl_model.specs.SigRefusals.{types_in}
 use Rattle.jl_model.specs.Valid.{is_known}
-use Rattle.jl_calculus.specs.BodyTypes.{is_seen}
+use Rattle.jl_program.specs.BodyTypes.{is_seen}
 use Rattle.jl_written.specs.declared.reading.TypeVar.{TypeVar}
 use Rattle.jl_resolve_forms.specs.declared.known.Known.{Known}
 use Rattle.jl_resolve_forms.specs.TypesIn.{Tests}

@@ -2,8 +2,8 @@
 use Rattle.std.proofs.Common.{◌≡◌, ◌∙◌, ap, sym, refl, ℕ, zero, suc, ◌≤◌, arith, Bool, true, false, cond, ◌&&◌, ◌||◌, ◌==◌, not, All, List, [], ◌∷◌, ◌++◌, length, take, drop, append-nil, append_assoc, length-append, true≢false, eqb-true, eq-eqb}
 use Rattle.std.specs.List.{list_all}
 use Rattle.std.proofs.Math.Seq.{take-append_seam, drop-append_seam}
-use Rattle.jl_calculus.specs.Names.{same_text, is_among, are_distinct, is_free_name}
-use Rattle.jl_calculus.specs.Prelude.{prelude_functions}
+use Rattle.jl_program.specs.Names.{same_text, is_among, are_distinct, is_free_name}
+use Rattle.jl_program.specs.Prelude.{prelude_functions}
 use Rattle.jl_grammar.specs.declared.tree.Name.{Name}
 use Rattle.jl_resolve_forms.specs.Defined.{with_names, functions_of}
 use Rattle.jl_valid.specs.Adds.{Every, IsFree}

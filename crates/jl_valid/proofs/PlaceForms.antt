@@ -3,17 +3,17 @@ use Rattle.std.proofs.Common.{◌≤◌, eq-or-lt_of_le, inl, inr, ◌⊎◌, eq
 use Rattle.std.specs.List.{flat_map}
 use Rattle.std.proofs.lemmas.List.{length-map}
 use Rattle.jl_model.specs.declared.ty.Decl.{Decl}
-use Rattle.jl_calculus.specs.declared.tree.Expr.TheOpen as V
-use Rattle.jl_calculus.specs.declared.tree.Expr.TheVariants as W
-use Rattle.jl_calculus.specs.declared.tree.Expr.{Expr as Code}
-use Rattle.jl_calculus.specs.declared.tree.Program.{Program}
-use Rattle.jl_calculus.specs.declared.tree.Site.{Site}
-use Rattle.jl_calculus.specs.Gathered.{times}
-use Rattle.jl_calculus.specs.declared.tree.Expr.TheViews as X
-use Rattle.jl_calculus.specs.Names.{is_among, builtin_names, reserved_words, is_identifier}
-use Rattle.jl_calculus.specs.Scope.{View, in_body, in_task, same_flags, same_view, is_valid_expr, are_valid_tasks, expr_step as valid_step}
-use Rattle.jl_calculus.specs.Valid.{IsValidSig, IsValidSite}
-use Rattle.jl_calculus.proofs.ValidLayers.{valid-spawn}
+use Rattle.jl_program.specs.declared.tree.Expr.TheOpen as V
+use Rattle.jl_program.specs.declared.tree.Expr.TheVariants as W
+use Rattle.jl_program.specs.declared.tree.Expr.{Expr as Code}
+use Rattle.jl_program.specs.declared.tree.Program.{Program}
+use Rattle.jl_program.specs.declared.tree.Site.{Site}
+use Rattle.jl_program.specs.Gathered.{times}
+use Rattle.jl_program.specs.declared.tree.Expr.TheViews as X
+use Rattle.jl_program.specs.Names.{is_among, builtin_names, reserved_words, is_identifier}
+use Rattle.jl_program.specs.Scope.{View, in_body, in_task, same_flags, same_view, is_valid_expr, are_valid_tasks, expr_step as valid_step}
+use Rattle.jl_program.specs.Valid.{IsValidSig, IsValidSite}
+use Rattle.jl_program.proofs.ValidLayers.{valid-spawn}
 use Rattle.jl_typeread.specs.declared.tree.TypeText.{TypeText}
 use Rattle.jl_grammar.specs.declared.tree.Callee.{Callee}
 use Rattle.jl_grammar.specs.declared.tree.Callee.TheVariants as C

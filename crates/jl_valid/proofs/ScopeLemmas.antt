@@ -1,8 +1,8 @@
 -- What is visible in the text is visible in the program.
 use Rattle.std.proofs.Common.{◌≡◌, ◌∙◌, ap, sym, refl, ℕ, ◌+◌, ◌<◌, ◌≤◌, arith, Bool, true, false, cond, List, [], ◌∷◌, length, replicate, Option, Some, None, length-append}
 use Rattle.std.proofs.lemmas.List.{get_or-replicate}
-use Rattle.jl_calculus.specs.Names.{same_text, is_among, builtin_names}
-use Rattle.jl_calculus.specs.Scope.{View}
+use Rattle.jl_program.specs.Names.{same_text, is_among, builtin_names}
+use Rattle.jl_program.specs.Scope.{View}
 use Rattle.jl_grammar.specs.declared.tree.Name.{Name}
 use Rattle.jl_written.specs.declared.fault.StaticKind.TheVariants as kind
 use Rattle.jl_written.specs.declared.reading.TypeVar.{TypeVar}

@@ -3,20 +3,20 @@ use Rattle.std.proofs.Common.{flat_map, suc, ◌+◌, append_assoc, replicate, z
 use Rattle.std.specs.List.{list_all}
 use Rattle.std.proofs.lemmas.List.{map-append}
 use Rattle.std.proofs.Math.Seq.{take-append_seam, drop-append_seam}
-use Rattle.jl_calculus.specs.declared.tree.Expr.TheOpen as V
-use Rattle.jl_calculus.specs.declared.tree.Item.{Item as Code}
-use Rattle.jl_calculus.specs.declared.tree.Item.TheVariants as I
-use Rattle.jl_calculus.specs.declared.tree.Program.{Program}
-use Rattle.jl_calculus.specs.declared.tree.Expr.TheVariants as W
-use Rattle.jl_calculus.specs.declared.tree.Site.{Site}
-use Rattle.jl_calculus.specs.BodyTypes.{IsAllowedType, IsSmallStruct}
-use Rattle.jl_calculus.specs.Gathered.{Layer, of_expr, of_item, own_place, own_types, own_struct, in_program, spawned_places, written_types, inferred_structs, times}
-use Rattle.jl_calculus.specs.Names.{is_free_name, are_distinct}
+use Rattle.jl_program.specs.declared.tree.Expr.TheOpen as V
+use Rattle.jl_program.specs.declared.tree.Item.{Item as Code}
+use Rattle.jl_program.specs.declared.tree.Item.TheVariants as I
+use Rattle.jl_program.specs.declared.tree.Program.{Program}
+use Rattle.jl_program.specs.declared.tree.Expr.TheVariants as W
+use Rattle.jl_program.specs.declared.tree.Site.{Site}
+use Rattle.jl_program.specs.BodyTypes.{IsAllowedType, IsSmallStruct}
+use Rattle.jl_program.specs.Gathered.{Layer, of_expr, of_item, own_place, own_types, own_struct, in_program, spawned_places, written_types, inferred_structs, times}
+use Rattle.jl_program.specs.Names.{is_free_name, are_distinct}
 use Rattle.jl_model.specs.Refusals.{Declared}
-use Rattle.jl_calculus.specs.Prelude.{prelude_count, prelude_functions, prelude_sites}
-use Rattle.jl_calculus.specs.Scope.{all_types, View, Statement, nothing_seen, bound, in_turn, item_of, is_valid_expr, are_valid_items, are_valid_tasks, item_step as valid_item}
-use Rattle.jl_calculus.specs.Valid.{IsValid, IsValidSite}
-use Rattle.jl_calculus.proofs.ValidLayers.{in-nothing, valid-define, valid-top-bind, valid-top-do}
+use Rattle.jl_program.specs.Prelude.{prelude_count, prelude_functions, prelude_sites}
+use Rattle.jl_program.specs.Scope.{all_types, View, Statement, nothing_seen, bound, in_turn, item_of, is_valid_expr, are_valid_items, are_valid_tasks, item_step as valid_item}
+use Rattle.jl_program.specs.Valid.{IsValid, IsValidSite}
+use Rattle.jl_program.proofs.ValidLayers.{in-nothing, valid-define, valid-top-bind, valid-top-do}
 use Rattle.jl_grammar.specs.declared.tree.Item.{Item}
 use Rattle.jl_grammar.specs.declared.tree.Item.TheVariants as N
 use Rattle.jl_grammar.specs.declared.tree.Name.{Name}

@@ -9,15 +9,15 @@ use Rattle.jl_model.specs.declared.ty.Written.{Written}
 use Rattle.jl_model.specs.Ancestors.{named as nominal, is_struct_kind}
 use Rattle.jl_model.specs.Rows.{vars_in, vars_step}
 use Rattle.jl_model.specs.Valid.{names_in, names_step, is_known, params_of}
-use Rattle.jl_calculus.specs.declared.tree.Expr.{Expr as Code}
-use Rattle.jl_calculus.specs.declared.tree.Expr.TheOpen as V
-use Rattle.jl_calculus.specs.declared.tree.Expr.TheVariants as W
-use Rattle.jl_calculus.specs.declared.tree.Expr.TheViews as X
-use Rattle.jl_calculus.specs.declared.tree.Program.{Program}
-use Rattle.jl_calculus.specs.BodyTypes.{IsSmallStruct, is_seen, is_made, is_struct, is_struct_type, is_inferable, finds_variables, may_stand, fields_signature as fields_of}
-use Rattle.jl_calculus.specs.Prelude.{prelude_functions}
-use Rattle.jl_calculus.specs.Scope.{View, is_valid_expr, all_types, expr_step as valid_step}
-use Rattle.jl_calculus.proofs.ValidLayers.{valid-make, valid-infer, valid-isa, valid-sub}
+use Rattle.jl_program.specs.declared.tree.Expr.{Expr as Code}
+use Rattle.jl_program.specs.declared.tree.Expr.TheOpen as V
+use Rattle.jl_program.specs.declared.tree.Expr.TheVariants as W
+use Rattle.jl_program.specs.declared.tree.Expr.TheViews as X
+use Rattle.jl_program.specs.declared.tree.Program.{Program}
+use Rattle.jl_program.specs.BodyTypes.{IsSmallStruct, is_seen, is_made, is_struct, is_struct_type, is_inferable, finds_variables, may_stand, fields_signature as fields_of}
+use Rattle.jl_program.specs.Prelude.{prelude_functions}
+use Rattle.jl_program.specs.Scope.{View, is_valid_expr, all_types, expr_step as valid_step}
+use Rattle.jl_program.proofs.ValidLayers.{valid-make, valid-infer, valid-isa, valid-sub}
 use Rattle.jl_token.specs.declared.token.Operator.{Operator}
 use Rattle.jl_token.specs.declared.token.Operator.TheVariants as O
 use Rattle.jl_typeread.specs.declared.tree.ArgText.{ArgText}

@@ -3,15 +3,15 @@
 use Rattle.std.specs.Prelude.{ℕ, ◌+◌, ◌≡◌, ◌<◌, ◌≤◌, IsTrue, List, [], ◌∷◌, ◌++◌, map, length, None}
 use Rattle.std.specs.List.{flat_map}
 use Rattle.jl_model.specs.declared.ty.Written.{Written}
-use Rattle.jl_calculus.specs.declared.tree.Expr.{Expr as Code}
-use Rattle.jl_calculus.specs.declared.tree.Program.{Program}
-use Rattle.jl_calculus.specs.declared.tree.Site.{Site}
-use Rattle.jl_calculus.specs.BodyTypes.{IsAllowedType, IsSmallStruct}
-use Rattle.jl_calculus.specs.Gathered.{Layer, of_expr, own_place, own_types, own_struct, times}
-use Rattle.jl_calculus.specs.Names.{is_free_name}
-use Rattle.jl_calculus.specs.Prelude.{prelude_count}
-use Rattle.jl_calculus.specs.Scope.{View, all_types, are_valid_tasks}
-use Rattle.jl_calculus.specs.Valid.{IsValidSite}
+use Rattle.jl_program.specs.declared.tree.Expr.{Expr as Code}
+use Rattle.jl_program.specs.declared.tree.Program.{Program}
+use Rattle.jl_program.specs.declared.tree.Site.{Site}
+use Rattle.jl_program.specs.BodyTypes.{IsAllowedType, IsSmallStruct}
+use Rattle.jl_program.specs.Gathered.{Layer, of_expr, own_place, own_types, own_struct, times}
+use Rattle.jl_program.specs.Names.{is_free_name}
+use Rattle.jl_program.specs.Prelude.{prelude_count}
+use Rattle.jl_program.specs.Scope.{View, all_types, are_valid_tasks}
+use Rattle.jl_program.specs.Valid.{IsValidSite}
 use Rattle.jl_grammar.specs.declared.tree.Name.{Name}
 use Rattle.jl_resolve_forms.specs.declared.known.Known.{Known}
 use Rattle.jl_resolve_forms.specs.declared.state.State.{State}

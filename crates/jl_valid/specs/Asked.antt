@@ -8,8 +8,8 @@ use Rattle.jl_model.specs.Refusals.{Declared}
 use Rattle.jl_model.specs.Rows.{vars_in}
 use Rattle.jl_model.specs.SigRefusals.{types_in, IsAllowedSig}
 use Rattle.jl_model.specs.Valid.{is_known}
-use Rattle.jl_calculus.specs.BodyTypes.{IsAllowedType, IsSmallStruct}
-use Rattle.jl_calculus.specs.Valid.{is_named}
+use Rattle.jl_program.specs.BodyTypes.{IsAllowedType, IsSmallStruct}
+use Rattle.jl_program.specs.Valid.{is_named}
 use Rattle.jl_grammar.specs.declared.tree.Item.{Item}
 use Rattle.jl_resolve_forms.specs.declared.known.Known.{Known}
 use Rattle.jl_resolve_forms.specs.Defined.{methods_of, functions_of}

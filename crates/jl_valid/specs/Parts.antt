@@ -5,13 +5,13 @@ use Rattle.std.specs.Str.{is_utf8}
 use Rattle.jl_model.specs.declared.ty.Written.{Written}
 use Rattle.jl_model.specs.AllRows.{each_var}
 use Rattle.jl_model.specs.Usable.{is_usable}
-use Rattle.jl_calculus.specs.declared.tree.Expr.{Expr as Code}
-use Rattle.jl_calculus.specs.declared.tree.Program.{Program}
-use Rattle.jl_calculus.specs.Names.{is_field_name}
-use Rattle.jl_calculus.specs.Prelude.{prelude_count}
-use Rattle.jl_calculus.specs.BodyTypes.{is_seen, is_made, is_struct, IsAllowedType}
-use Rattle.jl_calculus.specs.Scope.{View, Scope as Standing, is_valid_expr}
-use Rattle.jl_calculus.specs.Valid.{IsValidSig}
+use Rattle.jl_program.specs.declared.tree.Expr.{Expr as Code}
+use Rattle.jl_program.specs.declared.tree.Program.{Program}
+use Rattle.jl_program.specs.Names.{is_field_name}
+use Rattle.jl_program.specs.Prelude.{prelude_count}
+use Rattle.jl_program.specs.BodyTypes.{is_seen, is_made, is_struct, IsAllowedType}
+use Rattle.jl_program.specs.Scope.{View, Scope as Standing, is_valid_expr}
+use Rattle.jl_program.specs.Valid.{IsValidSig}
 use Rattle.jl_typeread.specs.declared.tree.ArgText.{ArgText}
 use Rattle.jl_typeread.specs.declared.tree.TypeText.{TypeText}
 use Rattle.jl_grammar.specs.declared.tree.Head.{Head}

@@ -1,6 +1,6 @@
 -- What is asked of the written types of a script: each that is read without a fault is good.
 use Rattle.std.specs.Prelude.{ℕ, ◌≡◌, false, IsTrue, List, None}
-use Rattle.jl_calculus.specs.BodyTypes.{is_struct, IsSmallStruct}
+use Rattle.jl_program.specs.BodyTypes.{is_struct, IsSmallStruct}
 use Rattle.jl_typeread.specs.declared.tree.ArgText.{ArgText}
 use Rattle.jl_typeread.specs.declared.tree.TypeText.{TypeText}
 use Rattle.jl_grammar.specs.declared.tree.Head.{Head}

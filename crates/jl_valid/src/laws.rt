@@ -2,7 +2,7 @@
 //! law.
 
 ghost use Rattle.std.specs.Prelude.{Bool, List, Option, ◌≡◌, None};
-ghost use Rattle.jl_calculus.specs.Valid.{IsValid};
+ghost use Rattle.jl_program.specs.Valid.{IsValid};
 ghost use Rattle.jl_grammar.specs.declared.tree.Expr.{Expr};
 ghost use Rattle.jl_grammar.specs.declared.tree.Item.{Item};
 ghost use Rattle.jl_grammar.specs.declared.tree.Method.{Method};

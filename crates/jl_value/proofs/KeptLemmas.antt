@@ -21,11 +21,11 @@ use Rattle.jl_model.proofs.FormLemmas.{is_union, all_of, vars-tuple, vars-nomina
 use Rattle.jl_model.proofs.AncestorLemmas.{slice_before, long-snoc, each_true, true_each}
 use Rattle.jl_model.proofs.KnownLemmas.{Known, known_nominal, known_tuple}
 use Rattle.jl_model.proofs.CountLemmas.{nodes-nominal, raw-tuple, raw-nominal}
-use Rattle.jl_calculus.specs.declared.datum.Datum.{Datum}
-use Rattle.jl_calculus.specs.declared.value.Value.{Value}
-use Rattle.jl_calculus.specs.declared.value.Value.TheVariants as U
-use Rattle.jl_calculus.specs.Meaning.{datum}
-use Rattle.jl_calculus.specs.Run.{type_of}
+use Rattle.jl_program.specs.declared.datum.Datum.{Datum}
+use Rattle.jl_program.specs.declared.value.Value.{Value}
+use Rattle.jl_program.specs.declared.value.Value.TheVariants as U
+use Rattle.jl_program.specs.Meaning.{datum}
+use Rattle.jl_program.specs.TypeOf.{type_of}
 use Rattle.jl_types.specs.Ground.{IsGround}
 use Rattle.jl_value.specs.ValidValue.{kept_step, kept_type, tuple_type, IsValueType, IsValid, AllValid, int, truth, nothing, task, tuple, made, none, more}
 use Rattle.jl_value.proofs.ValueLemmas.{form, out_datum}

@@ -12,12 +12,12 @@ use Rattle.jl_model.specs.Kept.{field_types}
 use Rattle.jl_model.specs.Signature.{Both, both_end, both_more}
 use Rattle.jl_model.specs.Subtype.{opaque, put, at, Below}
 use Rattle.jl_model.proofs.CountLemmas.{nodes-tuple}
-use Rattle.jl_calculus.specs.declared.datum.Datum.{Datum}
-use Rattle.jl_calculus.specs.declared.value.Value.{Value}
-use Rattle.jl_calculus.specs.Meaning.{datum}
-use Rattle.jl_calculus.specs.Run.{type_of}
-use Rattle.jl_calculus.specs.declared.value.Value.TheVariants as U
-use Rattle.jl_calculus.specs.Measures.{IsWithinLimits}
+use Rattle.jl_program.specs.declared.datum.Datum.{Datum}
+use Rattle.jl_program.specs.declared.value.Value.{Value}
+use Rattle.jl_program.specs.Meaning.{datum}
+use Rattle.jl_program.specs.TypeOf.{type_of}
+use Rattle.jl_program.specs.declared.value.Value.TheVariants as U
+use Rattle.jl_program.specs.Measures.{IsWithinLimits}
 use Rattle.jl_value.specs.declared.made.MakeFault.{MakeFault}
 use Rattle.jl_value.specs.declared.made.MakeFault.TheVariants.{TypeLimit, FieldCount, FieldType, ValueLimit, Memory}
 use Rattle.jl_value.specs.ValidValue.{kept_type, tuple_type, fields_in, fields_step, fields_of, IsStructType, AreOf, IsValid, AllValid, tuple, made}

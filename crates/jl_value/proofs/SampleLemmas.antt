@@ -6,7 +6,7 @@ use Rattle.jl_model.specs.Ancestors.{builtin_types}
 use Rattle.jl_model.specs.Refusals.{builtin, IsReady, Declared}
 use Rattle.jl_model.proofs.DeclaredLemmas.{builtin_parents}
 use Rattle.jl_model.proofs.AncestorLemmas.{IsPattern}
-use Rattle.jl_calculus.specs.Names.{same_text, is_among}
+use Rattle.jl_program.specs.Names.{same_text, is_among}
 use Rattle.jl_value.specs.Samples.{pair_decl, box_decl, square_decl, wood_decl, part_decl, sample_types}
 use Rattle.jl_value.proofs.ReadyLemmas.{top, parameter, leaf, IsSample, IsSimpleStruct, struct_ready, sample_more}
 

@@ -17,10 +17,10 @@ use Rattle.jl_model.proofs.FormLemmas.{all_of, vars-nominal}
 use Rattle.jl_model.proofs.PutLemmas.{both_true}
 use Rattle.jl_model.proofs.KnownLemmas.{Known, known_nominal}
 use Rattle.jl_model.proofs.CountLemmas.{nodes-nominal, raw-nominal}
-use Rattle.jl_calculus.specs.declared.datum.Datum.{Datum}
-use Rattle.jl_calculus.specs.declared.value.Value.{Value}
-use Rattle.jl_calculus.specs.declared.value.Value.TheVariants as U
-use Rattle.jl_calculus.specs.Meaning.{datum}
+use Rattle.jl_program.specs.declared.datum.Datum.{Datum}
+use Rattle.jl_program.specs.declared.value.Value.{Value}
+use Rattle.jl_program.specs.declared.value.Value.TheVariants as U
+use Rattle.jl_program.specs.Meaning.{datum}
 use Rattle.jl_value.specs.ValidValue.{IsStructType, is_declared_step, IsValid, AllValid, int, truth, nothing, task, none, more}
 use Rattle.jl_value.specs.Samples.{sample_types}
 use Rattle.jl_value.proofs.ValueLemmas.{out_datum}

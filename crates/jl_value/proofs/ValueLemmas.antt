@@ -2,15 +2,15 @@
 use Rattle.std.proofs.Common.{◌≡◌, ◌∙◌, sym, ap, refl, ℕ, ℤ, zero, suc, ◌+◌, ◌<◌, ◌≤◌, arith, add-one, Bool, true, false, nat_eq, List, [], ◌∷◌, map, length, drop, get_or, to_z, of_z, w64}
 use mathlib.Core.Bool.{beq}
 use Rattle.jl_model.specs.declared.ty.Ty.{Ty}
-use Rattle.jl_calculus.specs.declared.datum.Datum.{Datum, out-Datum}
-use Rattle.jl_calculus.specs.declared.datum.Datum.TheOpen.{Datum-F}
-use Rattle.jl_calculus.specs.declared.datum.Datum.TheOpen as D
-use Rattle.jl_calculus.specs.declared.datum.Datum.TheViews.{roll-Datum, out-roll-Datum}
-use Rattle.jl_calculus.specs.declared.datum.Datum.TheFolds.{fold-roll-Datum}
-use Rattle.jl_calculus.specs.declared.value.Value.{Value}
-use Rattle.jl_calculus.specs.declared.value.Value.TheVariants as V
-use Rattle.jl_calculus.specs.Meaning.{datum}
-use Rattle.jl_calculus.specs.Measures.{nodes, nodes_all, nodes_step}
+use Rattle.jl_program.specs.declared.datum.Datum.{Datum, out-Datum}
+use Rattle.jl_program.specs.declared.datum.Datum.TheOpen.{Datum-F}
+use Rattle.jl_program.specs.declared.datum.Datum.TheOpen as D
+use Rattle.jl_program.specs.declared.datum.Datum.TheViews.{roll-Datum, out-roll-Datum}
+use Rattle.jl_program.specs.declared.datum.Datum.TheFolds.{fold-roll-Datum}
+use Rattle.jl_program.specs.declared.value.Value.{Value}
+use Rattle.jl_program.specs.declared.value.Value.TheVariants as V
+use Rattle.jl_program.specs.Meaning.{datum}
+use Rattle.jl_program.specs.Measures.{nodes, nodes_all, nodes_step}
 
 -- the outermost form of a value
 abbrev pub form : Value → Datum-F Datum

@@ -8,11 +8,11 @@ use Rattle.jl_model.specs.Ancestors.{table_of}
 use Rattle.jl_model.specs.Counts as types
 use Rattle.jl_model.specs.Signature.{Both}
 use Rattle.jl_model.specs.Subtype.{opaque, Below}
-use Rattle.jl_calculus.specs.declared.datum.Datum.{Datum}
-use Rattle.jl_calculus.specs.declared.value.Value.{Value}
-use Rattle.jl_calculus.specs.declared.value.Value.TheVariants.{Tuple, Struct}
-use Rattle.jl_calculus.specs.Meaning.{datum}
-use Rattle.jl_calculus.specs.Measures.{IsWithinLimits}
+use Rattle.jl_program.specs.declared.datum.Datum.{Datum}
+use Rattle.jl_program.specs.declared.value.Value.{Value}
+use Rattle.jl_program.specs.declared.value.Value.TheVariants.{Tuple, Struct}
+use Rattle.jl_program.specs.Meaning.{datum}
+use Rattle.jl_program.specs.Measures.{IsWithinLimits}
 use Rattle.jl_value.specs.declared.made.MakeFault.{MakeFault}
 use Rattle.jl_value.specs.declared.made.MakeFault.TheVariants.{TypeLimit, FieldCount, FieldType, ValueLimit, Memory}
 use Rattle.jl_value.specs.ValidValue.{kept_type, tuple_type, fields_in, AreOf}

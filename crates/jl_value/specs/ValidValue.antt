@@ -13,9 +13,9 @@ use Rattle.jl_model.specs.Normal.{IsNormal}
 use Rattle.jl_model.specs.Signature.{Both}
 use Rattle.jl_model.specs.Subtype.{opaque, put, at, Below, is_concrete}
 use Rattle.jl_model.specs.Valid.{IsValidType, is_closed}
-use Rattle.jl_calculus.specs.declared.datum.Datum.{Datum, out-Datum}
-use Rattle.jl_calculus.specs.declared.datum.Datum.TheOpen.{Datum-F, Int, Bool as Truth, Nothing, Task, Tuple, Struct}
-use Rattle.jl_calculus.specs.Measures.{IsWithinLimits}
+use Rattle.jl_program.specs.declared.datum.Datum.{Datum, out-Datum}
+use Rattle.jl_program.specs.declared.datum.Datum.TheOpen.{Datum-F, Int, Bool as Truth, Nothing, Task, Tuple, Struct}
+use Rattle.jl_program.specs.Measures.{IsWithinLimits}
 
 abbrev pub kept_step : Datum-F Datum → Ty
 kept_step (Int _) = named 4

@@ -1,9 +1,9 @@
 //! When two values are the same, and copies of values.
 
 ghost use Rattle.std.specs.Prelude.{◌≡◌, IsTrue, ◌↔◌, IfOk, map};
-ghost use Rattle.jl_calculus.specs.Meaning.{datum};
+ghost use Rattle.jl_program.specs.Meaning.{datum};
 
-use jl_calculus::value::Value;
+use jl_program::value::Value;
 use jl_types::same::same;
 use std::alloc::AllocError;
 

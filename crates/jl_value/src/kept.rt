@@ -2,10 +2,10 @@
 
 ghost use Rattle.std.specs.Prelude.{◌≡◌, IfOk};
 ghost use Rattle.jl_model.specs.Ancestors.{named};
-ghost use Rattle.jl_calculus.specs.Run.{type_of};
+ghost use Rattle.jl_program.specs.TypeOf.{type_of};
 
-use jl_calculus::value::Value;
 use jl_model::ty::{Ty, Tys};
+use jl_program::value::Value;
 use std::alloc::AllocError;
 
 /// A built-in type, by its number.

@@ -4,9 +4,9 @@ ghost use Rattle.std.specs.Prelude.{◌≡◌, ◌≤◌, ◌<◌, ◌^◌, IfOk
 ghost use Rattle.jl_model.specs.Counts.{nodes};
 ghost use Rattle.jl_model.specs.Kept.{field_types};
 ghost use Rattle.jl_model.specs.Subtype.{put, at};
-ghost use Rattle.jl_calculus.specs.declared.value.Value.TheVariants.{Struct};
-ghost use Rattle.jl_calculus.specs.Meaning.{datum};
-ghost use Rattle.jl_calculus.specs.Measures.{IsWithinLimits};
+ghost use Rattle.jl_program.specs.declared.value.Value.TheVariants.{Struct};
+ghost use Rattle.jl_program.specs.Meaning.{datum};
+ghost use Rattle.jl_program.specs.Measures.{IsWithinLimits};
 ghost use Rattle.jl_value.specs.ValidValue.{IsValid, AllValid, IsStructType, AreOf, tuple_type, fields_in};
 ghost use Rattle.jl_value.specs.Fields.{AreFieldTypes, AreArguments};
 ghost use Rattle.jl_value.specs.Answers.{tuple_of, IsTooLarge, TupleCause, OtherCause, PartsCause, StructCause};
@@ -15,8 +15,8 @@ ghost use Rattle.jl_value.specs.declared.made.MakeFault.TheVariants.{ValueLimit}
 use crate::field::is_of;
 use crate::kept::type_of;
 use crate::made::MakeFault;
-use jl_calculus::value::{Value, Values};
 use jl_model::ty::{Field, Ty, Tys};
+use jl_program::value::{Value, Values};
 use jl_types::Table;
 use jl_types::count::{MOST_NODES as MOST_TYPE_NODES, nodes_within};
 use std::alloc::{AllocError, Global};

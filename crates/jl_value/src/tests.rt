@@ -5,13 +5,13 @@ ghost use Rattle.jl_model.specs.declared.ty.Ty.TheViews as V;
 ghost use Rattle.jl_model.specs.Ancestors.{named, builtin_types};
 ghost use Rattle.jl_model.specs.Refusals.{IsReady};
 ghost use Rattle.jl_model.specs.Rows.{free};
-ghost use Rattle.jl_calculus.specs.Meaning.{datum};
+ghost use Rattle.jl_program.specs.Meaning.{datum};
 ghost use Rattle.jl_value.specs.ValidValue.{IsValid};
 ghost use Rattle.jl_value.specs.Samples.{struct_decl, field_of, pair_decl, box_decl, square_decl, wood_decl, part_decl, sample_types};
 
 use crate::{MakeFault, construct, copy, egal, tuple, type_of};
-use jl_calculus::value::{Value, Values};
 use jl_model::ty::{Bound, Bounds, Bytes, Decl, DeclKind, Field, Fields, Ty, Tys};
+use jl_program::value::{Value, Values};
 use jl_types::Table;
 use std::alloc::{AllocError, Global};
 use std::process::Abort;

@@ -1,6 +1,6 @@
 -- The first of several names, by the table and by the list.
 use Rattle.std.proofs.Common.{◌≡◌, ap, ℕ, ◌+◌, cond, List, [], ◌∷◌, Some, refl}
-use Rattle.jl_calculus.specs.Names.{same_text}
+use Rattle.jl_program.specs.Names.{same_text}
 use Rattle.jl_names.specs.Numbers.{number_in, placed}
 use Rattle.jl_written.specs.Meaning.{place_from, place_of}
 

@@ -1,6 +1,6 @@
 -- The two tests of equal texts are one.
 use Rattle.std.proofs.Common.{◌≡◌, refl, ap, ℕ, ◌&&◌, ◌==◌, bytes_eq, List, [], ◌∷◌}
-use Rattle.jl_calculus.specs.Names.{same_text}
+use Rattle.jl_program.specs.Names.{same_text}
 
 pub same_text-is : (a b : List ℕ) → bytes_eq a b ≡ same_text a b
 same_text-is [] [] = refl

@@ -1,7 +1,7 @@
 -- What a name means where a type must stand. The declared types before the place are ds, the built-in ones first.
 use Rattle.std.specs.Prelude.{ℕ, ◌+◌, cond, codes, List, [], ◌∷◌, map, Option, Some, None}
 use Rattle.jl_model.specs.declared.ty.Decl.{Decl}
-use Rattle.jl_calculus.specs.Names.{same_text}
+use Rattle.jl_program.specs.Names.{same_text}
 use Rattle.jl_written.specs.declared.reading.Named.{Named}
 use Rattle.jl_written.specs.declared.reading.Named.TheVariants.{Variable, Any, Union, Tuple, Nominal, Unknown}
 use Rattle.jl_written.specs.declared.reading.TypeVar.{TypeVar}

@@ -11,7 +11,7 @@ use Rattle.jl_model.specs.declared.ty.Bound.{Bound}
 use Rattle.jl_model.specs.declared.ty.Decl.{Decl}
 use Rattle.jl_model.specs.Rows.{free}
 use Rattle.jl_model.specs.Valid.{params_of}
-use Rattle.jl_calculus.specs.Names.{is_among, builtin_names}
+use Rattle.jl_program.specs.Names.{is_among, builtin_names}
 use Rattle.jl_typeread.specs.declared.tree.TypeText.{TypeText}
 use Rattle.jl_typeread.specs.declared.tree.ArgText.{ArgText}
 use Rattle.jl_typeread.specs.declared.tree.VarText.{VarText}

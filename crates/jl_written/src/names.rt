@@ -1,7 +1,7 @@
 //! What a name that is no type variable means where a type must stand.
 
 ghost use Rattle.std.specs.Prelude.{◌≡◌, ◌≤◌, ◌^◌, List, ℕ, map, IfOk, OnErr};
-ghost use Rattle.jl_calculus.specs.Names.{is_among, same_text, builtin_names};
+ghost use Rattle.jl_program.specs.Names.{is_among, same_text, builtin_names};
 ghost use Rattle.jl_model.specs.declared.ty.Decl.{Decl};
 ghost use Rattle.jl_written.specs.Meaning.{place_of, word_of};
 

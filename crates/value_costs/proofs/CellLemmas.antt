@@ -12,10 +12,10 @@ use Rattle.jl_model.specs.Valid.{is_counted, counted_step}
 use Rattle.jl_model.proofs.FormLemmas.{vars-nominal}
 use Rattle.jl_model.proofs.KnownLemmas.{known_nominal}
 use Rattle.jl_model.proofs.CountLemmas.{nodes-nominal, raw-nominal}
-use Rattle.jl_calculus.specs.declared.datum.Datum.{Datum}
-use Rattle.jl_calculus.specs.declared.value.Value.{Value}
-use Rattle.jl_calculus.specs.declared.value.Value.TheVariants as U
-use Rattle.jl_calculus.specs.Meaning.{datum}
+use Rattle.jl_program.specs.declared.datum.Datum.{Datum}
+use Rattle.jl_program.specs.declared.value.Value.{Value}
+use Rattle.jl_program.specs.declared.value.Value.TheVariants as U
+use Rattle.jl_program.specs.Meaning.{datum}
 use Rattle.jl_value.specs.ValidValue.{IsStructType, is_declared_step, IsValid, AllValid, int, nothing, none, more}
 use Rattle.jl_value.proofs.ValueLemmas.{out_datum}
 use Rattle.jl_value.proofs.KeptLemmas.{concrete-nominal, closed_of}

@@ -3,14 +3,14 @@
 
 ghost use Rattle.std.specs.Prelude.{◌≡◌, IfOk, map};
 ghost use Rattle.jl_model.specs.Ancestors.{named};
-ghost use Rattle.jl_calculus.specs.Meaning.{datum};
+ghost use Rattle.jl_program.specs.Meaning.{datum};
 ghost use Rattle.jl_value.specs.ValidValue.{IsValid, AllValid};
 ghost use Rattle.jl_model.specs.declared.ty.Ty.TheVariants.{Any};
 ghost use Rattle.jl_value.specs.Samples.{field_of, pair_decl};
 ghost use Rattle.value_costs.specs.Cells.{cell_types};
 
-use jl_calculus::value::{Value, Values};
 use jl_model::ty::{Bounds, Bytes, Decl, DeclKind, Field, Fields, Ty, Tys};
+use jl_program::value::{Value, Values};
 use jl_types::Table;
 use jl_value::{MakeFault, construct, tuple};
 use std::alloc::{AllocError, Global};

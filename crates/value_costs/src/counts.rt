@@ -1,6 +1,6 @@
 //! What is counted of a value.
 
-use jl_calculus::value::Value;
+use jl_program::value::Value;
 use jl_types::count::nodes_within;
 use jl_value::{copy, egal, type_of};
 use std::alloc::AllocError;

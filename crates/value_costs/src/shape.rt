@@ -1,13 +1,13 @@
 //! The values that are built.
 
 ghost use Rattle.std.specs.Prelude.{◌≡◌, IfOk};
-ghost use Rattle.jl_calculus.specs.Meaning.{datum};
+ghost use Rattle.jl_program.specs.Meaning.{datum};
 ghost use Rattle.jl_value.specs.ValidValue.{IsValid};
 ghost use Rattle.value_costs.specs.Cells.{cell_types};
 
 use crate::cells::{list, nest, row};
 use crate::counts::{Counts, count};
-use jl_calculus::value::Value;
+use jl_program::value::Value;
 use jl_types::Table;
 use jl_value::MakeFault;
 use std::alloc::Global;

@@ -6,7 +6,7 @@ use Rattle.jl_model.specs.Ancestors.{table_of}
 use Rattle.jl_model.specs.Signature.{Both}
 use Rattle.jl_model.specs.Refusals.{bound_types, given_in}
 use Rattle.jl_model.specs.SigRefusals.{types_in, ManyRows, VariablePlace}
-use Rattle.jl_calculus.specs.BodyTypes.{without_statics}
+use Rattle.jl_program.specs.BodyTypes.{without_statics}
 use Rattle.jl_sig.specs.Parts.{all_given}
 use Rattle.jl_sig.specs.Forms.{IsSmallForm, HasTooLarge, AreFormed, HasTooLargeGiven, AreKnown}
 use Rattle.jl_sig.specs.Prepared.{IsExpandable}

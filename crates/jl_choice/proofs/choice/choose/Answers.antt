@@ -1,5 +1,6 @@
 use Rattle.std.proofs.Common.{◌∙◌, sym, ap, subst}
-use Rattle.jl_calculus.specs.World.{types_of, Chooses}
+use Rattle.jl_program.specs.Scope.{types_of}
+use Rattle.jl_program.specs.Chooses.{Chooses}
 use Rattle.jl_choice.specs.Methods.{methods_of}
 use Rattle.jl_choice.specs.Decide.{choice_among}
 use Rattle.jl_choice.proofs.ChoiceLemmas.{chosen}

@@ -1,5 +1,5 @@
 use Rattle.std.proofs.Common.{ap, ◌∙◌, ◌++◌, codes, List, ℕ, length, drop}
-use Rattle.jl_calculus.specs.Prelude.{prelude_count}
+use Rattle.jl_program.specs.Prelude.{prelude_count}
 use Rattle.jl_cli.proofs.PlaceLemmas.{counted}
 use Rattle.jl_cli.proofs.answering.ok_line.Goals as goal
 

@@ -1,5 +1,5 @@
 use Rattle.std.proofs.Common.{◌≡◌, map, take}
-use Rattle.jl_calculus.specs.Run.{type_of}
+use Rattle.jl_program.specs.TypeOf.{type_of}
 use Rattle.jl_machine.proofs.task.types_of.Given as goal
 
 abbrev pub invariant-loop-value : goal.invariant-loop-value

@@ -1,6 +1,6 @@
 use Rattle.std.proofs.Common.{◌≡◌}
 use Rattle.std.proofs.lemmas.Result.{IfOk-weaker}
-use Rattle.jl_calculus.specs.declared.tree.Expr.TheVariants as W
+use Rattle.jl_program.specs.declared.tree.Expr.TheVariants as W
 use Rattle.jl_resolve_forms.specs.Expressions.{chained}
 use Rattle.jl_resolve_walk.proofs.made.only_if.Goals as goal
 

@@ -1,6 +1,6 @@
 use Rattle.std.proofs.Common.{◌≡◌, ◌++◌, drop}
 use Rattle.std.specs.List.{flat_map}
-use Rattle.jl_calculus.specs.Gathered.{of_expr, of_stmt, of_item, of_piece, own_struct}
+use Rattle.jl_program.specs.Gathered.{of_expr, of_stmt, of_item, of_piece, own_struct}
 use Rattle.jl_sig.proofs.inferred.+inferred.Given as goal
 
 abbrev pub invariant-add_exprs-loop-expr : goal.invariant-add_exprs-loop-expr

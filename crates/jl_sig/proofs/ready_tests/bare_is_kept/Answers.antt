@@ -1,5 +1,5 @@
 use Rattle.std.proofs.Common.{sym, subst}
-use Rattle.jl_calculus.specs.Valid.{IsValid}
+use Rattle.jl_program.specs.Valid.{IsValid}
 use Rattle.jl_sig.proofs.BareLemmas.{bare_valid}
 use Rattle.jl_sig.proofs.ready_tests.bare_is_kept.Goals as goal
 

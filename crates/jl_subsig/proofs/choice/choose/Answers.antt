@@ -1,6 +1,6 @@
 use Rattle.std.proofs.Common.{◌∙◌, sym, subst}
 use Rattle.jl_model.specs.Ancestors.{table_of}
-use Rattle.jl_calculus.specs.World.{Chooses}
+use Rattle.jl_program.specs.Chooses.{Chooses}
 use Rattle.jl_subsig.specs.Decide.{methods_in, candidates, choice_among}
 use Rattle.jl_subsig.proofs.PlaceLemmas.{chosen}
 use Rattle.jl_subsig.proofs.choice.choose.Goals as goal

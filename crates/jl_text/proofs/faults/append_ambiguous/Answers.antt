@@ -1,5 +1,5 @@
 use Rattle.std.proofs.Common.{codes, decimal}
-use Rattle.jl_calculus.specs.Text.{function_name, types_text}
+use Rattle.jl_program.specs.Text.{function_name, types_text}
 use Rattle.jl_text.proofs.PieceLemmas.{after-six}
 use Rattle.jl_text.proofs.faults.append_ambiguous.Goals as goal
 

@@ -1,5 +1,5 @@
 use Rattle.std.proofs.Common.{codes}
-use Rattle.jl_calculus.specs.Text.{type_text}
+use Rattle.jl_program.specs.Text.{type_text}
 use Rattle.jl_text.proofs.PieceLemmas.{after-three}
 use Rattle.jl_text.proofs.faults.append_no_field.Goals as goal
 

@@ -1,5 +1,5 @@
 use Rattle.std.proofs.Common.{◌≡◌, ◌++◌}
-use Rattle.jl_calculus.specs.Text.{type_text}
+use Rattle.jl_program.specs.Text.{type_text}
 use Rattle.jl_text.proofs.Joined.{rest}
 use Rattle.jl_text.proofs.types.+types.Given as goal
 

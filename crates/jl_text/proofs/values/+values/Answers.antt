@@ -1,5 +1,5 @@
 use Rattle.std.proofs.Common.{◌≡◌, map, rules, to_z, of_z, w64}
-use Rattle.jl_calculus.specs.Text.{type_text, value_text, in_parentheses}
+use Rattle.jl_program.specs.Text.{type_text, value_text, in_parentheses}
 use Rattle.jl_text.proofs.PieceLemmas.{after-one}
 use Rattle.jl_text.proofs.ValueTexts.{int-text, bool-text, nothing-text, task-text, struct-text}
 use Rattle.jl_text.proofs.values.+values.Goals as goal

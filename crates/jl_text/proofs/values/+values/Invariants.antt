@@ -1,7 +1,7 @@
 use Rattle.std.proofs.Common.{◌≡◌, ◌+◌, ◌*◌, ◌++◌, map}
-use Rattle.jl_calculus.specs.Meaning.{datum}
-use Rattle.jl_calculus.specs.Measures.{nodes, nodes_all}
-use Rattle.jl_calculus.specs.Text.{value_text}
+use Rattle.jl_program.specs.Meaning.{datum}
+use Rattle.jl_program.specs.Measures.{nodes, nodes_all}
+use Rattle.jl_program.specs.Text.{value_text}
 use Rattle.jl_text.proofs.Joined.{rest}
 use Rattle.jl_text.proofs.values.+values.Given as goal
 

@@ -1,6 +1,6 @@
 use Rattle.std.proofs.Common.{◌≡◌, ◌+◌, ◌*◌, map, drop}
-use Rattle.jl_calculus.specs.Meaning.{datum}
-use Rattle.jl_calculus.specs.Measures.{nodes, nodes_all}
+use Rattle.jl_program.specs.Meaning.{datum}
+use Rattle.jl_program.specs.Measures.{nodes, nodes_all}
 use Rattle.jl_value.proofs.identity.+egal.Given as goal
 
 abbrev pub decreases-egal : goal.decreases-egal

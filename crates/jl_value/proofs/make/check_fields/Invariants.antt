@@ -3,7 +3,7 @@ use Rattle.jl_model.specs.Ancestors.{table_of}
 use Rattle.jl_model.specs.Kept.{field_types}
 use Rattle.jl_model.specs.Subtype.{opaque, put, at, Below}
 use Rattle.jl_model.specs.Signature.{Both}
-use Rattle.jl_calculus.specs.Run.{type_of}
+use Rattle.jl_program.specs.TypeOf.{type_of}
 use Rattle.jl_value.proofs.make.check_fields.Given as goal
 
 abbrev pub invariant-loop-i : goal.invariant-loop-i

@@ -2,7 +2,7 @@ use Rattle.std.proofs.Common.{◌≡◌, length, arith, sym, ap, subst, map}
 use Rattle.std.proofs.lemmas.Result.{IfErr-weaker}
 use Rattle.jl_model.specs.Kept.{field_types}
 use Rattle.jl_model.specs.Subtype.{put, at}
-use Rattle.jl_calculus.specs.Meaning.{datum}
+use Rattle.jl_program.specs.Meaning.{datum}
 use Rattle.jl_value.specs.Fields.{AreFieldTypes}
 use Rattle.jl_value.proofs.DeclaredFields.{declared_fields}
 use Rattle.jl_value.proofs.SettledLemmas.{nominal_arguments}

@@ -1,6 +1,6 @@
 use Rattle.std.proofs.Common.{◌≡◌, ◌+◌, ◌≤◌, ◌++◌, map, drop}
 use Rattle.jl_model.specs.Counts.{total, nodes}
-use Rattle.jl_calculus.specs.Run.{type_of}
+use Rattle.jl_program.specs.TypeOf.{type_of}
 use Rattle.jl_value.proofs.make.type_of_tuple.Given as goal
 
 abbrev pub invariant-loop-part : goal.invariant-loop-part

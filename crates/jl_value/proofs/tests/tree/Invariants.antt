@@ -1,4 +1,4 @@
-use Rattle.jl_calculus.specs.Meaning.{datum}
+use Rattle.jl_program.specs.Meaning.{datum}
 use Rattle.jl_value.specs.ValidValue.{IsValid}
 use Rattle.jl_value.specs.Samples.{sample_types}
 use Rattle.jl_value.proofs.tests.tree.Given as goal

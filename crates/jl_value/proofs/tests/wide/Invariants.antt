@@ -1,5 +1,5 @@
 use Rattle.std.proofs.Common.{map}
-use Rattle.jl_calculus.specs.Meaning.{datum}
+use Rattle.jl_program.specs.Meaning.{datum}
 use Rattle.jl_value.specs.ValidValue.{AllValid}
 use Rattle.jl_value.specs.Samples.{sample_types}
 use Rattle.jl_value.proofs.tests.wide.Given as goal

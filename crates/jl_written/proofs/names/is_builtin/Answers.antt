@@ -1,5 +1,5 @@
 use Rattle.std.proofs.Common.{◌∙◌, ap, map, Bor, List, ℕ}
-use Rattle.jl_calculus.specs.Names.{is_among}
+use Rattle.jl_program.specs.Names.{is_among}
 use Rattle.jl_written.proofs.names.is_builtin.Goals as goal
 
 pub returns : goal.returns

@@ -1,5 +1,5 @@
 use Rattle.std.proofs.Common.{◌≡◌, drop, map}
-use Rattle.jl_calculus.specs.Names.{is_among}
+use Rattle.jl_program.specs.Names.{is_among}
 use Rattle.jl_written.proofs.names.is_one_of.Given as goal
 
 abbrev pub invariant-loop-known : goal.invariant-loop-known

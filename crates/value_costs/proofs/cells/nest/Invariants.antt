@@ -1,4 +1,4 @@
-use Rattle.jl_calculus.specs.Meaning.{datum}
+use Rattle.jl_program.specs.Meaning.{datum}
 use Rattle.jl_value.specs.ValidValue.{IsValid}
 use Rattle.value_costs.specs.Cells.{cell_types}
 use Rattle.value_costs.proofs.cells.nest.Given as goal

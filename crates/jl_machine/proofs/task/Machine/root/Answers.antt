@@ -1,6 +1,6 @@
 use Rattle.std.proofs.Common.{◌∙◌, ap, refl}
-use Rattle.jl_calculus.specs.declared.value.Value.TheVariants as V
-use Rattle.jl_calculus.specs.declared.point.Work.TheVariants.{Items}
+use Rattle.jl_program.specs.declared.value.Value.TheVariants as V
+use Rattle.jl_machine.specs.declared.point.Work.TheVariants.{Items}
 use Rattle.jl_machine.proofs.SizeLemmas.{turns_few}
 use Rattle.jl_machine.proofs.task.Machine.root.Goals as goal
 

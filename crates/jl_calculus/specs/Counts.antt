@@ -1,9 +1,0 @@
-use Rattle.std.specs.Prelude.{ℕ, ◌≡◌, ◌-◌, ◌^◌, min, map}
-use Rattle.jl_calculus.specs.declared.value.Values.TheInside.{Inside}
-use Rattle.jl_calculus.specs.Meaning.{datum}
-use Rattle.jl_calculus.specs.Measures.{nodes_all, depth_all}
-
--- the counts are those of the items
-pub record HasCounts (a : Inside) : Type 0 where
-  pub nodes : a.nodes ≡ min (nodes_all (map datum a.items)) (2 ^ 64 - 1)
-  pub depth : a.depth ≡ min (depth_all (map datum a.items)) (2 ^ 64 - 1)

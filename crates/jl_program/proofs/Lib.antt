@@ -1,0 +1,15 @@
+pub mod CountLemmas
+pub mod Computing
+pub mod FirstNames
+pub mod PlainSigs
+pub mod SiteSigs
+pub mod AsciiNames
+pub mod FirstProgram
+pub mod FirstValid
+pub mod Invalid
+pub mod OtherValid
+pub mod ValidLayers
+pub mod FirstChoices
+pub mod OtherTexts
+pub mod OtherChoices
+pub mod OtherRows

@@ -1,0 +1,22 @@
+use Rattle.std.specs.Prelude.{ℕ, ◌≤◌, max, List, [], ◌∷◌, map}
+use Rattle.std.proofs.Common.{arith}
+use denote.Param.Weighed.{most}
+use Rattle.jl_program.specs.declared.value.Value.{Value}
+use Rattle.jl_program.specs.declared.value.Value.TheVariants.{Int, Bool, Nothing, Task, Tuple, Struct}
+use Rattle.jl_program.specs.declared.value.Values.TheDeep.{deep-Value}
+use Rattle.jl_program.specs.declared.datum.Datum.TheOpen as T
+use Rattle.jl_program.specs.declared.datum.Datum.TheFolds.{fold-roll-Datum}
+use Rattle.jl_program.specs.Meaning.{datum}
+use Rattle.jl_program.specs.Measures.{nodes, nodes_all, nodes_step}
+
+deep-le : (v : Value) → deep-Value v ≤ nodes (datum v)
+deep-le (Tuple t vs) = omega (arith, fold-roll-Datum ℕ nodes_step (T.Tuple t vs))
+deep-le (Struct t vs) = omega (arith, fold-roll-Datum ℕ nodes_step (T.Struct t vs))
+deep-le (Int n) = omega arith
+deep-le (Bool n) = omega arith
+deep-le Nothing = omega arith
+deep-le (Task n) = omega arith
+
+pub falls : (vs : List Value) → max (most deep-Value vs) 0 ≤ nodes_all (map datum vs)
+falls [] = omega arith
+falls (v ∷ vs) = omega (arith, deep-le v, falls vs)

@@ -1,0 +1,13 @@
+pub mod Measures
+pub mod Meaning
+pub mod Counts
+pub mod Falls
+pub mod Prelude
+pub mod Names
+pub mod Text
+pub mod BodyTypes
+pub mod Scope
+pub mod Gathered
+pub mod Valid
+pub mod TypeOf
+pub mod Chooses

@@ -1,0 +1,10 @@
+//! What a program is: its tree, its values, what may stand where in it, and how types, values and faults are written.
+#![tactic(auto)]
+
+pub mod choice;
+pub mod datum;
+pub mod fault;
+#[cfg(test)]
+mod tests;
+pub mod tree;
+pub mod value;
