@@ -11,3 +11,5 @@ pub mod Gathered
 pub mod Valid
 pub mod TypeOf
 pub mod Chooses
+pub mod ValidValue
+pub mod Making

@@ -1,4 +1,5 @@
-use Rattle.jl_program.specs.declared.datum.Datum.{Datum}
+use Rattle.jl_program.specs.declared.datum.Datum.{Datum, out-Datum}
+use Rattle.jl_program.specs.declared.datum.Datum.TheOpen.{Datum-F}
 use Rattle.jl_program.specs.declared.datum.Datum.TheOpen as T
 use Rattle.jl_program.specs.declared.datum.Datum.TheViews.{roll-Datum}
 use Rattle.jl_program.specs.declared.value.Value.{Value}
@@ -12,3 +13,16 @@ datum Nothing = roll-Datum T.Nothing
 datum (Task n) = roll-Datum (T.Task n)
 datum (Tuple t vs) = roll-Datum (T.Tuple t vs)
 datum (Struct t vs) = roll-Datum (T.Struct t vs)
+
+-- the value of such data
+abbrev pub value_of_layer : Datum-F Datum → Value
+value_of_layer (T.Int n) = Int n
+value_of_layer (T.Bool b) = Bool b
+value_of_layer T.Nothing = Nothing
+value_of_layer (T.Task n) = Task n
+value_of_layer (T.Tuple t vs) = Tuple t vs
+value_of_layer (T.Struct t vs) = Struct t vs
+
+-- the value that a contract sees as this; `datum` gives it back
+abbrev pub value_of : Datum → Value
+value_of d = value_of_layer (out-Datum d)

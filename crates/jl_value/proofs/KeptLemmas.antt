@@ -27,7 +27,7 @@ use Rattle.jl_program.specs.declared.value.Value.TheVariants as U
 use Rattle.jl_program.specs.Meaning.{datum}
 use Rattle.jl_program.specs.TypeOf.{type_of}
 use Rattle.jl_types.specs.Ground.{IsGround}
-use Rattle.jl_value.specs.ValidValue.{kept_step, kept_type, tuple_type, IsValueType, IsValid, AllValid, int, truth, nothing, task, tuple, made, none, more}
+use Rattle.jl_program.specs.ValidValue.{kept_step, kept_type, tuple_type, IsValueType, IsValid, AllValid, int, truth, nothing, task, tuple, made, none, more}
 use Rattle.jl_value.proofs.ValueLemmas.{form, out_datum}
 
 -- the type that a value keeps is its type

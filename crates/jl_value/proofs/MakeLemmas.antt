@@ -20,8 +20,9 @@ use Rattle.jl_program.specs.declared.value.Value.TheVariants as U
 use Rattle.jl_program.specs.Measures.{IsWithinLimits}
 use Rattle.jl_value.specs.declared.made.MakeFault.{MakeFault}
 use Rattle.jl_value.specs.declared.made.MakeFault.TheVariants.{TypeLimit, FieldCount, FieldType, ValueLimit, Memory}
-use Rattle.jl_value.specs.ValidValue.{kept_type, tuple_type, fields_in, fields_step, fields_of, IsStructType, AreOf, IsValid, AllValid, tuple, made}
-use Rattle.jl_value.specs.Answers.{IsTooLargeType, IsFirstOther, OtherCause, PartsCause}
+use Rattle.jl_program.specs.ValidValue.{kept_type, tuple_type, fields_in, fields_step, fields_of, IsStructType, AreOf, IsValid, AllValid, tuple, made}
+use Rattle.jl_program.specs.Making.{IsTooLargeType, IsFirstOther}
+use Rattle.jl_value.specs.Answers.{OtherCause, PartsCause}
 use Rattle.jl_value.proofs.ValueLemmas.{out_datum}
 use Rattle.jl_value.proofs.KeptLemmas.{kept_all}
 

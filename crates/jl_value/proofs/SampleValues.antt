@@ -21,7 +21,7 @@ use Rattle.jl_program.specs.declared.datum.Datum.{Datum}
 use Rattle.jl_program.specs.declared.value.Value.{Value}
 use Rattle.jl_program.specs.declared.value.Value.TheVariants as U
 use Rattle.jl_program.specs.Meaning.{datum}
-use Rattle.jl_value.specs.ValidValue.{IsStructType, is_declared_step, IsValid, AllValid, int, truth, nothing, task, none, more}
+use Rattle.jl_program.specs.ValidValue.{IsStructType, is_declared_step, IsValid, AllValid, int, truth, nothing, task, none, more}
 use Rattle.jl_value.specs.Samples.{sample_types}
 use Rattle.jl_value.proofs.ValueLemmas.{out_datum}
 use Rattle.jl_value.proofs.KeptLemmas.{concrete-nominal, closed_of}

@@ -15,19 +15,8 @@ use Rattle.jl_program.specs.Meaning.{datum}
 use Rattle.jl_program.specs.Measures.{IsWithinLimits}
 use Rattle.jl_value.specs.declared.made.MakeFault.{MakeFault}
 use Rattle.jl_value.specs.declared.made.MakeFault.TheVariants.{TypeLimit, FieldCount, FieldType, ValueLimit, Memory}
-use Rattle.jl_value.specs.ValidValue.{kept_type, tuple_type, fields_in, AreOf}
-
--- the tuple of these parts
-abbrev pub tuple_of : List Datum → Value
-tuple_of parts = Tuple (tuple_type parts) parts
-
--- the type of the tuple has too many nodes
-abbrev pub IsTooLargeType : List Datum → Type 0
-IsTooLargeType parts = 1024 < types.nodes (tuple_type parts)
-
--- the value is too deep, or has too many nodes
-abbrev pub IsTooLarge : Value → Type 0
-IsTooLarge v = IsWithinLimits (datum v) → ⊥
+use Rattle.jl_program.specs.Making.{tuple_of, IsTooLargeType, IsTooLarge, IsFirstOther}
+use Rattle.jl_program.specs.ValidValue.{kept_type, tuple_type, fields_in, AreOf}
 
 -- the cause of a fault of `tuple`
 abbrev pub TupleCause : List Datum → MakeFault → Type 0
@@ -36,12 +25,6 @@ TupleCause parts ValueLimit = (types.nodes (tuple_type parts) ≤ 1024) × IsToo
 TupleCause parts Memory = Unit {0}
 TupleCause parts FieldCount = ⊥
 TupleCause parts (FieldType _) = ⊥
-
--- part i is the first that is not of its field's type
-pub record IsFirstOther (ds : List Decl) (types fields : List Ty) (i : ℕ) : Type 0 where
-  pub inside : i < length fields
-  pub before : Both (Below (table_of ds) opaque) (take i types) (take i fields)
-  pub other : Below (table_of ds) opaque (get_or types i W.Any) (get_or fields i W.Any) → ⊥
 
 -- the cause of a fault of the test of the parts, where there are as many parts as fields
 abbrev pub OtherCause : List Decl → List Datum → List Ty → MakeFault → Type 0

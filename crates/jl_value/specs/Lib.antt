@@ -1,4 +1,3 @@
-pub mod ValidValue
 pub mod Fields
 pub mod Answers
 pub mod Samples

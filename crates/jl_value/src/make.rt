@@ -7,9 +7,10 @@ ghost use Rattle.jl_model.specs.Subtype.{put, at};
 ghost use Rattle.jl_program.specs.declared.value.Value.TheVariants.{Struct};
 ghost use Rattle.jl_program.specs.Meaning.{datum};
 ghost use Rattle.jl_program.specs.Measures.{IsWithinLimits};
-ghost use Rattle.jl_value.specs.ValidValue.{IsValid, AllValid, IsStructType, AreOf, tuple_type, fields_in};
+ghost use Rattle.jl_program.specs.ValidValue.{IsValid, AllValid, IsStructType, AreOf, tuple_type, fields_in};
 ghost use Rattle.jl_value.specs.Fields.{AreFieldTypes, AreArguments};
-ghost use Rattle.jl_value.specs.Answers.{tuple_of, IsTooLarge, TupleCause, OtherCause, PartsCause, StructCause};
+ghost use Rattle.jl_program.specs.Making.{tuple_of, IsTooLarge};
+ghost use Rattle.jl_value.specs.Answers.{TupleCause, OtherCause, PartsCause, StructCause};
 ghost use Rattle.jl_value.specs.declared.made.MakeFault.TheVariants.{ValueLimit};
 
 use crate::field::is_of;

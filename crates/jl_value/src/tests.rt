@@ -6,7 +6,7 @@ ghost use Rattle.jl_model.specs.Ancestors.{named, builtin_types};
 ghost use Rattle.jl_model.specs.Refusals.{IsReady};
 ghost use Rattle.jl_model.specs.Rows.{free};
 ghost use Rattle.jl_program.specs.Meaning.{datum};
-ghost use Rattle.jl_value.specs.ValidValue.{IsValid};
+ghost use Rattle.jl_program.specs.ValidValue.{IsValid};
 ghost use Rattle.jl_value.specs.Samples.{struct_decl, field_of, pair_decl, box_decl, square_decl, wood_decl, part_decl, sample_types};
 
 use crate::{MakeFault, construct, copy, egal, tuple, type_of};

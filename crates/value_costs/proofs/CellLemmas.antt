@@ -16,7 +16,7 @@ use Rattle.jl_program.specs.declared.datum.Datum.{Datum}
 use Rattle.jl_program.specs.declared.value.Value.{Value}
 use Rattle.jl_program.specs.declared.value.Value.TheVariants as U
 use Rattle.jl_program.specs.Meaning.{datum}
-use Rattle.jl_value.specs.ValidValue.{IsStructType, is_declared_step, IsValid, AllValid, int, nothing, none, more}
+use Rattle.jl_program.specs.ValidValue.{IsStructType, is_declared_step, IsValid, AllValid, int, nothing, none, more}
 use Rattle.jl_value.proofs.ValueLemmas.{out_datum}
 use Rattle.jl_value.proofs.KeptLemmas.{concrete-nominal, closed_of}
 use Rattle.jl_value.proofs.SampleLemmas.{pair_ready}

@@ -4,7 +4,7 @@
 ghost use Rattle.std.specs.Prelude.{◌≡◌, IfOk, map};
 ghost use Rattle.jl_model.specs.Ancestors.{named};
 ghost use Rattle.jl_program.specs.Meaning.{datum};
-ghost use Rattle.jl_value.specs.ValidValue.{IsValid, AllValid};
+ghost use Rattle.jl_program.specs.ValidValue.{IsValid, AllValid};
 ghost use Rattle.jl_model.specs.declared.ty.Ty.TheVariants.{Any};
 ghost use Rattle.jl_value.specs.Samples.{field_of, pair_decl};
 ghost use Rattle.value_costs.specs.Cells.{cell_types};

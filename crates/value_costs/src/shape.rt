@@ -2,7 +2,7 @@
 
 ghost use Rattle.std.specs.Prelude.{◌≡◌, IfOk};
 ghost use Rattle.jl_program.specs.Meaning.{datum};
-ghost use Rattle.jl_value.specs.ValidValue.{IsValid};
+ghost use Rattle.jl_program.specs.ValidValue.{IsValid};
 ghost use Rattle.value_costs.specs.Cells.{cell_types};
 
 use crate::cells::{list, nest, row};

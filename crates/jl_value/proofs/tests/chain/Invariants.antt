@@ -1,5 +1,5 @@
 use Rattle.jl_program.specs.Meaning.{datum}
-use Rattle.jl_value.specs.ValidValue.{IsValid}
+use Rattle.jl_program.specs.ValidValue.{IsValid}
 use Rattle.jl_value.specs.Samples.{sample_types}
 use Rattle.jl_value.proofs.tests.chain.Given as goal
 

@@ -1,5 +1,5 @@
 use Rattle.jl_program.specs.Meaning.{datum}
-use Rattle.jl_value.specs.ValidValue.{IsValid}
+use Rattle.jl_program.specs.ValidValue.{IsValid}
 use Rattle.value_costs.specs.Cells.{cell_types}
 use Rattle.value_costs.proofs.cells.nest.Given as goal
 
