@@ -111,8 +111,8 @@ plain_type (V.Int n) h = plain_named 4 refl
 plain_type (V.Bool b) h = plain_named 5 refl
 plain_type V.Nothing h = plain_named 6 refl
 plain_type (V.Task n) h = plain_named 7 refl
-plain_type (V.Tuple t vs) h = absurd (fails h)
-plain_type (V.Struct t vs) h = absurd (fails h)
+plain_type (V.Tuple c) h = absurd (fails h)
+plain_type (V.Struct c) h = absurd (fails h)
 
 pub plain_types : (vs : List Value) → Every is_plain_value vs → Every is_plain (map type_of vs)
 plain_types [] h = tt

@@ -16,8 +16,8 @@ Every test (x ∷ xs) = IsTrue (test x) × Every test xs
 
 -- a number, a truth value, `nothing` or a task
 abbrev pub is_plain_value : Value → Bool
-is_plain_value (V.Tuple t vs) = false
-is_plain_value (V.Struct t vs) = false
+is_plain_value (V.Tuple c) = false
+is_plain_value (V.Struct c) = false
 is_plain_value (V.Int n) = true
 is_plain_value (V.Bool b) = true
 is_plain_value V.Nothing = true

@@ -149,7 +149,7 @@ pub(crate) fn type_of(value: &Value) -> Result<Ty, AllocError>
         Value::Bool(_) => Ok(Ty::Nominal(5, SharedList::empty())),
         Value::Nothing => Ok(Ty::Nominal(6, SharedList::empty())),
         Value::Task(_) => Ok(Ty::Nominal(7, SharedList::empty())),
-        Value::Tuple(ty, _) | Value::Struct(ty, _) => ty.copy(),
+        Value::Tuple(made) | Value::Struct(made) => made.get().ty.copy(),
     }
 }
 

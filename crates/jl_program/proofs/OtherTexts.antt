@@ -53,13 +53,13 @@ box-of-variable = nominal-text 8 (T.Var 0 ∷ []) ∙ rw (variable-text 0) refl
 wood-text : type_text P (named 9) ≡ codes "Wood"
 wood-text = nominal-text 9 []
 
-box_value : value_text P (V.Struct (box_of int64) (datum (V.Int (pos 3)) ∷ [])) ≡ codes "Box{Int64}(3)"
+box_value : value_text P (V.Struct (record { ty = box_of int64; parts = datum (V.Int (pos 3)) ∷ [] })) ≡ codes "Box{Int64}(3)"
 unfolding digits
 box_value =
     fold-roll-Datum (List ℕ) (datum_step P) (D.Struct (box_of int64) (datum (V.Int (pos 3)) ∷ []))
     ∙ rw (box-text, fold-roll-Datum (List ℕ) (datum_step P) (D.Int (pos 3))) refl
 
-wood_value : value_text P (V.Struct (named 9) []) ≡ codes "Wood()"
+wood_value : value_text P (V.Struct (record { ty = named 9; parts = [] })) ≡ codes "Wood()"
 wood_value = fold-roll-Datum (List ℕ) (datum_step P) (D.Struct (named 9) []) ∙ rw wood-text refl
 
 field_type : fault_text P (F.FieldType (box_of int64) (codes "x") bool) ≡ codes "TypeError: field x of Box{Int64} got Bool"

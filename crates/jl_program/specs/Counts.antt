@@ -5,5 +5,5 @@ use Rattle.jl_program.specs.Measures.{nodes_all, depth_all}
 
 -- the counts are those of the items
 pub record HasCounts (a : Inside) : Type 0 where
-  pub nodes : a.nodes ≡ min (nodes_all (map datum a.items)) (2 ^ 64 - 1)
-  pub depth : a.depth ≡ min (depth_all (map datum a.items)) (2 ^ 64 - 1)
+  pub nodes : a.nodes ≡ min (nodes_all (map datum a.items.items)) (2 ^ 64 - 1)
+  pub depth : a.depth ≡ min (depth_all (map datum a.items.items)) (2 ^ 64 - 1)

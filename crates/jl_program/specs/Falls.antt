@@ -10,8 +10,8 @@ use Rattle.jl_program.specs.Meaning.{datum}
 use Rattle.jl_program.specs.Measures.{nodes, nodes_all, nodes_step}
 
 deep-le : (v : Value) → deep-Value v ≤ nodes (datum v)
-deep-le (Tuple t vs) = omega (arith, fold-roll-Datum ℕ nodes_step (T.Tuple t vs))
-deep-le (Struct t vs) = omega (arith, fold-roll-Datum ℕ nodes_step (T.Struct t vs))
+deep-le (Tuple c) = omega (arith, fold-roll-Datum ℕ nodes_step (T.Tuple c.ty c.parts))
+deep-le (Struct c) = omega (arith, fold-roll-Datum ℕ nodes_step (T.Struct c.ty c.parts))
 deep-le (Int n) = omega arith
 deep-le (Bool n) = omega arith
 deep-le Nothing = omega arith

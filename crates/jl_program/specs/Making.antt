@@ -9,14 +9,18 @@ use Rattle.jl_model.specs.Signature.{Both}
 use Rattle.jl_model.specs.Subtype.{opaque, Below}
 use Rattle.jl_program.specs.declared.datum.Datum.{Datum}
 use Rattle.jl_program.specs.declared.value.Value.{Value}
-use Rattle.jl_program.specs.declared.value.Value.TheVariants.{Tuple}
+use Rattle.jl_program.specs.declared.value.Value.TheVariants.{Tuple, Struct}
 use Rattle.jl_program.specs.Meaning.{datum}
 use Rattle.jl_program.specs.Measures.{IsWithinLimits}
 use Rattle.jl_program.specs.ValidValue.{tuple_type}
 
 -- the tuple of these parts
 abbrev pub tuple_of : List Datum → Value
-tuple_of parts = Tuple (tuple_type parts) parts
+tuple_of parts = Tuple (record { ty = tuple_type parts; parts = parts })
+
+-- the struct of this type with these parts
+abbrev pub struct_of : Ty → List Datum → Value
+struct_of t parts = Struct (record { ty = t; parts = parts })
 
 -- the type of the tuple has too many nodes
 abbrev pub IsTooLargeType : List Datum → Type 0

@@ -10,5 +10,5 @@ type_of (V.Int n) = named 4
 type_of (V.Bool b) = named 5
 type_of V.Nothing = named 6
 type_of (V.Task n) = named 7
-type_of (V.Tuple t vs) = t
-type_of (V.Struct t vs) = t
+type_of (V.Tuple c) = c.ty
+type_of (V.Struct c) = c.ty

@@ -4,7 +4,5 @@
 pub mod choice;
 pub mod datum;
 pub mod fault;
-#[cfg(test)]
-mod tests;
 pub mod tree;
 pub mod value;

@@ -1,17 +1,17 @@
-//! Values. A list of values keeps the number of nodes and the depth of its members, so that the limits of a tuple or a
-//! struct are two comparisons, and a copy costs one count.
+//! Values. A tuple or a struct is one shared node, so that a value has 16 bytes and a copy costs one count at most. A list of
+//! values keeps the number of nodes and the depth of its members, so that the limits of a value are two comparisons.
 
 ghost use Rattle.std.specs.Prelude.{◌≡◌, ℕ, ◌+◌, ◌^◌, ◌<◌, ◌≤◌, ◌-◌, map, List, IfOk, min};
 ghost use Rattle.jl_program.specs.Meaning.{datum};
 ghost use Rattle.jl_program.specs.Measures.{nodes, nodes_all, depth, depth_all};
 
 use jl_model::rows::Share;
-use jl_model::shared::SharedList;
+use jl_model::shared::SharedNode;
 use jl_model::ty::Ty;
 use std::alloc::{AllocError, Global};
 use std::marker::Model;
 
-/// A value. A tuple and a struct keep their concrete type beside their parts; a task stands by its number.
+/// A value. A task stands by its number.
 #[cycle(value)]
 #[derive(Drop)]
 pub enum Value {
@@ -19,15 +19,23 @@ pub enum Value {
     Bool(bool),
     Nothing,
     Task(u32),
-    Tuple(Ty, Values),
-    Struct(Ty, Values),
+    Tuple(SharedNode<Compound>),
+    Struct(SharedNode<Compound>),
 }
 
-/// A shared list of values, with the number of their nodes and their greatest depth.
+/// What a tuple or a struct is made of: its concrete type and its parts.
+#[cycle(value)]
+#[derive(Drop)]
+pub struct Compound {
+    pub ty: Ty,
+    pub parts: Values,
+}
+
+/// A list of values, with the number of their nodes and their greatest depth.
 #[cycle(value)]
 #[derive(Drop)]
 pub struct Values {
-    items: SharedList<Value>,
+    items: Vec<Value>,
     nodes: u64,
     depth: u64,
 }
@@ -46,7 +54,7 @@ impl Model for Values {
     ghost use Rattle.jl_program.specs.Counts.{HasCounts};
     ghost use Rattle.jl_program.specs.Measures.{nodes_all};
 
-    ghost view = { λ a. map datum a.items };
+    ghost view = { λ a. map datum a.items.items };
 
     ghost invariant = { HasCounts };
 
@@ -54,7 +62,18 @@ impl Model for Values {
 
     ghost use Rattle.jl_program.specs.Falls.{falls};
 
-    ghost size_decreases = { λ a h. falls a.items };
+    ghost size_decreases = { λ a h. falls a.items.items };
+}
+
+/// Equal values, whose parts are shared.
+fn copies(alloc: Global, items: &[Value]) -> Result<Vec<Value>, AllocError>
+    ensures { IfOk result (λ v. v.items ≡ items.now) }
+{
+    let mut copies = Vec::new(alloc);
+    for item in items {
+        copies.push(item.copy()?)?;
+    }
+    Ok(copies)
 }
 
 impl Values {
@@ -78,21 +97,20 @@ impl Values {
         self.items.as_slice()
     }
 
-    /// The same list, whose members are shared.
-    pub fn copy(&self) -> Result<Values, AllocError>
+    /// An equal list, whose members are shared.
+    pub fn copy(&self, alloc: Global) -> Result<Values, AllocError>
         ensures { IfOk result (λ c. c ≡ self.now) }
     {
-        let items = self.items.copy()?;
         Ok(Values {
-            items,
+            items: copies(alloc, self.items.as_slice())?,
             nodes: self.nodes,
             depth: self.depth,
         })
     }
 
-    /// The list of these values.
-    pub fn from_vec(alloc: Global, items: Vec<Value>) -> Result<Values, AllocError>
-        ensures { IfOk result (λ it. it ≡ map datum items.items) }
+    /// The list of these values. It takes no memory.
+    pub fn from_vec(items: Vec<Value>) -> Values
+        ensures { result ≡ map datum items.items }
     {
         let mut nodes: u64 = 0;
         let mut depth: u64 = 0;
@@ -100,12 +118,19 @@ impl Values {
             nodes = nodes.saturating_add(item.nodes());
             depth = depth.max(item.depth());
         }
-        Ok(Values {
-            items: SharedList::from_vec(alloc, items)?,
+        Values {
+            items,
             nodes,
             depth,
-        })
+        }
     }
+}
+
+/// The parts of a tuple or a struct.
+pub fn parts_of(made: &SharedNode<Compound>) -> &[Value]
+    ensures { map datum result.now ≡ made.now.parts }
+{
+    made.get().parts.as_slice()
 }
 
 #[tactic(auto, using(crate::proofs::CountLemmas::counts))]
@@ -115,7 +140,7 @@ impl Value {
         ensures { result ≡ min (nodes (datum self.now)) (2 ^ 64 - 1) }
     {
         match self {
-            Value::Tuple(_, parts) | Value::Struct(_, parts) => parts.nodes().saturating_add(1),
+            Value::Tuple(made) | Value::Struct(made) => made.get().parts.nodes().saturating_add(1),
             Value::Int(_) | Value::Bool(_) | Value::Nothing | Value::Task(_) => 1,
         }
     }
@@ -125,7 +150,7 @@ impl Value {
         ensures { result ≡ min (depth (datum self.now)) (2 ^ 64 - 1) }
     {
         match self {
-            Value::Tuple(_, parts) | Value::Struct(_, parts) => parts.depth().saturating_add(1),
+            Value::Tuple(made) | Value::Struct(made) => made.get().parts.depth().saturating_add(1),
             Value::Int(_) | Value::Bool(_) | Value::Nothing | Value::Task(_) => 1,
         }
     }
@@ -139,8 +164,8 @@ impl Value {
             Value::Bool(truth) => Ok(Value::Bool(*truth)),
             Value::Nothing => Ok(Value::Nothing),
             Value::Task(number) => Ok(Value::Task(*number)),
-            Value::Tuple(ty, parts) => Ok(Value::Tuple(ty.copy()?, parts.copy()?)),
-            Value::Struct(ty, parts) => Ok(Value::Struct(ty.copy()?, parts.copy()?)),
+            Value::Tuple(made) => Ok(Value::Tuple(made.copy()?)),
+            Value::Struct(made) => Ok(Value::Struct(made.copy()?)),
         }
     }
 }

@@ -1,10 +1,11 @@
 -- The texts of values of each form, and their nodes.
-use Rattle.std.proofs.Common.{◌≡◌, ℕ, ℤ, Bool, decimal, zero, suc, ◌+◌, ◌<◌, ◌≤◌, codes, List, [], ◌∷◌, ◌++◌, map, length, get_or, refl, ap, ◌∙◌, arith}
+use Rattle.std.proofs.Common.{◌≡◌, sym, ℕ, ℤ, Bool, decimal, zero, suc, ◌+◌, ◌<◌, ◌≤◌, codes, List, [], ◌∷◌, ◌++◌, map, length, get_or, refl, ap, ◌∙◌, arith}
 use Rattle.jl_model.specs.declared.ty.Ty.{Ty}
 use Rattle.jl_program.specs.declared.tree.Program.{Program}
 use Rattle.jl_program.specs.declared.datum.Datum.{Datum}
 use Rattle.jl_program.specs.declared.datum.Datum.TheOpen as D
 use Rattle.jl_program.specs.declared.datum.Datum.TheFolds.{fold-roll-Datum}
+use Rattle.jl_program.specs.declared.value.Compound.{Compound}
 use Rattle.jl_program.specs.declared.value.Value.{Value}
 use Rattle.jl_program.specs.declared.value.Value.TheVariants as V
 use Rattle.jl_program.specs.Meaning.{datum}
@@ -30,24 +31,27 @@ nothing-text P v e = rw e (fold-roll-Datum (List ℕ) (datum_step P) D.Nothing)
 pub task-text : (P : Program) (v : Value) (n : ℕ) → v ≡ V.Task n → value_text P v ≡ codes "Task(" ++ (decimal n ++ codes ")")
 task-text P v n e = rw e (fold-roll-Datum (List ℕ) (datum_step P) (D.Task n))
 
-pub tuple-text : (P : Program) (v : Value) (t : Ty) (ds : List Datum) (vs : List Value) → v ≡ V.Tuple t ds → map datum vs ≡ ds
+pub tuple-text : (P : Program) (v : Value) (c : Compound) (vs : List Value) → v ≡ V.Tuple c → map datum vs ≡ c.parts
     → value_text P v ≡ tuple_text (map (value_text P) vs)
-tuple-text P v t ds vs e m =
-    rw (e, ← m) (fold-roll-Datum (List ℕ) (datum_step P) (D.Tuple t (map datum vs)) ∙ ap tuple_text (texts-of P vs))
+tuple-text P v c vs e m =
+    rw e (fold-roll-Datum (List ℕ) (datum_step P) (D.Tuple c.ty c.parts) ∙ ap (λ ds. tuple_text (map (datum_text P) ds)) (sym m) ∙ ap tuple_text (texts-of P vs))
 
-pub struct-text : (P : Program) (v : Value) (t : Ty) (ds : List Datum) (vs : List Value) → v ≡ V.Struct t ds → map datum vs ≡ ds
-    → value_text P v ≡ type_text P t ++ in_parentheses (map (value_text P) vs)
-struct-text P v t ds vs e m =
-    rw (e, ← m) (fold-roll-Datum (List ℕ) (datum_step P) (D.Struct t (map datum vs)) ∙ ap (λ ts. type_text P t ++ in_parentheses ts) (texts-of P vs))
+pub struct-text : (P : Program) (v : Value) (c : Compound) (vs : List Value) → v ≡ V.Struct c → map datum vs ≡ c.parts
+    → value_text P v ≡ type_text P c.ty ++ in_parentheses (map (value_text P) vs)
+struct-text P v c vs e m =
+    rw e
+    (fold-roll-Datum (List ℕ) (datum_step P) (D.Struct c.ty c.parts)
+    ∙ ap (λ ds. type_text P c.ty ++ in_parentheses (map (datum_text P) ds)) (sym m)
+    ∙ ap (λ ts. type_text P c.ty ++ in_parentheses ts) (texts-of P vs))
 
 -- a tuple and a struct have one node more than their parts
-pub tuple-nodes : (v : Value) (t : Ty) (ds : List Datum) (vs : List Value) → v ≡ V.Tuple t ds → map datum vs ≡ ds
+pub tuple-nodes : (v : Value) (c : Compound) (vs : List Value) → v ≡ V.Tuple c → map datum vs ≡ c.parts
     → nodes (datum v) ≡ nodes_all (map datum vs) + 1
-tuple-nodes v t ds vs e m = rw (e, m) (fold-roll-Datum ℕ nodes_step (D.Tuple t ds))
+tuple-nodes v c vs e m = rw (e, m) (fold-roll-Datum ℕ nodes_step (D.Tuple c.ty c.parts))
 
-pub struct-nodes : (v : Value) (t : Ty) (ds : List Datum) (vs : List Value) → v ≡ V.Struct t ds → map datum vs ≡ ds
+pub struct-nodes : (v : Value) (c : Compound) (vs : List Value) → v ≡ V.Struct c → map datum vs ≡ c.parts
     → nodes (datum v) ≡ nodes_all (map datum vs) + 1
-struct-nodes v t ds vs e m = rw (e, m) (fold-roll-Datum ℕ nodes_step (D.Struct t ds))
+struct-nodes v c vs e m = rw (e, m) (fold-roll-Datum ℕ nodes_step (D.Struct c.ty c.parts))
 
 -- a member of a list has at most the nodes of the list
 pub node-at : (vs : List Value) (i : ℕ) (v : Value) → i < length vs → v ≡ get_or vs i v → nodes (datum v) ≤ nodes_all (map datum vs)

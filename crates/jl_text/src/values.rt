@@ -9,7 +9,7 @@ use crate::types::append_type;
 use jl_model::rows::Row;
 use jl_model::ty::Bytes;
 use jl_program::tree::Program;
-use jl_program::value::Value;
+use jl_program::value::{Value, parts_of};
 use std::alloc::{AllocError, Global};
 
 /// The text of a truth value.
@@ -82,10 +82,10 @@ pub fn append_value(out: &mut Row<u8>, program: &Program, value: &Value) -> Resu
         Value::Bool(truth) => out.append(truth_text(*truth)),
         Value::Nothing => out.append(b"nothing"),
         Value::Task(task) => append_task(out, *task),
-        Value::Tuple(_, parts) => append_tuple(out, program, parts.as_slice()),
-        Value::Struct(ty, fields) => {
-            append_type(out, program, ty)?;
-            append_fields(out, program, fields.as_slice())
+        Value::Tuple(made) => append_tuple(out, program, parts_of(made)),
+        Value::Struct(made) => {
+            append_type(out, program, &made.get().ty)?;
+            append_fields(out, program, parts_of(made))
         }
     }
 }

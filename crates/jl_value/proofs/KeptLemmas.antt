@@ -36,8 +36,8 @@ kept_form (U.Int n) = refl
 kept_form (U.Bool b) = refl
 kept_form U.Nothing = refl
 kept_form (U.Task n) = refl
-kept_form (U.Tuple t vs) = refl
-kept_form (U.Struct t vs) = refl
+kept_form (U.Tuple c) = refl
+kept_form (U.Struct c) = refl
 
 pub kept_is : (v : Value) → kept_type (datum v) ≡ type_of v
 kept_is v = ap kept_step (out_datum v) ∙ kept_form v

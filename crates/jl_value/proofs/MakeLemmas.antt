@@ -13,6 +13,7 @@ use Rattle.jl_model.specs.Signature.{Both, both_end, both_more}
 use Rattle.jl_model.specs.Subtype.{opaque, put, at, Below}
 use Rattle.jl_model.proofs.CountLemmas.{nodes-tuple}
 use Rattle.jl_program.specs.declared.datum.Datum.{Datum}
+use Rattle.jl_program.specs.declared.value.Compound.{Compound}
 use Rattle.jl_program.specs.declared.value.Value.{Value}
 use Rattle.jl_program.specs.Meaning.{datum}
 use Rattle.jl_program.specs.TypeOf.{type_of}
@@ -160,14 +161,25 @@ other_parts ds parts fields all TypeLimit long e h = absurd h
 other_parts ds parts fields all FieldCount long e h = absurd h
 other_parts ds parts fields all ValueLimit long e h = absurd h
 
-pub tuple_valid : (ds : List Decl) (t : Ty) (parts : List Datum) (vs : List Value) → map datum vs ≡ parts → AllValid ds parts → t ≡ tuple_type (map datum vs) → nodes t ≤ 1024 → IsWithinLimits (datum (U.Tuple t parts))
-    → IsValid ds (datum (U.Tuple t parts))
-tuple_valid ds t parts vs m a e s w = tuple (datum (U.Tuple t parts)) t parts (out_datum (U.Tuple t parts)) a (e ∙ ap tuple_type m) s w
+pub tuple_valid : (ds : List Decl) (t : Ty) (parts : List Datum) (vs : List Value) → map datum vs ≡ parts → AllValid ds parts → t ≡ tuple_type (map datum vs) → nodes t ≤ 1024 → IsWithinLimits (datum (U.Tuple (record { ty = t; parts = parts })))
+    → IsValid ds (datum (U.Tuple (record { ty = t; parts = parts })))
+tuple_valid ds t parts vs m a e s w = tuple (datum (U.Tuple (record { ty = t; parts = parts }))) t parts (out_datum (U.Tuple (record { ty = t; parts = parts }))) a (e ∙ ap tuple_type m) s w
 
 pub struct_valid : (ds : List Decl) (t u : Ty) (parts : List Datum) (vs : List Value) → map datum vs ≡ parts → u ≡ t → AllValid ds parts → IsStructType ds t → AreOf ds (map datum vs) (fields_in ds t)
-    → IsWithinLimits (datum (U.Struct u parts)) → IsValid ds (datum (U.Struct u parts))
+    → IsWithinLimits (datum (U.Struct (record { ty = u; parts = parts }))) → IsValid ds (datum (U.Struct (record { ty = u; parts = parts })))
 struct_valid ds t u parts vs m e a s o w =
-    let v = U.Struct u parts in
+    let v = U.Struct (record { ty = u; parts = parts }) in
     let s2 = subst (IsStructType ds) (sym e) s in
     let o2 = subst (λ z. AreOf ds (map datum vs) (fields_in ds z)) (sym e) o in
     made (datum v) u parts (out_datum v) a s2 (subst (λ z. AreOf ds z (fields_in ds u)) m o2) w
+
+-- the same of what is kept in the shared node
+pub tuple_made : (ds : List Decl) (c : Compound) (t : Ty) (parts : List Datum) (vs : List Value) → c ≡ record { ty = t; parts = parts } → map datum vs ≡ parts → AllValid ds parts → t ≡ tuple_type (map datum vs) → nodes t ≤ 1024
+    → IsWithinLimits (datum (U.Tuple c)) → IsValid ds (datum (U.Tuple c))
+tuple_made ds c t parts vs k m a e s w =
+    subst (λ z. IsValid ds (datum (U.Tuple z))) (sym k) (tuple_valid ds t parts vs m a e s (subst (λ z. IsWithinLimits (datum (U.Tuple z))) k w))
+
+pub struct_made : (ds : List Decl) (c : Compound) (t u : Ty) (parts : List Datum) (vs : List Value) → c ≡ record { ty = u; parts = parts } → map datum vs ≡ parts → u ≡ t → AllValid ds parts → IsStructType ds t → AreOf ds (map datum vs) (fields_in ds t)
+    → IsWithinLimits (datum (U.Struct c)) → IsValid ds (datum (U.Struct c))
+struct_made ds c t u parts vs k m e a s o w =
+    subst (λ z. IsValid ds (datum (U.Struct z))) (sym k) (struct_valid ds t u parts vs m e a s o (subst (λ z. IsWithinLimits (datum (U.Struct z))) k w))

@@ -7,9 +7,10 @@ use Rattle.jl_program.specs.declared.datum.Datum.TheOpen.{Datum-F}
 use Rattle.jl_program.specs.declared.datum.Datum.TheOpen as D
 use Rattle.jl_program.specs.declared.datum.Datum.TheViews.{roll-Datum, out-roll-Datum}
 use Rattle.jl_program.specs.declared.datum.Datum.TheFolds.{fold-roll-Datum}
+use Rattle.jl_program.specs.declared.value.Compound.{Compound}
 use Rattle.jl_program.specs.declared.value.Value.{Value}
 use Rattle.jl_program.specs.declared.value.Value.TheVariants as V
-use Rattle.jl_program.specs.Meaning.{datum}
+use Rattle.jl_program.specs.Meaning.{datum, value_of_layer}
 use Rattle.jl_program.specs.Measures.{nodes, nodes_all, nodes_step}
 
 -- the outermost form of a value
@@ -18,49 +19,38 @@ form (V.Int n) = D.Int n
 form (V.Bool b) = D.Bool b
 form V.Nothing = D.Nothing
 form (V.Task n) = D.Task n
-form (V.Tuple t vs) = D.Tuple t vs
-form (V.Struct t vs) = D.Struct t vs
-
--- the value of an outermost form
-abbrev pub value : Datum-F Datum → Value
-value (D.Int n) = V.Int n
-value (D.Bool b) = V.Bool b
-value D.Nothing = V.Nothing
-value (D.Task n) = V.Task n
-value (D.Tuple t vs) = V.Tuple t vs
-value (D.Struct t vs) = V.Struct t vs
+form (V.Tuple c) = D.Tuple c.ty c.parts
+form (V.Struct c) = D.Struct c.ty c.parts
 
 datum_is : (v : Value) → datum v ≡ roll-Datum (form v)
 datum_is (V.Int n) = refl
 datum_is (V.Bool b) = refl
 datum_is V.Nothing = refl
 datum_is (V.Task n) = refl
-datum_is (V.Tuple t vs) = refl
-datum_is (V.Struct t vs) = refl
+datum_is (V.Tuple c) = refl
+datum_is (V.Struct c) = refl
 
-value_is : (v : Value) → value (form v) ≡ v
+value_is : (v : Value) → value_of_layer (form v) ≡ v
 value_is (V.Int n) = refl
 value_is (V.Bool b) = refl
 value_is V.Nothing = refl
 value_is (V.Task n) = refl
-value_is (V.Tuple t vs) = refl
-value_is (V.Struct t vs) = refl
+value_is (V.Tuple c) = refl
+value_is (V.Struct c) = refl
 
 pub out_datum : (v : Value) → out-Datum (datum v) ≡ form v
 out_datum v = ap out-Datum (datum_is v) ∙ out-roll-Datum (form v)
 
 -- values that mean the same are the same
 pub same_value : (a b : Value) → datum a ≡ datum b → a ≡ b
-same_value a b e = sym (value_is a) ∙ ap value (sym (out_datum a) ∙ ap out-Datum e ∙ out_datum b) ∙ value_is b
+same_value a b e = sym (value_is a) ∙ ap value_of_layer (sym (out_datum a) ∙ ap out-Datum e ∙ out_datum b) ∙ value_is b
 
 -- a tuple and a struct have one node more than their parts
-pub tuple-nodes : (v : Value) (t : Ty) (ds : List Datum) (vs : List Value) → v ≡ V.Tuple t ds → map datum vs ≡ ds
-    → nodes (datum v) ≡ nodes_all (map datum vs) + 1
-tuple-nodes v t ds vs e m = rw (e, m) (fold-roll-Datum ℕ nodes_step (D.Tuple t ds))
+pub tuple-nodes : (v : Value) (c : Compound) → v ≡ V.Tuple c → nodes (datum v) ≡ nodes_all c.parts + 1
+tuple-nodes v c e = rw e (fold-roll-Datum ℕ nodes_step (D.Tuple c.ty c.parts))
 
-pub struct-nodes : (v : Value) (t : Ty) (ds : List Datum) (vs : List Value) → v ≡ V.Struct t ds → map datum vs ≡ ds
-    → nodes (datum v) ≡ nodes_all (map datum vs) + 1
-struct-nodes v t ds vs e m = rw (e, m) (fold-roll-Datum ℕ nodes_step (D.Struct t ds))
+pub struct-nodes : (v : Value) (c : Compound) → v ≡ V.Struct c → nodes (datum v) ≡ nodes_all c.parts + 1
+struct-nodes v c e = rw e (fold-roll-Datum ℕ nodes_step (D.Struct c.ty c.parts))
 
 -- a member of a list has at most the nodes of the list
 pub node-at : (vs : List Value) (i : ℕ) (v : Value) → i < length vs → v ≡ get_or vs i v → nodes (datum v) ≤ nodes_all (map datum vs)
@@ -125,43 +115,39 @@ task_case a b m n e f = (
 )
 
 -- the same type and the same parts
-pub tuple_case : (a b : Value) (t u : Ty) (ds es : List Datum) (vs ws : List Value) (r : Bool) → a ≡ V.Tuple t ds → b ≡ V.Tuple u es → t ≡ u → map datum vs ≡ ds → map datum ws ≡ es
-    → Tells r (map datum vs ≡ map datum ws) → Tells r (datum a ≡ datum b)
-tuple_case a b t u ds es vs ws r e f s p q h = (
-  (λ c. let k : ds ≡ es = sym p ∙ h.0 c ∙ q in ap datum (e ∙ ap (λ z. V.Tuple z ds) s ∙ ap (λ z. V.Tuple u z) k ∙ sym f)),
-  (λ c.
-      let g : D.Tuple t ds ≡ D.Tuple u es = sym (ap form e) ∙ ap form (same_value a b c) ∙ ap form f in
-      let k : ds ≡ es = cc in
-      h.1 (p ∙ k ∙ sym q)),
-)
+same_compound : (a b : Compound) → a.ty ≡ b.ty → a.parts ≡ b.parts → a ≡ b
+same_compound a b e f = ap (λ (z : Ty). let c : Compound = record { ty = z; parts = a.parts } in c) e ∙ ap (λ (z : List Datum). let c : Compound = record { ty = b.ty; parts = z } in c) f
 
-pub struct_case : (a b : Value) (t u : Ty) (ds es : List Datum) (vs ws : List Value) (r : Bool) → a ≡ V.Struct t ds → b ≡ V.Struct u es → t ≡ u → map datum vs ≡ ds → map datum ws ≡ es
-    → Tells r (map datum vs ≡ map datum ws) → Tells r (datum a ≡ datum b)
-struct_case a b t u ds es vs ws r e f s p q h = (
-  (λ c. let k : ds ≡ es = sym p ∙ h.0 c ∙ q in ap datum (e ∙ ap (λ z. V.Struct z ds) s ∙ ap (λ z. V.Struct u z) k ∙ sym f)),
-  (λ c.
-      let g : D.Struct t ds ≡ D.Struct u es = sym (ap form e) ∙ ap form (same_value a b c) ∙ ap form f in
-      let k : ds ≡ es = cc in
-      h.1 (p ∙ k ∙ sym q)),
+pub compound_case : (a b : Compound) (vs ws : List Value) (r : Bool) → a.ty ≡ b.ty → map datum vs ≡ a.parts → map datum ws ≡ b.parts
+    → Tells r (map datum vs ≡ map datum ws) → Tells r (a ≡ b)
+compound_case a b vs ws r s p q h = (
+  (λ c. same_compound a b s (sym p ∙ h.0 c ∙ q)),
+  (λ c. h.1 (p ∙ ap (λ (z : Compound). z.parts) c ∙ sym q)),
 )
 
 -- another type
-pub tuple_other : (a b : Value) (t u : Ty) (ds es : List Datum) (r : Bool) → a ≡ V.Tuple t ds → b ≡ V.Tuple u es → (t ≡ u → r ≡ true) → r ≡ false → Tells r (datum a ≡ datum b)
-tuple_other a b t u ds es r e f s o = (
+pub compound_other : (a b : Compound) (r : Bool) → (a.ty ≡ b.ty → r ≡ true) → r ≡ false → Tells r (a ≡ b)
+compound_other a b r s o = (
   (λ c. let k : false ≡ true = sym o ∙ c in cc),
-  (λ c.
-      let g : D.Tuple t ds ≡ D.Tuple u es = sym (ap form e) ∙ ap form (same_value a b c) ∙ ap form f in
-      let k : t ≡ u = cc in
-      s k),
+  (λ c. s (ap (λ (z : Compound). z.ty) c)),
 )
 
-pub struct_other : (a b : Value) (t u : Ty) (ds es : List Datum) (r : Bool) → a ≡ V.Struct t ds → b ≡ V.Struct u es → (t ≡ u → r ≡ true) → r ≡ false → Tells r (datum a ≡ datum b)
-struct_other a b t u ds es r e f s o = (
-  (λ c. let k : false ≡ true = sym o ∙ c in cc),
-  (λ c.
-      let g : D.Struct t ds ≡ D.Struct u es = sym (ap form e) ∙ ap form (same_value a b c) ∙ ap form f in
-      let k : t ≡ u = cc in
-      s k),
+pub tuple_case : (a b : Value) (c d x y : Compound) (r : Bool) → a ≡ V.Tuple c → b ≡ V.Tuple d → x ≡ c → y ≡ d → Tells r (x ≡ y) → Tells r (datum a ≡ datum b)
+tuple_case a b c d x y r e f p q t = (
+  (λ h. ap datum (e ∙ ap (λ (z : Compound). V.Tuple z) (sym p ∙ t.0 h ∙ q) ∙ sym f)),
+  (λ h.
+      let g : V.Tuple c ≡ V.Tuple d = sym e ∙ same_value a b h ∙ f in
+      let k : c ≡ d = cc in
+      t.1 (p ∙ k ∙ sym q)),
+)
+
+pub struct_case : (a b : Value) (c d x y : Compound) (r : Bool) → a ≡ V.Struct c → b ≡ V.Struct d → x ≡ c → y ≡ d → Tells r (x ≡ y) → Tells r (datum a ≡ datum b)
+struct_case a b c d x y r e f p q t = (
+  (λ h. ap datum (e ∙ ap (λ (z : Compound). V.Struct z) (sym p ∙ t.0 h ∙ q) ∙ sym f)),
+  (λ h.
+      let g : V.Struct c ≡ V.Struct d = sym e ∙ same_value a b h ∙ f in
+      let k : c ≡ d = cc in
+      t.1 (p ∙ k ∙ sym q)),
 )
 
 pub ruleset alike = (alike_at, tuple-nodes, struct-nodes, node-at, same_value)

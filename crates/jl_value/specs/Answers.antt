@@ -10,12 +10,11 @@ use Rattle.jl_model.specs.Signature.{Both}
 use Rattle.jl_model.specs.Subtype.{opaque, Below}
 use Rattle.jl_program.specs.declared.datum.Datum.{Datum}
 use Rattle.jl_program.specs.declared.value.Value.{Value}
-use Rattle.jl_program.specs.declared.value.Value.TheVariants.{Tuple, Struct}
 use Rattle.jl_program.specs.Meaning.{datum}
 use Rattle.jl_program.specs.Measures.{IsWithinLimits}
 use Rattle.jl_value.specs.declared.made.MakeFault.{MakeFault}
 use Rattle.jl_value.specs.declared.made.MakeFault.TheVariants.{TypeLimit, FieldCount, FieldType, ValueLimit, Memory}
-use Rattle.jl_program.specs.Making.{tuple_of, IsTooLargeType, IsTooLarge, IsFirstOther}
+use Rattle.jl_program.specs.Making.{tuple_of, struct_of, IsTooLargeType, IsTooLarge, IsFirstOther}
 use Rattle.jl_program.specs.ValidValue.{kept_type, tuple_type, fields_in, AreOf}
 
 -- the cause of a fault of `tuple`
@@ -44,7 +43,7 @@ PartsCause ds parts fields ValueLimit = ⊥
 
 -- the cause of a fault of `construct`
 abbrev pub StructCause : List Decl → Ty → List Datum → MakeFault → Type 0
-StructCause ds t parts ValueLimit = AreOf ds parts (fields_in ds t) × IsTooLarge (Struct t parts)
+StructCause ds t parts ValueLimit = AreOf ds parts (fields_in ds t) × IsTooLarge (struct_of t parts)
 StructCause ds t parts FieldCount = PartsCause ds parts (fields_in ds t) FieldCount
 StructCause ds t parts (FieldType i) = PartsCause ds parts (fields_in ds t) (FieldType i)
 StructCause ds t parts Memory = Unit {0}

@@ -3,7 +3,7 @@
 ghost use Rattle.std.specs.Prelude.{◌≡◌, IsTrue, ◌↔◌, IfOk, map};
 ghost use Rattle.jl_program.specs.Meaning.{datum};
 
-use jl_program::value::Value;
+use jl_program::value::{Compound, Value};
 use jl_types::same::same;
 use std::alloc::AllocError;
 
@@ -22,6 +22,15 @@ fn egal_all(xs: &[Value], ys: &[Value]) -> bool
         }
     }
     true
+}
+
+/// Whether two tuples, or two structs, are of one type and have the same parts.
+#[cycle(egal)]
+#[tactic(auto, using(crate::proofs::ValueLemmas::alike))]
+fn egal_compounds(a: &Compound, b: &Compound) -> bool
+    ensures { IsTrue result ↔ (a.now ≡ b.now) }
+{
+    same(&a.ty, &b.ty) && egal_all(a.parts.as_slice(), b.parts.as_slice())
 }
 
 /// Whether two values can't be told apart: they are of one type and have the same parts. Tasks are compared by their
@@ -48,12 +57,12 @@ pub fn egal(a: &Value, b: &Value) -> bool
             Value::Task(n) => m == n,
             _ => false,
         },
-        Value::Tuple(t, xs) => match b {
-            Value::Tuple(u, ys) => same(t, u) && egal_all(xs.as_slice(), ys.as_slice()),
+        Value::Tuple(x) => match b {
+            Value::Tuple(y) => egal_compounds(x.get(), y.get()),
             _ => false,
         },
-        Value::Struct(t, xs) => match b {
-            Value::Struct(u, ys) => same(t, u) && egal_all(xs.as_slice(), ys.as_slice()),
+        Value::Struct(x) => match b {
+            Value::Struct(y) => egal_compounds(x.get(), y.get()),
             _ => false,
         },
     }

@@ -25,7 +25,6 @@ pub fn type_of(value: &Value) -> Result<Ty, AllocError>
         Value::Bool(_) => Ok(named(5)),
         Value::Nothing => Ok(named(6)),
         Value::Task(_) => Ok(named(7)),
-        Value::Tuple(ty, _) => ty.copy(),
-        Value::Struct(ty, _) => ty.copy(),
+        Value::Tuple(made) | Value::Struct(made) => made.get().ty.copy(),
     }
 }

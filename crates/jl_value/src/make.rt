@@ -4,20 +4,20 @@ ghost use Rattle.std.specs.Prelude.{◌≡◌, ◌≤◌, ◌<◌, ◌^◌, IfOk
 ghost use Rattle.jl_model.specs.Counts.{nodes};
 ghost use Rattle.jl_model.specs.Kept.{field_types};
 ghost use Rattle.jl_model.specs.Subtype.{put, at};
-ghost use Rattle.jl_program.specs.declared.value.Value.TheVariants.{Struct};
 ghost use Rattle.jl_program.specs.Meaning.{datum};
 ghost use Rattle.jl_program.specs.Measures.{IsWithinLimits};
 ghost use Rattle.jl_program.specs.ValidValue.{IsValid, AllValid, IsStructType, AreOf, tuple_type, fields_in};
 ghost use Rattle.jl_value.specs.Fields.{AreFieldTypes, AreArguments};
-ghost use Rattle.jl_program.specs.Making.{tuple_of, IsTooLarge};
+ghost use Rattle.jl_program.specs.Making.{tuple_of, struct_of, IsTooLarge};
 ghost use Rattle.jl_value.specs.Answers.{TupleCause, OtherCause, PartsCause, StructCause};
 ghost use Rattle.jl_value.specs.declared.made.MakeFault.TheVariants.{ValueLimit};
 
 use crate::field::is_of;
 use crate::kept::type_of;
 use crate::made::MakeFault;
+use jl_model::shared::SharedNode;
 use jl_model::ty::{Field, Ty, Tys};
-use jl_program::value::{Value, Values};
+use jl_program::value::{Compound, Value, Values};
 use jl_types::Table;
 use jl_types::count::{MOST_NODES as MOST_TYPE_NODES, nodes_within};
 use std::alloc::{AllocError, Global};
@@ -70,7 +70,8 @@ pub fn tuple(alloc: Global, table: &Table, parts: Values) -> Result<Value, MakeF
 {
     table.valid();
     let ty = type_of_tuple(alloc, parts.as_slice())?;
-    within_limits(Value::Tuple(ty, parts))
+    let made = SharedNode::new(alloc, Compound { ty, parts })?;
+    within_limits(Value::Tuple(made))
 }
 
 /// Tests each part for its field's type.
@@ -124,10 +125,12 @@ fn check_parts(alloc: Global, table: &Table, ty: &Ty, parts: &[Value]) -> Result
 pub fn construct(alloc: Global, table: &Table, ty: &Ty, parts: Values) -> Result<Value, MakeFault>
     requires struct_type { IsStructType table.now ty.now }
     requires parts_valid { AllValid table.now parts }
-    ensures made { IfOk result (λ v. v ≡ Struct ty.now parts) }
+    ensures made { IfOk result (λ v. v ≡ struct_of ty.now parts) }
     ensures valid { IfOk result (λ v. IsValid table.now (datum v)) }
     ensures fault { IfErr result (StructCause table.now ty.now parts) }
 {
     check_parts(alloc, table, ty, parts.as_slice())?;
-    within_limits(Value::Struct(ty.copy()?, parts))
+    let ty = ty.copy()?;
+    let made = SharedNode::new(alloc, Compound { ty, parts })?;
+    within_limits(Value::Struct(made))
 }

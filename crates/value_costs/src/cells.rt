@@ -65,7 +65,7 @@ fn cell(alloc: Global, table: &Table, head: Value, tail: Value) -> Result<Value,
     requires tail_valid { IsValid cell_types (datum tail) }
     ensures { IfOk result (λ v. IsValid cell_types (datum v)) }
 {
-    let parts = Values::from_vec(alloc, vec![in alloc; head, tail]?)?;
+    let parts = Values::from_vec(vec![in alloc; head, tail]?);
     construct(alloc, table, &cell_type(), parts)
 }
 
@@ -116,7 +116,7 @@ pub fn row(
     for _ in 0..numbers {
         parts.push(Value::Int(end))?;
     }
-    tuple(alloc, table, Values::from_vec(alloc, parts)?)
+    tuple(alloc, table, Values::from_vec(parts))
 }
 
 /// Tuples of one part in one another, so many, of which the innermost is `(end,)`.
@@ -126,7 +126,7 @@ pub fn nest(alloc: Global, table: &Table, tuples: u32, end: i64) -> Result<Value
 {
     let mut value = Value::Int(end);
     for _ in 0..tuples {
-        let parts = Values::from_vec(alloc, vec![in alloc; value]?)?;
+        let parts = Values::from_vec(vec![in alloc; value]?);
         value = tuple(alloc, table, parts)?;
     }
     Ok(value)

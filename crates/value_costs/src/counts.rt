@@ -1,6 +1,6 @@
 //! What is counted of a value.
 
-use jl_program::value::Value;
+use jl_program::value::{Value, parts_of};
 use jl_types::count::nodes_within;
 use jl_value::{copy, egal, type_of};
 use std::alloc::AllocError;
@@ -40,7 +40,7 @@ impl fmt::Display for Counts {
 /// The parts of a tuple or a cell.
 fn parts(value: &Value) -> &[Value] {
     match value {
-        Value::Tuple(_, parts) | Value::Struct(_, parts) => parts.as_slice(),
+        Value::Tuple(made) | Value::Struct(made) => parts_of(made),
         Value::Int(_) | Value::Bool(_) | Value::Nothing | Value::Task(_) => &[],
     }
 }
@@ -50,7 +50,7 @@ fn length(list: &Value) -> u64 {
     let mut rest = list;
     for length in 0..MANY {
         match rest {
-            Value::Struct(_, parts) => match parts.as_slice() {
+            Value::Struct(made) => match parts_of(made) {
                 [_, tail] => rest = tail,
                 _ => return length,
             },
@@ -63,9 +63,9 @@ fn length(list: &Value) -> u64 {
 /// How many cells a list has, or the lists in a tuple.
 fn cells(value: &Value) -> u64 {
     match value {
-        Value::Tuple(_, parts) => {
+        Value::Tuple(made) => {
             let mut sum: u64 = 0;
-            for part in parts.as_slice() {
+            for part in parts_of(made) {
                 sum = sum.saturating_add(length(part));
             }
             sum

@@ -1,4 +1,5 @@
-use Rattle.std.proofs.Common.{◌≡◌, map, rules, to_z, of_z, w64}
+use Rattle.std.proofs.Common.{◌≡◌, ◌++◌, map, rules, subst, to_z, of_z, w64}
+use Rattle.jl_program.specs.declared.value.Compound.{Compound}
 use Rattle.jl_program.specs.Text.{type_text, value_text, in_parentheses}
 use Rattle.jl_text.proofs.PieceLemmas.{after-one}
 use Rattle.jl_text.proofs.ValueTexts.{int-text, bool-text, nothing-text, task-text, struct-text}
@@ -22,8 +23,8 @@ append_value-returns-in-Task t c = rw (task-text c.args.program.now c.args.value
 pub append_value-returns-in_ok-append_type-in-Struct : goal.append_value-returns-in_ok-append_type-in-Struct
 append_value-returns-in_ok-append_type-in-Struct t c =
     let P = c.args.program.now in
-    let s = c.in-Struct in
-    let parts = c.as_slice-in-Struct in
-    rw (struct-text P c.args.value.now s.ty s.fields parts.result.now s.is parts.ensures)
+    let made = c.in-Struct.made in
+    let parts = c.parts_of-in-Struct in
+    rw (struct-text P c.args.value.now made parts.result.now c.in-Struct.is parts.ensures)
     (after-one c.append_fields.result c.args.out.now c.append_fields.new.out c.append_type.new.out
-    (type_text P s.ty) (in_parentheses (map (value_text P) parts.result.now)) c.in_ok-append_type-in-Struct.ensures c.append_fields.ensures)
+    (type_text P made.ty) (in_parentheses (map (value_text P) parts.result.now)) (subst (λ (z : Compound). c.append_type.new.out ≡ c.args.out.now ++ type_text P z.ty) c.get.ensures c.in_ok-append_type-in-Struct.ensures) c.append_fields.ensures)

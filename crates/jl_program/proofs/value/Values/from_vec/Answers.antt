@@ -1,4 +1,4 @@
-use Rattle.std.proofs.Common.{◌≡◌, ◌∙◌, sym, ap, map, drop, arith, [], List}
+use Rattle.std.proofs.Common.{◌≡◌, sym, ap, map, drop, arith, [], List}
 use Rattle.std.proofs.lemmas.List.{drop_all}
 use Rattle.jl_program.specs.declared.value.Value.{Value}
 use Rattle.jl_program.specs.Meaning.{datum}
@@ -9,7 +9,7 @@ pub invariant_of-result : goal.invariant_of-result
 invariant_of-result c =
     let items = c.as_slice-item-items.result.now in
     let done : drop c.loop-item.item-index items ≡ [] = drop_all _ _ c.loop-item-test.false in
-    let same : c.in_ok-from_vec.field-0 ≡ items = c.in_ok-from_vec.ensures ∙ sym c.as_slice-item-items.ensures.value in
+    let same : c.args.items.items ≡ items = sym c.as_slice-item-items.ensures.value in
     let nodes_of = λ (z : List Value). nodes_all (map datum z) in
     let depth_of = λ (z : List Value). depth_all (map datum z) in
     record {
