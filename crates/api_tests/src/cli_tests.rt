@@ -55,6 +55,39 @@ fn bytes_that_are_no_text_are_told_with_their_place(rt: HostRuntime) -> Result<(
     Ok(())
 }
 
+/// Each function makes two calls of the one before it.
+const DOUBLING: &[u8] = b"a(x) = x + 1
+b(x) = a(x) + a(x)
+c(x) = b(x) + b(x)
+d(x) = c(x) + c(x)
+e(x) = d(x) + d(x)
+f(x) = e(x) + e(x)
+g(x) = f(x) + f(x)
+h(x) = g(x) + g(x)
+i(x) = h(x) + h(x)
+j(x) = i(x) + i(x)
+k(x) = j(x) + j(x)
+l(x) = k(x) + k(x)
+m(x) = l(x) + l(x)
+n(x) = m(x) + m(x)
+o(x) = n(x) + n(x)
+p(x) = o(x) + o(x)
+q(x) = p(x) + p(x)
+r(x) = q(x) + q(x)
+s(x) = r(x) + r(x)
+t(x) = s(x) + s(x)
+u(x) = t(x) + t(x)
+v(x) = u(x) + u(x)
+w(x) = v(x) + v(x)
+println(w(1))";
+
+#[test]
+fn fuel_is_spent_by_doubling_calls(rt: HostRuntime) -> Result<(), Fail> {
+    let due = (1, "ERROR: FuelSpent: 10000000 calls\n", true);
+    assert!(rt; reads_so(rt.alloc(), DOUBLING, 1_000, due)?);
+    Ok(())
+}
+
 /// What `println(34)` answers where the write of this number fails, each write taking one byte.
 fn write_failing(alloc: Global, call: u64) -> Result<Answer, AllocError> {
     let mut faults = Vec::new(alloc);
