@@ -103,16 +103,28 @@ fn an_outline_has_its_parameters_and_a_field_of_each(rt: HostRuntime) -> Result<
     Ok(())
 }
 
-/// How many functions are known of a script, and how many types it names.
+/// How many functions are known of a script, the built-in ones among them, and how many types it names.
 fn counts(alloc: Global, items: &[Item]) -> Result<(usize, usize), AllocError> {
     let found = declarations(alloc, items)?;
     let known = known(alloc, items, found.decls)?;
     Ok((known.functions.len(), known.types.as_slice().len()))
 }
 
+fn counts_of(alloc: Global, source: &str) -> Result<(usize, usize), AllocError> {
+    let script = script_of(alloc, source.as_bytes());
+    counts(alloc, script.items.as_slice())
+}
+
+/// A script, and the counts.
+static KNOWN: [(&str, (usize, usize)); 2] = [
+    ("abstract type A end", (12, 1)),
+    ("f() = nothing", (13, 0)),
+];
+
 #[test]
-fn the_types_of_a_script_are_known(rt: HostRuntime) -> Result<(), Fail> {
-    let script = script_of(rt.alloc(), b"abstract type A end");
-    assert!(rt; counts(rt.alloc(), script.items.as_slice())? == (12, 1));
+fn the_types_and_functions_of_a_script_are_known(rt: HostRuntime) -> Result<(), Fail> {
+    for (source, due) in &KNOWN {
+        assert!(rt; counts_of(rt.alloc(), source)? == *due, "of {source:?}");
+    }
     Ok(())
 }
