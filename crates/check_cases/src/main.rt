@@ -2,7 +2,8 @@
 //!
 //! A line `| TEXT` is the next line of a script, and `N| TEXT` is N lines like it; a script has no newline behind its last line.
 //! A line `$ WORDS` makes the call with these words over the script so far, and the next script begins behind it: the answer is
-//! what the call wrote, and a line `=> STATUS`. A line without `|` is a heading.
+//! what the call wrote, and a line `=> STATUS`, or `=> STATUS, history` where a history was handed out. A line without `|` is a
+//! heading.
 #![tactic(auto)]
 
 mod script;
@@ -14,15 +15,20 @@ use std::alloc::AllocError;
 use std::io::{self, BufRead, BufReader};
 use std::str;
 
-/// Makes the call, and gives what it wrote and its status.
-fn called(rt: &HostRuntime, words: &[&str], text: &[u8]) -> Result<(Vec<u8>, u8), AllocError> {
+/// Makes the call, and gives what it wrote, its status and whether it handed out a history.
+fn called(
+    rt: &HostRuntime,
+    words: &[&str],
+    text: &[u8],
+) -> Result<(Vec<u8>, u8, bool), AllocError> {
     let alloc = rt.alloc();
     let mut source = CleanSource::new(Vec::from_slice(alloc, text)?);
     let mut sink = CleanSink::new(alloc);
     let ended = run(alloc, words, &mut source, &mut sink);
     let status = ended.status;
+    let has_history = ended.history.is_some();
     drop(ended);
-    Ok((Vec::from_slice(alloc, sink.bytes())?, status))
+    Ok((Vec::from_slice(alloc, sink.bytes())?, status, has_history))
 }
 
 /// Answers a script.
@@ -31,9 +37,10 @@ fn answer(rt: &HostRuntime, words: &str, text: &[u8]) -> io::Result<()> {
     for word in words.split_whitespace() {
         list.push(word)?;
     }
-    let (written, status) = called(rt, list.as_slice(), text)?;
+    let (written, status, has_history) = called(rt, list.as_slice(), text)?;
     let lines = str::from_utf8(written.as_slice()).unwrap_or("no text\n");
-    print!(rt; "{lines}=> {status}\n")
+    let history = if has_history { ", history" } else { "" };
+    print!(rt; "{lines}=> {status}{history}\n")
 }
 
 /// Takes a line. The script so far stands in `script`.

@@ -7,8 +7,6 @@ mod faults;
 pub mod laws;
 mod place;
 pub mod status_laws;
-#[cfg(test)]
-mod tests;
 mod top;
 
 pub use top::{Ended, run};

@@ -8,5 +8,3 @@ pub mod known;
 pub mod laws;
 mod read;
 pub mod state;
-#[cfg(test)]
-mod tests;

@@ -11,8 +11,6 @@ mod faults;
 mod memory;
 mod reading;
 mod standard;
-#[cfg(test)]
-mod tests;
 mod writing;
 
 pub use clean::{CleanSink, CleanSource};

@@ -9,6 +9,3 @@ mod order;
 mod refusals;
 
 pub use judge::{TableJudge, over, right};
-
-#[cfg(test)]
-mod tests;

@@ -4,5 +4,3 @@
 pub mod marks;
 pub mod newlines;
 pub mod scan;
-#[cfg(test)]
-mod tests;

@@ -7,5 +7,3 @@ pub mod marked;
 pub mod slots;
 pub mod stack;
 pub mod table;
-#[cfg(test)]
-mod tests;

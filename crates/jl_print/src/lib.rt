@@ -7,7 +7,5 @@ mod print_items;
 mod print_text;
 mod print_types;
 mod printing;
-#[cfg(test)]
-mod tests;
 
 pub use printing::print;

@@ -11,7 +11,5 @@ pub mod known_decls;
 pub mod methods;
 pub mod scopes;
 pub mod state;
-#[cfg(test)]
-mod tests;
 pub mod top;
 pub mod types;

@@ -5,6 +5,4 @@ pub mod beginning;
 pub mod expressions;
 pub mod made;
 pub mod program;
-#[cfg(test)]
-mod tests;
 pub mod top;

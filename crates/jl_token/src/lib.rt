@@ -13,6 +13,3 @@ pub mod token;
 mod words;
 
 pub use source::{line_tokens, tokens};
-
-#[cfg(test)]
-mod tests;

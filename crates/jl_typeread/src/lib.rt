@@ -12,6 +12,3 @@ pub mod turns;
 mod variables;
 
 pub use read::{one_type, read_type};
-
-#[cfg(test)]
-mod tests;

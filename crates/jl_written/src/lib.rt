@@ -7,6 +7,4 @@ pub mod notes;
 pub mod reading;
 pub mod reads;
 pub mod signatures;
-#[cfg(test)]
-mod tests;
 pub mod vars;

@@ -5,6 +5,18 @@ use std::alloc::AllocError;
 /// The most times that one escape repeats its character.
 const MOST: usize = 1_000_000;
 
+/// What is open behind a byte of a case.
+#[derive(Clone, Copy)]
+enum Escape {
+    Nothing,
+    /// `\` and a number
+    Repeat(usize),
+    /// `\x`
+    Byte,
+    /// `\x` and the value of a digit
+    HalfByte(u8),
+}
+
 /// Puts a byte so many times behind a text.
 fn repeat(text: &mut Vec<u8>, byte: u8, count: usize) -> Result<(), AllocError> {
     for _ in 0..count {
@@ -33,29 +45,49 @@ fn with_digit(count: usize, byte: u8) -> Option<usize> {
     )
 }
 
-/// Puts a byte of a case behind a text, as the escape before it says; the answer is the escape that goes on.
-fn put_byte(
-    text: &mut Vec<u8>,
-    escape: Option<usize>,
-    byte: u8,
-) -> Result<Option<usize>, AllocError> {
-    let Some(count) = escape else {
-        if byte == b'\\' {
-            return Ok(Some(0));
-        }
-        text.push(byte)?;
-        return Ok(None);
-    };
+/// The value of a hexadecimal digit.
+fn hex_value(byte: u8) -> u8 {
+    match byte {
+        b'0'..=b'9' => byte - b'0',
+        b'a'..=b'f' => byte - b'a' + 10,
+        _ => 0,
+    }
+}
+
+/// Puts a byte behind the text, where it is no digit of the escape; the answer is the escape that goes on.
+fn put_repeated(text: &mut Vec<u8>, count: usize, byte: u8) -> Result<Escape, AllocError> {
     if let Some(more) = with_digit(count, byte) {
-        return Ok(Some(more));
+        return Ok(Escape::Repeat(more));
+    }
+    if byte == b'x' {
+        return Ok(Escape::Byte);
     }
     repeat(text, escaped(byte), count.clamp(1, MOST))?;
-    Ok(None)
+    Ok(Escape::Nothing)
+}
+
+/// Puts a byte of a case behind a text, as the escape before it says; the answer is the escape that goes on.
+fn put_byte(text: &mut Vec<u8>, escape: Escape, byte: u8) -> Result<Escape, AllocError> {
+    match escape {
+        Escape::Nothing => {
+            if byte == b'\\' {
+                return Ok(Escape::Repeat(0));
+            }
+            text.push(byte)?;
+            Ok(Escape::Nothing)
+        }
+        Escape::Repeat(count) => put_repeated(text, count, byte),
+        Escape::Byte => Ok(Escape::HalfByte(hex_value(byte))),
+        Escape::HalfByte(high) => {
+            text.push((high << 4) | hex_value(byte))?;
+            Ok(Escape::Nothing)
+        }
+    }
 }
 
 /// Puts the text of a case behind the text.
 pub fn expand(text: &mut Vec<u8>, case: &[u8]) -> Result<(), AllocError> {
-    let mut escape = None;
+    let mut escape = Escape::Nothing;
     for byte in case {
         escape = put_byte(text, escape, *byte)?;
     }

@@ -1,8 +1,8 @@
-//! Each source and sink with ample memory, and faults in mid-stream.
+//! Sources and sinks in memory, with ample memory and with faults in mid-stream.
 
-use crate::{
+use jl_io::{
     CleanSink, CleanSource, Failed, MemSink, MemSource, ReadFault, Sink, SinkFault, Source,
-    StdSink, StdSource, read_up_to, write_all,
+    read_up_to, write_all,
 };
 use std::test::Fail;
 
@@ -15,12 +15,15 @@ fn clean_source_gives_all_it_has_over_several_pieces(rt: HostRuntime) -> Result<
     Ok(())
 }
 
+/// The most bytes to read, and what is read of five.
+static LIMITS: [(usize, &str); 5] = [(0, ""), (1, "h"), (4, "hell"), (5, "hello"), (6, "hello")];
+
 #[test]
 fn reading_stops_at_the_limit(rt: HostRuntime) -> Result<(), Fail> {
-    for (most, want) in [(0, ""), (1, "h"), (4, "hell"), (5, "hello"), (6, "hello")] {
+    for (most, want) in &LIMITS {
         let text = b"hello".to_vec(rt.alloc())?;
         let mut source = MemSource::new(text, 3, Vec::new(rt.alloc()));
-        let bytes = read_up_to(rt.alloc(), &mut source, most)?;
+        let bytes = read_up_to(rt.alloc(), &mut source, *most)?;
         assert!(rt; bytes.as_slice() == want.as_bytes(), "at most {most}");
     }
     Ok(())
@@ -121,18 +124,4 @@ fn each_failing_write_leaves_the_bytes_before_it(rt: HostRuntime) -> Result<(), 
         );
     }
     Ok(())
-}
-
-#[test]
-fn standard_input_of_a_test_is_at_its_end(rt: HostRuntime) {
-    let mut source = StdSource::new(rt.stdin());
-    let mut into = [0u8; 4];
-    assert!(rt; source.read(&mut into) == Ok(0));
-}
-
-#[test]
-fn standard_output_takes_a_line(rt: HostRuntime) {
-    let mut sink = StdSink::new(rt.stdout());
-    let line = b"a line\n";
-    assert!(rt; write_all(&mut sink, line).is_ok());
 }

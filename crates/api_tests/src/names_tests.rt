@@ -1,13 +1,13 @@
-//! The tables, each on its happy path.
+//! The tables of names, each on its happy path.
 
-use crate::decls::DeclList;
-use crate::list::NameList;
-use crate::marked::MarkedNames;
-use crate::slots::Slots;
-use crate::stack::NameStack;
 use jl_grammar::tree::Name;
 use jl_model::shared::SharedList;
 use jl_model::ty::{Bounds, Bytes, Decl, DeclKind, Fields, Ty};
+use jl_names::decls::DeclList;
+use jl_names::list::NameList;
+use jl_names::marked::MarkedNames;
+use jl_names::slots::Slots;
+use jl_names::stack::NameStack;
 use std::alloc::{AllocError, Global};
 use std::test::Fail;
 

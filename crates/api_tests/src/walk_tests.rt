@@ -1,9 +1,8 @@
-//! Small scripts as trees, and what they become.
+//! A small script as a tree, and the numbers that its parts get.
 
 ghost use Rattle.std.specs.Prelude.{true, false, None};
 
-use crate::program::Resolved;
-use crate::top::resolved;
+use jl_program::tree::{Expr as Code, Item as Statement};
 use jl_grammar::tree::{Callee, Expr, Head, Item, Method, Name, Param};
 use jl_model::shared::{SharedList, SharedNode};
 use jl_model::ty::{Bytes, Ty, Written};
@@ -14,7 +13,9 @@ use jl_program::tree::{Expr as Code, Item as Statement};
 use jl_resolve_forms::judge::Judge;
 use jl_resolve_forms::known::Known;
 use jl_resolve_forms::known_decls::KnownDecls;
-use jl_written::fault::{Fault, StaticKind};
+use jl_resolve_walk::program::Resolved;
+use jl_resolve_walk::top::resolved;
+use jl_written::fault::StaticKind;
 use jl_written::signatures::Order;
 use std::alloc::{AllocError, Global};
 use std::test::Fail;
@@ -83,8 +84,8 @@ fn known(alloc: Global) -> Result<Known, AllocError> {
     })
 }
 
-/// `f(x) = y`, where the body begins at offset 7.
-fn method(alloc: Global, body: &[u8]) -> Result<Item, AllocError> {
+/// `f(x) = x`, where the body begins at offset 7.
+fn method(alloc: Global) -> Result<Item, AllocError> {
     let mut params = Vec::new(alloc);
     params.push(Param::Name(name(alloc, 2, b"x")?))?;
     let head = Head {
@@ -92,15 +93,15 @@ fn method(alloc: Global, body: &[u8]) -> Result<Item, AllocError> {
         params: SharedList::from_vec(alloc, params)?,
         vars: SharedList::empty(),
     };
-    let body = SharedNode::new(alloc, Expr::Name(7, bytes(alloc, body)?))?;
+    let body = SharedNode::new(alloc, Expr::Name(7, bytes(alloc, b"x")?))?;
     Ok(Item::Method(Method::Short(0, head, body)))
 }
 
-/// The program of `f(x) = ..`, then `z = 3`.
-fn program(alloc: Global, body: &[u8]) -> Result<Resolved, AllocError> {
+/// The program of `f(x) = x`, then `z = 3`.
+fn program(alloc: Global) -> Result<Resolved, AllocError> {
     let known = known(alloc)?;
     let mut items = Vec::new(alloc);
-    items.push(method(alloc, body)?)?;
+    items.push(method(alloc)?)?;
     items.push(Item::Bind(name(alloc, 9, b"z")?, Expr::Number(13, 3)))?;
     resolved(alloc, &Lenient, &known, items.as_slice(), None)
 }
@@ -133,37 +134,17 @@ fn given(script: &Resolved) -> Option<u32> {
 }
 
 /// The site that the first statement defines, the slot that the last one binds, and the slot that the body gives.
-fn numbers(
-    alloc: Global,
-    body: &[u8],
-) -> Result<(Option<u32>, Option<u32>, Option<u32>), AllocError> {
-    let script = program(alloc, body)?;
+fn numbers(alloc: Global) -> Result<(Option<u32>, Option<u32>, Option<u32>), AllocError> {
+    let script = program(alloc)?;
     Ok((defined(&script), bound(&script), given(&script)))
-}
-
-fn fault(alloc: Global, body: &[u8]) -> Result<Option<Fault>, AllocError> {
-    let script = program(alloc, body)?;
-    Ok(script.fault)
 }
 
 #[test]
 fn a_method_has_the_site_behind_the_prelude_s(rt: HostRuntime) -> Result<(), Fail> {
     let alloc = rt.alloc();
-    let (site, slot, parameter) = numbers(alloc, b"x")?;
+    let (site, slot, parameter) = numbers(alloc)?;
     assert!(rt; site == Some(14));
     assert!(rt; slot == Some(0));
     assert!(rt; parameter == Some(0));
-    Ok(())
-}
-
-#[test]
-fn a_body_does_not_see_a_variable_of_the_top(rt: HostRuntime) -> Result<(), Fail> {
-    let alloc = rt.alloc();
-    let unknown = Fault {
-        at: 7,
-        kind: StaticKind::UnknownName,
-    };
-    assert!(rt; fault(alloc, b"x")? == None);
-    assert!(rt; fault(alloc, b"z")? == Some(unknown));
     Ok(())
 }

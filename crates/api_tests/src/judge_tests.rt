@@ -1,10 +1,10 @@
-//! The answers over a small table: the built-in types, and `struct Box{T<:Integer}`, number 8, with fields of one type.
+//! What is asked of a small table: the built-in types, and `struct Box{T<:Integer}`, number 8, with fields of one type.
 //!
 //! A type is written in a few letters, a head before its parts: `a` is `Any`, `z` is `Union{}`, `o` a union and `p` a tuple
 //! of two, `t` a tuple of one, a digit a variable, `B` a `Box` of one argument and `C` a `Box` of none, and the other letters
 //! are the nominal types of `number_of`.
 
-use crate::over;
+use jl_judge::over;
 use jl_model::ty::{Bound, Bounds, Bytes, Decl, DeclKind, Field, Fields, Ty, Tys, Written};
 use jl_norm::{DeclareFault, declare, has_own_variables};
 use jl_resolve_forms::judge::Judge;

@@ -1,0 +1,118 @@
+//! The top call over devices that fail in mid-stream.
+
+use jl_cli::run;
+use jl_io::{CleanSink, CleanSource, MemSink, MemSource};
+use std::alloc::{AllocError, Global};
+use std::test::Fail;
+
+const FIRST: &[u8] = b"f(x) = x + 1\nprintln(f(2))\n";
+
+/// The status of a run, what it wrote, and whether it handed out a history.
+type Answer = (u8, Vec<u8>, bool);
+
+/// What a run answers where the read of this number fails, each read giving one byte.
+fn read_failing(alloc: Global, script: &[u8], call: u64) -> Result<Answer, AllocError> {
+    let mut faults = Vec::new(alloc);
+    faults.push(call)?;
+    let mut source = MemSource::new(Vec::from_slice(alloc, script)?, 1, faults);
+    let mut sink = CleanSink::new(alloc);
+    let ended = run(alloc, &["run"], &mut source, &mut sink);
+    let written = Vec::from_slice(alloc, sink.bytes())?;
+    Ok((ended.status, written, ended.history.is_some()))
+}
+
+/// Whether a run whose read of this number fails answers so.
+fn reads_so(
+    alloc: Global,
+    script: &[u8],
+    call: u64,
+    due: (u8, &str, bool),
+) -> Result<bool, AllocError> {
+    let (status, written, history) = read_failing(alloc, script, call)?;
+    Ok(status == due.0 && written.as_slice() == due.1.as_bytes() && history == due.2)
+}
+
+#[test]
+fn each_failing_read_answers_four(rt: HostRuntime) -> Result<(), Fail> {
+    for call in 1..30u64 {
+        let due = if call <= FIRST.len() as u64 + 1 {
+            (4, "", false)
+        } else {
+            (0, "3\n", true)
+        };
+        assert!(rt;
+            reads_so(rt.alloc(), FIRST, call, due)?,
+            "read {call} fails"
+        );
+    }
+    Ok(())
+}
+
+#[test]
+fn bytes_that_are_no_text_are_told_with_their_place(rt: HostRuntime) -> Result<(), Fail> {
+    let due = (3, "ERROR: line 2, column 1: BadUtf8\n", false);
+    assert!(rt; reads_so(rt.alloc(), b"x = 1\n\xff", 9, due)?);
+    Ok(())
+}
+
+/// Each function makes two calls of the one before it.
+const DOUBLING: &[u8] = b"a(x) = x + 1
+b(x) = a(x) + a(x)
+c(x) = b(x) + b(x)
+d(x) = c(x) + c(x)
+e(x) = d(x) + d(x)
+f(x) = e(x) + e(x)
+g(x) = f(x) + f(x)
+h(x) = g(x) + g(x)
+i(x) = h(x) + h(x)
+j(x) = i(x) + i(x)
+k(x) = j(x) + j(x)
+l(x) = k(x) + k(x)
+m(x) = l(x) + l(x)
+n(x) = m(x) + m(x)
+o(x) = n(x) + n(x)
+p(x) = o(x) + o(x)
+q(x) = p(x) + p(x)
+r(x) = q(x) + q(x)
+s(x) = r(x) + r(x)
+t(x) = s(x) + s(x)
+u(x) = t(x) + t(x)
+v(x) = u(x) + u(x)
+w(x) = v(x) + v(x)
+println(w(1))";
+
+#[test]
+fn fuel_is_spent_by_doubling_calls(rt: HostRuntime) -> Result<(), Fail> {
+    let due = (1, "ERROR: FuelSpent: 10000000 calls\n", true);
+    assert!(rt; reads_so(rt.alloc(), DOUBLING, 1_000, due)?);
+    Ok(())
+}
+
+/// What `println(34)` answers where the write of this number fails, each write taking one byte.
+fn write_failing(alloc: Global, call: u64) -> Result<Answer, AllocError> {
+    let mut faults = Vec::new(alloc);
+    faults.push(call)?;
+    let mut source = CleanSource::new(Vec::from_slice(alloc, b"println(34)")?);
+    let mut sink = MemSink::new(alloc, 1, faults);
+    let ended = run(alloc, &["run"], &mut source, &mut sink);
+    let written = Vec::from_slice(alloc, sink.bytes())?;
+    Ok((ended.status, written, ended.history.is_some()))
+}
+
+/// Whether it writes so, and hands out its history.
+fn writes_so(alloc: Global, call: u64, due: (u8, &str)) -> Result<bool, AllocError> {
+    let (status, written, history) = write_failing(alloc, call)?;
+    Ok(status == due.0 && written.as_slice() == due.1.as_bytes() && history)
+}
+
+/// The number of the write that fails, the status, and what is written.
+static WRITES: [(u64, u8, &str); 4] = [(1, 5, ""), (2, 5, "3"), (3, 5, "34"), (4, 0, "34\n")];
+
+#[test]
+fn each_failing_write_leaves_a_first_part(rt: HostRuntime) -> Result<(), Fail> {
+    for (call, status, text) in &WRITES {
+        let due = (*status, *text);
+        assert!(rt; writes_so(rt.alloc(), *call, due)?, "write {call} fails");
+    }
+    Ok(())
+}

@@ -1,0 +1,130 @@
+//! How many declarations are kept of a script, and how many of them are in its table.
+
+use jl_declare::declarations::declarations;
+use jl_declare::known::known;
+use jl_grammar::tree::{Item, Script};
+use jl_model::shared::SharedList;
+use jl_reader::read;
+use jl_token::tokens;
+use jl_written::fault::StaticKind;
+use std::alloc::{AllocError, Global};
+use std::test::Fail;
+
+/// The script that a text is; one without items where it is none.
+#[tactic(auto, using(jl_typeread::proofs::Ends::ends_alone))]
+fn script_of(alloc: Global, source: &[u8]) -> Script {
+    let Ok(found) = tokens(alloc, source) else {
+        return Script {
+            items: SharedList::empty(),
+        };
+    };
+    match read(alloc, found.as_slice()) {
+        Ok(script) => script,
+        Err(_) => Script {
+            items: SharedList::empty(),
+        },
+    }
+}
+
+/// How many types are in the table, how many are declared, and the place and the kind of the first fault.
+type Found = (u32, usize, Option<(u32, StaticKind)>);
+
+fn found(alloc: Global, items: &[Item]) -> Result<Found, AllocError> {
+    let found = declarations(alloc, items)?;
+    let table = found.table.count();
+    let all = found.decls.len();
+    let fault = match found.fault {
+        Some(fault) => Some((fault.at, fault.kind)),
+        None => None,
+    };
+    drop(found);
+    Ok((table, all, fault))
+}
+
+fn found_of(alloc: Global, source: &str) -> Result<Found, AllocError> {
+    let script = script_of(alloc, source.as_bytes());
+    found(alloc, script.items.as_slice())
+}
+
+/// A script, and what is found of it; the eight built-in types are counted.
+static SCRIPTS: [(&str, Found); 8] = [
+    ("abstract type A end; struct B <: A end", (10, 10, None)),
+    (
+        "abstract type A end; struct A <: A end",
+        (9, 10, Some((28, StaticKind::DuplicateType))),
+    ),
+    (
+        "abstract type A end; struct B <: Int64 end",
+        (9, 10, Some((28, StaticKind::SuperNotAbstract))),
+    ),
+    (
+        "abstract type A end; struct B <: Foo end",
+        (9, 10, Some((33, StaticKind::UnknownType))),
+    ),
+    (
+        "struct P{T, T} <: Int64 end",
+        (8, 9, Some((7, StaticKind::SuperNotAbstract))),
+    ),
+    (
+        "struct P{T, T} <: Real end",
+        (9, 9, Some((12, StaticKind::Rebound))),
+    ),
+    (
+        "abstract type Int end; struct B <: Real end",
+        (10, 10, Some((14, StaticKind::NameClash))),
+    ),
+    (
+        "abstract type Int64 end; struct B <: Bool end",
+        (8, 10, Some((14, StaticKind::DuplicateType))),
+    ),
+];
+
+#[test]
+fn declarations_are_kept_and_told(rt: HostRuntime) -> Result<(), Fail> {
+    for (source, due) in &SCRIPTS {
+        assert!(rt; found_of(rt.alloc(), source)? == *due, "of {source:?}");
+    }
+    Ok(())
+}
+
+/// How many parameters and fields the first declared type has.
+fn outline(alloc: Global, items: &[Item]) -> Result<Option<(usize, usize)>, AllocError> {
+    let found = declarations(alloc, items)?;
+    match found.decls.as_slice().get(8) {
+        None => Ok(None),
+        Some(decl) => Ok(Some((decl.params.len(), decl.fields.len()))),
+    }
+}
+
+#[test]
+fn an_outline_has_its_parameters_and_a_field_of_each(rt: HostRuntime) -> Result<(), Fail> {
+    let script = script_of(rt.alloc(), b"struct P{T, T} <: Foo end");
+    assert!(rt; outline(rt.alloc(), script.items.as_slice())? == Some((2, 2)));
+    Ok(())
+}
+
+/// How many functions are known of a script, the built-in ones among them, and how many types it names.
+fn counts(alloc: Global, items: &[Item]) -> Result<(usize, usize), AllocError> {
+    let found = declarations(alloc, items)?;
+    let known = known(alloc, items, found.decls)?;
+    Ok((known.functions.len(), known.types.as_slice().len()))
+}
+
+fn counts_of(alloc: Global, source: &str) -> Result<(usize, usize), AllocError> {
+    let script = script_of(alloc, source.as_bytes());
+    counts(alloc, script.items.as_slice())
+}
+
+/// A script, and the counts.
+static KNOWN: [(&str, (usize, usize)); 2] = [
+    ("abstract type A end", (12, 1)),
+    ("f() = nothing", (13, 0)),
+];
+
+#[test]
+fn the_types_and_functions_of_a_script_are_known(rt: HostRuntime) -> Result<(), Fail> {
+    for (source, due) in &KNOWN {
+        assert!(rt; counts_of(rt.alloc(), source)? == *due, "of {source:?}");
+    }
+    Ok(())
+}

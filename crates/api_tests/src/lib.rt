@@ -1,0 +1,20 @@
+//! Tests of public calls that no text can show: faults of devices in mid-stream, tables of names, the numbers of slots and
+//! variables, and what is asked of a table of declarations. All else is told by the lines of script_cases and check_cases.
+#![tactic(auto)]
+
+#[cfg(test)]
+mod cli_tests;
+#[cfg(test)]
+mod declare_tests;
+#[cfg(test)]
+mod io_tests;
+#[cfg(test)]
+mod judge_tests;
+#[cfg(test)]
+mod names_tests;
+#[cfg(test)]
+mod resolve_tests;
+#[cfg(test)]
+mod walk_tests;
+#[cfg(test)]
+mod written_tests;

@@ -1,0 +1,134 @@
+//! The variables of written types by their numbers, and which of two faults comes first.
+
+use jl_model::shared::SharedList;
+use jl_model::ty::{Bound, Bounds, Bytes, Decl, DeclKind, Fields, Ty, Tys};
+use jl_names::decls::DeclList;
+use jl_token::tokens;
+use jl_typeread::fault::TypeFault;
+use jl_typeread::read_type;
+use jl_typeread::tree::TypeText;
+use jl_written::fault::{Fault, StaticKind};
+use jl_written::notes::first_of;
+use jl_written::reading::TypeVar;
+use jl_written::signatures::body_type;
+use jl_written::vars::TypeVars;
+use std::alloc::{AllocError, Global};
+use std::test::Fail;
+
+fn plain(alloc: Global, name: &[u8], params: Bounds) -> Result<Decl, AllocError> {
+    Ok(Decl {
+        name: Bytes::from_vec(alloc, Vec::from_slice(alloc, name)?)?,
+        kind: DeclKind::Struct,
+        params,
+        parent: Ty::Any,
+        fields: Fields::empty(),
+    })
+}
+
+/// The types `Int64`, whose number is 0 here, and `Box{T<:Int64}`, whose number is 1.
+fn decls(alloc: Global) -> Result<DeclList, AllocError> {
+    let mut bounds = Vec::new(alloc);
+    bounds.push(Bound {
+        low: Ty::Union(Tys::empty()),
+        high: Ty::Nominal(0, Tys::empty()),
+    })?;
+    let bounds = SharedList::from_vec(alloc, bounds)?;
+    let mut decls = DeclList::new(alloc);
+    decls.push(plain(alloc, b"Int64", Bounds::empty())?)?;
+    decls.push(plain(alloc, b"Box", bounds)?)?;
+    Ok(decls)
+}
+
+/// Static parameters of these one-letter names.
+fn statics(alloc: Global, names: &str) -> Result<TypeVars, AllocError> {
+    let mut vars = TypeVars::new(alloc);
+    for (number, letter) in names.as_bytes().iter().enumerate() {
+        let mut name = Vec::new(alloc);
+        name.push(*letter)?;
+        vars.push(TypeVar {
+            name: Bytes::from_vec(alloc, name)?,
+            number: number as u32,
+            usable: true,
+        })?;
+    }
+    Ok(vars)
+}
+
+/// The type that a text is.
+#[tactic(auto, using(jl_typeread::proofs::Ends::ends_alone))]
+fn text_of(alloc: Global, source: &[u8]) -> Result<TypeText, TypeFault> {
+    let Ok(found) = tokens(alloc, source) else {
+        return Err(TypeFault::Memory);
+    };
+    if found.len() == 0 {
+        return Err(TypeFault::Memory);
+    }
+    let (ty, _) = read_type(alloc, found.as_slice(), 0)?;
+    Ok(ty)
+}
+
+/// The number of the variable that a type is, or that its first argument is.
+fn variable_in(ty: &Ty) -> Option<u32> {
+    match ty {
+        Ty::Var(number) => Some(*number),
+        Ty::Nominal(_, arguments) => match arguments.as_slice().first() {
+            Some(Ty::Var(number)) => Some(*number),
+            _ => None,
+        },
+        _ => None,
+    }
+}
+
+/// The number of the variable in a type of a body, how many variables it has, and whether one stands where none may.
+type Found = (Option<u32>, usize, bool);
+
+/// What is found of a text, with the first so many of the static parameters `T`, `S` and `T`.
+fn found(alloc: Global, text: &TypeText, visible: usize) -> Result<Found, AllocError> {
+    let decls = decls(alloc)?;
+    let mut vars = statics(alloc, "TST")?;
+    vars.truncate(visible);
+    let (ty, reading) = body_type(alloc, &decls.all(), &vars, text)?;
+    Ok((variable_in(&ty), reading.vars.len(), reading.misplaced))
+}
+
+fn found_of(alloc: Global, source: &str, visible: usize) -> Result<Found, TypeFault> {
+    let text = text_of(alloc, source.as_bytes())?;
+    Ok(found(alloc, &text, visible)?)
+}
+
+/// A text, how many static parameters are visible, and what is found.
+static TEXTS: [(&str, usize, u32, usize, bool); 3] = [
+    // a missing argument is a fresh variable
+    ("Box", 0, 0, 1, false),
+    // static parameters have the numbers behind those of the type, and the last of a name hides the others
+    ("(Box{T} where U)", 3, 3, 1, false),
+    ("T", 2, 0, 0, false),
+];
+
+#[test]
+fn variables_of_types_in_bodies_have_these_numbers(rt: HostRuntime) -> Result<(), Fail> {
+    for (source, visible, number, count, misplaced) in &TEXTS {
+        let due = (Some(*number), *count, *misplaced);
+        assert!(rt; found_of(rt.alloc(), source, *visible)? == due);
+    }
+    Ok(())
+}
+
+#[test]
+fn the_earlier_fault_is_answered_and_at_one_place_the_lower_number(rt: HostRuntime) {
+    let clash = Fault {
+        at: 4,
+        kind: StaticKind::NameClash,
+    };
+    let rebound = Fault {
+        at: 4,
+        kind: StaticKind::Rebound,
+    };
+    let later = Fault {
+        at: 5,
+        kind: StaticKind::UnknownName,
+    };
+    assert!(rt; first_of(None, clash) == Some(clash));
+    assert!(rt; first_of(Some(clash), rebound) == Some(rebound));
+    assert!(rt; first_of(Some(clash), later) == Some(clash));
+}
