@@ -1,0 +1,11 @@
+//! Tests of the crates of the base and of the run, for what no script and no program of cases shows.
+#![tactic(auto)]
+
+#[cfg(test)]
+mod lists;
+#[cfg(test)]
+mod runs;
+#[cfg(test)]
+mod types;
+#[cfg(test)]
+mod values;

@@ -1,0 +1,8 @@
+use Rattle.std.proofs.Common.{map}
+use Rattle.jl_program.specs.Meaning.{datum}
+use Rattle.jl_value.specs.ValidValue.{AllValid}
+use Rattle.jl_value.specs.Samples.{sample_types}
+use Rattle.value_cases.proofs.values.values_of.Given as goal
+
+abbrev pub invariant-loop-piece : goal.invariant-loop-piece
+invariant-loop-piece l = AllValid sample_types (map datum l.stack.items)
