@@ -288,26 +288,26 @@ task_value : value_text P (V.Task 3) ≡ codes "Task(3)"
 unfolding digits
 task_value = fold-roll-Datum (List ℕ) (datum_step P) (D.Task 3)
 
-tuple-value : (t : Ty) (vs : List Datum) → value_text P (V.Tuple t vs) ≡ tuple_text (map (datum_text P) vs)
+tuple-value : (t : Ty) (vs : List Datum) → value_text P (V.Tuple (record { ty = t; parts = vs })) ≡ tuple_text (map (datum_text P) vs)
 tuple-value t vs = fold-roll-Datum (List ℕ) (datum_step P) (D.Tuple t vs)
 
-unit_value : value_text P (V.Tuple (W.Tuple []) []) ≡ codes "()"
+unit_value : value_text P (V.Tuple (record { ty = W.Tuple []; parts = [] })) ≡ codes "()"
 unit_value = tuple-value (W.Tuple []) []
 
-single_value : value_text P (V.Tuple (W.Tuple (int64 ∷ [])) (datum (V.Int (pos 1)) ∷ [])) ≡ codes "(1,)"
+single_value : value_text P (V.Tuple (record { ty = W.Tuple (int64 ∷ []); parts = datum (V.Int (pos 1)) ∷ [] })) ≡ codes "(1,)"
 unfolding digits
 single_value = tuple-value (W.Tuple (int64 ∷ [])) (datum (V.Int (pos 1)) ∷ []) ∙ ap (λ t. tuple_text (t ∷ [])) (int-value (pos 1))
 
-pair_value : value_text P (V.Tuple (W.Tuple (int64 ∷ bool ∷ [])) (datum (V.Int (pos 1)) ∷ datum (V.Bool true) ∷ [])) ≡ codes "(1, true)"
+pair_value : value_text P (V.Tuple (record { ty = W.Tuple (int64 ∷ bool ∷ []); parts = datum (V.Int (pos 1)) ∷ datum (V.Bool true) ∷ [] })) ≡ codes "(1, true)"
 unfolding digits
 pair_value = tuple-value (W.Tuple (int64 ∷ bool ∷ [])) (datum (V.Int (pos 1)) ∷ datum (V.Bool true) ∷ []) ∙ rw (int-value (pos 1), true_value) refl
 
-struct_value : value_text P (V.Struct nothing (datum (V.Int (pos 3)) ∷ [])) ≡ codes "Nothing(3)"
+struct_value : value_text P (V.Struct (record { ty = nothing; parts = datum (V.Int (pos 3)) ∷ [] })) ≡ codes "Nothing(3)"
 unfolding digits
 struct_value =
     fold-roll-Datum (List ℕ) (datum_step P) (D.Struct nothing (datum (V.Int (pos 3)) ∷ [])) ∙ rw (nothing-text, int-value (pos 3)) refl
 
-empty_struct : value_text P (V.Struct nothing []) ≡ codes "Nothing()"
+empty_struct : value_text P (V.Struct (record { ty = nothing; parts = [] })) ≡ codes "Nothing()"
 empty_struct = fold-roll-Datum (List ℕ) (datum_step P) (D.Struct nothing []) ∙ rw nothing-text refl
 
 -- ---- the history

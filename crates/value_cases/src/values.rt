@@ -97,7 +97,7 @@ fn taken(alloc: Global, stack: &mut Vec<Value>, count: usize) -> Result<Values, 
 {
     let at = stack.len().saturating_sub(count);
     let parts = stack.split_off(at)?;
-    Values::from_vec(alloc, parts)
+    Ok(Values::from_vec(parts))
 }
 
 /// A tuple or a struct of so many of the last values.
