@@ -4,7 +4,5 @@
 pub mod datum;
 pub mod history;
 pub mod point;
-#[cfg(test)]
-mod tests;
 pub mod tree;
 pub mod value;

@@ -7,8 +7,6 @@ pub mod laws;
 mod operations;
 mod root;
 mod task;
-#[cfg(test)]
-mod tests;
 mod turns;
 
 pub use root::run_root;

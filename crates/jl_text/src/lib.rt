@@ -7,8 +7,6 @@
 
 mod faults;
 mod numbers;
-#[cfg(test)]
-mod tests;
 mod types;
 mod values;
 

@@ -10,8 +10,6 @@ mod identity;
 mod kept;
 mod made;
 mod make;
-#[cfg(test)]
-mod tests;
 
 pub use identity::{copy, egal};
 pub use kept::type_of;

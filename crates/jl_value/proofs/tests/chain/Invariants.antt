@@ -1,7 +1,0 @@
-use Rattle.jl_calculus.specs.Meaning.{datum}
-use Rattle.jl_value.specs.ValidValue.{IsValid}
-use Rattle.jl_value.specs.Samples.{sample_types}
-use Rattle.jl_value.proofs.tests.chain.Given as goal
-
-abbrev pub invariant-loop : goal.invariant-loop
-invariant-loop l = IsValid sample_types (datum l.value)
