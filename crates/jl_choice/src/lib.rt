@@ -7,6 +7,3 @@ pub mod laws;
 mod order;
 
 pub use crate::choice::choose;
-
-#[cfg(test)]
-mod tests;

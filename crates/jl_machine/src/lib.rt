@@ -8,8 +8,6 @@ mod operations;
 pub mod point;
 mod root;
 mod task;
-#[cfg(test)]
-mod tests;
 mod turns;
 
 pub use root::run_root;

@@ -3,6 +3,4 @@
 
 pub mod rows;
 pub mod shared;
-#[cfg(test)]
-mod tests;
 pub mod ty;

@@ -5,8 +5,6 @@ mod output;
 mod run;
 mod simple;
 mod solo;
-#[cfg(test)]
-mod tests;
 
 pub use output::{status, text};
 pub use run::run_alone;

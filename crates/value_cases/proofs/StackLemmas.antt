@@ -1,8 +1,8 @@
 -- The values on a stack stay valid.
-use Rattle.std.proofs.Common.{◌≡◌, refl, sym, subst, ℕ, zero, suc, ◌<◌, arith, List, [], ◌∷◌, ◌++◌, map, length, take, drop, get_or}
+use Rattle.std.proofs.Common.{◌≡◌, sym, subst, ℕ, zero, suc, ◌<◌, arith, List, [], ◌∷◌, map, length, take, drop, get_or}
 use Rattle.jl_program.specs.declared.value.Value.{Value}
 use Rattle.jl_program.specs.Meaning.{datum}
-use Rattle.jl_value.specs.ValidValue.{IsValid, AllValid, none, more}
+use Rattle.jl_program.specs.ValidValue.{IsValid, AllValid, none, more}
 use Rattle.jl_value.specs.Samples.{sample_types}
 
 -- the first values

@@ -5,7 +5,7 @@ ghost use Rattle.std.specs.Prelude.{◌≡◌, ◌∷◌, [], ◌<◌, IfOk, OnO
 ghost use Rattle.jl_model.specs.declared.ty.Ty.TheViews as V;
 ghost use Rattle.jl_model.specs.Ancestors.{named};
 ghost use Rattle.jl_program.specs.Meaning.{datum};
-ghost use Rattle.jl_value.specs.ValidValue.{IsValid, AllValid, IsStructType};
+ghost use Rattle.jl_program.specs.ValidValue.{IsValid, AllValid, IsStructType};
 ghost use Rattle.jl_value.specs.Samples.{sample_types};
 
 use crate::sample::named;

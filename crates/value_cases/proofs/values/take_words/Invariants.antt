@@ -1,6 +1,6 @@
 use Rattle.std.proofs.Common.{map}
 use Rattle.jl_program.specs.Meaning.{datum}
-use Rattle.jl_value.specs.ValidValue.{AllValid}
+use Rattle.jl_program.specs.ValidValue.{AllValid}
 use Rattle.jl_value.specs.Samples.{sample_types}
 use Rattle.value_cases.proofs.values.take_words.Given as goal
 
