@@ -1,6 +1,7 @@
 //! The answers of what stands below the grammar of scripts: tokens, written types, and the marks of tokens.
 
 use crate::outline_types::put_type;
+use crate::text::Written;
 use crate::type_places::put_type_places;
 use jl_marks::marks::marked;
 use jl_marks::newlines::bare;
@@ -95,11 +96,11 @@ pub fn type_end(alloc: Global, source: &[u8], from: usize) -> Result<String, All
 
 /// A type, and the places in it.
 fn placed(alloc: Global, ty: &TypeText) -> Result<String, AllocError> {
-    let mut out = String::new(alloc);
-    put_type(&mut out, ty)?;
-    out.push_str(" at")?;
-    put_type_places(alloc, &mut out, ty)?;
-    Ok(out)
+    let mut out = Written::new(alloc);
+    put_type(&mut out, ty);
+    out.put(" at");
+    put_type_places(&mut out, ty);
+    out.finish()
 }
 
 /// The type that begins with the token of this number, and the places in it; or the fault.

@@ -17,6 +17,7 @@ mod outline;
 mod outline_heads;
 mod outline_items;
 mod outline_types;
+mod text;
 mod type_places;
 
 use crate::answers::{printed, read_as, tree_of};

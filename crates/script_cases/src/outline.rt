@@ -2,9 +2,9 @@
 
 use crate::outline_heads::{put_callee, put_head};
 use crate::outline_types::{put_name, put_type};
+use crate::text::Written;
 use jl_grammar::tree::{Branch, Callee, Eval, Expr, Infix, Method, Piece, Prefix, Stmt};
 use jl_typeread::tree::TypeText;
-use std::alloc::{AllocError, Global};
 use std::str;
 
 /// The sign of an operator with one operand.
@@ -36,286 +36,255 @@ fn infix_sign(operator: Infix) -> &'static str {
     }
 }
 
-/// A number.
-fn put_number(alloc: Global, out: &mut String, number: i64) -> Result<(), AllocError> {
-    let text = format!(in alloc; "{number}")?;
-    out.push_str(text.as_str())
-}
-
 /// A text with its escapes.
-fn put_text(alloc: Global, out: &mut String, text: &[u8]) -> Result<(), AllocError> {
-    let text = str::from_utf8(text).unwrap_or("no text");
-    let text = format!(in alloc; "{text:?}")?;
-    out.push_str(text.as_str())
+fn put_text(out: &mut Written, text: &[u8]) {
+    out.put_quoted(str::from_utf8(text).unwrap_or("no text"));
 }
 
 /// Two types of which the one is asked to be below the other.
-fn put_sub(out: &mut String, low: &TypeText, high: &TypeText) -> Result<(), AllocError> {
-    out.push_str("(")?;
-    put_type(out, low)?;
-    out.push_str(" <: ")?;
-    put_type(out, high)?;
-    out.push_str(")")
+fn put_sub(out: &mut Written, low: &TypeText, high: &TypeText) {
+    out.put("(");
+    put_type(out, low);
+    out.put(" <: ");
+    put_type(out, high);
+    out.put(")");
 }
 
 /// A word before a list of expressions.
 #[cycle(forms)]
-fn put_exprs(
-    alloc: Global,
-    out: &mut String,
-    word: &str,
-    exprs: &[Expr],
-) -> Result<(), AllocError> {
-    out.push_str(word)?;
-    out.push_str("(")?;
+fn put_exprs(out: &mut Written, word: &str, exprs: &[Expr]) {
+    out.put(word);
+    out.put("(");
     for (i, expr) in exprs.iter().enumerate() {
         if i > 0 {
-            out.push_str(", ")?;
+            out.put(", ");
         }
-        put_expr(alloc, out, expr)?;
+        put_expr(out, expr);
     }
-    out.push_str(")")
+    out.put(")");
 }
 
 /// A word, a function and the arguments.
 #[cycle(forms)]
-fn put_given(
-    alloc: Global,
-    out: &mut String,
-    word: &str,
-    callee: &Callee,
-    arguments: &[Expr],
-) -> Result<(), AllocError> {
-    out.push_str(word)?;
-    put_callee(out, callee)?;
-    put_exprs(alloc, out, "", arguments)
+fn put_given(out: &mut Written, word: &str, callee: &Callee, arguments: &[Expr]) {
+    out.put(word);
+    put_callee(out, callee);
+    put_exprs(out, "", arguments);
 }
 
 /// A word before an expression.
 #[cycle(forms)]
-fn put_around(alloc: Global, out: &mut String, word: &str, expr: &Expr) -> Result<(), AllocError> {
-    out.push_str(word)?;
-    out.push_str("(")?;
-    put_expr(alloc, out, expr)?;
-    out.push_str(")")
+fn put_around(out: &mut Written, word: &str, expr: &Expr) {
+    out.put(word);
+    out.put("(");
+    put_expr(out, expr);
+    out.put(")");
 }
 
 /// Statements.
 #[cycle(forms)]
-fn put_stmts(alloc: Global, out: &mut String, stmts: &[Stmt]) -> Result<(), AllocError> {
+fn put_stmts(out: &mut Written, stmts: &[Stmt]) {
     for (i, stmt) in stmts.iter().enumerate() {
         if i > 0 {
-            out.push_str("; ")?;
+            out.put("; ");
         }
-        put_stmt(alloc, out, stmt)?;
+        put_stmt(out, stmt);
     }
-    Ok(())
 }
 
 /// A word before evaluated statements.
 #[cycle(forms)]
-fn put_evals(
-    alloc: Global,
-    out: &mut String,
-    word: &str,
-    evals: &[Eval],
-) -> Result<(), AllocError> {
-    out.push_str(word)?;
-    out.push_str("(")?;
+fn put_evals(out: &mut Written, word: &str, evals: &[Eval]) {
+    out.put(word);
+    out.put("(");
     for (i, eval) in evals.iter().enumerate() {
         if i > 0 {
-            out.push_str("; ")?;
+            out.put("; ");
         }
-        put_eval(alloc, out, eval)?;
+        put_eval(out, eval);
     }
-    out.push_str(")")
+    out.put(")");
 }
 
 /// A test with its block.
 #[cycle(forms)]
-fn put_branch(alloc: Global, out: &mut String, branch: &Branch) -> Result<(), AllocError> {
-    put_expr(alloc, out, &branch.test)?;
-    out.push_str(": ")?;
-    put_stmts(alloc, out, branch.block.as_slice())
+fn put_branch(out: &mut Written, branch: &Branch) {
+    put_expr(out, &branch.test);
+    out.put(": ");
+    put_stmts(out, branch.block.as_slice());
 }
 
 /// The tests of an `if` with their blocks.
 #[cycle(forms)]
-fn put_branches(alloc: Global, out: &mut String, branches: &[Branch]) -> Result<(), AllocError> {
-    out.push_str("if(")?;
+fn put_branches(out: &mut Written, branches: &[Branch]) {
+    out.put("if(");
     for (i, branch) in branches.iter().enumerate() {
         if i > 0 {
-            out.push_str(", elseif ")?;
+            out.put(", elseif ");
         }
-        put_branch(alloc, out, branch)?;
+        put_branch(out, branch);
     }
-    Ok(())
 }
 
 /// What a `print` writes.
 #[cycle(forms)]
-fn put_piece(alloc: Global, out: &mut String, piece: &Piece) -> Result<(), AllocError> {
+fn put_piece(out: &mut Written, piece: &Piece) {
     match piece {
-        Piece::Text(_, text) => put_text(alloc, out, text.as_slice()),
-        Piece::Show(expr) => put_expr(alloc, out, expr),
+        Piece::Text(_, text) => put_text(out, text.as_slice()),
+        Piece::Show(expr) => put_expr(out, expr),
     }
 }
 
 /// A `print` with its pieces.
 #[cycle(forms)]
-fn put_print(
-    alloc: Global,
-    out: &mut String,
-    line: bool,
-    pieces: &[Piece],
-) -> Result<(), AllocError> {
-    out.push_str(if line { "println(" } else { "print(" })?;
+fn put_print(out: &mut Written, line: bool, pieces: &[Piece]) {
+    out.put(if line { "println(" } else { "print(" });
     for (i, piece) in pieces.iter().enumerate() {
         if i > 0 {
-            out.push_str(", ")?;
+            out.put(", ");
         }
-        put_piece(alloc, out, piece)?;
+        put_piece(out, piece);
     }
-    out.push_str(")")
+    out.put(")");
 }
 
 /// An evaluated statement.
 #[cycle(forms)]
-fn put_eval(alloc: Global, out: &mut String, eval: &Eval) -> Result<(), AllocError> {
+fn put_eval(out: &mut Written, eval: &Eval) {
     match eval {
-        Eval::Method(method) => put_method(alloc, out, method),
-        Eval::Do(expr) => put_expr(alloc, out, expr),
+        Eval::Method(method) => put_method(out, method),
+        Eval::Do(expr) => put_expr(out, expr),
     }
 }
 
 /// A statement.
 #[cycle(forms)]
-fn put_stmt(alloc: Global, out: &mut String, stmt: &Stmt) -> Result<(), AllocError> {
+fn put_stmt(out: &mut Written, stmt: &Stmt) {
     match stmt {
         Stmt::Bind(name, expr) => {
-            put_name(out, name.bytes.as_slice())?;
-            out.push_str(" = ")?;
-            put_expr(alloc, out, expr)
+            put_name(out, name.bytes.as_slice());
+            out.put(" = ");
+            put_expr(out, expr);
         }
         Stmt::Return(_, expr) => {
-            out.push_str("return ")?;
-            put_expr(alloc, out, expr)
+            out.put("return ");
+            put_expr(out, expr);
         }
-        Stmt::ReturnNothing(_) => out.push_str("return"),
-        Stmt::Do(expr) => put_expr(alloc, out, expr),
+        Stmt::ReturnNothing(_) => out.put("return"),
+        Stmt::Do(expr) => put_expr(out, expr),
     }
 }
 
 /// A method.
 #[cycle(forms)]
-pub fn put_method(alloc: Global, out: &mut String, method: &Method) -> Result<(), AllocError> {
+pub fn put_method(out: &mut Written, method: &Method) {
     match method {
         Method::Long(_, head, stmts) => {
-            out.push_str("function(")?;
-            put_head(out, head)?;
-            out.push_str(": ")?;
-            put_stmts(alloc, out, stmts.as_slice())?;
-            out.push_str(")")
+            out.put("function(");
+            put_head(out, head);
+            out.put(": ");
+            put_stmts(out, stmts.as_slice());
+            out.put(")");
         }
         Method::Short(_, head, expr) => {
-            out.push_str("method(")?;
-            put_head(out, head)?;
-            out.push_str(": ")?;
-            put_expr(alloc, out, expr.get())?;
-            out.push_str(")")
+            out.put("method(");
+            put_head(out, head);
+            out.put(": ");
+            put_expr(out, expr.get());
+            out.put(")");
         }
     }
 }
 
 /// An expression.
 #[cycle(forms)]
-pub fn put_expr(alloc: Global, out: &mut String, expr: &Expr) -> Result<(), AllocError> {
+pub fn put_expr(out: &mut Written, expr: &Expr) {
     match expr {
-        Expr::Number(_, number) => put_number(alloc, out, *number),
-        Expr::Bool(_, truth) => out.push_str(if *truth { "true" } else { "false" }),
-        Expr::Nothing(_) => out.push_str("nothing"),
+        Expr::Number(_, number) => out.put_number(*number),
+        Expr::Bool(_, truth) => out.put(if *truth { "true" } else { "false" }),
+        Expr::Nothing(_) => out.put("nothing"),
         Expr::Name(_, name) => put_name(out, name.as_slice()),
-        Expr::Paren(_, inner) => put_around(alloc, out, "paren", inner.get()),
-        Expr::Tuple(_, parts) => put_exprs(alloc, out, "tuple", parts.as_slice()),
+        Expr::Paren(_, inner) => put_around(out, "paren", inner.get()),
+        Expr::Tuple(_, parts) => put_exprs(out, "tuple", parts.as_slice()),
         Expr::Call(_, callee, arguments) => {
-            put_given(alloc, out, "call ", callee, arguments.as_slice())
+            put_given(out, "call ", callee, arguments.as_slice());
         }
         Expr::Make(_, ty, arguments) => {
-            out.push_str("make ")?;
-            put_type(out, ty)?;
-            put_exprs(alloc, out, "", arguments.as_slice())
+            out.put("make ");
+            put_type(out, ty);
+            put_exprs(out, "", arguments.as_slice());
         }
         Expr::Field(_, object, name) => {
-            out.push_str("(")?;
-            put_expr(alloc, out, object.get())?;
-            out.push_str(".")?;
-            put_name(out, name.bytes.as_slice())?;
-            out.push_str(")")
+            out.put("(");
+            put_expr(out, object.get());
+            out.put(".");
+            put_name(out, name.bytes.as_slice());
+            out.put(")");
         }
         Expr::Part(_, tuple, number) => {
-            out.push_str("(")?;
-            put_expr(alloc, out, tuple.get())?;
-            out.push_str("[")?;
-            put_number(alloc, out, *number)?;
-            out.push_str("])")
+            out.put("(");
+            put_expr(out, tuple.get());
+            out.put("[");
+            out.put_number(*number);
+            out.put("])");
         }
         Expr::Prefix(_, prefix, operand) => {
-            out.push_str("(")?;
-            out.push_str(prefix_sign(*prefix))?;
-            put_expr(alloc, out, operand.get())?;
-            out.push_str(")")
+            out.put("(");
+            out.put(prefix_sign(*prefix));
+            put_expr(out, operand.get());
+            out.put(")");
         }
         Expr::Infix(_, operator, left, right) => {
-            out.push_str("(")?;
-            put_expr(alloc, out, left.get())?;
-            out.push_str(infix_sign(*operator))?;
-            put_expr(alloc, out, right.get())?;
-            out.push_str(")")
+            out.put("(");
+            put_expr(out, left.get());
+            out.put(infix_sign(*operator));
+            put_expr(out, right.get());
+            out.put(")");
         }
         Expr::Isa(_, value, ty) => {
-            out.push_str("(")?;
-            put_expr(alloc, out, value.get())?;
-            out.push_str(" isa ")?;
-            put_type(out, ty)?;
-            out.push_str(")")
+            out.put("(");
+            put_expr(out, value.get());
+            out.put(" isa ");
+            put_type(out, ty);
+            out.put(")");
         }
         Expr::Sub(_, low, high) => put_sub(out, low, high),
         Expr::Choose(_, test, yes, other) => {
-            out.push_str("(")?;
-            put_expr(alloc, out, test.get())?;
-            out.push_str("?")?;
-            put_expr(alloc, out, yes.get())?;
-            out.push_str(":")?;
-            put_expr(alloc, out, other.get())?;
-            out.push_str(")")
+            out.put("(");
+            put_expr(out, test.get());
+            out.put("?");
+            put_expr(out, yes.get());
+            out.put(":");
+            put_expr(out, other.get());
+            out.put(")");
         }
         Expr::If(_, branches) => {
-            put_branches(alloc, out, branches.as_slice())?;
-            out.push_str(")")
+            put_branches(out, branches.as_slice());
+            out.put(")");
         }
         Expr::IfElse(_, branches, stmts) => {
-            put_branches(alloc, out, branches.as_slice())?;
-            out.push_str(", else: ")?;
-            put_stmts(alloc, out, stmts.as_slice())?;
-            out.push_str(")")
+            put_branches(out, branches.as_slice());
+            out.put(", else: ");
+            put_stmts(out, stmts.as_slice());
+            out.put(")");
         }
         Expr::Begin(_, stmts) => {
-            out.push_str("begin(")?;
-            put_stmts(alloc, out, stmts.as_slice())?;
-            out.push_str(")")
+            out.put("begin(");
+            put_stmts(out, stmts.as_slice());
+            out.put(")");
         }
         Expr::Latest(_, callee, arguments) => {
-            put_given(alloc, out, "latest ", callee, arguments.as_slice())
+            put_given(out, "latest ", callee, arguments.as_slice());
         }
-        Expr::Spawn(_, task) => put_around(alloc, out, "spawn", task.get()),
+        Expr::Spawn(_, task) => put_around(out, "spawn", task.get()),
         Expr::EvalMethod(_, method) => {
-            out.push_str("eval ")?;
-            put_method(alloc, out, method.get())
+            out.put("eval ");
+            put_method(out, method.get());
         }
-        Expr::EvalBlock(_, evals) => put_evals(alloc, out, "evals", evals.as_slice()),
-        Expr::EvalExpr(_, evaluated) => put_around(alloc, out, "eval", evaluated.get()),
-        Expr::EvalQuote(_, evals) => put_evals(alloc, out, "quote", evals.as_slice()),
-        Expr::Fetch(_, task) => put_around(alloc, out, "fetch", task.get()),
-        Expr::Print(_, line, pieces) => put_print(alloc, out, *line, pieces.as_slice()),
+        Expr::EvalBlock(_, evals) => put_evals(out, "evals", evals.as_slice()),
+        Expr::EvalExpr(_, evaluated) => put_around(out, "eval", evaluated.get()),
+        Expr::EvalQuote(_, evals) => put_evals(out, "quote", evals.as_slice()),
+        Expr::Fetch(_, task) => put_around(out, "fetch", task.get()),
+        Expr::Print(_, line, pieces) => put_print(out, *line, pieces.as_slice()),
     }
 }
