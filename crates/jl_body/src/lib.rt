@@ -8,6 +8,3 @@ mod statics;
 
 pub use check::check_type;
 pub use jl_sig::SigFault;
-
-#[cfg(test)]
-mod tests;

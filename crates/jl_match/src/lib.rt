@@ -21,8 +21,3 @@ pub use jl_sig::{Sig, SigFault};
 pub use make::make_sig;
 pub use names::is_well_named;
 pub use signature::applies;
-
-#[cfg(test)]
-mod applies_tests;
-#[cfg(test)]
-mod tests;

@@ -25,8 +25,3 @@ pub use fault::DeclareFault;
 pub use forms::norm;
 pub use jl_types::NormFault;
 pub use variables::has_own_variables;
-
-#[cfg(test)]
-mod declare_tests;
-#[cfg(test)]
-mod tests;

@@ -4,5 +4,3 @@
 
 pub mod find;
 pub mod occurs;
-#[cfg(test)]
-mod tests;

@@ -16,8 +16,6 @@ pub mod BuildLemmas
 pub mod RowFit
 pub mod KeptLemmas
 pub mod FieldLemmas
-pub mod StructReady
-pub mod SampleLemmas
 pub mod LimitLemmas
 pub mod SigLemmas
 pub mod InferredLemmas

@@ -6,7 +6,6 @@ pub mod Fit
 pub mod SigParts
 pub mod Prepared
 pub mod Fields
-pub mod Samples
 pub mod Inferred
 pub mod Readied
 pub mod SamplePrograms

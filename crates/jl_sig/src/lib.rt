@@ -34,5 +34,3 @@ pub use variables::kinds;
 
 #[cfg(test)]
 mod ready_tests;
-#[cfg(test)]
-mod tests;

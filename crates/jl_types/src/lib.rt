@@ -23,8 +23,3 @@ pub use ground::ground_sub;
 pub use kept::settled;
 pub use normal_form::{NormFault, is_within_limits, normal};
 pub use table::Table;
-
-#[cfg(test)]
-mod normal_tests;
-#[cfg(test)]
-mod tests;

@@ -1,5 +1,0 @@
-use Rattle.jl_match.specs.KeptRow.{AreConcrete}
-use Rattle.jl_match.proofs.applies_tests.arguments.Given as goal
-
-abbrev pub invariant-loop-ty : goal.invariant-loop-ty
-invariant-loop-ty l = AreConcrete l.table l.found.items

@@ -1,8 +1,0 @@
-use Rattle.std.proofs.Common.{sym, subst}
-use Rattle.jl_model.specs.Ancestors.{builtin_types}
-use Rattle.jl_sig.specs.Prepared.{IsWellPlaced}
-use Rattle.jl_sig.proofs.SampleLemmas.{bound_placed}
-use Rattle.jl_sig.proofs.tests.bound_has_atoms.Goals as goal
-
-pub prepared-requires : goal.prepared-requires
-prepared-requires c = subst (IsWellPlaced builtin_types) (sym c.in_ok-written.ensures) bound_placed
