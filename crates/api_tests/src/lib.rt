@@ -1,5 +1,6 @@
 //! Tests of public calls that no text can show: faults of devices in mid-stream, tables of names, the numbers of slots and
-//! variables, and what is asked of a table of declarations. All else is told by the lines of script_cases and check_cases.
+//! variables, what is asked of a table of declarations, and what is kept of a
+//! program. All else is told by the lines of script_cases and check_cases.
 #![tactic(auto)]
 
 #[cfg(test)]
@@ -12,6 +13,8 @@ mod io_tests;
 mod judge_tests;
 #[cfg(test)]
 mod names_tests;
+#[cfg(test)]
+mod ready_tests;
 #[cfg(test)]
 mod resolve_tests;
 #[cfg(test)]

@@ -21,6 +21,5 @@ pub mod SigLemmas
 pub mod InferredLemmas
 pub mod FieldSigLemmas
 pub mod ReadyLemmas
-pub mod BareLemmas
 pub mod FlagLemmas
 pub mod UnusedLemmas

@@ -8,5 +8,4 @@ pub mod Prepared
 pub mod Fields
 pub mod Inferred
 pub mod Readied
-pub mod SamplePrograms
 pub mod Flags

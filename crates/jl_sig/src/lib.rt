@@ -31,6 +31,3 @@ pub use sig::{Prepared, Sig, prepare};
 pub use usable::is_usable;
 pub use usable_flags::{has_unused, usable_variables};
 pub use variables::kinds;
-
-#[cfg(test)]
-mod ready_tests;

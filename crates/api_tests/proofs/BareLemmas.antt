@@ -6,7 +6,7 @@ use Rattle.jl_program.specs.Gathered.{own_types, own_struct, written_types, infe
 use Rattle.jl_program.specs.Scope.{all_types}
 use Rattle.jl_program.specs.Valid.{IsValid, IsValidSite}
 use Rattle.jl_program.proofs.ValidLayers.{in-nothing}
-use Rattle.jl_sig.specs.SamplePrograms.{bare}
+use Rattle.api_tests.specs.SamplePrograms.{bare}
 
 none : {X : Type 0} (Is : X → Type 0) (xs : List X) → xs ≡ [] → All Is xs
 none Is [] e k d l = absurd (omega (arith, l))

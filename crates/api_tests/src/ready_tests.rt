@@ -2,11 +2,11 @@
 
 ghost use Rattle.std.specs.Prelude.{◌≡◌, IfOk};
 ghost use Rattle.jl_program.specs.Prelude.{prelude_functions, prelude_sites};
-ghost use Rattle.jl_sig.specs.SamplePrograms.{row_types, row_site, bare};
+ghost use Rattle.api_tests.specs.SamplePrograms.{row_types, row_site, bare};
 
-use crate::Ready;
 use jl_model::ty::{Bounds, Bytes, Decls, Ty, Tys, Written};
 use jl_program::tree::{Expr, Exprs, Items, Names, Program, Site, Sites};
+use jl_sig::Ready;
 use std::alloc::{AllocError, Global};
 use std::test::Fail;
 
