@@ -4,6 +4,7 @@
 pub mod choice;
 pub mod datum;
 pub mod fault;
+pub mod prelude;
 #[cfg(test)]
 mod tests;
 pub mod tree;
