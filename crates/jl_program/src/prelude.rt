@@ -1,8 +1,8 @@
 //! The prelude: its functions, and its operations, which are the first definition sites of each program. An operation is a
 //! row of `OPERATIONS` here, a row of `operations` in `specs/Prelude`, and a case of what operations mean.
 
-ghost use Rattle.std.specs.Prelude.{◌≡◌};
-ghost use Rattle.jl_program.specs.Prelude.{operation_of};
+ghost use Rattle.std.specs.Prelude.{◌≡◌, map};
+ghost use Rattle.jl_program.specs.Prelude.{prelude_functions, operations, operation_of};
 
 /// How many functions the prelude has, and the number of the first function of a script.
 pub const PRELUDE_FUNCTIONS: u32 = 12;
@@ -35,7 +35,7 @@ pub const GREATER_EQUAL: u32 = 10;
 
 pub const NOT: u32 = 11;
 /// The names of the functions, by their numbers.
-pub const FUNCTION_NAMES: [&str; 12] = [
+const FUNCTION_NAMES: [&str; 12] = [
     "+", "-", "*", "div", "rem", "==", "!=", "<", "<=", ">", ">=", "!",
 ];
 
@@ -68,7 +68,7 @@ pub enum Shape {
 }
 
 /// The operations by their sites, each with the function of which it is a method, and with its parameters.
-pub const OPERATIONS: [(Operation, u32, Shape); 14] = [
+const OPERATIONS: [(Operation, u32, Shape); 14] = [
     (Operation::Add, PLUS, Shape::Integers),
     (Operation::Subtract, MINUS, Shape::Integers),
     (Operation::Multiply, TIMES, Shape::Integers),
@@ -85,13 +85,26 @@ pub const OPERATIONS: [(Operation, u32, Shape); 14] = [
     (Operation::EqualTruths, EQUAL, Shape::Truths),
 ];
 
+/// The names of the functions, by their numbers.
+pub fn function_names() -> [&'static str; 12]
+    ensures { map (λ w. w.now) result ≡ prelude_functions }
+{
+    FUNCTION_NAMES
+}
+
+/// The operations by their sites, each with the function of which it is a method, and with its parameters.
+pub fn operations() -> [(Operation, u32, Shape); 14]
+    ensures { result ≡ operations }
+{
+    OPERATIONS
+}
+
 impl Operation {
     /// The operation of a site; none where the site is one of a script.
     pub fn of_site(site: u32) -> Option<Operation>
         ensures { result ≡ operation_of site }
     {
-        let rows: [(Operation, u32, Shape); 14] = OPERATIONS;
-        match rows.as_slice().get(site as usize) {
+        match operations().as_slice().get(site as usize) {
             None => None,
             Some((operation, _, _)) => Some(*operation),
         }
