@@ -252,12 +252,15 @@ unfolding digits
 fuel_spent = refl
 
 stack_limit : fault_text P F.StackLimit ≡ codes "StackOverflowError: 100000 open calls"
+unfolding digits
 stack_limit = refl
 
 world_limit : fault_text P F.WorldLimit ≡ codes "WorldLimit: 65535 worlds"
+unfolding digits
 world_limit = refl
 
 task_limit : fault_text P F.TaskLimit ≡ codes "TaskLimit: 4096 tasks"
+unfolding digits
 task_limit = refl
 
 type_limit : fault_text P F.TypeLimit ≡ codes "TypeLimit"

@@ -1,6 +1,7 @@
 -- The table of nominal types that declarations make: which types are structs, and each type's ancestors with their
 -- arguments (Julia manual, Types: Abstract Types, Parametric Types).
 use Rattle.std.specs.Prelude.{ℕ, ◌+◌, ◌≡◌, Bool, true, false, cond, nat_eq, codes, List, [], ◌∷◌, ◌++◌, map, length, Option, None, Some, get_or, slice_get}
+use Rattle.jl_model.specs.declared.builtin.TheConstants.{NUMBER, REAL, INTEGER, SIGNED}
 use Rattle.jl_model.specs.declared.ty.Ty.{Ty, out-Ty}
 use Rattle.jl_model.specs.declared.ty.Ty.TheOpen.{Ty-F, Any, Union, Tuple, Nominal, Var}
 use Rattle.jl_model.specs.declared.ty.Ty.TheViews as V
@@ -68,11 +69,11 @@ named n = V.Nominal n []
 abbrev pub builtin_types : List Decl
 builtin_types =
     plain_decl (codes "Number") Abstract W.Any
-    ∷ plain_decl (codes "Real") Abstract (named 0)
-    ∷ plain_decl (codes "Integer") Abstract (named 1)
-    ∷ plain_decl (codes "Signed") Abstract (named 2)
-    ∷ plain_decl (codes "Int64") Struct (named 3)
-    ∷ plain_decl (codes "Bool") Struct (named 2)
+    ∷ plain_decl (codes "Real") Abstract (named NUMBER)
+    ∷ plain_decl (codes "Integer") Abstract (named REAL)
+    ∷ plain_decl (codes "Signed") Abstract (named INTEGER)
+    ∷ plain_decl (codes "Int64") Struct (named SIGNED)
+    ∷ plain_decl (codes "Bool") Struct (named INTEGER)
     ∷ plain_decl (codes "Nothing") Struct W.Any
     ∷ plain_decl (codes "Task") Struct W.Any
     ∷ []

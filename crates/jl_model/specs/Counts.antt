@@ -1,5 +1,6 @@
 -- How large a type is, and how many alternatives it has before any is dropped.
 use Rattle.std.specs.Prelude.{ℕ, ◌+◌, ◌*◌, ◌≤◌, max, List, [], ◌∷◌, map}
+use Rattle.jl_model.specs.declared.limits.TheConstants.{MOST_TYPE_NODES, MOST_ALTERNATIVES}
 use Rattle.jl_model.specs.declared.ty.Ty.{Ty}
 use Rattle.jl_model.specs.declared.ty.Ty.TheOpen.{Ty-F, Any, Union, Tuple, Nominal, Var}
 use Rattle.jl_model.specs.declared.ty.Ty.TheFolds.{fold-Ty}
@@ -48,5 +49,5 @@ raw = fold-Ty Raw raw_step
 
 -- at most 1,024 nodes, and no part with more than 256 raw alternatives
 pub record IsWithinLimits (t : Ty) : Type 0 where
-  pub nodes : nodes t ≤ 1024
-  pub alternatives : (raw t).widest ≤ 256
+  pub nodes : nodes t ≤ MOST_TYPE_NODES
+  pub alternatives : (raw t).widest ≤ MOST_ALTERNATIVES

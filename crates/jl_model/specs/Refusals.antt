@@ -3,6 +3,8 @@
 -- number is the number of those before it.
 use Rattle.std.specs.Prelude.{ℕ, ◌+◌, ◌≡◌, ◌<◌, ◌≤◌, ◌⊎◌, Bool, true, false, ◌&&◌, not, nat_eq, nat_lt, IsTrue, List, [], ◌∷◌, ◌++◌, map, length, Option, None, Some, get_or, slice_get}
 use Rattle.std.specs.List.{flat_map, list_all, Contains}
+use Rattle.jl_model.specs.declared.builtin.TheConstants.{BUILTIN_TYPES}
+use Rattle.jl_model.specs.declared.limits.TheConstants.{MOST_TYPE_NODES, MOST_DECLARED_TYPES, MOST_TYPE_PARAMETERS, MOST_FIELDS, MOST_ANCESTORS}
 use Rattle.jl_model.specs.declared.ty.Ty.{Ty}
 use Rattle.jl_model.specs.declared.ty.Ty.TheOpen.{Ty-F, Any, Union, Tuple, Nominal, Var}
 use Rattle.jl_model.specs.declared.ty.Ty.TheViews.{out-Ty}
@@ -149,7 +151,7 @@ VariablePlace ds d = is_placed_decl ds d ≡ false
 
 -- each normal form of it has more than 1,024 nodes
 abbrev pub HasLargeForm : Table → Ty → Type 0
-HasLargeForm n t = (u : Ty) → IsNormalForm n t u → 1024 < nodes u
+HasLargeForm n t = (u : Ty) → IsNormalForm n t u → MOST_TYPE_NODES < nodes u
 
 -- a bound, or an argument without variables, has a normal form that is too large
 abbrev pub FormLimit : List Decl → Decl → Type 0
@@ -176,7 +178,7 @@ BoundBroken ds d =
 
 -- more than 1,024 declared types (beside the eight built-in ones), 8 parameters, 64 fields or 64 ancestors
 abbrev pub TooMany : List Decl → Decl → Type 0
-TooMany ds d = (1024 + 8 ≤ length ds) ⊎ (8 < length d.params) ⊎ (64 < length d.fields) ⊎ (64 < length (ancestors ds d))
+TooMany ds d = (MOST_DECLARED_TYPES + BUILTIN_TYPES ≤ length ds) ⊎ (MOST_TYPE_PARAMETERS < length d.params) ⊎ (MOST_FIELDS < length d.fields) ⊎ (MOST_ANCESTORS < length (ancestors ds d))
 
 -- two fields of one name
 abbrev pub DuplicateField : Decl → Type 0

@@ -2,6 +2,7 @@
 -- Types). The declarations are ds, the built-in ones first, and the signature is s.
 use Rattle.std.specs.Prelude.{ℕ, ◌≡◌, ◌<◌, ◌⊎◌, Bool, true, false, ◌&&◌, IsTrue, List, [], ◌∷◌, ◌++◌, map, length, get_or, slice_get}
 use Rattle.std.specs.List.{flat_map, list_all, Contains}
+use Rattle.jl_model.specs.declared.limits.TheConstants.{MOST_TYPE_NODES, MOST_ALTERNATIVES, MOST_SIGNATURE_ROWS, MOST_ARGUMENTS}
 use Rattle.jl_model.specs.declared.ty.Ty.{Ty}
 use Rattle.jl_model.specs.declared.ty.Ty.TheOpen.{Ty-F, Any, Union, Tuple, Nominal, Var}
 use Rattle.jl_model.specs.declared.ty.Ty.TheFolds.{para-Ty}
@@ -58,16 +59,16 @@ HasClosed s t = (Contains (bound_types s.vars) t ⊎ ((a : Given) × Contains (a
 -- the ways in which a signature is too large: its nodes in sum, the raw alternatives of a type in it or of a part of one, the
 -- normal form of a bound or an argument without variables, and its rows
 abbrev pub ManyNodes : Written → Type 0
-ManyNodes s = 1024 < total (map nodes (types_in s))
+ManyNodes s = MOST_TYPE_NODES < total (map nodes (types_in s))
 
 abbrev pub ManyAlternatives : Written → Type 0
-ManyAlternatives s = (t : Ty) × Contains (types_in s) t × (256 < (raw t).widest)
+ManyAlternatives s = (t : Ty) × Contains (types_in s) t × (MOST_ALTERNATIVES < (raw t).widest)
 
 abbrev pub LargeForm : Table → Written → Type 0
-LargeForm n s = (t : Ty) × (u : Ty) × HasClosed s t × IsNormalForm n t u × (1024 < nodes u)
+LargeForm n s = (t : Ty) × (u : Ty) × HasClosed s t × IsNormalForm n t u × (MOST_TYPE_NODES < nodes u)
 
 abbrev pub ManyRows : Table → Written → Type 0
-ManyRows n s = (picks : ℕ → List Ty) × ArePicks n s picks × (256 < length (all_rows s picks))
+ManyRows n s = (picks : ℕ → List Ty) × ArePicks n s picks × (MOST_SIGNATURE_ROWS < length (all_rows s picks))
 
 -- THE REFUSALS, in their order.
 
@@ -81,7 +82,7 @@ UnusedVariable s = (v : ℕ) × (v < width s) × (kind s v ≡ unused)
 
 -- more than 8 parameters
 abbrev pub TooManyParameters : Written → Type 0
-TooManyParameters s = 8 < length s.parts
+TooManyParameters s = MOST_ARGUMENTS < length s.parts
 
 -- a nominal type in it has another number of arguments than declared
 abbrev pub WrongParameterCount : List Decl → Written → Type 0

@@ -1,6 +1,7 @@
 -- The arguments without variables in a declaration, one by one: their normal forms, and their declared bounds.
 use Rattle.std.specs.Prelude.{ℕ, ◌+◌, ◌++◌, ◌≡◌, ◌≤◌, Bool, true, false, IsTrue, List, [], ◌∷◌, length, get_or, slice_get}
 use Rattle.std.specs.List.{flat_map, Contains}
+use Rattle.jl_model.specs.declared.limits.TheConstants.{MOST_TYPE_NODES}
 use Rattle.jl_model.specs.declared.ty.Ty.{Ty}
 use Rattle.jl_model.specs.declared.ty.Ty.TheViews as V
 use Rattle.jl_model.specs.declared.ty.Bound.{Bound}
@@ -27,7 +28,7 @@ SomeLarge ds d gs = (a : Given) × Contains gs a × IsTrue (is_closed a.ty) × H
 
 -- it has a normal form of at most 1,024 nodes
 abbrev pub HasSmallForm : List Decl → Decl → Ty → Type 0
-HasSmallForm ds d t = (u : Ty) × IsNormalForm (table_with ds d) t u × (nodes u ≤ 1024)
+HasSmallForm ds d t = (u : Ty) × IsNormalForm (table_with ds d) t u × (nodes u ≤ MOST_TYPE_NODES)
 
 -- a type without variables has a small normal form, and r tells whether it is outside these bounds
 pub record IsJudged (ds : List Decl) (d : Decl) (b : Bound) (t : Ty) (r : Bool) : Type 0 where

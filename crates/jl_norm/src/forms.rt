@@ -1,6 +1,7 @@
 //! Normal forms of types.
 
 ghost use Rattle.std.specs.Prelude.{◌≡◌, ◌≤◌, IsTrue, OnOk, IfOk, Err, List, length};
+ghost use Rattle.jl_model.specs.declared.limits.TheConstants.{MOST_TYPE_NODES};
 ghost use Rattle.jl_model.specs.declared.ty.Decl.{Decl};
 ghost use Rattle.jl_model.specs.Ancestors.{table_of};
 ghost use Rattle.jl_model.specs.Counts.{nodes, IsWithinLimits};
@@ -19,7 +20,7 @@ use std::alloc::Global;
 pub fn norm(alloc: Global, table: &Table, ty: &Ty) -> Result<Ty, NormFault>
     requires { IsTrue (is_known (length table.now) ty.now) }
     ensures form { IfOk result (λ u. IsNormalForm (table_of table.now) ty.now u) }
-    ensures small { IfOk result (λ u. nodes u ≤ 1024) }
+    ensures small { IfOk result (λ u. nodes u ≤ MOST_TYPE_NODES) }
     ensures fits { IfOk result (λ u. IsWithinLimits u) }
     ensures within { OnOk result (IsWithinLimits ty.now) }
     ensures known { IfOk result (λ u. IsTrue (is_known (length table.now) u)) }

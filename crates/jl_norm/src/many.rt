@@ -3,20 +3,13 @@
 ghost use Rattle.std.specs.Prelude.{◌≡◌, IsTrue, ◌↔◌, length};
 ghost use Rattle.jl_model.specs.Refusals.{ancestors, TooMany};
 
+use jl_model::builtin::BUILTIN_TYPES;
+use jl_model::limits::{MOST_ANCESTORS, MOST_DECLARED_TYPES, MOST_FIELDS, MOST_TYPE_PARAMETERS};
 use jl_model::ty::{Decl, Ty};
 use jl_types::Table;
 
-/// The most types, the eight built-in ones among them.
-const MOST_TYPES: u32 = 1032;
-
-/// The most parameters of a type.
-const MOST_PARAMETERS: usize = 8;
-
-/// The most fields of a struct.
-const MOST_FIELDS: usize = 64;
-
-/// The most ancestors of a type.
-const MOST_ANCESTORS: usize = 64;
+/// The most types, the built-in ones among them.
+const MOST_TYPES: u32 = MOST_DECLARED_TYPES as u32 + BUILTIN_TYPES;
 
 /// How many ancestors the declared type would have.
 #[tactic(auto, using(crate::proofs::AncestorLemmas::counting))]
@@ -39,7 +32,7 @@ pub fn is_too_many(table: &Table, decl: &Decl) -> bool
     ensures { IsTrue result ↔ TooMany table.now decl.now }
 {
     table.count() >= MOST_TYPES
-        || decl.params.len() > MOST_PARAMETERS
+        || decl.params.len() > MOST_TYPE_PARAMETERS
         || decl.fields.len() > MOST_FIELDS
         || ancestor_count(table, decl) > MOST_ANCESTORS
 }

@@ -8,10 +8,11 @@ ghost use Rattle.jl_model.specs.Kept.{field_types};
 ghost use Rattle.jl_model.specs.Refusals.{bound_types, ancestors, AllWithinLimits, types_of, sized_types};
 ghost use Rattle.jl_types.specs.Lines.{line_in};
 
+use jl_model::limits::MOST_TYPE_NODES;
 use jl_model::ty::{Bound, Decl, Field, Ty};
 use jl_types::Table;
 use jl_types::ancestor::Ancestor;
-use jl_types::count::{MOST_NODES, nodes_within};
+use jl_types::count::nodes_within;
 use jl_types::put::put_all;
 use jl_types::raw::alternatives_within;
 use std::alloc::{AllocError, Global};
@@ -20,7 +21,7 @@ use std::alloc::{AllocError, Global};
 pub fn is_within(ty: &Ty) -> bool
     ensures { IsTrue result ↔ IsWithinLimits ty.now }
 {
-    nodes_within(ty, MOST_NODES) <= MOST_NODES && alternatives_within(ty).is_some()
+    nodes_within(ty, MOST_TYPE_NODES) <= MOST_TYPE_NODES && alternatives_within(ty).is_some()
 }
 
 /// Whether the bounds are.

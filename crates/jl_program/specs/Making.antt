@@ -1,5 +1,6 @@
 -- What refuses a tuple or a struct (Julia manual, Types: Composite Types, Tuple Types).
 use Rattle.std.specs.Prelude.{ℕ, ◌<◌, List, length, take, get_or}
+use Rattle.jl_model.specs.declared.limits.TheConstants.{MOST_TYPE_NODES}
 use Rattle.jl_model.specs.declared.ty.Ty.{Ty}
 use Rattle.jl_model.specs.declared.ty.Ty.TheVariants as W
 use Rattle.jl_model.specs.declared.ty.Decl.{Decl}
@@ -24,7 +25,7 @@ struct_of t parts = Struct (record { ty = t; parts = parts })
 
 -- the type of the tuple has too many nodes
 abbrev pub IsTooLargeType : List Datum → Type 0
-IsTooLargeType parts = 1024 < types.nodes (tuple_type parts)
+IsTooLargeType parts = MOST_TYPE_NODES < types.nodes (tuple_type parts)
 
 -- the value is too deep, or has too many nodes
 abbrev pub IsTooLarge : Value → Type 0

@@ -1,4 +1,5 @@
 use Rattle.std.specs.Prelude.{ℕ, ◌+◌, List, [], ◌∷◌, map, max, ◌≤◌}
+use Rattle.jl_model.specs.declared.limits.TheConstants.{MOST_VALUE_NODES, MOST_VALUE_DEPTH}
 use Rattle.jl_program.specs.declared.datum.Datum.{Datum}
 use Rattle.jl_program.specs.declared.datum.Datum.TheOpen.{Datum-F, Tuple, Struct}
 use Rattle.jl_program.specs.declared.datum.Datum.TheFolds.{fold-Datum}
@@ -37,4 +38,4 @@ depth_all ts = greatest (map depth ts)
 
 -- at most a million nodes, and at most two thousand deep
 abbrev pub IsWithinLimits : Datum → Type 0
-IsWithinLimits d = (nodes d ≤ 1000000) × (depth d ≤ 2000)
+IsWithinLimits d = (nodes d ≤ MOST_VALUE_NODES) × (depth d ≤ MOST_VALUE_DEPTH)

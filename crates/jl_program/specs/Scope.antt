@@ -5,6 +5,7 @@
 use Rattle.std.specs.Prelude.{ℕ, ◌+◌, Bool, true, false, ◌&&◌, cond, not, nat_eq, nat_le, nat_lt, List, [], ◌∷◌, ◌++◌, map, length, get_or}
 use Rattle.std.specs.List.{list_all}
 use Rattle.std.specs.Str.{is_utf8}
+use Rattle.jl_model.specs.declared.limits.TheConstants.{MOST_ARGUMENTS}
 use Rattle.jl_model.specs.declared.ty.Decl.{Decl}
 use Rattle.jl_model.specs.declared.ty.Written.{Written}
 use Rattle.jl_model.specs.Ancestors.{builtin_types, table_of}
@@ -93,7 +94,7 @@ types_of P = table_of (builtin_types ++ P.decls)
 module _ (P : Program) (views : List View) where
   -- a counted call is of a function and has at most 8 arguments
   abbrev pub is_call : ℕ → List (Scope → Bool) → Scope → Bool
-  is_call f xs s = nat_lt f (length P.functions) && (nat_le (length xs) 8 && all_in xs s)
+  is_call f xs s = nat_lt f (length P.functions) && (nat_le (length xs) MOST_ARGUMENTS && all_in xs s)
 
   -- a spawn place of the program, of a number that may stand here, at which the same is visible
   abbrev pub is_place : ℕ → Scope → Bool

@@ -1,6 +1,7 @@
 -- The texts of types, values and outcomes.
 use Rattle.std.specs.Prelude.{ℕ, Bool, true, false, codes, decimal, List, [], ◌∷◌, ◌++◌, map, get_or}
 use Rattle.std.specs.Fmt.{signed_decimal}
+use Rattle.jl_model.specs.declared.limits.TheConstants.{MOST_OPEN_CALLS, MOST_WORLDS, MOST_TASKS}
 use Rattle.jl_model.specs.declared.ty.Ty.{Ty}
 use Rattle.jl_model.specs.declared.ty.Ty.TheOpen.{Ty-F, Any, Union, Tuple, Nominal, Var}
 use Rattle.jl_model.specs.declared.ty.Ty.TheFolds.{fold-Ty}
@@ -101,9 +102,9 @@ fault_text P (F.NotBool t) = codes "TypeError: non-boolean (" ++ (type_text P t 
 fault_text P (F.NotTask t) = codes "NotTask: " ++ type_text P t
 fault_text P (F.TaskFailed n) = codes "TaskFailedException: task " ++ decimal n
 fault_text P (F.FuelSpent n) = codes "FuelSpent: " ++ (decimal n ++ codes " calls")
-fault_text P F.StackLimit = codes "StackOverflowError: 100000 open calls"
-fault_text P F.WorldLimit = codes "WorldLimit: 65535 worlds"
-fault_text P F.TaskLimit = codes "TaskLimit: 4096 tasks"
+fault_text P F.StackLimit = codes "StackOverflowError: " ++ (decimal MOST_OPEN_CALLS ++ codes " open calls")
+fault_text P F.WorldLimit = codes "WorldLimit: " ++ (decimal MOST_WORLDS ++ codes " worlds")
+fault_text P F.TaskLimit = codes "TaskLimit: " ++ (decimal MOST_TASKS ++ codes " tasks")
 fault_text P F.TypeLimit = codes "TypeLimit"
 fault_text P F.ValueLimit = codes "ValueLimit"
 

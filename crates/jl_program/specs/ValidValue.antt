@@ -1,6 +1,8 @@
 -- Valid values: what a tuple or a struct keeps as its type is its concrete normal type, and each part of a struct is of its
 -- field's type (Julia manual, Types: Composite Types, Tuple Types).
 use Rattle.std.specs.Prelude.{ℕ, ℤ, ◌≡◌, ◌≤◌, Bool, false, nat_le, IsTrue, List, [], ◌∷◌, map, Option, None, Some, slice_get}
+use Rattle.jl_model.specs.declared.limits.TheConstants.{MOST_TYPE_NODES}
+use Rattle.jl_model.specs.declared.builtin.TheConstants.{INT64, BOOL, NOTHING, TASK, BUILTIN_TYPES}
 use Rattle.jl_model.specs.declared.ty.Ty.{Ty, out-Ty}
 use Rattle.jl_model.specs.declared.ty.Ty.TheOpen.{Ty-F, Nominal}
 use Rattle.jl_model.specs.declared.ty.Ty.TheViews as V
@@ -18,10 +20,10 @@ use Rattle.jl_program.specs.declared.datum.Datum.TheOpen.{Datum-F, Int, Bool as 
 use Rattle.jl_program.specs.Measures.{IsWithinLimits}
 
 abbrev pub kept_step : Datum-F Datum → Ty
-kept_step (Int _) = named 4
-kept_step (Truth _) = named 5
-kept_step Nothing = named 6
-kept_step (Task _) = named 7
+kept_step (Int _) = named INT64
+kept_step (Truth _) = named BOOL
+kept_step Nothing = named NOTHING
+kept_step (Task _) = named TASK
 kept_step (Tuple t _) = t
 kept_step (Struct t _) = t
 
@@ -42,7 +44,7 @@ pub record IsValueType (ds : List Decl) (t : Ty) : Type 0 where
   pub small : types.IsWithinLimits t
 
 abbrev pub is_declared_step : Ty-F Ty → Bool
-is_declared_step (Nominal k _) = nat_le 8 k
+is_declared_step (Nominal k _) = nat_le BUILTIN_TYPES k
 is_declared_step _ = false
 
 -- a struct type that may be made: a declared one, past the eight built-in types, with all its arguments
@@ -73,7 +75,7 @@ module _ (ds : List Decl) where
       truth : (d : Datum) (b : Bool) → out-Datum d ≡ Truth b → IsValid d
       nothing : (d : Datum) → out-Datum d ≡ Nothing → IsValid d
       task : (d : Datum) (n : ℕ) → out-Datum d ≡ Task n → IsValid d
-      tuple : (d : Datum) (t : Ty) (parts : List Datum) → out-Datum d ≡ Tuple t parts → AllValid parts → t ≡ tuple_type parts → types.nodes t ≤ 1024 → IsWithinLimits d → IsValid d
+      tuple : (d : Datum) (t : Ty) (parts : List Datum) → out-Datum d ≡ Tuple t parts → AllValid parts → t ≡ tuple_type parts → types.nodes t ≤ MOST_TYPE_NODES → IsWithinLimits d → IsValid d
       made : (d : Datum) (t : Ty) (parts : List Datum) → out-Datum d ≡ Struct t parts → AllValid parts → IsStructType ds t → AreOf ds parts (fields_in ds t) → IsWithinLimits d → IsValid d
 
     pub data AllValid : List Datum → Type 0 where

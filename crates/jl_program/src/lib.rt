@@ -4,5 +4,6 @@
 pub mod choice;
 pub mod datum;
 pub mod fault;
+pub mod prelude;
 pub mod tree;
 pub mod value;

@@ -5,6 +5,7 @@ ghost use Rattle.jl_program.specs.Text.{function_name, type_text, types_text, fa
 
 use crate::numbers::append_unsigned;
 use crate::types::{append_argument_types, append_type};
+use jl_model::limits::{MOST_OPEN_CALLS, MOST_TASKS, MOST_WORLDS};
 use jl_model::rows::Row;
 use jl_model::ty::{Bytes, Ty};
 use jl_program::fault::Fault;
@@ -187,6 +188,20 @@ fn append_task_failed(out: &mut Row<u8>, task: u32) -> Result<(), AllocError>
     append_unsigned(out, u64::from(task))
 }
 
+/// A number between two texts.
+fn append_limit(
+    out: &mut Row<u8>,
+    before: &[u8],
+    limit: u64,
+    after: &[u8],
+) -> Result<(), AllocError>
+    ensures { OnOk result (out.new ≡ out.old ++ (before.now ++ (decimal limit ++ after.now))) }
+{
+    out.append(before)?;
+    append_unsigned(out, limit)?;
+    out.append(after)
+}
+
 /// A task made as many calls as its fuel allows.
 fn append_fuel_spent(out: &mut Row<u8>, fuel: u64) -> Result<(), AllocError>
     ensures { OnOk result
@@ -223,9 +238,14 @@ pub fn append_fault(out: &mut Row<u8>, program: &Program, fault: &Fault) -> Resu
         Fault::NotTask(ty) => append_not_task(out, program, ty),
         Fault::TaskFailed(task) => append_task_failed(out, *task),
         Fault::FuelSpent(fuel) => append_fuel_spent(out, *fuel),
-        Fault::StackLimit => out.append(b"StackOverflowError: 100000 open calls"),
-        Fault::WorldLimit => out.append(b"WorldLimit: 65535 worlds"),
-        Fault::TaskLimit => out.append(b"TaskLimit: 4096 tasks"),
+        Fault::StackLimit => append_limit(
+            out,
+            b"StackOverflowError: ",
+            u64::from(MOST_OPEN_CALLS),
+            b" open calls",
+        ),
+        Fault::WorldLimit => append_limit(out, b"WorldLimit: ", MOST_WORLDS as u64, b" worlds"),
+        Fault::TaskLimit => append_limit(out, b"TaskLimit: ", MOST_TASKS as u64, b" tasks"),
         Fault::TypeLimit => out.append(b"TypeLimit"),
         Fault::ValueLimit => out.append(b"ValueLimit"),
     }

@@ -3,18 +3,16 @@
 ghost use Rattle.std.specs.Prelude.{◌≡◌, ◌+◌, ◌++◌, map, IfOk, OnOk};
 ghost use Rattle.jl_program.specs.Text.{type_name, type_text, in_braces, arguments, joined, types_text};
 
+use jl_model::builtin::{BOOL, BUILTIN_TYPES, INT64, INTEGER, NOTHING, NUMBER, REAL, SIGNED, TASK};
 use jl_model::rows::Row;
 use jl_model::ty::{Bytes, Ty};
 use jl_program::tree::Program;
 use std::alloc::{AllocError, Global};
 
-/// How many nominal types are built in. Declared types are numbered from here on.
-const BUILTIN_TYPES: u32 = 8;
-
 /// The name of a declared type, counted from 0, and no bytes where there is none.
 #[tactic(auto, using(crate::proofs::Names::name_declared))]
 fn declared_name(program: &Program, place: usize) -> &[u8]
-    ensures { result.now ≡ type_name program.now (place + 8) }
+    ensures { result.now ≡ type_name program.now (place + BUILTIN_TYPES) }
 {
     match program.decls.as_slice().get(place) {
         Some(decl) => decl.name.as_slice(),
@@ -27,14 +25,14 @@ fn type_name(program: &Program, number: u32) -> &[u8]
     ensures { result.now ≡ type_name program.now number }
 {
     match number {
-        0 => b"Number",
-        1 => b"Real",
-        2 => b"Integer",
-        3 => b"Signed",
-        4 => b"Int64",
-        5 => b"Bool",
-        6 => b"Nothing",
-        7 => b"Task",
+        NUMBER => b"Number",
+        REAL => b"Real",
+        INTEGER => b"Integer",
+        SIGNED => b"Signed",
+        INT64 => b"Int64",
+        BOOL => b"Bool",
+        NOTHING => b"Nothing",
+        TASK => b"Task",
         declared => declared_name(program, (declared - BUILTIN_TYPES) as usize),
     }
 }

@@ -2,6 +2,7 @@
 use Rattle.std.specs.Prelude.{ℕ, ◌≡◌, ◌≤◌, ◌<◌, ◌⊎◌, Bool, true, List, [], ◌∷◌, length}
 use Rattle.std.specs.List.{list_all}
 use Rattle.std.specs.List.Sorted.{IsPermutation, IsSorted}
+use Rattle.jl_model.specs.declared.limits.TheConstants.{MOST_TYPE_NODES}
 use Rattle.jl_model.specs.declared.ty.Ty.{Ty}
 use Rattle.jl_model.specs.declared.ty.Ty.TheOpen.{Any, Union, Tuple, Nominal, Var}
 use Rattle.jl_model.specs.declared.ty.Ty.TheViews.{out-Ty}
@@ -28,8 +29,8 @@ pub record IsOfParts (p : Ty → Bool) : Type 0 where
 -- No part of it has more raw alternatives than t or a part of t.
 pub record Formed (ds : List Decl) (t u : Ty) : Type 0 where
   pub equal : Equal (table_of ds) t u
-  pub normal : nodes u ≤ 1024 → IsNormal (table_of ds) u
-  pub large : 1024 < nodes u → (v : Ty) → IsNormal (table_of ds) v → Equal (table_of ds) t v → 1024 < nodes v
+  pub normal : nodes u ≤ MOST_TYPE_NODES → IsNormal (table_of ds) u
+  pub large : MOST_TYPE_NODES < nodes u → (v : Ty) → IsNormal (table_of ds) v → Equal (table_of ds) t v → MOST_TYPE_NODES < nodes v
   pub kept : (p : Ty → Bool) → IsOfParts p → p t ≡ true → p u ≡ true
   pub narrow : (raw u).widest ≤ (raw t).widest
 
@@ -50,12 +51,12 @@ module _ (F : Ty → Ty → Type 0) where
 -- each has at most 1,024 nodes
 abbrev pub AllSmall : List Ty → Type 0
 AllSmall [] = Unit {0}
-AllSmall (t ∷ ts) = (nodes t ≤ 1024) × AllSmall ts
+AllSmall (t ∷ ts) = (nodes t ≤ MOST_TYPE_NODES) × AllSmall ts
 
 -- one has more
 abbrev pub HasLarge : List Ty → Type 0
 HasLarge [] = ⊥
-HasLarge (t ∷ ts) = (1024 < nodes t) ⊎ HasLarge ts
+HasLarge (t ∷ ts) = (MOST_TYPE_NODES < nodes t) ⊎ HasLarge ts
 
 -- the type of these members: a single one is itself, and others stand in a union, in order where all are small
 pub data Gathers (ts : List Ty) : Ty → Type 0 where
@@ -65,7 +66,7 @@ pub data Gathers (ts : List Ty) : Ty → Type 0 where
 
 -- a limit is passed: as written, or by each normal form
 abbrev pub IsTooLarge : List Decl → Ty → Type 0
-IsTooLarge ds t = (IsWithinLimits t → ⊥) ⊎ ((u : Ty) → IsNormalForm (table_of ds) t u → 1024 < nodes u)
+IsTooLarge ds t = (IsWithinLimits t → ⊥) ⊎ ((u : Ty) → IsNormalForm (table_of ds) t u → MOST_TYPE_NODES < nodes u)
 
 -- What an argument of a declaration becomes whose own number is that of the table's next type: its form where neither a
 -- variable nor this type stands in it, else as written but for such arguments.

@@ -1,5 +1,6 @@
 -- How members are dropped that are below others.
 use Rattle.std.specs.Prelude.{◌≤◌, ◌<◌, List, [], ◌∷◌, ◌++◌}
+use Rattle.jl_model.specs.declared.limits.TheConstants.{MOST_TYPE_NODES}
 use Rattle.jl_model.specs.declared.ty.Ty.{Ty}
 use Rattle.jl_model.specs.declared.ty.Decl.{Decl}
 use Rattle.jl_model.specs.Ancestors.{table_of}
@@ -11,8 +12,8 @@ use Rattle.jl_types.specs.Ground.{Lower}
 
 -- It may stand in a union: where it has at most 1,024 nodes it is a normal form.
 pub record Candidate (ds : List Decl) (t : Ty) : Type 0 where
-  pub lower : Lower ds 1024 t
-  pub normal : nodes t ≤ 1024 → IsNormal (table_of ds) t
+  pub lower : Lower ds MOST_TYPE_NODES t
+  pub normal : nodes t ≤ MOST_TYPE_NODES → IsNormal (table_of ds) t
 
 abbrev pub Candidates : List Decl → List Ty → Type 0
 Candidates ds [] = Unit {0}
@@ -21,7 +22,7 @@ Candidates ds (t ∷ ts) = Candidate ds t × Candidates ds ts
 -- t is below none of these that has at most 1,024 nodes
 abbrev pub BelowNoSmall : Table → Ty → List Ty → Type 0
 BelowNoSmall n t [] = Unit {0}
-BelowNoSmall n t (u ∷ us) = (nodes u ≤ 1024 → Below n opaque t u → ⊥) × BelowNoSmall n t us
+BelowNoSmall n t (u ∷ us) = (nodes u ≤ MOST_TYPE_NODES → Below n opaque t u → ⊥) × BelowNoSmall n t us
 
 -- those that are below u are left out
 pub data Thinned (n : Table) (u : Ty) : List Ty → List Ty → Type 0 where
@@ -32,8 +33,8 @@ pub data Thinned (n : Table) (u : Ty) : List Ty → List Ty → Type 0 where
 -- one more candidate
 pub data Inserted (n : Table) (ts : List Ty) (t : Ty) : List Ty → Type 0 where
   covered : BelowSome n t ts → Inserted n ts t ts
-  small : (us : List Ty) → nodes t ≤ 1024 → BelowNoSmall n t ts → Thinned n t ts us → Inserted n ts t (us ++ t ∷ [])
-  large : 1024 < nodes t → BelowNoSmall n t ts → Inserted n ts t (ts ++ t ∷ [])
+  small : (us : List Ty) → nodes t ≤ MOST_TYPE_NODES → BelowNoSmall n t ts → Thinned n t ts us → Inserted n ts t (us ++ t ∷ [])
+  large : MOST_TYPE_NODES < nodes t → BelowNoSmall n t ts → Inserted n ts t (ts ++ t ∷ [])
 
 -- one candidate after another
 pub data Reduces (n : Table) : List Ty → List Ty → List Ty → Type 0 where

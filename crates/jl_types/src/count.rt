@@ -5,9 +5,6 @@ ghost use Rattle.jl_model.specs.Counts.{nodes, total, raw};
 
 use jl_model::ty::Ty;
 
-/// The most nodes of a type.
-pub const MOST_NODES: u64 = 1024;
-
 /// The nodes of several types, or one more than `most` where they are more.
 #[cycle(nodes)]
 #[tactic(auto, using(crate::proofs::CountLemmas::counting))]

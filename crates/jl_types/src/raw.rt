@@ -3,21 +3,19 @@
 ghost use Rattle.std.specs.Prelude.{◌≡◌, ◌+◌, ◌*◌, ◌≤◌, ◌<◌, min, map, MatchOption, Option, None, Some};
 ghost use Rattle.jl_model.specs.Counts.{total, product, greatest, raw};
 
+use jl_model::limits::MOST_ALTERNATIVES;
 use jl_model::ty::Ty;
-
-/// The most raw alternatives of a type or of a part of it.
-pub const MOST_ALTERNATIVES: u64 = 256;
 
 /// The sum of the parts' raw alternatives, at most 257; nothing where a part has more than 256.
 #[cycle(raw)]
 #[tactic(auto, using(crate::proofs::RawLemmas::raws))]
 fn sum_within(parts: &[Ty]) -> Option<u64>
-    ensures { MatchOption result (256 < greatest (map (λ r. r.widest) (map raw parts.now)))
-        (λ sum. (greatest (map (λ r. r.widest) (map raw parts.now)) ≤ 256) × (sum ≡ min (total (map (λ r. r.count) (map raw parts.now))) 257)) }
+    ensures { MatchOption result (MOST_ALTERNATIVES < greatest (map (λ r. r.widest) (map raw parts.now)))
+        (λ sum. (greatest (map (λ r. r.widest) (map raw parts.now)) ≤ MOST_ALTERNATIVES) × (sum ≡ min (total (map (λ r. r.count) (map raw parts.now))) (MOST_ALTERNATIVES + 1))) }
 {
     let mut sum: u64 = 0;
     for part in parts {
-        sum = (sum + alternatives_within(part)?).min(257);
+        sum = (sum + alternatives_within(part)?).min(MOST_ALTERNATIVES + 1);
     }
     Some(sum)
 }
@@ -26,12 +24,12 @@ fn sum_within(parts: &[Ty]) -> Option<u64>
 #[cycle(raw)]
 #[tactic(auto, using(crate::proofs::RawLemmas::raws))]
 fn product_within(parts: &[Ty]) -> Option<u64>
-    ensures { MatchOption result (256 < greatest (map (λ r. r.widest) (map raw parts.now)))
-        (λ count. (greatest (map (λ r. r.widest) (map raw parts.now)) ≤ 256) × (count ≡ min (product (map (λ r. r.count) (map raw parts.now))) 257)) }
+    ensures { MatchOption result (MOST_ALTERNATIVES < greatest (map (λ r. r.widest) (map raw parts.now)))
+        (λ count. (greatest (map (λ r. r.widest) (map raw parts.now)) ≤ MOST_ALTERNATIVES) × (count ≡ min (product (map (λ r. r.count) (map raw parts.now))) (MOST_ALTERNATIVES + 1))) }
 {
     let mut count: u64 = 1;
     for part in parts {
-        count = (count * alternatives_within(part)?).min(257);
+        count = (count * alternatives_within(part)?).min(MOST_ALTERNATIVES + 1);
     }
     Some(count)
 }
@@ -40,7 +38,7 @@ fn product_within(parts: &[Ty]) -> Option<u64>
 #[cycle(raw)]
 #[tactic(auto, using(crate::proofs::RawLemmas::raws))]
 pub fn alternatives_within(ty: &Ty) -> Option<u64>
-    ensures { MatchOption result (256 < (raw ty.now).widest) (λ count. ((raw ty.now).widest ≤ 256) × (count ≡ (raw ty.now).count)) }
+    ensures { MatchOption result (MOST_ALTERNATIVES < (raw ty.now).widest) (λ count. ((raw ty.now).widest ≤ MOST_ALTERNATIVES) × (count ≡ (raw ty.now).count)) }
 {
     let count = match ty {
         Ty::Any => 1,

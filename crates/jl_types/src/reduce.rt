@@ -6,17 +6,18 @@ ghost use Rattle.jl_model.specs.Counts.{nodes};
 ghost use Rattle.jl_model.specs.Members.{BelowSome};
 ghost use Rattle.jl_types.specs.Reduce.{Candidate, Candidates, BelowNoSmall, Thinned, Inserted, Reduces};
 
-use crate::count::{MOST_NODES, nodes_within};
+use crate::count::nodes_within;
 use crate::ground::is_above;
 use crate::table::Table;
+use jl_model::limits::MOST_TYPE_NODES;
 use jl_model::ty::Ty;
 use std::alloc::{AllocError, Global};
 
 /// Whether a type has at most 1,024 nodes.
 pub fn is_small(ty: &Ty) -> bool
-    ensures { IsTrue result ↔ (nodes ty.now ≤ 1024) }
+    ensures { IsTrue result ↔ (nodes ty.now ≤ MOST_TYPE_NODES) }
 {
-    nodes_within(ty, MOST_NODES) <= MOST_NODES
+    nodes_within(ty, MOST_TYPE_NODES) <= MOST_TYPE_NODES
 }
 
 /// Whether a candidate is below a small one of these.
@@ -43,7 +44,7 @@ fn thinned(
 ) -> Result<Vec<Ty>, AllocError>
     requires members_candidates { Candidates table.now members.now }
     requires candidate { Candidate table.now candidate.now }
-    requires small { nodes candidate.now ≤ 1024 }
+    requires small { nodes candidate.now ≤ MOST_TYPE_NODES }
     ensures { IfOk result (λ left. Thinned (table_of table.now) candidate.now members.now left.items) }
 {
     let mut left = Vec::new(alloc);

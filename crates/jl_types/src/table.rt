@@ -9,6 +9,7 @@ ghost use Rattle.jl_model.specs.declared.ty.Ty.TheVariants as W;
 
 use crate::ancestor::Ancestor;
 use crate::lineage::Lineage;
+use jl_model::builtin::{INTEGER, NUMBER, REAL, SIGNED};
 use jl_model::ty::{Bounds, Bytes, Decl, DeclKind, Fields, Ty, Tys};
 use std::alloc::{AllocError, Global};
 use std::marker::Model;
@@ -62,17 +63,26 @@ fn builtin(alloc: Global) -> Result<Lineage, AllocError>
 {
     let mut lineage = Lineage::new(alloc);
     lineage.push(alloc, plain(alloc, b"Number", DeclKind::Abstract, Ty::Any)?)?;
-    lineage.push(alloc, plain(alloc, b"Real", DeclKind::Abstract, named(0))?)?;
     lineage.push(
         alloc,
-        plain(alloc, b"Integer", DeclKind::Abstract, named(1))?,
+        plain(alloc, b"Real", DeclKind::Abstract, named(NUMBER))?,
     )?;
     lineage.push(
         alloc,
-        plain(alloc, b"Signed", DeclKind::Abstract, named(2))?,
+        plain(alloc, b"Integer", DeclKind::Abstract, named(REAL))?,
     )?;
-    lineage.push(alloc, plain(alloc, b"Int64", DeclKind::Struct, named(3))?)?;
-    lineage.push(alloc, plain(alloc, b"Bool", DeclKind::Struct, named(2))?)?;
+    lineage.push(
+        alloc,
+        plain(alloc, b"Signed", DeclKind::Abstract, named(INTEGER))?,
+    )?;
+    lineage.push(
+        alloc,
+        plain(alloc, b"Int64", DeclKind::Struct, named(SIGNED))?,
+    )?;
+    lineage.push(
+        alloc,
+        plain(alloc, b"Bool", DeclKind::Struct, named(INTEGER))?,
+    )?;
     lineage.push(alloc, plain(alloc, b"Nothing", DeclKind::Struct, Ty::Any)?)?;
     lineage.push(alloc, plain(alloc, b"Task", DeclKind::Struct, Ty::Any)?)?;
     Ok(lineage)
