@@ -8,3 +8,6 @@ pub mod Operations
 pub mod Run
 pub mod Legal
 pub mod Simple
+pub mod Laws
+pub mod Views
+pub mod ValidStart
