@@ -1,6 +1,6 @@
 -- Each question of the rules has at most one answer.
 use Rattle.std.proofs.Common.{◌≡◌, ◌∙◌, refl, sym, ap, subst, ℕ, zero, suc, ◌<◌, arith, Bool, true, false, inl, inr, nat_lt, List, [], ◌∷◌, map, length, take, get_or, Some, slice_get, IsTrue}
-use Rattle.jl_model.specs.declared.ty.Ty.{Ty, out-Ty}
+use Rattle.jl_model.specs.declared.ty.Ty.{Ty}
 use Rattle.jl_model.specs.declared.ty.Ty.TheVariants as W
 use Rattle.jl_model.specs.declared.ty.Decl.{Decl}
 use Rattle.jl_model.specs.declared.ty.Written.{Written}
@@ -8,7 +8,7 @@ use Rattle.jl_model.specs.Ancestors.{table_of}
 use Rattle.jl_model.specs.Kept.{Settled}
 use Rattle.jl_model.specs.Normal.{IsNormalForm}
 use Rattle.jl_model.specs.Refusals.{Declared}
-use Rattle.jl_model.specs.Signature.{Both, both_end, both_more}
+use Rattle.jl_model.specs.Signature.{Both, both_more}
 use Rattle.jl_model.specs.Subtype.{opaque, Below}
 use Rattle.jl_model.proofs.DeclaredLemmas.{declared_lawful}
 use Rattle.jl_model.proofs.NormalLemmas.{normal_same}
@@ -21,7 +21,6 @@ use Rattle.jl_program.specs.declared.value.Value.TheVariants as V
 use Rattle.jl_program.specs.Making.{IsFirstOther}
 use Rattle.jl_program.specs.TypeOf.{type_of}
 use Rattle.jl_program.specs.ValidValue.{fields_in}
-use Rattle.jl_calculus.specs.declared.history.Outcome.{Outcome}
 use Rattle.jl_calculus.specs.declared.history.Outcome.TheVariants as O
 use Rattle.jl_calculus.specs.Answers.{Refusal, Answer, fault_where, refuse, give, tell, IsSingle}
 use Rattle.jl_calculus.specs.Statics.{IsFirstBroken, is_bad_parameter}

@@ -1,27 +1,21 @@
 -- The rules of single forms, computed. Each is an equation: the form runs exactly as is said here.
-use Rattle.std.proofs.Common.{◌≡◌, ◌∙◌, refl, sym, ap, subst, ℕ, pos, Bool, true, false, codes, List, [], ◌∷◌, ◌++◌, Option, Some, None, arith}
-use Rattle.jl_model.specs.declared.ty.Ty.{Ty}
-use Rattle.jl_model.specs.declared.ty.Ty.TheViews as T
-use Rattle.jl_model.specs.Ancestors.{named}
+use Rattle.std.proofs.Common.{◌≡◌, ◌∙◌, refl, subst, ℕ, pos, Bool, true, false, List, [], ◌∷◌, arith}
 use Rattle.jl_program.specs.declared.tree.Expr.{Expr}
 use Rattle.jl_program.specs.declared.tree.Stmt.{Stmt}
-use Rattle.jl_program.specs.declared.tree.Item.{Item}
 use Rattle.jl_program.specs.declared.tree.Expr.TheOpen as F
 use Rattle.jl_program.specs.declared.tree.Expr.TheVariants as E
 use Rattle.jl_program.specs.declared.tree.Expr.TheViews as X
 use Rattle.jl_program.specs.declared.tree.Stmt.TheVariants as S
 use Rattle.jl_program.specs.declared.tree.Item.TheVariants as I
 use Rattle.jl_program.specs.declared.tree.Start.{Start}
-use Rattle.jl_program.specs.declared.value.Value.{Value}
 use Rattle.jl_program.specs.declared.value.Value.TheVariants as V
 use Rattle.jl_program.specs.declared.fault.Fault.TheVariants as Fa
-use Rattle.jl_program.specs.Meaning.{datum}
-use Rattle.jl_program.specs.Prelude.{int64, two}
+use Rattle.jl_program.specs.Prelude.{int64}
 use Rattle.jl_calculus.specs.declared.history.Outcome.{Outcome}
 use Rattle.jl_calculus.specs.declared.history.Outcome.TheVariants as O
 use Rattle.jl_calculus.specs.declared.history.TraceItem.{TraceItem}
 use Rattle.jl_calculus.specs.declared.history.TraceItem.TheVariants.{Look, Def, Spawn, Fetch, WorldFull, TaskFull}
-use Rattle.jl_calculus.specs.Run.{Setting, State, Then, Caller, with_env, with_scope, with_left, binds, decides, either, runs, runs_stmt, runs_item, stmts_run, items_run, looks, defines, fetched, fetches, fetches_value}
+use Rattle.jl_calculus.specs.Run.{Setting, State, Then, Caller, with_env, with_scope, binds, decides, either, runs, runs_stmt, stmts_run, fetched, fetches_value}
 use Rattle.jl_calculus.proofs.Forms.{form_is, stmt_form_is, item_form_is}
 
 module _ (g : Setting) (Ends : Outcome → State → Type 0) (called : Caller) (w : ℕ) (back next : Then) where

@@ -1,6 +1,6 @@
 -- What constructors refuse, computed: `struct Square; side::Int64 end` with `Square(true)`, and `struct Q{T<:Signed}; x::T end` with
 -- `q(x::T) where T = Q{T}(x)` and `q(true)`.
-use Rattle.std.proofs.Common.{◌≡◌, ◌∙◌, refl, sym, ap, subst, ℕ, zero, suc, ◌<◌, ◌≤◌, ◌+◌, Bool, true, false, cond, nat_eq, codes, List, [], ◌∷◌, ◌++◌, map, length, get_or, Option, Some, None, slice_get, arith, inl, inr}
+use Rattle.std.proofs.Common.{◌≡◌, ◌∙◌, refl, sym, ap, subst, ℕ, zero, suc, ◌<◌, ◌≤◌, true, nat_eq, codes, List, [], ◌∷◌, ◌++◌, length, get_or, Some, None, slice_get, arith, inl, inr}
 use Rattle.std.specs.List.{Contains, flat_map}
 use Rattle.jl_model.specs.declared.ty.Ty.{Ty, out-Ty}
 use Rattle.jl_model.specs.declared.ty.Ty.TheOpen as L
@@ -8,20 +8,19 @@ use Rattle.jl_model.specs.declared.ty.Ty.TheVariants as W
 use Rattle.jl_model.specs.declared.ty.Ty.TheViews as T
 use Rattle.jl_model.specs.declared.ty.Ty.TheViews.{rolls-Nominal, outs-Nominal, outs-Any}
 use Rattle.jl_model.specs.declared.ty.Ty.TheFolds.{para-roll-Ty}
-use Rattle.jl_model.specs.declared.ty.Field.{Field}
 use Rattle.jl_model.specs.declared.ty.Decl.{Decl}
 use Rattle.jl_model.specs.declared.ty.DeclKind.TheVariants.{Struct}
 use Rattle.jl_model.specs.declared.ty.Written.{Written}
 use Rattle.jl_model.specs.AllRows.{rows_with}
-use Rattle.jl_model.specs.Ancestors.{named, builtin_types, table_of, up_in}
+use Rattle.jl_model.specs.Ancestors.{named, builtin_types, table_of}
 use Rattle.jl_model.specs.Counts.{nodes, raw, IsWithinLimits}
 use Rattle.jl_model.specs.Kept.{Settled, nominal as kept, arguments_end, arguments_more, closed}
-use Rattle.jl_model.specs.Normal.{IsNormal, IsNormalForm, nominal as normal_name, none}
-use Rattle.jl_model.specs.Refusals.{Given, given_in, given_step, Between}
+use Rattle.jl_model.specs.Normal.{IsNormalForm, nominal as normal_name, none}
+use Rattle.jl_model.specs.Refusals.{Given, given_in, given_step}
 use Rattle.jl_model.specs.Rows.{choices, forms, forms_step, place_of, kind}
 use Rattle.jl_model.specs.SigRefusals.{TypeLimit}
 use Rattle.jl_model.specs.Signature.{both_end}
-use Rattle.jl_model.specs.Subtype.{Table, opaque, put, put_in, lifted, Below}
+use Rattle.jl_model.specs.Subtype.{Table, opaque, lifted, Below}
 use Rattle.jl_model.specs.Valid.{is_closed}
 use Rattle.jl_model.proofs.AncestorLemmas.{Lawful, lawful_lines, all_fit, AllParents, IsPattern}
 use Rattle.jl_model.proofs.BelowLemmas.{below_part}
@@ -32,7 +31,6 @@ use Rattle.jl_model.proofs.NormalLemmas.{normal_same}
 use Rattle.jl_model.proofs.SelfLemmas.{equal_self}
 use Rattle.jl_model.proofs.TypeInduction.{Each}
 use Rattle.jl_program.specs.declared.fault.Fault.TheVariants as F
-use Rattle.jl_program.specs.declared.value.Value.{Value}
 use Rattle.jl_program.specs.declared.value.Value.TheVariants as V
 use Rattle.jl_program.specs.Making.{IsFirstOther}
 use Rattle.jl_program.specs.Prelude.{plain, int64, bool}
@@ -41,7 +39,7 @@ use Rattle.jl_calculus.specs.declared.history.Outcome.{Outcome}
 use Rattle.jl_calculus.specs.declared.history.Outcome.TheVariants as O
 use Rattle.jl_calculus.specs.Answers.{fault_where, refuse}
 use Rattle.jl_calculus.specs.Statics.{own_or_bound, with_statics, nominals_in, nominals_step, nominals_of, Breaks, IsBroken, IsFirstBroken, NormLimit}
-use Rattle.jl_calculus.specs.Operations.{fields_at, with_type, make_struct, make_written}
+use Rattle.jl_calculus.specs.Operations.{with_type, make_struct, make_written}
 
 abbrev square : Decl
 square = record { name = codes "Square"; kind = Struct; params = []; parent = W.Any; fields = record { name = codes "side"; ty = int64 } ∷ [] }
@@ -197,7 +195,7 @@ square_of_true = inr (
 square_refused : (statics : List Ty) → make_written types statics squared (V.Bool true ∷ []) wrong_side
 square_refused statics =
     let S : Written → Type 0 = λ u. with_type types u (refuse (fault_where F.TypeLimit (NormLimit n (get_or u.parts 0 W.Any)))
-        (λ o. (m : Ty) × IsNormalForm n (get_or u.parts 0 W.Any) m × make_struct types m (V.Bool true ∷ []) o)) wrong_side in
+    (λ o. (m : Ty) × IsNormalForm n (get_or u.parts 0 W.Any) m × make_struct types m (V.Bool true ∷ []) o)) wrong_side in
     subst S (sym (square_put statics)) (inr (
       (λ e h. square_small h.1),
       inr ((λ e h. square_unbroken h.0 h.2), inr ((λ e h. square_normal h.1), (named 8, own_form 8, square_of_true))),
@@ -262,7 +260,7 @@ shown =
 q_of_true : make_written types (bool ∷ []) written_q (V.Bool true ∷ []) (O.Error (F.BadParameter q_bool))
 q_of_true =
     let S : Written → Type 0 = λ u. with_type types u (refuse (fault_where F.TypeLimit (NormLimit n (get_or u.parts 0 W.Any)))
-        (λ o. (m : Ty) × IsNormalForm n (get_or u.parts 0 W.Any) m × make_struct types m (V.Bool true ∷ []) o)) (O.Error (F.BadParameter q_bool)) in
+    (λ o. (m : Ty) × IsNormalForm n (get_or u.parts 0 W.Any) m × make_struct types m (V.Bool true ∷ []) o)) (O.Error (F.BadParameter q_bool)) in
     subst S (sym q_put) (inr (
       (λ e h. q_small h.1),
       inl (F.BadParameter q_bool, (q_bool, q_bool, first_broken, shown, refl), refl),

@@ -1,28 +1,26 @@
 -- What operations on values answer, computed. That nothing else is answered is a law.
-use Rattle.std.proofs.Common.{◌≡◌, ◌∙◌, refl, sym, ap, subst, ℕ, zero, suc, ◌<◌, ℤ, pos, Bool, true, false, true≢false, codes, List, [], ◌∷◌, ◌++◌, map, Option, Some, None, slice_get, arith, inl, inr}
+use Rattle.std.proofs.Common.{◌≡◌, ◌∙◌, refl, sym, ap, subst, ℕ, zero, suc, ℤ, pos, Bool, true, false, true≢false, codes, List, [], ◌∷◌, ◌++◌, Some, None, slice_get, arith, inr}
 use Rattle.std.specs.List.{Contains}
-use Rattle.jl_model.specs.declared.ty.Ty.{Ty, out-Ty}
+use Rattle.jl_model.specs.declared.ty.Ty.{Ty}
 use Rattle.jl_model.specs.declared.ty.Ty.TheOpen as L
 use Rattle.jl_model.specs.declared.ty.Ty.TheVariants as W
 use Rattle.jl_model.specs.declared.ty.Ty.TheViews as T
 use Rattle.jl_model.specs.declared.ty.Ty.TheViews.{rolls-Nominal, rolls-Tuple, outs-Nominal}
 use Rattle.jl_model.specs.declared.ty.Ty.TheFolds.{fold-roll-Ty, para-roll-Ty}
-use Rattle.jl_model.specs.declared.ty.Field.{Field}
 use Rattle.jl_model.specs.declared.ty.Decl.{Decl}
 use Rattle.jl_model.specs.declared.ty.DeclKind.TheVariants.{Struct}
 use Rattle.jl_model.specs.declared.ty.Written.{Written}
 use Rattle.jl_model.specs.Ancestors.{named, builtin_types, table_of}
-use Rattle.jl_model.specs.Counts.{total, nodes, nodes_step}
+use Rattle.jl_model.specs.Counts.{nodes, nodes_step}
 use Rattle.jl_model.specs.Refusals.{Given}
 use Rattle.jl_model.specs.SigRefusals.{TypeLimit}
 use Rattle.jl_model.specs.Rows.{choices, free}
 use Rattle.jl_model.specs.Signature.{Applicable, both_end, both_more}
-use Rattle.jl_model.specs.Subtype.{opaque, put, Below}
+use Rattle.jl_model.specs.Subtype.{opaque, Below}
 use Rattle.jl_program.specs.declared.datum.Datum.{Datum}
 use Rattle.jl_program.specs.declared.datum.Datum.TheOpen as D
 use Rattle.jl_program.specs.declared.datum.Datum.TheFolds.{fold-roll-Datum}
 use Rattle.jl_program.specs.declared.datum.Datum.TheViews.{out-roll-Datum}
-use Rattle.jl_program.specs.declared.fault.Fault.{Fault}
 use Rattle.jl_program.specs.declared.fault.Fault.TheVariants as F
 use Rattle.jl_program.specs.declared.value.Value.{Value}
 use Rattle.jl_program.specs.declared.value.Value.TheVariants as V
@@ -39,7 +37,7 @@ use Rattle.jl_calculus.specs.Answers.{tell}
 use Rattle.jl_calculus.specs.Statics.{own_or_bound, with_statics, nominals_in, nominals_step, nominals_of, Breaks, IsBroken, IsFirstBroken}
 use Rattle.jl_calculus.specs.Operations.{IsSame, field_of, part_of, make_tuple, with_type, test_type, test_same}
 use Rattle.jl_calculus.proofs.ValueLemmas.{value_back}
-use Rattle.jl_calculus.proofs.AnswerLemmas.{tuple_once, same_once}
+use Rattle.jl_calculus.proofs.AnswerLemmas.{same_once}
 
 abbrev int : ℕ → Value
 int n = V.Int (pos n)

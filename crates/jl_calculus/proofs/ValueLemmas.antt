@@ -1,5 +1,5 @@
 -- A value and what a contract sees of it give one another.
-use Rattle.std.proofs.Common.{◌≡◌, ◌∙◌, refl, ap, sym}
+use Rattle.std.proofs.Common.{◌≡◌, ◌∙◌, refl, ap}
 use Rattle.jl_program.specs.declared.datum.Datum.{Datum, out-Datum}
 use Rattle.jl_program.specs.declared.datum.Datum.TheOpen.{Datum-F}
 use Rattle.jl_program.specs.declared.datum.Datum.TheOpen as T
