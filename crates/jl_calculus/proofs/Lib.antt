@@ -6,6 +6,9 @@ pub mod Forms
 pub mod FormExamples
 pub mod OperationExamples
 pub mod MakeExamples
+pub mod InferExamples
 pub mod FirstScript
 pub mod OtherScripts
+pub mod WorldScripts
+pub mod TaskScripts
 pub mod OtherHistories
