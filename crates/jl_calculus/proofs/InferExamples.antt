@@ -1,8 +1,8 @@
 -- What stands for a variable of a signature, computed: `Box(3)` after `struct Box{T}; x::T end`, and the static parameter of
 -- `pick(x::Box{T}, y::T) where T` for `pick(Box{Integer}(1), true)`.
-use Rattle.std.proofs.Common.{◌≡◌, ◌∙◌, refl, sym, ap, subst, ℕ, zero, suc, ◌<◌, pos, Bool, true, false, cond, nat_eq, codes, List, [], ◌∷◌, ◌++◌, map, ◌⊎◌, get_or, slice_get, Option, Some, None, arith, inl, inr}
-use Rattle.std.specs.List.{Contains, flat_map}
-use Rattle.jl_model.specs.declared.ty.Ty.{Ty, out-Ty}
+use Rattle.std.proofs.Common.{◌≡◌, ◌∙◌, refl, sym, ap, subst, ℕ, zero, suc, ◌<◌, pos, Bool, true, List, [], ◌∷◌, ◌++◌, map, ◌⊎◌, get_or, slice_get, Option, Some, None, arith, inl, inr}
+use Rattle.std.specs.List.{Contains}
+use Rattle.jl_model.specs.declared.ty.Ty.{Ty}
 use Rattle.jl_model.specs.declared.ty.Ty.TheOpen as L
 use Rattle.jl_model.specs.declared.ty.Ty.TheVariants as W
 use Rattle.jl_model.specs.declared.ty.Ty.TheViews as T
@@ -10,25 +10,23 @@ use Rattle.jl_model.specs.declared.ty.Ty.TheViews.{rolls-Nominal, rolls-Var, out
 use Rattle.jl_model.specs.declared.ty.Ty.TheFolds.{fold-roll-Ty, para-roll-Ty}
 use Rattle.jl_model.specs.declared.ty.Written.{Written}
 use Rattle.jl_model.specs.Ancestors.{named, table_of}
-use Rattle.jl_model.specs.Bindings.{bindings, inner_found, outer_found}
+use Rattle.jl_model.specs.Bindings.{bindings}
 use Rattle.jl_model.specs.Counts.{nodes}
-use Rattle.jl_model.specs.Found.{or_else, or_type, first, find_arg, find_arg_step, find_inner, find_inner_step, find_outer, find_outer_step}
+use Rattle.jl_model.specs.Found.{find_arg, find_arg_step, find_inner, find_inner_step, find_outer, find_outer_step}
 use Rattle.jl_model.specs.Kinds.{Places, places, places_step, plus, nowhere, kind_of, once}
 use Rattle.jl_model.specs.Refusals.{Given, given_in, given_step, Between}
-use Rattle.jl_model.specs.Rows.{alts, choices, components, forms, forms_step, free, kind, place_of, root, vars_in, Occurs}
+use Rattle.jl_model.specs.Rows.{choices, forms, forms_step, free, kind, place_of, root, Occurs}
 use Rattle.jl_model.specs.SigRefusals.{BoundBroken}
 use Rattle.jl_model.specs.Signature.{Row, Applicable, both_end, both_more}
-use Rattle.jl_model.specs.Subtype.{Table, opaque, put, Below}
+use Rattle.jl_model.specs.Subtype.{Table, opaque, Below}
 use Rattle.jl_model.specs.Valid.{params_of}
-use Rattle.jl_model.specs.Usable.{stands_in, outside_step, is_outside_unions, is_usable}
+use Rattle.jl_model.specs.Usable.{outside_step, is_outside_unions, is_usable}
 use Rattle.jl_model.proofs.BelowLemmas.{union_below}
 use Rattle.jl_model.proofs.CountLemmas.{nodes-nominal}
 use Rattle.jl_model.proofs.FormLemmas.{alts-any, put-any, vars-any, vars-nominal, vars-var}
-use Rattle.jl_program.specs.declared.datum.Datum.{Datum}
 use Rattle.jl_program.specs.declared.datum.Datum.TheOpen as D
 use Rattle.jl_program.specs.declared.datum.Datum.TheFolds.{fold-roll-Datum}
 use Rattle.jl_program.specs.declared.fault.Fault.TheVariants as F
-use Rattle.jl_program.specs.declared.value.Value.{Value}
 use Rattle.jl_program.specs.declared.value.Value.TheVariants as V
 use Rattle.jl_program.specs.Meaning.{datum}
 use Rattle.jl_program.specs.Measures as values
@@ -131,7 +129,7 @@ three_depth = fold-roll-Datum ℕ values.depth_step (D.Struct int_box (datum (V.
 box_of_three : make_inferred types 8 (V.Int (pos 3) ∷ []) (O.Value boxed)
 box_of_three =
     let ok : Ty → Type 0 = λ t. refuse (fault_where (F.NoConstructor (T.Nominal 8 []) (int64 ∷ [])) ((Applicable n fields (int64 ∷ []) → ⊥) ⊎ BoundBroken types (plain (t ∷ []))))
-        (refuse (fault_where F.TypeLimit (1024 < nodes t)) (within_limits types (V.Struct t (datum (V.Int (pos 3)) ∷ [])))) (O.Value boxed) in
+    (refuse (fault_where F.TypeLimit (1024 < nodes t)) (within_limits types (V.Struct t (datum (V.Int (pos 3)) ∷ [])))) (O.Value boxed) in
     subst ok (sym type_is) (inr (
       (λ e h. refused h.1),
       inr (

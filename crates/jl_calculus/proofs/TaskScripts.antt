@@ -1,6 +1,5 @@
 -- The run, computed on scripts with tasks: a task that fails and is fetched, and a task that runs in the world in which it was spawned.
-use Rattle.std.proofs.Common.{◌≡◌, refl, sym, ap, subst, ℕ, suc, pos, codes, List, [], ◌∷◌, ◌++◌, Some, None, arith}
-use Rattle.jl_model.specs.Choice.{Method}
+use Rattle.std.proofs.Common.{refl, ℕ, suc, pos, codes, List, [], ◌∷◌, ◌++◌, Some, None}
 use Rattle.jl_program.specs.declared.choice.Choice.TheVariants as C
 use Rattle.jl_program.specs.declared.fault.Fault.TheVariants as Fa
 use Rattle.jl_program.specs.declared.tree.Expr.{Expr}
@@ -10,7 +9,6 @@ use Rattle.jl_program.specs.declared.tree.Expr.TheViews as X
 use Rattle.jl_program.specs.declared.tree.Item.TheVariants as I
 use Rattle.jl_program.specs.declared.tree.Program.{Program}
 use Rattle.jl_program.specs.declared.tree.Start.{Start}
-use Rattle.jl_program.specs.declared.value.Value.{Value}
 use Rattle.jl_program.specs.declared.value.Value.TheVariants as V
 use Rattle.jl_program.specs.Prelude.{plain, two, prelude_functions, prelude_sites}
 use Rattle.jl_program.specs.Scope.{types_of}
@@ -20,8 +18,8 @@ use Rattle.jl_calculus.specs.declared.history.Event.TheVariants as Ev
 use Rattle.jl_calculus.specs.declared.history.Outcome.{Outcome}
 use Rattle.jl_calculus.specs.declared.history.Outcome.TheVariants as O
 use Rattle.jl_calculus.specs.declared.history.TraceItem.{TraceItem}
-use Rattle.jl_calculus.specs.declared.history.TraceItem.TheVariants.{Look, Def, Spawn, Fetch}
-use Rattle.jl_calculus.specs.Run.{Setting, setting_of, State, Then, IsEnd, Caller, Run, calls, runs, runs_item, binds, with_scope, fetches_value, first_state, task_state, open_calls}
+use Rattle.jl_calculus.specs.declared.history.TraceItem.TheVariants.{Look, Spawn, Fetch}
+use Rattle.jl_calculus.specs.Run.{Setting, setting_of, State, Then, IsEnd, Caller, Run, calls, runs, runs_item, binds, with_scope, fetches_value, first_state, open_calls}
 use Rattle.jl_calculus.specs.World.{Selects}
 use Rattle.jl_calculus.proofs.Forms.{form_is, item_form_is}
 use Rattle.jl_calculus.proofs.WorldScripts.{made, bare, empty_applies}

@@ -1,6 +1,6 @@
 -- The run, computed on scripts that define a method while they run: the code around an evaluated definition does not see it, and
 -- `invokelatest` does.
-use Rattle.std.proofs.Common.{◌≡◌, refl, sym, ap, subst, ℕ, suc, pos, codes, List, [], ◌∷◌, ◌++◌, None, arith}
+use Rattle.std.proofs.Common.{◌≡◌, refl, sym, subst, ℕ, suc, pos, codes, List, [], ◌∷◌, ◌++◌, None, arith}
 use Rattle.std.specs.List.{Contains}
 use Rattle.jl_model.specs.Choice.{Method}
 use Rattle.jl_model.specs.Signature.{Applicable, both_end}
@@ -11,13 +11,10 @@ use Rattle.jl_program.specs.declared.tree.Expr.{Expr}
 use Rattle.jl_program.specs.declared.tree.Expr.TheOpen as F
 use Rattle.jl_program.specs.declared.tree.Expr.TheVariants as E
 use Rattle.jl_program.specs.declared.tree.Expr.TheViews as X
-use Rattle.jl_program.specs.declared.tree.Item.{Item}
 use Rattle.jl_program.specs.declared.tree.Item.TheVariants as I
 use Rattle.jl_program.specs.declared.tree.Program.{Program}
-use Rattle.jl_program.specs.declared.tree.Site.{Site}
 use Rattle.jl_program.specs.declared.tree.Stmt.{Stmt}
 use Rattle.jl_program.specs.declared.tree.Stmt.TheVariants as S
-use Rattle.jl_program.specs.declared.value.Value.{Value}
 use Rattle.jl_program.specs.declared.value.Value.TheVariants as V
 use Rattle.jl_program.specs.Prelude.{plain, prelude_functions, prelude_sites}
 use Rattle.jl_program.specs.Scope.{types_of}
@@ -100,7 +97,7 @@ module _ (last : Expr) (more : List TraceItem) (Ends : Outcome → State → Typ
 whole : (last : Expr) (more : List TraceItem) (outcome : Outcome) (made_calls : ℕ)
     → (let Ends : Outcome → State → Type 0 = IsEnd outcome [] made_calls [] in let end : Then = λ v s. Ends (O.Value v) s in
     runs (setting_of (script last) events None 10) Ends (calls (setting_of (script last) events None 10) Ends 99999) last 15 (bare more 1)
-        (λ v s. end v (with_scope s [] [])) (λ v s. end v (with_scope (with_env s []) [] [])))
+    (λ v s. end v (with_scope s [] [])) (λ v s. end v (with_scope (with_env s []) [] [])))
     → Run (setting_of (script last) events None 10) None (Look 14 1 ∷ Def 14 1 ∷ Look 15 2 ∷ Look 15 2 ∷ Def 15 2 ∷ more) outcome [] made_calls []
 whole last more outcome made_calls h =
     let Ends : Outcome → State → Type 0 = IsEnd outcome [] made_calls [] in
