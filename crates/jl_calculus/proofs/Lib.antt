@@ -1,5 +1,14 @@
+pub mod ChoiceLaws
+pub mod ValueLemmas
+pub mod AnswerLemmas
 pub mod Layers
 pub mod Forms
+pub mod FormExamples
+pub mod OperationExamples
+pub mod MakeExamples
+pub mod InferExamples
 pub mod FirstScript
 pub mod OtherScripts
+pub mod WorldScripts
+pub mod TaskScripts
 pub mod OtherHistories

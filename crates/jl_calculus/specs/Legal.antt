@@ -10,7 +10,7 @@ use Rattle.jl_calculus.specs.declared.history.Record.{Record}
 use Rattle.jl_program.specs.declared.tree.Start.{Start}
 use Rattle.jl_program.specs.declared.tree.Program.{Program}
 use Rattle.jl_calculus.specs.Past.{tasks_of, done_of, IsTrueOf, IsInOrder, own_items, own_events, own_starts}
-use Rattle.jl_calculus.specs.Run.{Run}
+use Rattle.jl_calculus.specs.Run.{setting_of, Run}
 use Rattle.jl_program.specs.Text.{error_line}
 use Rattle.jl_calculus.specs.World.{world_of}
 
@@ -57,7 +57,7 @@ pub record IsFinished (P : Program) (es : List Event) (task : ℕ) (ended : Reco
   pub in_order : IsInOrder (first_place task 0 es) ended.trace (length es)
   pub own : own_events task 0 es ≡ own_items ended.trace
   pub ran : (fuel : ℕ) → fuel_of es ≡ Some fuel →
-      Run (record { program = P; events = es; places = None; fuel = fuel }) (start_of task es) ended.trace ended.outcome ended.output ended.calls (own_starts task es)
+      Run (setting_of P es None fuel) (start_of task es) ended.trace ended.outcome ended.output ended.calls (own_starts task es)
 
 -- an event is right after those before it
 abbrev pub IsRight : Program → List Event → Event → Type 0

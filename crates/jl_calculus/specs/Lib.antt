@@ -2,6 +2,12 @@ pub mod Host
 pub mod World
 pub mod Past
 pub mod Kept
+pub mod Answers
+pub mod Statics
+pub mod Operations
 pub mod Run
 pub mod Legal
 pub mod Simple
+pub mod Laws
+pub mod Views
+pub mod ValidStart
