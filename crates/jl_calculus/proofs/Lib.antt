@@ -3,3 +3,6 @@ pub mod Forms
 pub mod FirstScript
 pub mod OtherScripts
 pub mod OtherHistories
+pub mod GrowthLemmas
+pub mod OrderLemmas
+pub mod RowLemmas

@@ -1,7 +1,16 @@
+pub mod Limits
 pub mod Host
 pub mod World
 pub mod Past
+pub mod Ranges
 pub mod Kept
 pub mod Run
+pub mod Learnt
+pub mod Orders
 pub mod Legal
+pub mod Words
+pub mod Core
+pub mod Views
+pub mod ValidHistory
+pub mod HistoryLaws
 pub mod Simple

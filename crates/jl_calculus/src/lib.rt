@@ -2,3 +2,5 @@
 #![tactic(auto)]
 
 pub mod history;
+pub mod history_laws;
+pub mod step;
