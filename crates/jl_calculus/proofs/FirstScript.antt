@@ -44,16 +44,16 @@ use Rattle.jl_program.proofs.FirstProgram.{f_site, P}
 use Rattle.jl_program.proofs.FirstChoices.{only_choice, no_other_choice, any_applies, two_apply}
 use Rattle.jl_calculus.proofs.Forms.{int_runs, local_runs, call_runs, print_runs, show_runs, define_runs, do_runs, from_int, from_local, from_call, from_print, from_show, from_define, from_do}
 use Rattle.jl_calculus.specs.Past.{own_events, own_items, own_starts, IsInOrder, IsTrueOf, done_of, tasks_of}
-use Rattle.jl_calculus.specs.Legal.{AreTrueOf, first_place, fuel_of, run_over, IsRunning, MayCome, HasTrueTrace, HasOwnEvents, HasRun, IsLegal, text_of, status_of}
+use Rattle.jl_calculus.specs.Legal.{AreTrueOf, first_place, fuel_of, run_over, IsRunning, MayCome, HasTrueTrace, HasRun, IsLegal, text_of, status_of}
 
-abbrev trace : List TraceItem
+abbrev pub trace : List TraceItem
 trace = Look 14 1 ∷ Def 14 1 ∷ Look 15 2 ∷ []
 
 abbrev ended : Record
 ended = record { trace = trace; outcome = O.Value V.Nothing; output = codes "3\n"; calls = 2 }
 
 -- what stands before the end of the root
-abbrev before : List Event
+abbrev pub before : List Event
 before = Ev.Begin 10000000 ∷ Ev.Def 0 14 ∷ []
 
 abbrev H : List Event
@@ -562,10 +562,10 @@ only_three o out made spawned h =
     record { outcome = sym end.is; output = sym end.printed ∙ ap (λ t. t ++ codes "\n") three_is; counted = sym end.counted_calls; starts = sym end.spawned_tasks }
 
 -- not 4, not one call, no other outcome
-not_four : (o : Outcome) (made : ℕ) (spawned : List Start) → Run g None trace o (codes "4\n") made spawned → ⊥
+pub not_four : (o : Outcome) (made : ℕ) (spawned : List Start) → Run g None trace o (codes "4\n") made spawned → ⊥
 not_four o made spawned h = absurd (omega (arith, ap (λ (t : List ℕ). get_or t 0 0) (only_three o (codes "4\n") made spawned h).output))
 
-not_one_call : (o : Outcome) (out : List ℕ) (spawned : List Start) → Run g None trace o out 1 spawned → ⊥
+pub not_one_call : (o : Outcome) (out : List ℕ) (spawned : List Start) → Run g None trace o out 1 spawned → ⊥
 not_one_call o out spawned h = absurd (omega (arith, (only_three o out 1 spawned h).counted))
 
 abbrev is_value : Outcome → Bool
@@ -576,7 +576,7 @@ no_error : (e : Fault) (out : List ℕ) (made : ℕ) (spawned : List Start) → 
 no_error e out made spawned h = true≢false (sym (ap is_value (only_three (O.Error e) out made spawned h).outcome))
 
 -- a trace without the second look, and one with a look too many, lead to nothing
-no_short_trace : (o : Outcome) (out : List ℕ) (made : ℕ) (spawned : List Start) → Run g None (Look 14 1 ∷ Def 14 1 ∷ []) o out made spawned → ⊥
+pub no_short_trace : (o : Outcome) (out : List ℕ) (made : ℕ) (spawned : List Start) → Run g None (Look 14 1 ∷ Def 14 1 ∷ []) o out made spawned → ⊥
 no_short_trace o out made spawned h =
     let Ends : Outcome → State → Type 0 = IsEnd o out made spawned in
     let called : Caller = calls g Ends open_calls in

@@ -1,5 +1,5 @@
 -- What holds of a list of events holds of each list that goes on from it.
-use Rattle.std.proofs.Common.{◌≡◌, ◌∙◌, ap, sym, subst, refl, ℕ, zero, suc, ◌+◌, ◌-◌, ◌<◌, ◌≤◌, ◌⊎◌, inl, inr, arith, List, [], ◌∷◌, ◌++◌, length, take, get_or, slice_get, append_assoc, length-append, Option, None, Some}
+use Rattle.std.proofs.Common.{◌≡◌, ◌∙◌, ap, sym, subst, refl, ℕ, zero, suc, ◌-◌, ◌<◌, ◌≤◌, ◌⊎◌, inl, inr, arith, List, [], ◌∷◌, ◌++◌, length, take, get_or, slice_get, append_assoc, length-append, Option, None, Some}
 use Rattle.std.specs.List.{Contains}
 use Rattle.std.proofs.lemmas.List.{take-append-le, get_or_append_left}
 use Rattle.jl_model.specs.declared.ty.Ty.{Ty}
@@ -17,7 +17,7 @@ use Rattle.jl_calculus.specs.declared.history.TraceItem.TheVariants.{Look, Def, 
 use Rattle.jl_calculus.specs.Kept.{Places, IsInCache, IsKeptFor, Keeps}
 use Rattle.jl_calculus.specs.Learnt.{Learnt, traced, named, answered, chosen, uncovered, kept, IsNamed, IsChosen, IsUncovered, IsLearntOf}
 use Rattle.jl_calculus.specs.Past.{tasks_of, done_of, EndedSo, IsTrueOf}
-use Rattle.jl_calculus.specs.Ranges.{CacheRow, keys_of, rows_of, site_in, site_at, SiteTouches, Touches, Covers, IsCoveredBy, IsCovered, SelectsSite}
+use Rattle.jl_calculus.specs.Ranges.{CacheRow, keys_of, rows_of, site_in, site_at, SiteTouches, Touches, Covers, IsCovered}
 use Rattle.jl_calculus.specs.World.{defined, definitions, site_of, world_of, methods_from, methods_in, Selects}
 
 -- ---- lists

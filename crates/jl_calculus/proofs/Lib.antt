@@ -6,3 +6,8 @@ pub mod OtherHistories
 pub mod GrowthLemmas
 pub mod OrderLemmas
 pub mod RowLemmas
+pub mod KeyHistories
+pub mod TaskHistories
+pub mod IllegalHistories
+pub mod SomeWords
+pub mod SomeSteps

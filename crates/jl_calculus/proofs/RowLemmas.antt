@@ -1,5 +1,5 @@
 -- A row of a key that begins in a world has one site alone, and rows that cover one world begin in the same.
-use Rattle.std.proofs.Common.{◌≡◌, ◌∙◌, ap, sym, refl, ℕ, ◌<◌, ◌≤◌, ◌⊎◌, inl, inr, arith, Bool, true, false, nat_eq, List}
+use Rattle.std.proofs.Common.{◌≡◌, ◌∙◌, ap, sym, refl, ℕ, ◌<◌, ◌≤◌, inl, inr, arith, Bool, true, false, nat_eq, List}
 use Rattle.jl_model.specs.declared.ty.Key.{Key}
 use Rattle.jl_model.specs.declared.ty.Ty.{Ty}
 use Rattle.jl_model.specs.Choice.{Method, IsBest, ChoosesMethod}
@@ -7,7 +7,7 @@ use Rattle.jl_model.specs.Subtype.{Table}
 use Rattle.jl_program.specs.declared.tree.Program.{Program}
 use Rattle.jl_program.specs.Scope.{types_of}
 use Rattle.jl_calculus.specs.declared.history.Event.{Event}
-use Rattle.jl_calculus.specs.Ranges.{Touches, Covers, SelectsSite, MayBegin, IsRightFill}
+use Rattle.jl_calculus.specs.Ranges.{Covers, SelectsSite, MayBegin, IsRightFill}
 use Rattle.jl_calculus.specs.World.{site_of, methods_in}
 
 -- of two that are below all others each is below the other, unless they are one

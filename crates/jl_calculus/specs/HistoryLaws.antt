@@ -1,6 +1,5 @@
 -- Laws of histories. Each is the contract of a function of the module `history_laws`.
 use Rattle.std.specs.Prelude.{ℕ, ◌≡◌, ◌<◌, ◌≤◌, ◌↔◌, List, ◌++◌}
-use Rattle.std.specs.List.{Contains}
 use Rattle.jl_model.specs.declared.ty.Key.{Key}
 use Rattle.jl_model.specs.declared.ty.Ty.{Ty}
 use Rattle.jl_program.specs.declared.choice.Choice.{Choice}
@@ -10,9 +9,8 @@ use Rattle.jl_calculus.specs.declared.history.Event.{Event}
 use Rattle.jl_calculus.specs.Kept.{Places, IsKeptFor}
 use Rattle.jl_calculus.specs.Learnt.{Learnt, IsLearntOf}
 use Rattle.jl_calculus.specs.Legal.{MayStand}
-use Rattle.jl_calculus.specs.Orders.{path_order, wait_order}
 use Rattle.jl_calculus.specs.Past.{tasks_of}
-use Rattle.jl_calculus.specs.Ranges.{CacheRow, rows_of, Covers, MayBegin, IsRightFill}
+use Rattle.jl_calculus.specs.Ranges.{Covers, MayBegin, IsRightFill}
 use Rattle.jl_calculus.specs.World.{world_of, Selects}
 
 -- an item that is true of a list of events stays true when the list grows

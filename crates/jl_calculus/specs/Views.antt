@@ -1,7 +1,7 @@
 -- What is visible at each spawn place, as a function of the program. A `Spawn` stands in a statement at the top, in the body of a
 -- site, or in the expression of a spawn place with a lesser number, which sees what that place sees. So the places are found one
 -- after another.
-use Rattle.std.specs.Prelude.{ℕ, ◌+◌, Bool, true, false, cond, nat_eq, List, [], ◌∷◌, ◌++◌, map, length}
+use Rattle.std.specs.Prelude.{ℕ, ◌+◌, Bool, true, false, cond, nat_eq, List, [], ◌∷◌, ◌++◌, map}
 use Rattle.std.specs.List.{flat_map}
 use Rattle.jl_program.specs.declared.tree.Expr.{Expr}
 use Rattle.jl_program.specs.declared.tree.Item.{Item}
