@@ -35,7 +35,7 @@ use Rattle.jl_program.specs.declared.value.Value.{Value}
 use Rattle.jl_program.specs.declared.choice.Choice.{Choice}
 use Rattle.jl_program.specs.declared.tree.Start.{Start}
 use Rattle.jl_program.specs.declared.choice.Choice.TheVariants as C
-use Rattle.jl_calculus.specs.Run.{Setting, State, chosen, Then, IsEnd, Caller, Run, calls, runs, runs_item, prints, with_scope, first_state, open_calls}
+use Rattle.jl_calculus.specs.Run.{Setting, setting_of, State, chosen, Then, IsEnd, Caller, Run, calls, runs, runs_item, prints, with_scope, first_state, open_calls}
 use Rattle.jl_program.specs.Scope.{types_of}
 use Rattle.jl_calculus.specs.World.{world_of, site_of, Selects}
 use Rattle.jl_model.specs.Choice.{Method}
@@ -44,7 +44,7 @@ use Rattle.jl_program.proofs.FirstProgram.{f_site, P}
 use Rattle.jl_program.proofs.FirstChoices.{only_choice, no_other_choice, any_applies, two_apply}
 use Rattle.jl_calculus.proofs.Forms.{int_runs, local_runs, call_runs, print_runs, show_runs, define_runs, do_runs, from_int, from_local, from_call, from_print, from_show, from_define, from_do}
 use Rattle.jl_calculus.specs.Past.{own_events, own_items, own_starts, IsInOrder, IsTrueOf, done_of, tasks_of}
-use Rattle.jl_calculus.specs.Legal.{AreTrueOf, first_place, fuel_of, run_over, IsRunning, MayCome, HasTrueTrace, HasRun, IsLegal, text_of, status_of}
+use Rattle.jl_calculus.specs.Legal.{AreTrueOf, first_place, fuel_of, IsRunning, MayCome, HasTrueTrace, HasRun, IsLegal, text_of, status_of}
 
 abbrev pub trace : List TraceItem
 trace = Look 14 1 ∷ Def 14 1 ∷ Look 15 2 ∷ []
@@ -425,7 +425,7 @@ no_f m h = nothing_there m h.applies.stands
     nothing_there m (k, p, e) = absurd (omega (arith, p))
 
 abbrev g : Setting
-g = record { program = P; events = before; places = None; fuel = 10000000 }
+g = setting_of P before None 10000000
 
 abbrev three : List ℕ
 three = value_text P (V.Int (pos 3))
@@ -454,7 +454,7 @@ module _ (Ends : Outcome → State → Type 0) where
       let last = add room (V.Int (pos 2) ∷ []) left out inner h in
       let second = int_runs g Ends called (pos 1) 15 s inner (λ v s1. called 0 (V.Int (pos 2) ∷ v ∷ []) 15 s1 inner) last in
       let first = local_runs g Ends called 0 15 s inner (λ v s1. runs g Ends called (E.Int (pos 1)) 15 s1 inner (λ u s2. called 0 (v ∷ u ∷ []) 15 s2 inner)) second in
-      (C.Method 15, call_f, tt, ([], refl, call_runs g Ends called 0 (E.Local 0 ∷ E.Int (pos 1) ∷ []) 15 s inner inner first))
+      (C.Method 15, call_f, tt, call_runs g Ends called 0 (E.Local 0 ∷ E.Int (pos 1) ∷ []) 15 s inner inner first)
 
 abbrev or_zero : Option ℕ → ℕ
 or_zero None = 0
@@ -492,7 +492,7 @@ ran =
 
 -- what the root did is a run over what stands before its end
 has_run : HasRun P None before 0 ended
-has_run fuel e = subst (λ (n : ℕ). Run (run_over P before None n) None trace (O.Value V.Nothing) (codes "3\n") 2 []) (fuel_is fuel e) ran
+has_run fuel e = subst (λ (n : ℕ). Run (setting_of P before None n) None trace (O.Value V.Nothing) (codes "3\n") 2 []) (fuel_is fuel e) ran
 
 has_true_trace : HasTrueTrace before 0 ended
 has_true_trace = record { true_items = are_true; in_order = in_order }
@@ -527,11 +527,11 @@ module _ (Ends : Outcome → State → Type 0) where
       let k = taken h.0 15 12 (int64 ∷ []) (in_scope [] [] 1) _ c h.3 in
       let inner : Then = λ v s1. next v (with_scope s1 [] []) in
       let called : Caller = calls g Ends (suc room) in
-      let s : State = in_scope (V.Int (pos 2) ∷ []) k.0 1 in
-      let first = from_call g Ends called 0 (E.Local 0 ∷ E.Int (pos 1) ∷ []) 15 s inner inner k.2 in
+      let s : State = in_scope (V.Int (pos 2) ∷ []) [] 1 in
+      let first = from_call g Ends called 0 (E.Local 0 ∷ E.Int (pos 1) ∷ []) 15 s inner inner k in
       let second = from_local g Ends called 0 15 s inner (λ v s1. runs g Ends called (E.Int (pos 1)) 15 s1 inner (λ u s2. called 0 (v ∷ u ∷ []) 15 s2 inner)) first in
       let last = from_int g Ends called (pos 1) 15 s inner (λ v s1. called 0 (V.Int (pos 2) ∷ v ∷ []) 15 s1 inner) second in
-      add_is room (V.Int (pos 2) ∷ []) k.0 inner last
+      add_is room (V.Int (pos 2) ∷ []) [] inner last
 
 -- the trace leads to this outcome, this output and these calls alone
 record IsThree (o : Outcome) (out : List ℕ) (made : ℕ) (spawned : List Start) : Type 0 where

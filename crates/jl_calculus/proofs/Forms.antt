@@ -8,17 +8,17 @@ use Rattle.jl_program.specs.declared.tree.Expr.TheOpen as F
 use Rattle.jl_program.specs.declared.tree.Expr.TheVariants as E
 use Rattle.jl_program.specs.declared.tree.Expr.TheViews as W
 use Rattle.jl_program.specs.declared.tree.Expr.TheViews.{outs-Int, outs-Local, outs-Call, outs-Print, outs-Define, outs-Show}
-use Rattle.jl_program.specs.declared.tree.Item.{Item}
+use Rattle.jl_program.specs.declared.tree.Item.{Item, out-Item}
 use Rattle.jl_program.specs.declared.tree.Item.TheVariants as I
 use Rattle.jl_program.specs.declared.tree.Piece.{Piece}
 use Rattle.jl_program.specs.declared.tree.Piece.TheVariants as Pi
-use Rattle.jl_program.specs.declared.tree.Stmt.{Stmt}
-use Rattle.jl_calculus.specs.Run.{Setting, State, Then, Runs, ItemRuns, PieceRuns, Caller, each_runs, texts_run, looks, defines, expr_runs, item_runs, piece_runs, runs, runs_stmt, runs_item, runs_piece, prints, newline}
+use Rattle.jl_program.specs.declared.tree.Stmt.{Stmt, out-Stmt}
+use Rattle.jl_calculus.specs.Run.{Setting, State, Then, Runs, ItemRuns, PieceRuns, Caller, each_runs, texts_run, looks, defines, expr_runs, stmt_runs, item_runs, piece_runs, runs, runs_stmt, runs_item, runs_piece, prints, newline}
 use Rattle.jl_program.specs.Text.{value_text}
-use Rattle.jl_calculus.proofs.Layers.{runs_is, item_is, piece_is}
+use Rattle.jl_calculus.proofs.Layers.{runs_is, stmt_is, item_is, piece_is}
 
 module _ (g : Setting) (Ends : Outcome → State → Type 0) (called : Caller) where
-  abbrev layer : Expr-F Expr Item Piece Stmt → Runs
+  abbrev pub layer : Expr-F Expr Item Piece Stmt → Runs
   layer = expr_runs g Ends called (runs g Ends called) (runs_item g Ends called) (runs_piece g Ends called) (runs_stmt g Ends called)
 
   of_layer : (e : Expr) (x : Expr-F Expr Item Piece Stmt) (w : ℕ) (s : State) (back next : Then) → out-Expr e ≡ x → layer x w s back next → runs g Ends called e w s back next
@@ -39,14 +39,14 @@ module _ (g : Setting) (Ends : Outcome → State → Type 0) (called : Caller) w
       → runs g Ends called (W.Print ps line) w s back next
   print_runs ps line w s back next h = of_layer (W.Print ps line) (F.Print ps line) w s back next (outs-Print ps line) h
 
-  abbrev piece_layer : Piece-F Expr Item Piece Stmt → PieceRuns
+  abbrev pub piece_layer : Piece-F Expr Item Piece Stmt → PieceRuns
   piece_layer = piece_runs g Ends called (runs g Ends called) (runs_item g Ends called) (runs_piece g Ends called) (runs_stmt g Ends called)
 
   pub show_runs : (e : Expr) (w : ℕ) (s : State) (back : Then) (next : List ℕ → State → Type 0)
       → runs g Ends called e w s back (λ v s1. next (value_text g.program v) s1) → runs_piece g Ends called (Pi.Show e) w s back next
   show_runs e w s back next h = subst (λ (q : PieceRuns). q w s back next) (sym (piece_is g Ends called (Pi.Show e) ∙ ap piece_layer (outs-Show e))) h
 
-  abbrev item_layer : Item-F Expr Item Piece Stmt → ItemRuns
+  abbrev pub item_layer : Item-F Expr Item Piece Stmt → ItemRuns
   item_layer = item_runs g Ends called (runs g Ends called) (runs_item g Ends called) (runs_piece g Ends called) (runs_stmt g Ends called)
 
   pub define_runs : (site : ℕ) (s : State) (back next : Then)
@@ -90,3 +90,16 @@ module _ (g : Setting) (Ends : Outcome → State → Type 0) (called : Caller) w
   pub from_do : (e : Expr) (s : State) (back next : Then)
       → runs_item g Ends called (I.Do e) s back next → looks g Ends s.left s (λ w s1. runs g Ends called e w s1 back next)
   from_do e s back next h = subst (λ (q : ItemRuns). q s back next) (item_is g Ends called (I.Do e) ∙ ap item_layer (W.outs-Item::Do e)) h
+
+  abbrev pub stmt_layer : Stmt-F Expr Item Piece Stmt → Runs
+  stmt_layer = stmt_runs g Ends called (runs g Ends called) (runs_item g Ends called) (runs_piece g Ends called) (runs_stmt g Ends called)
+
+  -- each part of the tree runs as its form says, and only so
+  pub form_is : (e : Expr) (x : Expr-F Expr Item Piece Stmt) → out-Expr e ≡ x → (w : ℕ) (s : State) (back next : Then) → runs g Ends called e w s back next ≡ layer x w s back next
+  form_is e x o w s back next = λ i. (runs_is g Ends called e ∙ ap layer o) i w s back next
+
+  pub stmt_form_is : (e : Stmt) (x : Stmt-F Expr Item Piece Stmt) → out-Stmt e ≡ x → (w : ℕ) (s : State) (back next : Then) → runs_stmt g Ends called e w s back next ≡ stmt_layer x w s back next
+  stmt_form_is e x o w s back next = λ i. (stmt_is g Ends called e ∙ ap stmt_layer o) i w s back next
+
+  pub item_form_is : (e : Item) (x : Item-F Expr Item Piece Stmt) → out-Item e ≡ x → (s : State) (back next : Then) → runs_item g Ends called e s back next ≡ item_layer x s back next
+  item_form_is e x o s back next = λ i. (item_is g Ends called e ∙ ap item_layer o) i s back next

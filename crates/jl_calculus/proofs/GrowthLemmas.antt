@@ -1,5 +1,5 @@
 -- What holds of a list of events holds of each list that goes on from it.
-use Rattle.std.proofs.Common.{◌≡◌, ◌∙◌, ap, sym, subst, refl, ℕ, zero, suc, ◌-◌, ◌<◌, ◌≤◌, ◌⊎◌, inl, inr, arith, List, [], ◌∷◌, ◌++◌, length, take, get_or, slice_get, append_assoc, length-append, Option, None, Some}
+use Rattle.std.proofs.Common.{◌≡◌, ◌∙◌, ap, sym, subst, refl, ℕ, zero, suc, ◌-◌, ◌<◌, ◌≤◌, ◌⊎◌, inl, inr, arith, List, [], ◌∷◌, ◌++◌, length, take, drop, take-append-drop, get_or, slice_get, append_assoc, length-append, Option, None, Some}
 use Rattle.std.specs.List.{Contains}
 use Rattle.std.proofs.lemmas.List.{take-append-le, get_or_append_left}
 use Rattle.jl_model.specs.declared.ty.Ty.{Ty}
@@ -177,3 +177,7 @@ module _ (es more : List Event) where
   learnt_on P task (chosen number w site p) (l, h) = (longer p l, subst (λ xs. IsChosen P xs number w site) (first_same p l) h)
   learnt_on P task (uncovered number w p) (l, h) = (longer p l, subst (λ xs. IsUncovered P xs number w) (first_same p l) h)
   learnt_on P task (kept f ts w room p) (l, h) = (longer p l, subst (λ xs. IsKeptFor P xs room f ts w) (first_same p l) h)
+
+-- the world of the first events is at most that of all
+pub first_at_most : (es : List Event) (p : ℕ) → world_of (take p es) ≤ world_of es
+first_at_most es p = subst (λ xs. world_of (take p es) ≤ world_of xs) (take-append-drop p es) (world_more (take p es) (drop p es))

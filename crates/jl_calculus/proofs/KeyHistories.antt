@@ -38,10 +38,10 @@ use Rattle.jl_calculus.specs.declared.history.TraceItem.{TraceItem}
 use Rattle.jl_calculus.specs.declared.history.TraceItem.TheVariants.{Look, Def}
 use Rattle.jl_calculus.specs.declared.history.Record.{Record}
 use Rattle.jl_calculus.specs.Kept.{Places, IsKeptFor, Keeps}
-use Rattle.jl_calculus.specs.Legal.{IsRunning, MayCome, MayStand, HasTrueTrace, HasRun, run_over, fuel_of, AreRuns, IsLegal, IsCached, text_of}
+use Rattle.jl_calculus.specs.Legal.{IsRunning, MayCome, MayStand, HasTrueTrace, HasRun, fuel_of, AreRuns, IsLegal, IsCached, text_of}
 use Rattle.jl_calculus.specs.Past.{done_of, tasks_of}
 use Rattle.jl_calculus.specs.Ranges.{CacheRow, keys_of, rows_of, Touches, IsCovered, IsRightFill}
-use Rattle.jl_calculus.specs.Run.{Setting, State, Then, Caller, IsEnd, Run, calls, runs, runs_item, prints, with_scope, first_state, open_calls}
+use Rattle.jl_calculus.specs.Run.{Setting, setting_of, State, Then, Caller, IsEnd, Run, calls, runs, runs_item, prints, with_scope, first_state, open_calls}
 use Rattle.jl_calculus.proofs.Forms.{int_runs, local_runs, call_runs, print_runs, show_runs, define_runs, do_runs}
 
 -- ---- the type of integers may stand in a key
@@ -214,7 +214,7 @@ keeps_add (Some room) = kept_add room
 
 module _ (room : Option Places) where
   abbrev g : Setting
-  g = run_over P before room 10000000
+  g = setting_of P before room 10000000
 
   abbrev at_calls : List Value → List TraceItem → ℕ → State
   at_calls env left calls = record { env = env; bindings = []; left = left; calls = calls; out = []; starts = [] }
@@ -231,7 +231,7 @@ module _ (room : Option Places) where
         let last = add free (V.Int (pos 2) ∷ []) inner h in
         let second = int_runs g Ends called (pos 1) 15 s inner (λ v s1. called 0 (V.Int (pos 2) ∷ v ∷ []) 15 s1 inner) last in
         let first = local_runs g Ends called 0 15 s inner (λ v s1. runs g Ends called (E.Int (pos 1)) 15 s1 inner (λ u s2. called 0 (v ∷ u ∷ []) 15 s2 inner)) second in
-        (C.Method 15, only_choice (types_of P) (record { number = 15; sig = f_site.sig }) (int64 ∷ []) (any_applies (types_of P)), keeps_f room, ([], refl, call_runs g Ends called 0 (E.Local 0 ∷ E.Int (pos 1) ∷ []) 15 s inner inner first))
+        (C.Method 15, only_choice (types_of P) (record { number = 15; sig = f_site.sig }) (int64 ∷ []) (any_applies (types_of P)), keeps_f room, call_runs g Ends called 0 (E.Local 0 ∷ E.Int (pos 1) ∷ []) 15 s inner inner first)
 
   three_is : value_text P (V.Int (pos 3)) ≡ codes "3"
   unfolding digits
@@ -262,7 +262,7 @@ module _ (room : Option Places) where
 
   has_run : HasRun P room before 0 ended
   unfolding or_zero
-  has_run fuel e = subst (λ (n : ℕ). Run (run_over P before room n) None trace (O.Value V.Nothing) (codes "3\n") 2 []) (let q : 10000000 ≡ fuel = ap or_zero e in q) ran
+  has_run fuel e = subst (λ (n : ℕ). Run (setting_of P before room n) None trace (O.Value V.Nothing) (codes "3\n") 2 []) (let q : 10000000 ≡ fuel = ap or_zero e in q) ran
 
   are_runs : AreRuns P room H
   are_runs = (tt, (tt, (tt, (tt, (tt, (tt, (has_run, tt)))))))

@@ -1,5 +1,11 @@
+pub mod ChoiceLaws
+pub mod ValueLemmas
+pub mod AnswerLemmas
 pub mod Layers
 pub mod Forms
+pub mod FormExamples
+pub mod OperationExamples
+pub mod MakeExamples
 pub mod FirstScript
 pub mod OtherScripts
 pub mod OtherHistories
@@ -11,3 +17,6 @@ pub mod TaskHistories
 pub mod IllegalHistories
 pub mod SomeWords
 pub mod SomeSteps
+pub mod ViewLemmas
+pub mod Induction
+pub mod RunGrowth

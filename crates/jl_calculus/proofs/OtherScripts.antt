@@ -32,7 +32,7 @@ use Rattle.jl_calculus.specs.Past.{done_of}
 use Rattle.jl_calculus.specs.Legal.{IsLegal, text_of, status_of}
 use Rattle.jl_program.specs.Scope.{types_of}
 use Rattle.jl_calculus.specs.World.{Selects}
-use Rattle.jl_calculus.specs.Run.{Setting, State, Then, IsEnd, Caller, Run, calls, runs, runs_item, runs_piece, texts_run, prints, with_scope, first_state, open_calls}
+use Rattle.jl_calculus.specs.Run.{Setting, setting_of, State, Then, IsEnd, Caller, Run, calls, runs, runs_item, runs_piece, texts_run, prints, with_scope, first_state, open_calls}
 use Rattle.jl_calculus.proofs.Forms.{int_runs, local_runs, call_runs, print_runs, show_runs, text_runs, define_runs, do_runs}
 use Rattle.jl_program.proofs.FirstChoices.{only_choice, any_applies, two_apply}
 
@@ -79,10 +79,10 @@ early_status = refl
 none_selected : Selects early begin 12 (int64 ∷ []) 14 C.None
 none_selected m h = nowhere m h.applies.stands
 
-early_run : (fuel : ℕ) → 10000000 ≡ fuel → Run (record { program = early; events = begin; places = None; fuel = fuel }) None (Look 14 1 ∷ []) no_method [] 1 []
+early_run : (fuel : ℕ) → 10000000 ≡ fuel → Run (setting_of early begin None fuel) None (Look 14 1 ∷ []) no_method [] 1 []
 early_run fuel e =
     let Ends : Outcome → State → Type 0 = IsEnd no_method [] 1 [] in
-    let g : Setting = record { program = early; events = begin; places = None; fuel = 10000000 } in
+    let g : Setting = setting_of early begin None 10000000 in
     let called : Caller = calls g Ends open_calls in
     let back : Then = λ v s. Ends (O.Value v) s in
     let next : Then = λ v s. runs_item g Ends called (I.Define 14) s back back in
@@ -91,7 +91,7 @@ early_run fuel e =
     let argument = int_runs g Ends called (pos 1) 14 (bare [] 0 []) back (λ v s. called 12 (v ∷ []) 14 s next) call in
     let value = call_runs g Ends called 12 (E.Int (pos 1) ∷ []) 14 (bare [] 0 []) back next argument in
     let first = do_runs g Ends called f_of_one (first_state (Look 14 1 ∷ [])) back next value in
-    subst (λ (n : ℕ). Run (record { program = early; events = begin; places = None; fuel = n }) None (Look 14 1 ∷ []) no_method [] 1 []) e (record { ran = first })
+    subst (λ (n : ℕ). Run (setting_of early begin None n) None (Look 14 1 ∷ []) no_method [] 1 []) e (record { ran = first })
 
 abbrev or_zero : Option ℕ → ℕ
 or_zero None = 0
@@ -111,7 +111,7 @@ early_legal = record {
 
 module _ (P : Program) (es : List Event) (Ends : Outcome → State → Type 0) (left : List TraceItem) (out : List ℕ) (next : Then) (f w : ℕ) (vs : List Value) where
   abbrev g : Setting
-  g = record { program = P; events = es; places = None; fuel = 5 }
+  g = setting_of P es None 5
 
   -- no fuel is left: whatever stands otherwise, also where no call may be open
   fuel_first : (room : ℕ) → Ends (O.Error (F.FuelSpent 5)) (bare left 5 out) → calls g Ends room f vs w (bare left 5 out) next
@@ -143,10 +143,10 @@ failing = record { decls = []; functions = prelude_functions; sites = prelude_si
 div_selected : Selects failing begin 3 two 14 (C.Method 4)
 div_selected = only_choice (types_of failing) (record { number = 4; sig = plain two }) two (two_apply (types_of failing))
 
-failing_run : Run (record { program = failing; events = begin; places = None; fuel = 10000000 }) None (Look 14 1 ∷ []) (O.Error F.DivideError) [] 1 []
+failing_run : Run (setting_of failing begin None 10000000) None (Look 14 1 ∷ []) (O.Error F.DivideError) [] 1 []
 failing_run =
     let Ends : Outcome → State → Type 0 = IsEnd (O.Error F.DivideError) [] 1 [] in
-    let g : Setting = record { program = failing; events = begin; places = None; fuel = 10000000 } in
+    let g : Setting = setting_of failing begin None 10000000 in
     let called : Caller = calls g Ends open_calls in
     let back : Then = λ v s. Ends (O.Value v) s in
     let s : State = bare [] 0 [] in
@@ -191,10 +191,10 @@ f_selected : Selects first_script defined_f 12 (int64 ∷ []) 15 (C.Method 15)
 f_selected = only_choice (types_of first_script) (record { number = 15; sig = adder.sig }) (int64 ∷ []) (any_applies (types_of first_script))
 
 -- the second call is not counted, and its method is not asked for
-spent_run : Run (record { program = first_script; events = defined_f; places = None; fuel = 1 }) None trace spent [] 1 []
+spent_run : Run (setting_of first_script defined_f None 1) None trace spent [] 1 []
 spent_run =
     let Ends : Outcome → State → Type 0 = IsEnd spent [] 1 [] in
-    let g : Setting = record { program = first_script; events = defined_f; places = None; fuel = 1 } in
+    let g : Setting = setting_of first_script defined_f None 1 in
     let called : Caller = calls g Ends open_calls in
     let back : Then = λ v s. Ends (O.Value v) s in
     let s2 : State = bare [] 0 [] in
@@ -209,7 +209,7 @@ spent_run =
     let second = int_runs g Ends within (pos 1) 15 inside inner (λ v s. within 0 (V.Int (pos 2) ∷ v ∷ []) 15 s inner) last in
     let first = local_runs g Ends within 0 15 inside inner (λ v s. runs g Ends within (E.Int (pos 1)) 15 s inner (λ u t. within 0 (v ∷ u ∷ []) 15 t inner)) second in
     let body = call_runs g Ends within 0 (E.Local 0 ∷ E.Int (pos 1) ∷ []) 15 inside inner inner first in
-    let call : calls g Ends (suc 99999) 12 (V.Int (pos 2) ∷ []) 15 s2 valued = (C.Method 15, f_selected, tt, ([], refl, body)) in
+    let call : calls g Ends (suc 99999) 12 (V.Int (pos 2) ∷ []) 15 s2 valued = (C.Method 15, f_selected, tt, body) in
     let argument = int_runs g Ends called (pos 2) 15 s2 back (λ v s. called 12 (v ∷ []) 15 s valued) call in
     let value = call_runs g Ends called 12 (E.Int (pos 2) ∷ []) 15 s2 back valued argument in
     let piece = show_runs g Ends called (X.Call 12 (E.Int (pos 2) ∷ [])) 15 s2 back shown value in

@@ -2,23 +2,14 @@
 use Rattle.std.proofs.Common.{◌≡◌, ◌∙◌, ap, sym, refl, ℕ, ◌<◌, ◌≤◌, inl, inr, arith, Bool, true, false, nat_eq, List}
 use Rattle.jl_model.specs.declared.ty.Key.{Key}
 use Rattle.jl_model.specs.declared.ty.Ty.{Ty}
-use Rattle.jl_model.specs.Choice.{Method, IsBest, ChoosesMethod}
+use Rattle.jl_model.specs.Choice.{Method, ChoosesMethod}
 use Rattle.jl_model.specs.Subtype.{Table}
 use Rattle.jl_program.specs.declared.tree.Program.{Program}
 use Rattle.jl_program.specs.Scope.{types_of}
 use Rattle.jl_calculus.specs.declared.history.Event.{Event}
 use Rattle.jl_calculus.specs.Ranges.{Covers, SelectsSite, MayBegin, IsRightFill}
 use Rattle.jl_calculus.specs.World.{site_of, methods_in}
-
--- of two that are below all others each is below the other, unless they are one
-one_best : (n : Table) (ms : List Method) (ts : List Ty) (m o : Method) → IsBest n ms ts m → IsBest n ms ts o → m.number ≡ o.number
-one_best n ms ts m o b d = by (nat_eq m.number o.number) refl
-  where
-    by : (e : Bool) → nat_eq m.number o.number ≡ e → m.number ≡ o.number
-    by true q = grind (arith, q)
-    by false q =
-        let differ : m.number ≡ o.number → ⊥ = λ k. (let w : nat_eq m.number o.number ≡ true = grind (arith, k) in let z : true ≡ false = sym w ∙ q in cc) in
-        absurd ((b.below o d.candidate (λ k. differ (sym k))).1 (d.below m b.candidate differ).0)
+use Rattle.jl_calculus.proofs.ChoiceLaws.{one_best}
 
 pub one_method : (n : Table) (ms : List Method) (ts : List Ty) (c d : ℕ) → ChoosesMethod n ms ts c → ChoosesMethod n ms ts d → c ≡ d
 one_method n ms ts c d (m, b, e) (o, k, f) = sym e ∙ one_best n ms ts m o b k ∙ f

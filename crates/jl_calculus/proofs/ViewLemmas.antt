@@ -19,7 +19,7 @@ use Rattle.jl_program.specs.Scope.{View, Scope, Statement, nothing_seen, bound, 
 use Rattle.jl_program.specs.Scope as Sc
 use Rattle.jl_program.specs.Valid.{IsValid, IsValidSite}
 use Rattle.jl_program.proofs.ValidLayers.{stmt_of, valid-nothing}
-use Rattle.jl_calculus.specs.Views.{Placed, Spawned, Placing, bound_view, in_each, in_turn, expr_places, stmt_places, item_places, piece_places, places_in, placing, in_code, view_among, with_tasks, all_placed, view_at, views_from, views_of}
+use Rattle.jl_calculus.specs.Views.{Spawned, Finds, Walk, wider, find_all, find_in_turn, find_step, find_stmt_step, find_item_step, find_piece_step, find_spawns, walk_item, outer_spawns, view_among, with_inner, view_at, views_from, views_of}
 
 -- ---- truth values
 
@@ -46,19 +46,19 @@ view_same a b h =
 
 module _ (P : Program) (views : List View) where
   -- a `Spawn` for each number, in order: its place is this number, which is no less than the least, and it sees what that place sees
-  abbrev Fine : ℕ → List ℕ → List Placed → Type 0
+  abbrev Fine : ℕ → List ℕ → List Spawned → Type 0
   Fine least [] [] = Unit {0}
   Fine least [] (p ∷ ps) = ⊥
   Fine least (n ∷ ns) [] = ⊥
   Fine least (n ∷ ns) (p ∷ ps) = (p.place ≡ n) × (least ≤ n) × (get_or views n nothing_seen ≡ p.view) × Fine least ns ps
 
-  fine_append : (least : ℕ) (ns ms : List ℕ) (ps qs : List Placed) → Fine least ns ps → Fine least ms qs → Fine least (ns ++ ms) (ps ++ qs)
+  fine_append : (least : ℕ) (ns ms : List ℕ) (ps qs : List Spawned) → Fine least ns ps → Fine least ms qs → Fine least (ns ++ ms) (ps ++ qs)
   fine_append least [] ms [] qs h k = k
   fine_append least [] ms (p ∷ ps) qs h k = absurd h
   fine_append least (n ∷ ns) ms [] qs h k = absurd h
   fine_append least (n ∷ ns) ms (p ∷ ps) qs (a, b, c, h) k = (a, b, c, fine_append least ns ms ps qs h k)
 
-  fine_less : (low least : ℕ) (ns : List ℕ) (ps : List Placed) → low ≤ least → Fine least ns ps → Fine low ns ps
+  fine_less : (low least : ℕ) (ns : List ℕ) (ps : List Spawned) → low ≤ least → Fine least ns ps → Fine low ns ps
   fine_less low least [] [] l h = tt
   fine_less low least [] (p ∷ ps) l h = absurd h
   fine_less low least (n ∷ ns) [] l h = absurd h
@@ -72,23 +72,23 @@ module _ (P : Program) (views : List View) where
   abbrev valid : Expr → Test
   valid = is_valid_expr P views
 
-  abbrev piece_spawns : Piece → Spawned
-  piece_spawns = fold-Piece Spawned Placing Spawned Placing expr_places item_places piece_places stmt_places
+  abbrev piece_spawns : Piece → Finds
+  piece_spawns = fold-Piece Finds Walk Finds Walk find_step find_item_step find_piece_step find_stmt_step
 
-  abbrev stmt_placing : Stmt → Placing
-  stmt_placing = fold-Stmt Spawned Placing Spawned Placing expr_places item_places piece_places stmt_places
+  abbrev stmt_placing : Stmt → Walk
+  stmt_placing = fold-Stmt Finds Walk Finds Walk find_step find_item_step find_piece_step find_stmt_step
 
-  abbrev FineIn : Test → List ℕ → Spawned → Type 0
+  abbrev FineIn : Test → List ℕ → Finds → Type 0
   FineIn test ns has = (s : Scope) → test s ≡ true → Fine s.least ns (has s.view)
 
-  abbrev Stated : Statement → List ℕ → Placing → Type 0
-  Stated a ns p = (p.binds ≡ a.binds) × FineIn a.valid ns p.has
+  abbrev Stated : Statement → List ℕ → Walk → Type 0
+  Stated a ns p = (p.binds ≡ a.binds) × FineIn a.valid ns p.finds
 
   abbrev ExprFine : Expr → Type 0
-  ExprFine e = FineIn (valid e) (of_expr own_place e) (places_in e)
+  ExprFine e = FineIn (valid e) (of_expr own_place e) (find_spawns e)
 
   abbrev ItemFine : Item → Type 0
-  ItemFine e = Stated (item_of P views e) (of_item own_place e) (placing e)
+  ItemFine e = Stated (item_of P views e) (of_item own_place e) (walk_item e)
 
   abbrev PieceFine : Piece → Type 0
   PieceFine e = FineIn (is_valid_piece P views e) (of_piece own_place e) (piece_spawns e)
@@ -110,17 +110,17 @@ module _ (P : Program) (views : List View) where
 
   -- ---- lists of parts
 
-  each_fine : {X : Type 0} (test : X → Test) (ns : X → List ℕ) (has : X → Spawned) (xs : List ((x : X) × FineIn (test x) (ns x) (has x)))
-      → FineIn (λ s. all_in (map test (map (λ e. e.0) xs)) s) (flat_map (λ x. x) (map ns (map (λ e. e.0) xs))) (in_each (map has (map (λ e. e.0) xs)))
+  each_fine : {X : Type 0} (test : X → Test) (ns : X → List ℕ) (has : X → Finds) (xs : List ((x : X) × FineIn (test x) (ns x) (has x)))
+      → FineIn (λ s. all_in (map test (map (λ e. e.0) xs)) s) (flat_map (λ x. x) (map ns (map (λ e. e.0) xs))) (find_all (map has (map (λ e. e.0) xs)))
   each_fine test ns has [] s h = tt
   each_fine test ns has (x ∷ xs) s h =
       let parts = both_true (test x.0 s) (all_in (map test (map (λ e. e.0) xs)) s) h in
-      fine_append s.least (ns x.0) (flat_map (λ x. x) (map ns (map (λ e. e.0) xs))) (has x.0 s.view) (in_each (map has (map (λ e. e.0) xs)) s.view)
+      fine_append s.least (ns x.0) (flat_map (λ x. x) (map ns (map (λ e. e.0) xs))) (has x.0 s.view) (find_all (map has (map (λ e. e.0) xs)) s.view)
       (x.1 s parts.0)
       (each_fine test ns has xs s parts.1)
 
   -- the scope after a statement, and what is visible there
-  after_view : (b c : Bool) (s : Scope) → c ≡ b → (cond b (bound s) s).view ≡ cond c (bound_view s.view) s.view
+  after_view : (b c : Bool) (s : Scope) → c ≡ b → (cond b (bound s) s).view ≡ cond c (wider s.view) s.view
   after_view true true s e = refl
   after_view false false s e = refl
   after_view true false s e = cc
@@ -130,27 +130,27 @@ module _ (P : Program) (views : List View) where
   after_least true s = refl
   after_least false s = refl
 
-  turn_fine : {X : Type 0} (stated : X → Statement) (ns : X → List ℕ) (has : X → Placing) (xs : List ((x : X) × Stated (stated x) (ns x) (has x)))
-      → FineIn (Sc.in_turn (map stated (map (λ e. e.0) xs))) (flat_map (λ x. x) (map ns (map (λ e. e.0) xs))) (in_turn (map has (map (λ e. e.0) xs)))
+  turn_fine : {X : Type 0} (stated : X → Statement) (ns : X → List ℕ) (has : X → Walk) (xs : List ((x : X) × Stated (stated x) (ns x) (has x)))
+      → FineIn (Sc.in_turn (map stated (map (λ e. e.0) xs))) (flat_map (λ x. x) (map ns (map (λ e. e.0) xs))) (find_in_turn (map has (map (λ e. e.0) xs)))
   turn_fine stated ns has [] s h = tt
   turn_fine stated ns has (x ∷ xs) s h =
       let next : Scope = cond (stated x.0).binds (bound s) s in
       let parts = both_true ((stated x.0).valid s) (Sc.in_turn (map stated (map (λ e. e.0) xs)) next) h in
-      let rest : Fine next.least (flat_map (λ x. x) (map ns (map (λ e. e.0) xs))) (in_turn (map has (map (λ e. e.0) xs)) next.view) = turn_fine stated ns has xs next parts.1 in
-      let seen = subst (λ (v : View). Fine next.least (flat_map (λ x. x) (map ns (map (λ e. e.0) xs))) (in_turn (map has (map (λ e. e.0) xs)) v))
+      let rest : Fine next.least (flat_map (λ x. x) (map ns (map (λ e. e.0) xs))) (find_in_turn (map has (map (λ e. e.0) xs)) next.view) = turn_fine stated ns has xs next parts.1 in
+      let seen = subst (λ (v : View). Fine next.least (flat_map (λ x. x) (map ns (map (λ e. e.0) xs))) (find_in_turn (map has (map (λ e. e.0) xs)) v))
           (after_view (stated x.0).binds (has x.0).binds s x.1.0) rest in
-      fine_append s.least (ns x.0) (flat_map (λ x. x) (map ns (map (λ e. e.0) xs))) ((has x.0).has s.view)
-      (in_turn (map has (map (λ e. e.0) xs)) (cond (has x.0).binds (bound_view s.view) s.view))
+      fine_append s.least (ns x.0) (flat_map (λ x. x) (map ns (map (λ e. e.0) xs))) ((has x.0).finds s.view)
+      (find_in_turn (map has (map (λ e. e.0) xs)) (cond (has x.0).binds (wider s.view) s.view))
       (x.1.1 s parts.0)
-      (subst (λ (n : ℕ). Fine n (flat_map (λ x. x) (map ns (map (λ e. e.0) xs))) (in_turn (map has (map (λ e. e.0) xs)) (cond (has x.0).binds (bound_view s.view) s.view))) (after_least (stated x.0).binds s) seen)
+      (subst (λ (n : ℕ). Fine n (flat_map (λ x. x) (map ns (map (λ e. e.0) xs))) (find_in_turn (map has (map (λ e. e.0) xs)) (cond (has x.0).binds (wider s.view) s.view))) (after_least (stated x.0).binds s) seen)
 
   eval_fine : (xs : List ItemOf) (s : Scope) → list_all (λ (x : Statement). x.valid (evaluated s)) (map (item_of P views) (map (λ e. e.0) xs)) ≡ true
-      → Fine s.least (flat_map (λ x. x) (map (of_item own_place) (map (λ e. e.0) xs))) (flat_map (λ (x : Placing). x.has nothing_seen) (map placing (map (λ e. e.0) xs)))
+      → Fine s.least (flat_map (λ x. x) (map (of_item own_place) (map (λ e. e.0) xs))) (flat_map (λ (x : Walk). x.finds nothing_seen) (map walk_item (map (λ e. e.0) xs)))
   eval_fine [] s h = tt
   eval_fine (x ∷ xs) s h =
       let parts = both_true ((item_of P views x.0).valid (evaluated s)) (list_all (λ (y : Statement). y.valid (evaluated s)) (map (item_of P views) (map (λ e. e.0) xs))) h in
-      fine_append s.least (of_item own_place x.0) (flat_map (λ x. x) (map (of_item own_place) (map (λ e. e.0) xs))) ((placing x.0).has nothing_seen)
-      (flat_map (λ (y : Placing). y.has nothing_seen) (map placing (map (λ e. e.0) xs)))
+      fine_append s.least (of_item own_place x.0) (flat_map (λ x. x) (map (of_item own_place) (map (λ e. e.0) xs))) ((walk_item x.0).finds nothing_seen)
+      (flat_map (λ (y : Walk). y.finds nothing_seen) (map walk_item (map (λ e. e.0) xs)))
       (x.1.1 (evaluated s) parts.0)
       (eval_fine xs s parts.1)
 
@@ -165,18 +165,18 @@ module _ (P : Program) (views : List View) where
   abbrev gathered : Expr-F Expr Item Piece Stmt → Expr-F (List ℕ) (List ℕ) (List ℕ) (List ℕ)
   gathered = map-Expr Expr Item Piece Stmt (List ℕ) (List ℕ) (List ℕ) (List ℕ) (of_expr own_place) (of_item own_place) (of_piece own_place) (of_stmt own_place)
 
-  abbrev placed : Expr-F Expr Item Piece Stmt → Expr-F Spawned Placing Spawned Placing
-  placed = map-Expr Expr Item Piece Stmt Spawned Placing Spawned Placing places_in placing piece_spawns stmt_placing
+  abbrev placed : Expr-F Expr Item Piece Stmt → Expr-F Finds Walk Finds Walk
+  placed = map-Expr Expr Item Piece Stmt Finds Walk Finds Walk find_spawns walk_item piece_spawns stmt_placing
 
-  abbrev exprs : (xs : List ExprOf) → FineIn (λ s. all_in (map valid (map (λ e. e.0) xs)) s) (flat_map (λ x. x) (map (of_expr own_place) (map (λ e. e.0) xs))) (in_each (map places_in (map (λ e. e.0) xs)))
-  exprs xs = each_fine valid (of_expr own_place) places_in xs
+  abbrev exprs : (xs : List ExprOf) → FineIn (λ s. all_in (map valid (map (λ e. e.0) xs)) s) (flat_map (λ x. x) (map (of_expr own_place) (map (λ e. e.0) xs))) (find_all (map find_spawns (map (λ e. e.0) xs)))
+  exprs xs = each_fine valid (of_expr own_place) find_spawns xs
 
-  two_fine : (a b : ExprOf) (s : Scope) → (valid a.0 s && valid b.0 s) ≡ true → Fine s.least (of_expr own_place a.0 ++ of_expr own_place b.0) (places_in a.0 s.view ++ places_in b.0 s.view)
+  two_fine : (a b : ExprOf) (s : Scope) → (valid a.0 s && valid b.0 s) ≡ true → Fine s.least (of_expr own_place a.0 ++ of_expr own_place b.0) (find_spawns a.0 s.view ++ find_spawns b.0 s.view)
   two_fine a b s h =
       let parts = both_true (valid a.0 s) (valid b.0 s) h in
-      fine_append s.least (of_expr own_place a.0) (of_expr own_place b.0) (places_in a.0 s.view) (places_in b.0 s.view) (a.1 s parts.0) (b.1 s parts.1)
+      fine_append s.least (of_expr own_place a.0) (of_expr own_place b.0) (find_spawns a.0 s.view) (find_spawns b.0 s.view) (a.1 s parts.0) (b.1 s parts.1)
 
-  layer_fine : (y : Expr-F ExprOf ItemOf PieceOf StmtOf) → FineIn (expr_step P views (tested (expr_of y))) (gathers own_place (gathered (expr_of y))) (expr_places (placed (expr_of y)))
+  layer_fine : (y : Expr-F ExprOf ItemOf PieceOf StmtOf) → FineIn (expr_step P views (tested (expr_of y))) (gathers own_place (gathered (expr_of y))) (find_step (placed (expr_of y)))
   layer_fine (F.Int n) s h = tt
   layer_fine (F.Bool b) s h = tt
   layer_fine F.Nothing s h = tt
@@ -192,9 +192,10 @@ module _ (P : Program) (views : List View) where
   layer_fine (F.Isa x t) s h = x.1 s (both_true _ _ h).0
   layer_fine (F.Sub t u) s h = tt
   layer_fine (F.If test then_ else_) s h =
-      fine_append s.least (of_expr own_place test.0) (of_expr own_place then_.0 ++ of_expr own_place else_.0) (places_in test.0 s.view) (places_in then_.0 s.view ++ places_in else_.0 s.view)
-      (test.1 s (both_true _ _ h).0)
-      (two_fine then_ else_ s (both_true _ _ h).1)
+      let rest = both_true (valid then_.0 s) (valid else_.0 s) (both_true _ _ h).1 in
+      fine_append s.least (of_expr own_place test.0 ++ of_expr own_place then_.0) (of_expr own_place else_.0) (find_spawns test.0 s.view ++ find_spawns then_.0 s.view) (find_spawns else_.0 s.view)
+      (fine_append s.least (of_expr own_place test.0) (of_expr own_place then_.0) (find_spawns test.0 s.view) (find_spawns then_.0 s.view) (test.1 s (both_true _ _ h).0) (then_.1 s rest.0))
+      (else_.1 s rest.1)
   layer_fine (F.And a b) s h = two_fine a b s h
   layer_fine (F.Or a b) s h = two_fine a b s h
   layer_fine (F.Block xs) s h = turn_fine (stmt_of P views) (of_stmt own_place) stmt_placing xs s h
@@ -208,23 +209,23 @@ module _ (P : Program) (views : List View) where
 
   -- ---- whole trees
 
-  moved : (a b : Test) (ns ms : List ℕ) (f g : Spawned) → a ≡ b → ns ≡ ms → f ≡ g → FineIn b ms g → FineIn a ns f
+  moved : (a b : Test) (ns ms : List ℕ) (f g : Finds) → a ≡ b → ns ≡ ms → f ≡ g → FineIn b ms g → FineIn a ns f
   moved a b ns ms f g e q r h s v =
       subst (λ (xs : List ℕ). Fine s.least xs (f s.view)) (sym q)
-      (subst (λ (k : Spawned). Fine s.least ms (k s.view)) (sym r) (h s (subst (λ (t : Test). t s ≡ true) e v)))
+      (subst (λ (k : Finds). Fine s.least ms (k s.view)) (sym r) (h s (subst (λ (t : Test). t s ≡ true) e v)))
 
   expr_at : (y : Expr-F ExprOf ItemOf PieceOf StmtOf) → ExprFine (roll-Expr (expr_of y))
   expr_at y =
       let x : Expr-F Expr Item Piece Stmt = expr_of y in
-      moved (valid (roll-Expr x)) (expr_step P views (tested x)) (of_expr own_place (roll-Expr x)) (gathers own_place (gathered x)) (places_in (roll-Expr x)) (expr_places (placed x))
+      moved (valid (roll-Expr x)) (expr_step P views (tested x)) (of_expr own_place (roll-Expr x)) (gathers own_place (gathered x)) (find_spawns (roll-Expr x)) (find_step (placed x))
       (fold-roll-Expr Test Statement Test Statement (expr_step P views) (item_step P views) (piece_step P views) (stmt_step P views) x)
       (fold-roll-Expr (List ℕ) (List ℕ) (List ℕ) (List ℕ) (gathers own_place) in_item in_piece in_stmt x)
-      (fold-roll-Expr Spawned Placing Spawned Placing expr_places item_places piece_places stmt_places x)
+      (fold-roll-Expr Finds Walk Finds Walk find_step find_item_step find_piece_step find_stmt_step x)
       (layer_fine y)
 
-  stated_moved : (a b : Statement) (ns ms : List ℕ) (f g : Placing) → a ≡ b → ns ≡ ms → f ≡ g → Stated b ms g → Stated a ns f
+  stated_moved : (a b : Statement) (ns ms : List ℕ) (f g : Walk) → a ≡ b → ns ≡ ms → f ≡ g → Stated b ms g → Stated a ns f
   stated_moved a b ns ms f g e q r h =
-      subst (λ (t : Statement). Stated t ns f) (sym e) (subst (λ (xs : List ℕ). Stated b xs f) (sym q) (subst (λ (k : Placing). Stated b ms k) (sym r) h))
+      subst (λ (t : Statement). Stated t ns f) (sym e) (subst (λ (xs : List ℕ). Stated b xs f) (sym q) (subst (λ (k : Walk). Stated b ms k) (sym r) h))
 
   abbrev item_at_layer : Item-F ExprOf ItemOf PieceOf StmtOf → Item-F Expr Item Piece Stmt
   item_at_layer = map-Item ExprOf ItemOf PieceOf StmtOf Expr Item Piece Stmt (λ e. e.0) (λ e. e.0) (λ e. e.0) (λ e. e.0)
@@ -232,12 +233,12 @@ module _ (P : Program) (views : List View) where
   item_rolled : (x : Item-F Expr Item Piece Stmt)
       → Stated (item_step P views (map-Item Expr Item Piece Stmt Test Statement Test Statement valid (item_of P views) (is_valid_piece P views) (stmt_of P views) x))
           (in_item (map-Item Expr Item Piece Stmt (List ℕ) (List ℕ) (List ℕ) (List ℕ) (of_expr own_place) (of_item own_place) (of_piece own_place) (of_stmt own_place) x))
-          (item_places (map-Item Expr Item Piece Stmt Spawned Placing Spawned Placing places_in placing piece_spawns stmt_placing x))
+          (find_item_step (map-Item Expr Item Piece Stmt Finds Walk Finds Walk find_spawns walk_item piece_spawns stmt_placing x))
       → ItemFine (roll-Item x)
   item_rolled x h =
       stated_moved _ _ _ _ _ _ (fold-roll-Item Test Statement Test Statement (expr_step P views) (item_step P views) (piece_step P views) (stmt_step P views) x)
       (fold-roll-Item (List ℕ) (List ℕ) (List ℕ) (List ℕ) (gathers own_place) in_item in_piece in_stmt x)
-      (fold-roll-Item Spawned Placing Spawned Placing expr_places item_places piece_places stmt_places x)
+      (fold-roll-Item Finds Walk Finds Walk find_step find_item_step find_piece_step find_stmt_step x)
       h
 
   item_at : (y : Item-F ExprOf ItemOf PieceOf StmtOf) → ItemFine (roll-Item (item_at_layer y))
@@ -248,12 +249,12 @@ module _ (P : Program) (views : List View) where
   stmt_rolled : (x : Stmt-F Expr Item Piece Stmt)
       → Stated (stmt_step P views (map-Stmt Expr Item Piece Stmt Test Statement Test Statement valid (item_of P views) (is_valid_piece P views) (stmt_of P views) x))
           (in_stmt (map-Stmt Expr Item Piece Stmt (List ℕ) (List ℕ) (List ℕ) (List ℕ) (of_expr own_place) (of_item own_place) (of_piece own_place) (of_stmt own_place) x))
-          (stmt_places (map-Stmt Expr Item Piece Stmt Spawned Placing Spawned Placing places_in placing piece_spawns stmt_placing x))
+          (find_stmt_step (map-Stmt Expr Item Piece Stmt Finds Walk Finds Walk find_spawns walk_item piece_spawns stmt_placing x))
       → StmtFine (roll-Stmt x)
   stmt_rolled x h =
       stated_moved _ _ _ _ _ _ (fold-roll-Stmt Test Statement Test Statement (expr_step P views) (item_step P views) (piece_step P views) (stmt_step P views) x)
       (fold-roll-Stmt (List ℕ) (List ℕ) (List ℕ) (List ℕ) (gathers own_place) in_item in_piece in_stmt x)
-      (fold-roll-Stmt Spawned Placing Spawned Placing expr_places item_places piece_places stmt_places x)
+      (fold-roll-Stmt Finds Walk Finds Walk find_step find_item_step find_piece_step find_stmt_step x)
       h
 
   stmt_at : (y : Stmt-F ExprOf ItemOf PieceOf StmtOf) → StmtFine (roll-Stmt (map-Stmt ExprOf ItemOf PieceOf StmtOf Expr Item Piece Stmt (λ e. e.0) (λ e. e.0) (λ e. e.0) (λ e. e.0) y))
@@ -264,12 +265,12 @@ module _ (P : Program) (views : List View) where
   piece_rolled : (x : Piece-F Expr Item Piece Stmt)
       → FineIn (piece_step P views (map-Piece Expr Item Piece Stmt Test Statement Test Statement valid (item_of P views) (is_valid_piece P views) (stmt_of P views) x))
           (in_piece (map-Piece Expr Item Piece Stmt (List ℕ) (List ℕ) (List ℕ) (List ℕ) (of_expr own_place) (of_item own_place) (of_piece own_place) (of_stmt own_place) x))
-          (piece_places (map-Piece Expr Item Piece Stmt Spawned Placing Spawned Placing places_in placing piece_spawns stmt_placing x))
+          (find_piece_step (map-Piece Expr Item Piece Stmt Finds Walk Finds Walk find_spawns walk_item piece_spawns stmt_placing x))
       → PieceFine (roll-Piece x)
   piece_rolled x h =
       moved _ _ _ _ _ _ (fold-roll-Piece Test Statement Test Statement (expr_step P views) (item_step P views) (piece_step P views) (stmt_step P views) x)
       (fold-roll-Piece (List ℕ) (List ℕ) (List ℕ) (List ℕ) (gathers own_place) in_item in_piece in_stmt x)
-      (fold-roll-Piece Spawned Placing Spawned Placing expr_places item_places piece_places stmt_places x)
+      (fold-roll-Piece Finds Walk Finds Walk find_step find_item_step find_piece_step find_stmt_step x)
       h
 
   piece_at : (y : Piece-F ExprOf ItemOf PieceOf StmtOf) → PieceFine (roll-Piece (map-Piece ExprOf ItemOf PieceOf StmtOf Expr Item Piece Stmt (λ e. e.0) (λ e. e.0) (λ e. e.0) (λ e. e.0) y))
@@ -292,30 +293,30 @@ module _ (P : Program) (views : List View) where
 
   -- ---- the code of a program
 
-  items_fine : (xs : List Item) (s : Scope) → are_valid_items P views xs s ≡ true → Fine s.least (flat_map (of_item own_place) xs) (in_turn (map placing xs) s.view)
+  items_fine : (xs : List Item) (s : Scope) → are_valid_items P views xs s ≡ true → Fine s.least (flat_map (of_item own_place) xs) (find_in_turn (map walk_item xs) s.view)
   items_fine [] s h = tt
   items_fine (x ∷ xs) s h =
       let a : Statement = item_of P views x in
       let next : Scope = cond a.binds (bound s) s in
       let parts = both_true (a.valid s) (are_valid_items P views xs next) h in
       let f = item_fine x in
-      let seen = subst (λ (v : View). Fine next.least (flat_map (of_item own_place) xs) (in_turn (map placing xs) v)) (after_view a.binds (placing x).binds s f.0) (items_fine xs next parts.1) in
-      fine_append s.least (of_item own_place x) (flat_map (of_item own_place) xs) ((placing x).has s.view) (in_turn (map placing xs) (cond (placing x).binds (bound_view s.view) s.view))
+      let seen = subst (λ (v : View). Fine next.least (flat_map (of_item own_place) xs) (find_in_turn (map walk_item xs) v)) (after_view a.binds (walk_item x).binds s f.0) (items_fine xs next parts.1) in
+      fine_append s.least (of_item own_place x) (flat_map (of_item own_place) xs) ((walk_item x).finds s.view) (find_in_turn (map walk_item xs) (cond (walk_item x).binds (wider s.view) s.view))
       (f.1 s parts.0)
-      (subst (λ (n : ℕ). Fine n (flat_map (of_item own_place) xs) (in_turn (map placing xs) (cond (placing x).binds (bound_view s.view) s.view))) (after_least a.binds s) seen)
+      (subst (λ (n : ℕ). Fine n (flat_map (of_item own_place) xs) (find_in_turn (map walk_item xs) (cond (walk_item x).binds (wider s.view) s.view))) (after_least a.binds s) seen)
 
   -- each body is valid where its parameters are visible
   abbrev Bodies : List Site → Type 0
   Bodies [] = Unit {0}
   Bodies (site ∷ sites) = (valid site.body (in_body site.sig) ≡ true) × Bodies sites
 
-  abbrev bodies_in : List Site → List Placed
-  bodies_in sites = flat_map (λ (site : Site). places_in site.body (in_body site.sig).view) sites
+  abbrev bodies_in : List Site → List Spawned
+  bodies_in sites = flat_map (λ (site : Site). find_spawns site.body (in_body site.sig).view) sites
 
   sites_fine : (sites : List Site) → Bodies sites → Fine 0 (flat_map (λ (site : Site). of_expr own_place site.body) sites) (bodies_in sites)
   sites_fine [] h = tt
   sites_fine (site ∷ sites) h =
-      fine_append 0 (of_expr own_place site.body) (flat_map (λ (site : Site). of_expr own_place site.body) sites) (places_in site.body (in_body site.sig).view) (bodies_in sites)
+      fine_append 0 (of_expr own_place site.body) (flat_map (λ (site : Site). of_expr own_place site.body) sites) (find_spawns site.body (in_body site.sig).view) (bodies_in sites)
       (expr_fine site.body (in_body site.sig) h.0)
       (sites_fine sites h.1)
 
@@ -338,34 +339,34 @@ module _ (P : Program) (views : List View) where
 
   times_append : (t : ℕ) (xs ys : List ℕ) → times t (xs ++ ys) ≡ times t xs + times t ys
   times_append t [] ys = omega arith
-  times_append t (x ∷ xs) ys = by (nat_eq t x)
+  times_append t (x ∷ xs) ys = by (nat_eq t x) (times_append t xs ys)
     where
-      by : (b : Bool) → cond b (1 + times t (xs ++ ys)) (times t (xs ++ ys)) ≡ cond b (1 + times t xs) (times t xs) + times t ys
-      by true = omega (arith, times_append t xs ys)
-      by false = times_append t xs ys
+      by : (b : Bool) → times t (xs ++ ys) ≡ times t xs + times t ys → cond b (1 + times t (xs ++ ys)) (times t (xs ++ ys)) ≡ cond b (1 + times t xs) (times t xs) + times t ys
+      by true h = omega (arith, h)
+      by false h = h
 
   -- a lesser place does not stand there
-  none_less : (t least : ℕ) (ns : List ℕ) (ps : List Placed) → t < least → Fine least ns ps → times t ns ≡ 0
+  none_less : (t least : ℕ) (ns : List ℕ) (ps : List Spawned) → t < least → Fine least ns ps → times t ns ≡ 0
   none_less t least [] ps l h = refl
   none_less t least (n ∷ ns) [] l h = absurd h
   none_less t least (n ∷ ns) (p ∷ ps) l (a, b, c, h) = let q : nat_eq t n ≡ false = grind (arith, l, b) in ap (λ d. cond d (1 + times t ns) (times t ns)) q ∙ none_less t least ns ps l h
 
   -- a place that stands there is found, with what it sees
-  view_found : (t : ℕ) (ns : List ℕ) (ps : List Placed) → Fine 0 ns ps → times t ns ≡ 1 → view_among ps t ≡ get_or views t nothing_seen
+  view_found : (t : ℕ) (ns : List ℕ) (ps : List Spawned) → Fine 0 ns ps → times t ns ≡ 1 → view_among ps t ≡ get_or views t nothing_seen
   view_found t [] [] h o = absurd (omega (arith, o))
   view_found t [] (p ∷ ps) h o = absurd h
   view_found t (n ∷ ns) [] h o = absurd h
-  view_found t (n ∷ ns) (p ∷ ps) (a, b, c, h) o = by (nat_eq t n) refl
+  view_found t (n ∷ ns) (p ∷ ps) (a, b, c, h) o = by (nat_eq t n) refl (view_found t ns ps h)
     where
-      by : (d : Bool) → nat_eq t n ≡ d → cond (nat_eq p.place t) p.view (view_among ps t) ≡ get_or views t nothing_seen
-      by true q =
+      by : (d : Bool) → nat_eq t n ≡ d → (times t ns ≡ 1 → view_among ps t ≡ get_or views t nothing_seen) → cond (nat_eq p.place t) p.view (view_among ps t) ≡ get_or views t nothing_seen
+      by true q f =
           let e : t ≡ n = grind (arith, q) in
           let here : nat_eq p.place t ≡ true = grind (arith, a, e) in
           ap (λ z. cond z p.view (view_among ps t)) here ∙ sym c ∙ ap (λ k. get_or views k nothing_seen) (sym e)
-      by false q =
+      by false q f =
           let there : nat_eq p.place t ≡ false = grind (arith, a, q) in
           let rest : times t ns ≡ 1 = ap (λ z. cond z (1 + times t ns) (times t ns)) (sym q) ∙ o in
-          ap (λ z. cond z p.view (view_among ps t)) there ∙ view_found t ns ps h rest
+          ap (λ z. cond z p.view (view_among ps t)) there ∙ f rest
 
   -- ---- the spawn places, one after another
 
@@ -376,19 +377,19 @@ module _ (P : Program) (views : List View) where
   later_have_none t place (v ∷ vs) [] l h = refl
   later_have_none t place (v ∷ vs) (e ∷ es) l h =
       let parts = both_true (valid e (in_task place v)) (are_valid_tasks P views (place + 1) vs es) h in
-      let first : times t (of_expr own_place e) ≡ 0 = none_less t (place + 1) (of_expr own_place e) (places_in e v) (omega (arith, l)) (expr_fine e (in_task place v) parts.0) in
+      let first : times t (of_expr own_place e) ≡ 0 = none_less t (place + 1) (of_expr own_place e) (find_spawns e v) (omega (arith, l)) (expr_fine e (in_task place v) parts.0) in
       omega (arith, times_append t (of_expr own_place e) (flat_map (of_expr own_place) es), first, later_have_none t (place + 1) vs es (omega (arith, l)) parts.1)
 
   -- the views from a place on
   abbrev StandsFrom : ℕ → List View → Type 0
   StandsFrom place vs = (k : ℕ) → k < length vs → get_or views (place + k) nothing_seen ≡ get_or vs k nothing_seen
 
-  record Known (es : List Expr) (ns : List ℕ) (ps : List Placed) : Type 0 where
+  record Known (es : List Expr) (ns : List ℕ) (ps : List Spawned) : Type 0 where
     fine : Fine 0 ns ps
     once : (t : ℕ) → t < length views → times t ns + times t (flat_map (of_expr own_place) es) ≡ 1
 
-  all_known : (place : ℕ) (vs : List View) (es : List Expr) (ns : List ℕ) (ps : List Placed) → StandsFrom place vs → place + length vs ≤ length views → are_valid_tasks P views place vs es ≡ true
-      → Known es ns ps → (ms : List ℕ) × Known [] ms (with_tasks place es ps)
+  all_known : (place : ℕ) (vs : List View) (es : List Expr) (ns : List ℕ) (ps : List Spawned) → StandsFrom place vs → place + length vs ≤ length views → are_valid_tasks P views place vs es ≡ true
+      → Known es ns ps → (ms : List ℕ) × Known [] ms (with_inner ps place es)
   all_known place [] [] ns ps st l h k = (ns, k)
   all_known place [] (e ∷ es) ns ps st l h k = cc
   all_known place (v ∷ vs) [] ns ps st l h k = cc
@@ -397,14 +398,14 @@ module _ (P : Program) (views : List View) where
       let none : times place (flat_map (of_expr own_place) (e ∷ es)) ≡ 0 = later_have_none place place (v ∷ vs) (e ∷ es) (omega arith) h in
       let stands : times place ns ≡ 1 = omega (arith, none, k.once place (omega (arith, l))) in
       let same : view_among ps place ≡ v = view_found place ns ps k.fine stands ∙ ap (λ z. get_or views z nothing_seen) (let z : place ≡ place + 0 = omega arith in z) ∙ st 0 (omega arith) in
-      let more : Fine (place + 1) (of_expr own_place e) (places_in e (view_among ps place)) =
-          subst (λ (w : View). Fine (place + 1) (of_expr own_place e) (places_in e w)) (sym same) (expr_fine e (in_task place v) parts.0) in
-      all_known (place + 1) vs es (ns ++ of_expr own_place e) (ps ++ places_in e (view_among ps place))
+      let more : Fine (place + 1) (of_expr own_place e) (find_spawns e (view_among ps place)) =
+          subst (λ (w : View). Fine (place + 1) (of_expr own_place e) (find_spawns e w)) (sym same) (expr_fine e (in_task place v) parts.0) in
+      all_known (place + 1) vs es (ns ++ of_expr own_place e) (ps ++ find_spawns e (view_among ps place))
       (λ j lt. ap (λ z. get_or views z nothing_seen) (let z : place + 1 + j ≡ place + suc j = omega arith in z) ∙ st (suc j) (omega (arith, lt)))
       (omega (arith, l))
       parts.1
       (record {
-        fine = fine_append 0 ns (of_expr own_place e) ps (places_in e (view_among ps place)) k.fine (fine_less 0 (place + 1) (of_expr own_place e) (places_in e (view_among ps place)) (omega arith) more);
+        fine = fine_append 0 ns (of_expr own_place e) ps (find_spawns e (view_among ps place)) k.fine (fine_less 0 (place + 1) (of_expr own_place e) (find_spawns e (view_among ps place)) (omega arith) more);
         once = λ t lt. omega (arith, k.once t lt, times_append t ns (of_expr own_place e), times_append t (of_expr own_place e) (flat_map (of_expr own_place) es));
       })
 
@@ -423,20 +424,26 @@ module _ (P : Program) (views : List View) where
       ∙ ap (λ (ws : List View). v ∷ ws) (listed (place + 1) vs es (omega (arith, n)) (λ k l. ap (view_at P) (let z : place + 1 + k ≡ place + suc k = omega arith in z) ∙ h (suc k) (omega (arith, l))))
 
 module _ (P : Program) (h : IsValid P) where
+  abbrev in_sites : List ℕ
+  in_sites = flat_map (λ (site : Site). of_expr own_place site.body) P.sites
+
+  abbrev in_top : List ℕ
+  in_top = flat_map (of_item own_place) P.top
+
   -- the first list of the program's `Spawn`s
-  code_known : Known P h.views P.spawns (flat_map (of_item own_place) P.top ++ flat_map (λ (site : Site). of_expr own_place site.body) P.sites) (in_code P)
+  code_known : Known P h.views P.spawns (in_sites ++ in_top) (outer_spawns P)
   code_known = record {
-    fine = fine_append P h.views 0 (flat_map (of_item own_place) P.top) (flat_map (λ (site : Site). of_expr own_place site.body) P.sites) (in_turn (map placing P.top) nothing_seen) (bodies_in P h.views P.sites)
-        (items_fine P h.views P.top at_top h.top)
-        (sites_fine P h.views P.sites bodies);
+    fine = fine_append P h.views 0 in_sites in_top (bodies_in P h.views P.sites) (find_in_turn (map walk_item P.top) nothing_seen)
+        (sites_fine P h.views P.sites bodies)
+        (items_fine P h.views P.top at_top h.top);
     once = λ t l.
         let spawned : times t (spawned_places P) ≡ 1 = h.once t (omega (arith, l, tasks_length P h.views 0 h.views P.spawns h.tasks)) in
         omega (
           arith,
           spawned,
-          times_append P h.views t (flat_map (of_item own_place) P.top) (flat_map (λ (site : Site). of_expr own_place site.body) P.sites),
-          times_append P h.views t (flat_map (λ (site : Site). of_expr own_place site.body) P.sites) (flat_map (of_expr own_place) P.spawns ++ flat_map (of_item own_place) P.top),
-          times_append P h.views t (flat_map (of_expr own_place) P.spawns) (flat_map (of_item own_place) P.top),
+          times_append P h.views t in_sites in_top,
+          times_append P h.views t (in_sites ++ flat_map (of_expr own_place) P.spawns) in_top,
+          times_append P h.views t in_sites (flat_map (of_expr own_place) P.spawns),
         );
   }
     where
@@ -446,7 +453,7 @@ module _ (P : Program) (h : IsValid P) where
 
   pub views_are : views_of P ≡ h.views
   views_are =
-      let (ms, k) = all_known P h.views 0 h.views P.spawns (flat_map (of_item own_place) P.top ++ flat_map (λ (site : Site). of_expr own_place site.body) P.sites) (in_code P)
+      let (ms, k) = all_known P h.views 0 h.views P.spawns (in_sites ++ in_top) (outer_spawns P)
           (λ j l. ap (λ z. get_or h.views z nothing_seen) (let z : 0 + j ≡ j = omega arith in z)) (omega arith) h.tasks code_known in
       listed P h.views 0 h.views P.spawns (tasks_length P h.views 0 h.views P.spawns h.tasks)
-      (λ j l. ap (view_at P) (let z : 0 + j ≡ j = omega arith in z) ∙ view_found P h.views j ms (all_placed P) k.fine (omega (arith, k.once j l)))
+      (λ j l. ap (view_at P) (let z : 0 + j ≡ j = omega arith in z) ∙ view_found P h.views j ms (with_inner (outer_spawns P) 0 P.spawns) k.fine (omega (arith, k.once j l)))

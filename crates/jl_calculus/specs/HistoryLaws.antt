@@ -1,5 +1,5 @@
 -- Laws of histories. Each is the contract of a function of the module `history_laws`.
-use Rattle.std.specs.Prelude.{ℕ, ◌≡◌, ◌<◌, ◌≤◌, ◌↔◌, List, ◌++◌}
+use Rattle.std.specs.Prelude.{ℕ, ◌≡◌, ◌<◌, ◌≤◌, ◌↔◌, List, ◌++◌, Option, None, Some}
 use Rattle.jl_model.specs.declared.ty.Key.{Key}
 use Rattle.jl_model.specs.declared.ty.Ty.{Ty}
 use Rattle.jl_program.specs.declared.choice.Choice.{Choice}
@@ -8,7 +8,13 @@ use Rattle.jl_program.specs.Gathered.{times}
 use Rattle.jl_calculus.specs.declared.history.Event.{Event}
 use Rattle.jl_calculus.specs.Kept.{Places, IsKeptFor}
 use Rattle.jl_calculus.specs.Learnt.{Learnt, IsLearntOf}
-use Rattle.jl_calculus.specs.Legal.{MayStand}
+use Rattle.jl_program.specs.declared.tree.Start.{Start}
+use Rattle.jl_program.specs.Valid.{IsValid}
+use Rattle.jl_calculus.specs.declared.history.Outcome.{Outcome}
+use Rattle.jl_calculus.specs.declared.history.TraceItem.{TraceItem}
+use Rattle.jl_calculus.specs.Legal.{AreTrueOf, MayStand}
+use Rattle.jl_calculus.specs.Run.{setting_of, Run}
+use Rattle.jl_calculus.specs.Views.{views_of}
 use Rattle.jl_calculus.specs.Past.{tasks_of}
 use Rattle.jl_calculus.specs.Ranges.{Covers, MayBegin, IsRightFill}
 use Rattle.jl_calculus.specs.World.{world_of, Selects}
@@ -45,3 +51,19 @@ HasEachOnce es order = (task : ℕ) → (task < tasks_of es → times task order
 
 abbrev pub OrdersAreWhole : (List Event → List ℕ) → Type 0
 OrdersAreWhole order = (P : Program) (es : List Event) → MayStand P es → HasEachOnce es (order es)
+
+-- the world of a start is there; the root starts in the last world of the prelude
+abbrev pub IsStartSeen : List Event → Option Start → Type 0
+IsStartSeen es None = Unit {0}
+IsStartSeen es (Some start) = start.world ≤ world_of es
+
+-- what a task did, whose items are true of the events and whose start is in one of their worlds, stays a run when the list grows
+abbrev pub RunsStay : Type 0
+RunsStay =
+    (P : Program) (es more : List Event) (room : Option Places) (fuel task : ℕ) (start : Option Start) (trace : List TraceItem) (outcome : Outcome) (output : List ℕ) (made : ℕ) (spawned : List Start)
+    → AreTrueOf es task trace → IsStartSeen es start → Run (setting_of P es room fuel) start trace outcome output made spawned
+    → Run (setting_of P (es ++ more) room fuel) start trace outcome output made spawned
+
+-- for a valid program, what is visible at its spawn places is what its validity was shown with
+abbrev pub ViewsAreOne : Type 0
+ViewsAreOne = (P : Program) (valid : IsValid P) → views_of P ≡ valid.views

@@ -21,7 +21,7 @@ use Rattle.jl_calculus.specs.Limits.{most_fuel, last_world, most_tasks, most_key
 use Rattle.jl_calculus.specs.Orders.{path_order}
 use Rattle.jl_calculus.specs.Past.{tasks_of, done_of, IsTrueOf, IsInOrder, own_items, own_events, own_starts}
 use Rattle.jl_calculus.specs.Ranges.{CacheRow, keys_of, rows_of, IsRightFill}
-use Rattle.jl_calculus.specs.Run.{Setting, Run}
+use Rattle.jl_calculus.specs.Run.{setting_of, Run}
 use Rattle.jl_program.specs.Text.{error_line}
 use Rattle.jl_calculus.specs.World.{world_of}
 
@@ -129,14 +129,11 @@ pub record HasTrueTrace (es : List Event) (task : ℕ) (ended : Record) : Type 0
 abbrev pub HasOwnEvents : List Event → ℕ → Record → Type 0
 HasOwnEvents es task ended = own_events task 0 es ≡ own_items ended.trace
 
--- a run over events, with the places of the cache where they are asked of
-abbrev pub run_over : Program → List Event → Option Places → ℕ → Setting
-run_over P es room fuel = record { program = P; events = es; places = room; fuel = fuel }
-
--- what it did is a run over the events, from its start, with the fuel of the Begin, and the tasks that it spawned
+-- what it did is a run over the events, with the places of the cache where they are asked of: from its start, with the fuel of the
+-- Begin, and with the tasks that it spawned
 abbrev pub HasRun : Program → Option Places → List Event → ℕ → Record → Type 0
 HasRun P room es task ended =
-    (fuel : ℕ) → fuel_of es ≡ Some fuel → Run (run_over P es room fuel) (start_of task es) ended.trace ended.outcome ended.output ended.calls (own_starts task es)
+    (fuel : ℕ) → fuel_of es ≡ Some fuel → Run (setting_of P es room fuel) (start_of task es) ended.trace ended.outcome ended.output ended.calls (own_starts task es)
 
 -- a condition on the end of a task, where the event is one
 abbrev pub OnDone : (ℕ → Record → Type 0) → Event → Type 0

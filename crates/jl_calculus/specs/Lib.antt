@@ -4,6 +4,9 @@ pub mod World
 pub mod Past
 pub mod Ranges
 pub mod Kept
+pub mod Answers
+pub mod Statics
+pub mod Operations
 pub mod Run
 pub mod Learnt
 pub mod Orders
@@ -11,6 +14,8 @@ pub mod Legal
 pub mod Words
 pub mod Core
 pub mod Views
+pub mod ValidStart
 pub mod ValidHistory
 pub mod HistoryLaws
 pub mod Simple
+pub mod Laws

@@ -1,18 +1,14 @@
--- When faults, outcomes, records and starts are valid for a program: they name only things of the program, and their values are
--- valid.
-use Rattle.std.specs.Prelude.{ℕ, ◌≡◌, ◌<◌, Bool, true, false, IsTrue, All, List, [], ◌∷◌, length}
+-- When faults, outcomes and records are valid for a program: they name only things of the program, and their values are valid.
+use Rattle.std.specs.Prelude.{ℕ, ◌<◌, IsTrue, All, List, [], ◌∷◌, length}
 use Rattle.jl_model.specs.declared.ty.Ty.{Ty}
-use Rattle.jl_model.specs.Ancestors.{table_of}
-use Rattle.jl_model.specs.Normal.{IsNormal}
-use Rattle.jl_model.specs.Valid.{is_known, IsValidType, is_closed}
+use Rattle.jl_model.specs.Valid.{is_known}
 use Rattle.jl_program.specs.declared.fault.Fault.{Fault}
 use Rattle.jl_program.specs.declared.fault.Fault.TheVariants as F
 use Rattle.jl_program.specs.declared.tree.Program.{Program}
-use Rattle.jl_program.specs.declared.tree.Start.{Start}
 use Rattle.jl_program.specs.declared.value.Value.{Value}
 use Rattle.jl_program.specs.Meaning.{datum}
 use Rattle.jl_program.specs.Scope.{all_types}
-use Rattle.jl_program.specs.ValidValue.{IsValid, AllValid}
+use Rattle.jl_program.specs.ValidValue.{IsValid}
 use Rattle.jl_calculus.specs.declared.history.Event.{Event}
 use Rattle.jl_calculus.specs.declared.history.Event.TheVariants as Ev
 use Rattle.jl_calculus.specs.declared.history.Outcome.{Outcome}
@@ -21,7 +17,7 @@ use Rattle.jl_calculus.specs.declared.history.TraceItem.{TraceItem}
 use Rattle.jl_calculus.specs.declared.history.TraceItem.TheVariants.{Look, Def, Spawn, Fetch, WorldFull, TaskFull}
 use Rattle.jl_calculus.specs.declared.history.Record.{Record}
 use Rattle.jl_calculus.specs.Legal.{IsKeyOf}
-use Rattle.jl_calculus.specs.Views.{view_at}
+use Rattle.jl_calculus.specs.ValidStart.{IsValidStart}
 
 module _ (P : Program) where
   -- a type has only nominal types of the program; that of a constructor whose arguments are inferred has none written
@@ -80,34 +76,13 @@ module _ (P : Program) where
     pub items : AreValidItems r.trace
     pub outcome : IsValidOutcome r.outcome
 
-  -- a variable-free normal type of the program
-  pub record IsBinding (t : Ty) : Type 0 where
-    pub valid : IsValidType (all_types P) t
-    pub normal : IsNormal (table_of (all_types P)) t
-    pub closed : IsTrue (is_closed t)
-
-  -- a type stands for each static parameter, and is a binding where that parameter is usable
-  abbrev pub AreBindings : List Bool → List Ty → Type 0
-  AreBindings [] [] = Unit {0}
-  AreBindings [] (t ∷ ts) = ⊥
-  AreBindings (usable ∷ us) [] = ⊥
-  AreBindings (true ∷ us) (t ∷ ts) = IsBinding t × AreBindings us ts
-  AreBindings (false ∷ us) (t ∷ ts) = AreBindings us ts
-
-  -- a start is at a place of the program, with a value for each slot that is visible there and a type for each usable static parameter
-  pub record IsValidStart (start : Start) : Type 0 where
-    pub place : start.spawn < length P.spawns
-    pub slots : length start.env ≡ (view_at P start.spawn).slots
-    pub values : AllValid (all_types P) start.env
-    pub bindings : AreBindings (view_at P start.spawn).statics start.bindings
-
   -- the keys, sites, starts and records of the events are of the program and valid
   abbrev pub IsValidEvent : Event → Type 0
   IsValidEvent (Ev.Begin fuel) = Unit {0}
   IsValidEvent (Ev.Key key) = IsKeyOf P key
   IsValidEvent (Ev.Fill key site first) = site < length P.sites
   IsValidEvent (Ev.Def task site) = site < length P.sites
-  IsValidEvent (Ev.Spawn task child start) = IsValidStart start
+  IsValidEvent (Ev.Spawn task child start) = IsValidStart P start
   IsValidEvent (Ev.Done task ended) = IsValidRecord ended
 
   abbrev pub AreValidEvents : List Event → Type 0

@@ -3,4 +3,5 @@
 
 pub mod history;
 pub mod history_laws;
+pub mod laws;
 pub mod step;

@@ -9,4 +9,3 @@ pub mod SimpleDefs
 pub mod PairLemmas
 pub mod ChoiceLemmas
 pub mod MethodLemmas
-pub mod LawLemmas

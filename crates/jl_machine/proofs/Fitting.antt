@@ -4,6 +4,8 @@ use Rattle.std.proofs.lemmas.Bool.{lt-ltb, le-ltb}
 use Rattle.std.specs.declared.alloc.AllocError.{AllocError}
 use Rattle.jl_model.specs.declared.ty.Ty.{Ty}
 use Rattle.jl_model.specs.declared.ty.Bound.{Bound}
+use Rattle.jl_model.specs.AllRows.{each_var}
+use Rattle.jl_model.specs.Bindings.{binding, bindings}
 use Rattle.jl_program.specs.declared.value.Value.{Value}
 use Rattle.jl_program.specs.declared.value.Value.TheVariants as V
 use Rattle.jl_program.specs.declared.tree.Expr.{Expr}
@@ -27,7 +29,7 @@ use Rattle.jl_calculus.specs.Past.{IsInOrder, place, past, own_items}
 use Rattle.jl_program.specs.Scope.{types_of}
 use Rattle.jl_calculus.specs.World.{site_of, Selects}
 use Rattle.jl_program.specs.TypeOf.{type_of}
-use Rattle.jl_calculus.specs.Run.{Setting, State, Then, IsEnd, Run, Body, operation, code, binds_of, Binds, body_of, chosen, answers, performs, calls, runs, runs_item, runs_piece, runs_stmt, item_runs, items_run, with_calls, with_scope, operates, open_calls}
+use Rattle.jl_calculus.specs.Run.{Setting, State, Then, IsEnd, Run, Body, operation, code, body_of, chosen, answers, performs, calls, runs, runs_item, runs_piece, runs_stmt, item_runs, items_run, with_calls, with_scope, operates, open_calls}
 use Rattle.jl_machine.specs.Point.{Point, begun, given, go_pieces, gives, leaves, state_of, Finishes}
 use Rattle.jl_machine.proofs.Steps.{at_begun, at_given, at_pieces}
 use Rattle.jl_calculus.proofs.Layers.{item_is}
@@ -192,7 +194,11 @@ module _ (P : Program) (fuel : ℕ) where
       Finishes g E (performed b w vs n) made [] rest → performs g E b vs (state_of n made [] rest) (gives g E n.stack n.world n.room) (λ bindings e.
       runs g E (calls g E (n.room - 1)) e w (with_scope (state_of n made [] rest) vs bindings) (λ v s1. gives g E n.stack n.world n.room v (with_scope s1 n.env n.bindings)) (λ v s1. gives g E n.stack n.world n.room v (with_scope s1 n.env n.bindings)))
   at_performed es E (operation i) w vs n made rest simple h = at_answered es E (operates i vs) n made rest h
-  at_performed es E (code sig e) w vs n made rest simple h = ([], subst (λ (vars : List Bound). binds_of vars (types_of P) sig (map type_of vs) []) (sym simple.0) refl, h)
+  at_performed es E (code sig e) w vs n made rest simple h =
+      let g = setting P es fuel in
+      let none : [] ≡ bindings (types_of P) sig (map type_of vs) = ap (λ (vars : List Bound). each_var (binding (types_of P) sig (map type_of vs)) 0 vars) (sym simple.0) in
+      let after : Then = λ v s1. gives g E n.stack n.world n.room v (with_scope s1 n.env n.bindings) in
+      subst (λ (types : List Ty). runs g E (calls g E (n.room - 1)) e w (with_scope (state_of n made [] rest) vs types) after after) none h
 
   plain_answered : (o : Outcome) (n : Now) → IsPlainOutcome o → IsPlainNow (length P.sites) n → IsPlainPoint (length P.sites) (answered o) n
   plain_answered (O.Value v) n p q = record { work = p; now = q }

@@ -12,7 +12,7 @@ use Rattle.jl_machine.specs.declared.point.Frame.TheVariants as Fr
 use Rattle.jl_machine.specs.declared.point.Work.{Work}
 use Rattle.jl_machine.specs.declared.point.Work.TheVariants.{Eval, Give, Calling, Items, Defining, Pieces, Ended, Lost}
 use Rattle.jl_calculus.specs.Past.{IsInOrder, own_items}
-use Rattle.jl_calculus.specs.Run.{Setting, IsEnd, Run, open_calls}
+use Rattle.jl_calculus.specs.Run.{Setting, setting_of, IsEnd, Run, open_calls}
 use Rattle.jl_machine.specs.Point.{Finishes}
 use Rattle.jl_calculus.specs.Simple.{IsSimple}
 use Rattle.jl_machine.specs.declared.task.Task.{Task}
@@ -50,7 +50,7 @@ AreWorlds (Fr.Showing text xs line ∷ K) most = AreWorlds K most
 
 -- the setting of a run over these events, without places
 abbrev pub setting : Program → List Event → ℕ → Setting
-setting P es fuel = record { program = P; events = es; places = None; fuel = fuel }
+setting P es fuel = setting_of P es None fuel
 
 -- a machine that has this to do, for a run of this program with this fuel
 pub record FitsWith (P : Program) (fuel : ℕ) (k : Knows) (w : Work) (t : Task) : Type 0 where

@@ -1,4 +1,4 @@
-use Rattle.jl_choice.proofs.LawLemmas.{none_apply, none_chosen}
+use Rattle.jl_calculus.proofs.ChoiceLaws.{none_apply, none_chosen}
 use Rattle.jl_choice.proofs.laws.law_none.Goals as goal
 
 pub returns : goal.returns
