@@ -6,8 +6,11 @@ pub mod Forms
 pub mod FormExamples
 pub mod OperationExamples
 pub mod MakeExamples
+pub mod InferExamples
 pub mod FirstScript
 pub mod OtherScripts
+pub mod WorldScripts
+pub mod TaskScripts
 pub mod OtherHistories
 pub mod GrowthLemmas
 pub mod OrderLemmas

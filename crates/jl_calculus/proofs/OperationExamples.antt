@@ -52,13 +52,13 @@ abbrev pair : Value
 pair = V.Tuple (T.Tuple two) (datum (int 1) ∷ datum (int 2) ∷ [])
 
 -- `struct Box{T}; x::T end`, and `Box{Int64}(3)`
-abbrev box : Decl
+abbrev pub box : Decl
 box = record { name = codes "Box"; kind = Struct; params = free ∷ []; parent = W.Any; fields = record { name = codes "x"; ty = W.Var 0 } ∷ [] }
 
-abbrev types : List Decl
+abbrev pub types : List Decl
 types = builtin_types ++ box ∷ []
 
-abbrev boxed : Value
+abbrev pub boxed : Value
 boxed = V.Struct (T.Nominal 8 (int64 ∷ [])) (datum (int 3) ∷ [])
 
 second_part : part_of types 2 pair ≡ O.Value (int 2)
@@ -122,7 +122,7 @@ type_is : tuple_type parts ≡ T.Tuple (int64 ∷ bool ∷ [])
 type_is = ap (λ (t : Ty). T.Tuple (t ∷ kept_type (datum (V.Bool true)) ∷ [])) (ap kept_step (out-roll-Datum (D.Int (pos 1))))
     ∙ ap (λ (t : Ty). T.Tuple (int64 ∷ t ∷ [])) (ap kept_step (out-roll-Datum (D.Bool true)))
 
-one_node : (k : ℕ) → nodes (named k) ≡ 1
+pub one_node : (k : ℕ) → nodes (named k) ≡ 1
 one_node k = ap nodes (sym (rolls-Nominal k [])) ∙ fold-roll-Ty ℕ nodes_step (L.Nominal k [])
 
 type_nodes : nodes (tuple_type parts) ≡ 3
@@ -130,13 +130,13 @@ type_nodes =
     ap nodes type_is ∙ ap nodes (sym (rolls-Tuple (int64 ∷ bool ∷ []))) ∙ fold-roll-Ty ℕ nodes_step (L.Tuple (int64 ∷ bool ∷ []))
     ∙ rw (one_node 4, one_node 5) refl
 
-leaf_nodes : (n : ℤ) → values.nodes (datum (V.Int n)) ≡ 1
+pub leaf_nodes : (n : ℤ) → values.nodes (datum (V.Int n)) ≡ 1
 leaf_nodes n = fold-roll-Datum ℕ values.nodes_step (D.Int n)
 
 truth_nodes : (b : Bool) → values.nodes (datum (V.Bool b)) ≡ 1
 truth_nodes b = fold-roll-Datum ℕ values.nodes_step (D.Bool b)
 
-leaf_depth : (n : ℤ) → values.depth (datum (V.Int n)) ≡ 1
+pub leaf_depth : (n : ℤ) → values.depth (datum (V.Int n)) ≡ 1
 leaf_depth n = fold-roll-Datum ℕ values.depth_step (D.Int n)
 
 truth_depth : (b : Bool) → values.depth (datum (V.Bool b)) ≡ 1

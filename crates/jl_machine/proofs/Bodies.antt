@@ -1,12 +1,9 @@
 -- What the bodies of a simple program are, and what their operations give.
-use Rattle.std.proofs.Common.{◌≡◌, ℕ, ℤ, pos, zero, suc, ◌+◌, ◌<◌, ◌≤◌, max, List, [], ◌∷◌, map, length, Bool, true, false, cond, nat_lt, refl, ap, ◌∙◌, arith, slice_get, get_or, Option, None, Some, All, IsTrue}
-use Rattle.jl_model.specs.declared.ty.Bound.{Bound}
-use Rattle.jl_model.specs.declared.ty.Written.{Written}
+use Rattle.std.proofs.Common.{◌≡◌, ℕ, ℤ, pos, zero, suc, ◌≤◌, List, [], ◌∷◌, map, length, Bool, true, false, cond, nat_lt, refl, ap, ◌∙◌, arith, slice_get, get_or, All, IsTrue}
 use Rattle.jl_program.specs.declared.value.Value.{Value}
 use Rattle.jl_program.specs.declared.value.Value.TheVariants as V
 use Rattle.jl_calculus.specs.declared.history.Outcome.{Outcome}
 use Rattle.jl_calculus.specs.declared.history.Outcome.TheVariants as O
-use Rattle.jl_program.specs.declared.tree.Expr.{Expr}
 use Rattle.jl_program.specs.declared.tree.Expr.TheVariants as E
 use Rattle.jl_program.specs.declared.tree.Site.{Site}
 use Rattle.jl_program.specs.declared.tree.Program.{Program}

@@ -1,7 +1,6 @@
 -- A machine that fits goes on to fit, with fewer turns left.
-use Rattle.std.proofs.Common.{◌≡◌, ℕ, zero, suc, ◌+◌, ◌-◌, ◌*◌, ◌<◌, ◌≤◌, List, [], ◌∷◌, ◌++◌, Bool, true, false, nat_lt, refl, sym, ap, ◌∙◌, subst, arith, append_assoc, map, length, add-zero, suc-mul, Result, Ok, Err, IfOk, Option, Some, None}
+use Rattle.std.proofs.Common.{◌≡◌, ℕ, zero, suc, ◌+◌, ◌-◌, ◌*◌, ◌<◌, ◌≤◌, List, [], ◌∷◌, ◌++◌, refl, sym, ap, ◌∙◌, subst, arith, append_assoc, map, length, add-zero, suc-mul}
 use Rattle.std.proofs.lemmas.Bool.{lt-ltb, le-ltb}
-use Rattle.std.specs.declared.alloc.AllocError.{AllocError}
 use Rattle.jl_model.specs.declared.ty.Ty.{Ty}
 use Rattle.jl_model.specs.declared.ty.Bound.{Bound}
 use Rattle.jl_model.specs.AllRows.{each_var}
@@ -12,7 +11,6 @@ use Rattle.jl_program.specs.declared.tree.Expr.{Expr}
 use Rattle.jl_program.specs.declared.tree.Item.{Item, out-Item}
 use Rattle.jl_program.specs.declared.tree.Item.TheVariants as I
 use Rattle.jl_program.specs.declared.tree.Program.{Program}
-use Rattle.jl_program.specs.declared.tree.Start.{Start}
 use Rattle.jl_calculus.specs.declared.history.Event.{Event}
 use Rattle.jl_calculus.specs.declared.history.TraceItem.{TraceItem}
 use Rattle.jl_calculus.specs.declared.history.TraceItem.TheVariants.{Look, Def, WorldFull}
@@ -23,27 +21,26 @@ use Rattle.jl_calculus.specs.declared.history.Outcome.TheVariants as O
 use Rattle.jl_program.specs.declared.fault.Fault.TheVariants.{NoMethod, Ambiguous, FuelSpent, StackLimit, WorldLimit}
 use Rattle.jl_machine.specs.declared.point.Frame.TheVariants as Fr
 use Rattle.jl_machine.specs.declared.point.Work.{Work}
-use Rattle.jl_machine.specs.declared.point.Work.TheVariants.{Eval, Give, Calling, Items, Defining, Pieces, Ended, Lost}
+use Rattle.jl_machine.specs.declared.point.Work.TheVariants.{Eval, Calling, Items, Defining, Ended}
 use Rattle.jl_machine.specs.declared.point.Now.{Now}
-use Rattle.jl_calculus.specs.Past.{IsInOrder, place, past, own_items}
+use Rattle.jl_calculus.specs.Past.{place, past, own_items}
 use Rattle.jl_program.specs.Scope.{types_of}
-use Rattle.jl_calculus.specs.World.{site_of, Selects}
+use Rattle.jl_calculus.specs.World.{Selects}
 use Rattle.jl_program.specs.TypeOf.{type_of}
-use Rattle.jl_calculus.specs.Run.{Setting, State, Then, IsEnd, Run, Body, operation, code, body_of, chosen, answers, performs, calls, runs, runs_item, runs_piece, runs_stmt, item_runs, items_run, with_calls, with_scope, operates, open_calls}
-use Rattle.jl_machine.specs.Point.{Point, begun, given, go_pieces, gives, leaves, state_of, Finishes}
-use Rattle.jl_machine.proofs.Steps.{at_begun, at_given, at_pieces}
+use Rattle.jl_calculus.specs.Run.{State, Then, IsEnd, Body, operation, code, body_of, chosen, answers, performs, calls, runs, runs_item, runs_piece, runs_stmt, item_runs, items_run, with_calls, with_scope, operates}
+use Rattle.jl_machine.specs.Point.{Point, gives, leaves, state_of, Finishes}
 use Rattle.jl_calculus.proofs.Layers.{item_is}
 use Rattle.jl_machine.specs.declared.task.Task.{Task}
 use Rattle.jl_machine.specs.Knows.{Knows, Grew, Told, Looked, Asked, IsRight, IsSite, Defined, Full}
 use Rattle.jl_machine.specs.Worlds.{IsWorld}
 use Rattle.jl_machine.specs.Performed.{answered, performed}
-use Rattle.jl_machine.specs.Plain.{Every, is_plain_value, IsPlainPoint, IsPlainWork, IsPlainNow}
-use Rattle.jl_machine.specs.Weight.{turns_left, load, heaviest, item_weight, items_weight, work_weight, stack_weight}
-use Rattle.jl_machine.specs.Fits.{looks_of, AllLearnt, AreWorlds, setting, FitsWith, Fitting, Steps, HasLooked}
-use Rattle.jl_machine.proofs.Turning.{Kept, kept_begun, kept_given, kept_pieces}
+use Rattle.jl_machine.specs.Plain.{Every, is_plain_value, IsPlainPoint, IsPlainNow}
+use Rattle.jl_machine.specs.Weight.{load, heaviest, stack_weight}
+use Rattle.jl_machine.specs.Fits.{looks_of, AreWorlds, setting, FitsWith}
+use Rattle.jl_machine.proofs.Turning.{Kept}
 use Rattle.jl_machine.proofs.Traces.{append_nil, all_learnt, learnt_more, order_up, order_more, looks_more, own_more, worlds_up}
 use Rattle.jl_machine.proofs.Bodies.{IsPlainOutcome, plain_operates, IsSimpleBody, simple_body, IsLightBody, light_body}
-use Rattle.jl_machine.proofs.Equations.{simple_item_out, item_weighs}
+use Rattle.jl_machine.proofs.Equations.{simple_item_out}
 
 -- the end that a run has
 abbrev End : Outcome → List ℕ → ℕ → Outcome → State → Type 0

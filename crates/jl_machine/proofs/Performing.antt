@@ -1,5 +1,5 @@
 -- What a site of the script does is its body.
-use Rattle.std.proofs.Common.{◌≡◌, ℕ, ◌≤◌, List, Option, None, Some, Result, Ok, Err, IfOk, cond, nat_lt, refl, sym, ap, ◌∙◌, subst, slice_get, get_or, ℤ}
+use Rattle.std.proofs.Common.{◌≡◌, ℕ, ◌≤◌, List, Option, None, Some, Result, Ok, Err, IfOk, cond, refl, sym, ap, ◌∙◌, slice_get, get_or, ℤ}
 use Rattle.std.proofs.lemmas.Bool.{le-ltb}
 use Rattle.std.specs.declared.alloc.AllocError.{AllocError}
 use Rattle.jl_program.specs.declared.value.Value.{Value}
@@ -11,8 +11,7 @@ use Rattle.jl_program.specs.declared.tree.Expr.{Expr}
 use Rattle.jl_program.specs.declared.tree.Program.{Program}
 use Rattle.jl_machine.specs.declared.point.Work.{Work}
 use Rattle.jl_machine.specs.declared.point.Now.{Now}
-use Rattle.jl_calculus.specs.Run.{Body, operation, code_of, body_of, number_of, operates}
-use Rattle.jl_machine.specs.Point.{Point}
+use Rattle.jl_calculus.specs.Run.{operation, code_of, body_of, number_of, operates}
 use Rattle.jl_machine.specs.Performed.{performed, entered, expr_at}
 
 -- past the prelude a site is code

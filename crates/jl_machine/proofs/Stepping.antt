@@ -1,17 +1,16 @@
 -- From what the machine's code answers to a step: it fits again, and fewer turns are left.
-use Rattle.std.proofs.Common.{◌≡◌, ℕ, ◌+◌, ◌-◌, ◌*◌, ◌<◌, ◌≤◌, List, [], ◌∷◌, ◌++◌, Bool, refl, sym, ap, ◌∙◌, subst, arith, map, length, Result, Ok, Err, IfOk, IsTrue, nat_le, nat_lt}
+use Rattle.std.proofs.Common.{◌≡◌, ℕ, ◌+◌, ◌-◌, ◌<◌, ◌≤◌, List, [], ◌∷◌, ◌++◌, Bool, sym, ap, ◌∙◌, subst, arith, map, length, Result, Ok, Err, IfOk, IsTrue, nat_le, nat_lt}
 use Rattle.std.proofs.lemmas.Bool.{ltb-true, leb-true}
 use Rattle.std.specs.declared.alloc.AllocError.{AllocError}
 use Rattle.jl_model.specs.declared.ty.Ty.{Ty}
 use Rattle.jl_program.specs.declared.value.Value.{Value}
 use Rattle.jl_program.specs.declared.value.Value.TheVariants as V
 use Rattle.jl_program.specs.declared.tree.Expr.{Expr}
-use Rattle.jl_program.specs.declared.tree.Expr.TheViews as X
-use Rattle.jl_program.specs.declared.tree.Item.{Item, out-Item}
+use Rattle.jl_program.specs.declared.tree.Item.{Item}
 use Rattle.jl_program.specs.declared.tree.Item.TheVariants as I
 use Rattle.jl_program.specs.declared.tree.Piece.{Piece}
 use Rattle.jl_program.specs.declared.tree.Program.{Program}
-use Rattle.jl_calculus.specs.declared.history.TraceItem.TheVariants.{Look, Def, WorldFull}
+use Rattle.jl_calculus.specs.declared.history.TraceItem.TheVariants.{Def, WorldFull}
 use Rattle.jl_program.specs.declared.choice.Choice.TheVariants as C
 use Rattle.jl_calculus.specs.declared.history.Outcome.{Outcome}
 use Rattle.jl_calculus.specs.declared.history.Outcome.TheVariants as O
@@ -23,15 +22,14 @@ use Rattle.jl_machine.specs.declared.point.Now.{Now}
 use Rattle.jl_program.specs.TypeOf.{type_of}
 use Rattle.jl_calculus.specs.Run.{IsEnd, body_of}
 use Rattle.jl_calculus.specs.Simple.{is_simple_item}
-use Rattle.jl_machine.specs.Point.{Point, begun, given, go_pieces, Finishes}
+use Rattle.jl_machine.specs.Point.{Point, begun, given, go_pieces}
 use Rattle.jl_machine.proofs.Steps.{at_begun, at_given, at_pieces}
 use Rattle.jl_machine.specs.declared.task.Task.{Task}
 use Rattle.jl_machine.specs.Knows.{Knows, Grew, Asked, IsRight, IsSite, Defined, Full}
 use Rattle.jl_machine.specs.Performed.{performed}
-use Rattle.jl_machine.specs.Weight.{turns_left, load, heaviest, expr_weight, item_weight, items_weight, stack_weight}
+use Rattle.jl_machine.specs.Weight.{load, heaviest, expr_weight, item_weight}
 use Rattle.jl_machine.specs.Fits.{FitsWith, Fitting, Steps, HasLooked, setting}
-use Rattle.jl_machine.proofs.Turning.{Kept, kept_begun, kept_given, kept_pieces}
-use Rattle.jl_machine.proofs.Bodies.{IsPlainOutcome}
+use Rattle.jl_machine.proofs.Turning.{kept_begun, kept_given, kept_pieces}
 use Rattle.jl_machine.proofs.Equations.{simple_item_out, item_weighs, item_layer, both_true, fails}
 use Rattle.jl_machine.proofs.Fitting.{moved, turned, grown, look_do, look_define, define_made, define_full, call_spent, call_deep, call_none, call_ambiguous, call_method, performed_light, fewer}
 

@@ -1,5 +1,5 @@
 -- Each turn of the machine's own leaves to do what was to do before it.
-use Rattle.std.proofs.Common.{sym, subst, ◌≡◌, ℕ, List, [], ◌∷◌, ◌++◌, Bool, true, false}
+use Rattle.std.proofs.Common.{sym, subst, ◌≡◌, ℕ, List, [], ◌∷◌, ◌++◌, Bool}
 use Rattle.jl_program.specs.declared.value.Value.{Value}
 use Rattle.jl_program.specs.declared.value.Value.TheVariants as V
 use Rattle.jl_calculus.specs.declared.history.TraceItem.{TraceItem}
@@ -10,7 +10,6 @@ use Rattle.jl_program.specs.declared.tree.Item.{Item}
 use Rattle.jl_program.specs.declared.tree.Piece.{Piece, out-Piece}
 use Rattle.jl_program.specs.declared.tree.Expr.TheOpen.{Expr-F, Piece-F}
 use Rattle.jl_program.specs.declared.tree.Expr.TheOpen as F
-use Rattle.jl_program.specs.declared.tree.Program.{Program}
 use Rattle.jl_program.specs.declared.tree.Start.{Start}
 use Rattle.jl_machine.specs.declared.point.Frame.{Frame}
 use Rattle.jl_machine.specs.declared.point.Frame.TheVariants.{Args, AfterItem, Showing, Body}

@@ -1,5 +1,5 @@
 -- One more item at the end of a trace, and what a dispatcher's growth leaves as it was.
-use Rattle.std.proofs.Common.{◌≡◌, ℕ, ◌+◌, ◌<◌, ◌≤◌, List, [], ◌∷◌, ◌++◌, refl, sym, ap, ◌∙◌, arith, length, zero-add}
+use Rattle.std.proofs.Common.{◌≡◌, ℕ, ◌+◌, ◌≤◌, List, [], ◌∷◌, ◌++◌, refl, sym, ap, arith, length, zero-add}
 use Rattle.jl_calculus.specs.declared.history.TraceItem.{TraceItem}
 use Rattle.jl_calculus.specs.declared.history.TraceItem.TheVariants.{Look, Def, Spawn, Fetch, WorldFull, TaskFull}
 use Rattle.jl_machine.specs.declared.point.Frame.{Frame}

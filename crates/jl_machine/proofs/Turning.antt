@@ -1,9 +1,9 @@
 -- A turn of the machine's own keeps worlds and plain forms, and leaves fewer turns.
-use Rattle.std.proofs.Common.{◌≡◌, ℕ, zero, suc, ◌+◌, ◌<◌, ◌≤◌, List, [], ◌∷◌, ◌++◌, Bool, true, false, refl, sym, subst, arith, get_or, IsTrue, map}
+use Rattle.std.proofs.Common.{◌≡◌, ℕ, zero, suc, ◌+◌, ◌<◌, ◌≤◌, List, [], ◌∷◌, ◌++◌, Bool, refl, arith, get_or, IsTrue}
 use Rattle.jl_program.specs.declared.value.Value.{Value}
 use Rattle.jl_program.specs.declared.value.Value.TheVariants as V
 use Rattle.jl_program.specs.declared.tree.Expr.{Expr, out-Expr}
-use Rattle.jl_program.specs.declared.tree.Item.{Item, out-Item}
+use Rattle.jl_program.specs.declared.tree.Item.{Item}
 use Rattle.jl_program.specs.declared.tree.Piece.{Piece, out-Piece}
 use Rattle.jl_program.specs.declared.tree.Stmt.{Stmt}
 use Rattle.jl_program.specs.declared.tree.Expr.TheOpen.{Expr-F, Item-F, Piece-F}
@@ -18,8 +18,8 @@ use Rattle.jl_machine.specs.Point.{Point, go_args, go_piece, go_pieces, begun_la
 use Rattle.jl_calculus.specs.Simple.{is_simple, is_simple_piece}
 use Rattle.jl_machine.specs.Worlds.{IsWorld}
 use Rattle.jl_machine.specs.Fits.{AreWorlds}
-use Rattle.jl_machine.specs.Plain.{Every, is_plain_value, IsPlainWork, IsPlainFrame, ArePlainFrames, IsPlainNow, IsPlainPoint}
-use Rattle.jl_machine.specs.Weight.{expr_weight, piece_weight, exprs_weight, pieces_weight, frame_weight, stack_weight, work_weight, load}
+use Rattle.jl_machine.specs.Plain.{Every, is_plain_value, IsPlainNow, IsPlainPoint}
+use Rattle.jl_machine.specs.Weight.{piece_weight, exprs_weight, stack_weight, load}
 use Rattle.jl_machine.proofs.Equations.{expr_layer, piece_layer, expr_weighs, piece_weighs, simple_expr_layer, simple_piece_layer, simple_out, simple_piece_out, every_mapped, every_append, fails}
 
 -- from a point to another

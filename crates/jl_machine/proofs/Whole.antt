@@ -1,5 +1,5 @@
 -- A new machine fits a fresh dispatcher, and one that ended has run.
-use Rattle.std.proofs.Common.{◌≡◌, ℕ, ◌≤◌, ◌<◌, List, [], ◌∷◌, ◌++◌, refl, sym, ap, ◌∙◌, subst, arith, length, Result, Ok, Err, IfOk, Option, None}
+use Rattle.std.proofs.Common.{◌≡◌, ℕ, ◌<◌, List, [], refl, sym, ap, ◌∙◌, subst, arith, length, Result, Ok, Err, IfOk, None}
 use Rattle.std.specs.declared.alloc.AllocError.{AllocError}
 use Rattle.jl_program.specs.declared.value.Value.TheVariants as V
 use Rattle.jl_calculus.specs.declared.history.TraceItem.{TraceItem}

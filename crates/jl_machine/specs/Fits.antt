@@ -1,5 +1,5 @@
 -- When a machine fits a dispatcher: all that it did and all that is left to do make a run of the calculus.
-use Rattle.std.specs.Prelude.{◌≡◌, ℕ, ◌+◌, ◌≤◌, ◌<◌, List, [], ◌∷◌, ◌++◌, length, Option, None}
+use Rattle.std.specs.Prelude.{◌≡◌, ℕ, ◌+◌, ◌≤◌, ◌<◌, List, [], ◌∷◌, ◌++◌, length, None}
 use Rattle.jl_program.specs.declared.value.Value.TheVariants as V
 use Rattle.jl_calculus.specs.declared.history.Event.{Event}
 use Rattle.jl_calculus.specs.declared.history.Outcome.{Outcome}

@@ -1,5 +1,4 @@
-use Rattle.std.proofs.Common.{◌≡◌, ◌<◌, ◌∙◌, ap, arith, List, map}
-use Rattle.jl_model.specs.declared.ty.Ty.{Ty}
+use Rattle.std.proofs.Common.{◌≡◌, ◌<◌, ◌∙◌, ap, arith, map}
 use Rattle.jl_program.specs.TypeOf.{type_of}
 use Rattle.jl_calculus.specs.Simple.{is_plain}
 use Rattle.jl_machine.proofs.Bodies.{plain_types}
