@@ -44,16 +44,16 @@ use Rattle.jl_program.proofs.FirstProgram.{f_site, P}
 use Rattle.jl_program.proofs.FirstChoices.{only_choice, no_other_choice, any_applies, two_apply}
 use Rattle.jl_calculus.proofs.Forms.{int_runs, local_runs, call_runs, print_runs, show_runs, define_runs, do_runs, from_int, from_local, from_call, from_print, from_show, from_define, from_do}
 use Rattle.jl_calculus.specs.Past.{own_events, own_items, own_starts, IsInOrder, IsTrueOf, done_of, tasks_of}
-use Rattle.jl_calculus.specs.Legal.{AreTrueOf, first_place, fuel_of, IsRunning, IsFinished, IsRight, IsLegal, text_of, status_of}
+use Rattle.jl_calculus.specs.Legal.{AreTrueOf, first_place, fuel_of, IsRunning, MayCome, HasTrueTrace, HasRun, IsLegal, text_of, status_of}
 
-abbrev trace : List TraceItem
+abbrev pub trace : List TraceItem
 trace = Look 14 1 ∷ Def 14 1 ∷ Look 15 2 ∷ []
 
 abbrev ended : Record
 ended = record { trace = trace; outcome = O.Value V.Nothing; output = codes "3\n"; calls = 2 }
 
 -- what stands before the end of the root
-abbrev before : List Event
+abbrev pub before : List Event
 before = Ev.Begin 10000000 ∷ Ev.Def 0 14 ∷ []
 
 abbrev H : List Event
@@ -333,11 +333,11 @@ are_true = ((omega arith, refl), (refl, ((omega arith, refl), tt)))
 running : IsRunning before 0
 running = record { begun = refl; started = omega arith; going = refl }
 
-begins : IsRight P [] (Ev.Begin 10000000)
-begins = (refl, omega arith)
+begins : MayCome P [] (Ev.Begin 10000000)
+begins = record { nothing_before = refl; allowed = omega arith }
 
-defines_f : IsRight P (Ev.Begin 10000000 ∷ []) (Ev.Def 0 14)
-defines_f = (record { begun = refl; started = omega arith; going = refl }, omega arith, omega arith, omega arith)
+defines_f : MayCome P (Ev.Begin 10000000 ∷ []) (Ev.Def 0 14)
+defines_f = record { running = record { begun = refl; started = omega arith; going = refl }; past_prelude = omega arith; of_program = omega arith; room = omega arith }
 
 -- ---- what is refused
 
@@ -399,17 +399,17 @@ no_second_task : IsRunning before 1 → ⊥
 no_second_task h = absurd (omega (arith, h.started))
 
 -- nothing is before the beginning
-no_def_first : IsRight P [] (Ev.Def 0 14) → ⊥
-no_def_first h = true≢false (sym h.0.begun)
+no_def_first : MayCome P [] (Ev.Def 0 14) → ⊥
+no_def_first h = true≢false (sym h.running.begun)
 
-no_second_begin : IsRight P before (Ev.Begin 5) → ⊥
-no_second_begin h = absurd (omega (arith, ap length h.0))
+no_second_begin : MayCome P before (Ev.Begin 5) → ⊥
+no_second_begin h = absurd (omega (arith, ap length h.nothing_before))
 
-no_prelude_site : IsRight P before (Ev.Def 0 13) → ⊥
-no_prelude_site h = absurd (omega (arith, h.1))
+no_prelude_site : MayCome P before (Ev.Def 0 13) → ⊥
+no_prelude_site h = absurd (omega (arith, h.past_prelude))
 
-no_site_past_the_last : IsRight P before (Ev.Def 0 15) → ⊥
-no_site_past_the_last h = absurd (omega (arith, h.2))
+no_site_past_the_last : MayCome P before (Ev.Def 0 15) → ⊥
+no_site_past_the_last h = absurd (omega (arith, h.of_program))
 
 -- ---- the run
 
@@ -493,19 +493,20 @@ ran =
     let first = define_runs g Ends called 14 (first_state trace) back (λ v s. runs_item g Ends called (I.Do (X.Print pieces true)) s back back) (refl, second) in
     record { ran = first }
 
--- the end of the root is right after its definition
-finished : IsFinished P before 0 ended
-finished = record {
-  running = running;
-  true_items = are_true;
-  in_order = in_order;
-  own = own;
-  ran = λ fuel e. subst (λ (n : ℕ). Run (setting_of P before None n) None trace (O.Value V.Nothing) (codes "3\n") 2 []) (fuel_is fuel e) (ran);
-}
+-- what the root did is a run over what stands before its end
+has_run : HasRun P None before 0 ended
+has_run fuel e = subst (λ (n : ℕ). Run (setting_of P before None n) None trace (O.Value V.Nothing) (codes "3\n") 2 []) (fuel_is fuel e) ran
+
+has_true_trace : HasTrueTrace before 0 ended
+has_true_trace = record { true_items = are_true; in_order = in_order }
 
 legal : IsLegal P H
 legal = record {
-  so_far = record { begun = refl; right = (begins, (defines_f, (finished, tt))) };
+  so_far = record {
+    stand = record { begun = refl; come = (begins, (defines_f, (running, tt))) };
+    traced = record { traces = (tt, (tt, (has_true_trace, tt))); own = (tt, (tt, (own, tt))) };
+    runs = (tt, (tt, (has_run, tt)));
+  };
   finished = λ task h. subst (λ (t : ℕ). IsSome (done_of t H)) (only_root task h) refl;
 }
 
@@ -564,10 +565,10 @@ only_three o out made spawned h =
     record { outcome = sym end.is; output = sym end.printed ∙ ap (λ t. t ++ codes "\n") three_is; counted = sym end.counted_calls; starts = sym end.spawned_tasks }
 
 -- not 4, not one call, no other outcome
-not_four : (o : Outcome) (made : ℕ) (spawned : List Start) → Run g None trace o (codes "4\n") made spawned → ⊥
+pub not_four : (o : Outcome) (made : ℕ) (spawned : List Start) → Run g None trace o (codes "4\n") made spawned → ⊥
 not_four o made spawned h = absurd (omega (arith, ap (λ (t : List ℕ). get_or t 0 0) (only_three o (codes "4\n") made spawned h).output))
 
-not_one_call : (o : Outcome) (out : List ℕ) (spawned : List Start) → Run g None trace o out 1 spawned → ⊥
+pub not_one_call : (o : Outcome) (out : List ℕ) (spawned : List Start) → Run g None trace o out 1 spawned → ⊥
 not_one_call o out spawned h = absurd (omega (arith, (only_three o out 1 spawned h).counted))
 
 abbrev is_value : Outcome → Bool
@@ -578,7 +579,7 @@ no_error : (e : Fault) (out : List ℕ) (made : ℕ) (spawned : List Start) → 
 no_error e out made spawned h = true≢false (sym (ap is_value (only_three (O.Error e) out made spawned h).outcome))
 
 -- a trace without the second look, and one with a look too many, lead to nothing
-no_short_trace : (o : Outcome) (out : List ℕ) (made : ℕ) (spawned : List Start) → Run g None (Look 14 1 ∷ Def 14 1 ∷ []) o out made spawned → ⊥
+pub no_short_trace : (o : Outcome) (out : List ℕ) (made : ℕ) (spawned : List Start) → Run g None (Look 14 1 ∷ Def 14 1 ∷ []) o out made spawned → ⊥
 no_short_trace o out made spawned h =
     let Ends : Outcome → State → Type 0 = IsEnd o out made spawned in
     let called : Caller = calls g Ends open_calls in

@@ -12,3 +12,14 @@ pub mod OtherScripts
 pub mod WorldScripts
 pub mod TaskScripts
 pub mod OtherHistories
+pub mod GrowthLemmas
+pub mod OrderLemmas
+pub mod RowLemmas
+pub mod KeyHistories
+pub mod TaskHistories
+pub mod IllegalHistories
+pub mod SomeWords
+pub mod SomeSteps
+pub mod ViewLemmas
+pub mod Induction
+pub mod RunGrowth

@@ -1,10 +1,8 @@
 -- Words of histories, computed on lists with tasks, keys and fills.
-use Rattle.std.proofs.Common.{◌≡◌, refl, ap, ℕ, zero, suc, ◌<◌, ◌≤◌, pos, codes, List, [], ◌∷◌, ◌++◌, Some, None, arith}
-use Rattle.std.specs.List.{Contains}
+use Rattle.std.proofs.Common.{◌≡◌, refl, subst, ℕ, ◌<◌, ◌≤◌, pos, codes, List, [], ◌∷◌, ◌++◌, Some, None, arith}
 use Rattle.std.specs.Fmt.{digits}
 use Rattle.jl_model.specs.declared.ty.Key.{Key}
 use Rattle.jl_model.specs.declared.ty.Ty.{Ty}
-use Rattle.jl_model.specs.Choice.{Method}
 use Rattle.jl_model.specs.Signature.{Applicable, both_end}
 use Rattle.jl_program.specs.declared.tree.Expr.TheVariants as E
 use Rattle.jl_program.specs.declared.tree.Site.{Site}
@@ -20,11 +18,12 @@ use Rattle.jl_calculus.specs.declared.history.Record.{Record}
 use Rattle.jl_calculus.specs.declared.history.TraceItem.TheVariants.{Spawn, Fetch}
 use Rattle.jl_program.specs.Prelude.{prelude_functions, prelude_sites, plain, int64}
 use Rattle.jl_calculus.specs.Past.{tasks_of, own_events, own_starts, IsTrueOf}
-use Rattle.jl_calculus.specs.Legal.{first_place, start_of, path_order, text_of, status_of}
+use Rattle.jl_calculus.specs.Legal.{first_place, start_of, text_of, status_of}
+use Rattle.jl_calculus.specs.Orders.{path_order, wait_order}
 use Rattle.jl_program.specs.Scope.{types_of}
 use Rattle.jl_calculus.specs.World.{world_of, site_of, methods_in}
 use Rattle.jl_program.proofs.FirstChoices.{applies_by}
-use Rattle.jl_calculus.specs.Kept.{Covers, IsFilled, keys_of, fills_of, Touches}
+use Rattle.jl_calculus.specs.Ranges.{CacheRow, Covers, IsCovered, EndsWith, keys_of, rows_of, Touches}
 
 -- ---- tasks
 
@@ -46,6 +45,9 @@ tasks =
 
 path : path_order tasks ≡ 0 ∷ 1 ∷ 3 ∷ 2 ∷ []
 path = refl
+
+wait : wait_order tasks ≡ 3 ∷ 1 ∷ 2 ∷ 0 ∷ []
+wait = refl
 
 count : tasks_of tasks ≡ 4
 count = refl
@@ -125,20 +127,21 @@ methods_of_minus = refl
 one_key : keys_of filled ≡ key ∷ []
 one_key = refl
 
-one_fill : fills_of filled ≡ 1
-one_fill = refl
+abbrev row : CacheRow
+row = record { key = 0; site = 14; first = 15 }
+
+one_row : rows_of filled ≡ row ∷ []
+one_row = refl
 
 -- the row of the first definition covers its world and that of `late`
 no_touch : (d : ℕ) → 15 < d → d ≤ 16 → Touches P filled d key → ⊥
-no_touch d low high t = where_it_is t.1 t.2
-  where
-    where_it_is : Contains (methods_in P filled 12 17) t.0 → t.0.number ≡ d → ⊥
-    where_it_is (zero, p, e) n = absurd (omega (arith, low, high, n, ap (λ (m : Method). m.number) e))
-    where_it_is (suc zero, p, e) n = absurd (omega (arith, low, high, n, ap (λ (m : Method). m.number) e))
-    where_it_is (suc (suc k), p, e) n = absurd (omega (arith, p))
+no_touch d low high t = let e : d ≡ 16 = omega (arith, low, high) in absurd (omega (arith, (subst (λ (n : ℕ). Touches P filled n key) e t).0))
 
-covered : IsFilled P filled 0 key 16
-covered = (14, 15, (5, omega arith, refl), record { begun = omega arith; going = no_touch })
+first_range : Covers P filled key 15 16
+first_range = record { begun = omega arith; going = no_touch }
+
+covered : IsCovered P filled 0 key 16
+covered = (row, record { stands = (0, omega arith, refl); of_key = refl; covers = first_range })
 
 -- and not the world before it
 not_covered_before : Covers P filled key 15 14 → ⊥
@@ -148,15 +151,22 @@ not_covered_before h = absurd (omega (arith, h.begun))
 abbrev no_vars : List Ty
 no_vars = []
 
-touches : (n : Applicable (types_of P) (plain no_vars) no_vars) → Touches P filled 17 key
-touches a = (record { number = 17; sig = plain [] }, (1, omega arith, refl), refl, a)
-
-not_covered_after : Applicable (types_of P) (plain no_vars) no_vars → Covers P filled key 15 17 → ⊥
-not_covered_after a h = h.going 17 (omega arith) (omega arith) (touches a)
-
 -- a signature without parameters applies to no arguments
 no_arguments : Applicable (types_of P) (plain no_vars) no_vars
 no_arguments = applies_by (types_of P) [] [] (0, omega arith, refl) refl both_end
 
-range_ends : Covers P filled key 15 17 → ⊥
-range_ends h = not_covered_after no_arguments h
+touches : Touches P filled 17 key
+touches = (refl, no_arguments)
+
+range_ends : EndsWith P filled key 15 16
+range_ends = record { covers = first_range; touched = touches }
+
+not_covered_after : Covers P filled key 15 17 → ⊥
+not_covered_after h = h.going 17 (omega arith) (omega arith) touches
+
+-- a definition that is not there touches nothing, and world 0 has none
+not_there : Touches P filled 18 key → ⊥
+not_there h = absurd h
+
+none_in_zero : Touches P filled 0 key → ⊥
+none_in_zero h = absurd h

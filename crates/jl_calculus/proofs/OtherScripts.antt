@@ -100,20 +100,9 @@ or_zero (Some n) = n
 early_legal : IsLegal early early_history
 early_legal = record {
   so_far = record {
-    begun = refl;
-    right = (
-      (refl, omega arith),
-      (
-        record {
-          running = record { begun = refl; started = omega arith; going = refl };
-          true_items = ((omega arith, refl), tt);
-          in_order = (omega arith, omega arith);
-          own = refl;
-          ran = λ fuel e. early_run fuel (ap or_zero e);
-        },
-        tt,
-      ),
-    );
+    stand = record { begun = refl; come = (record { nothing_before = refl; allowed = omega arith }, (record { begun = refl; started = omega arith; going = refl }, tt)) };
+    traced = record { traces = (tt, (record { true_items = ((omega arith, refl), tt); in_order = (omega arith, omega arith) }, tt)); own = (tt, (refl, tt)) };
+    runs = (tt, (λ fuel e. early_run fuel (ap or_zero e), tt));
   };
   finished = λ task h. subst (λ (t : ℕ). IsSome (done_of t early_history)) (let z : 0 ≡ task = omega (arith, h) in z) refl;
 }

@@ -1,6 +1,10 @@
--- When a list of events is a legal history of a program, and its text.
-use Rattle.std.specs.Prelude.{ℕ, zero, suc, cond, nat_eq, ◌+◌, ◌≡◌, ◌<◌, ◌≤◌, List, [], ◌∷◌, ◌++◌, length, Option, None, Some, IsSome}
-use Rattle.std.specs.List.{flat_map}
+-- When a list of events is a legal history of a program, part by part, and its text.
+--
+-- The parts are apart, since each has users of its own: the shared words keep the conditions on the events themselves, the
+-- model of all steps keeps all but the runs, and a judge of a history names the condition that fails.
+use Rattle.std.specs.Prelude.{ℕ, cond, nat_eq, ◌+◌, ◌≡◌, ◌<◌, ◌≤◌, List, [], ◌∷◌, ◌++◌, All, length, slice_get, Option, None, Some, IsSome}
+use Rattle.std.specs.List.{Contains}
+use Rattle.jl_model.specs.declared.ty.Key.{Key}
 use Rattle.jl_calculus.specs.declared.history.Event.{Event}
 use Rattle.jl_calculus.specs.declared.history.Event.TheVariants as Ev
 use Rattle.jl_calculus.specs.declared.history.Outcome.{Outcome}
@@ -9,21 +13,87 @@ use Rattle.jl_calculus.specs.declared.history.TraceItem.{TraceItem}
 use Rattle.jl_calculus.specs.declared.history.Record.{Record}
 use Rattle.jl_program.specs.declared.tree.Start.{Start}
 use Rattle.jl_program.specs.declared.tree.Program.{Program}
+use Rattle.jl_program.specs.Prelude.{prelude_count}
+use Rattle.jl_program.specs.Scope.{all_types}
+use Rattle.jl_program.specs.ValidValue.{IsValueType}
+use Rattle.jl_calculus.specs.Kept.{Places}
+use Rattle.jl_calculus.specs.Limits.{most_fuel, last_world, most_tasks, most_keys, most_rows, most_arguments}
+use Rattle.jl_calculus.specs.Orders.{path_order}
 use Rattle.jl_calculus.specs.Past.{tasks_of, done_of, IsTrueOf, IsInOrder, own_items, own_events, own_starts}
+use Rattle.jl_calculus.specs.Ranges.{CacheRow, keys_of, rows_of, IsRightFill}
 use Rattle.jl_calculus.specs.Run.{setting_of, Run}
 use Rattle.jl_program.specs.Text.{error_line}
 use Rattle.jl_calculus.specs.World.{world_of}
 
 -- the fuel of each task, where a Begin stands first
 abbrev pub fuel_of : List Event → Option ℕ
+fuel_of [] = None
 fuel_of (Ev.Begin fuel ∷ es) = Some fuel
-fuel_of _ = None
+fuel_of (Ev.Key key ∷ es) = None
+fuel_of (Ev.Fill key site first ∷ es) = None
+fuel_of (Ev.Def by site ∷ es) = None
+fuel_of (Ev.Spawn parent child start ∷ es) = None
+fuel_of (Ev.Done by ended ∷ es) = None
 
 -- the task was started and has no Done
 pub record IsRunning (es : List Event) (task : ℕ) : Type 0 where
   pub begun : IsSome (fuel_of es)
   pub started : task < tasks_of es
   pub going : done_of task es ≡ None
+
+-- ---- the conditions on an event itself
+
+-- a key names a function of the program and at most 8 concrete normal types
+pub record IsKeyOf (P : Program) (key : Key) : Type 0 where
+  pub function : key.function < length P.functions
+  pub few : length key.types ≤ most_arguments
+  pub types : All (IsValueType (all_types P)) key.types
+
+module _ (P : Program) (es : List Event) where
+  -- a Begin stands first, with a fuel that may be given
+  pub record IsBegin (fuel : ℕ) : Type 0 where
+    pub nothing_before : es ≡ []
+    pub allowed : fuel ≤ most_fuel
+
+  -- a key is one of the program, is new, and there is room for it
+  pub record IsNewKey (key : Key) : Type 0 where
+    pub proper : IsKeyOf P key
+    pub new : Contains (keys_of es) key → ⊥
+    pub room : length (keys_of es) < most_keys
+
+  -- a fill is of a key that is there, it is right for that key, no earlier one has its key and its first world, and there is room
+  -- for it
+  pub record IsNewFill (number site first : ℕ) : Type 0 where
+    pub key : Key
+    pub named : slice_get (keys_of es) number ≡ Some key
+    pub right : IsRightFill P es key site first
+    pub new : (row : CacheRow) → Contains (rows_of es) row → row.key ≡ number → row.first ≡ first → ⊥
+    pub room : length (rows_of es) < most_rows
+
+  -- a definition is by a running task, of a site of the script, in a world that is not the last
+  pub record IsDefinition (task site : ℕ) : Type 0 where
+    pub running : IsRunning es task
+    pub past_prelude : prelude_count ≤ site
+    pub of_program : site < length P.sites
+    pub room : world_of es < last_world
+
+  -- a spawn is by a running task, at a place of the program, of the next task, and there is room for it
+  pub record IsSpawn (task child : ℕ) (start : Start) : Type 0 where
+    pub running : IsRunning es task
+    pub of_program : start.spawn < length P.spawns
+    pub next : child ≡ tasks_of es
+    pub room : tasks_of es < most_tasks
+
+  -- an event may come after these, whatever the end of a task says of it
+  abbrev pub MayCome : Event → Type 0
+  MayCome (Ev.Begin fuel) = IsBegin fuel
+  MayCome (Ev.Key key) = IsNewKey key
+  MayCome (Ev.Fill key site first) = IsNewFill key site first
+  MayCome (Ev.Def task site) = IsDefinition task site
+  MayCome (Ev.Spawn task child start) = IsSpawn task child start
+  MayCome (Ev.Done task ended) = IsRunning es task
+
+-- ---- what the end of a task says of it
 
 -- each item is true of the events
 abbrev pub AreTrueOf : List Event → ℕ → List TraceItem → Type 0
@@ -50,60 +120,76 @@ first_place task p (Ev.Fill key site first ∷ es) = first_place task (p + 1) es
 first_place task p (Ev.Def by site ∷ es) = first_place task (p + 1) es
 first_place task p (Ev.Done by ended ∷ es) = first_place task (p + 1) es
 
--- what a finished task did is a run over the events so far
-pub record IsFinished (P : Program) (es : List Event) (task : ℕ) (ended : Record) : Type 0 where
-  pub running : IsRunning es task
+-- the items of its trace are true and in order
+pub record HasTrueTrace (es : List Event) (task : ℕ) (ended : Record) : Type 0 where
   pub true_items : AreTrueOf es task ended.trace
   pub in_order : IsInOrder (first_place task 0 es) ended.trace (length es)
-  pub own : own_events task 0 es ≡ own_items ended.trace
-  pub ran : (fuel : ℕ) → fuel_of es ≡ Some fuel →
-      Run (setting_of P es None fuel) (start_of task es) ended.trace ended.outcome ended.output ended.calls (own_starts task es)
 
--- an event is right after those before it
-abbrev pub IsRight : Program → List Event → Event → Type 0
-IsRight P es (Ev.Begin fuel) = (es ≡ []) × (fuel ≤ 1000000000)
-IsRight P es (Ev.Def task site) = IsRunning es task × (14 ≤ site) × (site < length P.sites) × (world_of es < 65535)
-IsRight P es (Ev.Done task ended) = IsFinished P es task ended
-IsRight P es _ = ⊥
+-- its definitions and spawns among the events are those of its trace, in order, each once
+abbrev pub HasOwnEvents : List Event → ℕ → Record → Type 0
+HasOwnEvents es task ended = own_events task 0 es ≡ own_items ended.trace
 
--- each event is right after these and those before it
-abbrev pub IsLegalAfter : Program → List Event → List Event → Type 0
-IsLegalAfter P past [] = Unit {0}
-IsLegalAfter P past (e ∷ es) = IsRight P past e × IsLegalAfter P (past ++ e ∷ []) es
+-- what it did is a run over the events, with the places of the cache where they are asked of: from its start, with the fuel of the
+-- Begin, and with the tasks that it spawned
+abbrev pub HasRun : Program → Option Places → List Event → ℕ → Record → Type 0
+HasRun P room es task ended =
+    (fuel : ℕ) → fuel_of es ≡ Some fuel → Run (setting_of P es room fuel) (start_of task es) ended.trace ended.outcome ended.output ended.calls (own_starts task es)
 
--- the events are legal so far: a Begin stands first, and each event is right after those before it
-pub record IsLegalSoFar (P : Program) (es : List Event) : Type 0 where
+-- a condition on the end of a task, where the event is one
+abbrev pub OnDone : (ℕ → Record → Type 0) → Event → Type 0
+OnDone R (Ev.Begin fuel) = Unit {0}
+OnDone R (Ev.Key key) = Unit {0}
+OnDone R (Ev.Fill key site first) = Unit {0}
+OnDone R (Ev.Def task site) = Unit {0}
+OnDone R (Ev.Spawn task child start) = Unit {0}
+OnDone R (Ev.Done task ended) = R task ended
+
+-- ---- the list
+
+-- each event keeps a condition on it and on those before it, from these on
+abbrev pub EachAfter : (List Event → Event → Type 0) → List Event → List Event → Type 0
+EachAfter R past [] = Unit {0}
+EachAfter R past (e ∷ es) = R past e × EachAfter R (past ++ e ∷ []) es
+
+-- a Begin stands first, and each event may come after those before it
+pub record MayStand (P : Program) (es : List Event) : Type 0 where
   pub begun : IsSome (fuel_of es)
-  pub right : IsLegalAfter P [] es
+  pub come : EachAfter (MayCome P) [] es
+
+-- each end of a task has a true trace, and the task's own events
+pub record IsTraced (es : List Event) : Type 0 where
+  pub traces : EachAfter (λ past. OnDone (HasTrueTrace past)) [] es
+  pub own : EachAfter (λ past. OnDone (HasOwnEvents past)) [] es
+
+-- what each end of a task tells is a run over the events before it
+abbrev pub AreRuns : Program → Option Places → List Event → Type 0
+AreRuns P room es = EachAfter (λ past. OnDone (HasRun P room past)) [] es
+
+-- the events are legal so far
+pub record IsLegalSoFar (P : Program) (es : List Event) : Type 0 where
+  pub stand : MayStand P es
+  pub traced : IsTraced es
+  pub runs : AreRuns P None es
+
+-- each task has a Done
+abbrev pub AreFinished : List Event → Type 0
+AreFinished es = (task : ℕ) → task < tasks_of es → IsSome (done_of task es)
 
 -- the events are a legal history: legal so far, and every task has a Done
 pub record IsLegal (P : Program) (es : List Event) : Type 0 where
   pub so_far : IsLegalSoFar P es
-  pub finished : (task : ℕ) → task < tasks_of es → IsSome (done_of task es)
+  pub finished : AreFinished es
+
+-- the events are cached for these places: each end of a task is a run in which each counted call is kept for them
+abbrev pub IsCached : Program → Places → List Event → Type 0
+IsCached P room es = AreRuns P (Some room) es
+
+-- ---- the text
 
 -- what a task printed
 abbrev pub output_of : Option Record → List ℕ
 output_of None = []
 output_of (Some ended) = ended.output
-
--- the children of a task, in the order of their spawns
-abbrev pub children_of : ℕ → List Event → List ℕ
-children_of task [] = []
-children_of task (Ev.Spawn parent child start ∷ es) = cond (nat_eq parent task) (child ∷ children_of task es) (children_of task es)
-children_of task (Ev.Begin fuel ∷ es) = children_of task es
-children_of task (Ev.Key key ∷ es) = children_of task es
-children_of task (Ev.Fill key site first ∷ es) = children_of task es
-children_of task (Ev.Def by site ∷ es) = children_of task es
-children_of task (Ev.Done by ended ∷ es) = children_of task es
-
--- a task before its children, each with its whole subtree, as far as so many generations
-abbrev pub subtree : List Event → ℕ → ℕ → List ℕ
-subtree es zero task = []
-subtree es (suc generations) task = task ∷ flat_map (subtree es generations) (children_of task es)
-
--- the tasks, each before its children; no generation is past the number of tasks
-abbrev pub path_order : List Event → List ℕ
-path_order es = subtree es (tasks_of es) 0
 
 -- what the tasks printed, one after another
 abbrev pub outputs : List Event → List ℕ → List ℕ

@@ -98,3 +98,12 @@ with_inner known place (e ∷ es) = with_inner (known ++ find_spawns e (view_amo
 -- what is visible at a spawn place of a program
 abbrev pub view_at : Program → ℕ → View
 view_at P place = view_among (with_inner (outer_spawns P) 0 P.spawns) place
+
+-- what is visible at each of these places, of which the first has this number
+abbrev pub views_from : Program → ℕ → List Expr → List View
+views_from P place [] = []
+views_from P place (e ∷ es) = view_at P place ∷ views_from P (place + 1) es
+
+-- what is visible at each spawn place of a program
+abbrev pub views_of : Program → List View
+views_of P = views_from P 0 P.spawns

@@ -9,7 +9,7 @@ use Rattle.jl_program.specs.declared.choice.Choice.{Choice}
 use Rattle.jl_program.specs.declared.tree.Site.{Site}
 use Rattle.jl_program.specs.declared.tree.Program.{Program}
 use Rattle.jl_program.specs.Chooses.{Chooses}
-use Rattle.jl_program.specs.Prelude.{prelude_numbers}
+use Rattle.jl_program.specs.Prelude.{prelude_count, prelude_numbers}
 use Rattle.jl_program.specs.Scope.{types_of}
 
 -- the sites that the events define, in order
@@ -32,7 +32,7 @@ site_of es d = get_or (definitions es) (d - 1) 0
 
 -- the newest world
 abbrev pub world_of : List Event → ℕ
-world_of es = 14 + length (defined es)
+world_of es = prelude_count + length (defined es)
 
 -- one more method, where the site is of this function
 abbrev pub method_at : Option Site → ℕ → ℕ → List Method → List Method

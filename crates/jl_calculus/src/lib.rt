@@ -2,4 +2,6 @@
 #![tactic(auto)]
 
 pub mod history;
+pub mod history_laws;
 pub mod laws;
+pub mod step;

@@ -8,7 +8,7 @@ use Rattle.jl_calculus.specs.declared.history.Event.TheVariants as Ev
 use Rattle.jl_calculus.specs.declared.history.Record.{Record}
 use Rattle.jl_calculus.specs.declared.history.TraceItem.{TraceItem}
 use Rattle.jl_program.specs.declared.tree.Program.{Program}
-use Rattle.jl_calculus.specs.Legal.{start_of, IsRunning, AreTrueOf, IsFinished, IsLegalAfter, IsLegal}
+use Rattle.jl_calculus.specs.Legal.{start_of, IsRunning, AreTrueOf, HasTrueTrace, HasOwnEvents, HasRun, MayCome, OnDone, EachAfter, IsLegal}
 use Rattle.jl_calculus.specs.Past.{tasks_of, done_of, IsInOrder, own_starts}
 use Rattle.jl_calculus.specs.Run.{Run}
 use Rattle.jl_machine.specs.Fits.{AllLearnt, IsRunOf, setting}
@@ -28,39 +28,60 @@ module _ (Q : Program) (sites : List ℕ) (n : ℕ) where
   truths es g [] h = tt
   truths es g (i ∷ is) h = (h.0 es g, truths es g is h.1)
 
-  -- what the root did is a run over the events so far
-  pub finished : (P : Program) (fuel : ℕ) (r : Record) → IsRunOf P fuel (knows_at Q sites n) r → IsFinished P (events_of fuel sites) 0 r
-  finished P fuel r h = record {
-    running = running fuel sites;
-    true_items = truths (events_of fuel sites) (goes_self fuel sites) r.trace h.learnt;
-    in_order =
-        let e : 1 + length sites ≡ length (events_of fuel sites) = omega (arith, length_defs sites) in
-        subst (λ p. IsInOrder p r.trace (length (events_of fuel sites))) (sym (first_alone 1 sites)) (subst (IsInOrder 1 r.trace) e h.order);
-    own = sym h.own;
-    ran = λ most e.
+  module _ (P : Program) (fuel : ℕ) (r : Record) (h : IsRunOf P fuel (knows_at Q sites n) r) where
+    -- what the root did is true and in order
+    pub true_trace : HasTrueTrace (events_of fuel sites) 0 r
+    true_trace = record {
+      true_items = truths (events_of fuel sites) (goes_self fuel sites) r.trace h.learnt;
+      in_order =
+          let e : 1 + length sites ≡ length (events_of fuel sites) = omega (arith, length_defs sites) in
+          subst (λ p. IsInOrder p r.trace (length (events_of fuel sites))) (sym (first_alone 1 sites)) (subst (IsInOrder 1 r.trace) e h.order);
+    }
+
+    -- and is a run over the events so far
+    pub has_run : HasRun P None (events_of fuel sites) 0 r
+    has_run most e =
         let fuels : fuel ≡ most = ap (λ o. unwrap_or o 0) e in
         let run : Run (setting P (events_of fuel sites) fuel) None r.trace r.outcome r.output r.calls [] = h.runs (events_of fuel sites) (goes_self fuel sites) in
         let starts = subst (λ xs. Run (setting P (events_of fuel sites) fuel) None r.trace r.outcome r.output r.calls xs) (sym (no_starts sites)) run in
         let start = subst (λ o. Run (setting P (events_of fuel sites) fuel) o r.trace r.outcome r.output r.calls (own_starts 0 (events_of fuel sites))) (sym (no_start sites)) starts in
-        subst (λ k. Run (setting P (events_of fuel sites) k) (start_of 0 (events_of fuel sites)) r.trace r.outcome r.output r.calls (own_starts 0 (events_of fuel sites))) fuels start;
-  }
+        subst (λ k. Run (setting P (events_of fuel sites) k) (start_of 0 (events_of fuel sites)) r.trace r.outcome r.output r.calls (own_starts 0 (events_of fuel sites))) fuels start
 
 module _ (P : Program) (fuel : ℕ) (r : Record) where
-  -- the definitions that are left, and the end, are right after those before
-  right_after : (done rest : List ℕ) → All (IsOfScript P) rest → 14 + (length done + length rest) ≤ 65535 → IsFinished P (events_of fuel (done ++ rest)) 0 r
-      → IsLegalAfter P (events_of fuel done) (defs_of rest ++ Ev.Done 0 r ∷ [])
-  right_after done [] h l f = (subst (λ xs. IsFinished P (events_of fuel xs) 0 r) (append-nil done) f, tt)
-  right_after done (s ∷ rest) h l f = (
-    (running fuel done, (All-head (IsOfScript P) s rest h).0, (All-head (IsOfScript P) s rest h).1, omega (arith, l, ap length (defined_alone done))),
-    subst (λ es. IsLegalAfter P es (defs_of rest ++ Ev.Done 0 r ∷ [])) (ap (λ es. Ev.Begin fuel ∷ es) (defs_push done s))
-        (right_after (done ++ s ∷ []) rest (All-tail (IsOfScript P) s rest h) (omega (arith, l, length-append done (s ∷ [])))
-        (subst (λ xs. IsFinished P (events_of fuel xs) 0 r) (sym (append_assoc done (s ∷ []) rest)) f)),
+  -- the definitions that are left, and the end, may come after those before
+  come_after : (done rest : List ℕ) → All (IsOfScript P) rest → 14 + (length done + length rest) ≤ 65535
+      → EachAfter (MayCome P) (events_of fuel done) (defs_of rest ++ Ev.Done 0 r ∷ [])
+  come_after done [] h l = (running fuel done, tt)
+  come_after done (s ∷ rest) h l = (
+    record {
+      running = running fuel done;
+      past_prelude = (All-head (IsOfScript P) s rest h).0;
+      of_program = (All-head (IsOfScript P) s rest h).1;
+      room = omega (arith, l, ap length (defined_alone done));
+    },
+    subst (λ es. EachAfter (MayCome P) es (defs_of rest ++ Ev.Done 0 r ∷ [])) (ap (λ es. Ev.Begin fuel ∷ es) (defs_push done s))
+        (come_after (done ++ s ∷ []) rest (All-tail (IsOfScript P) s rest h) (omega (arith, l, length-append done (s ∷ [])))),
   )
 
-  pub legal : (sites : List ℕ) → All (IsOfScript P) sites → 14 + length sites ≤ 65535 → fuel ≤ 1000000000 → IsFinished P (events_of fuel sites) 0 r
+  -- what holds of the end of the root holds of each end of a task
+  at_end : (R : List Event → ℕ → Record → Type 0) (done rest : List ℕ) → R (events_of fuel (done ++ rest)) 0 r
+      → EachAfter (λ past. OnDone (R past)) (events_of fuel done) (defs_of rest ++ Ev.Done 0 r ∷ [])
+  at_end R done [] h = (subst (λ xs. R (events_of fuel xs) 0 r) (append-nil done) h, tt)
+  at_end R done (s ∷ rest) h = (
+    tt,
+    subst (λ es. EachAfter (λ past. OnDone (R past)) es (defs_of rest ++ Ev.Done 0 r ∷ [])) (ap (λ es. Ev.Begin fuel ∷ es) (defs_push done s))
+        (at_end R (done ++ s ∷ []) rest (subst (λ xs. R (events_of fuel xs) 0 r) (sym (append_assoc done (s ∷ []) rest)) h)),
+  )
+
+  pub legal : (sites : List ℕ) → All (IsOfScript P) sites → 14 + length sites ≤ 65535 → fuel ≤ 1000000000
+      → HasTrueTrace (events_of fuel sites) 0 r → HasOwnEvents (events_of fuel sites) 0 r → HasRun P None (events_of fuel sites) 0 r
       → IsLegal P (Ev.Begin fuel ∷ (defs_of sites ++ Ev.Done 0 r ∷ []))
-  legal sites h l few f = record {
-    so_far = record { begun = refl; right = ((refl, few), right_after [] sites h (omega (arith, l)) f) };
+  legal sites h l few traced own run = record {
+    so_far = record {
+      stand = record { begun = refl; come = (record { nothing_before = refl; allowed = few }, come_after [] sites h (omega (arith, l))) };
+      traced = record { traces = (tt, at_end HasTrueTrace [] sites traced); own = (tt, at_end HasOwnEvents [] sites own) };
+      runs = (tt, at_end (HasRun P None) [] sites run);
+    };
     finished = all_done;
   }
     where
@@ -86,4 +107,10 @@ pub history_legal : (P Q : Program) (fuel n : ℕ) (all : List ℕ) (r : Record)
     → IsLegal P (Ev.Begin fuel ∷ (defs_of (drop 14 all) ++ Ev.Done 0 r ∷ []))
 history_legal P Q fuel n all r a few h =
     legal P fuel r (drop 14 all) (subst (λ p. All (IsOfScript p) (drop 14 all)) h.program a.script) (omega (arith, a.most, all_length Q all a)) few
-    (finished Q (drop 14 all) n P fuel r h)
+    (true_trace Q (drop 14 all) n P fuel r h)
+    (sym h.own)
+    (has_run Q (drop 14 all) n P fuel r h)
+
+-- no task but the root
+pub root_alone : (fuel : ℕ) (sites : List ℕ) (r : Record) (events : List Event) → events ≡ Ev.Begin fuel ∷ (defs_of sites ++ Ev.Done 0 r ∷ []) → tasks_of events ≡ 1
+root_alone fuel sites r events e = ap tasks_of e ∙ tasks_ended sites r

@@ -1,8 +1,8 @@
 //! The text of a history, and its status.
 
 ghost use Rattle.std.specs.Prelude.{◌≡◌, ◌++◌, IfOk, OnOk, MatchOption, None, Some};
-ghost use Rattle.jl_calculus.specs.Legal.{IsLegal, outcome_line, status_of, text_of};
-ghost use Rattle.jl_calculus.specs.Past.{done_of};
+ghost use Rattle.jl_calculus.specs.Legal.{outcome_line, status_of, text_of};
+ghost use Rattle.jl_calculus.specs.Past.{done_of, tasks_of};
 
 use jl_calculus::history::{Event, History, Outcome, Record};
 use jl_model::rows::Row;
@@ -34,11 +34,11 @@ fn append_record(out: &mut Row<u8>, program: &Program, ended: &Record) -> Result
     }
 }
 
-/// The text of a history: what the root printed, then its error line where it ended with a fault. The one error is
-/// want of memory.
+/// The text of a history with no task but the root: what the root printed, then its error line where it ended with a
+/// fault. The one error is want of memory.
 #[tactic(auto, using(crate::proofs::Texts::root_text))]
 pub fn text(alloc: Global, program: &Program, history: &History) -> Result<Bytes, AllocError>
-    requires { IsLegal program.now history.now.events }
+    requires alone { tasks_of history.now.events ≡ 1 }
     ensures { IfOk result (λ text. text ≡ text_of program.now history.now.events) }
 {
     let mut out = Row::new(alloc);

@@ -3,6 +3,7 @@
 ghost use Rattle.std.specs.Prelude.{◌≡◌, ◌≤◌, ◌++◌, IfOk, OnOk, Some};
 ghost use Rattle.jl_model.specs.declared.limits.TheConstants.{MOST_FUEL};
 ghost use Rattle.jl_calculus.specs.Legal.{IsLegal, fuel_of};
+ghost use Rattle.jl_calculus.specs.Past.{tasks_of};
 ghost use Rattle.jl_calculus.specs.Simple.{IsSimple};
 ghost use Rattle.jl_solo.specs.Alone.{defs_of};
 
@@ -34,6 +35,7 @@ pub fn run_alone(alloc: Global, program: &Program, fuel: u64) -> Result<History,
     requires fuel { fuel ≤ MOST_FUEL }
     ensures legal { IfOk result (λ history. IsLegal program.now history.events) }
     ensures begun { IfOk result (λ history. fuel_of history.events ≡ Some fuel) }
+    ensures alone { IfOk result (λ history. tasks_of history.events ≡ 1) }
 {
     let mut solo = Solo::new(alloc, program)?;
     let ended = run_root(alloc, program, fuel, &mut solo)?;
