@@ -23,7 +23,7 @@ use Rattle.jl_calculus.specs.declared.step.Step.{Step}
 use Rattle.jl_calculus.specs.declared.step.Step.TheVariants as St
 use Rattle.jl_calculus.specs.Kept.{Places}
 use Rattle.jl_calculus.specs.Legal.{IsRunning, IsKeyOf, HasTrueTrace, HasOwnEvents}
-use Rattle.jl_calculus.specs.Limits.{last_world, most_tasks}
+use Rattle.jl_model.specs.declared.limits.TheConstants.{MOST_WORLDS, MOST_TASKS}
 use Rattle.jl_calculus.specs.Past.{tasks_of, done_of}
 use Rattle.jl_calculus.specs.Ranges.{keys_of, rows_of, Covers, IsCovered, IsRightFill}
 use Rattle.jl_calculus.specs.Words.{world_length, link_of, fill_length, IsToCut, IsRowWords}
@@ -181,7 +181,7 @@ module _ (P : Program) (room : Places) (s : Core) where
     pub free : IsFree task
     pub past_prelude : prelude_count ≤ site
     pub of_program : site < length P.sites
-    pub place : world_of s.events < last_world
+    pub place : world_of s.events < MOST_WORLDS
 
   -- a row that the open definition will end, and that was not cut for it yet
   pub record IsLeft (o : Opened) (r : ℕ) : Type 0 where
@@ -196,7 +196,7 @@ module _ (P : Program) (room : Places) (s : Core) where
 
   pub record CanSpawn (task : ℕ) (start : Start) : Type 0 where
     pub free : IsFree task
-    pub place : tasks_of s.events < most_tasks
+    pub place : tasks_of s.events < MOST_TASKS
     pub of_program : start.spawn < length P.spawns
     pub world : HasSeenWorld task start.world
     pub known : Knows task (in_start start)

@@ -17,7 +17,7 @@ use Rattle.jl_program.specs.Prelude.{prelude_count}
 use Rattle.jl_program.specs.Scope.{all_types}
 use Rattle.jl_program.specs.ValidValue.{IsValueType}
 use Rattle.jl_calculus.specs.Kept.{Places}
-use Rattle.jl_calculus.specs.Limits.{most_fuel, last_world, most_tasks, most_keys, most_rows, most_arguments}
+use Rattle.jl_model.specs.declared.limits.TheConstants.{MOST_FUEL, MOST_WORLDS, MOST_TASKS, MOST_CACHE_KEYS, MOST_CACHE_ROWS, MOST_ARGUMENTS}
 use Rattle.jl_calculus.specs.Orders.{path_order}
 use Rattle.jl_calculus.specs.Past.{tasks_of, done_of, IsTrueOf, IsInOrder, own_items, own_events, own_starts}
 use Rattle.jl_calculus.specs.Ranges.{CacheRow, keys_of, rows_of, IsRightFill}
@@ -46,20 +46,20 @@ pub record IsRunning (es : List Event) (task : ℕ) : Type 0 where
 -- a key names a function of the program and at most 8 concrete normal types
 pub record IsKeyOf (P : Program) (key : Key) : Type 0 where
   pub function : key.function < length P.functions
-  pub few : length key.types ≤ most_arguments
+  pub few : length key.types ≤ MOST_ARGUMENTS
   pub types : All (IsValueType (all_types P)) key.types
 
 module _ (P : Program) (es : List Event) where
   -- a Begin stands first, with a fuel that may be given
   pub record IsBegin (fuel : ℕ) : Type 0 where
     pub nothing_before : es ≡ []
-    pub allowed : fuel ≤ most_fuel
+    pub allowed : fuel ≤ MOST_FUEL
 
   -- a key is one of the program, is new, and there is room for it
   pub record IsNewKey (key : Key) : Type 0 where
     pub proper : IsKeyOf P key
     pub new : Contains (keys_of es) key → ⊥
-    pub room : length (keys_of es) < most_keys
+    pub room : length (keys_of es) < MOST_CACHE_KEYS
 
   -- a fill is of a key that is there, it is right for that key, no earlier one has its key and its first world, and there is room
   -- for it
@@ -68,21 +68,21 @@ module _ (P : Program) (es : List Event) where
     pub named : slice_get (keys_of es) number ≡ Some key
     pub right : IsRightFill P es key site first
     pub new : (row : CacheRow) → Contains (rows_of es) row → row.key ≡ number → row.first ≡ first → ⊥
-    pub room : length (rows_of es) < most_rows
+    pub room : length (rows_of es) < MOST_CACHE_ROWS
 
   -- a definition is by a running task, of a site of the script, in a world that is not the last
   pub record IsDefinition (task site : ℕ) : Type 0 where
     pub running : IsRunning es task
     pub past_prelude : prelude_count ≤ site
     pub of_program : site < length P.sites
-    pub room : world_of es < last_world
+    pub room : world_of es < MOST_WORLDS
 
   -- a spawn is by a running task, at a place of the program, of the next task, and there is room for it
   pub record IsSpawn (task child : ℕ) (start : Start) : Type 0 where
     pub running : IsRunning es task
     pub of_program : start.spawn < length P.spawns
     pub next : child ≡ tasks_of es
-    pub room : tasks_of es < most_tasks
+    pub room : tasks_of es < MOST_TASKS
 
   -- an event may come after these, whatever the end of a task says of it
   abbrev pub MayCome : Event → Type 0

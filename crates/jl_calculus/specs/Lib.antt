@@ -1,4 +1,3 @@
-pub mod Limits
 pub mod Host
 pub mod World
 pub mod Past

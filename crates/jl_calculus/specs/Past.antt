@@ -7,7 +7,7 @@ use Rattle.jl_calculus.specs.declared.history.TraceItem.{TraceItem}
 use Rattle.jl_calculus.specs.declared.history.TraceItem.TheVariants.{Look, Def, Spawn, Fetch, WorldFull, TaskFull}
 use Rattle.jl_calculus.specs.declared.history.Record.{Record}
 use Rattle.jl_program.specs.declared.tree.Start.{Start}
-use Rattle.jl_calculus.specs.Limits.{last_world, most_tasks}
+use Rattle.jl_model.specs.declared.limits.TheConstants.{MOST_WORLDS, MOST_TASKS}
 use Rattle.jl_calculus.specs.World.{world_of}
 
 -- the tasks that were started, the root among them
@@ -49,8 +49,8 @@ IsTrueOf es t (Look w p) = (p ≤ length es) × (world_of (take p es) ≡ w)
 IsTrueOf es t (Def site p) = DefinesAt es p t site
 IsTrueOf es t (Spawn child p) = SpawnsAt es p t child
 IsTrueOf es t (Fetch task outcome p) = (p ≤ length es) × EndedSo (done_of task (take p es)) outcome
-IsTrueOf es t (WorldFull p) = (p ≤ length es) × (world_of (take p es) ≡ last_world)
-IsTrueOf es t (TaskFull p) = (p ≤ length es) × (tasks_of (take p es) ≡ most_tasks)
+IsTrueOf es t (WorldFull p) = (p ≤ length es) × (world_of (take p es) ≡ MOST_WORLDS)
+IsTrueOf es t (TaskFull p) = (p ≤ length es) × (tasks_of (take p es) ≡ MOST_TASKS)
 
 -- the place that an item tells
 abbrev pub place : TraceItem → ℕ

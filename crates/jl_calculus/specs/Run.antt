@@ -5,6 +5,7 @@
 -- ends the whole task, whatever follows. Each form of the tree has its line in `expr_runs`, `stmt_runs`, `item_runs` or
 -- `piece_runs`.
 use Rattle.std.specs.Prelude.{◌≡◌, ℕ, ℤ, pos, zero, suc, ◌+◌, List, [], ◌∷◌, ◌++◌, map, Bool, true, false, nat_lt, cond, slice_get, get_or, take, Option, Some, None, codes}
+use Rattle.jl_model.specs.declared.limits.TheConstants.{MOST_OPEN_CALLS}
 use Rattle.jl_model.specs.declared.ty.Ty.{Ty}
 use Rattle.jl_model.specs.declared.ty.Written.{Written}
 use Rattle.jl_model.specs.Bindings.{bindings as bindings_of}
@@ -338,7 +339,7 @@ module _ (g : Setting) (Ends : Outcome → State → Type 0) where
 
 -- how many calls of a task may be open
 abbrev pub open_calls : ℕ
-open_calls = 100000
+open_calls = MOST_OPEN_CALLS
 
 -- the outcome is this one, with nothing left of the trace
 pub record IsEnd (outcome : Outcome) (output : List ℕ) (made : ℕ) (spawned : List Start) (got : Outcome) (s : State) : Type 0 where

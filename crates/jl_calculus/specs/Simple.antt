@@ -2,6 +2,7 @@
 -- the top, and signatures of `Any` and of built-in concrete types.
 use Rattle.std.specs.Prelude.{ℕ, ◌≡◌, Bool, true, false, ◌&&◌, nat_le, nat_lt, IsTrue, All, [], length}
 use Rattle.std.specs.List.{list_all}
+use Rattle.jl_model.specs.declared.builtin.TheConstants.{INT64, BUILTIN_TYPES}
 use Rattle.jl_model.specs.declared.ty.Ty.{Ty, out-Ty}
 use Rattle.jl_model.specs.declared.ty.Ty.TheOpen.{Ty-F, Any, Nominal}
 use Rattle.jl_model.specs.declared.ty.Written.{Written}
@@ -51,7 +52,7 @@ module _ (sites : ℕ) where
 -- `Any`, or a built-in concrete type
 abbrev pub is_simple_layer : Ty-F Ty → Bool
 is_simple_layer Any = true
-is_simple_layer (Nominal n []) = nat_le 4 n && nat_lt n 8
+is_simple_layer (Nominal n []) = nat_le INT64 n && nat_lt n BUILTIN_TYPES
 is_simple_layer _ = false
 
 abbrev pub is_simple_type : Ty → Bool
@@ -59,7 +60,7 @@ is_simple_type t = is_simple_layer (out-Ty t)
 
 -- a built-in concrete type: that of an integer, a truth value, `nothing` or a task
 abbrev pub is_plain_layer : Ty-F Ty → Bool
-is_plain_layer (Nominal n []) = nat_le 4 n && nat_lt n 8
+is_plain_layer (Nominal n []) = nat_le INT64 n && nat_lt n BUILTIN_TYPES
 is_plain_layer _ = false
 
 abbrev pub is_plain : Ty → Bool
