@@ -50,10 +50,16 @@ pub enum Sign {
 }
 
 /// A token's sign, and its offset in bytes.
-#[derive(Drop, PartialEq, Eq)]
 pub struct Lexeme {
     pub sign: Sign,
     pub at: u32,
+}
+
+impl Drop for Lexeme {
+    fn drop(self) {
+        let Lexeme { sign, at: _ } = self;
+        drop(sign);
+    }
 }
 
 /// The reserved words without a rule.
