@@ -21,7 +21,7 @@ pub enum Deep<T> {
 }
 
 /// A mark before an argument, and its place.
-#[derive(Clone, Copy, PartialEq, Eq, Debug)]
+#[derive(Clone, Copy)]
 pub enum Mark {
     /// No mark.
     Exact,

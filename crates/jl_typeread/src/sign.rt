@@ -8,7 +8,7 @@ use jl_token::token::{Operator, Token, TokenKind};
 use std::alloc::AllocError;
 
 /// The reserved words. `Unruled` stands for those that have no rule in the grammar.
-#[derive(Clone, Copy, PartialEq, Eq, Debug)]
+#[derive(Clone, Copy)]
 pub enum Word {
     Abstract,
     Struct,
@@ -29,7 +29,7 @@ pub enum Word {
 }
 
 /// What the grammars see of a token.
-#[derive(Drop, PartialEq, Eq)]
+#[derive(Drop)]
 pub enum Sign {
     /// A name that is no reserved word.
     Name(Bytes),
