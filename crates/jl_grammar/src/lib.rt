@@ -1,6 +1,7 @@
 //! The grammar of scripts: their trees, and a machine that reads them token by token, as a definition.
 #![tactic(auto)]
 
+pub mod held;
 pub mod laws;
 pub mod mark;
 pub mod owned;

@@ -3,7 +3,7 @@
 use jl_typeread::sign::Lexeme;
 
 /// What a name begins where an operand stands, by the tokens behind it.
-#[derive(Clone, Copy, PartialEq, Eq, Debug)]
+#[derive(Clone, Copy, Debug)]
 pub enum Opening {
     Plain,
     /// `name =`
@@ -27,7 +27,7 @@ pub enum Opening {
 }
 
 /// What is told by a token behind a matching bracket.
-#[derive(Clone, Copy, PartialEq, Eq, Debug)]
+#[derive(Clone, Copy, Debug)]
 pub enum Ahead {
     Nothing,
     /// the head of a method
@@ -37,21 +37,21 @@ pub enum Ahead {
 }
 
 /// The marks of a token.
-#[derive(Clone, Copy, PartialEq, Eq, Debug)]
+#[derive(Clone, Copy)]
 pub struct Marks {
     pub opening: Opening,
     pub ahead: Ahead,
 }
 
 /// A token with its marks.
-#[derive(Drop, PartialEq, Eq)]
+#[derive(Drop)]
 pub struct Marked {
     pub lexeme: Lexeme,
     pub marks: Marks,
 }
 
 /// What stands before a newline, as far as the newline rule asks.
-#[derive(Clone, Copy, PartialEq, Eq, Debug)]
+#[derive(Clone, Copy)]
 pub enum Previous {
     /// a token behind which a newline is no token
     Joins,
@@ -63,14 +63,14 @@ pub enum Previous {
 }
 
 /// What is open around a token.
-#[derive(Clone, Copy, PartialEq, Eq, Debug)]
+#[derive(Clone, Copy)]
 pub enum Around {
     Bracket,
     Block,
 }
 
 /// The kinds of brackets.
-#[derive(Clone, Copy, PartialEq, Eq, Debug)]
+#[derive(Clone, Copy)]
 pub enum Shape {
     Round,
     Square,
@@ -78,7 +78,7 @@ pub enum Shape {
 }
 
 /// What a token is to the brackets.
-#[derive(Clone, Copy, PartialEq, Eq, Debug)]
+#[derive(Clone, Copy)]
 pub enum Mate {
     Opens(Shape),
     Closes(Shape),
@@ -86,7 +86,7 @@ pub enum Mate {
 }
 
 /// What follows a bracket or a name, as far as the marks ask.
-#[derive(Clone, Copy, PartialEq, Eq, Debug)]
+#[derive(Clone, Copy)]
 pub enum Follows {
     /// `=` or `where`
     Defines,

@@ -1,5 +1,8 @@
 //! Where a reading is: what stands before an operand, the forms that are open, and the point between two tokens.
 
+ghost use Rattle.std.specs.Prelude.{◌≡◌};
+
+use crate::held::Held;
 use crate::owned::Owned;
 use crate::tree::{
     Branch, Callee, Eval, Expr, Field, Head, Header, Infix, Item, Method, Name, Param, Piece,
@@ -13,7 +16,7 @@ use jl_typeread::tree::{TypeText, VarTexts};
 /// past the limit, and its tree is not kept.
 #[derive(Drop)]
 pub struct Form<T> {
-    pub tree: T,
+    pub tree: Owned<T>,
     pub at: u32,
     pub depth: u32,
 }
@@ -28,7 +31,7 @@ pub struct Forms<T> {
 /// A written type with its depth.
 #[derive(Drop)]
 pub struct TypeForm {
-    pub tree: TypeText,
+    pub tree: Owned<TypeText>,
     pub depth: u32,
 }
 
@@ -56,11 +59,11 @@ pub struct PrefixAt {
 /// What stands before an operand in its chain, level by level.
 #[derive(Drop)]
 pub struct Levels {
-    pub or: Option<Owned<Form<Expr>>>,
-    pub and: Option<Owned<Form<Expr>>>,
-    pub comparison: Option<Owned<Left>>,
-    pub sum: Option<Owned<Left>>,
-    pub term: Option<Owned<Left>>,
+    pub or: Held<Option<Owned<Form<Expr>>>>,
+    pub and: Held<Option<Owned<Form<Expr>>>>,
+    pub comparison: Held<Option<Owned<Left>>>,
+    pub sum: Held<Option<Owned<Left>>>,
+    pub term: Held<Option<Owned<Left>>>,
     pub prefixes: Stack<PrefixAt>,
 }
 
@@ -90,7 +93,6 @@ pub enum Lead {
 }
 
 /// All that stands before an operand, up to the innermost form that a token of its own will end.
-#[derive(Drop)]
 pub struct Pending {
     pub lead: Lead,
     /// the innermost first
@@ -98,6 +100,35 @@ pub struct Pending {
     pub levels: Levels,
     /// whether a `return` may stand in the operand
     pub returns: bool,
+}
+
+impl Drop for Pending {
+    fn drop(self) {
+        let Pending {
+            lead,
+            outer,
+            levels,
+            returns: _,
+        } = self;
+        drop(lead);
+        drop(outer);
+        drop(levels);
+    }
+}
+
+impl Pending {
+    /// All parts of it.
+    pub fn parts(self) -> (Lead, Stack<Outer>, Levels, bool)
+        ensures { result ≡ (self.lead, self.outer, self.levels, self.returns) }
+    {
+        let Pending {
+            lead,
+            outer,
+            levels,
+            returns,
+        } = self;
+        (lead, outer, levels, returns)
+    }
 }
 
 /// The branches of an `if` so far. The next one would be `lowered` deeper than the `if` itself.

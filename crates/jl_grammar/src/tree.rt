@@ -23,20 +23,20 @@ pub type Branches = SharedList<Branch>;
 pub type Pieces = SharedList<Piece>;
 
 /// A script.
-#[derive(Drop, PartialEq, Eq)]
+#[derive(Drop)]
 pub struct Script {
     pub items: Items,
 }
 
 /// A name, and where it stands.
-#[derive(Drop, PartialEq, Eq)]
+#[derive(Drop)]
 pub struct Name {
     pub at: u32,
     pub bytes: Bytes,
 }
 
 /// An item of a script.
-#[derive(Drop, PartialEq, Eq)]
+#[derive(Drop)]
 pub enum Item {
     Abstract(Abstract),
     Struct(Struct),
@@ -47,7 +47,7 @@ pub enum Item {
 }
 
 /// The head of a declaration: the name, its parameters and what it is declared below (Julia manual, Types).
-#[derive(Drop, PartialEq, Eq)]
+#[derive(Drop)]
 pub struct Header {
     pub at: u32,
     pub name: Name,
@@ -57,27 +57,27 @@ pub struct Header {
 }
 
 /// The declaration of an abstract type.
-#[derive(Drop, PartialEq, Eq)]
+#[derive(Drop)]
 pub struct Abstract {
     pub header: Header,
 }
 
 /// The declaration of a struct.
-#[derive(Drop, PartialEq, Eq)]
+#[derive(Drop)]
 pub struct Struct {
     pub header: Header,
     pub fields: Fields,
 }
 
 /// A field of a struct.
-#[derive(Drop, PartialEq, Eq)]
+#[derive(Drop)]
 pub struct Field {
     pub name: Name,
     pub ty: Option<TypeText>,
 }
 
 /// The function that is called, or that a method is added to (Julia manual, Methods).
-#[derive(Drop, PartialEq, Eq)]
+#[derive(Drop)]
 pub enum Callee {
     /// `f`
     Plain(Name),
@@ -88,7 +88,7 @@ pub enum Callee {
 }
 
 /// A parameter of a method.
-#[derive(Drop, PartialEq, Eq)]
+#[derive(Drop)]
 pub enum Param {
     /// `x`
     Name(Name),
@@ -99,7 +99,7 @@ pub enum Param {
 }
 
 /// The head of a method, with the variables of its `where`: none where none is written.
-#[derive(Drop, PartialEq, Eq)]
+#[derive(Drop)]
 pub struct Head {
     pub callee: Callee,
     pub params: Params,
@@ -107,7 +107,7 @@ pub struct Head {
 }
 
 /// A method (Julia manual, Functions).
-#[derive(Drop, PartialEq, Eq)]
+#[derive(Drop)]
 #[cycle(tree)]
 pub enum Method {
     /// `function f(..) .. end`
@@ -117,7 +117,7 @@ pub enum Method {
 }
 
 /// A statement of a block.
-#[derive(Drop, PartialEq, Eq)]
+#[derive(Drop)]
 #[cycle(tree)]
 pub enum Stmt {
     /// `name = e`
@@ -130,7 +130,7 @@ pub enum Stmt {
 }
 
 /// A statement of an evaluated block.
-#[derive(Drop, PartialEq, Eq)]
+#[derive(Drop)]
 #[cycle(tree)]
 pub enum Eval {
     Method(Method),
@@ -138,7 +138,7 @@ pub enum Eval {
 }
 
 /// A test with its block.
-#[derive(Drop, PartialEq, Eq)]
+#[derive(Drop)]
 #[cycle(tree)]
 pub struct Branch {
     pub at: u32,
@@ -147,7 +147,7 @@ pub struct Branch {
 }
 
 /// What a `print` writes: a text as it stands, or the text of a value.
-#[derive(Drop, PartialEq, Eq)]
+#[derive(Drop)]
 #[cycle(tree)]
 pub enum Piece {
     Text(u32, Bytes),
@@ -155,14 +155,14 @@ pub enum Piece {
 }
 
 /// The operators with one operand.
-#[derive(Clone, Copy, PartialEq, Eq, Debug)]
+#[derive(Clone, Copy)]
 pub enum Prefix {
     Minus,
     Not,
 }
 
 /// The operators with two operands.
-#[derive(Clone, Copy, PartialEq, Eq, Debug)]
+#[derive(Clone, Copy)]
 pub enum Infix {
     Or,
     And,
@@ -182,7 +182,7 @@ pub enum Infix {
 }
 
 /// An expression.
-#[derive(Drop, PartialEq, Eq)]
+#[derive(Drop)]
 #[cycle(tree)]
 pub enum Expr {
     Number(u32, i64),

@@ -38,8 +38,13 @@ pub fn inside(
 ) -> Result<Option<State>, AllocError>
     ensures { IfOk result (λ s. s ≡ at point (frame ∷ stack) script) }
 {
-    stack.push(frame)?;
-    at(point, stack, script)
+    match stack.push(frame) {
+        Ok(()) => at(point, stack, script),
+        Err(error) => {
+            drop(point);
+            Err(error)
+        }
+    }
 }
 
 /// A name and its place.
@@ -81,9 +86,9 @@ pub fn with_stmt(
 {
     let Form { tree, depth, .. } = e;
     match lead {
-        Lead::Plain => Ok(Some(with(stmts, Stmt::Do(tree), depth)?)),
-        Lead::Bind(name) => Ok(Some(with(stmts, Stmt::Bind(name, tree), depth)?)),
-        Lead::Return(at) => Ok(Some(with(stmts, Stmt::Return(at, tree), depth)?)),
+        Lead::Plain => Ok(Some(with(stmts, Stmt::Do(tree.take()), depth)?)),
+        Lead::Bind(name) => Ok(Some(with(stmts, Stmt::Bind(name, tree.take()), depth)?)),
+        Lead::Return(at) => Ok(Some(with(stmts, Stmt::Return(at, tree.take()), depth)?)),
         Lead::Short(head) => {
             drop(head);
             drop(tree);
@@ -96,7 +101,7 @@ pub fn with_stmt(
 pub fn with_method(evals: Forms<Eval>, method: Form<Method>) -> Result<Forms<Eval>, AllocError>
     ensures { IfOk result (λ r. r ≡ with_method evals method) }
 {
-    with(evals, Eval::Method(method.tree), method.depth)
+    with(evals, Eval::Method(method.tree.take()), method.depth)
 }
 
 /// An expression as an evaluated statement.
@@ -109,7 +114,7 @@ pub fn with_eval(
     ensures { IfOk result (λ r. r ≡ with_eval evals lead e) }
 {
     match lead {
-        Lead::Plain => Ok(Some(with(evals, Eval::Do(e.tree), e.depth)?)),
+        Lead::Plain => Ok(Some(with(evals, Eval::Do(e.tree.take()), e.depth)?)),
         Lead::Short(head) => {
             let method = short(alloc, head.take(), e)?;
             Ok(Some(with_method(evals, method)?))
@@ -127,9 +132,12 @@ pub fn item_of(alloc: Global, lead: Lead, e: Form<Expr>) -> Result<Option<Form<I
     ensures { IfOk result (λ r. r ≡ item_of lead e) }
 {
     match lead {
-        Lead::Plain => Ok(Some(done_item(e))),
-        Lead::Bind(name) => Ok(Some(bound_item(name, e))),
-        Lead::Short(head) => Ok(Some(method_item(short(alloc, head.take(), e)?))),
+        Lead::Plain => Ok(Some(done_item(alloc, e)?)),
+        Lead::Bind(name) => Ok(Some(bound_item(alloc, name, e)?)),
+        Lead::Short(head) => {
+            let method = short(alloc, head.take(), e)?;
+            Ok(Some(method_item(alloc, method)?))
+        }
         Lead::Return(_) => {
             drop(e);
             Ok(None)

@@ -3,6 +3,7 @@
 ghost use Rattle.std.specs.Prelude.{◌≡◌, IfOk};
 ghost use Rattle.jl_grammar.specs.Forms.{deeper, made, none, with, type_form, vars_form, no_vars, number, truth, nothing, name, paren, tuple, called, field, part, prefixed, infixed, isa, sub, choose, begun, spawned, eval_method, eval_block, eval_expr, eval_quote, fetched, printed, below, no_branches, with_branch, iffed, iffed_else, with_show, with_text, with_expr};
 
+use jl_grammar::owned::Owned;
 use jl_grammar::state::{Branched, Called, Form, Forms, PrefixAt, TypeForm, VarsForm};
 use jl_grammar::tree::{Branch, Eval, Expr, Infix, Method, Name, Piece, Stmt};
 use jl_model::limits::MOST_ITEM_DEPTH;
@@ -21,15 +22,16 @@ pub(crate) fn deeper(depth: u32) -> u32
 }
 
 /// An expression of this depth.
-fn made(at: u32, depth: u32, tree: Expr) -> Form<Expr>
-    ensures { result ≡ made at depth tree }
+fn made(alloc: Global, at: u32, depth: u32, tree: Expr) -> Result<Form<Expr>, AllocError>
+    ensures { IfOk result (λ r. r ≡ made at depth tree) }
 {
     if depth > MOST_ITEM_DEPTH {
         drop(tree);
-        let tree = Expr::Nothing(at);
-        return Form { tree, at, depth };
+        let tree = Owned::new(alloc, Expr::Nothing(at))?;
+        return Ok(Form { tree, at, depth });
     }
-    Form { tree, at, depth }
+    let tree = Owned::new(alloc, tree)?;
+    Ok(Form { tree, at, depth })
 }
 
 /// No trees.
@@ -58,15 +60,21 @@ pub fn with<T: Drop>(forms: Forms<T>, tree: T, depth: u32) -> Result<Forms<T>, A
 }
 
 /// A written type as it was read.
-pub fn type_form(ty: Deep<TypeText>) -> TypeForm
-    ensures { result ≡ type_form ty }
+pub fn type_form(alloc: Global, ty: Deep<TypeText>) -> Result<TypeForm, AllocError>
+    ensures { IfOk result (λ r. r ≡ type_form ty) }
 {
     match ty {
-        Deep::Built(tree, depth) => TypeForm { tree, depth },
-        Deep::TooDeep => TypeForm {
-            tree: TypeText::Name(0, SharedList::empty()),
-            depth: MOST_ITEM_DEPTH + 1,
-        },
+        Deep::Built(tree, depth) => {
+            let tree = Owned::new(alloc, tree)?;
+            Ok(TypeForm { tree, depth })
+        }
+        Deep::TooDeep => {
+            let tree = Owned::new(alloc, TypeText::Name(0, SharedList::empty()))?;
+            Ok(TypeForm {
+                tree,
+                depth: MOST_ITEM_DEPTH + 1,
+            })
+        }
     }
 }
 
@@ -97,39 +105,39 @@ pub fn no_vars() -> VarsForm
 }
 
 /// A number.
-pub fn number(at: u32, value: i64) -> Form<Expr>
-    ensures { result ≡ number at value }
+pub fn number(alloc: Global, at: u32, value: i64) -> Result<Form<Expr>, AllocError>
+    ensures { IfOk result (λ r. r ≡ number at value) }
 {
-    made(at, 1, Expr::Number(at, value))
+    made(alloc, at, 1, Expr::Number(at, value))
 }
 
 /// `true` or `false`.
-pub fn truth(at: u32, value: bool) -> Form<Expr>
-    ensures { result ≡ truth at value }
+pub fn truth(alloc: Global, at: u32, value: bool) -> Result<Form<Expr>, AllocError>
+    ensures { IfOk result (λ r. r ≡ truth at value) }
 {
-    made(at, 1, Expr::Bool(at, value))
+    made(alloc, at, 1, Expr::Bool(at, value))
 }
 
 /// `nothing`.
-pub fn nothing(at: u32) -> Form<Expr>
-    ensures { result ≡ nothing at }
+pub fn nothing(alloc: Global, at: u32) -> Result<Form<Expr>, AllocError>
+    ensures { IfOk result (λ r. r ≡ nothing at) }
 {
-    made(at, 1, Expr::Nothing(at))
+    made(alloc, at, 1, Expr::Nothing(at))
 }
 
 /// A name.
-pub fn name(at: u32, bytes: Bytes) -> Form<Expr>
-    ensures { result ≡ name at bytes }
+pub fn name(alloc: Global, at: u32, bytes: Bytes) -> Result<Form<Expr>, AllocError>
+    ensures { IfOk result (λ r. r ≡ name at bytes) }
 {
-    made(at, 1, Expr::Name(at, bytes))
+    made(alloc, at, 1, Expr::Name(at, bytes))
 }
 
 /// An expression in parentheses.
 pub fn paren(alloc: Global, at: u32, e: Form<Expr>) -> Result<Form<Expr>, AllocError>
     ensures { IfOk result (λ r. r ≡ paren at e) }
 {
-    let tree = SharedNode::new(alloc, e.tree)?;
-    Ok(made(at, deeper(e.depth), Expr::Paren(at, tree)))
+    let tree = SharedNode::new(alloc, e.tree.take())?;
+    made(alloc, at, deeper(e.depth), Expr::Paren(at, tree))
 }
 
 /// Expressions in parentheses, with their commas.
@@ -137,7 +145,7 @@ pub fn tuple(alloc: Global, at: u32, es: Forms<Expr>) -> Result<Form<Expr>, Allo
     ensures { IfOk result (λ r. r ≡ tuple at es) }
 {
     let trees = es.trees.into_shared(alloc)?;
-    Ok(made(at, deeper(es.depth), Expr::Tuple(at, trees)))
+    made(alloc, at, deeper(es.depth), Expr::Tuple(at, trees))
 }
 
 /// Arguments, behind what they are given to. The name of a written type is no type of its own there.
@@ -152,12 +160,17 @@ pub fn called(
     let Forms { trees, depth } = es;
     let trees = trees.into_shared(alloc)?;
     match function {
-        Called::Function(callee) => Ok(made(at, deeper(depth), Expr::Call(at, callee, trees))),
+        Called::Function(callee) => made(alloc, at, deeper(depth), Expr::Call(at, callee, trees)),
         Called::Type(ty) => {
             let greatest = ty.depth.saturating_sub(1).max(depth);
-            Ok(made(at, deeper(greatest), Expr::Make(at, ty.tree, trees)))
+            made(
+                alloc,
+                at,
+                deeper(greatest),
+                Expr::Make(at, ty.tree.take(), trees),
+            )
         }
-        Called::Latest(callee) => Ok(made(at, deeper(depth), Expr::Latest(at, callee, trees))),
+        Called::Latest(callee) => made(alloc, at, deeper(depth), Expr::Latest(at, callee, trees)),
     }
 }
 
@@ -165,16 +178,16 @@ pub fn called(
 pub fn field(alloc: Global, e: Form<Expr>, name: Name) -> Result<Form<Expr>, AllocError>
     ensures { IfOk result (λ r. r ≡ field e name) }
 {
-    let tree = SharedNode::new(alloc, e.tree)?;
-    Ok(made(e.at, deeper(e.depth), Expr::Field(e.at, tree, name)))
+    let tree = SharedNode::new(alloc, e.tree.take())?;
+    made(alloc, e.at, deeper(e.depth), Expr::Field(e.at, tree, name))
 }
 
 /// `e[number]`
 pub fn part(alloc: Global, e: Form<Expr>, number: i64) -> Result<Form<Expr>, AllocError>
     ensures { IfOk result (λ r. r ≡ part e number) }
 {
-    let tree = SharedNode::new(alloc, e.tree)?;
-    Ok(made(e.at, deeper(e.depth), Expr::Part(e.at, tree, number)))
+    let tree = SharedNode::new(alloc, e.tree.take())?;
+    made(alloc, e.at, deeper(e.depth), Expr::Part(e.at, tree, number))
 }
 
 /// An operator before its operand.
@@ -185,9 +198,9 @@ pub(crate) fn prefixed(
 ) -> Result<Form<Expr>, AllocError>
     ensures { IfOk result (λ r. r ≡ prefixed prefix e) }
 {
-    let tree = SharedNode::new(alloc, e.tree)?;
+    let tree = SharedNode::new(alloc, e.tree.take())?;
     let tree = Expr::Prefix(prefix.at, prefix.prefix, tree);
-    Ok(made(prefix.at, deeper(e.depth), tree))
+    made(alloc, prefix.at, deeper(e.depth), tree)
 }
 
 /// An operator between its operands.
@@ -201,9 +214,9 @@ pub(crate) fn infixed(
 {
     let depth = deeper(left.depth.max(right.depth));
     let at = left.at;
-    let left = SharedNode::new(alloc, left.tree)?;
-    let right = SharedNode::new(alloc, right.tree)?;
-    Ok(made(at, depth, Expr::Infix(at, operator, left, right)))
+    let left = SharedNode::new(alloc, left.tree.take())?;
+    let right = SharedNode::new(alloc, right.tree.take())?;
+    made(alloc, at, depth, Expr::Infix(at, operator, left, right))
 }
 
 /// `e isa T`
@@ -212,23 +225,33 @@ pub fn isa(alloc: Global, e: Form<Expr>, ty: TypeForm) -> Result<Form<Expr>, All
 {
     let depth = deeper(e.depth.max(ty.depth));
     let at = e.at;
-    let tree = SharedNode::new(alloc, e.tree)?;
-    Ok(made(at, depth, Expr::Isa(at, tree, ty.tree)))
+    let tree = SharedNode::new(alloc, e.tree.take())?;
+    made(alloc, at, depth, Expr::Isa(at, tree, ty.tree.take()))
 }
 
 /// `S <: T`
-pub fn sub(at: u32, left: TypeForm, right: TypeForm) -> Form<Expr>
-    ensures { result ≡ sub at left right }
+pub fn sub(
+    alloc: Global,
+    at: u32,
+    left: TypeForm,
+    right: TypeForm,
+) -> Result<Form<Expr>, AllocError>
+    ensures { IfOk result (λ r. r ≡ sub at left right) }
 {
     let depth = deeper(left.depth.max(right.depth));
-    made(at, depth, Expr::Sub(at, left.tree, right.tree))
+    made(
+        alloc,
+        at,
+        depth,
+        Expr::Sub(at, left.tree.take(), right.tree.take()),
+    )
 }
 
 /// The tree of an expression, in a node of its own.
 fn node(alloc: Global, e: Form<Expr>) -> Result<SharedNode<Expr>, AllocError>
     ensures { IfOk result (λ n. n ≡ e.tree) }
 {
-    SharedNode::new(alloc, e.tree)
+    SharedNode::new(alloc, e.tree.take())
 }
 
 /// The trees of two expressions, each in a node of its own.
@@ -257,7 +280,7 @@ pub(crate) fn choose(
     let at = test.at;
     let (then, otherwise) = nodes(alloc, then, otherwise)?;
     let test = node(alloc, test)?;
-    Ok(made(at, depth, Expr::Choose(at, test, then, otherwise)))
+    made(alloc, at, depth, Expr::Choose(at, test, then, otherwise))
 }
 
 /// `begin` and a block.
@@ -265,15 +288,15 @@ pub(crate) fn begun(alloc: Global, at: u32, ss: Forms<Stmt>) -> Result<Form<Expr
     ensures { IfOk result (λ r. r ≡ begun at ss) }
 {
     let trees = ss.trees.into_shared(alloc)?;
-    Ok(made(at, deeper(deeper(ss.depth)), Expr::Begin(at, trees)))
+    made(alloc, at, deeper(deeper(ss.depth)), Expr::Begin(at, trees))
 }
 
 /// `Threads.@spawn e`
 pub(crate) fn spawned(alloc: Global, at: u32, e: Form<Expr>) -> Result<Form<Expr>, AllocError>
     ensures { IfOk result (λ r. r ≡ spawned at e) }
 {
-    let tree = SharedNode::new(alloc, e.tree)?;
-    Ok(made(at, deeper(e.depth), Expr::Spawn(at, tree)))
+    let tree = SharedNode::new(alloc, e.tree.take())?;
+    made(alloc, at, deeper(e.depth), Expr::Spawn(at, tree))
 }
 
 /// `@eval` and a method.
@@ -284,8 +307,8 @@ pub(crate) fn eval_method(
 ) -> Result<Form<Expr>, AllocError>
     ensures { IfOk result (λ r. r ≡ eval_method at method) }
 {
-    let tree = SharedNode::new(alloc, method.tree)?;
-    Ok(made(at, deeper(method.depth), Expr::EvalMethod(at, tree)))
+    let tree = SharedNode::new(alloc, method.tree.take())?;
+    made(alloc, at, deeper(method.depth), Expr::EvalMethod(at, tree))
 }
 
 /// `@eval begin` and a block.
@@ -297,15 +320,20 @@ pub(crate) fn eval_block(
     ensures { IfOk result (λ r. r ≡ eval_block at evals) }
 {
     let trees = evals.trees.into_shared(alloc)?;
-    Ok(made(at, deeper(deeper(evals.depth)), Expr::EvalBlock(at, trees)))
+    made(
+        alloc,
+        at,
+        deeper(deeper(evals.depth)),
+        Expr::EvalBlock(at, trees),
+    )
 }
 
 /// `@eval e`
 pub(crate) fn eval_expr(alloc: Global, at: u32, e: Form<Expr>) -> Result<Form<Expr>, AllocError>
     ensures { IfOk result (λ r. r ≡ eval_expr at e) }
 {
-    let tree = SharedNode::new(alloc, e.tree)?;
-    Ok(made(at, deeper(e.depth), Expr::EvalExpr(at, tree)))
+    let tree = SharedNode::new(alloc, e.tree.take())?;
+    made(alloc, at, deeper(e.depth), Expr::EvalExpr(at, tree))
 }
 
 /// `eval(quote` and a block.
@@ -317,15 +345,20 @@ pub(crate) fn eval_quote(
     ensures { IfOk result (λ r. r ≡ eval_quote at evals) }
 {
     let trees = evals.trees.into_shared(alloc)?;
-    Ok(made(at, deeper(deeper(evals.depth)), Expr::EvalQuote(at, trees)))
+    made(
+        alloc,
+        at,
+        deeper(deeper(evals.depth)),
+        Expr::EvalQuote(at, trees),
+    )
 }
 
 /// `fetch(e)`
 pub fn fetched(alloc: Global, at: u32, e: Form<Expr>) -> Result<Form<Expr>, AllocError>
     ensures { IfOk result (λ r. r ≡ fetched at e) }
 {
-    let tree = SharedNode::new(alloc, e.tree)?;
-    Ok(made(at, deeper(e.depth), Expr::Fetch(at, tree)))
+    let tree = SharedNode::new(alloc, e.tree.take())?;
+    made(alloc, at, deeper(e.depth), Expr::Fetch(at, tree))
 }
 
 /// `print` and its pieces, or `println`.
@@ -338,7 +371,12 @@ pub fn printed(
     ensures { IfOk result (λ r. r ≡ printed at line pieces) }
 {
     let trees = pieces.trees.into_shared(alloc)?;
-    Ok(made(at, deeper(pieces.depth), Expr::Print(at, line, trees)))
+    made(
+        alloc,
+        at,
+        deeper(pieces.depth),
+        Expr::Print(at, line, trees),
+    )
 }
 
 /// The depth of something that stands so many levels below.
@@ -377,7 +415,7 @@ pub(crate) fn with_branch(
     } = branched;
     let inner = below(lowered, test.depth.max(deeper(ss.depth)));
     let block = ss.trees.into_shared(alloc)?;
-    let test = test.tree;
+    let test = test.tree.take();
     branches.push(Branch { at, test, block })?;
     Ok(Branched {
         branches,
@@ -391,7 +429,7 @@ pub(crate) fn iffed(alloc: Global, at: u32, branched: Branched) -> Result<Form<E
     ensures { IfOk result (λ r. r ≡ iffed at branched) }
 {
     let branches = branched.branches.into_shared(alloc)?;
-    Ok(made(at, branched.depth, Expr::If(at, branches)))
+    made(alloc, at, branched.depth, Expr::If(at, branches))
 }
 
 /// An `if` with `else`.
@@ -411,14 +449,19 @@ pub(crate) fn iffed_else(
     let inner = below(lowered.saturating_sub(2), deeper(ss.depth));
     let branches = branches.into_shared(alloc)?;
     let block = ss.trees.into_shared(alloc)?;
-    Ok(made(at, depth.max(inner), Expr::IfElse(at, branches, block)))
+    made(
+        alloc,
+        at,
+        depth.max(inner),
+        Expr::IfElse(at, branches, block),
+    )
 }
 
 /// The pieces of a `print`, and the text of a value.
 pub fn with_show(pieces: Forms<Piece>, e: Form<Expr>) -> Result<Forms<Piece>, AllocError>
     ensures { IfOk result (λ r. r ≡ with_show pieces e) }
 {
-    with(pieces, Piece::Show(e.tree), e.depth)
+    with(pieces, Piece::Show(e.tree.take()), e.depth)
 }
 
 /// The pieces of a `print`, and a text as it stands.
@@ -432,5 +475,5 @@ pub fn with_text(pieces: Forms<Piece>, at: u32, text: Bytes) -> Result<Forms<Pie
 pub fn with_expr(es: Forms<Expr>, e: Form<Expr>) -> Result<Forms<Expr>, AllocError>
     ensures { IfOk result (λ r. r ≡ with_expr es e) }
 {
-    with(es, e.tree, e.depth)
+    with(es, e.tree.take(), e.depth)
 }

@@ -5,6 +5,7 @@ ghost use Rattle.jl_grammar.specs.Levels.{no_levels, led, fresh, into, at_levels
 
 use crate::forms::{choose, eval_expr, eval_method, infixed, prefixed, spawned};
 use crate::made::short;
+use jl_grammar::held::Held;
 use jl_grammar::owned::Owned;
 use jl_grammar::state::{Form, Lead, Left, Levels, Outer, Pending, PrefixAt};
 use jl_grammar::tree::{Expr, Infix};
@@ -16,11 +17,11 @@ pub(crate) fn no_levels(alloc: Global) -> Levels
     ensures { result ≡ no_levels }
 {
     Levels {
-        or: None,
-        and: None,
-        comparison: None,
-        sum: None,
-        term: None,
+        or: Held::new(None),
+        and: Held::new(None),
+        comparison: Held::new(None),
+        sum: Held::new(None),
+        term: Held::new(None),
         prefixes: Stack::new(alloc),
     }
 }
@@ -53,11 +54,8 @@ pub fn into(
 ) -> Result<Pending, AllocError>
     ensures { IfOk result (λ p. p ≡ into form returns pending) }
 {
-    let Pending {
-        lead,
-        mut outer,
-        ..
-    } = pending;
+    let (lead, mut outer, levels, _) = pending.parts();
+    drop(levels);
     outer.push(form)?;
     Ok(Pending {
         lead,
@@ -71,12 +69,8 @@ pub fn into(
 pub fn at_levels(levels: Levels, pending: Pending) -> Pending
     ensures { result ≡ at_levels levels pending }
 {
-    let Pending {
-        lead,
-        outer,
-        returns,
-        ..
-    } = pending;
+    let (lead, outer, before, returns) = pending.parts();
+    drop(before);
     Pending {
         lead,
         outer,
@@ -89,12 +83,7 @@ pub fn at_levels(levels: Levels, pending: Pending) -> Pending
 pub fn apart(alloc: Global, pending: Pending) -> (Levels, Pending)
     ensures { result ≡ (pending.levels, at_levels no_levels pending) }
 {
-    let Pending {
-        lead,
-        outer,
-        levels,
-        returns,
-    } = pending;
+    let (lead, outer, levels, returns) = pending.parts();
     let rest = Pending {
         lead,
         outer,
@@ -123,12 +112,12 @@ fn all_prefixed(
 /// The operand with the left operand before it, if there is one.
 fn with_left(
     alloc: Global,
-    left: Option<Owned<Left>>,
+    left: Held<Option<Owned<Left>>>,
     e: Form<Expr>,
 ) -> Result<Form<Expr>, AllocError>
     ensures { IfOk result (λ r. r ≡ with_left left e) }
 {
-    match left {
+    match left.take() {
         None => Ok(e),
         Some(before) => {
             let Left { left, operator } = before.take();
@@ -140,13 +129,13 @@ fn with_left(
 /// The same with the left operand of this operator.
 fn with_operand(
     alloc: Global,
-    left: Option<Owned<Form<Expr>>>,
+    left: Held<Option<Owned<Form<Expr>>>>,
     operator: Infix,
     e: Form<Expr>,
 ) -> Result<Form<Expr>, AllocError>
     ensures { IfOk result (λ r. r ≡ with_operand left operator e) }
 {
-    match left {
+    match left.take() {
         None => Ok(e),
         Some(left) => infixed(alloc, left.take(), operator, e),
     }
@@ -155,7 +144,7 @@ fn with_operand(
 /// The operand as a term.
 fn term_of(
     alloc: Global,
-    term: Option<Owned<Left>>,
+    term: Held<Option<Owned<Left>>>,
     prefixes: Stack<PrefixAt>,
     e: Form<Expr>,
 ) -> Result<Form<Expr>, AllocError>
@@ -168,8 +157,8 @@ fn term_of(
 /// The operand as a sum.
 fn sum_of(
     alloc: Global,
-    sum: Option<Owned<Left>>,
-    term: Option<Owned<Left>>,
+    sum: Held<Option<Owned<Left>>>,
+    term: Held<Option<Owned<Left>>>,
     prefixes: Stack<PrefixAt>,
     e: Form<Expr>,
 ) -> Result<Form<Expr>, AllocError>
@@ -180,15 +169,19 @@ fn sum_of(
 }
 
 /// The levels of a comparison behind these.
-fn above(alloc: Global, or: Option<Owned<Form<Expr>>>, and: Option<Owned<Form<Expr>>>) -> Levels
+fn above(
+    alloc: Global,
+    or: Held<Option<Owned<Form<Expr>>>>,
+    and: Held<Option<Owned<Form<Expr>>>>,
+) -> Levels
     ensures { result ≡ behind_type (record { or = or; and = and; comparison = None; sum = None; term = None; prefixes = [] }) }
 {
     Levels {
         or,
         and,
-        comparison: None,
-        sum: None,
-        term: None,
+        comparison: Held::new(None),
+        sum: Held::new(None),
+        term: Held::new(None),
         prefixes: Stack::new(alloc),
     }
 }
@@ -298,6 +291,19 @@ fn all_ended(alloc: Global, outer: Stack<Outer>, e: Form<Expr>) -> Result<Form<E
     Ok(ending)
 }
 
+/// A comparison as the whole expression that ends with it.
+fn whole_of(
+    alloc: Global,
+    outer: Stack<Outer>,
+    levels: Levels,
+    e: Form<Expr>,
+) -> Result<Form<Expr>, AllocError>
+    ensures { IfOk result (λ r. r ≡ all_ended outer (as_or levels e)) }
+{
+    let e = as_or(alloc, levels, e)?;
+    all_ended(alloc, outer, e)
+}
+
 /// A comparison as the whole expression that ends with it, behind what the statement begins with.
 pub fn expression(
     alloc: Global,
@@ -306,14 +312,14 @@ pub fn expression(
 ) -> Result<(Lead, Form<Expr>), AllocError>
     ensures { IfOk result (λ r. r ≡ (pending.lead, expression pending e)) }
 {
-    let Pending {
-        lead,
-        outer,
-        levels,
-        ..
-    } = pending;
-    let e = as_or(alloc, levels, e)?;
-    Ok((lead, all_ended(alloc, outer, e)?))
+    let (lead, outer, levels, _) = pending.parts();
+    match whole_of(alloc, outer, levels, e) {
+        Ok(e) => Ok((lead, e)),
+        Err(error) => {
+            drop(lead);
+            Err(error)
+        }
+    }
 }
 
 /// The levels behind an operator before an operand.
@@ -363,7 +369,7 @@ pub fn behind_term(
         and,
         comparison,
         sum,
-        term: Some(term),
+        term: Held::new(Some(term)),
         prefixes: Stack::new(alloc),
     })
 }
@@ -391,8 +397,8 @@ pub fn behind_sum(
         or,
         and,
         comparison,
-        sum: Some(sum),
-        term: None,
+        sum: Held::new(Some(sum)),
+        term: Held::new(None),
         prefixes: Stack::new(alloc),
     })
 }
@@ -419,9 +425,9 @@ pub fn behind_comparison(
     Ok(Levels {
         or,
         and,
-        comparison: Some(comparison),
-        sum: None,
-        term: None,
+        comparison: Held::new(Some(comparison)),
+        sum: Held::new(None),
+        term: Held::new(None),
         prefixes: Stack::new(alloc),
     })
 }
@@ -435,10 +441,10 @@ pub fn behind_and(alloc: Global, levels: Levels, e: Form<Expr>) -> Result<Levels
     let and = Owned::new(alloc, left)?;
     Ok(Levels {
         or,
-        and: Some(and),
-        comparison: None,
-        sum: None,
-        term: None,
+        and: Held::new(Some(and)),
+        comparison: Held::new(None),
+        sum: Held::new(None),
+        term: Held::new(None),
         prefixes: Stack::new(alloc),
     })
 }
@@ -450,20 +456,20 @@ pub fn behind_or(alloc: Global, levels: Levels, e: Form<Expr>) -> Result<Levels,
     let left = as_or(alloc, levels, e)?;
     let or = Owned::new(alloc, left)?;
     Ok(Levels {
-        or: Some(or),
-        and: None,
-        comparison: None,
-        sum: None,
-        term: None,
+        or: Held::new(Some(or)),
+        and: Held::new(None),
+        comparison: Held::new(None),
+        sum: Held::new(None),
+        term: Held::new(None),
         prefixes: Stack::new(alloc),
     })
 }
 
 /// Whether no left operand stands there.
-fn no_left(left: &Option<Owned<Left>>) -> bool
+fn no_left(left: &Held<Option<Owned<Left>>>) -> bool
     ensures { result ≡ no_left left.now }
 {
-    left.is_none()
+    left.get().is_none()
 }
 
 /// Whether no comparison has begun.

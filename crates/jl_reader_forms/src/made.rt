@@ -4,6 +4,7 @@ ghost use Rattle.std.specs.Prelude.{◌≡◌, IfOk, None, Some, cond, nat_lt};
 ghost use Rattle.jl_grammar.specs.Forms.{head, long, short, typed_param, header, abstracted, structured, method_item, bound_item, done_item, first_place, with_item};
 
 use crate::forms::deeper;
+use jl_grammar::owned::Owned;
 use jl_grammar::state::{Form, Forms, ItemsRead, TypeForm, VarsForm};
 use jl_grammar::tree::{
     Abstract, Callee, Expr, Field, Head, Header, Item, Method, Name, Param, Stmt, Struct,
@@ -31,6 +32,7 @@ pub fn head(
         params,
         vars,
     };
+    let tree = Owned::new(alloc, tree)?;
     Ok(Form { tree, at, depth })
 }
 
@@ -45,7 +47,8 @@ pub(crate) fn long(
     let depth = deeper(head.depth.max(deeper(ss.depth)));
     let at = head.at;
     let block = ss.trees.into_shared(alloc)?;
-    let tree = Method::Long(at, head.tree, block);
+    let tree = Method::Long(at, head.tree.take(), block);
+    let tree = Owned::new(alloc, tree)?;
     Ok(Form { tree, at, depth })
 }
 
@@ -59,8 +62,9 @@ pub(crate) fn short(
 {
     let depth = deeper(head.depth.max(e.depth));
     let at = head.at;
-    let body = SharedNode::new(alloc, e.tree)?;
-    let tree = Method::Short(at, head.tree, body);
+    let body = SharedNode::new(alloc, e.tree.take())?;
+    let tree = Method::Short(at, head.tree.take(), body);
+    let tree = Owned::new(alloc, tree)?;
     Ok(Form { tree, at, depth })
 }
 
@@ -69,21 +73,27 @@ pub fn typed_param(name: Option<Name>, at: u32, ty: TypeForm) -> Param
     ensures { result ≡ typed_param name at ty }
 {
     match name {
-        Some(name) => Param::Typed(name, ty.tree),
-        None => Param::Unnamed(at, ty.tree),
+        Some(name) => Param::Typed(name, ty.tree.take()),
+        None => Param::Unnamed(at, ty.tree.take()),
     }
 }
 
 /// The head of a declaration.
-pub fn header(at: u32, name: Name, vars: VarsForm, parent: Option<TypeForm>) -> Form<Header>
-    ensures { result ≡ header at name vars parent }
+pub fn header(
+    alloc: Global,
+    at: u32,
+    name: Name,
+    vars: VarsForm,
+    parent: Option<TypeForm>,
+) -> Result<Form<Header>, AllocError>
+    ensures { IfOk result (λ r. r ≡ header at name vars parent) }
 {
     let VarsForm {
         vars: params,
         depth,
     } = vars;
     let (parent, depth) = match parent {
-        Some(ty) => (Some(ty.tree), depth.max(ty.depth)),
+        Some(ty) => (Some(ty.tree.take()), depth.max(ty.depth)),
         None => (None, depth),
     };
     let tree = Header {
@@ -92,21 +102,24 @@ pub fn header(at: u32, name: Name, vars: VarsForm, parent: Option<TypeForm>) -> 
         params,
         parent,
     };
-    Form { tree, at, depth }
+    let tree = Owned::new(alloc, tree)?;
+    Ok(Form { tree, at, depth })
 }
 
 /// The declaration of an abstract type.
-pub fn abstracted(header: Form<Header>) -> Form<Item>
-    ensures { result ≡ abstracted header }
+pub fn abstracted(alloc: Global, header: Form<Header>) -> Result<Form<Item>, AllocError>
+    ensures { IfOk result (λ r. r ≡ abstracted header) }
 {
     let Form {
         tree: header,
         at,
         depth,
     } = header;
+    let header = header.take();
     let tree = Item::Abstract(Abstract { header });
     let depth = deeper(depth);
-    Form { tree, at, depth }
+    let tree = Owned::new(alloc, tree)?;
+    Ok(Form { tree, at, depth })
 }
 
 /// The declaration of a struct.
@@ -119,38 +132,42 @@ pub fn structured(
 {
     let depth = deeper(header.depth.max(fields.depth));
     let at = header.at;
-    let header = header.tree;
+    let header = header.tree.take();
     let fields = fields.trees.into_shared(alloc)?;
     let tree = Item::Struct(Struct { header, fields });
+    let tree = Owned::new(alloc, tree)?;
     Ok(Form { tree, at, depth })
 }
 
 /// A method as an item.
-pub fn method_item(method: Form<Method>) -> Form<Item>
-    ensures { result ≡ method_item method }
+pub fn method_item(alloc: Global, method: Form<Method>) -> Result<Form<Item>, AllocError>
+    ensures { IfOk result (λ r. r ≡ method_item method) }
 {
     let Form { tree, at, depth } = method;
-    let tree = Item::Method(tree);
-    Form { tree, at, depth }
+    let tree = Item::Method(tree.take());
+    let tree = Owned::new(alloc, tree)?;
+    Ok(Form { tree, at, depth })
 }
 
 /// A binding as an item.
-pub(crate) fn bound_item(name: Name, e: Form<Expr>) -> Form<Item>
-    ensures { result ≡ bound_item name e }
+pub(crate) fn bound_item(alloc: Global, name: Name, e: Form<Expr>) -> Result<Form<Item>, AllocError>
+    ensures { IfOk result (λ r. r ≡ bound_item name e) }
 {
     let at = name.at;
     let depth = e.depth;
-    let tree = Item::Bind(name, e.tree);
-    Form { tree, at, depth }
+    let tree = Item::Bind(name, e.tree.take());
+    let tree = Owned::new(alloc, tree)?;
+    Ok(Form { tree, at, depth })
 }
 
 /// An expression as an item.
-pub(crate) fn done_item(e: Form<Expr>) -> Form<Item>
-    ensures { result ≡ done_item e }
+pub(crate) fn done_item(alloc: Global, e: Form<Expr>) -> Result<Form<Item>, AllocError>
+    ensures { IfOk result (λ r. r ≡ done_item e) }
 {
     let Form { tree, at, depth } = e;
-    let tree = Item::Do(tree);
-    Form { tree, at, depth }
+    let tree = Item::Do(tree.take());
+    let tree = Owned::new(alloc, tree)?;
+    Ok(Form { tree, at, depth })
 }
 
 /// The place of the first item that is too deep, where this one comes behind.
@@ -173,7 +190,7 @@ pub fn with_item(script: ItemsRead, item: Form<Item>) -> Result<ItemsRead, Alloc
         too_deep,
     } = script;
     let Form { tree, at, depth } = item;
-    items.push(tree)?;
+    items.push(tree.take())?;
     Ok(ItemsRead {
         items,
         too_deep: first_deep(too_deep, at, depth),

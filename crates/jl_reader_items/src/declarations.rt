@@ -106,6 +106,7 @@ fn struct_ends(
 
 /// A token behind the head of an abstract type.
 fn abstract_ends(
+    alloc: Global,
     sign: &Sign,
     header: Form<Header>,
     stack: Stack<Frame>,
@@ -114,7 +115,10 @@ fn abstract_ends(
     ensures { IfOk result (λ s. s ≡ abstract_ends sign.now header stack script) }
 {
     match sign {
-        Sign::Word(Word::End) => at(Point::Made(abstracted(header)), stack, script),
+        Sign::Word(Word::End) => {
+            let item = abstracted(alloc, header)?;
+            at(Point::Made(item), stack, script)
+        }
         _ => {
             drop(header);
             Ok(None)
@@ -136,7 +140,7 @@ fn header_as(
     if is_struct {
         return struct_ends(alloc, sign, header, stack, script);
     }
-    abstract_ends(sign, header, stack, script)
+    abstract_ends(alloc, sign, header, stack, script)
 }
 
 /// A token behind the name, the parameters and the supertype.
@@ -156,7 +160,7 @@ pub(crate) fn header_ends(
         name,
         params,
     } = declaring;
-    let header = header(at, name, params, parent);
+    let header = header(alloc, at, name, params, parent)?;
     header_as(alloc, is_struct, sign, header, stack, script)
 }
 
@@ -385,6 +389,7 @@ pub fn at_made(
 
 /// A separator behind the `end` of a method.
 fn method_made(
+    alloc: Global,
     method: Form<Method>,
     mut stack: Stack<Frame>,
     script: ItemsRead,
@@ -393,7 +398,8 @@ fn method_made(
 {
     match stack.pop() {
         None => {
-            let script = with_item(script, method_item(method))?;
+            let item = method_item(alloc, method)?;
+            let script = with_item(script, item)?;
             at(Point::Entry, stack, script)
         }
         Some(Frame::Evals(kind, evals)) => match with_method(evals, method) {
@@ -442,6 +448,7 @@ fn method_ends(
 
 /// The source's end behind the `end` of a method.
 fn method_finishes(
+    alloc: Global,
     method: Form<Method>,
     stack: Stack<Frame>,
     script: ItemsRead,
@@ -449,7 +456,8 @@ fn method_finishes(
     ensures { IfOk result (λ s. s ≡ method_finishes method stack script) }
 {
     if stack.is_empty() {
-        let script = with_item(script, method_item(method))?;
+        let item = method_item(alloc, method)?;
+        let script = with_item(script, item)?;
         return at(Point::Entry, stack, script);
     }
     drop(method);
@@ -467,10 +475,10 @@ pub fn at_made_method(
     ensures { IfOk result (λ s. s ≡ at_made_method sign.now method stack script) }
 {
     match sign {
-        Sign::Newline => method_made(method, stack, script),
-        Sign::Operator(Operator::Semicolon) => method_made(method, stack, script),
+        Sign::Newline => method_made(alloc, method, stack, script),
+        Sign::Operator(Operator::Semicolon) => method_made(alloc, method, stack, script),
         Sign::Word(Word::End) => method_ends(alloc, method, stack, script),
-        Sign::End => method_finishes(method, stack, script),
+        Sign::End => method_finishes(alloc, method, stack, script),
         _ => {
             drop(method);
             Ok(None)

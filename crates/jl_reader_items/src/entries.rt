@@ -24,7 +24,7 @@ use jl_reader_forms::blocks::{
 };
 use jl_reader_forms::forms::with;
 use jl_reader_forms::levels::{fresh, led};
-use jl_reader_operands::operands::{begins, begins_operator, begins_word};
+use jl_reader_operands::operands::{begins, begins_operator, begins_word, names};
 use jl_token::token::Operator;
 use jl_typeread::sign::{Sign, Word};
 use std::alloc::{AllocError, Global};
@@ -87,15 +87,7 @@ fn item_begins(
         return at(Point::Bound(placed(place, name)), stack, script);
     }
     let pending = fresh(alloc, false);
-    begins(
-        alloc,
-        &Sign::Name(name),
-        marks,
-        place,
-        pending,
-        stack,
-        script,
-    )
+    names(alloc, marks, name, place, pending, stack, script)
 }
 
 /// The name that a statement begins with.
@@ -115,15 +107,7 @@ fn stmt_begins(
         return at(Point::Bound(placed(place, name)), stack, script);
     }
     let pending = fresh(alloc, returns);
-    begins(
-        alloc,
-        &Sign::Name(name),
-        marks,
-        place,
-        pending,
-        stack,
-        script,
-    )
+    names(alloc, marks, name, place, pending, stack, script)
 }
 
 /// The name that an evaluated statement begins with.
@@ -142,15 +126,7 @@ fn eval_begins(
         return head_begins(name, place, stack, script);
     }
     let pending = fresh(alloc, false);
-    begins(
-        alloc,
-        &Sign::Name(name),
-        marks,
-        place,
-        pending,
-        stack,
-        script,
-    )
+    names(alloc, marks, name, place, pending, stack, script)
 }
 
 /// The name that an entry begins with.

@@ -14,7 +14,7 @@ use jl_model::ty::Bytes;
 use jl_reader_forms::blocks::{at, inside, placed};
 use jl_reader_forms::forms::none;
 use jl_reader_forms::levels::{apart, fresh, into};
-use jl_reader_operands::operands::{begins, begins_word};
+use jl_reader_operands::operands::{begins, begins_word, names};
 use jl_token::token::Operator;
 use jl_typeread::sign::{Sign, Word};
 use std::alloc::{AllocError, Global};
@@ -59,15 +59,7 @@ fn evaluates(
         return at(point, stack, script);
     }
     let pending = evaluating(alloc, pending, place)?;
-    begins(
-        alloc,
-        &Sign::Name(name),
-        marks,
-        next,
-        pending,
-        stack,
-        script,
-    )
+    names(alloc, marks, name, next, pending, stack, script)
 }
 
 /// A reserved word behind `@eval`.

@@ -99,7 +99,7 @@ fn field_typed(
     ensures { IfOk result (λ s. s ≡ field_ends sign.now (with_field fielding name (Some ty.tree) ty.depth) stack script) }
 {
     let TypeForm { tree, depth } = ty;
-    let fielding = with_field(fielding, name, Some(tree), depth)?;
+    let fielding = with_field(fielding, name, Some(tree.take()), depth)?;
     field_ends(alloc, sign, fielding, stack, script)
 }
 
@@ -127,15 +127,8 @@ fn type_ends(
         }
         Goal::Left(pending, place) => left_ends(alloc, sign, pending, place, ty, stack, script),
         Goal::Right(pending, place, left) => {
-            compared(
-                alloc,
-                sign,
-                next,
-                pending,
-                sub(place, left, ty),
-                stack,
-                script,
-            )
+            let e = sub(alloc, place, left, ty)?;
+            compared(alloc, sign, next, pending, e, stack, script)
         }
         Goal::Make(pending, place) => make_opens(alloc, sign, pending, place, ty, stack, script),
         Goal::Param(heading, name, place) => {
@@ -162,7 +155,13 @@ pub fn type_goes(
 {
     match turn {
         Turn::Goes(state) => at(Point::Type(goal, state), stack, script),
-        Turn::Type(ty) => type_ends(alloc, sign, next, goal, type_form(ty), stack, script),
+        Turn::Type(ty) => match type_form(alloc, ty) {
+            Ok(ty) => type_ends(alloc, sign, next, goal, ty, stack, script),
+            Err(error) => {
+                drop(goal);
+                Err(error)
+            }
+        },
         turn => {
             drop(turn);
             drop(goal);

@@ -30,7 +30,10 @@ fn item_ends(
 {
     match item {
         None => Ok(None),
-        Some(item) => at(Point::Entry, Stack::new(alloc), with_item(script, item)?),
+        Some(item) => {
+            let script = with_item(script, item)?;
+            at(Point::Entry, Stack::new(alloc), script)
+        }
     }
 }
 

@@ -1,6 +1,7 @@
 //! A token where an operand must stand.
 
 ghost use Rattle.std.specs.Prelude.{◌≡◌, ◌∷◌, IfOk, bytes_eq, codes};
+ghost use Rattle.jl_grammar.specs.Forms.{name, truth, nothing, number};
 ghost use Rattle.jl_grammar.specs.Levels.{leads};
 ghost use Rattle.jl_grammar.specs.Texts.{is_sub, begins_type};
 ghost use Rattle.jl_grammar.specs.Turns.{at, type_turn, type_begins, opens, names, brackets, prefixes, begins_operator, begins_word, macros, begins};
@@ -76,6 +77,21 @@ fn due(
     at(Point::Due(pending, place, due), stack, script)
 }
 
+/// A name is an operand.
+fn name_alone(
+    alloc: Global,
+    bytes: Bytes,
+    place: u32,
+    pending: Pending,
+    stack: Stack<Frame>,
+    script: ItemsRead,
+) -> Result<Option<State>, AllocError>
+    ensures { IfOk result (λ s. s ≡ at (Point.Have pending (name place bytes)) stack script) }
+{
+    let e = name(alloc, place, bytes)?;
+    at(Point::Have(pending, e), stack, script)
+}
+
 /// A name begins an operand.
 fn opens(
     alloc: Global,
@@ -89,8 +105,8 @@ fn opens(
     ensures { IfOk result (λ s. s ≡ opens opening bytes place pending stack script) }
 {
     match opening {
-        Opening::Plain => at(Point::Have(pending, name(place, bytes)), stack, script),
-        Opening::Binding => at(Point::Have(pending, name(place, bytes)), stack, script),
+        Opening::Plain => name_alone(alloc, bytes, place, pending, stack, script),
+        Opening::Binding => name_alone(alloc, bytes, place, pending, stack, script),
         Opening::Call => {
             let purpose = Purpose::Call(pending, place);
             at(Point::Named(purpose, placed(place, bytes)), stack, script)
@@ -122,7 +138,7 @@ fn begins_type(pending: &Pending, ahead: Ahead) -> bool
 }
 
 /// A name begins an operand, or the left type of a comparison.
-fn names(
+pub fn names(
     alloc: Global,
     marks: Marks,
     bytes: Bytes,
@@ -228,6 +244,35 @@ fn blocks(
     inside(Point::Entry, Frame::Block(kind, none(alloc)), stack, script)
 }
 
+/// `true` or `false` is an operand.
+fn truths(
+    alloc: Global,
+    value: bool,
+    place: u32,
+    pending: Pending,
+    stack: Stack<Frame>,
+    script: ItemsRead,
+) -> Result<Option<State>, AllocError>
+    ensures { IfOk result (λ s. s ≡ at (Point.Have pending (truth place value)) stack script) }
+{
+    let e = truth(alloc, place, value)?;
+    at(Point::Have(pending, e), stack, script)
+}
+
+/// `nothing` is an operand.
+fn nothings(
+    alloc: Global,
+    place: u32,
+    pending: Pending,
+    stack: Stack<Frame>,
+    script: ItemsRead,
+) -> Result<Option<State>, AllocError>
+    ensures { IfOk result (λ s. s ≡ at (Point.Have pending (nothing place)) stack script) }
+{
+    let e = nothing(alloc, place)?;
+    at(Point::Have(pending, e), stack, script)
+}
+
 /// A reserved word begins an operand.
 pub fn begins_word(
     alloc: Global,
@@ -240,9 +285,9 @@ pub fn begins_word(
     ensures { IfOk result (λ s. s ≡ begins_word word place pending stack script) }
 {
     match word {
-        Word::True => at(Point::Have(pending, truth(place, true)), stack, script),
-        Word::False => at(Point::Have(pending, truth(place, false)), stack, script),
-        Word::Nothing => at(Point::Have(pending, nothing(place)), stack, script),
+        Word::True => truths(alloc, true, place, pending, stack, script),
+        Word::False => truths(alloc, false, place, pending, stack, script),
+        Word::Nothing => nothings(alloc, place, pending, stack, script),
         Word::If => tests(alloc, place, pending, stack, script),
         Word::Begin => blocks(alloc, place, pending, stack, script),
         _ => {
@@ -269,6 +314,21 @@ fn macros(
     Ok(None)
 }
 
+/// A number is an operand.
+fn numbers(
+    alloc: Global,
+    value: i64,
+    place: u32,
+    pending: Pending,
+    stack: Stack<Frame>,
+    script: ItemsRead,
+) -> Result<Option<State>, AllocError>
+    ensures { IfOk result (λ s. s ≡ at (Point.Have pending (number place value)) stack script) }
+{
+    let e = number(alloc, place, value)?;
+    at(Point::Have(pending, e), stack, script)
+}
+
 /// An operand begins.
 pub fn begins(
     alloc: Global,
@@ -283,7 +343,7 @@ pub fn begins(
 {
     match sign {
         Sign::Name(bytes) => names(alloc, marks, bytes.copy()?, place, pending, stack, script),
-        Sign::Number(value) => at(Point::Have(pending, number(place, *value)), stack, script),
+        Sign::Number(value) => numbers(alloc, *value, place, pending, stack, script),
         Sign::Word(word) => begins_word(alloc, *word, place, pending, stack, script),
         Sign::Operator(operator) => {
             begins_operator(alloc, *operator, marks.ahead, place, pending, stack, script)

@@ -19,7 +19,7 @@ pub enum Deep<T> {
 }
 
 /// A mark before an argument, and its place.
-#[derive(Clone, Copy, PartialEq, Eq, Debug)]
+#[derive(Clone, Copy)]
 pub enum Mark {
     /// No mark.
     Exact,
@@ -69,12 +69,18 @@ pub(crate) fn with_argument(
 ) -> Result<Deep<Row<ArgText>>, AllocError>
     ensures { IfOk result (λ d. d ≡ with_argument arguments mark ty) }
 {
-    match (arguments, ty) {
-        (Deep::Built(mut items, depth), Deep::Built(ty, other)) => {
-            items.push(argument(mark, ty))?;
-            Ok(Deep::Built(items, depth.max(other)))
+    match arguments {
+        Deep::Built(mut items, depth) => match ty {
+            Deep::Built(ty, other) => {
+                items.push(argument(mark, ty))?;
+                Ok(Deep::Built(items, depth.max(other)))
+            }
+            Deep::TooDeep => Ok(Deep::TooDeep),
+        },
+        Deep::TooDeep => {
+            drop(ty);
+            Ok(Deep::TooDeep)
         }
-        _ => Ok(Deep::TooDeep),
     }
 }
 
@@ -85,12 +91,18 @@ pub(crate) fn with_variable(
 ) -> Result<Deep<Row<VarText>>, AllocError>
     ensures { IfOk result (λ d. d ≡ with_variable variables variable) }
 {
-    match (variables, variable) {
-        (Deep::Built(mut items, depth), Deep::Built(variable, other)) => {
-            items.push(variable)?;
-            Ok(Deep::Built(items, depth.max(other)))
+    match variables {
+        Deep::Built(mut items, depth) => match variable {
+            Deep::Built(variable, other) => {
+                items.push(variable)?;
+                Ok(Deep::Built(items, depth.max(other)))
+            }
+            Deep::TooDeep => Ok(Deep::TooDeep),
+        },
+        Deep::TooDeep => {
+            drop(variable);
+            Ok(Deep::TooDeep)
         }
-        _ => Ok(Deep::TooDeep),
     }
 }
 
@@ -108,7 +120,10 @@ pub(crate) fn applied(
             let arguments = items.into_shared(alloc)?;
             Ok(Deep::Built(TypeText::Applied(at, name, arguments), depth + 1))
         }
-        _ => Ok(Deep::TooDeep),
+        arguments => {
+            drop(arguments);
+            Ok(Deep::TooDeep)
+        }
     }
 }
 
@@ -121,17 +136,27 @@ pub(crate) fn paren(
 ) -> Result<Deep<TypeText>, AllocError>
     ensures { IfOk result (λ d. d ≡ paren at ty variables) }
 {
-    match (ty, variables) {
-        (Deep::Built(ty, depth), Deep::Built(items, other)) => {
-            let depth = depth.max(other);
-            if depth >= MOST_TYPE_DEPTH {
-                return Ok(Deep::TooDeep);
+    match ty {
+        Deep::Built(ty, depth) => match variables {
+            Deep::Built(items, other) => {
+                let depth = depth.max(other);
+                if depth >= MOST_TYPE_DEPTH {
+                    drop(ty);
+                    return Ok(Deep::TooDeep);
+                }
+                let ty = SharedNode::new(alloc, ty)?;
+                let variables = items.into_shared(alloc)?;
+                Ok(Deep::Built(TypeText::Paren(at, ty, variables), depth + 1))
             }
-            let ty = SharedNode::new(alloc, ty)?;
-            let variables = items.into_shared(alloc)?;
-            Ok(Deep::Built(TypeText::Paren(at, ty, variables), depth + 1))
+            Deep::TooDeep => {
+                drop(ty);
+                Ok(Deep::TooDeep)
+            }
+        },
+        Deep::TooDeep => {
+            drop(variables);
+            Ok(Deep::TooDeep)
         }
-        _ => Ok(Deep::TooDeep),
     }
 }
 
@@ -164,10 +189,19 @@ pub(crate) fn between_bound(
 ) -> Deep<VarText>
     ensures { result ≡ between_bound low at name high }
 {
-    match (low, high) {
-        (Deep::Built(low, depth), Deep::Built(high, other)) => {
-            Deep::Built(VarText::Between(low, at, name, high), depth.max(other))
+    match low {
+        Deep::Built(low, depth) => match high {
+            Deep::Built(high, other) => {
+                Deep::Built(VarText::Between(low, at, name, high), depth.max(other))
+            }
+            Deep::TooDeep => {
+                drop(low);
+                Deep::TooDeep
+            }
+        },
+        Deep::TooDeep => {
+            drop(high);
+            Deep::TooDeep
         }
-        _ => Deep::TooDeep,
     }
 }

@@ -26,8 +26,13 @@ pub(crate) fn inside(
 ) -> Result<Turn, AllocError>
     ensures { IfOk result (λ t. t ≡ at point (frame ∷ stack)) }
 {
-    stack.push(frame)?;
-    at(point, stack)
+    match stack.push(frame) {
+        Ok(()) => at(point, stack),
+        Err(error) => {
+            drop(point);
+            Err(error.into())
+        }
+    }
 }
 
 /// A type that was read, as a tree.

@@ -20,10 +20,16 @@ use std::alloc::{AllocError, Global};
 use std::mem;
 
 /// A reading, and how many brackets are open.
-#[derive(Drop)]
 struct Reader {
     state: State,
     depth: usize,
+}
+
+impl Drop for Reader {
+    fn drop(self) {
+        let Reader { state, depth: _ } = self;
+        drop(state);
+    }
 }
 
 /// How many brackets are open behind a token.
@@ -58,7 +64,7 @@ fn take(alloc: Global, reader: &mut Reader, lexeme: &Lexeme) -> Result<Option<Tu
     if !is_passed(reader.depth, &lexeme.sign) {
         let state = mem::replace(&mut reader.state, type_start(alloc));
         match step(alloc, lexeme, state)? {
-            Turn::Goes(next) => reader.state = next,
+            Turn::Goes(next) => drop(mem::replace(&mut reader.state, next)),
             Turn::Type(ty) => return Ok(Some(Turn::Type(ty))),
             Turn::Variables(variables) => return Ok(Some(Turn::Variables(variables))),
             Turn::Wrong => return Ok(Some(Turn::Wrong)),
@@ -75,7 +81,10 @@ fn finished(turn: Turn, place: u32, next: usize) -> Result<(TypeText, usize), Ty
     match turn {
         Turn::Type(Deep::Built(ty, _)) => Ok((ty, next)),
         Turn::Type(Deep::TooDeep) => Err(TypeFault::TooDeep(next)),
-        _ => Err(TypeFault::BadType(place)),
+        turn => {
+            drop(turn);
+            Err(TypeFault::BadType(place))
+        }
     }
 }
 

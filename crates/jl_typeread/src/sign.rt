@@ -8,7 +8,7 @@ use jl_token::token::{Operator, Token, TokenKind};
 use std::alloc::AllocError;
 
 /// The reserved words. `Unruled` stands for those that have no rule in the grammar.
-#[derive(Clone, Copy, PartialEq, Eq, Debug)]
+#[derive(Clone, Copy)]
 pub enum Word {
     Abstract,
     Struct,
@@ -29,7 +29,7 @@ pub enum Word {
 }
 
 /// What the grammars see of a token.
-#[derive(Drop, PartialEq, Eq)]
+#[derive(Drop)]
 pub enum Sign {
     /// A name that is no reserved word.
     Name(Bytes),
@@ -50,10 +50,16 @@ pub enum Sign {
 }
 
 /// A token's sign, and its offset in bytes.
-#[derive(Drop, PartialEq, Eq)]
 pub struct Lexeme {
     pub sign: Sign,
     pub at: u32,
+}
+
+impl Drop for Lexeme {
+    fn drop(self) {
+        let Lexeme { sign, at: _ } = self;
+        drop(sign);
+    }
 }
 
 /// The reserved words without a rule.

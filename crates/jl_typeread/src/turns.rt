@@ -28,7 +28,11 @@ fn marked(mark: Mark, mut stack: Stack<Frame>) -> Result<Turn, AllocError>
                 stack,
             )
         }
-        _ => Ok(Turn::Wrong),
+        Some(frame) => {
+            drop(frame);
+            Ok(Turn::Wrong)
+        }
+        None => Ok(Turn::Wrong),
     }
 }
 
@@ -52,7 +56,11 @@ fn closes_empty(alloc: Global, mut stack: Stack<Frame>) -> Result<Turn, AllocErr
             let ty = applied(alloc, place, name, arguments)?;
             at(Point::Have(Begun::Whole(ty)), stack)
         }
-        _ => Ok(Turn::Wrong),
+        Some(frame) => {
+            drop(frame);
+            Ok(Turn::Wrong)
+        }
+        None => Ok(Turn::Wrong),
     }
 }
 
@@ -77,7 +85,11 @@ fn over_in(
 {
     match frame {
         Frame::Variable(bound, Listed::One) => ended(alloc, variable(bound, begun), stack),
-        _ => Ok(Turn::Wrong),
+        frame => {
+            drop(frame);
+            drop(begun);
+            Ok(Turn::Wrong)
+        }
     }
 }
 

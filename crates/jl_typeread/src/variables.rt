@@ -22,7 +22,10 @@ pub(crate) fn variable(bound: Bound, begun: Begun) -> Option<Deep<VarText>>
     match bound {
         Bound::First => match begun {
             Begun::Plain(at, name) => Some(Deep::Built(VarText::Free(at, name), 0)),
-            Begun::Whole(_) => None,
+            Begun::Whole(ty) => {
+                drop(ty);
+                None
+            }
         },
         Bound::Below(at, name) => Some(below_bound(at, name, typed(begun))),
         Bound::Above(at, name) => Some(above_bound(at, name, typed(begun))),
@@ -46,7 +49,11 @@ pub(crate) fn ended(
             let variables = with_variable(no_variables(alloc), variable)?;
             Ok(Turn::Variables(variables))
         }
-        Some(_) => Ok(Turn::Wrong),
+        Some(frame) => {
+            drop(frame);
+            drop(variable);
+            Ok(Turn::Wrong)
+        }
     }
 }
 
@@ -60,7 +67,10 @@ pub(crate) fn closes_variables(
 {
     match variable {
         Some(variable) => at(Point::Closed(with_variable(variables, variable)?), stack),
-        None => Ok(Turn::Wrong),
+        None => {
+            drop(variables);
+            Ok(Turn::Wrong)
+        }
     }
 }
 
@@ -93,7 +103,10 @@ pub(crate) fn next_variable(
             let frame = Frame::Variable(Bound::First, Listed::Braces(variables));
             inside(Point::Variable, frame, stack)
         }
-        None => Ok(Turn::Wrong),
+        None => {
+            drop(variables);
+            Ok(Turn::Wrong)
+        }
     }
 }
 
@@ -125,12 +138,21 @@ pub(crate) fn closes_where(
     };
     match stack.pop() {
         None => ended(alloc, Some(variable), stack),
-        Some(Frame::Where(place, ty)) => {
-            let variables = with_variable(no_variables(alloc), variable)?;
-            let ty = paren(alloc, place, ty, variables)?;
-            at(Point::Have(Begun::Whole(ty)), stack)
+        Some(Frame::Where(place, ty)) => match with_variable(no_variables(alloc), variable) {
+            Ok(variables) => {
+                let ty = paren(alloc, place, ty, variables)?;
+                at(Point::Have(Begun::Whole(ty)), stack)
+            }
+            Err(error) => {
+                drop(ty);
+                Err(error)
+            }
+        },
+        Some(frame) => {
+            drop(frame);
+            drop(variable);
+            Ok(Turn::Wrong)
         }
-        Some(_) => Ok(Turn::Wrong),
     }
 }
 
@@ -180,8 +202,17 @@ pub(crate) fn at_low(
     ensures { IfOk result (λ t. t ≡ at_low lexeme.now.sign lexeme.now.at low stack) }
 {
     match &lexeme.sign {
-        Sign::Name(name) => at(Point::Named(low, lexeme.at, name.copy()?), stack),
-        _ => Ok(Turn::Wrong),
+        Sign::Name(name) => match name.copy() {
+            Ok(name) => at(Point::Named(low, lexeme.at, name), stack),
+            Err(error) => {
+                drop(low);
+                Err(error)
+            }
+        },
+        _ => {
+            drop(low);
+            Ok(Turn::Wrong)
+        }
     }
 }
 
@@ -195,11 +226,20 @@ pub(crate) fn bounds(
     ensures { IfOk result (λ t. t ≡ bounds low at name stack) }
 {
     match stack.pop() {
-        Some(Frame::Variable(_, listed)) => {
+        Some(Frame::Variable(before, listed)) => {
+            drop(before);
             let bound = Bound::Between(low, at, name);
             inside(Point::Want, Frame::Variable(bound, listed), stack)
         }
-        _ => Ok(Turn::Wrong),
+        Some(frame) => {
+            drop(frame);
+            drop(low);
+            Ok(Turn::Wrong)
+        }
+        None => {
+            drop(low);
+            Ok(Turn::Wrong)
+        }
     }
 }
 
@@ -215,7 +255,10 @@ pub(crate) fn at_named(
 {
     match sign {
         Sign::Operator(Operator::Subtype) => bounds(low, at, name, stack),
-        _ => Ok(Turn::Wrong),
+        _ => {
+            drop(low);
+            Ok(Turn::Wrong)
+        }
     }
 }
 
@@ -228,7 +271,11 @@ pub(crate) fn over_variables(
 {
     match stack.pop() {
         None => Ok(Turn::Variables(variables)),
-        Some(_) => Ok(Turn::Wrong),
+        Some(frame) => {
+            drop(frame);
+            drop(variables);
+            Ok(Turn::Wrong)
+        }
     }
 }
 
@@ -246,7 +293,11 @@ pub(crate) fn closes_closed(
             let ty = paren(alloc, place, ty, variables)?;
             at(Point::Have(Begun::Whole(ty)), stack)
         }
-        Some(_) => Ok(Turn::Wrong),
+        Some(frame) => {
+            drop(frame);
+            drop(variables);
+            Ok(Turn::Wrong)
+        }
     }
 }
 
