@@ -16,7 +16,10 @@ use Rattle.jl_model.specs.declared.ty.Ty.TheOpen.{Nominal}
 use Rattle.jl_model.specs.declared.ty.Ty.TheViews.{outs-Nominal}
 use Rattle.jl_program.specs.declared.fault.Fault.TheVariants.{DivideError}
 use Rattle.jl_program.specs.declared.tree.Expr.TheViews.{outs-Nothing}
-use Rattle.jl_calculus.specs.Host.{overflows, quotient, remainder, meanings, host_meaning}
+use Rattle.jl_program.specs.Prelude.{operation_of}
+use Rattle.jl_program.specs.declared.prelude.Operation.{Operation}
+use Rattle.jl_program.specs.declared.prelude.Operation.TheVariants as P
+use Rattle.jl_calculus.specs.Host.{overflows, quotient, remainder, meaning, meaning_if, host_meaning}
 use Rattle.jl_calculus.specs.Run.{Body, operation, code, code_of, body_of, number_of, operates}
 use Rattle.jl_calculus.specs.Simple.{is_simple, IsSimple, IsSimpleSite, is_plain_layer, is_plain}
 use Rattle.jl_program.specs.TypeOf.{type_of}
@@ -33,27 +36,34 @@ plain_cond : (b : Bool) (x y : Outcome) → IsPlainOutcome x → IsPlainOutcome 
 plain_cond true x y p q = p
 plain_cond false x y p q = q
 
-abbrev EachPlain : List Outcome → Type 0
-EachPlain [] = Unit {0}
-EachPlain (o ∷ os) = IsPlainOutcome o × EachPlain os
-
-plain_get : (os : List Outcome) (n : ℕ) (d : Outcome) → EachPlain os → IsPlainOutcome d → IsPlainOutcome (get_or os n d)
-plain_get [] n d h p = p
-plain_get (o ∷ os) zero d h p = h.0
-plain_get (o ∷ os) (suc n) d h p = plain_get os n d h.1 p
-
 plain_quotient : (a b : ℤ) → IsPlainOutcome (quotient a b)
 plain_quotient a b = plain_cond (int_eq b (pos 0)) _ _ tt (plain_cond (overflows a b) _ _ tt refl)
 
 plain_remainder : (a b : ℤ) → IsPlainOutcome (remainder a b)
 plain_remainder a b = plain_cond (int_eq b (pos 0)) _ _ tt refl
 
-plain_meanings : (a b : ℤ) → EachPlain (meanings a b)
-plain_meanings a b =
-    (refl, (refl, (refl, (plain_quotient a b, (plain_remainder a b, (refl, (refl, (refl, (refl, (refl, (refl, (refl, (refl, (refl, tt))))))))))))))
+plain_operation : (o : Operation) (a b : ℤ) → IsPlainOutcome (meaning o a b)
+plain_operation P.Add a b = refl
+plain_operation P.Subtract a b = refl
+plain_operation P.Multiply a b = refl
+plain_operation P.Divide a b = plain_quotient a b
+plain_operation P.Remainder a b = plain_remainder a b
+plain_operation P.Negate a b = refl
+plain_operation P.Equal a b = refl
+plain_operation P.NotEqual a b = refl
+plain_operation P.Less a b = refl
+plain_operation P.LessEqual a b = refl
+plain_operation P.Greater a b = refl
+plain_operation P.GreaterEqual a b = refl
+plain_operation P.Not a b = refl
+plain_operation P.EqualTruths a b = refl
+
+plain_if : (o : Option Operation) (a b : ℤ) → IsPlainOutcome (meaning_if o a b)
+plain_if None a b = tt
+plain_if (Some o) a b = plain_operation o a b
 
 plain_meaning : (n : ℕ) (a b : ℤ) → IsPlainOutcome (host_meaning n a b)
-plain_meaning n a b = plain_get (meanings a b) n (O.Error DivideError) (plain_meanings a b) tt
+plain_meaning n a b = plain_if (operation_of n) a b
 
 pub plain_operates : (n : ℕ) (vs : List Value) → IsPlainOutcome (operates n vs)
 plain_operates n vs = plain_meaning n (number_of (get_or vs 0 V.Nothing)) (number_of (get_or vs 1 V.Nothing))

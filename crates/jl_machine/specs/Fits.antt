@@ -1,5 +1,6 @@
 -- When a machine fits a dispatcher: all that it did and all that is left to do make a run of the calculus.
 use Rattle.std.specs.Prelude.{◌≡◌, ℕ, ◌+◌, ◌≤◌, ◌<◌, List, [], ◌∷◌, ◌++◌, length, Option, None}
+use Rattle.jl_program.specs.declared.prelude.TheConstants.{FIRST_WORLD}
 use Rattle.jl_program.specs.declared.value.Value.TheVariants as V
 use Rattle.jl_calculus.specs.declared.history.Event.{Event}
 use Rattle.jl_calculus.specs.declared.history.Outcome.{Outcome}
@@ -146,7 +147,7 @@ TurnSays P before now Done = IsEnded now
 pub record IsFresh (k : Knows) : Type 0 where
   pub own : k.own ≡ []
   pub looks : k.looks ≡ 0
-  pub world : 14 ≤ k.world
+  pub world : FIRST_WORLD ≤ k.world
   pub begun : 1 ≤ k.seen
 
 -- what a task did is a run, over every list of events that agrees; its items are learnt and in order, and its looks and
@@ -162,7 +163,7 @@ pub record IsRunOf (P : Program) (fuel : ℕ) (k : Knows) (r : Record) : Type 0 
 -- a machine that has done nothing yet
 pub record IsNew (P : Program) (most : ℕ) (m : Machine) : Type 0 where
   pub work : m.work ≡ Items P.top V.Nothing
-  pub now : m.task.now ≡ record { world = 14; room = open_calls; env = []; bindings = []; stack = []; out = [] }
+  pub now : m.task.now ≡ record { world = FIRST_WORLD; room = open_calls; env = []; bindings = []; stack = []; out = [] }
   pub fuel : m.task.fuel ≡ most
   pub trace : m.task.trace ≡ []
   pub calls : m.task.calls ≡ 0

@@ -1,5 +1,6 @@
 -- What a dispatcher means.
 use Rattle.std.specs.Prelude.{◌≡◌, ℕ, ◌+◌, ◌-◌, ◌<◌, ◌≤◌, List, [], ◌∷◌, ◌++◌, take}
+use Rattle.jl_program.specs.declared.prelude.TheConstants.{FIRST_WORLD}
 use Rattle.jl_model.specs.declared.ty.Ty.{Ty}
 use Rattle.jl_calculus.specs.declared.history.Event.{Event}
 use Rattle.jl_calculus.specs.declared.history.TraceItem.{TraceItem}
@@ -48,7 +49,7 @@ pub record Looked (before now : Knows) (w p : ℕ) : Type 0 where
   pub grew : Grew before now
   pub told : Told now (Look w p)
   pub length : now.seen ≡ p
-  pub low : 14 ≤ w
+  pub low : FIRST_WORLD ≤ w
   pub high : w ≤ now.world
   pub looks : now.looks ≡ before.looks + 1
   pub own : now.own ≡ before.own

@@ -1,5 +1,6 @@
 -- The points of a run at which only forms that have rules are left to do, and only plain values are there.
 use Rattle.std.specs.Prelude.{ℕ, ◌≡◌, ◌<◌, ◌≤◌, Bool, true, false, IsTrue, List, [], ◌∷◌, length}
+use Rattle.jl_program.specs.declared.prelude.TheConstants.{PRELUDE_SITES}
 use Rattle.jl_program.specs.declared.value.Value.{Value}
 use Rattle.jl_program.specs.declared.value.Value.TheVariants as V
 use Rattle.jl_machine.specs.declared.point.Frame.{Frame}
@@ -31,7 +32,7 @@ module _ (sites : ℕ) where
   IsPlainWork (Give v) = IsTrue (is_plain_value v)
   IsPlainWork (Calling f vs) = Every is_plain_value vs
   IsPlainWork (Items xs v) = Every (is_simple_item sites) xs × IsTrue (is_plain_value v)
-  IsPlainWork (Defining site xs) = (14 ≤ site) × (site < sites) × Every (is_simple_item sites) xs
+  IsPlainWork (Defining site xs) = (PRELUDE_SITES ≤ site) × (site < sites) × Every (is_simple_item sites) xs
   IsPlainWork (Pieces text ps line) = Every (is_simple_piece sites) ps
   IsPlainWork (Ended o) = Unit {0}
   IsPlainWork Lost = ⊥

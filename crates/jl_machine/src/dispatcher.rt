@@ -2,6 +2,7 @@
 
 ghost use Rattle.std.specs.Prelude.{◌≡◌, ◌<◌, ◌^◌, ◌≤◌, IsTrue, IfOk, OnErr, Err, length};
 ghost use Rattle.std.specs.List.{list_all};
+ghost use Rattle.jl_program.specs.declared.prelude.TheConstants.{PRELUDE_SITES};
 ghost use Rattle.jl_calculus.specs.Simple.{is_plain};
 ghost use Rattle.jl_calculus.specs.declared.history.DefineFault.TheVariants.{WorldLimit};
 ghost use Rattle.jl_machine.specs.Knows.{Knows, Grew, Looked, Asked, IsRight, IsSite, Defined, IsMade, Full, IsFull};
@@ -40,7 +41,7 @@ pub trait Dispatcher {
     /// Makes a definition of a site, and answers its world. Where it answers an error, nothing was made. `WorldLimit` comes only
     /// where the world is full, and wherever the task knows that it is.
     fn define(&mut self, site: u32) -> Result<u32, DefineFault>
-        requires { (14 ≤ site) × (site < length (knows self.old).program.sites) }
+        requires { (PRELUDE_SITES ≤ site) × (site < length (knows self.old).program.sites) }
         ensures grew { Grew (knows self.old) (knows self.new) }
         ensures defined { IfOk result (λ _. Defined (knows self.old) (knows self.new) site) }
         ensures world { IfOk result (λ w. IsMade (knows self.new) w) }

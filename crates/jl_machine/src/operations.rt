@@ -2,11 +2,12 @@
 
 ghost use Rattle.std.specs.Prelude.{◌≡◌, get_or};
 ghost use Rattle.jl_program.specs.declared.value.Value.TheVariants.{Nothing};
-ghost use Rattle.jl_calculus.specs.Host.{quotient, remainder, host_meaning};
+ghost use Rattle.jl_calculus.specs.Host.{quotient, remainder, meaning, host_meaning};
 ghost use Rattle.jl_calculus.specs.Run.{number_of, operates};
 
 use jl_calculus::history::Outcome;
 use jl_program::fault::Fault;
+use jl_program::prelude::Operation;
 use jl_program::value::Value;
 
 fn number(n: i64) -> Outcome
@@ -44,26 +45,35 @@ fn remainder(a: i64, b: i64) -> Outcome
     number(a.wrapping_rem(b))
 }
 
-/// The operation of a site of the prelude, on two numbers.
-fn host(code: u32, a: i64, b: i64) -> Outcome
-    ensures { result ≡ host_meaning code a b }
+/// What an operation gives for two numbers.
+fn meaning(operation: Operation, a: i64, b: i64) -> Outcome
+    ensures { result ≡ meaning operation a b }
 {
-    match code {
-        0 => number(a.wrapping_add(b)),
-        1 => number(a.wrapping_sub(b)),
-        2 => number(a.wrapping_mul(b)),
-        3 => quotient(a, b),
-        4 => remainder(a, b),
-        5 => number(a.wrapping_neg()),
-        6 => truth(a == b),
-        7 => truth(a != b),
-        8 => truth(a < b),
-        9 => truth(a <= b),
-        10 => truth(a > b),
-        11 => truth(a >= b),
-        12 => truth(a == 0),
-        13 => truth(a == b),
-        _ => Outcome::Error(Fault::DivideError),
+    match operation {
+        Operation::Add => number(a.wrapping_add(b)),
+        Operation::Subtract => number(a.wrapping_sub(b)),
+        Operation::Multiply => number(a.wrapping_mul(b)),
+        Operation::Divide => quotient(a, b),
+        Operation::Remainder => remainder(a, b),
+        Operation::Negate => number(a.wrapping_neg()),
+        Operation::Equal => truth(a == b),
+        Operation::NotEqual => truth(a != b),
+        Operation::Less => truth(a < b),
+        Operation::LessEqual => truth(a <= b),
+        Operation::Greater => truth(a > b),
+        Operation::GreaterEqual => truth(a >= b),
+        Operation::Not => truth(a == 0),
+        Operation::EqualTruths => truth(a == b),
+    }
+}
+
+/// The operation of a site of the prelude, on two numbers.
+fn host(site: u32, a: i64, b: i64) -> Outcome
+    ensures { result ≡ host_meaning site a b }
+{
+    match Operation::of_site(site) {
+        None => Outcome::Error(Fault::DivideError),
+        Some(operation) => meaning(operation, a, b),
     }
 }
 

@@ -14,11 +14,13 @@ use crate::dispatcher::Dispatcher;
 use crate::point::{Frame, Now, Work};
 use crate::turns;
 use jl_calculus::history::{DefineFault, Outcome, Record, TraceItem};
+use jl_model::limits::MOST_OPEN_CALLS;
 use jl_model::rows::{Rest, Row, Stack};
 use jl_model::shared::SharedList;
 use jl_model::ty::{Key, Tys};
 use jl_program::choice::Choice;
 use jl_program::fault::Fault;
+use jl_program::prelude::FIRST_WORLD;
 use jl_program::tree::{Expr, Item, Program};
 use jl_program::value::Value;
 use std::alloc::{AllocError, Global};
@@ -277,8 +279,8 @@ impl Machine {
     {
         let top = program.top.copy()?;
         let now = Now {
-            world: 14,
-            room: 100_000,
+            world: FIRST_WORLD,
+            room: MOST_OPEN_CALLS,
             env: Row::new(alloc),
             bindings: SharedList::empty(),
             stack: Stack::new(alloc),

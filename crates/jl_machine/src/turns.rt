@@ -10,9 +10,11 @@ ghost use Rattle.jl_machine.specs.Performed.{answered, performed, entered, expr_
 use crate::operations::operate;
 use crate::point::{Frame, Now, Work};
 use jl_calculus::history::Outcome;
+use jl_model::builtin::{BOOL, INT64, NOTHING, TASK};
 use jl_model::rows::{Rest, Row, Share};
 use jl_model::shared::SharedList;
 use jl_model::ty::Ty;
+use jl_program::prelude::PRELUDE_SITES;
 use jl_program::tree::{Expr, Piece, Program};
 use jl_program::value::Value;
 use jl_text::append_value;
@@ -145,10 +147,10 @@ pub(crate) fn type_of(value: &Value) -> Result<Ty, AllocError>
     ensures { IfOk result (λ t. t ≡ type_of value.now) }
 {
     match value {
-        Value::Int(_) => Ok(Ty::Nominal(4, SharedList::empty())),
-        Value::Bool(_) => Ok(Ty::Nominal(5, SharedList::empty())),
-        Value::Nothing => Ok(Ty::Nominal(6, SharedList::empty())),
-        Value::Task(_) => Ok(Ty::Nominal(7, SharedList::empty())),
+        Value::Int(_) => Ok(Ty::Nominal(INT64, SharedList::empty())),
+        Value::Bool(_) => Ok(Ty::Nominal(BOOL, SharedList::empty())),
+        Value::Nothing => Ok(Ty::Nominal(NOTHING, SharedList::empty())),
+        Value::Task(_) => Ok(Ty::Nominal(TASK, SharedList::empty())),
         Value::Tuple(ty, _) | Value::Struct(ty, _) => ty.copy(),
     }
 }
@@ -198,7 +200,7 @@ pub(crate) fn perform(
     requires { 0 < now.old.room }
     ensures { IfOk result (λ work. (work, now.new) ≡ performed (body_of program.now site) world values now.old) }
 {
-    if site < 14 {
+    if site < PRELUDE_SITES {
         return Ok(answer(operate(site, values.as_slice())));
     }
     let body = body_at(program, site)?;
