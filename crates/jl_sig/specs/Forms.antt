@@ -1,6 +1,7 @@
 -- The bounds and arguments of a signature in normal form.
 use Rattle.std.specs.Prelude.{◌≡◌, ◌≤◌, true, false, IsTrue, List, [], ◌∷◌, length, get_or, slice_get}
 use Rattle.std.specs.List.{list_all, Contains}
+use Rattle.jl_model.specs.declared.limits.TheConstants.{MOST_TYPE_NODES}
 use Rattle.jl_model.specs.declared.ty.Ty.{Ty}
 use Rattle.jl_model.specs.declared.ty.Bound.{Bound}
 use Rattle.jl_model.specs.declared.ty.Decl.{Decl}
@@ -18,7 +19,7 @@ use Rattle.jl_types.specs.Ground.{IsGround}
 pub record IsSmallForm (ds : List Decl) (t u : Ty) : Type 0 where
   pub within : IsWithinLimits t
   pub form : IsNormalForm (table_of ds) t u
-  pub small : nodes u ≤ 1024
+  pub small : nodes u ≤ MOST_TYPE_NODES
   pub known : IsTrue (is_known (length ds) u)
 
 -- one of these is too large for a normal form

@@ -1,6 +1,7 @@
 -- What a signature is prepared as.
 use Rattle.std.specs.Prelude.{ℕ, ◌≡◌, ◌≤◌, nat_lt, Bool, IsTrue, List, length, map}
 use Rattle.std.specs.List.{flat_map, list_all}
+use Rattle.jl_model.specs.declared.limits.TheConstants.{MOST_TYPE_NODES, MOST_ALTERNATIVES, MOST_SIGNATURE_ROWS}
 use Rattle.jl_model.specs.declared.ty.Ty.{Ty}
 use Rattle.jl_model.specs.declared.ty.Bound.{Bound}
 use Rattle.jl_model.specs.declared.ty.Decl.{Decl}
@@ -31,8 +32,8 @@ pub record IsExpandable (ds : List Decl) (s : Written) (bounds : List Bound) : T
   pub closed : (v : ℕ) → IsTrue (is_closed (high s v))
   pub fit : AllFit ds (bound_types s.vars)
   pub forms : Both (IsSmallForm ds) (bound_types s.vars) (bound_types bounds)
-  pub few : length s.vars ≤ 1024
-  pub narrow : (v : ℕ) → length (alts (high s v)) ≤ 256
+  pub few : length s.vars ≤ MOST_TYPE_NODES
+  pub narrow : (v : ℕ) → length (alts (high s v)) ≤ MOST_ALTERNATIVES
 
 -- its rows can be built, and its components can be kept too
 pub record IsBuildable (ds : List Decl) (s : Written) (bounds : List Bound) : Type 0 where
@@ -44,7 +45,7 @@ pub record AreAllRows (n : Table) (s : Written) (rs : List Listed) : Type 0 wher
   pub picks : ℕ → List Ty
   pub hold : ArePicks n s picks
   pub are : rs ≡ all_rows s picks
-  pub few : length rs ≤ 256
+  pub few : length rs ≤ MOST_SIGNATURE_ROWS
 
 -- its names are those of the table, its variables are its own, and they stand where they may
 pub record IsWellPlaced (ds : List Decl) (s : Written) : Type 0 where

@@ -9,8 +9,9 @@ ghost use Rattle.jl_sig.specs.Prepared.{IsExpandable, AreAllRows};
 use crate::expansion::{components, product_of_forms};
 use crate::kind::Kind;
 use crate::row::SigRow;
-use crate::rows::{MOST_ROWS, rows_from};
+use crate::rows::rows_from;
 use crate::variables::{picks, places};
+use jl_model::limits::MOST_SIGNATURE_ROWS;
 use jl_model::ty::{Bound, Written};
 use jl_types::Table;
 use std::alloc::{AllocError, Global};
@@ -31,7 +32,7 @@ pub fn all_rows(
     let parts = written.parts.as_slice();
     let picks = picks(alloc, table, written, kinds, bounds)?;
     let places = places(alloc, written, kinds, picks.as_slice())?;
-    if product_of_forms(parts, places.as_slice()) > MOST_ROWS {
+    if product_of_forms(parts, places.as_slice()) > MOST_SIGNATURE_ROWS {
         return Ok(None);
     }
     let components = components(alloc, parts, places.as_slice())?;

@@ -1,10 +1,11 @@
 //! The union-free forms of the components of a signature, where each variable's covariant places are given.
 
-ghost use Rattle.std.specs.Prelude.{◌≡◌, ◌<◌, ◌≤◌, min, IfOk, length, map};
+ghost use Rattle.std.specs.Prelude.{◌+◌, ◌≡◌, ◌<◌, ◌≤◌, min, IfOk, length, map};
 ghost use Rattle.std.specs.List.{flat_map};
 ghost use Rattle.jl_model.specs.Rows.{choices, forms};
 ghost use Rattle.jl_sig.specs.Built.{placed};
 
+use jl_model::limits::MOST_SIGNATURE_ROWS;
 use jl_model::ty::{Ty, Tys};
 use jl_types::expand::{push_copies, rows_of, tuples};
 use std::alloc::{AllocError, Global};
@@ -23,11 +24,11 @@ fn place_of<'a>(places: &'a [Tys], variable: u32) -> &'a [Ty]
 /// How many forms these have in sum, at most 257.
 #[cycle(count)]
 fn sum_of_forms(types: &[Ty], places: &[Tys]) -> u64
-    ensures { result ≡ min (length (flat_map (forms (placed places.now)) types.now)) 257 }
+    ensures { result ≡ min (length (flat_map (forms (placed places.now)) types.now)) (MOST_SIGNATURE_ROWS + 1) }
 {
     let mut sum: u64 = 0;
     for ty in types {
-        sum = (sum + count_forms(ty, places)).min(257);
+        sum = (sum + count_forms(ty, places)).min(MOST_SIGNATURE_ROWS + 1);
     }
     sum
 }
@@ -35,11 +36,11 @@ fn sum_of_forms(types: &[Ty], places: &[Tys]) -> u64
 /// How many lists take a form of each of these, at most 257.
 #[cycle(count)]
 pub fn product_of_forms(types: &[Ty], places: &[Tys]) -> u64
-    ensures { result ≡ min (length (choices (map (forms (placed places.now)) types.now))) 257 }
+    ensures { result ≡ min (length (choices (map (forms (placed places.now)) types.now))) (MOST_SIGNATURE_ROWS + 1) }
 {
     let mut count: u64 = 1;
     for ty in types {
-        count = (count * count_forms(ty, places)).min(257);
+        count = (count * count_forms(ty, places)).min(MOST_SIGNATURE_ROWS + 1);
     }
     count
 }
@@ -47,24 +48,28 @@ pub fn product_of_forms(types: &[Ty], places: &[Tys]) -> u64
 /// How many forms a type has, at most 257.
 #[cycle(count)]
 fn count_forms(ty: &Ty, places: &[Tys]) -> u64
-    ensures { result ≡ min (length (forms (placed places.now) ty.now)) 257 }
+    ensures { result ≡ min (length (forms (placed places.now) ty.now)) (MOST_SIGNATURE_ROWS + 1) }
 {
     match ty {
         Ty::Any => 1,
         Ty::Union(members) => sum_of_forms(members.as_slice(), places),
         Ty::Tuple(parts) => product_of_forms(parts.as_slice(), places),
         Ty::Nominal(_, _) => 1,
-        Ty::Var(variable) => (place_of(places, *variable).len() as u64).min(257),
+        Ty::Var(variable) => (place_of(places, *variable).len() as u64).min(
+            MOST_SIGNATURE_ROWS + 1,
+        ),
     }
 }
 
 /// How many lists take one of each of these lists, at most 257.
 pub fn product_of_lengths(lists: &[Tys]) -> u64
-    ensures { result ≡ min (length (choices lists.now)) 257 }
+    ensures { result ≡ min (length (choices lists.now)) (MOST_SIGNATURE_ROWS + 1) }
 {
     let mut count: u64 = 1;
     for list in lists {
-        count = (count * (list.len() as u64).min(257)).min(257);
+        count = (count * (list.len() as u64).min(MOST_SIGNATURE_ROWS + 1)).min(
+            MOST_SIGNATURE_ROWS + 1,
+        );
     }
     count
 }
@@ -147,7 +152,7 @@ fn forms(alloc: Global, ty: &Ty, places: &[Tys]) -> Result<Vec<Ty>, AllocError>
 
 /// Every list that takes a form of each of these. There are at most 256.
 pub fn components(alloc: Global, types: &[Ty], places: &[Tys]) -> Result<Vec<Tys>, AllocError>
-    requires { length (choices (map (forms (placed places.now)) types.now)) ≤ 256 }
+    requires { length (choices (map (forms (placed places.now)) types.now)) ≤ MOST_SIGNATURE_ROWS }
     ensures { IfOk result (λ rows. rows.items ≡ choices (map (forms (placed places.now)) types.now)) }
 {
     if product_of_forms(types, places) == 0 {

@@ -12,11 +12,9 @@ ghost use Rattle.jl_sig.specs.Built.{picked, has_root, listed, rows_from, AreKin
 use crate::expansion::{choose, product_of_lengths};
 use crate::kind::Kind;
 use crate::row::SigRow;
+use jl_model::limits::MOST_SIGNATURE_ROWS;
 use jl_model::ty::{Ty, Tys, Written};
 use std::alloc::{AllocError, Global};
-
-/// The most rows of a signature.
-pub const MOST_ROWS: u64 = 256;
 
 /// Whether a variable, or an atom of it, stands in one of these.
 #[cycle(roots)]
@@ -123,13 +121,13 @@ pub fn rows_from(
 ) -> Result<Option<Vec<SigRow>>, AllocError>
     requires kinds { AreKinds written.now kinds.now }
     requires picks { length picks.now ≡ length written.now.vars }
-    ensures { IfOk result (λ o. MatchOption o (256 < length (rows_from written.now picks.now components.now))
-        (λ rows. (map listed rows.items ≡ rows_from written.now picks.now components.now) × (length rows.items ≤ 256))) }
+    ensures { IfOk result (λ o. MatchOption o (MOST_SIGNATURE_ROWS < length (rows_from written.now picks.now components.now))
+        (λ rows. (map listed rows.items ≡ rows_from written.now picks.now components.now) × (length rows.items ≤ MOST_SIGNATURE_ROWS))) }
 {
     let mut rows = Vec::new(alloc);
     for row in components {
         let slots = slots(alloc, written, kinds, picks, row.as_slice())?;
-        if rows.len() as u64 + product_of_lengths(slots.as_slice()) > MOST_ROWS {
+        if rows.len() as u64 + product_of_lengths(slots.as_slice()) > MOST_SIGNATURE_ROWS {
             return Ok(None);
         }
         let choices = choose(alloc, slots.as_slice())?;

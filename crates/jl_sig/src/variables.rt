@@ -1,6 +1,7 @@
 //! The variables of a signature: their kinds, what the diagonal ones may take, and what stands at their covariant places.
 
 ghost use Rattle.std.specs.Prelude.{ℕ, ◌≡◌, ◌<◌, ◌≤◌, IfOk, length, get_or};
+ghost use Rattle.jl_model.specs.declared.limits.TheConstants.{MOST_TYPE_NODES, MOST_ALTERNATIVES};
 ghost use Rattle.jl_model.specs.declared.ty.Ty.{Ty as Term};
 ghost use Rattle.jl_model.specs.Ancestors.{table_of};
 ghost use Rattle.jl_model.specs.Signature.{Both};
@@ -132,8 +133,8 @@ fn atoms(
     alternatives: &[Ty],
 ) -> Result<Tys, AllocError>
     requires own { variable < length written.now.vars }
-    requires few { length written.now.vars ≤ 1024 }
-    requires narrow { length alternatives.now ≤ 256 }
+    requires few { length written.now.vars ≤ MOST_TYPE_NODES }
+    requires narrow { length alternatives.now ≤ MOST_ALTERNATIVES }
     ensures { IfOk result (λ ps. ps ≡ atoms written.now variable 0 alternatives.now) }
 {
     let width = written.vars.len();
@@ -155,8 +156,8 @@ fn place(
     picks: &Tys,
 ) -> Result<Tys, AllocError>
     requires own { variable < length written.now.vars }
-    requires few { length written.now.vars ≤ 1024 }
-    requires narrow { length alternatives.items ≤ 256 }
+    requires few { length written.now.vars ≤ MOST_TYPE_NODES }
+    requires narrow { length alternatives.items ≤ MOST_ALTERNATIVES }
     ensures { IfOk result (λ ps. ps ≡ place_by written.now variable (kind_in kind) alternatives.items picks.now) }
 {
     match kind {
@@ -188,8 +189,8 @@ pub fn places(
 ) -> Result<Vec<Tys>, AllocError>
     requires kinds { AreKinds written.now kinds.now }
     requires picks { length picks.now ≡ length written.now.vars }
-    requires few { length written.now.vars ≤ 1024 }
-    requires narrow { (v : ℕ) → v < length written.now.vars → length (alts (high written.now v)) ≤ 256 }
+    requires few { length written.now.vars ≤ MOST_TYPE_NODES }
+    requires narrow { (v : ℕ) → v < length written.now.vars → length (alts (high written.now v)) ≤ MOST_ALTERNATIVES }
     ensures { IfOk result (λ ps. ps.items ≡ each_var (place_in written.now picks.now) 0 written.now.vars) }
 {
     let vars = written.vars.as_slice();

@@ -7,13 +7,13 @@ use Rattle.jl_sig.specs.Prepared.{AreAllRows}
 use Rattle.jl_sig.proofs.BuildLemmas.{match_map, many_components, many_rows, these_rows}
 use Rattle.jl_sig.proofs.build.all_rows.Goals as goal
 
-pub returns-then-product_of_forms-gt-MOST_ROWS : goal.returns-then-product_of_forms-gt-MOST_ROWS
-returns-then-product_of_forms-gt-MOST_ROWS c =
+pub returns-then-product_of_forms-gt-MOST_SIGNATURE_ROWS : goal.returns-then-product_of_forms-gt-MOST_SIGNATURE_ROWS
+returns-then-product_of_forms-gt-MOST_SIGNATURE_ROWS c =
     let s = c.args.written.now in
     let ps = c.in_ok-picks.picks.items in
     many_components c.args.table.now s c.args.bounds.now c.requires.expandable ps c.as_slice-2.result.now c.in_ok-picks.ensures.picked
     (c.as_slice-2.ensures.value ∙ c.in_ok-places.ensures ∙ ap (λ z. each_var (place_in s z) 0 s.vars) c.as_slice.ensures.value)
-    c.product_of_forms.result c.as_slice-parts.result.now c.as_slice-parts.ensures c.product_of_forms.ensures c.if-product_of_forms-gt-MOST_ROWS.true
+    c.product_of_forms.result c.as_slice-parts.result.now c.as_slice-parts.ensures c.product_of_forms.ensures c.if-product_of_forms-gt-MOST_SIGNATURE_ROWS.true
 
 pub returns : goal.returns
 returns c =
