@@ -55,7 +55,9 @@ fn count_forms(ty: &Ty, places: &[Tys]) -> u64
         Ty::Union(members) => sum_of_forms(members.as_slice(), places),
         Ty::Tuple(parts) => product_of_forms(parts.as_slice(), places),
         Ty::Nominal(_, _) => 1,
-        Ty::Var(variable) => (place_of(places, *variable).len() as u64).min(MOST_SIGNATURE_ROWS + 1),
+        Ty::Var(variable) => (place_of(places, *variable).len() as u64).min(
+            MOST_SIGNATURE_ROWS + 1,
+        ),
     }
 }
 
@@ -65,7 +67,9 @@ pub fn product_of_lengths(lists: &[Tys]) -> u64
 {
     let mut count: u64 = 1;
     for list in lists {
-        count = (count * (list.len() as u64).min(MOST_SIGNATURE_ROWS + 1)).min(MOST_SIGNATURE_ROWS + 1);
+        count = (count * (list.len() as u64).min(MOST_SIGNATURE_ROWS + 1)).min(
+            MOST_SIGNATURE_ROWS + 1,
+        );
     }
     count
 }
