@@ -116,7 +116,9 @@ fn is_simple_type(ty: &Ty) -> bool
         Ty::Any => true,
         Ty::Union(_) => false,
         Ty::Tuple(_) => false,
-        Ty::Nominal(number, arguments) => { arguments.len() == 0 && *number >= INT64 && *number < BUILTIN_TYPES }
+        Ty::Nominal(number, arguments) => {
+            arguments.len() == 0 && *number >= INT64 && *number < BUILTIN_TYPES
+        }
         Ty::Var(_) => false,
     }
 }

@@ -2,9 +2,9 @@
 
 ghost use Rattle.std.specs.Prelude.{◌≤◌};
 
-use jl_program::tree::{Expr, Exprs, Item, Items, Names, Piece, Pieces, Program, Site, Sites};
 use jl_model::shared::SharedList;
 use jl_model::ty::{Bytes, Ty, Tys, Written};
+use jl_program::tree::{Expr, Exprs, Item, Items, Names, Piece, Pieces, Program, Site, Sites};
 use jl_solo::{is_simple, run_alone, status, text};
 use std::alloc::{AllocError, Global};
 use std::test::Fail;

@@ -7,11 +7,11 @@ use crate::faults::fault_of;
 use crate::sample::named;
 use crate::types::{last_type, types_of};
 use crate::values::values_of;
+use jl_model::rows::Row;
+use jl_model::ty::Ty;
 use jl_program::fault::Fault;
 use jl_program::tree::Program;
 use jl_program::value::Value;
-use jl_model::rows::Row;
-use jl_model::ty::Ty;
 use jl_text::{
     append_error_line, append_fault, append_type, append_value, fault_text, type_text, value_text,
 };

@@ -2,8 +2,8 @@
 
 use crate::sample::bytes;
 use crate::types::{last_type, number, types_of};
-use jl_program::fault::Fault;
 use jl_model::ty::{Ty, Tys};
+use jl_program::fault::Fault;
 use std::alloc::{AllocError, Global};
 
 /// The numbers of a text.

@@ -6,8 +6,8 @@ ghost use Rattle.jl_model.specs.Refusals.{IsReady};
 ghost use Rattle.jl_model.specs.Rows.{free};
 ghost use Rattle.jl_value.specs.Samples.{struct_decl, field_of, pair_decl, box_decl, square_decl, wood_decl, part_decl, sample_types};
 
-use jl_program::tree::{Exprs, Items, Names, Program, Sites};
 use jl_model::ty::{Bound, Bounds, Bytes, Decl, DeclKind, Decls, Field, Fields, Ty, Tys};
+use jl_program::tree::{Exprs, Items, Names, Program, Sites};
 use jl_types::Table;
 use std::alloc::{AllocError, Global};
 

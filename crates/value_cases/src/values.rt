@@ -10,8 +10,8 @@ ghost use Rattle.jl_value.specs.Samples.{sample_types};
 
 use crate::sample::named;
 use crate::types::number;
-use jl_program::value::{Value, Values};
 use jl_model::ty::{Ty, Tys};
+use jl_program::value::{Value, Values};
 use jl_types::Table;
 use jl_value::{MakeFault, construct, copy, tuple};
 use std::alloc::{AllocError, Global};
