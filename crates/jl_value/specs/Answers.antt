@@ -1,6 +1,7 @@
 -- What making a tuple or a struct answers. The causes of one call exclude one another, and a valid value excludes them all,
 -- so that each is answered exactly where it holds, or memory is wanted.
 use Rattle.std.specs.Prelude.{ℕ, ◌≡◌, ◌<◌, ◌≤◌, List, map, length, take, get_or}
+use Rattle.jl_model.specs.declared.limits.TheConstants.{MOST_TYPE_NODES}
 use Rattle.jl_model.specs.declared.ty.Ty.{Ty}
 use Rattle.jl_model.specs.declared.ty.Ty.TheVariants as W
 use Rattle.jl_model.specs.declared.ty.Decl.{Decl}
@@ -21,7 +22,7 @@ use Rattle.jl_program.specs.ValidValue.{kept_type, tuple_type, fields_in, AreOf}
 -- the cause of a fault of `tuple`
 abbrev pub TupleCause : List Datum → MakeFault → Type 0
 TupleCause parts TypeLimit = IsTooLargeType parts
-TupleCause parts ValueLimit = (types.nodes (tuple_type parts) ≤ 1024) × IsTooLarge (tuple_of parts)
+TupleCause parts ValueLimit = (types.nodes (tuple_type parts) ≤ MOST_TYPE_NODES) × IsTooLarge (tuple_of parts)
 TupleCause parts Memory = Unit {0}
 TupleCause parts FieldCount = ⊥
 TupleCause parts (FieldType _) = ⊥

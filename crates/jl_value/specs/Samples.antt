@@ -1,5 +1,6 @@
 -- The declarations that the tests make.
 use Rattle.std.specs.Prelude.{ℕ, codes, List, [], ◌∷◌, ◌++◌}
+use Rattle.jl_model.specs.declared.builtin.TheConstants.{INT64}
 use Rattle.jl_model.specs.declared.ty.Ty.{Ty}
 use Rattle.jl_model.specs.declared.ty.Ty.TheVariants as W
 use Rattle.jl_model.specs.declared.ty.Bound.{Bound}
@@ -26,7 +27,7 @@ box_decl = struct_decl (codes "Box") (free ∷ []) (field_of (codes "x") (W.Var 
 
 -- `struct Square; side::Int64 end`
 abbrev pub square_decl : Decl
-square_decl = struct_decl (codes "Square") [] (field_of (codes "side") (named 4) ∷ [])
+square_decl = struct_decl (codes "Square") [] (field_of (codes "side") (named INT64) ∷ [])
 
 -- `struct Wood end`
 abbrev pub wood_decl : Decl

@@ -4,6 +4,7 @@ ghost use Rattle.std.specs.Prelude.{◌≡◌, IfOk};
 ghost use Rattle.jl_model.specs.Ancestors.{named};
 ghost use Rattle.jl_program.specs.TypeOf.{type_of};
 
+use jl_model::builtin::{BOOL, INT64, NOTHING, TASK};
 use jl_model::ty::{Ty, Tys};
 use jl_program::value::Value;
 use std::alloc::AllocError;
@@ -21,10 +22,10 @@ pub fn type_of(value: &Value) -> Result<Ty, AllocError>
     ensures { IfOk result (λ t. t ≡ type_of value.now) }
 {
     match value {
-        Value::Int(_) => Ok(named(4)),
-        Value::Bool(_) => Ok(named(5)),
-        Value::Nothing => Ok(named(6)),
-        Value::Task(_) => Ok(named(7)),
+        Value::Int(_) => Ok(named(INT64)),
+        Value::Bool(_) => Ok(named(BOOL)),
+        Value::Nothing => Ok(named(NOTHING)),
+        Value::Task(_) => Ok(named(TASK)),
         Value::Tuple(ty, _) => ty.copy(),
         Value::Struct(ty, _) => ty.copy(),
     }

@@ -16,22 +16,17 @@ ghost use Rattle.jl_value.specs.declared.made.MakeFault.TheVariants.{ValueLimit}
 use crate::field::is_of;
 use crate::kept::type_of;
 use crate::made::MakeFault;
+use jl_model::limits::{MOST_TYPE_NODES, MOST_VALUE_DEPTH, MOST_VALUE_NODES};
 use jl_model::ty::{Field, Ty, Tys};
 use jl_program::value::{Value, Values};
 use jl_types::Table;
-use jl_types::count::{MOST_NODES as MOST_TYPE_NODES, nodes_within};
+use jl_types::count::nodes_within;
 use std::alloc::{AllocError, Global};
-
-/// The most nodes of a value.
-const MOST_NODES: u64 = 1_000_000;
-
-/// The greatest depth of a value.
-const MOST_DEPTH: u64 = 2_000;
 
 /// The type of a tuple of these parts. No more of their types is visited than the limit allows.
 fn type_of_tuple(alloc: Global, parts: &[Value]) -> Result<Ty, MakeFault>
     ensures made { IfOk result (λ t. t ≡ tuple_type (map datum parts.now)) }
-    ensures small { IfOk result (λ t. nodes t ≤ 1024) }
+    ensures small { IfOk result (λ t. nodes t ≤ MOST_TYPE_NODES) }
     ensures fault { IfErr result (TupleCause (map datum parts.now)) }
 {
     let mut count = 1;
@@ -54,7 +49,7 @@ fn within_limits(value: Value) -> Result<Value, MakeFault>
     ensures fault { IfErr result (λ f. f ≡ ValueLimit) }
     ensures beyond { OnErr result (IsTooLarge value) }
 {
-    if value.nodes() > MOST_NODES || value.depth() > MOST_DEPTH {
+    if value.nodes() > MOST_VALUE_NODES || value.depth() > MOST_VALUE_DEPTH {
         return Err(MakeFault::ValueLimit);
     }
     Ok(value)
