@@ -11,15 +11,13 @@ use crate::forms::small_forms;
 use crate::statics::without_statics;
 use jl_match::names::are_counted;
 use jl_match::places::are_placed;
+use jl_model::limits::MOST_ARGUMENTS;
 use jl_model::ty::Written;
 use jl_sig::forms::{have_crossed, have_outside};
 use jl_sig::types::types_in;
 use jl_sig::{SigFault, has_unused};
 use jl_types::{NormFault, Table};
 use std::alloc::Global;
-
-/// The most components of a type.
-const MOST_COMPONENTS: usize = 8;
 
 /// Whether a type is allowed, or its first refusal by the order of `SigFault`; `plain` is the type without static parameters.
 fn check_beside(
@@ -40,7 +38,7 @@ fn check_beside(
     if unused {
         return Err(SigFault::UnusedVariable);
     }
-    if written.parts.len() > MOST_COMPONENTS {
+    if written.parts.len() > MOST_ARGUMENTS {
         return Err(SigFault::TooManyParameters);
     }
     let types = types_in(alloc, written)?;

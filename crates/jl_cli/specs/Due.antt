@@ -1,6 +1,7 @@
 -- What a call of the program owes for its words and for the bytes that it read.
-use Rattle.std.specs.Prelude.{ℕ, ◌≡◌, ◌<◌, ◌≤◌, codes, decimal, List, [], ◌∷◌, ◌++◌, map, length, take, drop, Option, None, Some, Ok, Err}
+use Rattle.std.specs.Prelude.{ℕ, ◌+◌, ◌≡◌, ◌<◌, ◌≤◌, codes, decimal, List, [], ◌∷◌, ◌++◌, map, length, take, drop, Option, None, Some, Ok, Err}
 use Rattle.std.specs.Borrow.{Bor}
+use Rattle.jl_model.specs.declared.limits.TheConstants.{DEFAULT_FUEL, MOST_SOURCE_BYTES}
 use Rattle.jl_calculus.specs.declared.history.History.{History}
 use Rattle.jl_program.specs.declared.tree.Program.{Program}
 use Rattle.jl_calculus.specs.Legal.{IsLegal, fuel_of, text_of, status_of}
@@ -36,7 +37,7 @@ pub data IsCommand : List (List ℕ) → Type 0 where
 
 -- how many calls a task may make
 abbrev pub default_fuel : ℕ
-default_fuel = 10000000
+default_fuel = DEFAULT_FUEL
 
 unfoldable pub usage_line : List ℕ
 usage_line = codes "usage: jl run|trace [--threads N] [--fuel N] | jl check|replay | jl gen N [--threads N] [--fuel N]\n"
@@ -103,7 +104,7 @@ pub record HasRun (words : List (List ℕ)) (left left' held held' : Option (Lis
   pub read : Gives left bytes left'
   pub wrote : Takes held written held'
   -- at most one byte past the limit is read
-  pub limited : length bytes ≤ 1048577
+  pub limited : length bytes ≤ MOST_SOURCE_BYTES + 1
   -- all that the source had was read, or one byte past the limit, unless reading failed, or memory was refused before anything was due
-  pub all_read : IsCommand words → (status ≡ 4 → ⊥) → (status ≡ 6 → written ≡ [] → history ≡ None → ⊥) → length bytes < 1048577 → NothingLeft left'
+  pub all_read : IsCommand words → (status ≡ 4 → ⊥) → (status ≡ 6 → written ≡ [] → history ≡ None → ⊥) → length bytes < MOST_SOURCE_BYTES + 1 → NothingLeft left'
   pub answer : IsAnswer words bytes written source_rose sink_rose status history

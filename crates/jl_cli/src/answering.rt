@@ -10,21 +10,16 @@ use crate::faults::{line, static_line, syntax_line, token_line};
 use crate::place::append_number;
 use jl_calculus::history::History;
 use jl_grammar::tree::Script;
+use jl_model::limits::DEFAULT_FUEL;
 use jl_model::rows::Row;
 use jl_model::ty::Bytes;
+use jl_program::prelude::PRELUDE_SITES;
 use jl_program::tree::Program;
 use jl_reader::read;
 use jl_resolve::program;
 use jl_solo::{is_simple, run_alone, status, text};
 use jl_token::tokens;
 use std::alloc::{AllocError, Global};
-
-/// How many bytes a script may have.
-pub(crate) const SOURCE_LIMIT: usize = 1_048_576;
-/// How many calls a task may make.
-const FUEL: u64 = 10_000_000;
-/// How many definition sites the prelude has.
-const PRELUDE_SITES: usize = 14;
 
 /// What is due: a status, a history and a text.
 #[derive(Drop)]
@@ -66,7 +61,7 @@ fn ran(alloc: Global, program: &Program) -> Result<Due, AllocError>
     if !is_simple(program) {
         return Ok(refused(line(alloc, b"ERROR: NotYetRead\n")?));
     }
-    let history = run_alone(alloc, program, FUEL)?;
+    let history = run_alone(alloc, program, DEFAULT_FUEL)?;
     let text = text(alloc, program, &history)?;
     let status = status(&history);
     Ok(Due {
@@ -80,7 +75,7 @@ fn ran(alloc: Global, program: &Program) -> Result<Due, AllocError>
 fn own_sites(program: &Program) -> u64
     ensures { result ≡ length (drop prelude_count program.now.sites) }
 {
-    program.sites.len().saturating_sub(PRELUDE_SITES) as u64
+    program.sites.len().saturating_sub(PRELUDE_SITES as usize) as u64
 }
 
 /// The line that tells how many types a program declares, and how many definition sites it has.

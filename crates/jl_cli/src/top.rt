@@ -5,10 +5,11 @@ ghost use Rattle.jl_io.specs.Faults.{Rose};
 ghost use Rattle.jl_cli.specs.Due.{texts, HasRun};
 ghost use Rattle.jl_cli.specs.Delivered.{IsDelivered};
 
-use crate::answering::{Due, SOURCE_LIMIT, answer};
+use crate::answering::{Due, answer};
 use crate::command::command_in;
 use jl_calculus::history::History;
 use jl_io::{ReadFault, Sink, SinkFault, Source, read_up_to, write_all};
+use jl_model::limits::MOST_SOURCE_BYTES;
 use std::alloc::Global;
 
 /// The line that tells the commands.
@@ -48,7 +49,7 @@ pub fn run<S: Source, K: Sink>(alloc: Global, words: &[&str], source: &mut S, si
     let Some(command) = command_in(words) else {
         return deliver(sink, 2, None, USAGE.as_bytes());
     };
-    let bytes = match read_up_to(alloc, source, SOURCE_LIMIT + 1) {
+    let bytes = match read_up_to(alloc, source, MOST_SOURCE_BYTES + 1) {
         Ok(bytes) => bytes,
         Err(ReadFault::Failed) => {
             return Ended {

@@ -8,21 +8,17 @@ use jl_grammar::tree::Item;
 use jl_model::ty::Bytes;
 use jl_names::decls::DeclList;
 use jl_names::list::NameList;
+use jl_program::prelude::function_names;
 use jl_resolve_forms::defined::{methods_of, types_of, with_names};
 use jl_resolve_forms::known::Known;
 use jl_resolve_forms::known_decls::KnownDecls;
 use std::alloc::{AllocError, Global};
 
-/// The names of the prelude's functions, by their numbers.
-const PRELUDE_FUNCTIONS: [&str; 12] = [
-    "+", "-", "*", "div", "rem", "==", "!=", "<", "<=", ">", ">=", "!",
-];
-
 /// The functions of the prelude.
 fn prelude_functions(alloc: Global) -> Result<NameList, AllocError>
     ensures { IfOk result (λ ns. ns ≡ prelude_functions) }
 {
-    let words: [&str; 12] = PRELUDE_FUNCTIONS;
+    let words = function_names();
     let names = texts(alloc, words.as_slice())?;
     Ok(names)
 }

@@ -1,6 +1,7 @@
 -- The forms of a script with their depth. A form without forms in it has depth 1, any other 1 more than the greatest
--- depth of the forms directly in it. Above the limit of 500 the depth is 501, and the tree of an expression is not kept.
+-- depth of the forms directly in it. Above the limit the depth is one more than the limit, and the tree of an expression is not kept.
 use Rattle.std.specs.Prelude.{ℕ, ℤ, Bool, true, false, min, max, ◌+◌, ◌-◌, cond, nat_lt, List, [], ◌∷◌, ◌++◌, Option, Some, None}
+use Rattle.jl_model.specs.declared.limits.TheConstants.{MOST_ITEM_DEPTH}
 use Rattle.jl_token.specs.declared.token.Operator.{Operator}
 use Rattle.jl_typeread.specs.declared.tree.TypeText.{TypeText}
 use Rattle.jl_typeread.specs.declared.tree.TypeText.TheVariants as T
@@ -43,11 +44,11 @@ use Rattle.jl_grammar.specs.declared.state.ItemsRead.{ItemsRead}
 
 -- the depth of a form around forms of this depth
 abbrev pub deeper : ℕ → ℕ
-deeper d = min d 500 + 1
+deeper d = min d MOST_ITEM_DEPTH + 1
 
 -- an expression of this depth
 abbrev pub made : ℕ → ℕ → Expr → Form Expr
-made at d e = record { tree = cond (nat_lt 500 d) (W.Nothing at) e; at = at; depth = d }
+made at d e = record { tree = cond (nat_lt MOST_ITEM_DEPTH d) (W.Nothing at) e; at = at; depth = d }
 
 -- no trees, and one more
 abbrev pub none : {A : Type 0} → Forms A
@@ -59,11 +60,11 @@ with xs x d = record { trees = xs.trees ++ x ∷ []; depth = max xs.depth d }
 -- a written type, and variables, as they were read
 abbrev pub type_form : Deep TypeText → TypeForm
 type_form (Built t d) = record { tree = t; depth = d }
-type_form TooDeep = record { tree = T.Name 0 []; depth = 501 }
+type_form TooDeep = record { tree = T.Name 0 []; depth = MOST_ITEM_DEPTH + 1 }
 
 abbrev pub vars_form : Deep (List VarText) → VarsForm
 vars_form (Built vs d) = record { vars = vs; depth = d }
-vars_form TooDeep = record { vars = []; depth = 501 }
+vars_form TooDeep = record { vars = []; depth = MOST_ITEM_DEPTH + 1 }
 
 abbrev pub no_vars : VarsForm
 no_vars = record { vars = []; depth = 0 }
@@ -142,7 +143,7 @@ printed at line ps = made at (deeper ps.depth) (E.Print at line ps.trees)
 
 -- the depth of something of depth d that stands k levels below
 abbrev pub below : ℕ → ℕ → ℕ
-below k d = min (min k 501 + min d 501) 501
+below k d = min (min k (MOST_ITEM_DEPTH + 1) + min d (MOST_ITEM_DEPTH + 1)) (MOST_ITEM_DEPTH + 1)
 
 abbrev pub no_branches : Branched
 no_branches = record { branches = []; lowered = 1; depth = 0 }
@@ -226,4 +227,4 @@ abbrev pub no_items : ItemsRead
 no_items = record { items = []; too_deep = None }
 
 abbrev pub with_item : ItemsRead → Form Item → ItemsRead
-with_item xs x = record { items = xs.items ++ x.tree ∷ []; too_deep = first_place xs.too_deep (cond (nat_lt 500 x.depth) (Some x.at) None) }
+with_item xs x = record { items = xs.items ++ x.tree ∷ []; too_deep = first_place xs.too_deep (cond (nat_lt MOST_ITEM_DEPTH x.depth) (Some x.at) None) }

@@ -1,6 +1,7 @@
 -- Of any two types it is decided whether one is below the other, and of a type whether it can be judged.
 use Rattle.std.proofs.Common.{◌≡◌, sym, ap, subst, ◌≤◌, true, List, length, inl}
 use Rattle.std.specs.List.{list_all}
+use Rattle.jl_model.specs.declared.limits.TheConstants.{MOST_TYPE_NODES, MOST_ALTERNATIVES}
 use Rattle.jl_model.specs.declared.ty.Ty.{Ty}
 use Rattle.jl_model.specs.declared.ty.Decl.{Decl}
 use Rattle.jl_model.specs.Ancestors.{table_of}
@@ -70,12 +71,12 @@ module _ (ds : List Decl) (declared : Declared ds) where
   -- the limits of a type as it is written
   within_decided : (t : Ty) → Decided (IsWithinLimits t)
   within_decided t =
-      decided_by ((nodes t ≤ 1024) × ((raw t).widest ≤ 256)) (IsWithinLimits t) (λ h. record { nodes = h.0; alternatives = h.1 }) (λ h. (h.nodes, h.alternatives))
-      (both_decided (nodes t ≤ 1024) ((raw t).widest ≤ 256) (most_decided (nodes t) 1024) (most_decided (raw t).widest 256))
+      decided_by ((nodes t ≤ MOST_TYPE_NODES) × ((raw t).widest ≤ MOST_ALTERNATIVES)) (IsWithinLimits t) (λ h. record { nodes = h.0; alternatives = h.1 }) (λ h. (h.nodes, h.alternatives))
+      (both_decided (nodes t ≤ MOST_TYPE_NODES) ((raw t).widest ≤ MOST_ALTERNATIVES) (most_decided (nodes t) MOST_TYPE_NODES) (most_decided (raw t).widest MOST_ALTERNATIVES))
 
   -- its normal form has at most 1,024 nodes
   abbrev HasSmallForm : Ty → Type 0
-  HasSmallForm t = (u : Ty) × IsNormalForm n t u × (nodes u ≤ 1024)
+  HasSmallForm t = (u : Ty) × IsNormalForm n t u × (nodes u ≤ MOST_TYPE_NODES)
 
   -- whether a type can be judged
   pub judged_decided : (t : Ty) → Decided (CanBeJudged ds t)
@@ -83,7 +84,7 @@ module _ (ds : List Decl) (declared : Declared ds) where
       let K = is_known (length ds) t ≡ true in
       decided_by (K × (IsWithinLimits t × HasSmallForm t)) (CanBeJudged ds t) (λ h. record { known = h.0; within = h.1.0; small = h.1.1 }) (λ h. (h.known, (h.within, h.small)))
       (both_decided K (IsWithinLimits t × HasSmallForm t) (true_decided (is_known (length ds) t))
-      (both_decided (IsWithinLimits t) (HasSmallForm t) (within_decided t) (form_decided (λ u. nodes u ≤ 1024) (λ u. most_decided (nodes u) 1024) t)))
+      (both_decided (IsWithinLimits t) (HasSmallForm t) (within_decided t) (form_decided (λ u. nodes u ≤ MOST_TYPE_NODES) (λ u. most_decided (nodes u) MOST_TYPE_NODES) t)))
 
   -- both types can be judged, and the one is below the other
   pub judged_below_decided : (t u : Ty) → Decided (IsJudgedBelow ds t u)

@@ -1,6 +1,7 @@
 -- That the tests of the resolver tell the relations of types and the refusals of signatures.
 use Rattle.std.specs.Prelude.{ℕ, ◌≡◌, ◌<◌, ◌≤◌, false, IsTrue, List, length, None, slice_get}
 use Rattle.std.specs.List.{list_all}
+use Rattle.jl_model.specs.declared.limits.TheConstants.{MOST_TYPE_NODES}
 use Rattle.jl_model.specs.declared.ty.Ty.{Ty}
 use Rattle.jl_model.specs.declared.ty.Decl.{Decl}
 use Rattle.jl_model.specs.declared.ty.Written.{Written}
@@ -20,7 +21,7 @@ use Rattle.jl_judge.specs.Tell.{Tells}
 pub record CanBeJudged (ds : List Decl) (t : Ty) : Type 0 where
   pub known : IsTrue (is_known (length ds) t)
   pub within : IsWithinLimits t
-  pub small : (u : Ty) × IsNormalForm (table_of ds) t u × (nodes u ≤ 1024)
+  pub small : (u : Ty) × IsNormalForm (table_of ds) t u × (nodes u ≤ MOST_TYPE_NODES)
 
 -- both types can be judged, and the one is below the other
 pub record IsJudgedBelow (ds : List Decl) (t u : Ty) : Type 0 where

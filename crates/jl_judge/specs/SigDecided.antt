@@ -1,6 +1,7 @@
 -- Each refusal of a signature, and of a type in a body, is decided.
 use Rattle.std.proofs.Common.{◌≡◌, sym, subst, refl, ℕ, ◌<◌, true, List, [], ◌∷◌, map, length, get_or, slice_get, ◌⊎◌, inl, inr}
 use Rattle.std.specs.List.{Contains, list_all}
+use Rattle.jl_model.specs.declared.limits.TheConstants.{MOST_TYPE_NODES, MOST_ALTERNATIVES, MOST_SIGNATURE_ROWS, MOST_ARGUMENTS}
 use Rattle.jl_model.specs.declared.ty.Ty.{Ty}
 use Rattle.jl_model.specs.declared.ty.Bound.{Bound}
 use Rattle.jl_model.specs.declared.ty.Decl.{Decl}
@@ -38,16 +39,16 @@ pub unused_decided : (s : Written) → Decided (UnusedVariable s)
 unused_decided s = until_decided (λ v. kind s v ≡ unused) (λ v. unused_kind (kind s v)) (width s)
 
 pub many_decided : (s : Written) → Decided (TooManyParameters s)
-many_decided s = less_decided 8 (length s.parts)
+many_decided s = less_decided MOST_ARGUMENTS (length s.parts)
 
 pub count_decided : (ds : List Decl) (s : Written) → Decided (WrongParameterCount ds s)
 count_decided ds s = false_decided (list_all (is_counted ds) (types_in s))
 
 nodes_decided : (s : Written) → Decided (ManyNodes s)
-nodes_decided s = less_decided 1024 (total (map nodes (types_in s)))
+nodes_decided s = less_decided MOST_TYPE_NODES (total (map nodes (types_in s)))
 
 alternatives_decided : (s : Written) → Decided (ManyAlternatives s)
-alternatives_decided s = some_decided (λ (t : Ty). 256 < (raw t).widest) (λ t. less_decided 256 (raw t).widest) (types_in s)
+alternatives_decided s = some_decided (λ (t : Ty). MOST_ALTERNATIVES < (raw t).widest) (λ t. less_decided MOST_ALTERNATIVES (raw t).widest) (types_in s)
 
 module _ (ds : List Decl) (declared : Declared ds) where
   abbrev n : Table
@@ -55,20 +56,20 @@ module _ (ds : List Decl) (declared : Declared ds) where
 
   -- its normal form is too large
   abbrev HasLarge : Ty → Type 0
-  HasLarge t = (u : Ty) × IsNormalForm n t u × (1024 < nodes u)
+  HasLarge t = (u : Ty) × IsNormalForm n t u × (MOST_TYPE_NODES < nodes u)
 
   -- it has no variables, and its normal form is too large
   abbrev ClosedLarge : Ty → Type 0
   ClosedLarge t = (is_closed t ≡ true) × HasLarge t
 
   closed_decided : (t : Ty) → Decided (ClosedLarge t)
-  closed_decided t = both_decided (is_closed t ≡ true) (HasLarge t) (true_decided (is_closed t)) (form_decided ds declared (λ u. 1024 < nodes u) (λ u. less_decided 1024 (nodes u)) t)
+  closed_decided t = both_decided (is_closed t ≡ true) (HasLarge t) (true_decided (is_closed t)) (form_decided ds declared (λ u. MOST_TYPE_NODES < nodes u) (λ u. less_decided MOST_TYPE_NODES (nodes u)) t)
 
   form_large : (s : Written) → Some ClosedLarge (bound_types s.vars) ⊎ Some (λ (a : Given). ClosedLarge a.ty) (arguments_in s) → LargeForm n s
   form_large s (inl h) = (h.0, h.2.1.0, (inl h.1, h.2.0), h.2.1.1, h.2.1.2)
   form_large s (inr h) = (h.0.ty, h.2.1.0, (inr (h.0, h.1, refl), h.2.0), h.2.1.1, h.2.1.2)
 
-  large_form : (s : Written) (t u : Ty) → Contains (bound_types s.vars) t ⊎ ((a : Given) × Contains (arguments_in s) a × (a.ty ≡ t)) → is_closed t ≡ true → IsNormalForm n t u → 1024 < nodes u
+  large_form : (s : Written) (t u : Ty) → Contains (bound_types s.vars) t ⊎ ((a : Given) × Contains (arguments_in s) a × (a.ty ≡ t)) → is_closed t ≡ true → IsNormalForm n t u → MOST_TYPE_NODES < nodes u
       → Some ClosedLarge (bound_types s.vars) ⊎ Some (λ (a : Given). ClosedLarge a.ty) (arguments_in s)
   large_form s t u (inl i) c f l = inl (t, i, (c, (u, f, l)))
   large_form s t u (inr a) c f l = inr (a.0, a.1, subst ClosedLarge (sym a.2) (c, (u, f, l)))
@@ -98,11 +99,11 @@ module _ (ds : List Decl) (declared : Declared ds) where
   picked_hold s v k = (pick (low s v) (alts (high s v))).1
 
   rows_decided : (s : Written) → Decided (ManyRows n s)
-  rows_decided s = step (less_decided 256 (length (all_rows s (picked s))))
+  rows_decided s = step (less_decided MOST_SIGNATURE_ROWS (length (all_rows s (picked s))))
     where
-      step : Decided (256 < length (all_rows s (picked s))) → Decided (ManyRows n s)
+      step : Decided (MOST_SIGNATURE_ROWS < length (all_rows s (picked s))) → Decided (ManyRows n s)
       step (inl l) = inl (picked s, picked_hold s, l)
-      step (inr d) = inr (λ m. not_many n s (all_rows s (picked s)) (record { picks = picked s; hold = picked_hold s; are = refl; few = at_most (length (all_rows s (picked s))) 256 d }) m)
+      step (inr d) = inr (λ m. not_many n s (all_rows s (picked s)) (record { picks = picked s; hold = picked_hold s; are = refl; few = at_most (length (all_rows s (picked s))) MOST_SIGNATURE_ROWS d }) m)
 
   -- the four ways of being too large, where the rows may be those of another
   limit_by : (s r : Written) → Decided (ManyNodes s ⊎ ManyAlternatives s ⊎ LargeForm n s ⊎ ManyRows n r)

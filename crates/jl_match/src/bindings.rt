@@ -2,6 +2,7 @@
 
 ghost use Rattle.std.specs.Prelude.{◌≡◌, ◌<◌, ◌≤◌, IsTrue, IfOk, length};
 ghost use Rattle.std.specs.List.{list_all};
+ghost use Rattle.jl_model.specs.declared.limits.TheConstants.{MOST_TYPE_NODES};
 ghost use Rattle.jl_model.specs.Ancestors.{table_of};
 ghost use Rattle.jl_model.specs.Valid.{is_known};
 ghost use Rattle.jl_model.specs.Bindings.{binding, bindings};
@@ -25,7 +26,7 @@ fn binding(
     variable: usize,
 ) -> Result<Ty, AllocError>
     requires known { IsTrue (list_all (is_known (length table.now)) types.now) }
-    requires variable { variable < 1024 }
+    requires variable { variable < MOST_TYPE_NODES }
     ensures { IfOk result (λ ty. ty ≡ binding (table_of table.now) written.now types.now variable) }
 {
     if !is_usable(written, variable as u32) {
@@ -50,7 +51,7 @@ pub fn bindings(
     types: &[Ty],
 ) -> Result<Bindings, AllocError>
     requires known { IsTrue (list_all (is_known (length table.now)) types.now) }
-    requires few { length written.now.vars ≤ 1024 }
+    requires few { length written.now.vars ≤ MOST_TYPE_NODES }
     ensures { IfOk result (λ found. found ≡ bindings (table_of table.now) written.now types.now) }
 {
     let mut found = Vec::new(alloc);

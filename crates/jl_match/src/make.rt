@@ -10,15 +10,13 @@ ghost use Rattle.jl_match.specs.SigRefused.{SigRefused, IsMade};
 
 use crate::names::are_counted;
 use crate::places::are_placed;
+use jl_model::limits::MOST_ARGUMENTS;
 use jl_model::ty::Written;
 use jl_sig::forms::{have_crossed, have_outside};
 use jl_sig::types::types_in;
 use jl_sig::{Prepared, Sig, SigFault, has_unused, prepare};
 use jl_types::{NormFault, Table};
 use std::alloc::Global;
-
-/// The most parameters of a method.
-const MOST_PARAMETERS: usize = 8;
 
 /// A signature with what the walks over it need, or its first refusal by the order of `SigFault` (Julia manual, Methods:
 /// Parametric Methods). It may name only types of the table and its own variables.
@@ -35,7 +33,7 @@ pub fn make_sig(alloc: Global, table: &Table, written: &Written) -> Result<Sig, 
     if unused {
         return Err(SigFault::UnusedVariable);
     }
-    if written.parts.len() > MOST_PARAMETERS {
+    if written.parts.len() > MOST_ARGUMENTS {
         return Err(SigFault::TooManyParameters);
     }
     let types = types_in(alloc, written)?;

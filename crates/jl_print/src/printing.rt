@@ -1,6 +1,7 @@
 //! The text of a script.
 
 ghost use Rattle.std.specs.Prelude.{ℕ, ◌≡◌, ◌≤◌, List, length, IfOk};
+ghost use Rattle.jl_model.specs.declared.limits.TheConstants.{MOST_SOURCE_BYTES};
 ghost use Rattle.jl_print.specs.Printed.{script_signs};
 ghost use Rattle.jl_print.specs.PrintsBack.{IsSource, ReadsBack};
 ghost use Rattle.jl_print.specs.Spelling.{text_of};
@@ -28,7 +29,7 @@ fn script_text(alloc: Global, script: &Script) -> Result<Bytes, AllocError>
 /// itself, it reads as the same script, places aside. The one error is want of memory.
 pub fn print(alloc: Global, script: &Script) -> Result<Bytes, AllocError>
     ensures text { IfOk result (λ text. text ≡ text_of (script_signs script.now)) }
-    ensures reads_back { (source : List ℕ) → IsSource source script.now → IfOk result (λ text. length text ≤ 1048576 → ReadsBack text script.now) }
+    ensures reads_back { (source : List ℕ) → IsSource source script.now → IfOk result (λ text. length text ≤ MOST_SOURCE_BYTES → ReadsBack text script.now) }
 {
     script_text(alloc, script)
 }

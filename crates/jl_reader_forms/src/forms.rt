@@ -5,6 +5,7 @@ ghost use Rattle.jl_grammar.specs.Forms.{deeper, made, none, with, type_form, va
 
 use jl_grammar::state::{Branched, Called, Form, Forms, PrefixAt, TypeForm, VarsForm};
 use jl_grammar::tree::{Branch, Eval, Expr, Infix, Method, Name, Piece, Stmt};
+use jl_model::limits::MOST_ITEM_DEPTH;
 use jl_model::rows::Row;
 use jl_model::shared::{SharedList, SharedNode};
 use jl_model::ty::Bytes;
@@ -12,21 +13,18 @@ use jl_typeread::deep::Deep;
 use jl_typeread::tree::{TypeText, VarText};
 use std::alloc::{AllocError, Global};
 
-/// The depth that no form of a script may pass.
-pub(crate) const DEPTH_LIMIT: u32 = 500;
-
 /// The depth of a form around forms of this depth.
 pub(crate) fn deeper(depth: u32) -> u32
     ensures { result ≡ deeper depth }
 {
-    depth.min(DEPTH_LIMIT) + 1
+    depth.min(MOST_ITEM_DEPTH) + 1
 }
 
 /// An expression of this depth.
 fn made(at: u32, depth: u32, tree: Expr) -> Form<Expr>
     ensures { result ≡ made at depth tree }
 {
-    if depth > DEPTH_LIMIT {
+    if depth > MOST_ITEM_DEPTH {
         drop(tree);
         let tree = Expr::Nothing(at);
         return Form { tree, at, depth };
@@ -67,7 +65,7 @@ pub fn type_form(ty: Deep<TypeText>) -> TypeForm
         Deep::Built(tree, depth) => TypeForm { tree, depth },
         Deep::TooDeep => TypeForm {
             tree: TypeText::Name(0, SharedList::empty()),
-            depth: DEPTH_LIMIT + 1,
+            depth: MOST_ITEM_DEPTH + 1,
         },
     }
 }
@@ -83,7 +81,7 @@ pub fn vars_form(alloc: Global, variables: Deep<Row<VarText>>) -> Result<VarsFor
         }
         Deep::TooDeep => Ok(VarsForm {
             vars: SharedList::empty(),
-            depth: DEPTH_LIMIT + 1,
+            depth: MOST_ITEM_DEPTH + 1,
         }),
     }
 }
@@ -347,7 +345,7 @@ pub fn printed(
 fn below(levels: u32, depth: u32) -> u32
     ensures { result ≡ below levels depth }
 {
-    let most = DEPTH_LIMIT + 1;
+    let most = MOST_ITEM_DEPTH + 1;
     (levels.min(most) + depth.min(most)).min(most)
 }
 
@@ -383,7 +381,7 @@ pub(crate) fn with_branch(
     branches.push(Branch { at, test, block })?;
     Ok(Branched {
         branches,
-        lowered: lowered.min(DEPTH_LIMIT - 1) + 2,
+        lowered: lowered.min(MOST_ITEM_DEPTH - 1) + 2,
         depth: depth.max(inner),
     })
 }

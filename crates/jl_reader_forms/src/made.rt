@@ -3,11 +3,12 @@
 ghost use Rattle.std.specs.Prelude.{◌≡◌, IfOk, None, Some, cond, nat_lt};
 ghost use Rattle.jl_grammar.specs.Forms.{head, long, short, typed_param, header, abstracted, structured, method_item, bound_item, done_item, first_place, with_item};
 
-use crate::forms::{DEPTH_LIMIT, deeper};
+use crate::forms::deeper;
 use jl_grammar::state::{Form, Forms, ItemsRead, TypeForm, VarsForm};
 use jl_grammar::tree::{
     Abstract, Callee, Expr, Field, Head, Header, Item, Method, Name, Param, Stmt, Struct,
 };
+use jl_model::limits::MOST_ITEM_DEPTH;
 use jl_model::rows::Row;
 use jl_model::shared::SharedNode;
 use std::alloc::{AllocError, Global};
@@ -154,11 +155,11 @@ pub(crate) fn done_item(e: Form<Expr>) -> Form<Item>
 
 /// The place of the first item that is too deep, where this one comes behind.
 fn first_deep(before: Option<u32>, at: u32, depth: u32) -> Option<u32>
-    ensures { result ≡ first_place before (cond (nat_lt 500 depth) (Some at) None) }
+    ensures { result ≡ first_place before (cond (nat_lt MOST_ITEM_DEPTH depth) (Some at) None) }
 {
     match before {
         Some(place) => Some(place),
-        None if depth > DEPTH_LIMIT => Some(at),
+        None if depth > MOST_ITEM_DEPTH => Some(at),
         None => None,
     }
 }

@@ -1,7 +1,9 @@
 -- What an expression, a statement, a method and an evaluated block become, and what they add (Julia manual, Functions, Control
 -- Flow, Metaprogramming, Tasks). A part is read where some slots, static parameters and types are visible; sites and spawn
 -- places have their numbers in text order, each before those in its body.
-use Rattle.std.specs.Prelude.{ℕ, true, false, cond, nat_lt, nat_le, List, [], ◌∷◌, ◌++◌, map, length, Option, Some, None, slice_get, slice_set, ℤ, pos, negsuc}
+use Rattle.std.specs.Prelude.{ℕ, true, false, cond, nat_lt, nat_le, List, [], ◌∷◌, ◌++◌, ◌+◌, map, length, Option, Some, None, slice_get, slice_set, ℤ, pos, negsuc}
+use Rattle.jl_model.specs.declared.limits.TheConstants.{MOST_ARGUMENTS, MOST_SITES}
+use Rattle.jl_program.specs.declared.prelude.TheConstants.{PLUS, MINUS, TIMES, DIV, REM, EQUAL, NOT_EQUAL, LESS, LESS_EQUAL, GREATER, GREATER_EQUAL, NOT, PRELUDE_SITES}
 use Rattle.jl_model.specs.declared.ty.Written.{Written}
 use Rattle.jl_model.specs.Ancestors.{named as nominal}
 use Rattle.jl_model.specs.Usable.{is_usable}
@@ -261,29 +263,29 @@ local at None s = coded W.Nothing (note at kind.UnknownName s)
 local at (Some slot) s = coded (W.Local slot) s
 
 unfoldable pub prefix_code : Prefix → Code → Code
-prefix_code R.Minus x = X.Call 1 (x ∷ [])
-prefix_code R.Not x = X.Call 11 (x ∷ [])
+prefix_code R.Minus x = X.Call MINUS (x ∷ [])
+prefix_code R.Not x = X.Call NOT (x ∷ [])
 
 unfoldable pub infix_code : Infix → Code → Code → Code
 infix_code N.Or x y = X.Or x y
 infix_code N.And x y = X.And x y
-infix_code N.Equal x y = X.Call 5 (x ∷ y ∷ [])
-infix_code N.NotEqual x y = X.Call 6 (x ∷ y ∷ [])
-infix_code N.Less x y = X.Call 7 (x ∷ y ∷ [])
-infix_code N.LessEqual x y = X.Call 8 (x ∷ y ∷ [])
-infix_code N.Greater x y = X.Call 9 (x ∷ y ∷ [])
-infix_code N.GreaterEqual x y = X.Call 10 (x ∷ y ∷ [])
+infix_code N.Equal x y = X.Call EQUAL (x ∷ y ∷ [])
+infix_code N.NotEqual x y = X.Call NOT_EQUAL (x ∷ y ∷ [])
+infix_code N.Less x y = X.Call LESS (x ∷ y ∷ [])
+infix_code N.LessEqual x y = X.Call LESS_EQUAL (x ∷ y ∷ [])
+infix_code N.Greater x y = X.Call GREATER (x ∷ y ∷ [])
+infix_code N.GreaterEqual x y = X.Call GREATER_EQUAL (x ∷ y ∷ [])
 infix_code N.Identical x y = X.Egal x y false
 infix_code N.NotIdentical x y = X.Egal x y true
-infix_code N.Plus x y = X.Call 0 (x ∷ y ∷ [])
-infix_code N.Minus x y = X.Call 1 (x ∷ y ∷ [])
-infix_code N.Times x y = X.Call 2 (x ∷ y ∷ [])
-infix_code N.Divide x y = X.Call 3 (x ∷ y ∷ [])
-infix_code N.Remainder x y = X.Call 4 (x ∷ y ∷ [])
+infix_code N.Plus x y = X.Call PLUS (x ∷ y ∷ [])
+infix_code N.Minus x y = X.Call MINUS (x ∷ y ∷ [])
+infix_code N.Times x y = X.Call TIMES (x ∷ y ∷ [])
+infix_code N.Divide x y = X.Call DIV (x ∷ y ∷ [])
+infix_code N.Remainder x y = X.Call REM (x ∷ y ∷ [])
 
 -- a counted call has at most 8 arguments
 abbrev pub counted : ℕ → Codes → State
-counted at xs = cond (nat_lt 8 (length xs.codes)) (note at kind.TooManyArguments xs.after) xs.after
+counted at xs = cond (nat_lt MOST_ARGUMENTS (length xs.codes)) (note at kind.TooManyArguments xs.after) xs.after
 
 -- the call of `invokelatest`
 unfoldable pub latest : ℕ → Option ℕ → Codes → Coded
@@ -355,9 +357,9 @@ abbrev pub if_unknown : Option ℕ → Option StaticKind
 if_unknown None = Some kind.UnknownFunction
 if_unknown (Some f) = None
 
--- a script has at most 4,096 sites, and the prelude has 14
+-- a script has at most 4,096 sites beside those of the prelude
 abbrev pub site_limit : ℕ
-site_limit = 4110
+site_limit = MOST_SITES + PRELUDE_SITES
 
 abbrev pub too_many : State → Option StaticKind
 too_many s = cond (nat_le site_limit (length s.sites)) (Some kind.TooManySites) None

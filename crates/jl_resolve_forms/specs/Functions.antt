@@ -1,5 +1,7 @@
 -- What a called name is (Julia manual, Functions; Constructors).
 use Rattle.std.specs.Prelude.{ℕ, ◌&&◌, cond, nat_le, nat_eq, List, map, length, Option, Some, None, slice_get}
+use Rattle.jl_model.specs.declared.builtin.TheConstants.{BUILTIN_TYPES}
+use Rattle.jl_program.specs.declared.prelude.TheConstants.{PLUS, MINUS, TIMES, DIV, REM, EQUAL, NOT_EQUAL, LESS, LESS_EQUAL, GREATER, GREATER_EQUAL, NOT}
 use Rattle.jl_model.specs.declared.ty.Decl.{Decl}
 use Rattle.jl_model.specs.Ancestors.{is_struct_kind}
 use Rattle.jl_model.specs.Valid.{params_of}
@@ -17,18 +19,18 @@ use Rattle.jl_resolve_forms.specs.Scopes.{slot_of}
 
 -- the prelude's function of an operator; `÷` is `div` and `%` is `rem`
 abbrev pub function_of_operator : Operator → Option ℕ
-function_of_operator O.Plus = Some 0
-function_of_operator O.Minus = Some 1
-function_of_operator O.Times = Some 2
-function_of_operator O.Divide = Some 3
-function_of_operator O.Remainder = Some 4
-function_of_operator O.Equal = Some 5
-function_of_operator O.NotEqual = Some 6
-function_of_operator O.Less = Some 7
-function_of_operator O.LessEqual = Some 8
-function_of_operator O.Greater = Some 9
-function_of_operator O.GreaterEqual = Some 10
-function_of_operator O.Not = Some 11
+function_of_operator O.Plus = Some PLUS
+function_of_operator O.Minus = Some MINUS
+function_of_operator O.Times = Some TIMES
+function_of_operator O.Divide = Some DIV
+function_of_operator O.Remainder = Some REM
+function_of_operator O.Equal = Some EQUAL
+function_of_operator O.NotEqual = Some NOT_EQUAL
+function_of_operator O.Less = Some LESS
+function_of_operator O.LessEqual = Some LESS_EQUAL
+function_of_operator O.Greater = Some GREATER
+function_of_operator O.GreaterEqual = Some GREATER_EQUAL
+function_of_operator O.Not = Some NOT
 function_of_operator _ = None
 
 -- where the name of a function stands; of an operator, where its `Base` does
@@ -51,7 +53,7 @@ function_of k (C.Operator at o) c = function_of_operator o
 -- the declared struct of a name: a built-in type has no constructor
 abbrev pub if_struct : List Decl → Option ℕ → Option ℕ
 if_struct ds None = None
-if_struct ds (Some p) = cond (nat_le 8 p && is_struct_kind (slice_get ds p)) (Some p) None
+if_struct ds (Some p) = cond (nat_le BUILTIN_TYPES p && is_struct_kind (slice_get ds p)) (Some p) None
 
 unfoldable pub struct_named : Known → List ℕ → Scope → Option ℕ
 struct_named k name c = unless_slot (slot_of c.slots name) (if_struct k.decls (place_of (map (λ (d : Decl). d.name) k.decls) name))

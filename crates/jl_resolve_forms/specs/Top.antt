@@ -1,5 +1,6 @@
 -- The statements at the top, and the program of a script whose declarations are known.
 use Rattle.std.specs.Prelude.{ℕ, ◌+◌, max, cond, drop, List, [], ◌∷◌, ◌++◌, length, Option, Some, None}
+use Rattle.jl_model.specs.declared.builtin.TheConstants.{BUILTIN_TYPES}
 use Rattle.jl_program.specs.declared.tree.Item.{Item as Code}
 use Rattle.jl_program.specs.declared.tree.Item.TheVariants as I
 use Rattle.jl_program.specs.declared.tree.Program.{Program}
@@ -73,10 +74,10 @@ pub record Resolved : Type 0 where
 
 abbrev pub program_as : Known → Tops → Resolved
 program_as k x = record {
-  program = record { decls = drop 8 k.decls; functions = k.functions; sites = x.after.sites; spawns = x.after.spawns; top = x.items };
+  program = record { decls = drop BUILTIN_TYPES k.decls; functions = k.functions; sites = x.after.sites; spawns = x.after.spawns; top = x.items };
   fault = x.after.fault;
 }
 
 -- the items, behind the first fault of the declarations
 abbrev pub resolved : Tests → Known → List Item → Option Fault → Resolved
-resolved t k items f = program_as k (all_top t k items (bare_scope 8) (beginning f))
+resolved t k items f = program_as k (all_top t k items (bare_scope BUILTIN_TYPES) (beginning f))

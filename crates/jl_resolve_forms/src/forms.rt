@@ -13,9 +13,13 @@ use crate::scopes::{bind, note, noted, slot_of};
 use crate::state::{Scope, State};
 use crate::types::one_type;
 use jl_grammar::tree::{Infix, Name, Prefix};
+use jl_model::limits::MOST_ARGUMENTS;
 use jl_model::rows::Share;
 use jl_model::shared::{SharedList, SharedNode};
 use jl_model::ty::{Bytes, Ty, Tys};
+use jl_program::prelude::{
+    DIV, EQUAL, GREATER, GREATER_EQUAL, LESS, LESS_EQUAL, MINUS, NOT, NOT_EQUAL, PLUS, REM, TIMES,
+};
 use jl_program::tree::{Expr as Code, Exprs as Codes, Item, Stmt};
 use jl_written::fault::StaticKind;
 use jl_written::names::small;
@@ -57,8 +61,8 @@ pub fn prefix_code(alloc: Global, operator: Prefix, code: Code) -> Result<Code, 
     ensures { IfOk result (λ c. c ≡ prefix_code operator code) }
 {
     match operator {
-        Prefix::Minus => call_one(alloc, 1, code),
-        Prefix::Not => call_one(alloc, 11, code),
+        Prefix::Minus => call_one(alloc, MINUS, code),
+        Prefix::Not => call_one(alloc, NOT, code),
     }
 }
 
@@ -85,19 +89,19 @@ pub fn infix_code(
     match operator {
         Infix::Or => Ok(Code::Or(left, right)),
         Infix::And => Ok(Code::And(left, right)),
-        Infix::Equal => call_two(alloc, 5, left.get(), right.get()),
-        Infix::NotEqual => call_two(alloc, 6, left.get(), right.get()),
-        Infix::Less => call_two(alloc, 7, left.get(), right.get()),
-        Infix::LessEqual => call_two(alloc, 8, left.get(), right.get()),
-        Infix::Greater => call_two(alloc, 9, left.get(), right.get()),
-        Infix::GreaterEqual => call_two(alloc, 10, left.get(), right.get()),
+        Infix::Equal => call_two(alloc, EQUAL, left.get(), right.get()),
+        Infix::NotEqual => call_two(alloc, NOT_EQUAL, left.get(), right.get()),
+        Infix::Less => call_two(alloc, LESS, left.get(), right.get()),
+        Infix::LessEqual => call_two(alloc, LESS_EQUAL, left.get(), right.get()),
+        Infix::Greater => call_two(alloc, GREATER, left.get(), right.get()),
+        Infix::GreaterEqual => call_two(alloc, GREATER_EQUAL, left.get(), right.get()),
         Infix::Identical => Ok(Code::Egal(left, right, false)),
         Infix::NotIdentical => Ok(Code::Egal(left, right, true)),
-        Infix::Plus => call_two(alloc, 0, left.get(), right.get()),
-        Infix::Minus => call_two(alloc, 1, left.get(), right.get()),
-        Infix::Times => call_two(alloc, 2, left.get(), right.get()),
-        Infix::Divide => call_two(alloc, 3, left.get(), right.get()),
-        Infix::Remainder => call_two(alloc, 4, left.get(), right.get()),
+        Infix::Plus => call_two(alloc, PLUS, left.get(), right.get()),
+        Infix::Minus => call_two(alloc, MINUS, left.get(), right.get()),
+        Infix::Times => call_two(alloc, TIMES, left.get(), right.get()),
+        Infix::Divide => call_two(alloc, DIV, left.get(), right.get()),
+        Infix::Remainder => call_two(alloc, REM, left.get(), right.get()),
     }
 }
 
@@ -105,7 +109,7 @@ pub fn infix_code(
 fn counted(state: &mut State, at: u32, arguments: &Codes)
     ensures { state.new ≡ counted at (codes arguments.now state.old) }
 {
-    if arguments.len() > 8 {
+    if arguments.len() > MOST_ARGUMENTS {
         note(state, at, StaticKind::TooManyArguments);
     }
 }

@@ -10,34 +10,34 @@ use crate::known::{Called, Known};
 use crate::scopes::slot_of;
 use crate::state::Scope;
 use jl_grammar::tree::Callee;
+use jl_model::builtin::BUILTIN_TYPES;
 use jl_model::ty::{Decl, DeclKind};
 use jl_names::decls::DeclList;
 use jl_names::list::NameList;
+use jl_program::prelude::{
+    DIV, EQUAL, GREATER, GREATER_EQUAL, LESS, LESS_EQUAL, MINUS, NOT, NOT_EQUAL, PLUS, REM, TIMES,
+    function_names,
+};
 use jl_token::token::Operator;
 use jl_written::names::is_same;
-
-/// The names of the prelude's functions, by their numbers.
-const PRELUDE_FUNCTIONS: [&str; 12] = [
-    "+", "-", "*", "div", "rem", "==", "!=", "<", "<=", ">", ">=", "!",
-];
 
 /// The prelude's function of an operator; `÷` is `div` and `%` is `rem`.
 fn function_of_operator(operator: Operator) -> Option<u32>
     ensures { result ≡ function_of_operator operator }
 {
     match operator {
-        Operator::Plus => Some(0),
-        Operator::Minus => Some(1),
-        Operator::Times => Some(2),
-        Operator::Divide => Some(3),
-        Operator::Remainder => Some(4),
-        Operator::Equal => Some(5),
-        Operator::NotEqual => Some(6),
-        Operator::Less => Some(7),
-        Operator::LessEqual => Some(8),
-        Operator::Greater => Some(9),
-        Operator::GreaterEqual => Some(10),
-        Operator::Not => Some(11),
+        Operator::Plus => Some(PLUS),
+        Operator::Minus => Some(MINUS),
+        Operator::Times => Some(TIMES),
+        Operator::Divide => Some(DIV),
+        Operator::Remainder => Some(REM),
+        Operator::Equal => Some(EQUAL),
+        Operator::NotEqual => Some(NOT_EQUAL),
+        Operator::Less => Some(LESS),
+        Operator::LessEqual => Some(LESS_EQUAL),
+        Operator::Greater => Some(GREATER),
+        Operator::GreaterEqual => Some(GREATER_EQUAL),
+        Operator::Not => Some(NOT),
         _ => None,
     }
 }
@@ -77,7 +77,7 @@ fn place_of_word(words: &[&str], name: &[u8]) -> Option<usize>
 fn prelude_function(name: &[u8]) -> Option<u32>
     ensures { result ≡ place_of prelude_functions name.now }
 {
-    let words: [&str; 12] = PRELUDE_FUNCTIONS;
+    let words = function_names();
     let place = place_of_word(words.as_slice(), name)?;
     Some(place as u32)
 }
@@ -112,7 +112,7 @@ fn if_struct(decls: &[Decl], place: Option<u32>) -> Option<u32>
     let Some(number) = place else {
         return None;
     };
-    if number < 8 {
+    if number < BUILTIN_TYPES {
         return None;
     }
     match decls.get(number as usize) {

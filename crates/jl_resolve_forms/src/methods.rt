@@ -18,12 +18,14 @@ use crate::scopes::{bind, merged, noted, push_unnamed};
 use crate::state::{Opening, Scope, SignatureRead, Signed, State};
 use crate::types::declared_at;
 use jl_grammar::tree::{Callee, Head, Param};
+use jl_model::limits::MOST_SITES;
 use jl_model::rows::Row;
 use jl_model::shared::SharedList;
 use jl_model::ty::{Ty, Tys, Written};
 use jl_names::decls::FirstDecls;
 use jl_names::marked::MarkedNames;
 use jl_names::slots::Slots;
+use jl_program::prelude::PRELUDE_SITES;
 use jl_program::tree::{Expr as Code, Site};
 use jl_sig::{is_usable, usable_variables};
 use jl_typeread::tree::VarText;
@@ -90,11 +92,11 @@ fn defined_function(function: Option<u32>) -> u32
     }
 }
 
-/// A script has at most 4,096 sites, and the prelude has 14.
+/// A script has at most 4,096 sites beside those of the prelude.
 fn too_many(state: &State) -> Option<StaticKind>
     ensures { result ≡ too_many state.now }
 {
-    if state.sites.len() >= 4110 {
+    if state.sites.len() >= MOST_SITES + PRELUDE_SITES as usize {
         Some(StaticKind::TooManySites)
     } else {
         None

@@ -2,50 +2,18 @@
 
 ghost use Rattle.std.specs.Prelude.{◌≡◌, IfOk};
 ghost use Rattle.jl_model.specs.Ancestors.{named};
-ghost use Rattle.jl_program.specs.Prelude.{prelude_sites, builtin_site};
+ghost use Rattle.jl_program.specs.Prelude.{prelude_sites, builtin_site, shape_types};
 ghost use Rattle.jl_resolve_forms.specs.Top.{beginning};
-ghost use Rattle.jl_resolve_walk.specs.Builtin.{shape_types};
 
+use jl_model::builtin::{BOOL, INT64};
 use jl_model::shared::SharedList;
 use jl_model::ty::{Ty, Tys, Written};
+use jl_program::prelude::{Shape, operations};
 use jl_program::tree::{Expr as Code, Site};
 use jl_resolve_forms::cells::Cells;
 use jl_resolve_forms::state::State;
 use jl_written::fault::Fault;
 use std::alloc::{AllocError, Global};
-
-/// The parameters of a built-in definition.
-#[derive(Clone, Copy)]
-pub(crate) enum Shape {
-    Integer,
-    Integers,
-    Truth,
-    Truths,
-}
-
-/// The number of the type of 64-bit integers.
-const INTEGER: u32 = 4;
-
-/// The number of the type of truth values.
-const TRUTH: u32 = 5;
-
-/// The function and the parameters of each built-in definition.
-const ROWS: [(u32, Shape); 14] = [
-    (0, Shape::Integers),
-    (1, Shape::Integers),
-    (2, Shape::Integers),
-    (3, Shape::Integers),
-    (4, Shape::Integers),
-    (1, Shape::Integer),
-    (5, Shape::Integers),
-    (6, Shape::Integers),
-    (7, Shape::Integers),
-    (8, Shape::Integers),
-    (9, Shape::Integers),
-    (10, Shape::Integers),
-    (11, Shape::Truth),
-    (5, Shape::Truths),
-];
 
 fn named(number: u32) -> Ty
     ensures { result ≡ named number }
@@ -58,15 +26,15 @@ fn types(alloc: Global, shape: Shape) -> Result<Tys, AllocError>
 {
     let mut types = Vec::new(alloc);
     match shape {
-        Shape::Integer => types.push(named(INTEGER))?,
+        Shape::Integer => types.push(named(INT64))?,
         Shape::Integers => {
-            types.push(named(INTEGER))?;
-            types.push(named(INTEGER))?;
+            types.push(named(INT64))?;
+            types.push(named(INT64))?;
         }
-        Shape::Truth => types.push(named(TRUTH))?,
+        Shape::Truth => types.push(named(BOOL))?,
         Shape::Truths => {
-            types.push(named(TRUTH))?;
-            types.push(named(TRUTH))?;
+            types.push(named(BOOL))?;
+            types.push(named(BOOL))?;
         }
     }
     SharedList::from_vec(alloc, types)
@@ -86,13 +54,13 @@ fn builtin(alloc: Global, function: u32, shape: Shape) -> Result<Site, AllocErro
     })
 }
 
-/// The sites 0 to 13, whose meaning is built in.
+/// The sites of the prelude, whose meaning is built in.
 fn sites(alloc: Global) -> Result<Cells<Site>, AllocError>
     ensures { IfOk result (λ v. v ≡ prelude_sites) }
 {
-    let rows: [(u32, Shape); 14] = ROWS;
+    let rows = operations();
     let mut sites = Cells::new(alloc);
-    for (function, shape) in rows.as_slice() {
+    for (_, function, shape) in rows.as_slice() {
         sites.push(builtin(alloc, *function, *shape)?)?;
     }
     Ok(sites)

@@ -11,6 +11,7 @@ use crate::beginning::beginning;
 use crate::expressions::{expr, method};
 use crate::program::Resolved;
 use jl_grammar::tree::{Item, Name};
+use jl_model::builtin::BUILTIN_TYPES;
 use jl_model::rows::Row;
 use jl_model::ty::{Decl, Decls};
 use jl_names::decls::copy_decl;
@@ -117,14 +118,18 @@ fn all_top<J: Judge>(
 
 /// The declarations behind the built-in ones.
 fn behind_builtin(decls: &[Decl]) -> &[Decl]
-    ensures { result.now ≡ drop 8 decls.now }
+    ensures { result.now ≡ drop BUILTIN_TYPES decls.now }
 {
-    if decls.len() < 8 { &[] } else { &decls[8..] }
+    if decls.len() < BUILTIN_TYPES as usize {
+        &[]
+    } else {
+        &decls[BUILTIN_TYPES as usize..]
+    }
 }
 
 /// The declarations of a script.
 fn own_decls(alloc: Global, decls: &[Decl]) -> Result<Decls, AllocError>
-    ensures { IfOk result (λ ds. ds ≡ drop 8 decls.now) }
+    ensures { IfOk result (λ ds. ds ≡ drop BUILTIN_TYPES decls.now) }
 {
     let own = behind_builtin(decls);
     let mut out = Row::new(alloc);
@@ -142,7 +147,7 @@ fn program_as(
     state: State,
     top: Items,
 ) -> Result<Resolved, AllocError>
-    ensures { IfOk result (λ r. resolved_as r.program r.fault ≡ program_as known.now (tops top (bare_scope 8) state)) }
+    ensures { IfOk result (λ r. resolved_as r.program r.fault ≡ program_as known.now (tops top (bare_scope BUILTIN_TYPES) state)) }
 {
     let State {
         sites,
@@ -173,7 +178,7 @@ pub fn resolved<J: Judge>(
 ) -> Result<Resolved, AllocError>
     ensures { IfOk result (λ r. resolved_as r.program r.fault ≡ resolved (tests (J.below judge.now) (J.signature_refusal judge.now) (J.body_refusal judge.now) (J.wide_struct judge.now)) known.now items.now fault) }
 {
-    let mut scope = bare_scope(alloc, 8);
+    let mut scope = bare_scope(alloc, BUILTIN_TYPES);
     let mut state = beginning(alloc, fault)?;
     let top = all_top(alloc, judge, known, &mut scope, &mut state, items)?;
     let program = program_as(alloc, known, state, top)?;

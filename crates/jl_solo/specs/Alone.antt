@@ -1,6 +1,8 @@
 -- What a task that runs alone has done, as a list of the sites that it defined.
 use Rattle.std.specs.Prelude.{ℕ, ◌+◌, ◌≡◌, ◌<◌, ◌≤◌, All, Bool, IsTrue, false, nat_eq, List, [], ◌∷◌, ◌++◌, drop, length, Option, None, Some}
 use Rattle.std.specs.List.{list_all}
+use Rattle.jl_model.specs.declared.limits.TheConstants.{MOST_WORLDS}
+use Rattle.jl_program.specs.declared.prelude.TheConstants.{FIRST_WORLD, PRELUDE_SITES}
 use Rattle.jl_calculus.specs.declared.history.Event.{Event}
 use Rattle.jl_calculus.specs.declared.history.Event.TheVariants as Ev
 use Rattle.jl_program.specs.declared.tree.Program.{Program}
@@ -28,7 +30,7 @@ abbrev pub knows_at : Program → List ℕ → ℕ → Knows
 knows_at P sites looks = record {
   program = P;
   task = 0;
-  world = 14 + length sites;
+  world = FIRST_WORLD + length sites;
   seen = 1 + length sites;
   agrees = GoesOn sites;
   learnt = λ i. (es : List Event) → GoesOn sites es → IsTrueOf es 0 i;
@@ -38,7 +40,7 @@ knows_at P sites looks = record {
 
 -- a site is one of the script's own
 abbrev pub IsOfScript : Program → ℕ → Type 0
-IsOfScript P site = (14 ≤ site) × (site < length P.sites)
+IsOfScript P site = (PRELUDE_SITES ≤ site) × (site < length P.sites)
 
 -- a simple site, by how many variables its signature has
 pub record IsBareSite (sites : ℕ) (site : Site) : Type 0 where
@@ -55,9 +57,9 @@ pub record IsBare (P : Program) : Type 0 where
 -- the sites of all definitions of a simple program: the prelude's first, then sites of the script, in at most 65,535 worlds
 pub record IsAlone (P : Program) (sites : List ℕ) : Type 0 where
   pub bare : IsBare P
-  pub prelude : sites ≡ prelude_numbers ++ drop 14 sites
-  pub most : length sites ≤ 65535
-  pub script : All (IsOfScript P) (drop 14 sites)
+  pub prelude : sites ≡ prelude_numbers ++ drop PRELUDE_SITES sites
+  pub most : length sites ≤ MOST_WORLDS
+  pub script : All (IsOfScript P) (drop PRELUDE_SITES sites)
 
 -- whether a site is of a function
 abbrev pub is_of : ℕ → Option Site → Bool

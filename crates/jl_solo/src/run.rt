@@ -1,6 +1,7 @@
 //! The run of a program on one task, and its history.
 
 ghost use Rattle.std.specs.Prelude.{◌≡◌, ◌≤◌, ◌++◌, IfOk, OnOk, Some};
+ghost use Rattle.jl_model.specs.declared.limits.TheConstants.{MOST_FUEL};
 ghost use Rattle.jl_calculus.specs.Legal.{IsLegal, fuel_of};
 ghost use Rattle.jl_calculus.specs.Simple.{IsSimple};
 ghost use Rattle.jl_solo.specs.Alone.{defs_of};
@@ -9,6 +10,7 @@ use crate::solo::Solo;
 use jl_calculus::history::{Event, History};
 use jl_machine::run_root;
 use jl_model::rows::Row;
+use jl_program::prelude::PRELUDE_SITES;
 use jl_program::tree::Program;
 use std::alloc::{AllocError, Global};
 
@@ -29,7 +31,7 @@ fn append_definitions(events: &mut Row<Event>, sites: &[u32]) -> Result<(), Allo
 /// order, and what the root did (Belyakova et al., OOPSLA 2020). The one error is want of memory.
 pub fn run_alone(alloc: Global, program: &Program, fuel: u64) -> Result<History, AllocError>
     requires simple { IsSimple program.now }
-    requires fuel { fuel ≤ 1000000000 }
+    requires fuel { fuel ≤ MOST_FUEL }
     ensures legal { IfOk result (λ history. IsLegal program.now history.events) }
     ensures begun { IfOk result (λ history. fuel_of history.events ≡ Some fuel) }
 {
@@ -37,7 +39,7 @@ pub fn run_alone(alloc: Global, program: &Program, fuel: u64) -> Result<History,
     let ended = run_root(alloc, program, fuel, &mut solo)?;
     let mut events = Row::new(alloc);
     events.push(Event::Begin(fuel))?;
-    append_definitions(&mut events, &solo.sites[14..])?;
+    append_definitions(&mut events, &solo.sites[PRELUDE_SITES as usize..])?;
     events.push(Event::Done { task: 0, ended })?;
     let events = events.into_shared(alloc)?;
     Ok(History { events })

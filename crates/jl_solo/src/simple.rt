@@ -5,7 +5,9 @@ ghost use Rattle.std.specs.List.{list_all};
 ghost use Rattle.jl_calculus.specs.Simple.{is_simple, is_simple_item, is_simple_piece, is_simple_type, IsSimple};
 ghost use Rattle.jl_solo.specs.SimpleSites.{is_simple_site, has_simple_parts};
 
+use jl_model::builtin::{BUILTIN_TYPES, INT64};
 use jl_model::ty::Ty;
+use jl_program::prelude::PRELUDE_SITES;
 use jl_program::tree::{Expr, Item, Piece, Program, Site};
 
 /// Whether expressions are simple, in a program of so many sites.
@@ -86,7 +88,7 @@ fn is_simple_item(item: &Item, sites: u64) -> bool
     ensures { result ≡ is_simple_item sites item.now }
 {
     match item {
-        Item::Define(site) => *site >= 14 && u64::from(*site) < sites,
+        Item::Define(site) => *site >= PRELUDE_SITES && u64::from(*site) < sites,
         Item::Bind(_, _) => false,
         Item::Do(expr) => is_simple_expr(expr, sites),
     }
@@ -114,7 +116,9 @@ fn is_simple_type(ty: &Ty) -> bool
         Ty::Any => true,
         Ty::Union(_) => false,
         Ty::Tuple(_) => false,
-        Ty::Nominal(number, arguments) => { arguments.len() == 0 && *number >= 4 && *number < 8 }
+        Ty::Nominal(number, arguments) => {
+            arguments.len() == 0 && *number >= INT64 && *number < BUILTIN_TYPES
+        }
         Ty::Var(_) => false,
     }
 }

@@ -9,16 +9,12 @@ ghost use Rattle.jl_solo.specs.Alone.{IsAlone, is_of};
 use jl_calculus::history::{Def, DefineFault, Seen};
 use jl_choice::choose;
 use jl_machine::dispatcher::Dispatcher;
+use jl_model::limits::MOST_WORLDS;
 use jl_model::ty::Key;
 use jl_program::choice::Choice;
+use jl_program::prelude::{FIRST_WORLD, operations};
 use jl_program::tree::Program;
 use std::alloc::{AllocError, Global};
-
-/// The last world.
-const LAST_WORLD: usize = 65_535;
-
-/// The sites of the prelude's definitions.
-const PRELUDE: [u32; 14] = [0, 1, 2, 3, 4, 5, 6, 7, 8, 9, 10, 11, 12, 13];
 
 /// The definitions so far, the prelude's first: the definition that makes world 1 stands first.
 #[derive(Drop)]
@@ -48,7 +44,7 @@ fn definitions_of(
     function: u32,
     sites: &[u32],
 ) -> Result<Vec<Def>, AllocError>
-    requires { length sites.now ≤ 65535 }
+    requires { length sites.now ≤ MOST_WORLDS }
     ensures { IfOk result (λ defs. defs.items ≡ defs_from program.now function 1 sites.now) }
 {
     let mut defs = Vec::new(alloc);
@@ -63,6 +59,18 @@ fn definitions_of(
     Ok(defs)
 }
 
+/// The sites of the prelude's definitions.
+fn prelude_sites(alloc: Global) -> Result<Vec<u32>, AllocError>
+    ensures { IfOk result (λ sites. sites.items ≡ prelude_numbers) }
+{
+    let rows = operations();
+    let mut sites = Vec::new(alloc);
+    for (site, _) in rows.as_slice().iter().enumerate() {
+        sites.push(site as u32)?;
+    }
+    Ok(sites)
+}
+
 impl<'p> Solo<'p> {
     /// Nothing but the prelude is defined yet.
     pub(crate) fn new(alloc: Global, program: &'p Program) -> Result<Solo<'p>, AllocError>
@@ -74,7 +82,7 @@ impl<'p> Solo<'p> {
         Ok(Solo {
             alloc,
             program,
-            sites: Vec::from_slice(alloc, &PRELUDE)?,
+            sites: prelude_sites(alloc)?,
             looks: 0,
         })
     }
@@ -90,7 +98,7 @@ impl Dispatcher for Solo<'_> {
         self.looks += 1;
         Seen {
             world,
-            length: world - 13,
+            length: world - (FIRST_WORLD - 1),
         }
     }
 
@@ -110,7 +118,7 @@ impl Dispatcher for Solo<'_> {
     }
 
     fn define(&mut self, site: u32) -> Result<u32, DefineFault> {
-        if self.sites.len() >= LAST_WORLD {
+        if self.sites.len() >= MOST_WORLDS {
             return Err(DefineFault::WorldLimit);
         }
         match self.sites.push(site) {
@@ -120,6 +128,6 @@ impl Dispatcher for Solo<'_> {
     }
 
     fn seen(&self) -> u32 {
-        self.sites.len() as u32 - 13
+        self.sites.len() as u32 - (FIRST_WORLD - 1)
     }
 }

@@ -1,5 +1,6 @@
 -- Three signatures that stand one below the other, of which the first is not below the last.
 use Rattle.std.specs.Prelude.{[], ◌∷◌}
+use Rattle.jl_model.specs.declared.builtin.TheConstants.{INT64}
 use Rattle.jl_model.specs.declared.ty.Ty.{Ty}
 use Rattle.jl_model.specs.declared.ty.Ty.TheViews as V
 use Rattle.jl_model.specs.declared.ty.Ty.TheVariants as W
@@ -13,7 +14,7 @@ abbrev pub builtins : Table
 builtins = table_of builtin_types
 
 abbrev pub int : Ty
-int = named 4
+int = named INT64
 
 abbrev pub below_int : Bound
 below_int = record { low = V.Union []; high = int }

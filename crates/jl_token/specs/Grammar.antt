@@ -5,6 +5,7 @@ use Rattle.std.specs.Prelude.{◌≡◌, ℕ, zero, suc, ◌+◌, ◌-◌, ◌*�
 use Rattle.std.specs.Char.{is_ascii_digit, encode_utf8}
 use Rattle.std.specs.List.{AllByRecursion}
 use Rattle.std.specs.Str.{encode_utf8_all, chars, IsUtf8, IsValidUpTo}
+use Rattle.jl_model.specs.declared.limits.TheConstants.{MOST_SOURCE_BYTES}
 use lib.Chars.{codes}
 use Rattle.jl_token.specs.declared.token.Operator.{Operator}
 use Rattle.jl_token.specs.declared.token.Operator.TheVariants as op
@@ -221,7 +222,7 @@ pub data ReadsBytes : List ℕ → Result (List Token) TokenFault → Type 0 whe
 
 -- what a source reads as: past 1,048,576 bytes it is too long
 abbrev pub ReadsSource : List ℕ → Result (List Token) TokenFault → Type 0
-ReadsSource source r = ((1048576 < length source) × (r ≡ Err fault.SourceTooLong)) ⊎ ((length source ≤ 1048576) × ReadsBytes source r)
+ReadsSource source r = ((MOST_SOURCE_BYTES < length source) × (r ≡ Err fault.SourceTooLong)) ⊎ ((length source ≤ MOST_SOURCE_BYTES) × ReadsBytes source r)
 
 -- the fact holds of what a function returned, unless memory ran out
 abbrev pub UnlessMemory : {A : Type 0} → Result A TokenFault → (Result A TokenFault → Type 0) → Type 0

@@ -8,12 +8,10 @@ use crate::characters::place;
 use crate::pieces::piece;
 use crate::prefix::is_prefix_behind;
 use crate::token::{Token, TokenFault, TokenKind, Tokens};
+use jl_model::limits::MOST_SOURCE_BYTES;
 use jl_model::shared::SharedList;
 use std::alloc::Global;
 use std::str;
-
-/// The most bytes that a source may have.
-const SOURCE_LIMIT: usize = 1_048_576;
 
 /// The tokens of a text.
 fn read(alloc: Global, source: &str) -> Result<Tokens, TokenFault>
@@ -63,7 +61,7 @@ pub fn tokens(alloc: Global, source: &[u8]) -> Result<Tokens, TokenFault>
     ensures only { IsOnly result (ReadsSource source.now) }
     ensures end { IfOk result (EndsOnce (length source.now)) }
 {
-    if source.len() > SOURCE_LIMIT {
+    if source.len() > MOST_SOURCE_BYTES {
         return Err(TokenFault::SourceTooLong);
     }
     read_bytes(alloc, source)

@@ -1,6 +1,7 @@
 -- Properties that what is read has where its parts have them.
 use Rattle.std.specs.Prelude.{ℕ, Bool, ◌≡◌, ◌<◌, true, List, [], ◌∷◌, length, slice_get}
 use Rattle.std.specs.List.{list_all}
+use Rattle.jl_model.specs.declared.builtin.TheConstants.{INT64}
 use Rattle.jl_model.specs.declared.ty.Ty.{Ty}
 use Rattle.jl_model.specs.declared.ty.Ty.TheViews as V
 use Rattle.jl_model.specs.declared.ty.Ty.TheVariants as W
@@ -71,7 +72,7 @@ pub record IsCarried (ds : List Decl) (P : Ty → Type 0) (N : ℕ → Type 0) (
   pub union : (ts : List Ty) → AllHave P ts → P (V.Union ts)
   pub tuple : (ts : List Ty) → AllHave P ts → P (V.Tuple ts)
   pub declared : (k : ℕ) (ts : List Ty) → k < length ds → AllHave P ts → P (V.Nominal k ts)
-  pub int : (ts : List Ty) → AllHave P ts → P (V.Nominal 4 ts)
+  pub int : (ts : List Ty) → AllHave P ts → P (V.Nominal INT64 ts)
   pub variable : (v : ℕ) → N v → P (W.Var v)
   pub params : (k : ℕ) → BoundsHave P (params_of (slice_get ds k))
   pub back : (r s : Reading) → Grows r s → Ok s → Ok r

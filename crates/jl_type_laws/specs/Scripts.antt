@@ -1,6 +1,7 @@
 -- What is asked of the declarations that a text sees.
 use Rattle.std.specs.Prelude.{ℕ, Bool, ◌≤◌, IsTrue, List, length}
 use Rattle.std.specs.List.{list_all}
+use Rattle.jl_model.specs.declared.builtin.TheConstants.{BUILTIN_TYPES}
 use Rattle.jl_model.specs.declared.ty.Decl.{Decl}
 use Rattle.jl_model.specs.Refusals.{bound_types}
 use Rattle.jl_model.specs.Valid.{is_known, is_closed}
@@ -15,6 +16,6 @@ are_closed ds = list_all (λ (d : Decl). list_all is_closed (bound_types d.param
 
 -- The built-in types are among them, and the declared bounds name types of the list alone and have no variables.
 pub record DeclsKnown (ds : List Decl) : Type 0 where
-  pub builtins : 8 ≤ length ds
+  pub builtins : BUILTIN_TYPES ≤ length ds
   pub known : IsTrue (are_known (length ds) ds)
   pub closed : IsTrue (are_closed ds)

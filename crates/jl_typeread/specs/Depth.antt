@@ -1,5 +1,6 @@
 -- The depth of a written type, and trees beside their depth.
 use Rattle.std.specs.Prelude.{ℕ, ◌+◌, max, cond, nat_lt, nat_le, List, [], ◌∷◌, ◌++◌, map}
+use Rattle.jl_model.specs.declared.limits.TheConstants.{MOST_TYPE_DEPTH}
 use Rattle.jl_typeread.specs.declared.tree.TypeText.{TypeText}
 use Rattle.jl_typeread.specs.declared.tree.ArgText.{ArgText}
 use Rattle.jl_typeread.specs.declared.tree.VarText.{VarText}
@@ -63,7 +64,7 @@ variables_depth vs = greatest (map variable_depth vs)
 
 -- the depth that no type may pass
 abbrev pub depth_limit : ℕ
-depth_limit = 1100
+depth_limit = MOST_TYPE_DEPTH
 
 -- a tree of this depth, where that is within the limit
 abbrev pub held : {X : Type 0} → ℕ → X → Deep X

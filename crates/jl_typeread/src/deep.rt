@@ -5,13 +5,11 @@ ghost use Rattle.jl_typeread.specs.declared.deep.Deep.TheVariants as D;
 ghost use Rattle.jl_typeread.specs.Depth.{plain, no_arguments, no_variables, argument, with_argument, with_variable, applied, paren, below_bound, above_bound, between_bound};
 
 use crate::tree::{ArgText, ArgTexts, TypeText, VarText, VarTexts};
+use jl_model::limits::MOST_TYPE_DEPTH;
 use jl_model::rows::Row;
 use jl_model::shared::SharedNode;
 use jl_model::ty::Bytes;
 use std::alloc::{AllocError, Global};
-
-/// The greatest depth that a type may have.
-pub const DEPTH_LIMIT: u32 = 1_100;
 
 /// What was read, with its depth; or that it is deeper than the limit.
 #[derive(Drop)]
@@ -106,7 +104,7 @@ pub(crate) fn applied(
     ensures { IfOk result (λ d. d ≡ applied at name arguments) }
 {
     match arguments {
-        Deep::Built(items, depth) if depth < DEPTH_LIMIT => {
+        Deep::Built(items, depth) if depth < MOST_TYPE_DEPTH => {
             let arguments = items.into_shared(alloc)?;
             Ok(Deep::Built(TypeText::Applied(at, name, arguments), depth + 1))
         }
@@ -126,7 +124,7 @@ pub(crate) fn paren(
     match (ty, variables) {
         (Deep::Built(ty, depth), Deep::Built(items, other)) => {
             let depth = depth.max(other);
-            if depth >= DEPTH_LIMIT {
+            if depth >= MOST_TYPE_DEPTH {
                 return Ok(Deep::TooDeep);
             }
             let ty = SharedNode::new(alloc, ty)?;

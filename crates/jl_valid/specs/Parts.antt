@@ -2,6 +2,7 @@
 use Rattle.std.specs.Prelude.{ℕ, ◌≡◌, ◌≤◌, ◌<◌, Bool, true, false, IsTrue, List, [], ◌∷◌, ◌++◌, length, get_or, None}
 use Rattle.std.specs.List.{flat_map}
 use Rattle.std.specs.Str.{is_utf8}
+use Rattle.jl_program.specs.declared.prelude.TheConstants.{PRELUDE_FUNCTIONS}
 use Rattle.jl_model.specs.declared.ty.Written.{Written}
 use Rattle.jl_model.specs.AllRows.{each_var}
 use Rattle.jl_model.specs.Usable.{is_usable}
@@ -124,4 +125,4 @@ module _ (k : Known) where
 
 -- what is true of what is known of a script
 pub record IsKnown (k : Known) : Type 0 where
-  pub functions : 12 ≤ length k.functions
+  pub functions : PRELUDE_FUNCTIONS ≤ length k.functions

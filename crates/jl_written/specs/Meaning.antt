@@ -1,5 +1,6 @@
 -- What a name means where a type must stand. The declared types before the place are ds, the built-in ones first.
 use Rattle.std.specs.Prelude.{ℕ, ◌+◌, cond, codes, List, [], ◌∷◌, map, Option, Some, None}
+use Rattle.jl_model.specs.declared.builtin.TheConstants.{INT64}
 use Rattle.jl_model.specs.declared.ty.Decl.{Decl}
 use Rattle.jl_program.specs.Names.{same_text}
 use Rattle.jl_written.specs.declared.reading.Named.{Named}
@@ -32,13 +33,13 @@ abbrev pub nominal_of : Option ℕ → Named
 nominal_of None = Unknown
 nominal_of (Some k) = Nominal k
 
--- `Int` is `Int64`, whose number is 4
+-- `Int` is `Int64`
 abbrev pub word_of : List Decl → List ℕ → Named
 word_of ds name =
     cond (same_text name (codes "Any")) Any
     (cond (same_text name (codes "Union")) Union
     (cond (same_text name (codes "Tuple")) Tuple
-    (cond (same_text name (codes "Int")) (Nominal 4) (nominal_of (place_of (map (λ (d : Decl). d.name) ds) name)))))
+    (cond (same_text name (codes "Int")) (Nominal INT64) (nominal_of (place_of (map (λ (d : Decl). d.name) ds) name)))))
 
 abbrev pub var_or : Option TypeVar → Named → Named
 var_or None n = n

@@ -6,6 +6,7 @@ ghost use Rattle.jl_model.specs.declared.ty.Decl.{Decl};
 ghost use Rattle.jl_written.specs.Meaning.{place_of, word_of};
 
 use crate::reading::Named;
+use jl_model::builtin::INT64;
 use jl_names::decls::FirstDecls;
 use std::alloc::AllocError;
 
@@ -94,7 +95,7 @@ pub(crate) fn word_of(decls: &FirstDecls<'_>, name: &[u8]) -> Named
         return Named::Tuple;
     }
     if is_same(name, b"Int") {
-        return Named::Nominal(4);
+        return Named::Nominal(INT64);
     }
     match place_of(decls, name) {
         None => Named::Unknown,

@@ -12,7 +12,7 @@ pub returns-in-Err-TypeLimit : goal.returns-in-Err-TypeLimit
 returns-in-Err-TypeLimit c =
     let ds = c.args.table.now in
     let t = c.args.written.now in
-    let few : TooManyParameters t → ⊥ = λ h. omega (arith, c.len.ensures, c.if-len-gt-MOST_COMPONENTS.false, h) in
+    let few : TooManyParameters t → ⊥ = λ h. omega (arith, c.len.ensures, c.if-len-gt-MOST_ARGUMENTS.false, h) in
     let w = well_written ds t c.args.plain.now c.as_slice.result.now c.are_placed.result c.in_ok-unused.unused c.are_counted.result c.requires.plain (c.as_slice.ensures.value ∙ c.in_ok-types.ensures)
     c.are_placed.ensures c.if-not-are_placed.false c.in_ok-unused.ensures c.if-unused.false few c.are_counted.ensures c.if-not-are_counted.false in
     (w, c.in-Err-TypeLimit.ensures.limit (ap (λ z. Err z) c.in-Err-TypeLimit.field-0-is))
@@ -28,7 +28,7 @@ pub returns-then-have_crossed : goal.returns-then-have_crossed
 returns-then-have_crossed c =
     let ds = c.args.table.now in
     let t = c.args.written.now in
-    let few : TooManyParameters t → ⊥ = λ h. omega (arith, c.len.ensures, c.if-len-gt-MOST_COMPONENTS.false, h) in
+    let few : TooManyParameters t → ⊥ = λ h. omega (arith, c.len.ensures, c.if-len-gt-MOST_ARGUMENTS.false, h) in
     let w = well_written ds t c.args.plain.now c.as_slice.result.now c.are_placed.result c.in_ok-unused.unused c.are_counted.result c.requires.plain (c.as_slice.ensures.value ∙ c.in_ok-types.ensures)
     c.are_placed.ensures c.if-not-are_placed.false c.in_ok-unused.ensures c.if-unused.false few c.are_counted.ensures c.if-not-are_counted.false in
     let b = subst (λ z. Both (IsSmallForm ds) (bound_types t.vars) (bound_types z)) (sym c.as_slice-3.ensures) c.in-Ok.ensures.forms.bounds in
@@ -45,7 +45,7 @@ pub returns-then-have_outside : goal.returns-then-have_outside
 returns-then-have_outside c =
     let ds = c.args.table.now in
     let t = c.args.written.now in
-    let few : TooManyParameters t → ⊥ = λ h. omega (arith, c.len.ensures, c.if-len-gt-MOST_COMPONENTS.false, h) in
+    let few : TooManyParameters t → ⊥ = λ h. omega (arith, c.len.ensures, c.if-len-gt-MOST_ARGUMENTS.false, h) in
     let w = well_written ds t c.args.plain.now c.as_slice.result.now c.are_placed.result c.in_ok-unused.unused c.are_counted.result c.requires.plain (c.as_slice.ensures.value ∙ c.in_ok-types.ensures)
     c.are_placed.ensures c.if-not-are_placed.false c.in_ok-unused.ensures c.if-unused.false few c.are_counted.ensures c.if-not-are_counted.false in
     let b = subst (λ z. Both (IsSmallForm ds) (bound_types t.vars) (bound_types z)) (sym c.as_slice-3.ensures) c.in-Ok.ensures.forms.bounds in
@@ -57,7 +57,7 @@ pub returns : goal.returns
 returns c =
     let ds = c.args.table.now in
     let t = c.args.written.now in
-    let few : TooManyParameters t → ⊥ = λ h. omega (arith, c.len.ensures, c.if-len-gt-MOST_COMPONENTS.false, h) in
+    let few : TooManyParameters t → ⊥ = λ h. omega (arith, c.len.ensures, c.if-len-gt-MOST_ARGUMENTS.false, h) in
     let w = well_written ds t c.args.plain.now c.as_slice.result.now c.are_placed.result c.in_ok-unused.unused c.are_counted.result c.requires.plain (c.as_slice.ensures.value ∙ c.in_ok-types.ensures)
     c.are_placed.ensures c.if-not-are_placed.false c.in_ok-unused.ensures c.if-unused.false few c.are_counted.ensures c.if-not-are_counted.false in
     let b = subst (λ z. Both (IsSmallForm ds) (bound_types t.vars) (bound_types z)) (sym c.as_slice-3.ensures) c.in-Ok.ensures.forms.bounds in

@@ -35,7 +35,7 @@ returns-then-have_crossed c =
     let w : IsWellWritten ds s = record {
       placed = λ h. let f : true ≡ false = sym c.if-not-are_placed.false ∙ c.are_placed.ensures ∙ h in cc;
       used = λ h. let g = c.in_ok-unused.ensures.1 h in let f : true ≡ false = sym g ∙ c.if-unused.false in cc;
-      few = λ h. omega (arith, c.len.ensures, c.if-len-gt-MOST_PARAMETERS.false, h);
+      few = λ h. omega (arith, c.len.ensures, c.if-len-gt-MOST_ARGUMENTS.false, h);
       counted = λ h. let f : true ≡ false = sym c.if-not-are_counted.false ∙ c.are_counted.ensures ∙ ap (list_all (is_counted ds)) (c.as_slice.ensures.value ∙ c.in_ok-types.ensures) ∙ h in cc;
     } in
     let p = c.in-Ok.ensures.kept in
@@ -50,7 +50,7 @@ returns-then-have_outside c =
     let w : IsWellWritten ds s = record {
       placed = λ h. let f : true ≡ false = sym c.if-not-are_placed.false ∙ c.are_placed.ensures ∙ h in cc;
       used = λ h. let g = c.in_ok-unused.ensures.1 h in let f : true ≡ false = sym g ∙ c.if-unused.false in cc;
-      few = λ h. omega (arith, c.len.ensures, c.if-len-gt-MOST_PARAMETERS.false, h);
+      few = λ h. omega (arith, c.len.ensures, c.if-len-gt-MOST_ARGUMENTS.false, h);
       counted = λ h. let f : true ≡ false = sym c.if-not-are_counted.false ∙ c.are_counted.ensures ∙ ap (list_all (is_counted ds)) (c.as_slice.ensures.value ∙ c.in_ok-types.ensures) ∙ h in cc;
     } in
     let p = c.in-Ok.ensures.kept in
@@ -68,7 +68,7 @@ returns c =
     let w : IsWellWritten ds s = record {
       placed = λ h. let f : true ≡ false = sym c.if-not-are_placed.false ∙ c.are_placed.ensures ∙ h in cc;
       used = λ h. let g = c.in_ok-unused.ensures.1 h in let f : true ≡ false = sym g ∙ c.if-unused.false in cc;
-      few = λ h. omega (arith, c.len.ensures, c.if-len-gt-MOST_PARAMETERS.false, h);
+      few = λ h. omega (arith, c.len.ensures, c.if-len-gt-MOST_ARGUMENTS.false, h);
       counted = λ h. let f : true ≡ false = sym c.if-not-are_counted.false ∙ c.are_counted.ensures ∙ ap (list_all (is_counted ds)) (c.as_slice.ensures.value ∙ c.in_ok-types.ensures) ∙ h in cc;
     } in
     let p = c.in-Ok.ensures.kept in

@@ -1,6 +1,6 @@
 use Rattle.std.proofs.Common.{◌≡◌, ◌++◌, drop, map}
-use Rattle.jl_resolve_walk.specs.Builtin.{row_site}
+use Rattle.jl_program.specs.Prelude.{site_of_row}
 use Rattle.jl_resolve_walk.proofs.beginning.sites.Given as goal
 
 abbrev pub invariant-loop-function : goal.invariant-loop-function
-invariant-loop-function l = l.sites ++ map row_site (drop l.function-index l.function-items) ≡ map row_site l.function-items
+invariant-loop-function l = l.sites ++ map site_of_row (drop l.function-index l.function-items) ≡ map site_of_row l.function-items

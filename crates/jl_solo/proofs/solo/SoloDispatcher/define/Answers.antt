@@ -5,16 +5,16 @@ use Rattle.jl_solo.specs.Solo.{knows_of}
 use Rattle.jl_solo.proofs.Answered.{full_all, not_full_all, grew_all, made_all, made_world_all, asked, alone_if}
 use Rattle.jl_solo.proofs.solo.SoloDispatcher.define.Goals as goal
 
-pub returns-then-len-ge-LAST_WORLD-clause-full : goal.returns-then-len-ge-LAST_WORLD-clause-full
-returns-then-len-ge-LAST_WORLD-clause-full c e =
+pub returns-then-len-ge-MOST_WORLDS-clause-full : goal.returns-then-len-ge-MOST_WORLDS-clause-full
+returns-then-len-ge-MOST_WORLDS-clause-full c e =
     let s = c.args.self.now in
-    full_all s.program.now s.sites.items s.alone s.looks (omega (arith, c.if-len-ge-LAST_WORLD.true, c.len.ensures, s.sites.ok.0))
+    full_all s.program.now s.sites.items s.alone s.looks (omega (arith, c.if-len-ge-MOST_WORLDS.true, c.len.ensures, s.sites.ok.0))
 
 pub invariant_of-self : goal.invariant_of-self
 invariant_of-self c =
     let s = c.args.self.now in record {
       alone = subst (IsAlone s.program.now) (sym c.push.ensures.items)
-          (alone_if s.program.now s.sites.items s.alone c.args.site (omega (arith, c.if-len-ge-LAST_WORLD.false, c.len.ensures, s.sites.ok.0)) c.requires.0 c.requires.1 (is_ok c.push.result));
+          (alone_if s.program.now s.sites.items s.alone c.args.site (omega (arith, c.if-len-ge-MOST_WORLDS.false, c.len.ensures, s.sites.ok.0)) c.requires.0 c.requires.1 (is_ok c.push.result));
     }
 
 pub returns-in-Ok-clause-grew : goal.returns-in-Ok-clause-grew
@@ -34,17 +34,17 @@ returns-in-Ok-clause-world c =
     subst (λ xs. IsMade (knows_at s.program.now (drop 14 xs) s.looks) c.len-in-Ok.result) (sym c.in-Ok.ensures.items)
     (made_world_all s.program.now s.sites.items s.alone s.looks c.len-in-Ok.result c.args.site last)
 
-pub returns-then-len-ge-LAST_WORLD-clause-refused : goal.returns-then-len-ge-LAST_WORLD-clause-refused
-returns-then-len-ge-LAST_WORLD-clause-refused c =
+pub returns-then-len-ge-MOST_WORLDS-clause-refused : goal.returns-then-len-ge-MOST_WORLDS-clause-refused
+returns-then-len-ge-MOST_WORLDS-clause-refused c =
     let s = c.args.self.now in
     asked s.program.now (drop 14 s.sites.items) s.looks
 
 pub returns-in-Ok-clause-limit : goal.returns-in-Ok-clause-limit
 returns-in-Ok-clause-limit c = λ full.
     let s = c.args.self.now in
-    absurd (not_full_all s.program.now s.sites.items s.alone s.looks (omega (arith, c.if-len-ge-LAST_WORLD.false, c.len.ensures, s.sites.ok.0)) full)
+    absurd (not_full_all s.program.now s.sites.items s.alone s.looks (omega (arith, c.if-len-ge-MOST_WORLDS.false, c.len.ensures, s.sites.ok.0)) full)
 
 pub returns-in-Err-clause-limit : goal.returns-in-Err-clause-limit
 returns-in-Err-clause-limit c = λ full.
     let s = c.args.self.now in
-    absurd (not_full_all s.program.now s.sites.items s.alone s.looks (omega (arith, c.if-len-ge-LAST_WORLD.false, c.len.ensures, s.sites.ok.0)) full)
+    absurd (not_full_all s.program.now s.sites.items s.alone s.looks (omega (arith, c.if-len-ge-MOST_WORLDS.false, c.len.ensures, s.sites.ok.0)) full)
