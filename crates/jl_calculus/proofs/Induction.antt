@@ -59,6 +59,7 @@ module _ (P : Expr → Type 1) (PI : Item → Type 1) (PQ : Piece → Type 1) (P
   module _ (step : (e : Expr) → Below (out-Expr e) → P e) (stepI : (x : Item) → BelowI (out-Item x) → PI x) (stepQ : (x : Piece) → BelowQ (out-Piece x) → PQ x) (stepT : (x : Stmt) → BelowT (out-Stmt x) → PT x) where
     mutual
       unfolding B.shown-the_row-Expr-1 Carrier.shown
+
       pub all : (e : Expr) → P e
       all (B.Int x) = step (B.Int x) (subst Below (sym (W.outs-Int x)) tt)
       all (B.Bool x) = step (B.Bool x) (subst Below (sym (W.outs-Bool x)) tt)

@@ -23,3 +23,5 @@ pub mod SomeSteps
 pub mod ViewLemmas
 pub mod Induction
 pub mod RunGrowth
+pub mod TaskRuns
+pub mod SomeLearnt

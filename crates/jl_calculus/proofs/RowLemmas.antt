@@ -1,5 +1,5 @@
 -- A row of a key that begins in a world has one site alone, and rows that cover one world begin in the same.
-use Rattle.std.proofs.Common.{◌≡◌, ◌∙◌, ap, sym, refl, ℕ, ◌<◌, ◌≤◌, inl, inr, arith, Bool, true, false, nat_eq, List}
+use Rattle.std.proofs.Common.{◌≡◌, ◌∙◌, ap, sym, ℕ, ◌<◌, ◌≤◌, inl, inr, arith, List}
 use Rattle.jl_model.specs.declared.ty.Key.{Key}
 use Rattle.jl_model.specs.declared.ty.Ty.{Ty}
 use Rattle.jl_model.specs.Choice.{Method, ChoosesMethod}

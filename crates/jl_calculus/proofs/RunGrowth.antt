@@ -1,5 +1,5 @@
 -- A run over a list of events is one over each list that goes on from it: the worlds in which it makes its calls are there already.
-use Rattle.std.proofs.Common.{◌≡◌, ◌∙◌, refl, sym, ap, subst, ℕ, zero, suc, ◌+◌, ◌-◌, ◌<◌, ◌≤◌, arith, Bool, true, false, cond, nat_eq, nat_lt, List, [], ◌∷◌, ◌++◌, map, length, take, slice_get, get_or, Option, None, Some}
+use Rattle.std.proofs.Common.{◌≡◌, sym, ap, subst, ℕ, zero, suc, ◌+◌, ◌<◌, ◌≤◌, arith, Bool, true, false, cond, nat_eq, nat_lt, List, [], ◌∷◌, ◌++◌, map, length, take, slice_get, get_or, Option, None, Some}
 use Rattle.std.specs.List.{Contains}
 use Rattle.std.proofs.lemmas.List.{length-take-le}
 use Rattle.jl_model.specs.Choice.{Method}
@@ -31,9 +31,9 @@ use Rattle.jl_program.specs.declared.fault.Fault.TheVariants.{FuelSpent}
 use Rattle.jl_calculus.specs.Kept.{Places, Keeps}
 use Rattle.jl_calculus.specs.Legal.{AreTrueOf}
 use Rattle.jl_calculus.specs.Operations.{field_of, part_of, make_tuple, make_written, make_inferred, test_type, test_order, test_same}
-use Rattle.jl_calculus.specs.Run.{Setting, setting_of, State, Then, Runs, ItemRuns, PieceRuns, Caller, Body, operation, code, either, each_runs, texts_run, stmts_run, items_run, looks, defines, spawns, fetched, fetches, fetches_value, decides, answers, operation_runs, expr_runs, stmt_runs, item_runs, piece_runs, runs, runs_stmt, runs_item, runs_piece, counted, chosen, performs, calls, open_calls, operates, body_of, with_left, with_env, with_scope, with_calls, with_start, start_at, binds, prints, newline, IsEnd, first_state, task_state, task_runs, starts_at, Run}
-use Rattle.jl_calculus.specs.World.{definitions, site_of, world_of, method_at, methods_from, methods_in, Selects}
-use Rattle.jl_calculus.proofs.GrowthLemmas.{definitions_length, world_more, selects_on, site_more, keeps_on, first_at_most}
+use Rattle.jl_calculus.specs.Run.{Setting, setting_of, State, Then, Runs, ItemRuns, PieceRuns, Caller, Body, operation, code, either, each_runs, texts_run, stmts_run, items_run, looks, defines, spawns, fetched, fetches, fetches_value, decides, answers, operation_runs, expr_runs, stmt_runs, item_runs, piece_runs, runs, runs_stmt, runs_item, runs_piece, chosen, performs, calls, open_calls, operates, body_of, with_left, with_env, with_scope, with_calls, with_start, start_at, binds, prints, newline, IsEnd, first_state, task_state, task_runs, starts_at, Run}
+use Rattle.jl_calculus.specs.World.{definitions, site_of, world_of, method_at, methods_from, Selects}
+use Rattle.jl_calculus.proofs.GrowthLemmas.{definitions_length, selects_on, site_more, keeps_on, first_at_most}
 use Rattle.jl_calculus.proofs.Induction.{Each, Below, BelowT, BelowI, BelowQ, all, allI}
 use Rattle.jl_calculus.proofs.Layers.{runs_is, item_is, piece_is, stmt_is}
 
@@ -50,6 +50,7 @@ numbered_at (Some site) f n high ms l h m c = by (nat_eq site.function f) c
     first : (c : Contains (record { number = n; sig = site.sig } ∷ ms) m) → (n ≤ m.number) × (m.number < high)
     first (zero, i, e) = let q : n ≡ m.number = ap (λ (x : Method). x.number) e in (omega (arith, q), omega (arith, q, l))
     first (suc k, i, e) = let r = h m (k, omega (arith, i), e) in (omega (arith, r.0), r.1)
+
     by : (b : Bool) → Contains (cond b (record { number = n; sig = site.sig } ∷ ms) ms) m → (n ≤ m.number) × (m.number < high)
     by true d = first d
     by false d = let k = h m d in (omega (arith, k.0), k.1)

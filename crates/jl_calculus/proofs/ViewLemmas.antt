@@ -1,5 +1,5 @@
 -- For a valid program, what is visible at its spawn places is what its validity was shown with.
-use Rattle.std.proofs.Common.{◌≡◌, ◌∙◌, refl, sym, ap, subst, ℕ, zero, suc, ◌+◌, ◌<◌, ◌≤◌, arith, Bool, true, false, ◌&&◌, cond, not, nat_eq, nat_le, nat_lt, IsTrue, All, List, [], ◌∷◌, ◌++◌, map, length, take, drop, get_or, append-nil, append_assoc, take-append-drop}
+use Rattle.std.proofs.Common.{◌≡◌, ◌∙◌, refl, sym, ap, subst, ℕ, suc, ◌+◌, ◌<◌, ◌≤◌, arith, Bool, true, false, ◌&&◌, cond, nat_eq, nat_le, nat_lt, All, List, [], ◌∷◌, ◌++◌, map, length, take, drop, get_or, take-append-drop}
 use Rattle.std.specs.List.{flat_map, list_all}
 use Rattle.std.proofs.lemmas.List.Elements.{All-head, All-tail}
 use Rattle.jl_program.specs.declared.tree.Expr.{Expr, roll-Expr}
@@ -12,9 +12,8 @@ use Rattle.jl_program.specs.declared.tree.Expr.TheOpen.{Expr-F, Stmt-F, Item-F, 
 use Rattle.jl_program.specs.declared.tree.Expr.TheOpen as F
 use Rattle.jl_program.specs.declared.tree.Expr.TheVariants as E
 use Rattle.jl_program.specs.declared.tree.Expr.TheFolds.{ind-Expr, ind-Item, map-Expr, map-Item, map-Piece, map-Stmt, fold-Piece, fold-Stmt, fold-roll-Expr, fold-roll-Item, fold-roll-Piece, fold-roll-Stmt}
-use Rattle.jl_model.specs.declared.ty.Ty.{Ty}
 use Rattle.jl_program.specs.Gathered.{in_stmt, in_item, in_piece, gathers, of_expr, of_stmt, of_item, of_piece, own_place, spawned_places, times}
-use Rattle.jl_program.specs.Prelude.{prelude_sites, builtin_site}
+use Rattle.jl_program.specs.Prelude.{prelude_sites}
 use Rattle.jl_program.specs.Scope.{View, Scope, Statement, nothing_seen, bound, evaluated, in_body, in_task, at_top, same_flags, same_view, all_in, expr_step, stmt_step, item_step, piece_step, is_valid_expr, item_of, is_valid_piece, are_valid_items, are_valid_tasks}
 use Rattle.jl_program.specs.Scope as Sc
 use Rattle.jl_program.specs.Valid.{IsValid, IsValidSite}
@@ -138,7 +137,7 @@ module _ (P : Program) (views : List View) where
       let parts = both_true ((stated x.0).valid s) (Sc.in_turn (map stated (map (λ e. e.0) xs)) next) h in
       let rest : Fine next.least (flat_map (λ x. x) (map ns (map (λ e. e.0) xs))) (find_in_turn (map has (map (λ e. e.0) xs)) next.view) = turn_fine stated ns has xs next parts.1 in
       let seen = subst (λ (v : View). Fine next.least (flat_map (λ x. x) (map ns (map (λ e. e.0) xs))) (find_in_turn (map has (map (λ e. e.0) xs)) v))
-          (after_view (stated x.0).binds (has x.0).binds s x.1.0) rest in
+      (after_view (stated x.0).binds (has x.0).binds s x.1.0) rest in
       fine_append s.least (ns x.0) (flat_map (λ x. x) (map ns (map (λ e. e.0) xs))) ((has x.0).finds s.view)
       (find_in_turn (map has (map (λ e. e.0) xs)) (cond (has x.0).binds (wider s.view) s.view))
       (x.1.1 s parts.0)
@@ -232,8 +231,8 @@ module _ (P : Program) (views : List View) where
 
   item_rolled : (x : Item-F Expr Item Piece Stmt)
       → Stated (item_step P views (map-Item Expr Item Piece Stmt Test Statement Test Statement valid (item_of P views) (is_valid_piece P views) (stmt_of P views) x))
-          (in_item (map-Item Expr Item Piece Stmt (List ℕ) (List ℕ) (List ℕ) (List ℕ) (of_expr own_place) (of_item own_place) (of_piece own_place) (of_stmt own_place) x))
-          (find_item_step (map-Item Expr Item Piece Stmt Finds Walk Finds Walk find_spawns walk_item piece_spawns stmt_placing x))
+      (in_item (map-Item Expr Item Piece Stmt (List ℕ) (List ℕ) (List ℕ) (List ℕ) (of_expr own_place) (of_item own_place) (of_piece own_place) (of_stmt own_place) x))
+      (find_item_step (map-Item Expr Item Piece Stmt Finds Walk Finds Walk find_spawns walk_item piece_spawns stmt_placing x))
       → ItemFine (roll-Item x)
   item_rolled x h =
       stated_moved _ _ _ _ _ _ (fold-roll-Item Test Statement Test Statement (expr_step P views) (item_step P views) (piece_step P views) (stmt_step P views) x)
@@ -248,8 +247,8 @@ module _ (P : Program) (views : List View) where
 
   stmt_rolled : (x : Stmt-F Expr Item Piece Stmt)
       → Stated (stmt_step P views (map-Stmt Expr Item Piece Stmt Test Statement Test Statement valid (item_of P views) (is_valid_piece P views) (stmt_of P views) x))
-          (in_stmt (map-Stmt Expr Item Piece Stmt (List ℕ) (List ℕ) (List ℕ) (List ℕ) (of_expr own_place) (of_item own_place) (of_piece own_place) (of_stmt own_place) x))
-          (find_stmt_step (map-Stmt Expr Item Piece Stmt Finds Walk Finds Walk find_spawns walk_item piece_spawns stmt_placing x))
+      (in_stmt (map-Stmt Expr Item Piece Stmt (List ℕ) (List ℕ) (List ℕ) (List ℕ) (of_expr own_place) (of_item own_place) (of_piece own_place) (of_stmt own_place) x))
+      (find_stmt_step (map-Stmt Expr Item Piece Stmt Finds Walk Finds Walk find_spawns walk_item piece_spawns stmt_placing x))
       → StmtFine (roll-Stmt x)
   stmt_rolled x h =
       stated_moved _ _ _ _ _ _ (fold-roll-Stmt Test Statement Test Statement (expr_step P views) (item_step P views) (piece_step P views) (stmt_step P views) x)
@@ -264,8 +263,8 @@ module _ (P : Program) (views : List View) where
 
   piece_rolled : (x : Piece-F Expr Item Piece Stmt)
       → FineIn (piece_step P views (map-Piece Expr Item Piece Stmt Test Statement Test Statement valid (item_of P views) (is_valid_piece P views) (stmt_of P views) x))
-          (in_piece (map-Piece Expr Item Piece Stmt (List ℕ) (List ℕ) (List ℕ) (List ℕ) (of_expr own_place) (of_item own_place) (of_piece own_place) (of_stmt own_place) x))
-          (find_piece_step (map-Piece Expr Item Piece Stmt Finds Walk Finds Walk find_spawns walk_item piece_spawns stmt_placing x))
+      (in_piece (map-Piece Expr Item Piece Stmt (List ℕ) (List ℕ) (List ℕ) (List ℕ) (of_expr own_place) (of_item own_place) (of_piece own_place) (of_stmt own_place) x))
+      (find_piece_step (map-Piece Expr Item Piece Stmt Finds Walk Finds Walk find_spawns walk_item piece_spawns stmt_placing x))
       → PieceFine (roll-Piece x)
   piece_rolled x h =
       moved _ _ _ _ _ _ (fold-roll-Piece Test Statement Test Statement (expr_step P views) (item_step P views) (piece_step P views) (stmt_step P views) x)
@@ -399,7 +398,7 @@ module _ (P : Program) (views : List View) where
       let stands : times place ns ≡ 1 = omega (arith, none, k.once place (omega (arith, l))) in
       let same : view_among ps place ≡ v = view_found place ns ps k.fine stands ∙ ap (λ z. get_or views z nothing_seen) (let z : place ≡ place + 0 = omega arith in z) ∙ st 0 (omega arith) in
       let more : Fine (place + 1) (of_expr own_place e) (find_spawns e (view_among ps place)) =
-          subst (λ (w : View). Fine (place + 1) (of_expr own_place e) (find_spawns e w)) (sym same) (expr_fine e (in_task place v) parts.0) in
+      subst (λ (w : View). Fine (place + 1) (of_expr own_place e) (find_spawns e w)) (sym same) (expr_fine e (in_task place v) parts.0) in
       all_known (place + 1) vs es (ns ++ of_expr own_place e) (ps ++ find_spawns e (view_among ps place))
       (λ j lt. ap (λ z. get_or views z nothing_seen) (let z : place + 1 + j ≡ place + suc j = omega arith in z) ∙ st (suc j) (omega (arith, lt)))
       (omega (arith, l))
@@ -454,6 +453,6 @@ module _ (P : Program) (h : IsValid P) where
   pub views_are : views_of P ≡ h.views
   views_are =
       let (ms, k) = all_known P h.views 0 h.views P.spawns (in_sites ++ in_top) (outer_spawns P)
-          (λ j l. ap (λ z. get_or h.views z nothing_seen) (let z : 0 + j ≡ j = omega arith in z)) (omega arith) h.tasks code_known in
+      (λ j l. ap (λ z. get_or h.views z nothing_seen) (let z : 0 + j ≡ j = omega arith in z)) (omega arith) h.tasks code_known in
       listed P h.views 0 h.views P.spawns (tasks_length P h.views 0 h.views P.spawns h.tasks)
       (λ j l. ap (view_at P) (let z : 0 + j ≡ j = omega arith in z) ∙ view_found P h.views j ms (with_inner (outer_spawns P) 0 P.spawns) k.fine (omega (arith, k.once j l)))
