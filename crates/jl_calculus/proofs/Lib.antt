@@ -25,3 +25,4 @@ pub mod Induction
 pub mod RunGrowth
 pub mod TaskRuns
 pub mod SomeLearnt
+pub mod BetweenLemmas
