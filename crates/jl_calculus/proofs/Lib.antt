@@ -23,3 +23,6 @@ pub mod SomeSteps
 pub mod ViewLemmas
 pub mod Induction
 pub mod RunGrowth
+pub mod TaskRuns
+pub mod SomeLearnt
+pub mod BetweenLemmas

@@ -61,7 +61,7 @@ ended trace o text calls = record { trace = trace; outcome = o; output = text; c
 
 -- ---- `f() = 1`, `late() = f()`, `t = Threads.@spawn late()`, `f() = 2`, `println(fetch(t))`, `println(f())`
 
-abbrev call : ℕ → Expr
+abbrev pub call : ℕ → Expr
 call f = X.Call f []
 
 abbrev pub Late : Program
@@ -103,17 +103,17 @@ abbrev pub late_8 : List Event
 late_8 = late_7 ++ Ev.Fill 1 14 15 ∷ []
 
 -- the task looks at nothing: all its calls run in the world of its spawn
-abbrev late_task : Record
+abbrev pub late_task : Record
 late_task = ended [] (int 1) [] 2
 
 abbrev pub late_9 : List Event
 late_9 = late_8 ++ Ev.Done 1 late_task ∷ []
 
-abbrev late_trace : List TraceItem
+abbrev pub late_trace : List TraceItem
 late_trace =
     Look 14 1 ∷ Def 14 1 ∷ Look 15 2 ∷ Def 15 2 ∷ Look 16 3 ∷ Spawn 1 3 ∷ Look 16 4 ∷ Def 16 4 ∷ Look 17 5 ∷ Fetch 1 (int 1) 10 ∷ Look 17 10 ∷ []
 
-abbrev late_root : Record
+abbrev pub late_root : Record
 late_root = ended late_trace (O.Value V.Nothing) (codes "1\n2\n") 1
 
 abbrev pub late_history : List Event
@@ -146,7 +146,7 @@ second_row : (row : CacheRow) → Contains (rows_of late_7) row → row.key ≡ 
 second_row row (zero, l, e) a b = absurd (omega (arith, a, ap (λ (r : CacheRow). r.key) e))
 second_row row (suc k, l, e) a b = absurd (omega (arith, l))
 
-late_stands : MayStand Late late_history
+pub late_stands : MayStand Late late_history
 late_stands = record {
   begun = refl;
   come = (
@@ -200,7 +200,7 @@ late_root_true = record {
   );
 }
 
-late_traced : IsTraced late_history
+pub late_traced : IsTraced late_history
 late_traced = record {
   traces = (tt, (tt, (tt, (tt, (tt, (tt, (tt, (tt, (tt, (late_task_true, (late_root_true, tt)))))))))));
   own = (tt, (tt, (tt, (tt, (tt, (tt, (tt, (tt, (tt, (refl, (refl, tt)))))))))));
@@ -211,7 +211,7 @@ both_finished es n a b zero l = a
 both_finished es n a b (suc zero) l = b
 both_finished es n a b (suc (suc task)) l = absurd (omega (arith, l, n))
 
-late_finished : AreFinished late_history
+pub late_finished : AreFinished late_history
 late_finished = both_finished late_history refl refl refl
 
 late_text : text_of Late late_history ≡ codes "1\n2\n"
@@ -228,32 +228,32 @@ Make = record {
   top = I.Define 14 ∷ I.Bind 0 (E.Spawn 0) ∷ I.Do (X.Fetch (E.Local 0)) ∷ I.Do (X.Print (Pi.Show (call 13) ∷ []) true) ∷ [];
 }
 
-abbrev make_1 : List Event
+abbrev pub make_1 : List Event
 make_1 = late_0 ++ Ev.Def 0 14 ∷ []
 
-abbrev make_2 : List Event
+abbrev pub make_2 : List Event
 make_2 = make_1 ++ Ev.Spawn 0 1 (start 15) ∷ []
 
-abbrev make_3 : List Event
+abbrev pub make_3 : List Event
 make_3 = make_2 ++ Ev.Def 1 15 ∷ []
 
 -- the task looks, and then defines
-abbrev make_task : Record
+abbrev pub make_task : Record
 make_task = ended (Look 15 3 ∷ Def 15 3 ∷ []) (int 0) [] 1
 
-abbrev make_4 : List Event
+abbrev pub make_4 : List Event
 make_4 = make_3 ++ Ev.Done 1 make_task ∷ []
 
-abbrev make_trace : List TraceItem
+abbrev pub make_trace : List TraceItem
 make_trace = Look 14 1 ∷ Def 14 1 ∷ Look 15 2 ∷ Spawn 1 2 ∷ Look 15 3 ∷ Fetch 1 (int 0) 5 ∷ Look 16 5 ∷ []
 
-abbrev make_root : Record
+abbrev pub make_root : Record
 make_root = ended make_trace (O.Value V.Nothing) (codes "7\n") 1
 
 abbrev pub make_history : List Event
 make_history = make_4 ++ Ev.Done 0 make_root ∷ []
 
-make_stands : MayStand Make make_history
+pub make_stands : MayStand Make make_history
 make_stands = record {
   begun = refl;
   come = (
@@ -280,10 +280,10 @@ make_root_true = record {
   in_order = (omega arith, (omega arith, (omega arith, (omega arith, (omega arith, (omega arith, (omega arith, omega arith)))))));
 }
 
-make_traced : IsTraced make_history
+pub make_traced : IsTraced make_history
 make_traced = record { traces = (tt, (tt, (tt, (tt, (make_task_true, (make_root_true, tt)))))); own = (tt, (tt, (tt, (tt, (refl, (refl, tt)))))) }
 
-make_finished : AreFinished make_history
+pub make_finished : AreFinished make_history
 make_finished = both_finished make_history refl refl refl
 
 make_text : text_of Make make_history ≡ codes "7\n"

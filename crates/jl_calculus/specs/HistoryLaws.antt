@@ -16,7 +16,7 @@ use Rattle.jl_calculus.specs.Legal.{AreTrueOf, MayStand}
 use Rattle.jl_calculus.specs.Run.{setting_of, Run}
 use Rattle.jl_calculus.specs.Views.{views_of}
 use Rattle.jl_calculus.specs.Past.{tasks_of}
-use Rattle.jl_calculus.specs.Ranges.{Covers, MayBegin, IsRightFill}
+use Rattle.jl_calculus.specs.Ranges.{Covers, SelectsSite, MayBegin, IsRightFill}
 use Rattle.jl_calculus.specs.World.{world_of, Selects}
 
 -- an item that is true of a list of events stays true when the list grows
@@ -44,6 +44,16 @@ OneRightSite = (P : Program) (es : List Event) (key : Key) (s t first : ℕ) →
 abbrev pub OneFirstWorld : Type 0
 OneFirstWorld =
     (P : Program) (es : List Event) (key : Key) (a b w : ℕ) → MayBegin P es key a → MayBegin P es key b → Covers P es key a w → Covers P es key b w → a ≡ b
+
+-- the choice for a key is the same in all worlds that a row of it covers
+abbrev pub RowsKeepTheChoice : Type 0
+RowsKeepTheChoice =
+    (P : Program) (es : List Event) (key : Key) (first w : ℕ) → Covers P es key first w
+    → (c : Choice) → Selects P es key.function key.types first c ↔ Selects P es key.function key.types w c
+
+-- so the site of a right row is that of the choice in each world that it covers
+abbrev pub RowsTellTheSite : Type 0
+RowsTellTheSite = (P : Program) (es : List Event) (key : Key) (site first w : ℕ) → IsRightFill P es key site first → Covers P es key first w → SelectsSite P es key w site
 
 -- a list of numbers has each task of the events once, and no other
 abbrev pub HasEachOnce : List Event → List ℕ → Type 0

@@ -1,6 +1,6 @@
 //! Laws of histories. They are about definitions alone: each function does nothing, and its contract is the law.
 
-ghost use Rattle.jl_calculus.specs.HistoryLaws.{ItemsStay, KeptStays, ChoiceStays, RangesStay, OneRightSite, OneFirstWorld, OrdersAreWhole, RunsStay, ViewsAreOne};
+ghost use Rattle.jl_calculus.specs.HistoryLaws.{ItemsStay, KeptStays, ChoiceStays, RangesStay, OneRightSite, OneFirstWorld, OrdersAreWhole, RowsKeepTheChoice, RowsTellTheSite, RunsStay, ViewsAreOne};
 ghost use Rattle.jl_calculus.specs.Orders.{path_order, wait_order};
 
 /// What is true of a history, as far as a task has seen it, stays true when the history grows: an item of a trace, the
@@ -26,6 +26,13 @@ pub fn law_runs_stay()
 pub fn law_one_right_row()
     ensures site { OneRightSite }
     ensures first { OneFirstWorld }
+{}
+
+/// A row tells the choice: the choice for its key is the same in all worlds that it covers, and a right row has its site
+/// (Belyakova et al., OOPSLA 2020).
+pub fn law_rows_tell_the_choice()
+    ensures choice { RowsKeepTheChoice }
+    ensures site { RowsTellTheSite }
 {}
 
 /// In path order, and in wait order, each task stands once, and nothing else.
