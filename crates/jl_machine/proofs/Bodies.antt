@@ -1,5 +1,5 @@
 -- What the bodies of a simple program are, and what their operations give.
-use Rattle.std.proofs.Common.{Option, Some, None, ◌≡◌, ℕ, ℤ, pos, zero, suc, ◌≤◌, List, [], ◌∷◌, map, length, Bool, true, false, cond, nat_lt, refl, ap, ◌∙◌, arith, slice_get, get_or, All, IsTrue}
+use Rattle.std.proofs.Common.{◌≡◌, ℕ, ℤ, pos, zero, suc, ◌≤◌, List, [], ◌∷◌, map, length, Bool, true, false, cond, nat_lt, refl, ap, ◌∙◌, arith, slice_get, get_or, All, IsTrue, Option, Some, None}
 use Rattle.jl_program.specs.declared.value.Value.{Value}
 use Rattle.jl_program.specs.declared.value.Value.TheVariants as V
 use Rattle.jl_calculus.specs.declared.history.Outcome.{Outcome}
