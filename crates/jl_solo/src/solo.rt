@@ -1,6 +1,7 @@
 //! A dispatcher for a task that runs alone.
 
 ghost use Rattle.std.specs.Prelude.{◌≡◌, ◌≤◌, IfOk, length, slice_get};
+ghost use Rattle.jl_program.specs.Prelude.{prelude_numbers};
 ghost use Rattle.jl_calculus.specs.Simple.{IsSimple};
 ghost use Rattle.jl_choice.specs.Methods.{defs_from};
 ghost use Rattle.jl_solo.specs.Alone.{IsAlone, is_of};
