@@ -1,8 +1,5 @@
 -- A run over a list of events is one over each list that goes on from it: the worlds in which it makes its calls are there already.
-use Rattle.std.proofs.Common.{◌≡◌, sym, ap, subst, ℕ, zero, suc, ◌+◌, ◌<◌, ◌≤◌, arith, Bool, true, false, cond, nat_eq, nat_lt, List, [], ◌∷◌, ◌++◌, map, length, take, slice_get, get_or, Option, None, Some}
-use Rattle.std.specs.List.{Contains}
-use Rattle.std.proofs.lemmas.List.{length-take-le}
-use Rattle.jl_model.specs.Choice.{Method}
+use Rattle.std.proofs.Common.{sym, subst, ℕ, zero, suc, ◌+◌, ◌≤◌, arith, Bool, true, false, nat_lt, List, [], ◌∷◌, ◌++◌, map, slice_get, get_or, Option, None, Some}
 use Rattle.jl_model.specs.declared.ty.Ty.{Ty}
 use Rattle.jl_program.specs.declared.choice.Choice.{Choice}
 use Rattle.jl_program.specs.declared.choice.Choice.TheVariants as C
@@ -13,7 +10,6 @@ use Rattle.jl_program.specs.declared.tree.Stmt.{Stmt, out-Stmt}
 use Rattle.jl_program.specs.declared.tree.Expr.TheOpen.{Expr-F, Stmt-F, Item-F, Piece-F}
 use Rattle.jl_program.specs.declared.tree.Expr.TheOpen as F
 use Rattle.jl_program.specs.declared.tree.Program.{Program}
-use Rattle.jl_program.specs.declared.tree.Site.{Site}
 use Rattle.jl_program.specs.declared.tree.Start.{Start}
 use Rattle.jl_program.specs.declared.value.Value.{Value}
 use Rattle.jl_program.specs.declared.value.Value.TheVariants as V
@@ -32,41 +28,11 @@ use Rattle.jl_calculus.specs.Kept.{Places, Keeps}
 use Rattle.jl_calculus.specs.Legal.{AreTrueOf}
 use Rattle.jl_calculus.specs.Operations.{field_of, part_of, make_tuple, make_written, make_inferred, test_type, test_order, test_same}
 use Rattle.jl_calculus.specs.Run.{Setting, setting_of, State, Then, Runs, ItemRuns, PieceRuns, Caller, Body, operation, code, either, each_runs, texts_run, stmts_run, items_run, looks, defines, spawns, fetched, fetches, fetches_value, decides, answers, operation_runs, expr_runs, stmt_runs, item_runs, piece_runs, runs, runs_stmt, runs_item, runs_piece, chosen, performs, calls, open_calls, operates, body_of, with_left, with_env, with_scope, with_calls, with_start, start_at, binds, prints, newline, IsEnd, first_state, task_state, task_runs, starts_at, Run}
-use Rattle.jl_calculus.specs.World.{definitions, site_of, world_of, method_at, methods_from, Selects}
-use Rattle.jl_calculus.proofs.GrowthLemmas.{definitions_length, selects_on, site_more, keeps_on, first_at_most}
+use Rattle.jl_calculus.specs.World.{site_of, world_of, Selects}
+use Rattle.jl_calculus.proofs.BetweenLemmas.{of_world}
+use Rattle.jl_calculus.proofs.GrowthLemmas.{selects_on, site_more, keeps_on, first_at_most}
 use Rattle.jl_calculus.proofs.Induction.{Each, Below, BelowT, BelowI, BelowQ, all, allI}
 use Rattle.jl_calculus.proofs.Layers.{runs_is, item_is, piece_is, stmt_is}
-
--- ---- a method that is chosen in a world is one of its definitions
-
--- the numbers of methods that are counted from here on
-abbrev Numbered : ℕ → ℕ → List Method → Type 0
-Numbered low high ms = (m : Method) → Contains ms m → (low ≤ m.number) × (m.number < high)
-
-numbered_at : (o : Option Site) (f n high : ℕ) (ms : List Method) → n < high → Numbered (n + 1) high ms → Numbered n high (method_at o f n ms)
-numbered_at None f n high ms l h m c = let k = h m c in (omega (arith, k.0), k.1)
-numbered_at (Some site) f n high ms l h m c = by (nat_eq site.function f) c
-  where
-    first : (c : Contains (record { number = n; sig = site.sig } ∷ ms) m) → (n ≤ m.number) × (m.number < high)
-    first (zero, i, e) = let q : n ≡ m.number = ap (λ (x : Method). x.number) e in (omega (arith, q), omega (arith, q, l))
-    first (suc k, i, e) = let r = h m (k, omega (arith, i), e) in (omega (arith, r.0), r.1)
-
-    by : (b : Bool) → Contains (cond b (record { number = n; sig = site.sig } ∷ ms) ms) m → (n ≤ m.number) × (m.number < high)
-    by true d = first d
-    by false d = let k = h m d in (omega (arith, k.0), k.1)
-
-numbered : (P : Program) (f n : ℕ) (sites : List ℕ) → Numbered n (n + length sites) (methods_from P f n sites)
-numbered P f n [] m (k, i, e) = absurd (omega (arith, i))
-numbered P f n (s ∷ sites) m c =
-    let high : n + 1 + length sites ≡ n + suc (length sites) = omega arith in
-    numbered_at (slice_get P.sites s) f n (n + suc (length sites)) (methods_from P f (n + 1) sites) (omega arith)
-    (subst (λ (k : ℕ). Numbered (n + 1) k (methods_from P f (n + 1) sites)) high (numbered P f (n + 1) sites)) m c
-
-of_world : (P : Program) (es : List Event) (f : ℕ) (ts : List Ty) (w d : ℕ) → w ≤ world_of es → Selects P es f ts w (C.Method d) → (1 ≤ d) × (d ≤ w)
-of_world P es f ts w d l (m, b, e) =
-    let k = numbered P f 1 (take w (definitions es)) m b.candidate.applies.stands in
-    let n : length (take w (definitions es)) ≡ w = length-take-le w (definitions es) (omega (arith, l, definitions_length es)) in
-    (omega (arith, k.0, e), omega (arith, k.1, e, n))
 
 -- ---- the worlds of a trace
 
@@ -397,7 +363,7 @@ module _ (P : Program) (es more : List Event) (room : Option Places) (fuel : ℕ
   chosen_stays : (o : Choice) (f : ℕ) (ts : List Ty) (w : ℕ) (s : State) (k k' : ℕ → Type 0) → w ≤ world_of es → Selects P es f ts w o → ((site : ℕ) → k site → k' site)
       → chosen g Ends o f ts w s k → chosen g' Ends o f ts w s k'
   chosen_stays (C.Method d) f ts w s k k' l sel m h =
-      let n = of_world P es f ts w d l sel in
+      let n = of_world P es f ts w d sel in
       subst k' (sym (site_more P es more d n.0 (omega (arith, n.1, l)))) (m (site_of es d) h)
   chosen_stays C.None f ts w s k k' l sel m h = h
   chosen_stays (C.Ambiguous a b) f ts w s k k' l sel m h = h
