@@ -22,6 +22,7 @@ pub mod SomeWords
 pub mod SomeSteps
 pub mod ViewLemmas
 pub mod Induction
+pub mod RunMoves
 pub mod RunGrowth
 pub mod TaskRuns
 pub mod SomeLearnt
