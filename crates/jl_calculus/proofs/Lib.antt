@@ -10,6 +10,7 @@ pub mod InferExamples
 pub mod FirstScript
 pub mod OtherScripts
 pub mod WorldScripts
+pub mod StopExamples
 pub mod TaskScripts
 pub mod OtherHistories
 pub mod GrowthLemmas
