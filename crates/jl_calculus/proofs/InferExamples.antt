@@ -1,6 +1,6 @@
 -- What stands for a variable of a signature, computed: `Box(3)` after `struct Box{T}; x::T end`, and the static parameter of
 -- `pick(x::Box{T}, y::T) where T` for `pick(Box{Integer}(1), true)`.
-use Rattle.std.proofs.Common.{◌≡◌, ◌∙◌, refl, sym, ap, subst, ℕ, zero, suc, ◌<◌, pos, Bool, true, List, [], ◌∷◌, ◌++◌, map, ◌⊎◌, get_or, slice_get, Option, Some, None, arith, inl, inr}
+use Rattle.std.proofs.Common.{◌≡◌, ◌∙◌, refl, sym, ap, subst, ℕ, zero, suc, ◌<◌, pos, Bool, true, List, [], ◌∷◌, ◌++◌, map, ◌⊎◌, get_or, slice_get, Option, Some, None, arith, inl, inr, length}
 use Rattle.std.specs.List.{Contains}
 use Rattle.jl_model.specs.declared.ty.Ty.{Ty}
 use Rattle.jl_model.specs.declared.ty.Ty.TheOpen as L
@@ -15,9 +15,9 @@ use Rattle.jl_model.specs.Counts.{nodes}
 use Rattle.jl_model.specs.Found.{find_arg, find_arg_step, find_inner, find_inner_step, find_outer, find_outer_step}
 use Rattle.jl_model.specs.Kinds.{Places, places, places_step, plus, nowhere, kind_of, once}
 use Rattle.jl_model.specs.Refusals.{Given, given_in, given_step, Between}
-use Rattle.jl_model.specs.Rows.{choices, forms, forms_step, free, kind, place_of, root, Occurs}
+use Rattle.jl_model.specs.Rows.{choices, forms, forms_step, free, kind, place_of, root, Occurs, components}
 use Rattle.jl_model.specs.SigRefusals.{BoundBroken}
-use Rattle.jl_model.specs.Signature.{Row, Applicable, both_end, both_more}
+use Rattle.jl_model.specs.Signature.{Row, Applicable, Both, both_end, both_more}
 use Rattle.jl_model.specs.Subtype.{Table, opaque, Below}
 use Rattle.jl_model.specs.Valid.{params_of}
 use Rattle.jl_model.specs.Usable.{outside_step, is_outside_unions, is_usable}
@@ -170,3 +170,25 @@ pick_usable =
 
 picked : bindings n pick (integers ∷ bool ∷ []) ≡ named 2 ∷ []
 picked = rw (pick_usable, in_box) refl
+
+-- ---- `Box(1, 2)`: there are more arguments than fields
+
+one_row : (r : List Ty) → Contains (components fields) r → W.Any ∷ [] ≡ r
+one_row r c = only (subst (λ (ts : List Ty). Contains (choices (ts ∷ [])) r) var_forms c)
+  where
+    only : Contains ((W.Any ∷ []) ∷ []) r → W.Any ∷ [] ≡ r
+    only (zero, l, e) = e
+    only (suc k, l, e) = absurd (omega (arith, l))
+
+too_many : (Q : Ty → Ty → Type 0) (t u : Ty) (r : List Ty) → W.Any ∷ [] ≡ r → Both Q (t ∷ u ∷ []) r → ⊥
+too_many Q t u r e h = let n : ◌≡◌ {A = ℕ} 2 1 = same_length Q (t ∷ u ∷ []) r h ∙ ap length (sym e) in absurd (omega (arith, n))
+  where
+    same_length : (Q : Ty → Ty → Type 0) (xs ys : List Ty) → Both Q xs ys → length xs ≡ length ys
+    same_length Q xs ys both_end = refl
+    same_length Q xs ys (both_more x y us vs p q) = ap suc (same_length Q us vs q)
+
+admits_no_two : Applicable n fields (int64 ∷ int64 ∷ []) → ⊥
+admits_no_two (r, f, is, serves, shut, parts) = too_many _ int64 int64 r.parts (one_row r.parts is.parts) parts
+
+box_of_two : make_inferred types 8 (V.Int (pos 1) ∷ V.Int (pos 2) ∷ []) (O.Error (F.NoConstructor (T.Nominal 8 []) (int64 ∷ int64 ∷ [])))
+box_of_two = inl (F.NoConstructor (T.Nominal 8 []) (int64 ∷ int64 ∷ []), (refl, inl admits_no_two), refl)

@@ -10,6 +10,7 @@ pub mod InferExamples
 pub mod FirstScript
 pub mod OtherScripts
 pub mod WorldScripts
+pub mod StopExamples
 pub mod TaskScripts
 pub mod OtherHistories
 pub mod GrowthLemmas
@@ -22,7 +23,8 @@ pub mod SomeWords
 pub mod SomeSteps
 pub mod ViewLemmas
 pub mod Induction
+pub mod BetweenLemmas
+pub mod RunMoves
 pub mod RunGrowth
 pub mod TaskRuns
 pub mod SomeLearnt
-pub mod BetweenLemmas

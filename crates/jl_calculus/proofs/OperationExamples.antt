@@ -1,5 +1,5 @@
 -- What operations on values answer, computed. That nothing else is answered is a law.
-use Rattle.std.proofs.Common.{◌≡◌, ◌∙◌, refl, sym, ap, subst, ℕ, zero, suc, ℤ, pos, Bool, true, false, true≢false, codes, List, [], ◌∷◌, ◌++◌, Some, None, slice_get, arith, inr}
+use Rattle.std.proofs.Common.{◌≡◌, ◌∙◌, refl, sym, ap, subst, ℕ, zero, suc, ℤ, pos, Bool, true, false, true≢false, codes, List, [], ◌∷◌, ◌++◌, Some, None, slice_get, arith, inr, map, inl}
 use Rattle.std.specs.List.{Contains}
 use Rattle.jl_model.specs.declared.ty.Ty.{Ty}
 use Rattle.jl_model.specs.declared.ty.Ty.TheOpen as L
@@ -24,7 +24,7 @@ use Rattle.jl_program.specs.declared.datum.Datum.TheViews.{out-roll-Datum}
 use Rattle.jl_program.specs.declared.fault.Fault.TheVariants as F
 use Rattle.jl_program.specs.declared.value.Value.{Value}
 use Rattle.jl_program.specs.declared.value.Value.TheVariants as V
-use Rattle.jl_program.specs.Making.{tuple_of}
+use Rattle.jl_program.specs.Making.{tuple_of, IsTooLargeType, IsTooLarge}
 use Rattle.jl_program.specs.Meaning.{datum, value_of}
 use Rattle.jl_program.specs.Measures as values
 use Rattle.jl_program.specs.Prelude.{plain, int64, bool, two}
@@ -33,9 +33,9 @@ use Rattle.jl_program.proofs.FirstChoices.{int_put, int_forms, int_vars, int_bel
 use Rattle.jl_program.proofs.PlainSigs.{builtin, plain_valid}
 use Rattle.jl_calculus.specs.declared.history.Outcome.{Outcome}
 use Rattle.jl_calculus.specs.declared.history.Outcome.TheVariants as O
-use Rattle.jl_calculus.specs.Answers.{tell}
+use Rattle.jl_calculus.specs.Answers.{Answer, tell}
 use Rattle.jl_calculus.specs.Statics.{own_or_bound, with_statics, nominals_in, nominals_step, nominals_of, Breaks, IsBroken, IsFirstBroken}
-use Rattle.jl_calculus.specs.Operations.{IsSame, field_of, part_of, make_tuple, with_type, test_type, test_same}
+use Rattle.jl_calculus.specs.Operations.{IsSame, field_of, part_of, make_tuple, with_type, test_type, test_order, test_same}
 use Rattle.jl_calculus.proofs.ValueLemmas.{value_back}
 use Rattle.jl_calculus.proofs.AnswerLemmas.{same_once}
 
@@ -198,3 +198,20 @@ one_is_integer statics =
     let fact : with_type types integer (tell (Applicable (table_of types) integer (int64 ∷ []))) (answer true) =
     inr ((λ e h. small h.1), inr ((λ e h. not_broken h.0 h.2), (true, ((λ _. int_applies), (λ _. refl)), refl))) in
     subst (λ (t : Written). with_type types t (tell (Applicable (table_of types) t (int64 ∷ []))) (answer true)) (sym (put_in statics)) fact
+
+-- ---- the order of refusals
+
+-- a tuple's type comes before its size
+type_first : (vs : List Value) → IsTooLargeType (map datum vs) → make_tuple types vs (O.Error F.TypeLimit)
+type_first vs large = inl (F.TypeLimit, (refl, large), refl)
+
+size_next : (vs : List Value) → (IsTooLargeType (map datum vs) → ⊥) → IsTooLarge (tuple_of (map datum vs)) → make_tuple types vs (O.Error F.ValueLimit)
+size_next vs fits large = inr ((λ e h. fits h.1), inl (F.ValueLimit, (refl, large), refl))
+
+-- a written type that is too large is refused before a declared bound is looked at, whatever is asked of it
+large_first : (t : Written) (rest : Answer) → TypeLimit types t → with_type types t rest (O.Error F.TypeLimit)
+large_first t rest large = inl (F.TypeLimit, (refl, large), refl)
+
+-- of two types of `<:` the second may be at fault alone, and its size comes before the bounds of the first
+either_first : (statics : List Ty) (t u : Written) → TypeLimit types (with_statics statics u) → test_order types statics t u (O.Error F.TypeLimit)
+either_first statics t u large = inl (F.TypeLimit, (refl, inr large), refl)

@@ -1,5 +1,5 @@
--- The run, computed on scripts with tasks: a task that fails and is fetched, and a task that runs in the world in which it was spawned.
-use Rattle.std.proofs.Common.{refl, ℕ, suc, pos, codes, List, [], ◌∷◌, ◌++◌, Some, None}
+-- The run, computed on a script with a task that fails and is fetched.
+use Rattle.std.proofs.Common.{refl, ℕ, suc, pos, List, [], ◌∷◌, Some, None}
 use Rattle.jl_program.specs.declared.choice.Choice.TheVariants as C
 use Rattle.jl_program.specs.declared.fault.Fault.TheVariants as Fa
 use Rattle.jl_program.specs.declared.tree.Expr.{Expr}
@@ -14,15 +14,14 @@ use Rattle.jl_program.specs.Prelude.{plain, two, prelude_functions, prelude_site
 use Rattle.jl_program.specs.Scope.{types_of}
 use Rattle.jl_program.proofs.FirstChoices.{only_choice, two_apply}
 use Rattle.jl_calculus.specs.declared.history.Event.{Event}
-use Rattle.jl_calculus.specs.declared.history.Event.TheVariants as Ev
 use Rattle.jl_calculus.specs.declared.history.Outcome.{Outcome}
 use Rattle.jl_calculus.specs.declared.history.Outcome.TheVariants as O
 use Rattle.jl_calculus.specs.declared.history.TraceItem.{TraceItem}
 use Rattle.jl_calculus.specs.declared.history.TraceItem.TheVariants.{Look, Spawn, Fetch}
-use Rattle.jl_calculus.specs.Run.{Setting, setting_of, State, Then, IsEnd, Caller, Run, calls, runs, runs_item, binds, with_scope, fetches_value, first_state, open_calls}
+use Rattle.jl_calculus.specs.Run.{Setting, setting_of, State, Then, IsEnd, Caller, Run, calls, runs, runs_item, binds, fetches_value, first_state, open_calls}
 use Rattle.jl_calculus.specs.World.{Selects}
 use Rattle.jl_calculus.proofs.Forms.{form_is, item_form_is}
-use Rattle.jl_calculus.proofs.WorldScripts.{made, bare, empty_applies}
+use Rattle.jl_calculus.proofs.WorldScripts.{made, bare}
 
 -- ---- `t = Threads.@spawn div(1, 0)`, and then `fetch(t)`
 
@@ -73,42 +72,3 @@ root_fails es =
     let rest : Then = λ v s. runs_item g Ends called (I.Do fetch) s end end in
     let spawn = made (form_is g Ends called (E.Spawn 0) (F.Spawn 0) (X.outs-Spawn 0) 14 (bare (Spawn 1 1 ∷ Look 14 2 ∷ fetched ∷ []) 0) end (λ v s. rest v (binds s 0 v))) second in
     record { ran = made (item_form_is g Ends called (I.Bind 0 (E.Spawn 0)) (F.Item::Bind 0 (E.Spawn 0)) (X.outs-Item::Bind 0 (E.Spawn 0)) (first_state (Look 14 1 ∷ Spawn 1 1 ∷ Look 14 2 ∷ fetched ∷ [])) end rest) spawn }
-
--- ---- `f() = 1`, `late() = f()`, `t = Threads.@spawn late()`, `f() = 2`: the task runs in world 16, also where world 17 is there
-
-abbrev later : Program
-later = record {
-  decls = [];
-  functions = prelude_functions ++ codes "f" ∷ codes "late" ∷ [];
-  sites = prelude_sites
-      ++ record { function = 12; sig = plain []; body = E.Int (pos 1) }
-      ∷ record { function = 13; sig = plain []; body = X.Call 12 [] }
-      ∷ record { function = 12; sig = plain []; body = E.Int (pos 2) } ∷ [];
-  spawns = X.Call 13 [] ∷ [];
-  top = I.Define 14 ∷ I.Define 15 ∷ I.Bind 0 (E.Spawn 0) ∷ I.Define 16 ∷ [];
-}
-
-abbrev all : List Event
-all = Ev.Begin 10 ∷ Ev.Def 0 14 ∷ Ev.Def 0 15 ∷ Ev.Spawn 0 1 (start 16) ∷ Ev.Def 0 16 ∷ []
-
-late_chosen : Selects later all 13 [] 16 (C.Method 16)
-late_chosen = only_choice (types_of later) (record { number = 16; sig = plain [] }) [] (empty_applies (types_of later))
-
-old_chosen : Selects later all 12 [] 16 (C.Method 15)
-old_chosen = only_choice (types_of later) (record { number = 15; sig = plain [] }) [] (empty_applies (types_of later))
-
-late_runs : Run (setting_of later all None 10) (Some (start 16)) [] (O.Value (V.Int (pos 1))) [] 2 []
-late_runs =
-    let o : Outcome = O.Value (V.Int (pos 1)) in
-    let Ends : Outcome → State → Type 0 = IsEnd o [] 2 [] in
-    let end : Then = λ v s. Ends (O.Value v) s in
-    let g : Setting = setting_of later all None 10 in
-    let called : Caller = calls g Ends open_calls in
-    let stop : Ends o (bare [] 2) = record { is = refl; whole = refl; printed = refl; counted_calls = refl; spawned_tasks = refl } in
-    let outer : Then = λ v s. end v (with_scope s [] []) in
-    let inner : Then = λ v s. outer v (with_scope s [] []) in
-    let one = made (form_is g Ends (calls g Ends 99998) (E.Int (pos 1)) (F.Int (pos 1)) (X.outs-Int (pos 1)) 16 (bare [] 2) inner inner) stop in
-    let of_f : calls g Ends (suc 99998) 12 [] 16 (bare [] 1) outer = (C.Method 15, old_chosen, tt, one) in
-    let body = made (form_is g Ends (calls g Ends 99999) (X.Call 12 []) (F.Call 12 []) (X.outs-Call 12 []) 16 (bare [] 1) outer outer) of_f in
-    let of_late : calls g Ends (suc 99999) 13 [] 16 (bare [] 0) end = (C.Method 16, late_chosen, tt, body) in
-    record { ran = made (form_is g Ends called (X.Call 13 []) (F.Call 13 []) (X.outs-Call 13 []) 16 (bare [] 0) end end) of_late }

@@ -1,5 +1,5 @@
 -- The laws of the questions that the rules ask: each has at most one answer. That it has one is shown by who answers it.
-use Rattle.std.specs.Prelude.{ℕ, ◌≡◌, Bool, List}
+use Rattle.std.specs.Prelude.{ℕ, ◌≡◌, Bool, List, Option, None}
 use Rattle.jl_model.specs.declared.ty.Ty.{Ty}
 use Rattle.jl_model.specs.declared.ty.Decl.{Decl}
 use Rattle.jl_model.specs.declared.ty.Written.{Written}
@@ -7,11 +7,16 @@ use Rattle.jl_model.specs.Refusals.{Declared}
 use Rattle.jl_program.specs.declared.choice.Choice.{Choice}
 use Rattle.jl_program.specs.declared.datum.Datum.{Datum}
 use Rattle.jl_program.specs.declared.tree.Program.{Program}
+use Rattle.jl_program.specs.declared.tree.Start.{Start}
 use Rattle.jl_program.specs.declared.value.Value.{Value}
 use Rattle.jl_program.specs.Meaning.{datum, value_of}
 use Rattle.jl_calculus.specs.declared.history.Event.{Event}
+use Rattle.jl_calculus.specs.declared.history.Outcome.{Outcome}
+use Rattle.jl_calculus.specs.declared.history.TraceItem.{TraceItem}
 use Rattle.jl_calculus.specs.Answers.{IsSingle}
+use Rattle.jl_calculus.specs.Kept.{Places}
 use Rattle.jl_calculus.specs.Operations.{make_tuple, make_written, make_inferred, test_type, test_order, test_same}
+use Rattle.jl_calculus.specs.Run.{setting_of, Run}
 use Rattle.jl_calculus.specs.World.{Selects}
 
 -- the choice for a call in a world
@@ -45,3 +50,9 @@ OneIdentity = (negated : Bool) (u v : Value) → IsSingle (test_same negated u v
 -- a value and what a contract sees of it give one another
 abbrev pub OneValue : Type 0
 OneValue = ((v : Value) → value_of (datum v) ≡ v) × ((d : Datum) → datum (value_of d) ≡ d)
+
+-- a run whose calls are kept for some places is a run that asks nothing of places
+abbrev pub RunsWithoutPlaces : Type 0
+RunsWithoutPlaces =
+    (P : Program) (es : List Event) (places : Option Places) (fuel : ℕ) (start : Option Start) (trace : List TraceItem) (outcome : Outcome) (output : List ℕ) (made : ℕ) (spawned : List Start)
+    → Run (setting_of P es places fuel) start trace outcome output made spawned → Run (setting_of P es None fuel) start trace outcome output made spawned

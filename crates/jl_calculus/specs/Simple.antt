@@ -1,4 +1,4 @@
--- The programs whose forms all have rules so far: literals, local names, calls, `print`, definitions and expressions at
+-- The programs that the machine runs so far: literals, local names, calls, `print`, definitions and expressions at
 -- the top, and signatures of `Any` and of built-in concrete types.
 use Rattle.std.specs.Prelude.{ℕ, ◌≡◌, Bool, true, false, ◌&&◌, nat_le, nat_lt, IsTrue, All, [], length}
 use Rattle.std.specs.List.{list_all}

@@ -1,7 +1,7 @@
 //! Laws of the questions that the rules of a run ask. They are about definitions alone: each function does nothing, and its
 //! contract is the law.
 
-ghost use Rattle.jl_calculus.specs.Laws.{OneChoice, OneTuple, OneWritten, OneInferred, OneTest, OneOrder, OneIdentity, OneValue};
+ghost use Rattle.jl_calculus.specs.Laws.{OneChoice, OneTuple, OneWritten, OneInferred, OneTest, OneOrder, OneIdentity, OneValue, RunsWithoutPlaces};
 
 /// A call has at most one choice in a world.
 pub fn law_one_choice()
@@ -25,4 +25,9 @@ pub fn law_one_answer()
 /// A value and what a contract sees of it give one another.
 pub fn law_one_value()
     ensures { OneValue }
+{}
+
+/// A run whose calls are all kept in a cache is a run all the same where nothing is asked of a cache.
+pub fn law_run_without_places()
+    ensures { RunsWithoutPlaces }
 {}
