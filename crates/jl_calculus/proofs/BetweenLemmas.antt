@@ -1,6 +1,6 @@
 -- The choice for a key is the same in all worlds that a row of it covers: no definition between them touches the key, so the methods
 -- that apply are the same.
-use Rattle.std.proofs.Common.{◌≡◌, ◌∙◌, ap, sym, subst, refl, ℕ, zero, suc, ◌+◌, ◌<◌, ◌⊎◌, inl, inr, arith, Bool, true, false, cond, nat_eq, List, [], ◌∷◌, take, slice_get, Option, None, Some}
+use Rattle.std.proofs.Common.{◌≡◌, ◌∙◌, ap, sym, subst, refl, ℕ, zero, suc, ◌+◌, ◌<◌, ◌≤◌, ◌⊎◌, inl, inr, arith, Bool, true, false, cond, nat_eq, List, [], ◌∷◌, ◌++◌, take, slice_get, Option, None, Some}
 use Rattle.std.specs.List.{Contains}
 use Rattle.jl_model.specs.Choice.{Method, Applies, IsCandidate, IsBest, IsUnordered, IsFirstUnordered, IsFirstTwo}
 use Rattle.jl_model.specs.Signature.{Applicable}
@@ -14,8 +14,9 @@ use Rattle.jl_program.specs.declared.choice.Choice.TheVariants as C
 use Rattle.jl_program.specs.declared.tree.Program.{Program}
 use Rattle.jl_program.specs.declared.tree.Site.{Site}
 use Rattle.jl_calculus.specs.declared.history.Event.{Event}
-use Rattle.jl_calculus.specs.Ranges.{site_in, SiteTouches, Touches, Covers, SelectsSite, IsRightFill}
-use Rattle.jl_calculus.specs.World.{definitions, method_at, methods_from, methods_in, Selects}
+use Rattle.jl_calculus.specs.Ranges.{site_in, SiteTouches, Touches, Covers, SelectsSite, IsRightFill, MayBegin}
+use Rattle.jl_calculus.specs.World.{definitions, world_of, method_at, methods_from, methods_in, Selects}
+use Rattle.jl_calculus.proofs.GrowthLemmas.{selects_on, site_more, touches_on, touches_known}
 
 -- ---- where the same methods apply, the choice is the same
 
@@ -145,6 +146,14 @@ taken (suc w) [] k x l h = cc
 taken (suc w) (y ∷ xs) zero x l h = h
 taken (suc w) (y ∷ xs) (suc k) x l h = taken w xs k x (omega (arith, l)) h
 
+-- a method that is chosen in a world is one of its definitions
+pub of_world : (P : Program) (es : List Event) (f : ℕ) (ts : List Ty) (w d : ℕ) → Selects P es f ts w (C.Method d) → (1 ≤ d) × (d ≤ w)
+of_world P es f ts w d (m, b, e) =
+    let o = is_of P f 1 (take w (definitions es)) m b.candidate.applies.stands in
+    let place = taken_below w (definitions es) o.place o.number o.stands in
+    let number : 1 + o.place ≡ m.number = ap (λ (x : Method). x.number) o.is in
+    (omega (arith, number, e), omega (arith, number, e, place.0))
+
 -- ---- between two worlds
 
 module _ (P : Program) (es : List Event) (key : Key) (first w : ℕ) (h : Covers P es key first w) where
@@ -180,3 +189,26 @@ module _ (P : Program) (es : List Event) (key : Key) (first w : ℕ) (h : Covers
 
 pub row_tells : (P : Program) (es : List Event) (key : Key) (site first w : ℕ) → IsRightFill P es key site first → Covers P es key first w → SelectsSite P es key w site
 row_tells P es key site first w r h = let (d, s, e) = r.choice in (d, choice_after P es key first w h (C.Method d) s, e)
+
+pub row_made : (P : Program) (es : List Event) (key : Key) (site first w : ℕ) → MayBegin P es key first → Covers P es key first w → SelectsSite P es key w site → IsRightFill P es key site first
+row_made P es key site first w b h (d, s, e) = record { begun = b; choice = (d, choice_before P es key first w h (C.Method d) s, e) }
+
+-- ---- a right fill stays so when the list grows
+
+begun_on : (P : Program) (es more : List Event) (key : Key) (first : ℕ) → MayBegin P es key first → MayBegin P (es ++ more) key first
+begun_on P es more key first (inl e) = inl e
+begun_on P es more key first (inr (low, t)) = inr (low, touches_on P es more first key t)
+
+first_known : (P : Program) (es : List Event) (key : Key) (first : ℕ) → MayBegin P es key first → first ≤ world_of es
+first_known P es key first (inl e) = omega (arith, e)
+first_known P es key first (inr (low, t)) = touches_known P es first key t
+
+pub right_on : (P : Program) (es more : List Event) (key : Key) (site first : ℕ) → IsRightFill P es key site first → IsRightFill P (es ++ more) key site first
+right_on P es more key site first h =
+    let (d, s, e) = h.choice in
+    let l = first_known P es key first h.begun in
+    let n = of_world P es key.function key.types first d s in
+    record {
+      begun = begun_on P es more key first h.begun;
+      choice = (d, selects_on P es more key.function key.types first (C.Method d) l s, site_more P es more d n.0 (omega (arith, n.1, l)) ∙ e);
+    }

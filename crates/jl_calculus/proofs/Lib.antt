@@ -24,7 +24,7 @@ pub mod SomeSteps
 pub mod ViewLemmas
 pub mod Induction
 pub mod RunMoves
+pub mod BetweenLemmas
 pub mod RunGrowth
 pub mod TaskRuns
 pub mod SomeLearnt
-pub mod BetweenLemmas

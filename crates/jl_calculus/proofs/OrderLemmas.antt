@@ -7,7 +7,7 @@ use Rattle.jl_program.specs.Gathered.{times}
 use Rattle.jl_calculus.specs.declared.history.Event.{Event}
 use Rattle.jl_calculus.specs.declared.history.Event.TheVariants as Ev
 use Rattle.jl_calculus.specs.Legal.{MayCome, EachAfter, MayStand}
-use Rattle.jl_calculus.specs.Orders.{children_of, subtree, path_order, awaited, wait_order}
+use Rattle.jl_calculus.specs.Orders.{children_of, subtree, path_order, subtree_last, wait_order}
 use Rattle.jl_calculus.specs.Past.{tasks_of}
 
 -- ---- how often a number stands in a list
@@ -325,15 +325,15 @@ module _ (P : Program) where
   path_only es h task l = (good es h).only task l
 
   -- in wait order stand the same tasks
-  awaited_same : (es : List Event) → Good es → (t g x : ℕ) → times t (awaited es g x) ≡ times t (subtree es g x)
+  awaited_same : (es : List Event) → Good es → (t g x : ℕ) → times t (subtree_last es g x) ≡ times t (subtree es g x)
   awaited_same es h t zero x = refl
   awaited_same es h t (suc g) x =
       omega (
         arith,
-        times_append t (flat_map (awaited es g) (children_of x es)) (x ∷ []),
+        times_append t (flat_map (subtree_last es g) (children_of x es)) (x ∷ []),
         times_cons t x [],
         times_cons t x (flat_map (subtree es g) (children_of x es)),
-        times_flat (awaited es g) (subtree es g) t t x (tasks_of es) (children_of x es) (h.children x) (λ y a b. awaited_same es h t g y),
+        times_flat (subtree_last es g) (subtree es g) t t x (tasks_of es) (children_of x es) (h.children x) (λ y a b. awaited_same es h t g y),
       )
 
   pub wait_same : (es : List Event) → MayStand P es → (task : ℕ) → times task (wait_order es) ≡ times task (path_order es)

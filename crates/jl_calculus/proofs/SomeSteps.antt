@@ -11,7 +11,7 @@ use Rattle.jl_calculus.specs.declared.history.Record.{Record}
 use Rattle.jl_calculus.specs.declared.step.Step.{Step}
 use Rattle.jl_calculus.specs.declared.step.Step.TheVariants as St
 use Rattle.jl_calculus.specs.Kept.{Places}
-use Rattle.jl_calculus.specs.Core.{Stand, Search, at_row, found, missed, TaskState, Opened, Core, first_core, IsLeft, IsEnabled, Leaves, Reaches, stays, goes, with_opened, grows, change, sees, searches, begins, with_child, knows, child_of}
+use Rattle.jl_calculus.specs.Core.{Stand, Search, at_row, found, missed, TaskState, Opened, Core, first_core, IsLeft, IsEnabled, Leaves, Reaches, stays, goes, with_opened, with_event, change_task, with_seen, with_search, new_search, with_child, with_known, child_of}
 use Rattle.jl_calculus.specs.Ranges.{CacheRow, keys_of, IsCovered, HasNoEnd, Touches}
 use Rattle.jl_calculus.specs.Words.{IsToCut}
 use Rattle.jl_calculus.proofs.GrowthLemmas.{touches_known}
@@ -105,7 +105,7 @@ publish_f = (record { task = 0; site = 14; cut = [] }, refl, λ r h. no_rows r h
 -- ---- it is published, and its task has seen it
 
 abbrev s2 : Core
-s2 = grows s1 0 (Ev.Def 0 14)
+s2 = with_event s1 0 (Ev.Def 0 14)
 
 published_f : Leaves Late s1 s2 St.Publish
 published_f = (record { task = 0; site = 14; cut = [] }, refl, refl)
@@ -127,7 +127,7 @@ name_f = record {
 -- ---- it is named, and filled
 
 abbrev s3 : Core
-s3 = grows s2 0 (Ev.Key (key 12))
+s3 = with_event s2 0 (Ev.Key (key 12))
 
 named_f : Leaves Late s2 s3 (St.Key 0 (key 12))
 named_f = refl
@@ -153,7 +153,7 @@ fill_f = record {
         nowhere (k, l, e) = absurd (omega (arith, l))
 
 abbrev s4 : Core
-s4 = grows s3 0 (Ev.Fill 0 14 15)
+s4 = with_event s3 0 (Ev.Fill 0 14 15)
 
 -- nothing is above world 15
 above : (d : ℕ) → 15 < d → Touches Late s3.events d (key 12) → ⊥
@@ -176,7 +176,7 @@ filled_f = record {
 -- ---- a search finds the row
 
 abbrev s5 : Core
-s5 = change s4 0 (λ t. searches (begins s4 0 15) (sees 4 t))
+s5 = change_task s4 0 (λ t. with_search (new_search s4 0 15) (with_seen 4 t))
 
 search_f : Can s4 (St.Head 0 0 15)
 search_f = record {
@@ -194,7 +194,7 @@ at_row_0 : s5.tasks ≡ record { seen = 4; known = []; search = Some at_first } 
 at_row_0 = refl
 
 read_row : Can s5 (St.Row 0)
-read_row = (record { seen = 4; known = []; search = Some at_first }, at_first, 0, record { at = refl; searches = refl; stands = refl })
+read_row = (record { seen = 4; known = []; search = Some at_first }, at_first, 0, record { at = refl; searching = refl; stands = refl })
 
 no_end_yet : HasNoEnd Late s5.events (key 12) 15
 no_end_yet d low t = absurd (omega (arith, low, touches_known Late s5.events d (key 12) t))
@@ -203,7 +203,7 @@ nothing_cut : Contains {X = ℕ} [] 0 → ⊥
 nothing_cut (k, l, e) = absurd (omega (arith, l))
 
 abbrev s6 : Core
-s6 = change s5 0 (searches (record { key = 0; world = 15; stand = found 14 }))
+s6 = change_task s5 0 (with_search (record { key = 0; world = 15; stand = found 14 }))
 
 has_read : Leaves Late s5 s6 (St.Row 0)
 has_read = record {
@@ -237,7 +237,7 @@ is_at_row (Some search) = at_a_row search.stand
 
 no_more_rows : Can s6 (St.Row 0) → ⊥
 no_more_rows (t, search, r, h) =
-    let one : is_at_row t.search ≡ true = ap is_at_row h.searches ∙ ap at_a_row h.stands in
+    let one : is_at_row t.search ≡ true = ap is_at_row h.searching ∙ ap at_a_row h.stands in
     let two : false ≡ is_at_row t.search = ap (λ (x : TaskState). is_at_row x.search) (ap task_of h.at) in
     true≢false (sym (two ∙ one))
 
@@ -301,7 +301,7 @@ spawn = record {
     nowhere other h = h
 
 abbrev s9 : Core
-s9 = with_child (change (grows s6 0 (Ev.Spawn 0 1 (start 15))) 0 (knows (1 ∷ []))) (child_of s6 (start 15))
+s9 = with_child (change_task (with_event s6 0 (Ev.Spawn 0 1 (start 15))) 0 (with_known (1 ∷ []))) (child_of s6 (start 15))
 
 spawned : Leaves Late s6 s9 (St.Spawn 0 (start 15))
 spawned = refl
@@ -331,7 +331,7 @@ end_child = record {
 }
 
 abbrev s10 : Core
-s10 = grows s9 1 (Ev.Done 1 child_end)
+s10 = with_event s9 1 (Ev.Done 1 child_end)
 
 ended_child : Leaves Late s9 s10 (St.Done 1 child_end)
 ended_child = refl

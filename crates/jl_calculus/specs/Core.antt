@@ -162,7 +162,7 @@ module _ (P : Program) (room : Places) (s : Core) where
   -- the search of the task is at a row
   pub record IsAtRow (task : ℕ) (t : TaskState) (search : Search) (r : ℕ) : Type 0 where
     pub at : IsAt task t
-    pub searches : t.search ≡ Some search
+    pub searching : t.search ≡ Some search
     pub stands : search.stand ≡ at_row r
 
   abbrev pub CanRead : ℕ → Type 0
@@ -233,22 +233,22 @@ at_task f task [] = []
 at_task f zero (t ∷ ts) = f t ∷ ts
 at_task f (suc task) (t ∷ ts) = t ∷ at_task f task ts
 
-abbrev pub change : Core → ℕ → (TaskState → TaskState) → Core
-change s task f = record { events = s.events; tasks = at_task f task s.tasks; opened = s.opened }
+abbrev pub change_task : Core → ℕ → (TaskState → TaskState) → Core
+change_task s task f = record { events = s.events; tasks = at_task f task s.tasks; opened = s.opened }
 
 -- a task has seen so many events, or more
-abbrev pub sees : ℕ → TaskState → TaskState
-sees n t = record { seen = max t.seen n; known = t.known; search = t.search }
+abbrev pub with_seen : ℕ → TaskState → TaskState
+with_seen n t = record { seen = max t.seen n; known = t.known; search = t.search }
 
-abbrev pub searches : Search → TaskState → TaskState
-searches search t = record { seen = t.seen; known = t.known; search = Some search }
+abbrev pub with_search : Search → TaskState → TaskState
+with_search search t = record { seen = t.seen; known = t.known; search = Some search }
 
-abbrev pub knows : List ℕ → TaskState → TaskState
-knows others t = record { seen = t.seen; known = t.known ++ others; search = t.search }
+abbrev pub with_known : List ℕ → TaskState → TaskState
+with_known others t = record { seen = t.seen; known = t.known ++ others; search = t.search }
 
 -- one more event, which its task has seen then, with all before it; a definition that was open is open no longer
-abbrev pub grows : Core → ℕ → Event → Core
-grows s task e = record { events = s.events ++ e ∷ []; tasks = at_task (sees (length s.events + 1)) task s.tasks; opened = None }
+abbrev pub with_event : Core → ℕ → Event → Core
+with_event s task e = record { events = s.events ++ e ∷ []; tasks = at_task (with_seen (length s.events + 1)) task s.tasks; opened = None }
 
 -- where a search goes by a link: 0 is no row
 abbrev pub go_to : ℕ → Stand
@@ -256,22 +256,22 @@ go_to zero = missed
 go_to (suc r) = at_row r
 
 -- a row with this first and this last world covers a world; 0 is no last world
-abbrev pub reaches : ℕ → ℕ → ℕ → Bool
-reaches first last w = nat_le first w && (nat_eq last 0 || nat_le w last)
+abbrev pub is_reached : ℕ → ℕ → ℕ → Bool
+is_reached first last w = nat_le first w && (nat_eq last 0 || nat_le w last)
 
 -- a search that has read a row
-abbrev pub reads : Search → ℕ → ℕ → ℕ → ℕ → Search
-reads search site first last next = record { key = search.key; world = search.world; stand = cond (reaches first last search.world) (found site) (go_to next) }
+abbrev pub after_row : Search → ℕ → ℕ → ℕ → ℕ → Search
+after_row search site first last next = record { key = search.key; world = search.world; stand = cond (is_reached first last search.world) (found site) (go_to next) }
 
-abbrev pub begins : Core → ℕ → ℕ → Search
-begins s number w = record { key = number; world = w; stand = go_to (link_of number (rows_of s.events)) }
+abbrev pub new_search : Core → ℕ → ℕ → Search
+new_search s number w = record { key = number; world = w; stand = go_to (link_of number (rows_of s.events)) }
 
 -- a task that was just spawned: it has seen its Spawn, and knows the tasks that its start mentions
 abbrev pub child_of : Core → Start → TaskState
 child_of s start = record { seen = length s.events + 1; known = in_start start; search = None }
 
-abbrev pub cuts : Opened → ℕ → Opened
-cuts o r = record { task = o.task; site = o.site; cut = o.cut ++ r ∷ [] }
+abbrev pub with_cut : Opened → ℕ → Opened
+with_cut o r = record { task = o.task; site = o.site; cut = o.cut ++ r ∷ [] }
 
 abbrev pub with_opened : Core → Option Opened → Core
 with_opened s o = record { events = s.events; tasks = s.tasks; opened = o }
@@ -293,7 +293,7 @@ module _ (P : Program) (s after : Core) where
     pub last : ℕ
     pub next : ℕ
     pub words : IsRowWords P s.events (cut_for s.opened) r site first last next
-    pub is : after ≡ change s task (searches (reads search site first last next))
+    pub is : after ≡ change_task s task (with_search (after_row search site first last next))
 
   -- the row begins at the last world, up to the asked one, that a definition made which touches the key, or at the last world of the
   -- prelude
@@ -304,22 +304,22 @@ module _ (P : Program) (s after : Core) where
     pub first : ℕ
     pub right : IsRightFill P s.events key site first
     pub covers : Covers P s.events key first w
-    pub is : after ≡ grows s task (Ev.Fill number site first)
+    pub is : after ≡ with_event s task (Ev.Fill number site first)
 
   -- a step leaves this
   abbrev pub Leaves : Step → Type 0
-  Leaves (St.Look task) = after ≡ change s task (sees (world_length s.events))
-  Leaves (St.Key task key) = after ≡ grows s task (Ev.Key key)
-  Leaves (St.Head task key w) = after ≡ change s task (λ t. searches (begins s key w) (sees (fill_length key s.events) t))
+  Leaves (St.Look task) = after ≡ change_task s task (with_seen (world_length s.events))
+  Leaves (St.Key task key) = after ≡ with_event s task (Ev.Key key)
+  Leaves (St.Head task key w) = after ≡ change_task s task (λ t. with_search (new_search s key w) (with_seen (fill_length key s.events) t))
   Leaves (St.Row task) = HasRead task
   Leaves (St.Fill task key w) = HasFilled task key w
   Leaves (St.Open task site) = after ≡ with_opened s (Some (record { task = task; site = site; cut = [] }))
-  Leaves (St.Cut r) = (o : Opened) × (s.opened ≡ Some o) × (after ≡ with_opened s (Some (cuts o r)))
-  Leaves St.Publish = (o : Opened) × (s.opened ≡ Some o) × (after ≡ grows s o.task (Ev.Def o.task o.site))
-  Leaves (St.Spawn task start) = after ≡ with_child (change (grows s task (Ev.Spawn task (tasks_of s.events) start)) task (knows (tasks_of s.events ∷ []))) (child_of s start)
-  Leaves (St.Done task ended) = after ≡ grows s task (Ev.Done task ended)
+  Leaves (St.Cut r) = (o : Opened) × (s.opened ≡ Some o) × (after ≡ with_opened s (Some (with_cut o r)))
+  Leaves St.Publish = (o : Opened) × (s.opened ≡ Some o) × (after ≡ with_event s o.task (Ev.Def o.task o.site))
+  Leaves (St.Spawn task start) = after ≡ with_child (change_task (with_event s task (Ev.Spawn task (tasks_of s.events) start)) task (with_known (tasks_of s.events ∷ []))) (child_of s start)
+  Leaves (St.Done task ended) = after ≡ with_event s task (Ev.Done task ended)
   Leaves (St.Fetch task of) =
-      (r : Record) × (done_of of s.events ≡ Some r) × (after ≡ change s task (λ t. knows (in_outcome r.outcome) (sees (length s.events) t)))
+      (r : Record) × (done_of of s.events ≡ Some r) × (after ≡ change_task s task (λ t. with_known (in_outcome r.outcome) (with_seen (length s.events) t)))
 
 -- ---- runs of the model
 

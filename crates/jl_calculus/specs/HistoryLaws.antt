@@ -36,6 +36,10 @@ ChoiceStays =
 abbrev pub RangesStay : Type 0
 RangesStay = (P : Program) (es more : List Event) (key : Key) (first w : ℕ) → w ≤ world_of es → Covers P es key first w ↔ Covers P (es ++ more) key first w
 
+-- a fill that is right stays so
+abbrev pub RightStays : Type 0
+RightStays = (P : Program) (es more : List Event) (key : Key) (site first : ℕ) → IsRightFill P es key site first → IsRightFill P (es ++ more) key site first
+
 -- at most one site is right for a key and a first world
 abbrev pub OneRightSite : Type 0
 OneRightSite = (P : Program) (es : List Event) (key : Key) (s t first : ℕ) → IsRightFill P es key s first → IsRightFill P es key t first → s ≡ t
@@ -54,6 +58,11 @@ RowsKeepTheChoice =
 -- so the site of a right row is that of the choice in each world that it covers
 abbrev pub RowsTellTheSite : Type 0
 RowsTellTheSite = (P : Program) (es : List Event) (key : Key) (site first w : ℕ) → IsRightFill P es key site first → Covers P es key first w → SelectsSite P es key w site
+
+-- and where a row may begin and covers a world, it is right with the site of the choice there
+abbrev pub RowsAreRight : Type 0
+RowsAreRight =
+    (P : Program) (es : List Event) (key : Key) (site first w : ℕ) → MayBegin P es key first → Covers P es key first w → SelectsSite P es key w site → IsRightFill P es key site first
 
 -- a list of numbers has each task of the events once, and no other
 abbrev pub HasEachOnce : List Event → List ℕ → Type 0

@@ -25,10 +25,10 @@ abbrev pub path_order : List Event → List ℕ
 path_order es = subtree es (tasks_of es) 0
 
 -- a task after its children, each with its whole subtree, as far as so many generations
-abbrev pub awaited : List Event → ℕ → ℕ → List ℕ
-awaited es zero task = []
-awaited es (suc generations) task = flat_map (awaited es generations) (children_of task es) ++ task ∷ []
+abbrev pub subtree_last : List Event → ℕ → ℕ → List ℕ
+subtree_last es zero task = []
+subtree_last es (suc generations) task = flat_map (subtree_last es generations) (children_of task es) ++ task ∷ []
 
 -- the tasks, each after all its children's subtrees
 abbrev pub wait_order : List Event → List ℕ
-wait_order es = awaited es (tasks_of es) 0
+wait_order es = subtree_last es (tasks_of es) 0

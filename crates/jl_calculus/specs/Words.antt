@@ -13,24 +13,24 @@ abbrev pub upper : ℕ
 upper = 4294967296
 
 -- one more than a place that is there already; else 1 where this is one
-abbrev pub after : ℕ → Bool → ℕ
-after zero false = 0
-after zero true = 1
-after (suc n) b = suc (suc n)
+abbrev pub one_past : ℕ → Bool → ℕ
+one_past zero false = 0
+one_past zero true = 1
+one_past (suc n) b = suc (suc n)
 
 -- how long a list is just after the last that meets a test, and 0 where none does
 abbrev pub after_last : {X : Type 0} → (X → Bool) → List X → ℕ
 after_last test [] = 0
-after_last test (x ∷ xs) = after (after_last test xs) (test x)
+after_last test (x ∷ xs) = one_past (after_last test xs) (test x)
 
 -- the event makes a world: a definition, or the Begin, which makes the last world of the prelude
-abbrev pub makes_world : Event → Bool
-makes_world (Ev.Begin fuel) = true
-makes_world (Ev.Def task site) = true
-makes_world (Ev.Key key) = false
-makes_world (Ev.Fill key site first) = false
-makes_world (Ev.Spawn task child start) = false
-makes_world (Ev.Done task ended) = false
+abbrev pub is_worldly : Event → Bool
+is_worldly (Ev.Begin fuel) = true
+is_worldly (Ev.Def task site) = true
+is_worldly (Ev.Key key) = false
+is_worldly (Ev.Fill key site first) = false
+is_worldly (Ev.Spawn task child start) = false
+is_worldly (Ev.Done task ended) = false
 
 -- the event is told by the notes word
 abbrev pub is_noted : Event → Bool
@@ -42,17 +42,17 @@ is_noted (Ev.Fill key site first) = false
 is_noted (Ev.Def task site) = false
 
 -- the event is a fill of the key of this number
-abbrev pub fills : ℕ → Event → Bool
-fills number (Ev.Fill key site first) = nat_eq key number
-fills number (Ev.Begin fuel) = false
-fills number (Ev.Key key) = false
-fills number (Ev.Def task site) = false
-fills number (Ev.Spawn task child start) = false
-fills number (Ev.Done task ended) = false
+abbrev pub is_fill_of : ℕ → Event → Bool
+is_fill_of number (Ev.Fill key site first) = nat_eq key number
+is_fill_of number (Ev.Begin fuel) = false
+is_fill_of number (Ev.Key key) = false
+is_fill_of number (Ev.Def task site) = false
+is_fill_of number (Ev.Spawn task child start) = false
+is_fill_of number (Ev.Done task ended) = false
 
 -- how long the history is just after the definition that made the newest world
 abbrev pub world_length : List Event → ℕ
-world_length es = after_last makes_world es
+world_length es = after_last is_worldly es
 
 -- the world word: the newest world, and above it the length just after what made it
 abbrev pub world_word : List Event → ℕ
@@ -68,7 +68,7 @@ link_of number rows = after_last (λ (row : CacheRow). nat_eq row.key number) ro
 
 -- how long the history is just after the last fill of a key
 abbrev pub fill_length : ℕ → List Event → ℕ
-fill_length number es = after_last (fills number) es
+fill_length number es = after_last (is_fill_of number) es
 
 -- the head of a key: 1 plus its last row, and above it the length just after that row's fill; 0 without a row
 abbrev pub head_word : List Event → ℕ → ℕ

@@ -1,6 +1,6 @@
 //! Laws of histories. They are about definitions alone: each function does nothing, and its contract is the law.
 
-ghost use Rattle.jl_calculus.specs.HistoryLaws.{ItemsStay, KeptStays, ChoiceStays, RangesStay, OneRightSite, OneFirstWorld, OrdersAreWhole, RowsKeepTheChoice, RowsTellTheSite, RunsStay, ViewsAreOne};
+ghost use Rattle.jl_calculus.specs.HistoryLaws.{ItemsStay, KeptStays, ChoiceStays, RangesStay, RightStays, OneRightSite, OneFirstWorld, OrdersAreWhole, RowsKeepTheChoice, RowsTellTheSite, RowsAreRight, RunsStay, ViewsAreOne};
 ghost use Rattle.jl_calculus.specs.Orders.{path_order, wait_order};
 
 /// What is true of a history, as far as a task has seen it, stays true when the history grows: an item of a trace, the
@@ -10,11 +10,12 @@ pub fn law_items_stay()
     ensures kept { KeptStays }
 {}
 
-/// The choice in a world, and the rows that cover it, stay as they are when later worlds are made (Julia manual,
+/// The choice in a world, the rows that cover it, and that a fill is right stay as they are when later worlds are made (Julia manual,
 /// Redefining Methods).
 pub fn law_old_worlds_stay()
     ensures choice { ChoiceStays }
     ensures ranges { RangesStay }
+    ensures right { RightStays }
 {}
 
 /// What a task did stays a run when the history grows: its calls are made in worlds that are there already.
@@ -33,6 +34,7 @@ pub fn law_one_right_row()
 pub fn law_rows_tell_the_choice()
     ensures choice { RowsKeepTheChoice }
     ensures site { RowsTellTheSite }
+    ensures right { RowsAreRight }
 {}
 
 /// In path order, and in wait order, each task stands once, and nothing else.

@@ -1,5 +1,5 @@
-use Rattle.jl_calculus.proofs.BetweenLemmas.{choice_after, choice_before, row_tells}
+use Rattle.jl_calculus.proofs.BetweenLemmas.{choice_after, choice_before, row_tells, row_made}
 use Rattle.jl_calculus.proofs.history_laws.law_rows_tell_the_choice.Goals as goal
 
 pub returns : goal.returns
-returns c = record { choice = λ P es key first w h o. (choice_after P es key first w h o, choice_before P es key first w h o); site = row_tells }
+returns c = record { choice = λ P es key first w h o. (choice_after P es key first w h o, choice_before P es key first w h o); site = row_tells; right = row_made }
