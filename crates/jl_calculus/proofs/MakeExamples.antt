@@ -1,6 +1,6 @@
 -- What constructors refuse, computed: `struct Square; side::Int64 end` with `Square(true)`, and `struct Q{T<:Signed}; x::T end` with
--- `q(x::T) where T = Q{T}(x)` and `q(true)`.
-use Rattle.std.proofs.Common.{◌≡◌, ◌∙◌, refl, sym, ap, subst, ℕ, zero, suc, ◌<◌, ◌≤◌, true, nat_eq, codes, List, [], ◌∷◌, ◌++◌, length, get_or, Some, None, slice_get, arith, inl, inr}
+-- `q(x::T) where T = Q{T}(x)`, `q(true)` and `q(1)`.
+use Rattle.std.proofs.Common.{◌+◌, ◌≡◌, ◌∙◌, refl, sym, ap, subst, ℕ, zero, suc, ◌<◌, ◌≤◌, true, nat_eq, codes, List, [], ◌∷◌, ◌++◌, length, get_or, Some, None, slice_get, arith, inl, inr, pos}
 use Rattle.std.specs.List.{Contains, flat_map}
 use Rattle.jl_model.specs.declared.ty.Ty.{Ty, out-Ty}
 use Rattle.jl_model.specs.declared.ty.Ty.TheOpen as L
@@ -15,26 +15,32 @@ use Rattle.jl_model.specs.AllRows.{rows_with}
 use Rattle.jl_model.specs.Ancestors.{named, builtin_types, table_of}
 use Rattle.jl_model.specs.Counts.{nodes, raw, IsWithinLimits}
 use Rattle.jl_model.specs.Kept.{Settled, nominal as kept, arguments_end, arguments_more, closed}
-use Rattle.jl_model.specs.Normal.{IsNormalForm, nominal as normal_name, none}
-use Rattle.jl_model.specs.Refusals.{Given, given_in, given_step}
-use Rattle.jl_model.specs.Rows.{choices, forms, forms_step, place_of, kind}
+use Rattle.jl_model.specs.Normal.{IsNormalForm, nominal as normal_name, none, more}
+use Rattle.jl_model.specs.Refusals.{Given, given_in, given_step, Between}
+use Rattle.jl_model.specs.Rows.{choices, forms, forms_step, place_of, kind, free}
 use Rattle.jl_model.specs.SigRefusals.{TypeLimit}
 use Rattle.jl_model.specs.Signature.{both_end}
 use Rattle.jl_model.specs.Subtype.{Table, opaque, lifted, Below}
-use Rattle.jl_model.specs.Valid.{is_closed}
+use Rattle.jl_model.specs.Valid.{is_closed, params_of}
 use Rattle.jl_model.proofs.AncestorLemmas.{Lawful, lawful_lines, all_fit, AllParents, IsPattern}
-use Rattle.jl_model.proofs.BelowLemmas.{below_part}
+use Rattle.jl_model.proofs.BelowLemmas.{below_part, part_below, union_below}
 use Rattle.jl_model.proofs.CountLemmas.{nodes-nominal, raw-nominal}
 use Rattle.jl_model.proofs.FormLemmas.{alts-nominal, put-nominal, put-var, vars-nominal}
 use Rattle.jl_model.proofs.HeightLemmas.{PartBy, by_any, by_tuple, by_nominal, by_self}
 use Rattle.jl_model.proofs.NormalLemmas.{normal_same}
-use Rattle.jl_model.proofs.SelfLemmas.{equal_self}
+use Rattle.jl_model.proofs.SelfLemmas.{equal_self, below_self}
 use Rattle.jl_model.proofs.TypeInduction.{Each}
 use Rattle.jl_program.specs.declared.fault.Fault.TheVariants as F
 use Rattle.jl_program.specs.declared.value.Value.TheVariants as V
-use Rattle.jl_program.specs.Making.{IsFirstOther}
+use Rattle.jl_program.specs.Making.{IsFirstOther, struct_of}
 use Rattle.jl_program.specs.Prelude.{plain, int64, bool}
 use Rattle.jl_program.specs.ValidValue.{fields_in}
+use Rattle.jl_program.specs.Meaning.{datum}
+use Rattle.jl_program.specs.declared.datum.Datum.TheFolds.{fold-roll-Datum}
+use Rattle.jl_program.specs.declared.value.Value.{Value}
+use Rattle.jl_calculus.proofs.OperationExamples.{leaf_nodes, leaf_depth}
+use Rattle.jl_program.specs.declared.datum.Datum.TheOpen as D
+use Rattle.jl_program.specs.Measures as values
 use Rattle.jl_calculus.specs.declared.history.Outcome.{Outcome}
 use Rattle.jl_calculus.specs.declared.history.Outcome.TheVariants as O
 use Rattle.jl_calculus.specs.Answers.{fault_where, refuse}
@@ -201,67 +207,144 @@ square_refused statics =
       inr ((λ e h. square_unbroken h.0 h.2), inr ((λ e h. square_normal h.1), (named 8, own_form 8, square_of_true))),
     ))
 
--- ---- `q(true)`
+-- ---- `q(true)` and `q(1)`
 
 abbrev written_q : Written
 written_q = plain (T.Nominal 9 (W.Var 0 ∷ []) ∷ [])
 
-abbrev q_bool : Ty
-q_bool = T.Nominal 9 (bool ∷ [])
+-- `Q{T}`, with a built-in type put in for T
+abbrev q_of : ℕ → Ty
+q_of k = T.Nominal 9 (named k ∷ [])
 
-q_put : with_statics (bool ∷ []) written_q ≡ plain (q_bool ∷ [])
-q_put = ap (λ (t : Ty). plain (t ∷ [])) (put-nominal (own_or_bound (bool ∷ []) 0) 9 (W.Var 0 ∷ []) ∙ ap (λ (t : Ty). T.Nominal 9 (t ∷ [])) (put-var (own_or_bound (bool ∷ []) 0) 0))
+q_put : (k : ℕ) → with_statics (named k ∷ []) written_q ≡ plain (q_of k ∷ [])
+q_put k = ap (λ (t : Ty). plain (t ∷ [])) (put-nominal (own_or_bound (named k ∷ []) 0) 9 (W.Var 0 ∷ []) ∙ ap (λ (t : Ty). T.Nominal 9 (t ∷ [])) (put-var (own_or_bound (named k ∷ []) 0) 0))
 
-q_forms : (at : ℕ → List Ty) → forms at q_bool ≡ q_bool ∷ []
-q_forms at = ap (forms at) (sym (rolls-Nominal 9 (bool ∷ []))) ∙ para-roll-Ty (List Ty) (forms_step at) (L.Nominal 9 (bool ∷ []))
+q_forms : (k : ℕ) (at : ℕ → List Ty) → forms at (q_of k) ≡ q_of k ∷ []
+q_forms k at = ap (forms at) (sym (rolls-Nominal 9 (named k ∷ []))) ∙ para-roll-Ty (List Ty) (forms_step at) (L.Nominal 9 (named k ∷ []))
 
-bool_given : given_in bool ≡ []
-bool_given = ap given_in (sym (rolls-Nominal 5 [])) ∙ para-roll-Ty (List Given) given_step (L.Nominal 5 [])
+no_given : (k : ℕ) → given_in (named k) ≡ []
+no_given k = ap given_in (sym (rolls-Nominal k [])) ∙ para-roll-Ty (List Given) given_step (L.Nominal k [])
 
-abbrev of_q : Given
-of_q = record { of = 9; place = 0; ty = bool }
+abbrev of_q : ℕ → Given
+of_q k = record { of = 9; place = 0; ty = named k }
 
-q_given : given_in q_bool ≡ of_q ∷ []
-q_given = ap given_in (sym (rolls-Nominal 9 (bool ∷ []))) ∙ para-roll-Ty (List Given) given_step (L.Nominal 9 (bool ∷ [])) ∙ ap (λ (gs : List Given). of_q ∷ (gs ++ [])) bool_given
+q_given : (k : ℕ) → given_in (q_of k) ≡ of_q k ∷ []
+q_given k =
+    ap given_in (sym (rolls-Nominal 9 (named k ∷ []))) ∙ para-roll-Ty (List Given) given_step (L.Nominal 9 (named k ∷ []))
+    ∙ ap (λ (gs : List Given). of_q k ∷ (gs ++ [])) (no_given k)
 
-q_small : TypeLimit types (plain (q_bool ∷ [])) → ⊥
-q_small =
-    small q_bool (omega (arith, nodes-nominal 9 (bool ∷ []), one_node 5)) (omega (arith, ap (λ r. r.widest) (raw-nominal 9 (bool ∷ [])), one_raw 5)) q_forms
+q_nodes : (k : ℕ) → nodes (q_of k) ≡ 2
+q_nodes k = nodes-nominal 9 (named k ∷ []) ∙ ap (λ m. 1 + (m + 0)) (one_node k)
+
+q_raw : (k : ℕ) → (raw (q_of k)).widest ≡ 1
+q_raw k = ap (λ r. r.widest) (raw-nominal 9 (named k ∷ [])) ∙ rw (one_raw k) refl
+
+q_small : (k : ℕ) → TypeLimit types (plain (q_of k ∷ [])) → ⊥
+q_small k =
+    small (q_of k) (omega (arith, q_nodes k)) (omega (arith, q_raw k)) (q_forms k)
     (λ a u c is.
-    (let e : of_q ≡ a = only_member of_q a (subst (λ (gs : List Given). Contains (gs ++ []) a) q_given c) in
-    let same : nodes u ≡ nodes bool = ap nodes (only_form 5 u (subst (λ z. IsNormalForm n z.ty u) (sym e) is)) in
-    omega (arith, same, one_node 5)))
+    (let e : of_q k ≡ a = only_member (of_q k) a (subst (λ (gs : List Given). Contains (gs ++ []) a) (q_given k) c) in
+    let same : nodes u ≡ nodes (named k) = ap nodes (only_form k u (subst (λ z. IsNormalForm n z.ty u) (sym e) is)) in
+    omega (arith, same, one_node k)))
 
-q_nominals : nominals_of (plain (q_bool ∷ [])) ≡ bool ∷ q_bool ∷ []
-q_nominals =
-    ap (λ (ts : List Ty). ts ++ []) (ap nominals_in (sym (rolls-Nominal 9 (bool ∷ []))) ∙ para-roll-Ty (List Ty) nominals_step (L.Nominal 9 (bool ∷ [])))
-    ∙ ap (λ (ts : List Ty). ((ts ++ []) ++ q_bool ∷ []) ++ []) (own_nominals 5)
+q_nominals : (k : ℕ) → nominals_of (plain (q_of k ∷ [])) ≡ named k ∷ q_of k ∷ []
+q_nominals k =
+    ap (λ (ts : List Ty). ts ++ []) (ap nominals_in (sym (rolls-Nominal 9 (named k ∷ []))) ∙ para-roll-Ty (List Ty) nominals_step (L.Nominal 9 (named k ∷ [])))
+    ∙ ap (λ (ts : List Ty). ((ts ++ []) ++ q_of k ∷ []) ++ []) (own_nominals k)
 
-bool_closed : is_closed bool ≡ true
-bool_closed = ap (λ vs. nat_eq (length vs) 0) (vars-nominal 5 [])
+shut : (k : ℕ) → is_closed (named k) ≡ true
+shut k = ap (λ vs. nat_eq (length vs) 0) (vars-nominal k [])
 
-q_broken : IsBroken types q_bool
+-- what the constructor is, where the type put in is this
+abbrev Makes : ℕ → Value → Outcome → Written → Type 0
+Makes k v o u =
+    with_type types u (refuse (fault_where F.TypeLimit (NormLimit n (get_or u.parts 0 W.Any)))
+    (λ p. (m : Ty) × IsNormalForm n (get_or u.parts 0 W.Any) m × make_struct types m (v ∷ []) p)) o
+
+-- Q{Bool} breaks the declared bound
+q_broken : IsBroken types (q_of 5)
 q_broken =
     subst (Breaks types) (sym (outs-Nominal 9 (bool ∷ [])))
-    (of_q, (0, omega arith, refl), bool_closed, (λ h. not_below 5 3 bool_not_signed h.1))
+    (of_q 5, (0, omega arith, refl), shut 5, (λ h. not_below 5 3 bool_not_signed h.1))
 
-first_broken : IsFirstBroken types (nominals_of (plain (q_bool ∷ []))) q_bool
-first_broken = subst (λ (ts : List Ty). IsFirstBroken types ts q_bool) (sym q_nominals) (record { place = 1; there = refl; broken = q_broken; first = before })
+first_broken : IsFirstBroken types (nominals_of (plain (q_of 5 ∷ []))) (q_of 5)
+first_broken = subst (λ (ts : List Ty). IsFirstBroken types ts (q_of 5)) (sym (q_nominals 5)) (record { place = 1; there = refl; broken = q_broken; first = before })
   where
-    before : (i : ℕ) (u : Ty) → i < 1 → slice_get (bool ∷ q_bool ∷ []) i ≡ Some u → IsBroken types u → ⊥
+    before : (i : ℕ) (u : Ty) → i < 1 → slice_get (bool ∷ q_of 5 ∷ []) i ≡ Some u → IsBroken types u → ⊥
     before zero u l e b = unbroken 5 u (let z : Some bool ≡ Some u = e in cc) b
     before (suc i) u l e b = omega (arith, l)
 
-shown : Settled n q_bool q_bool
+shown : Settled n (q_of 5) (q_of 5)
 shown =
-    kept q_bool q_bool 9 (bool ∷ []) (bool ∷ []) (outs-Nominal 9 (bool ∷ [])) (outs-Nominal 9 (bool ∷ []))
-    (arguments_more bool bool [] [] (closed bool bool bool_closed (own_form 5)) arguments_end)
+    kept (q_of 5) (q_of 5) 9 (bool ∷ []) (bool ∷ []) (outs-Nominal 9 (bool ∷ [])) (outs-Nominal 9 (bool ∷ []))
+    (arguments_more bool bool [] [] (closed bool bool (shut 5) (own_form 5)) arguments_end)
 
-q_of_true : make_written types (bool ∷ []) written_q (V.Bool true ∷ []) (O.Error (F.BadParameter q_bool))
+q_of_true : make_written types (bool ∷ []) written_q (V.Bool true ∷ []) (O.Error (F.BadParameter (q_of 5)))
 q_of_true =
-    let S : Written → Type 0 = λ u. with_type types u (refuse (fault_where F.TypeLimit (NormLimit n (get_or u.parts 0 W.Any)))
-    (λ o. (m : Ty) × IsNormalForm n (get_or u.parts 0 W.Any) m × make_struct types m (V.Bool true ∷ []) o)) (O.Error (F.BadParameter q_bool)) in
-    subst S (sym q_put) (inr (
-      (λ e h. q_small h.1),
-      inl (F.BadParameter q_bool, (q_bool, q_bool, first_broken, shown, refl), refl),
+    subst (Makes 5 (V.Bool true) (O.Error (F.BadParameter (q_of 5)))) (sym (q_put 5)) (inr (
+      (λ e h. q_small 5 h.1),
+      inl (F.BadParameter (q_of 5), (q_of 5, q_of 5, first_broken, shown, refl), refl),
+    ))
+
+-- Q{Int64} keeps it
+int_lifts : lifted n 4 [] 3 ≡ Some []
+unfolding table_of
+int_lifts = rw (outs-Nominal 3 []) refl
+
+int_signed : Below n opaque int64 (named 3)
+int_signed = part_below n int64 (named 3) (alts-nominal 4 []) (alts-nominal 3 []) (by_nominal int64 (named 3) 4 3 [] [] [] (outs-Nominal 4 []) (outs-Nominal 3 []) int_lifts both_end)
+
+q_unbroken : IsBroken types (q_of 4) → ⊥
+q_unbroken b =
+    let (a, c, closed_is, out) = subst (Breaks types) (outs-Nominal 9 (int64 ∷ [])) b in
+    let e : of_q 4 ≡ a = only_member (of_q 4) a c in
+    out (subst (λ (g : Given). Between n (get_or (params_of (slice_get types 9)) g.place free) g.ty) e (union_below n [] int64 tt, int_signed))
+
+none_broken : (t : Ty) → IsFirstBroken types (nominals_of (plain (q_of 4 ∷ []))) t → ⊥
+none_broken t h = by h.place (subst (λ (ts : List Ty). slice_get ts h.place ≡ Some t) (q_nominals 4) h.there)
+  where
+    by : (i : ℕ) → slice_get (int64 ∷ q_of 4 ∷ []) i ≡ Some t → ⊥
+    by zero e = unbroken 4 t (let z : Some int64 ≡ Some t = e in cc) h.broken
+    by (suc zero) e = let z : q_of 4 ≡ t = cc in q_unbroken (subst (IsBroken types) (sym z) h.broken)
+    by (suc (suc i)) e = let z : None ≡ Some t = e in absurd (cc)
+
+q_form : IsNormalForm n (q_of 4) (q_of 4)
+q_form = record { normal = normal_name (q_of 4) 9 (int64 ∷ []) (outs-Nominal 9 (int64 ∷ [])) (more int64 [] (own_form 4).normal none); equal = equal_self n (q_of 4) }
+
+q_normal : NormLimit n (q_of 4) → ⊥
+q_normal (inl wide) = wide (record { nodes = omega (arith, q_nodes 4); alternatives = omega (arith, q_raw 4) })
+q_normal (inr (u, is, large)) =
+    let e : nodes u ≡ nodes (q_of 4) = ap nodes (normal_same n law u is.normal (q_of 4) q_form.normal (is.equal.1, is.equal.0)) in
+    omega (arith, large, e, q_nodes 4)
+
+q_fields : fields_in types (q_of 4) ≡ int64 ∷ []
+q_fields = rw (outs-Nominal 9 (int64 ∷ [])) (ap (λ (t : Ty). t ∷ []) (put-var _ 0))
+
+no_other : (i : ℕ) → IsFirstOther types (int64 ∷ []) (int64 ∷ []) i → ⊥
+no_other zero h = h.other (below_self n int64)
+no_other (suc i) h = let l = h.inside in omega (arith, l)
+
+abbrev q_one : Value
+q_one = struct_of (q_of 4) (datum (V.Int (pos 1)) ∷ [])
+
+one_nodes : values.nodes (datum q_one) ≡ 2
+one_nodes = fold-roll-Datum ℕ values.nodes_step (D.Struct (q_of 4) (datum (V.Int (pos 1)) ∷ [])) ∙ rw (leaf_nodes (pos 1)) refl
+
+one_depth : values.depth (datum q_one) ≡ 2
+one_depth = fold-roll-Datum ℕ values.depth_step (D.Struct (q_of 4) (datum (V.Int (pos 1)) ∷ [])) ∙ rw (leaf_depth (pos 1)) refl
+
+struct_of_one : make_struct types (q_of 4) (V.Int (pos 1) ∷ []) (O.Value q_one)
+struct_of_one = inr (
+  (λ e h. h.1 (rw (outs-Nominal 9 (int64 ∷ [])) refl)),
+  inr (
+    (λ e h. no_other h.0 (subst (λ (fs : List Ty). IsFirstOther types (int64 ∷ []) fs h.0) q_fields h.1)),
+    inr ((λ e h. h.1 (omega (arith, one_nodes), omega (arith, one_depth))), refl),
+  ),
+)
+
+q_of_one : make_written types (int64 ∷ []) written_q (V.Int (pos 1) ∷ []) (O.Value q_one)
+q_of_one =
+    subst (Makes 4 (V.Int (pos 1)) (O.Value q_one)) (sym (q_put 4)) (inr (
+      (λ e h. q_small 4 h.1),
+      inr ((λ e h. none_broken h.0 h.2), inr ((λ e h. q_normal h.1), (q_of 4, q_form, struct_of_one))),
     ))
