@@ -2,6 +2,7 @@
 -- Methods; Types: Parametric Types).
 use Rattle.std.specs.Prelude.{ℕ, ◌≡◌, ◌-◌, ◌<◌, ◌⊎◌, cond, nat_lt, IsTrue, List, [], ◌∷◌, ◌++◌, map, length, get_or, Some, slice_get}
 use Rattle.std.specs.List.{flat_map, Contains}
+use Rattle.jl_model.specs.declared.limits.TheConstants.{MOST_TYPE_NODES}
 use Rattle.jl_model.specs.declared.ty.Ty.{Ty, out-Ty}
 use Rattle.jl_model.specs.declared.ty.Ty.TheOpen.{Ty-F, Any, Union, Tuple, Nominal, Var}
 use Rattle.jl_model.specs.declared.ty.Ty.TheVariants as W
@@ -77,4 +78,4 @@ is_bad_parameter ds ts e = (t : Ty) × (u : Ty) × IsFirstBroken ds ts t × Sett
 
 -- a type has no normal form within the limits
 abbrev pub NormLimit : Table → Ty → Type 0
-NormLimit n t = (IsWithinLimits t → ⊥) ⊎ ((u : Ty) × IsNormalForm n t u × (1024 < nodes u))
+NormLimit n t = (IsWithinLimits t → ⊥) ⊎ ((u : Ty) × IsNormalForm n t u × (MOST_TYPE_NODES < nodes u))
