@@ -1,6 +1,7 @@
 pub mod ChoiceLaws
 pub mod ValueLemmas
 pub mod AnswerLemmas
+pub mod BrokenLemmas
 pub mod Layers
 pub mod Forms
 pub mod FormExamples

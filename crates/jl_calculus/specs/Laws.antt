@@ -1,9 +1,11 @@
 -- The laws of the questions that the rules ask: each has at most one answer. That it has one is shown by who answers it.
-use Rattle.std.specs.Prelude.{ℕ, ◌≡◌, Bool, List, Option, None}
+use Rattle.std.specs.Prelude.{ℕ, ◌≡◌, ◌↔◌, Bool, List, Option, None}
+use Rattle.std.specs.List.{Contains}
 use Rattle.jl_model.specs.declared.ty.Ty.{Ty}
 use Rattle.jl_model.specs.declared.ty.Decl.{Decl}
 use Rattle.jl_model.specs.declared.ty.Written.{Written}
 use Rattle.jl_model.specs.Refusals.{Declared}
+use Rattle.jl_model.specs.SigRefusals.{BoundBroken}
 use Rattle.jl_program.specs.declared.choice.Choice.{Choice}
 use Rattle.jl_program.specs.declared.datum.Datum.{Datum}
 use Rattle.jl_program.specs.declared.tree.Program.{Program}
@@ -17,6 +19,7 @@ use Rattle.jl_calculus.specs.Answers.{IsSingle}
 use Rattle.jl_calculus.specs.Kept.{Places}
 use Rattle.jl_calculus.specs.Operations.{make_tuple, make_written, make_inferred, test_type, test_order, test_same}
 use Rattle.jl_calculus.specs.Run.{setting_of, Run}
+use Rattle.jl_calculus.specs.Statics.{nominals_of, IsBroken}
 use Rattle.jl_calculus.specs.World.{Selects}
 
 -- the choice for a call in a world
@@ -34,6 +37,14 @@ OneWritten = (ds : List Decl) → Declared ds → (statics : List Ty) (t : Writt
 -- the struct whose type is inferred
 abbrev pub OneInferred : Type 0
 OneInferred = (ds : List Decl) (name : ℕ) (vs : List Value) → IsSingle (make_inferred ds name vs)
+
+-- one of these types is broken
+abbrev pub HasBroken : List Decl → List Ty → Type 0
+HasBroken ds ts = (t : Ty) × Contains ts t × IsBroken ds t
+
+-- a signature breaks a declared bound exactly where one of the nominal types in it is broken
+abbrev pub BrokenIsBad : Type 0
+BrokenIsBad = (ds : List Decl) (s : Written) → BoundBroken ds s ↔ HasBroken ds (nominals_of s)
 
 -- `isa`
 abbrev pub OneTest : Type 0

@@ -1,7 +1,7 @@
 //! Laws of the questions that the rules of a run ask. They are about definitions alone: each function does nothing, and its
 //! contract is the law.
 
-ghost use Rattle.jl_calculus.specs.Laws.{OneChoice, OneTuple, OneWritten, OneInferred, OneTest, OneOrder, OneIdentity, OneValue, RunsWithoutPlaces};
+ghost use Rattle.jl_calculus.specs.Laws.{OneChoice, OneTuple, OneWritten, OneInferred, OneTest, OneOrder, OneIdentity, OneValue, BrokenIsBad, RunsWithoutPlaces};
 
 /// A call has at most one choice in a world.
 pub fn law_one_choice()
@@ -20,6 +20,11 @@ pub fn law_one_answer()
     ensures test { OneTest }
     ensures order { OneOrder }
     ensures identity { OneIdentity }
+{}
+
+/// A written type breaks a declared bound exactly where there is a nominal type in it to name.
+pub fn law_bad_parameter()
+    ensures { BrokenIsBad }
 {}
 
 /// A value and what a contract sees of it give one another.
