@@ -17,10 +17,17 @@ fn of_one(alloc: Global, table: &Table, text: &str) -> Result<Choice, Halt> {
     Ok(choose(alloc, table, &methods)?)
 }
 
-/// The choice between two methods.
+/// The choice between two methods. Each signature is let go by a call: a drop that is left to the compiler is unrolled into this
+/// function's proof at each way out.
 fn of_two(alloc: Global, table: &Table, first: &str, second: &str) -> Result<Choice, Halt> {
     let first = signature(alloc, table, first)?;
-    let second = signature(alloc, table, second)?;
+    let second = match signature(alloc, table, second) {
+        Ok(second) => second,
+        Err(halt) => {
+            drop(first);
+            return Err(halt);
+        }
+    };
     let methods = [
         Method {
             number: 15,
@@ -31,7 +38,10 @@ fn of_two(alloc: Global, table: &Table, first: &str, second: &str) -> Result<Cho
             sig: &second,
         },
     ];
-    Ok(choose(alloc, table, &methods)?)
+    let choice = choose(alloc, table, &methods);
+    drop(first);
+    drop(second);
+    Ok(choice?)
 }
 
 /// The choice among three methods.
@@ -43,8 +53,21 @@ fn of_three(
     third: &str,
 ) -> Result<Choice, Halt> {
     let first = signature(alloc, table, first)?;
-    let second = signature(alloc, table, second)?;
-    let third = signature(alloc, table, third)?;
+    let second = match signature(alloc, table, second) {
+        Ok(second) => second,
+        Err(halt) => {
+            drop(first);
+            return Err(halt);
+        }
+    };
+    let third = match signature(alloc, table, third) {
+        Ok(third) => third,
+        Err(halt) => {
+            drop(first);
+            drop(second);
+            return Err(halt);
+        }
+    };
     let methods = [
         Method {
             number: 15,
@@ -59,15 +82,47 @@ fn of_three(
             sig: &third,
         },
     ];
-    Ok(choose(alloc, table, &methods)?)
+    let choice = choose(alloc, table, &methods);
+    drop(first);
+    drop(second);
+    drop(third);
+    Ok(choice?)
 }
 
 /// The choice among four methods.
-fn of_four(alloc: Global, table: &Table, texts: [&str; 4]) -> Result<Choice, Halt> {
-    let first = signature(alloc, table, texts[0])?;
-    let second = signature(alloc, table, texts[1])?;
-    let third = signature(alloc, table, texts[2])?;
-    let fourth = signature(alloc, table, texts[3])?;
+fn of_four(
+    alloc: Global,
+    table: &Table,
+    first: &str,
+    second: &str,
+    third: &str,
+    fourth: &str,
+) -> Result<Choice, Halt> {
+    let first = signature(alloc, table, first)?;
+    let second = match signature(alloc, table, second) {
+        Ok(second) => second,
+        Err(halt) => {
+            drop(first);
+            return Err(halt);
+        }
+    };
+    let third = match signature(alloc, table, third) {
+        Ok(third) => third,
+        Err(halt) => {
+            drop(first);
+            drop(second);
+            return Err(halt);
+        }
+    };
+    let fourth = match signature(alloc, table, fourth) {
+        Ok(fourth) => fourth,
+        Err(halt) => {
+            drop(first);
+            drop(second);
+            drop(third);
+            return Err(halt);
+        }
+    };
     let methods = [
         Method {
             number: 15,
@@ -86,7 +141,12 @@ fn of_four(alloc: Global, table: &Table, texts: [&str; 4]) -> Result<Choice, Hal
             sig: &fourth,
         },
     ];
-    Ok(choose(alloc, table, &methods)?)
+    let choice = choose(alloc, table, &methods);
+    drop(first);
+    drop(second);
+    drop(third);
+    drop(fourth);
+    Ok(choice?)
 }
 
 /// The choice among at most four methods.
@@ -96,9 +156,7 @@ fn of_all(alloc: Global, table: &Table, texts: &[&str]) -> Result<Choice, Halt> 
         [first] => of_one(alloc, table, first),
         [first, second] => of_two(alloc, table, first, second),
         [first, second, third] => of_three(alloc, table, first, second, third),
-        [first, second, third, fourth] => {
-            of_four(alloc, table, [*first, *second, *third, *fourth])
-        }
+        [first, second, third, fourth] => of_four(alloc, table, first, second, third, fourth),
         _ => Err(Halt::Unread),
     }
 }

@@ -89,7 +89,8 @@ pub fn keeping(alloc: Global, table: &Table, text: &str) -> Result<String, Halt>
     let kept = list_text(alloc, scope, sig.kept().parts.as_slice())?;
     let mut out = format!(in alloc; "{written} as {kept}")?;
     for variable in 0..sig.written().vars.len() {
-        let line = variable_text(alloc, scope, &sig, variable as u32)?;
+        let variable = u32::try_from(variable).unwrap_or(u32::MAX);
+        let line = variable_text(alloc, scope, &sig, variable)?;
         out.push_str(line.as_str())?;
     }
     Ok(out)
@@ -108,7 +109,7 @@ pub fn variables(alloc: Global, table: &Table, text: &str) -> Result<String, Hal
     let mut out = String::new(alloc);
     for (i, variable) in vars.iter().enumerate() {
         let kind = kind_of(written.parts.as_slice(), i as u64);
-        let is_usable = is_usable(&written, i as u32);
+        let is_usable = is_usable(&written, u32::try_from(i).unwrap_or(u32::MAX));
         let word = match flags.get(i) == Some(&is_usable) {
             true => usable_word(is_usable),
             false => "told in two ways",
