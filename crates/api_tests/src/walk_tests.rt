@@ -8,7 +8,7 @@ use jl_model::ty::{Bytes, Ty, Written};
 use jl_names::decls::DeclList;
 use jl_names::list::NameList;
 use jl_names::marked::MarkedNames;
-use jl_program::tree::{Expr as Code, Expr as Code, Item as Statement, Item as Statement};
+use jl_program::tree::{Expr as Code, Item as Statement};
 use jl_resolve_forms::judge::Judge;
 use jl_resolve_forms::known::Known;
 use jl_resolve_forms::known_decls::KnownDecls;
