@@ -39,18 +39,20 @@ fn decls(alloc: Global) -> Result<DeclList, AllocError> {
     Ok(decls)
 }
 
-/// Static parameters of these one-letter names.
-fn statics(alloc: Global, names: &str) -> Result<TypeVars, AllocError> {
+fn static_parameter(alloc: Global, name: &[u8], number: u32) -> Result<TypeVar, AllocError> {
+    Ok(TypeVar {
+        name: Bytes::from_vec(alloc, Vec::from_slice(alloc, name)?)?,
+        number,
+        usable: true,
+    })
+}
+
+/// The static parameters `T`, `S` and `T`.
+fn statics(alloc: Global) -> Result<TypeVars, AllocError> {
     let mut vars = TypeVars::new(alloc);
-    for (number, letter) in names.as_bytes().iter().enumerate() {
-        let mut name = Vec::new(alloc);
-        name.push(*letter)?;
-        vars.push(TypeVar {
-            name: Bytes::from_vec(alloc, name)?,
-            number: number as u32,
-            usable: true,
-        })?;
-    }
+    vars.push(static_parameter(alloc, b"T", 0)?)?;
+    vars.push(static_parameter(alloc, b"S", 1)?)?;
+    vars.push(static_parameter(alloc, b"T", 2)?)?;
     Ok(vars)
 }
 
@@ -85,7 +87,7 @@ type Found = (Option<u32>, usize, bool);
 /// What is found of a text, with the first so many of the static parameters `T`, `S` and `T`.
 fn found(alloc: Global, text: &TypeText, visible: usize) -> Result<Found, AllocError> {
     let decls = decls(alloc)?;
-    let mut vars = statics(alloc, "TST")?;
+    let mut vars = statics(alloc)?;
     vars.truncate(visible);
     let (ty, reading) = body_type(alloc, &decls.all(), &vars, text)?;
     Ok((variable_in(&ty), reading.vars.len(), reading.misplaced))
