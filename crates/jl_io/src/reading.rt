@@ -1,7 +1,7 @@
 //! Sources, and reading up to a limit.
 
 ghost use Rattle.std.specs.Prelude.{◌≡◌, ℕ, ◌<◌, ◌≤◌, List, ◌++◌, length, take};
-ghost use Rattle.std.specs.Prelude.{Option, IfOk, OnErr, IfErr};
+ghost use Rattle.std.specs.Prelude.{Option, IfOk, OnOk, OnErr, IfErr};
 ghost use Rattle.jl_io.specs.Faults.{Rose, IsReadCause};
 ghost use Rattle.jl_io.specs.Moved.{Gives, EndsExactly, NothingLeft};
 ghost use Rattle.jl_io.specs.declared.reading.ReadFault.TheVariants.{Failed as ReadFailed, Memory};
@@ -57,6 +57,7 @@ pub trait Source {
         ensures gives { IfOk result (λ count.
             Gives (left self.old) (take count into.new) (left self.new)) }
         ensures ended { IfOk result (λ count. EndsExactly (left self.old) count) }
+        ensures quiet { OnOk result (faults self.new ≡ faults self.old) }
         ensures rose { OnErr result (Rose (faults self.old) (faults self.new)) }
         ensures kept { OnErr result (left self.new ≡ left self.old) };
 }
@@ -76,6 +77,7 @@ pub fn read_up_to<S: Source>(
         Gives (S.left source.old) bytes.items (S.left source.new)) }
     ensures ended { IfOk result (λ bytes.
         length bytes.items < most → NothingLeft (S.left source.new)) }
+    ensures quiet { OnOk result (S.faults source.new ≡ S.faults source.old) }
     ensures rose { IfErr result (λ fault.
         IsReadCause fault (S.faults source.old) (S.faults source.new)) }
 {
@@ -104,6 +106,7 @@ fn read_piece<S: Source>(
         × IfOk result (λ count.
         (count ≡ length piece) × (bytes.new.items ≡ bytes.old.items ++ piece)) }
     ensures ended { IfOk result (λ count. count ≡ 0 → NothingLeft (S.left source.new)) }
+    ensures quiet { OnOk result (S.faults source.new ≡ S.faults source.old) }
     ensures rose { IfErr result (λ fault.
         IsReadCause fault (S.faults source.old) (S.faults source.new)) }
 {

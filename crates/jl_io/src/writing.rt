@@ -30,6 +30,7 @@ pub trait Sink {
         ensures within { IfOk result (λ count. (1 ≤ count) × (count ≤ length bytes.now)) }
         ensures takes { IfOk result (λ count.
             Takes (written self.old) (take count bytes.now) (written self.new)) }
+        ensures quiet { OnOk result (faults self.new ≡ faults self.old) }
         ensures rose { IfErr result (λ fault. IsWriteCause fault (faults self.old) (faults self.new)) }
         ensures kept { OnErr result (written self.new ≡ written self.old) };
 }
@@ -41,6 +42,7 @@ pub fn write_all<K: Sink>(sink: &mut K, bytes: &[u8]) -> Result<(), SinkFault>
     ensures taken { (count : ℕ) × (count ≤ length bytes.now)
         × Takes (K.written sink.old) (take count bytes.now) (K.written sink.new) }
     ensures all { OnOk result (Takes (K.written sink.old) bytes.now (K.written sink.new)) }
+    ensures quiet { OnOk result (K.faults sink.new ≡ K.faults sink.old) }
     ensures rose { IfErr result (λ fault.
         IsWriteCause fault (K.faults sink.old) (K.faults sink.new)) }
     ensures empty { bytes.now ≡ [] → IsOk result }
