@@ -6,15 +6,22 @@ use Rattle.jl_token.specs.declared.token.Token.{Token}
 use Rattle.jl_token.specs.declared.token.TokenKind.{TokenKind}
 use Rattle.jl_token.specs.declared.token.TokenKind.TheVariants as kind
 use Rattle.jl_token.specs.declared.token.TokenFault.TheVariants as fault
-use Rattle.jl_token.specs.Grammar.{Spells, Reads, at_end, faulty, between, token, with_token, ReadsBytes, bad_utf8, text, ReadsSource, UnlessMemory, IsOnly, EndsOnce}
+use Rattle.jl_token.specs.Grammar.{Spells, Reads, at_end, faulty, between, token, with_token, ReadsBytes, bad_utf8, text, ReadsSource, UnlessMemory, IsOnly, RefusesBadUtf8, EndsOnce}
 use Rattle.jl_token.proofs.OneReading.{Answer, one-reading}
 
-never-utf8 : (source : List ℕ) (at : ℕ) → IsValidUpTo source at → IsUtf8 source → ⊥
+pub never-utf8 : (source : List ℕ) (at : ℕ) → IsValidUpTo source at → IsUtf8 source → ⊥
 never-utf8 source at bad utf8 = omega (arith, bad.short, utf8_valid_len-IsUtf8 source utf8, utf8_valid_len-IsValidUpTo source at bad)
+
+-- there is one place up to which bytes are UTF-8
+one-place : (source : List ℕ) (at other : ℕ) → IsValidUpTo source at → IsValidUpTo source other → at ≡ other
+one-place source at other bad also = sym (utf8_valid_len-IsValidUpTo source at bad) ∙ utf8_valid_len-IsValidUpTo source other also
+
+pub refused-there : (source : List ℕ) (at : ℕ) → IsValidUpTo source at → RefusesBadUtf8 source (Err (fault.BadUtf8 at))
+refused-there source at bad = λ other also. ap (λ n. Err (fault.BadUtf8 n)) (one-place source at other bad also)
 
 pub one-bytes : (source : List ℕ) (r q : Answer) → ReadsBytes source r → ReadsBytes source q → r ≡ q
 one-bytes _ _ _ (bad_utf8 source at bad) (bad_utf8 _ other also) =
-    ap (λ n. Err (fault.BadUtf8 n)) (sym (utf8_valid_len-IsValidUpTo source at bad) ∙ utf8_valid_len-IsValidUpTo source other also)
+    ap (λ n. Err (fault.BadUtf8 n)) (one-place source at other bad also)
 one-bytes _ _ _ (bad_utf8 source at bad) (text _ q utf8 d) = absurd (never-utf8 source at bad utf8)
 one-bytes _ _ _ (text source r utf8 d) (bad_utf8 _ at bad) = absurd (never-utf8 source at bad utf8)
 one-bytes _ _ _ (text source r utf8 d) (text _ q _ e) = one-reading (length source) _ (chars source) r q d e

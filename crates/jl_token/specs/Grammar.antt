@@ -233,6 +233,10 @@ UnlessMemory r P = P r
 abbrev pub IsOnly : Result (List Token) TokenFault → (Result (List Token) TokenFault → Type 0) → Type 0
 IsOnly result P = (r : Result (List Token) TokenFault) → P r → UnlessMemory result (λ given. given ≡ r)
 
+-- bytes that are no UTF-8 are refused as such and as nothing else, also not for memory, of which the test takes none
+abbrev pub RefusesBadUtf8 : List ℕ → Result (List Token) TokenFault → Type 0
+RefusesBadUtf8 source result = (at : ℕ) → IsValidUpTo source at → result ≡ Err (fault.BadUtf8 at)
+
 -- the last token, and no other, is the end, at the length of the source
 abbrev pub EndsOnce : ℕ → List Token → Type 0
 EndsOnce bytes [] = ⊥

@@ -1,8 +1,10 @@
 //! The tokens of a whole source.
 
-ghost use Rattle.std.specs.Prelude.{◌≡◌, ◌≤◌, ◌<◌, ◌^◌, length, IfOk, true};
+ghost use Rattle.std.specs.Prelude.{◌≡◌, ◌≤◌, ◌<◌, ◌^◌, length, IfOk, Err, true};
 ghost use Rattle.std.specs.Str.{chars, IsUtf8};
-ghost use Rattle.jl_token.specs.Grammar.{EndsOnce, IsOnly, Reads, ReadsBytes, ReadsSource, UnlessMemory};
+ghost use Rattle.jl_model.specs.declared.limits.TheConstants.{MOST_SOURCE_BYTES};
+ghost use Rattle.jl_token.specs.Grammar.{EndsOnce, IsOnly, Reads, ReadsBytes, ReadsSource, RefusesBadUtf8, UnlessMemory};
+ghost use Rattle.jl_token.specs.declared.token.TokenFault.TheVariants.{SourceTooLong};
 
 use crate::characters::place;
 use crate::pieces::piece;
@@ -42,7 +44,8 @@ fn read(alloc: Global, source: &str) -> Result<Tokens, TokenFault>
 /// The tokens of a text in bytes.
 fn read_bytes(alloc: Global, text: &[u8]) -> Result<Tokens, TokenFault>
     requires { length text.now < 2 ^ 32 }
-    ensures { UnlessMemory result (ReadsBytes text.now) }
+    ensures reads { UnlessMemory result (ReadsBytes text.now) }
+    ensures bad_utf8 { RefusesBadUtf8 text.now result }
 {
     match str::from_utf8(text) {
         Ok(text) => read(alloc, text),
@@ -55,11 +58,13 @@ fn read_bytes(alloc: Global, text: &[u8]) -> Result<Tokens, TokenFault>
 /// # Errors
 ///
 /// `SourceTooLong`; then `BadUtf8`, at the first byte that belongs to no character; then the first fault in the order
-/// of the text. Besides, `Memory`.
+/// of the text. Besides, `Memory`, but neither for a source that is too long nor for one that is no UTF-8.
 pub fn tokens(alloc: Global, source: &[u8]) -> Result<Tokens, TokenFault>
     ensures reads { UnlessMemory result (ReadsSource source.now) }
     ensures only { IsOnly result (ReadsSource source.now) }
     ensures end { IfOk result (EndsOnce (length source.now)) }
+    ensures too_long { MOST_SOURCE_BYTES < length source.now → result ≡ Err SourceTooLong }
+    ensures bad_utf8 { length source.now ≤ MOST_SOURCE_BYTES → RefusesBadUtf8 source.now result }
 {
     if source.len() > MOST_SOURCE_BYTES {
         return Err(TokenFault::SourceTooLong);
@@ -77,6 +82,7 @@ pub fn line_tokens(alloc: Global, text: &[u8]) -> Result<Tokens, TokenFault>
     ensures reads { UnlessMemory result (ReadsBytes text.now) }
     ensures only { IsOnly result (ReadsBytes text.now) }
     ensures end { IfOk result (EndsOnce (length text.now)) }
+    ensures bad_utf8 { RefusesBadUtf8 text.now result }
 {
     read_bytes(alloc, text)
 }
