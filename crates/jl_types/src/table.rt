@@ -1,24 +1,28 @@
 //! The table of nominal types.
 
 ghost use Rattle.std.specs.Prelude.{◌≡◌, ◌<◌, ◌++◌, ◌∷◌, [], IfOk, OnErr, MatchOption, Option, None, Some, length, slice_get, get_or};
+ghost use Rattle.jl_model.specs.declared.builtin.TheConstants.{BUILTIN_TYPES};
 ghost use Rattle.jl_model.specs.Ancestors.{builtin_types, plain_decl, named, lines_after, up_in};
 ghost use Rattle.jl_types.specs.Lines.{line_in};
+ghost use Rattle.jl_types.specs.Terms.{builtin_terms};
 ghost use Rattle.jl_model.specs.Refusals.{IsReady, Declared};
 ghost use Rattle.jl_model.specs.declared.ty.DeclKind.TheVariants.{Abstract, Struct};
 ghost use Rattle.jl_model.specs.declared.ty.Ty.TheVariants as W;
 
 use crate::ancestor::Ancestor;
 use crate::lineage::Lineage;
-use jl_model::builtin::{INTEGER, NUMBER, REAL, SIGNED};
+use jl_model::builtin::{BOOL, INT64, INTEGER, NOTHING, NUMBER, REAL, SIGNED, TASK};
 use jl_model::ty::{Bounds, Bytes, Decl, DeclKind, Fields, Ty, Tys};
 use std::alloc::{AllocError, Global};
 use std::marker::Model;
 
 /// The nominal types, by number: the eight built-in ones and then the declared ones in order. Contracts see the list of
-/// their declarations, which is always valid.
+/// their declarations, which is always valid. It also keeps the terms of the built-in types, so that the type of a value that has
+/// no parts can be lent.
 #[derive(Drop)]
 pub struct Table {
     lineage: Lineage,
+    terms: Tys,
 }
 
 impl Model for Table {
@@ -26,7 +30,7 @@ impl Model for Table {
     ghost use Rattle.std.specs.Coded.{coded_list};
     ghost use Rattle.jl_model.specs.contracts.ty.Decl as e;
     ghost use Rattle.jl_model.specs.declared.ty.Decl.{Decl};
-    ghost use Rattle.jl_model.specs.Refusals.{Declared};
+    ghost use Rattle.jl_types.specs.Terms.{IsTable};
 
     ghost Value = { List Decl };
 
@@ -34,7 +38,7 @@ impl Model for Table {
 
     ghost view = { λ a. a.lineage };
 
-    ghost invariant = { λ a. Declared a.lineage };
+    ghost invariant = { λ a. IsTable a.lineage a.terms };
 }
 
 /// A declaration without parameters and fields.
@@ -88,6 +92,23 @@ fn builtin(alloc: Global) -> Result<Lineage, AllocError>
     Ok(lineage)
 }
 
+/// The terms of the eight built-in types.
+fn builtin_terms(alloc: Global) -> Result<Tys, AllocError>
+    ensures { IfOk result (λ terms. terms ≡ builtin_terms) }
+{
+    let terms = vec![in alloc;
+        named(NUMBER),
+        named(REAL),
+        named(INTEGER),
+        named(SIGNED),
+        named(INT64),
+        named(BOOL),
+        named(NOTHING),
+        named(TASK),
+    ]?;
+    Tys::from_vec(alloc, terms)
+}
+
 impl Table {
     /// The table of the eight built-in types: Number 0, Real 1, Integer 2, Signed 3, Int64 4, Bool 5, Nothing 6, Task 7.
     pub fn new(alloc: Global) -> Result<Table, AllocError>
@@ -95,6 +116,7 @@ impl Table {
     {
         Ok(Table {
             lineage: builtin(alloc)?,
+            terms: builtin_terms(alloc)?,
         })
     }
 
@@ -133,6 +155,14 @@ impl Table {
         ensures { slice_get self.now name ≡ Some result.now }
     {
         self.lineage.decl(name as usize)
+    }
+
+    /// The term of a built-in type, by its number. It takes no memory.
+    pub fn builtin(&self, number: u32) -> &Ty
+        requires { number < BUILTIN_TYPES }
+        ensures { result.now ≡ named number }
+    {
+        &self.terms.as_slice()[number as usize]
     }
 
     /// How many types there are, the built-in ones among them.

@@ -24,7 +24,7 @@ use jl_types::count::nodes_within;
 use std::alloc::{AllocError, Global};
 
 /// The type of a tuple of these parts. No more of their types is visited than the limit allows.
-fn type_of_tuple(alloc: Global, parts: &[Value]) -> Result<Ty, MakeFault>
+fn type_of_tuple(alloc: Global, table: &Table, parts: &[Value]) -> Result<Ty, MakeFault>
     ensures made { IfOk result (λ t. t ≡ tuple_type (map datum parts.now)) }
     ensures small { IfOk result (λ t. nodes t ≤ MOST_TYPE_NODES) }
     ensures fault { IfErr result (TupleCause (map datum parts.now)) }
@@ -32,12 +32,12 @@ fn type_of_tuple(alloc: Global, parts: &[Value]) -> Result<Ty, MakeFault>
     let mut count = 1;
     let mut types = Vec::new(alloc);
     for part in parts {
-        let ty = type_of(part)?;
-        count += nodes_within(&ty, MOST_TYPE_NODES - count);
+        let ty = type_of(table, part);
+        count += nodes_within(ty, MOST_TYPE_NODES - count);
         if count > MOST_TYPE_NODES {
             return Err(MakeFault::TypeLimit);
         }
-        types.push(ty)?;
+        types.push(ty.copy()?)?;
     }
     Ok(Ty::Tuple(Tys::from_vec(alloc, types)?))
 }
@@ -64,7 +64,7 @@ pub fn tuple(alloc: Global, table: &Table, parts: Values) -> Result<Value, MakeF
     ensures fault { IfErr result (TupleCause parts) }
 {
     table.valid();
-    let ty = type_of_tuple(alloc, parts.as_slice())?;
+    let ty = type_of_tuple(alloc, table, parts.as_slice())?;
     let made = SharedNode::new(alloc, Compound { ty, parts })?;
     within_limits(Value::Tuple(made))
 }
@@ -87,8 +87,8 @@ fn check_fields(
 {
     table.valid();
     for (i, field) in fields.iter().enumerate() {
-        let ty = type_of(&parts[i])?;
-        if !is_of(alloc, table, &ty, &field.ty, args)? {
+        let ty = type_of(table, &parts[i]);
+        if !is_of(alloc, table, ty, &field.ty, args)? {
             return Err(MakeFault::FieldType(i as u32));
         }
     }

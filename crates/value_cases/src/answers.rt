@@ -54,14 +54,19 @@ fn put_type(out: &mut Row<u8>, program: &Program, ty: Ty) -> Result<(), AllocErr
 }
 
 /// The texts of a value and of its type, where they are short.
-fn texts(alloc: Global, program: &Program, value: &Value) -> Result<String, AllocError> {
+fn texts(
+    alloc: Global,
+    table: &Table,
+    program: &Program,
+    value: &Value,
+) -> Result<String, AllocError> {
     let mut out = Row::new(alloc);
     if value.nodes() > MOST_SHOWN {
         out.append(b"large")?;
     } else {
         out.append(value_text(alloc, program, value)?.as_slice())?;
         out.append(b" of ")?;
-        put_type(&mut out, program, type_of(value)?)?;
+        append_type(&mut out, program, type_of(table, value))?;
     }
     string(alloc, out.as_slice())
 }
@@ -95,8 +100,13 @@ fn measure_copy(value: &Value) -> Result<(Counts, bool), AllocError> {
 }
 
 /// A value with its type and counts, and those of its copy.
-fn describe(alloc: Global, program: &Program, value: &Value) -> Result<String, AllocError> {
-    let text = texts(alloc, program, value)?;
+fn describe(
+    alloc: Global,
+    table: &Table,
+    program: &Program,
+    value: &Value,
+) -> Result<String, AllocError> {
+    let text = texts(alloc, table, program, value)?;
     let counts = measure(value);
     let (copied, is_same) = measure_copy(value)?;
     format!(in alloc; "{text}, {counts}; its copy {copied}, the same {is_same}")
@@ -113,7 +123,7 @@ pub fn value_answer(
 {
     match values_of(alloc, table, text) {
         Ok(values) => match values.as_slice().last() {
-            Some(value) => describe(alloc, program, value),
+            Some(value) => describe(alloc, table, program, value),
             None => string(alloc, b"no value"),
         },
         Err(fault) => format!(in alloc; "{fault:?}"),

@@ -1,6 +1,7 @@
 //! What is counted of a value.
 
 use jl_program::value::{Value, parts_of};
+use jl_types::Table;
 use jl_types::count::nodes_within;
 use jl_value::{copy, egal, type_of};
 use std::alloc::AllocError;
@@ -75,13 +76,18 @@ fn cells(value: &Value) -> u64 {
 }
 
 /// The counts of a value, and whether it is the same as its copy, as one that was built apart, and as one with another end.
-pub fn count(value: &Value, twin: &Value, other: &Value) -> Result<Counts, AllocError> {
+pub fn count(
+    table: &Table,
+    value: &Value,
+    twin: &Value,
+    other: &Value,
+) -> Result<Counts, AllocError> {
     Ok(Counts {
         cells: cells(value),
         parts: parts(value).len(),
         nodes: value.nodes(),
         depth: value.depth(),
-        type_nodes: nodes_within(&type_of(value)?, MANY),
+        type_nodes: nodes_within(type_of(table, value), MANY),
         is_copy_same: egal(value, &copy(value)?),
         is_twin_same: egal(value, twin),
         is_other_same: egal(value, other),
@@ -99,13 +105,12 @@ pub fn copy_often(value: &Value, times: u32) -> Result<u64, AllocError> {
 }
 
 /// Asks for the type of a value so many times, and counts the answers.
-pub fn type_often(value: &Value, times: u32) -> Result<u64, AllocError> {
+pub fn type_often(table: &Table, value: &Value, times: u32) -> u64 {
     let mut sum: u64 = 0;
     for _ in 0..times {
-        let ty = type_of(value)?;
-        sum = sum.saturating_add(nodes_within(&ty, 0));
+        sum = sum.saturating_add(nodes_within(type_of(table, value), 0));
     }
-    Ok(sum)
+    sum
 }
 
 /// Compares two values so many times, and counts how often they are the same.

@@ -64,7 +64,7 @@ fn work(
     let value = shape.build(alloc, table, -1)?;
     match name {
         "copy" => Ok(copy_often(&value, times)?),
-        "type" => Ok(type_often(&value, times)?),
+        "type" => Ok(type_often(table, &value, times)),
         "same" => {
             let twin = shape.build(alloc, table, -1)?;
             Ok(compare_often(&value, &twin, times))

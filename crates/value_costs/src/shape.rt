@@ -68,7 +68,7 @@ impl Shape {
         let value = self.build(alloc, table, -1)?;
         let twin = self.build(alloc, table, -1)?;
         let other = self.build(alloc, table, -2)?;
-        Ok(count(&value, &twin, &other)?)
+        Ok(count(table, &value, &twin, &other)?)
     }
 }
 

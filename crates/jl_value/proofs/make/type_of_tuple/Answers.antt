@@ -4,8 +4,8 @@ use Rattle.jl_value.proofs.make.type_of_tuple.Goals as goal
 
 pub returns-then-count-gt-MOST_TYPE_NODES-clause-fault : goal.returns-then-count-gt-MOST_TYPE_NODES-clause-fault
 returns-then-count-gt-MOST_TYPE_NODES-clause-fault c =
-    too_large c.args.parts.now c.loop-part.part-index c.loop-part.count c.nodes_within.result c.part-item.result c.in_ok-ty.ty c.loop-part.invariant.range c.loop-part.invariant.rest
-    c.loop-part-test.true c.part-item.is c.in_ok-ty.ensures c.nodes_within.ensures c.if-count-gt-MOST_TYPE_NODES.true
+    too_large c.args.parts.now c.loop-part.part-index c.loop-part.count c.nodes_within.result c.part-item.result c.type_of-ty.result.now c.loop-part.invariant.range c.loop-part.invariant.rest
+    c.loop-part-test.true c.part-item.is c.type_of-ty.ensures c.nodes_within.ensures c.if-count-gt-MOST_TYPE_NODES.true
 
 pub returns-clause-made : goal.returns-clause-made
 returns-clause-made c =

@@ -6,4 +6,4 @@ pub invariant_of-self-2 : goal.invariant_of-self-2
 invariant_of-self-2 c =
     let ds = c.self.inside.lineage in
     let ready : IsReady ds c.args.decl = subst (λ z. IsReady z c.args.decl) (sym c.self.view_is) c.requires in
-    rw c.in_ok-push.ensures.added (added ds c.args.decl c.self.invariant ready)
+    record { declared = rw c.in_ok-push.ensures.added (added ds c.args.decl c.self.invariant.declared ready); builtin = c.self.invariant.builtin }
