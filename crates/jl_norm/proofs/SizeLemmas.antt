@@ -1,6 +1,6 @@
 -- Lists of types within the limits.
 use Rattle.std.proofs.Common.{◌≡◌, sym, ap, subst, ℕ, zero, suc, ◌+◌, ◌<◌, arith, add-one, List, [], ◌∷◌, ◌++◌, map, length, drop, get_or}
-use Rattle.std.proofs.Common.{Bool, IfOk, Result, Ok, Err}
+use Rattle.std.proofs.Common.{Bool, IfOk, OnErr, Result, Ok, Err}
 use Rattle.std.specs.declared.alloc.AllocError.{AllocError}
 use Rattle.jl_model.specs.declared.ty.Ty.{Ty}
 use Rattle.jl_model.specs.declared.ty.Ty.TheViews as V
@@ -73,3 +73,7 @@ parent_within d h = within_back (bound_types d.params) (d.parent ∷ field_types
 pub ok_map : (r : Result Bool AllocError) (P Q : Bool → Type 0) → ((b : Bool) → P b → Q b) → IfOk r P → IfOk r Q
 ok_map (Ok b) P Q f h = f b h
 ok_map (Err e) P Q f h = h
+
+pub on_err : (r : Result Bool AllocError) (P : Type 0) → P → OnErr r P
+on_err (Ok b) P p = tt
+on_err (Err e) P p = p

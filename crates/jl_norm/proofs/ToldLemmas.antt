@@ -1,5 +1,5 @@
 -- What the walk over the arguments of a declaration tells of its refusals.
-use Rattle.std.proofs.Common.{subst, zero, suc, arith, Bool, List, ◌++◌, map, inl, inr}
+use Rattle.std.proofs.Common.{◌≡◌, subst, zero, suc, arith, Bool, List, ◌++◌, map, inl, inr, refl, sym, Result, Ok, Err, IsErrAnd, MatchResult}
 use Rattle.std.specs.List.{Contains}
 use Rattle.jl_model.specs.declared.ty.Ty.{Ty}
 use Rattle.jl_model.specs.declared.ty.Ty.TheViews as V
@@ -8,8 +8,10 @@ use Rattle.jl_model.specs.declared.ty.Decl.{Decl}
 use Rattle.jl_model.specs.Subtype.{Table}
 use Rattle.jl_model.specs.Normal.{IsNormalForm}
 use Rattle.jl_model.specs.Kept.{Bounds, bounds_end, bounds_more}
-use Rattle.jl_model.specs.Refusals.{Declared, table_with, bound_types, types_of, ancestors, AllWithinLimits, HasLargeForm, TypeLimit, TooMany, DuplicateField, HasOwnVariables, IsAllowed, IsReady}
-use Rattle.jl_norm.specs.Refused.{IsWellWritten, IsKeptSized, IsKeptTold, IsBounded}
+use Rattle.jl_model.specs.Refusals.{Declared, DuplicateType, table_with, bound_types, types_of, ancestors, AllWithinLimits, HasLargeForm, TypeLimit, TooMany, DuplicateField, HasOwnVariables, IsAllowed, IsReady}
+use Rattle.jl_norm.specs.Refused.{IsWellWritten, IsTooLargeAsWritten, IsRightAsWritten, IsKeptSized, IsKeptTold, IsBounded, Refused}
+use Rattle.jl_norm.specs.declared.fault.DeclareFault.{DeclareFault}
+use Rattle.jl_norm.specs.declared.fault.DeclareFault.TheVariants as fault
 use Rattle.jl_norm.specs.Judged.{SomeLarge, Judged, given_of}
 use Rattle.jl_norm.proofs.SizeLemmas.{within_front, bounds_within}
 use Rattle.jl_norm.proofs.KeepLemmas.{with_lawful}
@@ -76,3 +78,44 @@ module _ (ds : List Decl) (d e : Decl) (h : Declared ds) (b : IsBounded ds d e) 
       let w = b.ordered.written in
       let k = b.ordered.within.kept in
       ready ds d e h w k v b.ordered few distinct (bounded_kept ds d e h w (with_lawful ds e (written_kept ds d e h w k) h) k b.within)
+
+-- what is seen in a declaration as it is written
+pub right_as_written : (ds : List Decl) (d : Decl) → IsWellWritten ds d → AllWithinLimits (types_of d) → IsRightAsWritten ds d
+right_as_written ds d w a = record { written = w; sized = λ n. n a }
+
+pub bounded_right : (ds : List Decl) (d e : Decl) → IsBounded ds d e → IsRightAsWritten ds d
+bounded_right ds d e b = record {
+  written = b.ordered.written;
+  sized = λ n. b.ordered.within.small (inl (λ a. n (types_sized ds d a)));
+}
+
+pub memory_refused : {A : Type 0} (ds : List Decl) (d : Decl) (r : Result A DeclareFault) (P : A → Type 0) → IsErrAnd r (λ f. f ≡ fault.Memory) → IsRightAsWritten ds d → MatchResult r P (λ f. Refused f ds d)
+memory_refused ds d (Ok x) P h w = absurd h
+memory_refused ds d (Err f) P h w = subst (λ z. Refused z ds d) (sym h) w
+
+-- a refusal that comes first is given wherever it holds
+pub duplicate_given : (ds : List Decl) (d : Decl) (f : DeclareFault) → Refused f ds d → DuplicateType ds d → f ≡ fault.DuplicateType
+duplicate_given ds d fault.DuplicateType r h = refl
+duplicate_given ds d fault.UnknownType r h = absurd (r.0 h)
+duplicate_given ds d fault.WrongParameterCount r h = absurd (r.0 h)
+duplicate_given ds d fault.SuperNotAbstract r h = absurd (r.0 h)
+duplicate_given ds d fault.VariablePlace r h = absurd (r.0 h)
+duplicate_given ds d fault.TypeLimit r h = absurd (r.0.fresh h)
+duplicate_given ds d fault.BoundsCrossed r h = absurd (r.0.fresh h)
+duplicate_given ds d fault.BoundBroken r h = absurd (r.0.fresh h)
+duplicate_given ds d fault.TooMany r h = absurd (r.0.fresh h)
+duplicate_given ds d fault.DuplicateField r h = absurd (r.0.fresh h)
+duplicate_given ds d fault.Memory r h = absurd (r.written.fresh h)
+
+pub large_given : (ds : List Decl) (d : Decl) (f : DeclareFault) → Refused f ds d → IsWellWritten ds d → IsTooLargeAsWritten d → f ≡ fault.TypeLimit
+large_given ds d fault.DuplicateType r w l = absurd (w.fresh r)
+large_given ds d fault.UnknownType r w l = absurd (w.known r.1)
+large_given ds d fault.WrongParameterCount r w l = absurd (w.counted r.2)
+large_given ds d fault.SuperNotAbstract r w l = absurd (w.abstract r.3)
+large_given ds d fault.VariablePlace r w l = absurd (w.placed r.4)
+large_given ds d fault.TypeLimit r w l = refl
+large_given ds d fault.BoundsCrossed r w l = absurd (r.1 (inl (λ a. l (types_sized ds d a))))
+large_given ds d fault.BoundBroken r w l = absurd (r.1 (inl (λ a. l (types_sized ds d a))))
+large_given ds d fault.TooMany r w l = absurd (r.1 (inl (λ a. l (types_sized ds d a))))
+large_given ds d fault.DuplicateField r w l = absurd (r.1 (inl (λ a. l (types_sized ds d a))))
+large_given ds d fault.Memory r w l = absurd (r.sized l)

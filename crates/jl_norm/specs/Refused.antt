@@ -1,7 +1,7 @@
 -- What a refused declaration says: that this refusal holds, and none of those before it.
 use Rattle.std.specs.Prelude.{◌≡◌, Bool, true, false, List}
 use Rattle.jl_model.specs.declared.ty.Decl.{Decl}
-use Rattle.jl_model.specs.Refusals.{DuplicateType, UnknownType, WrongParameterCount, SuperNotAbstract, VariablePlace, TypeLimit, BoundsCrossed, BoundBroken, TooMany, DuplicateField, AllWithinLimits, sized_types, table_with}
+use Rattle.jl_model.specs.Refusals.{DuplicateType, UnknownType, WrongParameterCount, SuperNotAbstract, VariablePlace, TypeLimit, BoundsCrossed, BoundBroken, TooMany, DuplicateField, AllWithinLimits, types_of, sized_types, table_with}
 use Rattle.jl_model.specs.Kept.{IsKept}
 use Rattle.jl_norm.specs.declared.fault.DeclareFault.{DeclareFault}
 use Rattle.jl_norm.specs.declared.fault.DeclareFault.TheVariants as fault
@@ -13,6 +13,15 @@ pub record IsWellWritten (ds : List Decl) (d : Decl) : Type 0 where
   pub counted : WrongParameterCount ds d → ⊥
   pub abstract : SuperNotAbstract ds d → ⊥
   pub placed : VariablePlace ds d → ⊥
+
+-- a type in it is too large as written
+abbrev pub IsTooLargeAsWritten : Decl → Type 0
+IsTooLargeAsWritten d = AllWithinLimits (types_of d) → ⊥
+
+-- none of the refusals that are seen without any memory
+pub record IsRightAsWritten (ds : List Decl) (d : Decl) : Type 0 where
+  pub written : IsWellWritten ds d
+  pub sized : IsTooLargeAsWritten d → ⊥
 
 -- e is what d is kept as, and both are within the limits of a type
 pub record IsKeptSized (ds : List Decl) (d e : Decl) : Type 0 where
@@ -43,7 +52,7 @@ pub record IsBounded (ds : List Decl) (d e : Decl) : Type 0 where
   pub ordered : IsOrdered ds d e
   pub within : BoundBroken ds d → ⊥
 
--- this refusal holds, and no earlier one; of want of memory nothing is said
+-- this refusal holds, and no earlier one; out of memory comes only after the refusals that are seen without any
 abbrev pub Refused : DeclareFault → List Decl → Decl → Type 0
 Refused fault.DuplicateType ds d = DuplicateType ds d
 Refused fault.UnknownType ds d = (DuplicateType ds d → ⊥) × UnknownType ds d
@@ -57,4 +66,4 @@ Refused fault.BoundBroken ds d = IsWellWritten ds d × (TypeLimit ds d → ⊥) 
 Refused fault.TooMany ds d = IsWellWritten ds d × (TypeLimit ds d → ⊥) × (BoundsCrossed ds d → ⊥) × (BoundBroken ds d → ⊥) × TooMany ds d
 Refused fault.DuplicateField ds d =
     IsWellWritten ds d × (TypeLimit ds d → ⊥) × (BoundsCrossed ds d → ⊥) × (BoundBroken ds d → ⊥) × (TooMany ds d → ⊥) × DuplicateField d
-Refused fault.Memory ds d = Unit {0}
+Refused fault.Memory ds d = IsRightAsWritten ds d

@@ -16,7 +16,7 @@ use std::alloc::Global;
 
 /// The normal form of a type: equal types, and no others, have the same (Julia manual, Types: Type Unions, Tuple Types).
 /// `TypeLimit` comes exactly where the type has more than 1,024 nodes, a part of it has more than 256 raw alternatives, or
-/// the normal form has more than 1,024 nodes.
+/// the normal form has more than 1,024 nodes. The first two are seen in the type as written, before any memory is taken.
 pub fn norm(alloc: Global, table: &Table, ty: &Ty) -> Result<Ty, NormFault>
     requires { IsTrue (is_known (length table.now) ty.now) }
     ensures form { IfOk result (λ u. IsNormalForm (table_of table.now) ty.now u) }
@@ -27,6 +27,7 @@ pub fn norm(alloc: Global, table: &Table, ty: &Ty) -> Result<Ty, NormFault>
     ensures closed { IfOk result (λ u. IsTrue (is_closed ty.now) → IsTrue (is_closed u)) }
     ensures counted { IfOk result (λ u. (ds : List Decl) → IsTrue (is_counted ds ty.now) → IsTrue (is_counted ds u)) }
     ensures limit { result ≡ Err TypeLimit → IsTooLarge table.now ty.now }
+    ensures written { (IsWithinLimits ty.now → ⊥) → result ≡ Err TypeLimit }
 {
     normal(alloc, table, ty)
 }

@@ -1,6 +1,6 @@
 //! Whether the types of a declaration and its ancestors are within the limits of a type.
 
-ghost use Rattle.std.specs.Prelude.{◌≡◌, ◌∷◌, IsTrue, ◌↔◌, IfOk, [], map, get_or};
+ghost use Rattle.std.specs.Prelude.{◌≡◌, ◌∷◌, IsTrue, ◌↔◌, IfOk, OnErr, [], map, get_or};
 ghost use Rattle.jl_model.specs.declared.ty.Ty.TheViews as V;
 ghost use Rattle.jl_model.specs.Ancestors.{put_under, lines_after};
 ghost use Rattle.jl_model.specs.Counts.{IsWithinLimits};
@@ -91,7 +91,8 @@ fn are_types_within(decl: &Decl) -> bool
 
 /// Whether the types in a declaration and its ancestors are.
 pub fn is_sized(alloc: Global, table: &Table, decl: &Decl) -> Result<bool, AllocError>
-    ensures { IfOk result (λ b. IsTrue b ↔ AllWithinLimits (sized_types table.now decl.now)) }
+    ensures sized { IfOk result (λ b. IsTrue b ↔ AllWithinLimits (sized_types table.now decl.now)) }
+    ensures written { OnErr result (AllWithinLimits (types_of decl.now)) }
 {
     if !are_types_within(decl) {
         return Ok(false);

@@ -16,14 +16,17 @@ use crate::reduce::is_small;
 use crate::table::Table;
 use jl_model::ty::Ty;
 use std::alloc::{AllocError, Global};
+use thiserror::Error;
 
 /// Why a normal form is not given.
-#[derive(Clone, Copy, Debug, PartialEq, Eq)]
+#[derive(Clone, Copy, Debug, Drop, PartialEq, Eq, Error)]
 pub enum NormFault {
     /// The type has more than 1,024 nodes, or a part with more than 256 raw alternatives, or its normal form has more
     /// than 1,024 nodes.
+    #[error("TypeLimit")]
     TypeLimit,
     /// Memory was refused.
+    #[error("out of memory")]
     Memory,
 }
 
@@ -43,7 +46,8 @@ pub fn is_within_limits(ty: &Ty) -> bool
 }
 
 /// The normal form of a type: equal types, and no others, have the same. `TypeLimit` comes exactly where the type has more
-/// than 1,024 nodes, a part of it has more than 256 raw alternatives, or the normal form has more than 1,024 nodes.
+/// than 1,024 nodes, a part of it has more than 256 raw alternatives, or the normal form has more than 1,024 nodes. The first
+/// two are seen in the type as written, before any memory is taken.
 pub fn normal(alloc: Global, table: &Table, ty: &Ty) -> Result<Ty, NormFault>
     requires { IsTrue (is_known (length table.now) ty.now) }
     ensures form { IfOk result (λ u. IsNormalForm (table_of table.now) ty.now u) }
@@ -54,6 +58,7 @@ pub fn normal(alloc: Global, table: &Table, ty: &Ty) -> Result<Ty, NormFault>
     ensures closed { IfOk result (λ u. IsTrue (is_closed ty.now) → IsTrue (is_closed u)) }
     ensures counted { IfOk result (λ u. (ds : List Decl) → IsTrue (is_counted ds ty.now) → IsTrue (is_counted ds u)) }
     ensures limit { result ≡ Err NormFault.TypeLimit → IsTooLarge table.now ty.now }
+    ensures written { (IsWithinLimits ty.now → ⊥) → result ≡ Err NormFault.TypeLimit }
 {
     if !is_within_limits(ty) {
         return Err(NormFault::TypeLimit);

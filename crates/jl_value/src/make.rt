@@ -1,6 +1,6 @@
 //! Tuples and structs are made.
 
-ghost use Rattle.std.specs.Prelude.{◌≡◌, ◌≤◌, ◌<◌, ◌^◌, IfOk, IfErr, OnOk, OnErr, length, map};
+ghost use Rattle.std.specs.Prelude.{◌≡◌, ◌≤◌, ◌<◌, ◌^◌, IfOk, IfErr, OnOk, OnErr, Err, length, map};
 ghost use Rattle.jl_model.specs.Counts.{nodes};
 ghost use Rattle.jl_model.specs.Kept.{field_types};
 ghost use Rattle.jl_model.specs.Subtype.{put, at};
@@ -10,7 +10,7 @@ ghost use Rattle.jl_program.specs.ValidValue.{IsValid, AllValid, IsStructType, A
 ghost use Rattle.jl_value.specs.Fields.{AreFieldTypes, AreArguments};
 ghost use Rattle.jl_program.specs.Making.{tuple_of, struct_of, IsTooLarge};
 ghost use Rattle.jl_value.specs.Answers.{TupleCause, OtherCause, PartsCause, StructCause};
-ghost use Rattle.jl_value.specs.declared.made.MakeFault.TheVariants.{ValueLimit};
+ghost use Rattle.jl_value.specs.declared.made.MakeFault.TheVariants.{FieldCount, ValueLimit};
 
 use crate::field::is_of;
 use crate::kept::type_of;
@@ -100,6 +100,7 @@ fn check_parts(alloc: Global, table: &Table, ty: &Ty, parts: &[Value]) -> Result
     requires struct_type { IsStructType table.now ty.now }
     requires parts_valid { AllValid table.now (map datum parts.now) }
     ensures all { OnOk result (AreOf table.now (map datum parts.now) (fields_in table.now ty.now)) }
+    ensures count { (length (map datum parts.now) ≡ length (fields_in table.now ty.now) → ⊥) → result ≡ Err FieldCount }
     ensures fault { IfErr result (PartsCause table.now (map datum parts.now) (fields_in table.now ty.now)) }
 {
     table.valid();
@@ -116,12 +117,14 @@ fn check_parts(alloc: Global, table: &Table, ty: &Ty, parts: &[Value]) -> Result
 }
 
 /// The struct of this type with these parts. It costs the number of the parts and one pass over their types. Where it is
-/// refused the parts are dropped. That the type keeps to its declared bounds is not asked.
+/// refused the parts are dropped. A wrong number of parts is refused before any memory is taken. That the type keeps to its
+/// declared bounds is not asked.
 pub fn construct(alloc: Global, table: &Table, ty: &Ty, parts: Values) -> Result<Value, MakeFault>
     requires struct_type { IsStructType table.now ty.now }
     requires parts_valid { AllValid table.now parts }
     ensures made { IfOk result (λ v. v ≡ struct_of ty.now parts) }
     ensures valid { IfOk result (λ v. IsValid table.now (datum v)) }
+    ensures count { (length parts ≡ length (fields_in table.now ty.now) → ⊥) → result ≡ Err FieldCount }
     ensures fault { IfErr result (StructCause table.now ty.now parts) }
 {
     check_parts(alloc, table, ty, parts.as_slice())?;

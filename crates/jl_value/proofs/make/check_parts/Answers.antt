@@ -1,4 +1,4 @@
-use Rattle.std.proofs.Common.{◌≡◌, length, arith, sym, ap, subst, map}
+use Rattle.std.proofs.Common.{◌≡◌, ◌∙◌, length, arith, sym, ap, subst, map}
 use Rattle.std.proofs.lemmas.Result.{IfErr-weaker}
 use Rattle.jl_model.specs.Kept.{field_types}
 use Rattle.jl_model.specs.Subtype.{put, at}
@@ -23,6 +23,12 @@ check_fields-requires-clause-fields_kept c =
 pub check_fields-requires-clause-args_ground : goal.check_fields-requires-clause-args_ground
 check_fields-requires-clause-args_ground c =
     nominal_arguments c.args.table.now c.args.ty.now c.in-Nominal.name c.in-Nominal.args c.as_slice.result.now c.in-Nominal.is c.as_slice.ensures (ground_type c.args.table.now c.args.ty.now c.requires.struct_type.value_type)
+
+pub returns-clause-count : goal.returns-clause-count
+returns-clause-count c =
+    let f = fields_are c.args.table.now c.args.ty.now c.in-Nominal.name c.in-Nominal.args c.as_slice.result.now c.decl.result.now c.as_slice-fields.result.now c.in-Nominal.is c.as_slice.ensures c.decl.ensures c.as_slice-fields.ensures in
+    let same : length c.as_slice-fields.result.now ≡ length c.args.parts.now = omega (arith, c.if-fields-parts.false) in
+    λ n. absurd (n (data_long c.args.parts.now c.as_slice-fields.result.now (put (at c.as_slice.result.now)) (sym same) ∙ ap length (sym f)))
 
 pub returns-clause-fault : goal.returns-clause-fault
 returns-clause-fault c =
