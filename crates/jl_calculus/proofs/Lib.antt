@@ -1,5 +1,6 @@
 pub mod ChoiceLaws
 pub mod ValueLemmas
+pub mod SameLemmas
 pub mod AnswerLemmas
 pub mod BrokenLemmas
 pub mod Layers

@@ -1,10 +1,13 @@
 //! Outcomes, traces, events and histories.
 
+ghost use Rattle.std.specs.Prelude.{◌≡◌, IfOk};
+
 use jl_model::shared::SharedList;
 use jl_model::ty::{Bytes, Key};
 use jl_program::fault::Fault;
 use jl_program::tree::Start;
 use jl_program::value::Value;
+use std::alloc::{AllocError, Global};
 
 /// The steps of a task that others may see, in order.
 pub type TraceItems = SharedList<TraceItem>;
@@ -16,6 +19,18 @@ pub type Events = SharedList<Event>;
 pub enum Outcome {
     Value(Value),
     Error(Fault),
+}
+
+impl Outcome {
+    /// An equal outcome, whose parts are shared. It takes no memory.
+    pub fn copy(&self) -> Result<Outcome, AllocError>
+        ensures { IfOk result (λ c. c ≡ self.now) }
+    {
+        match self {
+            Outcome::Value(value) => Ok(Outcome::Value(value.copy()?)),
+            Outcome::Error(fault) => Ok(Outcome::Error(fault.copy()?)),
+        }
+    }
 }
 
 /// A definition: the world that it made and its site.
@@ -54,6 +69,35 @@ pub enum TraceItem {
     },
 }
 
+impl TraceItem {
+    /// An equal item, whose outcome is shared. It takes no memory.
+    pub fn copy(&self) -> Result<TraceItem, AllocError>
+        ensures { IfOk result (λ c. c ≡ self.now) }
+    {
+        match self {
+            TraceItem::Look { world, at } => Ok(TraceItem::Look {
+                world: *world,
+                at: *at,
+            }),
+            TraceItem::Def { site, at } => Ok(TraceItem::Def {
+                site: *site,
+                at: *at,
+            }),
+            TraceItem::Spawn { child, at } => Ok(TraceItem::Spawn {
+                child: *child,
+                at: *at,
+            }),
+            TraceItem::Fetch { task, outcome, at } => Ok(TraceItem::Fetch {
+                task: *task,
+                outcome: outcome.copy()?,
+                at: *at,
+            }),
+            TraceItem::WorldFull { at } => Ok(TraceItem::WorldFull { at: *at }),
+            TraceItem::TaskFull { at } => Ok(TraceItem::TaskFull { at: *at }),
+        }
+    }
+}
+
 /// What a finished task did: its trace, its outcome, what it printed and the number of calls that it made.
 #[derive(Drop)]
 pub struct Record {
@@ -61,6 +105,20 @@ pub struct Record {
     pub outcome: Outcome,
     pub output: Bytes,
     pub calls: u64,
+}
+
+impl Record {
+    /// An equal record, whose trace, outcome and output are shared. It takes no memory.
+    pub fn copy(&self) -> Result<Record, AllocError>
+        ensures { IfOk result (λ c. c ≡ self.now) }
+    {
+        Ok(Record {
+            trace: self.trace.copy()?,
+            outcome: self.outcome.copy()?,
+            output: self.output.copy()?,
+            calls: self.calls,
+        })
+    }
 }
 
 /// One step of a run that all tasks may see. `Begin` carries the fuel of each task.
@@ -74,10 +132,51 @@ pub enum Event {
     Done { task: u32, ended: Record },
 }
 
+impl Event {
+    /// An equal event, whose parts are shared. It takes memory for the values of a start alone.
+    pub fn copy(&self, alloc: Global) -> Result<Event, AllocError>
+        ensures { IfOk result (λ c. c ≡ self.now) }
+    {
+        match self {
+            Event::Begin(fuel) => Ok(Event::Begin(*fuel)),
+            Event::Key(key) => Ok(Event::Key(key.copy()?)),
+            Event::Fill { key, site, first } => Ok(Event::Fill {
+                key: *key,
+                site: *site,
+                first: *first,
+            }),
+            Event::Def { task, site } => Ok(Event::Def {
+                task: *task,
+                site: *site,
+            }),
+            Event::Spawn { task, child, start } => Ok(Event::Spawn {
+                task: *task,
+                child: *child,
+                start: start.copy(alloc)?,
+            }),
+            Event::Done { task, ended } => Ok(Event::Done {
+                task: *task,
+                ended: ended.copy()?,
+            }),
+        }
+    }
+}
+
 /// The events of a run, in order.
 #[derive(Drop)]
 pub struct History {
     pub events: Events,
+}
+
+impl History {
+    /// An equal history, whose events are shared. It takes no memory.
+    pub fn copy(&self) -> Result<History, AllocError>
+        ensures { IfOk result (λ c. c ≡ self.now) }
+    {
+        Ok(History {
+            events: self.events.copy()?,
+        })
+    }
 }
 
 /// What a look at the newest world tells: that world, and the length of the history that is then seen.

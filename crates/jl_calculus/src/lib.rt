@@ -4,4 +4,5 @@
 pub mod history;
 pub mod history_laws;
 pub mod laws;
+pub mod same;
 pub mod step;

@@ -1,5 +1,6 @@
--- The types that serve for the variables of several places are the bindings, and those of the others keep their upper bounds.
-use Rattle.std.proofs.Common.{◌≡◌, ◌∙◌, sym, ap, subst, ℕ, ◌<◌, true, cond, List, map, Option, None, Some, ◌⊎◌, inl, inr, []}
+-- The types that serve for the variables of several places are the bindings. Those of the others keep their upper bounds, are
+-- concrete, and are what stands at the one place.
+use Rattle.std.proofs.Common.{◌≡◌, ◌∙◌, sym, ap, subst, refl, ℕ, ◌<◌, true, cond, List, map, Option, None, Some, ◌⊎◌, inl, inr, []}
 use Rattle.std.proofs.Math.Nat.{mod-eq_of_lt}
 use Rattle.std.specs.List.{flat_map, list_all, list_any}
 use Rattle.jl_model.specs.declared.ty.Ty.{Ty}
@@ -7,7 +8,7 @@ use Rattle.jl_model.specs.declared.ty.Ty.TheVariants as W
 use Rattle.jl_model.specs.declared.ty.Decl.{Decl}
 use Rattle.jl_model.specs.declared.ty.Written.{Written}
 use Rattle.jl_model.specs.Ancestors.{table_of}
-use Rattle.jl_model.specs.Kinds.{unused, once, diagonal, bound}
+use Rattle.jl_model.specs.Kinds.{unused, once, diagonal, bound, places, plus_all}
 use Rattle.jl_model.specs.Rows.{forms, width, high, kind, root, place_of, components, vars_in, Occurs}
 use Rattle.jl_model.specs.Subtype.{Table, opaque, Below, Equal, is_concrete}
 use Rattle.jl_model.specs.Signature.{Row, IsRow, Both}
@@ -23,6 +24,7 @@ use Rattle.jl_model.proofs.AncestorLemmas.{true_each}
 use Rattle.jl_model.proofs.PutLemmas.{and_l, and_r}
 use Rattle.jl_sig.specs.Prepared.{HasOwnVariables}
 use Rattle.jl_match.specs.KeptRow.{AreConcrete, Fits}
+use Rattle.jl_match.specs.Stands.{StandsIn}
 use Rattle.jl_match.proofs.ListLemmas.{In, of_in, in_map, has_in}
 use Rattle.jl_search.proofs.GoodLemmas.{Good, absent, sought}
 use Rattle.jl_match.proofs.KindLemmas.{Comps, comps, own_only}
@@ -30,9 +32,24 @@ use Rattle.jl_match.proofs.ComponentLemmas.{components_of, none_of}
 use Rattle.jl_match.proofs.RowForms.{choices_by, rows_at}
 use Rattle.jl_match.proofs.RowLemmas.{IsLeft, each_normal, below_or}
 use Rattle.jl_match.proofs.SigLemmas.{not_false, high_passes}
-use Rattle.jl_match.proofs.WrittenLemmas.{inners_good, diagonals_good, onces_good}
+use Rattle.jl_match.proofs.WrittenLemmas.{inners_good, outers_good, diagonals_good, onces_good}
 use Rattle.jl_match.proofs.UsableLemmas.{bound_stands, diagonal_stands, once_stands}
 use Rattle.jl_match.proofs.OnceLemmas.{inners_none}
+use Rattle.jl_match.proofs.StandsLemmas.{found_stands, all_found, once_few}
+
+-- nothing stands at an invariant place of a variable with one place outside nominal types
+module _ (n : Table) (s : Written) (own : HasOwnVariables s) (placed : VariablePlace s → ⊥) (ts : List Ty) (v : ℕ) (usable : is_usable s v ≡ true) (single : kind s v ≡ once) where
+  comps_of : Comps s s.parts
+  comps_of = comps s own (components_of s.parts (and_r (list_all is_closed (bound_types s.vars)) (list_all is_component s.parts) (not_false (are_placed s) placed)))
+
+  outer_is : binding n s ts v ≡ or_type (outer_found s ts v) W.Any
+  outer_is =
+      let e : binding n s ts v ≡ or_type (or_else (inner_found n s ts v) (outer_found s ts v)) W.Any = ap (λ b. cond b (or_type (or_else (inner_found n s ts v) (outer_found s ts v)) W.Any) W.Any) usable in
+      let i : inner_found n s ts v ≡ None = inners_none n s v (λ b. let g : once ≡ bound = sym single ∙ b in cc) s.parts comps_of ts in
+      e ∙ ap (λ z. or_type (or_else z (outer_found s ts v)) W.Any) i
+
+  pub only_standing : (y : Ty) → StandsIn v y s.parts ts → y ≡ binding n s ts v
+  only_standing y h = sym (outer_is ∙ ap (λ z. or_type z W.Any) (all_found v y s.parts ts h (once_few (plus_all (map (places v) s.parts)) single)))
 
 module _ (ds : List Decl) (declared : Declared ds) (s : Written) (own : HasOwnVariables s) (placed : VariablePlace s → ⊥) (ts : List Ty) (types : AreConcrete ds ts)
     (r : Row) (f : ℕ → Ty) (row : IsRow (table_of ds) s r) (fits : Fits (table_of ds) s r ts f) (v : ℕ) (usable : is_usable s v ≡ true) where
@@ -104,10 +121,25 @@ module _ (ds : List Decl) (declared : Declared ds) (s : Written) (own : HasOwnVa
 
   pub binding_below : kind s v ≡ once → Below n opaque (binding n s ts v) (high s v)
   binding_below o =
-      let e : binding n s ts v ≡ or_type (or_else (inner_found n s ts v) (outer_found s ts v)) W.Any = ap (λ b. cond b (or_type (or_else (inner_found n s ts v) (outer_found s ts v)) W.Any) W.Any) usable in
-      let i : inner_found n s ts v ≡ None = inners_none n s v (λ b. let g : once ≡ bound = sym o ∙ b in cc) s.parts parts ts in
-      let q : binding n s ts v ≡ or_type (outer_found s ts v) W.Any = e ∙ ap (λ z. or_type (or_else z (outer_found s ts v)) W.Any) i in
       let plain : v < width s → vars_in (high s v) ≡ [] = λ l. none_of (vars_in (high s v)) (high_passes is_closed s.vars (and_l (list_all is_closed (bound_types s.vars)) (list_all is_component s.parts) well_placed) v l) in
       let g = onces_good ds declared s f v o plain s.parts parts r.parts among ts lefts fits.below in
-      subst (λ z. Below n opaque z (high s v)) (sym q)
+      subst (λ z. Below n opaque z (high s v)) (sym (outer_is n s own placed ts v usable o))
       (sought (λ y. Below n opaque y (high s v)) v (outer_found s ts v) (flat_map outer s.parts) W.Any g (has_in v (flat_map outer s.parts) (once_stands s v outside o)))
+
+  abbrev Sure : Ty → Type 0
+  Sure y = is_concrete n opaque y ≡ true
+
+  at_single : Good Sure v (outer_found s ts v) (flat_map outer s.parts)
+  at_single = outers_good ds declared s f v Sure (Unit {0}) (λ w l e a i c x h b. h.concrete) s.parts parts r.parts among (λ i. tt) ts lefts fits.below
+
+  pub binding_concrete : kind s v ≡ once → Sure (binding n s ts v)
+  binding_concrete o =
+      subst Sure (sym (outer_is n s own placed ts v usable o))
+      (sought Sure v (outer_found s ts v) (flat_map outer s.parts) W.Any at_single (has_in v (flat_map outer s.parts) (once_stands s v outside o)))
+
+  single_stands : (x : Option Ty) → outer_found s ts v ≡ x → Good Sure v x (flat_map outer s.parts) → In v (flat_map outer s.parts) → StandsIn v (or_type x W.Any) s.parts ts
+  single_stands (Some y) e g h = found_stands v s.parts ts y e
+  single_stands None e g h = absurd (absent v (flat_map outer s.parts) g (has_in v (flat_map outer s.parts) h))
+
+  pub binding_stands : kind s v ≡ once → StandsIn v (binding n s ts v) s.parts ts
+  binding_stands o = subst (λ z. StandsIn v z s.parts ts) (sym (outer_is n s own placed ts v usable o)) (single_stands (outer_found s ts v) refl at_single (once_stands s v outside o))

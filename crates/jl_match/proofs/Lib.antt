@@ -26,5 +26,6 @@ pub mod BindingLemmas
 pub mod ArgumentTypes
 pub mod WrittenLemmas
 pub mod UsableLemmas
+pub mod StandsLemmas
 pub mod BindingLaws
 pub mod OnceLemmas

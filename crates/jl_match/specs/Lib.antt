@@ -2,3 +2,4 @@ pub mod SigRefused
 pub mod KeptRow
 pub mod SigRows
 pub mod Listed
+pub mod Stands

@@ -9,15 +9,16 @@ ghost use Rattle.jl_model.specs.Ancestors.{table_of};
 ghost use Rattle.jl_model.specs.Refusals.{Declared};
 ghost use Rattle.jl_model.specs.Kinds.{once, diagonal, bound};
 ghost use Rattle.jl_model.specs.Rows.{high, kind};
-ghost use Rattle.jl_model.specs.Subtype.{opaque, put, Below, Equal};
+ghost use Rattle.jl_model.specs.Subtype.{Table, opaque, put, Below, Equal, is_concrete};
 ghost use Rattle.jl_model.specs.Usable.{is_usable};
 ghost use Rattle.jl_model.specs.Bindings.{binding};
 ghost use Rattle.jl_model.specs.SigRefusals.{VariablePlace};
-ghost use Rattle.jl_model.specs.Signature.{Row, IsRow};
+ghost use Rattle.jl_model.specs.Signature.{Row, IsRow, Applicable};
 ghost use Rattle.jl_model.specs.AllRows.{ArePicks, all_rows};
 ghost use Rattle.jl_match.specs.Listed.{IsKeptSig};
 ghost use Rattle.jl_sig.specs.Fit.{AreKeptRows as AreKeptListed};
 ghost use Rattle.jl_match.specs.SigRows.{AreKeptRows, AreRowsOf};
+ghost use Rattle.jl_match.specs.Stands.{StandsIn};
 ghost use Rattle.jl_sig.specs.Prepared.{HasOwnVariables};
 ghost use Rattle.jl_sig.specs.declared.row.SigRow.{SigRow};
 ghost use Rattle.jl_match.specs.KeptRow.{StandsFor, Fits, IsKeptRow, AreKept, AreConcrete, row_of, with_bounds};
@@ -50,4 +51,12 @@ pub fn law_rows()
 pub fn law_bindings()
     ensures serve { (ds : List Decl) → Declared ds → (s : Written) → HasOwnVariables s → (VariablePlace s → ⊥) → (ts : List Ty) → AreConcrete ds ts → (r : Row) (f : ℕ → Ty) → IsRow (table_of ds) s r → Fits (table_of ds) s r ts f → (v : ℕ) → IsTrue (is_usable s v) → (kind s v ≡ diagonal) ⊎ (kind s v ≡ bound) → Equal (table_of ds) (binding (table_of ds) s ts v) (f v) }
     ensures once { (ds : List Decl) → Declared ds → (s : Written) → HasOwnVariables s → (VariablePlace s → ⊥) → (ts : List Ty) → AreConcrete ds ts → (r : Row) (f : ℕ → Ty) → IsRow (table_of ds) s r → Fits (table_of ds) s r ts f → (v : ℕ) → IsTrue (is_usable s v) → kind s v ≡ once → Below (table_of ds) opaque (binding (table_of ds) s ts v) (high s v) }
+{}
+
+/// Where a signature applies, the binding of a variable with a single place, outside nominal types, is concrete. It stands at that
+/// place in one of the arguments, and nothing else does.
+pub fn law_single_bindings()
+    ensures concrete { (ds : List Decl) → Declared ds → (s : Written) → HasOwnVariables s → (VariablePlace s → ⊥) → (ts : List Ty) → AreConcrete ds ts → Applicable (table_of ds) s ts → (v : ℕ) → IsTrue (is_usable s v) → kind s v ≡ once → IsTrue (is_concrete (table_of ds) opaque (binding (table_of ds) s ts v)) }
+    ensures stands { (ds : List Decl) → Declared ds → (s : Written) → HasOwnVariables s → (VariablePlace s → ⊥) → (ts : List Ty) → AreConcrete ds ts → Applicable (table_of ds) s ts → (v : ℕ) → IsTrue (is_usable s v) → kind s v ≡ once → StandsIn v (binding (table_of ds) s ts v) s.parts ts }
+    ensures only { (n : Table) (s : Written) → HasOwnVariables s → (VariablePlace s → ⊥) → (ts : List Ty) (v : ℕ) → IsTrue (is_usable s v) → kind s v ≡ once → (y : Ty) → StandsIn v y s.parts ts → y ≡ binding n s ts v }
 {}

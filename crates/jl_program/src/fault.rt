@@ -1,6 +1,9 @@
 //! Why a task ends without a value.
 
+ghost use Rattle.std.specs.Prelude.{◌≡◌, IfOk};
+
 use jl_model::ty::{Bytes, Ty, Tys};
+use std::alloc::AllocError;
 
 /// Why a task ended without a value.
 #[derive(Drop)]
@@ -24,4 +27,44 @@ pub enum Fault {
     TaskLimit,
     TypeLimit,
     ValueLimit,
+}
+
+impl Fault {
+    /// An equal fault, whose types and names are shared. It takes no memory.
+    pub fn copy(&self) -> Result<Fault, AllocError>
+        ensures { IfOk result (λ c. c ≡ self.now) }
+    {
+        match self {
+            Fault::NoMethod(function, types, world) => Ok(Fault::NoMethod(
+                *function,
+                types.copy()?,
+                *world,
+            )),
+            Fault::Ambiguous(function, types, one, other) => Ok(Fault::Ambiguous(
+                *function,
+                types.copy()?,
+                *one,
+                *other,
+            )),
+            Fault::NoConstructor(ty, types) => Ok(Fault::NoConstructor(ty.copy()?, types.copy()?)),
+            Fault::DivideError => Ok(Fault::DivideError),
+            Fault::FieldType(ty, name, got) => Ok(Fault::FieldType(
+                ty.copy()?,
+                name.copy()?,
+                got.copy()?,
+            )),
+            Fault::BadParameter(ty) => Ok(Fault::BadParameter(ty.copy()?)),
+            Fault::NoField(ty, name) => Ok(Fault::NoField(ty.copy()?, name.copy()?)),
+            Fault::NoIndex(ty, number) => Ok(Fault::NoIndex(ty.copy()?, *number)),
+            Fault::NotBool(ty) => Ok(Fault::NotBool(ty.copy()?)),
+            Fault::NotTask(ty) => Ok(Fault::NotTask(ty.copy()?)),
+            Fault::TaskFailed(task) => Ok(Fault::TaskFailed(*task)),
+            Fault::FuelSpent(fuel) => Ok(Fault::FuelSpent(*fuel)),
+            Fault::StackLimit => Ok(Fault::StackLimit),
+            Fault::WorldLimit => Ok(Fault::WorldLimit),
+            Fault::TaskLimit => Ok(Fault::TaskLimit),
+            Fault::TypeLimit => Ok(Fault::TypeLimit),
+            Fault::ValueLimit => Ok(Fault::ValueLimit),
+        }
+    }
 }

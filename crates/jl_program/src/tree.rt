@@ -6,7 +6,7 @@ use crate::value::Values;
 use jl_model::rows::Share;
 use jl_model::shared::{SharedList, SharedNode};
 use jl_model::ty::{Bytes, Decls, Tys, Written};
-use std::alloc::AllocError;
+use std::alloc::{AllocError, Global};
 
 /// A list of names.
 pub type Names = SharedList<Bytes>;
@@ -166,6 +166,21 @@ pub struct Start {
     pub env: Values,
     pub bindings: Tys,
     pub world: u32,
+}
+
+impl Start {
+    /// An equal start, whose values and types are shared. It takes memory for the list of its values alone.
+    pub fn copy(&self, alloc: Global) -> Result<Start, AllocError>
+        ensures { IfOk result (λ c. c ≡ self.now) }
+    {
+        let env = self.env.copy(alloc)?;
+        Ok(Start {
+            spawn: self.spawn,
+            env,
+            bindings: self.bindings.copy()?,
+            world: self.world,
+        })
+    }
 }
 
 /// A program: the types that its script declares, its functions (the prelude's 12 first), its definition sites (the
