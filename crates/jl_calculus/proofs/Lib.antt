@@ -29,3 +29,6 @@ pub mod RunMoves
 pub mod RunGrowth
 pub mod TaskRuns
 pub mod SomeLearnt
+pub mod SureLemmas
+pub mod SomeChoice
+pub mod SomeAnswers
