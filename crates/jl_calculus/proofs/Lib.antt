@@ -32,3 +32,4 @@ pub mod SomeLearnt
 pub mod SureLemmas
 pub mod SomeChoice
 pub mod SomeAnswers
+pub mod RunComes

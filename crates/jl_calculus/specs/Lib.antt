@@ -19,3 +19,4 @@ pub mod HistoryLaws
 pub mod Simple
 pub mod Laws
 pub mod AnswerLaws
+pub mod Led

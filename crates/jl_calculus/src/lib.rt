@@ -5,4 +5,5 @@ pub mod answer_laws;
 pub mod history;
 pub mod history_laws;
 pub mod laws;
+pub mod led_laws;
 pub mod step;
