@@ -33,3 +33,6 @@ pub mod SureLemmas
 pub mod SomeChoice
 pub mod SomeAnswers
 pub mod RunComes
+pub mod LedExamples
+pub mod RefusedScripts
+pub mod LimitScripts

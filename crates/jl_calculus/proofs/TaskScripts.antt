@@ -28,10 +28,10 @@ use Rattle.jl_calculus.proofs.WorldScripts.{made, bare}
 abbrev division : Expr
 division = X.Call 3 (E.Int (pos 1) ∷ E.Int (pos 0) ∷ [])
 
-abbrev failing : Program
+abbrev pub failing : Program
 failing = record { decls = []; functions = prelude_functions; sites = prelude_sites; spawns = division ∷ []; top = I.Bind 0 (E.Spawn 0) ∷ I.Do (X.Fetch (E.Local 0)) ∷ [] }
 
-abbrev start : ℕ → Start
+abbrev pub start : ℕ → Start
 start w = record { spawn = 0; env = []; bindings = []; world = w }
 
 -- the task fails, whatever the events are
