@@ -36,3 +36,4 @@ pub mod RunComes
 pub mod LedExamples
 pub mod RefusedScripts
 pub mod LimitScripts
+pub mod LimitValues
