@@ -37,3 +37,5 @@ pub mod LedExamples
 pub mod RefusedScripts
 pub mod LimitScripts
 pub mod LimitValues
+pub mod PointScript
+pub mod FuelScripts

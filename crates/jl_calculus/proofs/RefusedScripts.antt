@@ -36,7 +36,6 @@ use Rattle.jl_calculus.proofs.Forms.{form_is, int_runs, do_runs}
 use Rattle.jl_calculus.proofs.MakeExamples as Make
 use Rattle.jl_calculus.proofs.WorldScripts.{made, bare}
 
-
 -- ---- no method of `+` applies to a truth value and an integer
 
 abbrev script : Program

@@ -25,7 +25,7 @@ use Rattle.jl_calculus.proofs.WorldScripts.{made, bare}
 
 -- ---- `t = Threads.@spawn div(1, 0)`, and then `fetch(t)`
 
-abbrev division : Expr
+abbrev pub division : Expr
 division = X.Call 3 (E.Int (pos 1) ∷ E.Int (pos 0) ∷ [])
 
 abbrev pub failing : Program
@@ -38,7 +38,7 @@ start w = record { spawn = 0; env = []; bindings = []; world = w }
 div_chosen : (es : List Event) → Selects failing es 3 two 14 (C.Method 4)
 div_chosen es = only_choice (types_of failing) (record { number = 4; sig = plain two }) two (two_apply (types_of failing))
 
-child_fails : (es : List Event) → Run (setting_of failing es None 10) (Some (start 14)) [] (O.Error Fa.DivideError) [] 1 []
+pub child_fails : (es : List Event) → Run (setting_of failing es None 10) (Some (start 14)) [] (O.Error Fa.DivideError) [] 1 []
 child_fails es =
     let o : Outcome = O.Error Fa.DivideError in
     let Ends : Outcome → State → Type 0 = IsEnd o [] 1 [] in
