@@ -39,3 +39,4 @@ pub mod LimitScripts
 pub mod LimitValues
 pub mod PointScript
 pub mod FuelScripts
+pub mod LaterScripts
