@@ -30,3 +30,14 @@ pub mod RunMoves
 pub mod RunGrowth
 pub mod TaskRuns
 pub mod SomeLearnt
+pub mod SureLemmas
+pub mod SomeChoice
+pub mod SomeAnswers
+pub mod RunComes
+pub mod LedExamples
+pub mod RefusedScripts
+pub mod LimitScripts
+pub mod LimitValues
+pub mod PointScript
+pub mod FuelScripts
+pub mod LaterScripts

@@ -47,13 +47,13 @@ use Rattle.jl_calculus.specs.Answers.{fault_where, refuse}
 use Rattle.jl_calculus.specs.Statics.{own_or_bound, with_statics, nominals_in, nominals_step, nominals_of, Breaks, IsBroken, IsFirstBroken, NormLimit}
 use Rattle.jl_calculus.specs.Operations.{with_type, make_struct, make_written}
 
-abbrev square : Decl
+abbrev pub square : Decl
 square = record { name = codes "Square"; kind = Struct; params = []; parent = W.Any; fields = record { name = codes "side"; ty = int64 } ∷ [] }
 
-abbrev bounded : Decl
+abbrev pub bounded : Decl
 bounded = record { name = codes "Q"; kind = Struct; params = record { low = T.Union []; high = named 3 } ∷ []; parent = W.Any; fields = record { name = codes "x"; ty = W.Var 0 } ∷ [] }
 
-abbrev types : List Decl
+abbrev pub types : List Decl
 types = builtin_types ++ square ∷ bounded ∷ []
 
 abbrev n : Table
@@ -93,10 +93,10 @@ none_found k m d t u p q (by_nominal a b k1 m1 xs zs ys i j l r) =
     cc
 none_found k m d t u p q (by_self a b v i j) = let z : L.Nominal m [] ≡ L.Var v = sym (outs-Nominal m []) ∙ sym (ap out-Ty q) ∙ j in cc
 
-not_below : (k m : ℕ) → lifted n k [] m ≡ None → Below n opaque (named k) (named m) → ⊥
+pub not_below : (k m : ℕ) → lifted n k [] m ≡ None → Below n opaque (named k) (named m) → ⊥
 not_below k m d b = none_found k m d (named k) (named m) refl refl (below_part n (named k) (named m) (alts-nominal k []) (alts-nominal m []) b)
 
-bool_no_int : lifted n 5 [] 4 ≡ None
+pub bool_no_int : lifted n 5 [] 4 ≡ None
 unfolding table_of
 bool_no_int = rw (outs-Nominal 2 [], outs-Nominal 1 [], outs-Nominal 0 [], outs-Any) refl
 

@@ -44,27 +44,27 @@ module _ (es : List Event) (question : Question) (outcome : Outcome) (output : L
   first_is : (trace : List TraceItem) → runs_item g Ends called (I.Define 14) (first_state trace) end later ≡ asks trace
   first_is trace = item_form_is g Ends called (I.Define 14) (F.Define 14) (X.outs-Define 14) (first_state trace) end later
 
-abbrev looked : List TraceItem
+abbrev pub looked : List TraceItem
 looked = Look 14 1 ∷ []
 
-comes_to_f : (es : List Event) → Comes P es None 10 None looked (a_definition 14)
+pub comes_to_f : (es : List Event) → Comes P es None 10 None looked (a_definition 14)
 comes_to_f es outcome output count spawned = record { ran = made (first_is es (a_definition 14) outcome output count spawned looked) refl }
 
-abbrev site_asked : Question → ℕ
+abbrev pub site_asked : Question → ℕ
 site_asked a_look = 0
 site_asked (a_definition site) = site
 site_asked (a_spawn start) = 0
 site_asked (a_fetch task) = 0
 
 -- to no other definition
-to_no_other : (es : List Event) → Comes P es None 10 None looked (a_definition 15) → ⊥
+pub to_no_other : (es : List Event) → Comes P es None 10 None looked (a_definition 15) → ⊥
 to_no_other es h =
     let r = h (O.Value V.Nothing) [] 0 [] in
     let asked : asks es (a_definition 15) (O.Value V.Nothing) [] 0 [] looked = subst (λ (A : Type 0). A) (first_is es (a_definition 15) (O.Value V.Nothing) [] 0 [] looked) r.ran in
     absurd (omega (arith, ap site_asked asked))
 
 -- and not before its look
-not_at_once : (es : List Event) → Comes P es None 10 None [] (a_definition 14) → ⊥
+pub not_at_once : (es : List Event) → Comes P es None 10 None [] (a_definition 14) → ⊥
 not_at_once es h =
     let r = h (O.Value V.Nothing) [] 0 [] in
     let asked : asks es (a_definition 14) (O.Value V.Nothing) [] 0 [] [] = subst (λ (A : Type 0). A) (first_is es (a_definition 14) (O.Value V.Nothing) [] 0 [] []) r.ran in

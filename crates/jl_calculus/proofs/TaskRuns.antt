@@ -54,7 +54,7 @@ module _ (n : Table) where
   none_occurs : (l : Row) → [] ≡ l.parts → (v : ℕ) → Occurs (plain no_types) v l.parts → ⊥
   none_occurs l e v o = nowhere v (subst (λ (ts : List Ty). Occurs (plain no_types) v ts → Contains {X = ℕ} [] v) e (λ x. x) o)
 
-  empty_below : SigBelow n (plain no_types) (plain no_types)
+  pub empty_below : SigBelow n (plain no_types) (plain no_types)
   empty_below l h =
       let e = row_is l h in (
         l,

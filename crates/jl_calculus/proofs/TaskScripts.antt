@@ -25,20 +25,20 @@ use Rattle.jl_calculus.proofs.WorldScripts.{made, bare}
 
 -- ---- `t = Threads.@spawn div(1, 0)`, and then `fetch(t)`
 
-abbrev division : Expr
+abbrev pub division : Expr
 division = X.Call 3 (E.Int (pos 1) ∷ E.Int (pos 0) ∷ [])
 
-abbrev failing : Program
+abbrev pub failing : Program
 failing = record { decls = []; functions = prelude_functions; sites = prelude_sites; spawns = division ∷ []; top = I.Bind 0 (E.Spawn 0) ∷ I.Do (X.Fetch (E.Local 0)) ∷ [] }
 
-abbrev start : ℕ → Start
+abbrev pub start : ℕ → Start
 start w = record { spawn = 0; env = []; bindings = []; world = w }
 
 -- the task fails, whatever the events are
 div_chosen : (es : List Event) → Selects failing es 3 two 14 (C.Method 4)
 div_chosen es = only_choice (types_of failing) (record { number = 4; sig = plain two }) two (two_apply (types_of failing))
 
-child_fails : (es : List Event) → Run (setting_of failing es None 10) (Some (start 14)) [] (O.Error Fa.DivideError) [] 1 []
+pub child_fails : (es : List Event) → Run (setting_of failing es None 10) (Some (start 14)) [] (O.Error Fa.DivideError) [] 1 []
 child_fails es =
     let o : Outcome = O.Error Fa.DivideError in
     let Ends : Outcome → State → Type 0 = IsEnd o [] 1 [] in

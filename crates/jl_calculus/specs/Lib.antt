@@ -18,3 +18,5 @@ pub mod ValidHistory
 pub mod HistoryLaws
 pub mod Simple
 pub mod Laws
+pub mod AnswerLaws
+pub mod Led

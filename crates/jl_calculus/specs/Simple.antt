@@ -1,10 +1,10 @@
 -- The programs that the machine runs so far: literals, local names, calls, `print`, definitions and expressions at
 -- the top, and signatures of `Any` and of built-in concrete types.
-use Rattle.std.specs.Prelude.{ℕ, ◌≡◌, Bool, true, false, ◌&&◌, nat_le, nat_lt, IsTrue, All, [], length}
+use Rattle.std.specs.Prelude.{ℕ, ◌≡◌, Bool, true, false, ◌&&◌, nat_le, nat_lt, IsTrue, All, [], ◌∷◌, length}
 use Rattle.std.specs.List.{list_all}
 use Rattle.jl_model.specs.declared.builtin.TheConstants.{INT64, BUILTIN_TYPES}
 use Rattle.jl_model.specs.declared.ty.Ty.{Ty, out-Ty}
-use Rattle.jl_model.specs.declared.ty.Ty.TheOpen.{Ty-F, Any, Nominal}
+use Rattle.jl_model.specs.declared.ty.Ty.TheOpen.{Ty-F, Any, Union, Tuple, Nominal, Var}
 use Rattle.jl_model.specs.declared.ty.Written.{Written}
 use Rattle.jl_program.specs.declared.tree.Expr.{Expr}
 use Rattle.jl_program.specs.declared.tree.Item.{Item}
@@ -25,19 +25,36 @@ module _ (sites : ℕ) where
   simple_expr_step (F.Local x) = true
   simple_expr_step (F.Call f xs) = list_all (λ x. x) xs
   simple_expr_step (F.Print ps line) = list_all (λ p. p) ps
-  simple_expr_step _ = false
+  simple_expr_step (F.Latest f xs) = false
+  simple_expr_step (F.Make t xs) = false
+  simple_expr_step (F.Infer name xs) = false
+  simple_expr_step (F.Parts xs) = false
+  simple_expr_step (F.Field a name) = false
+  simple_expr_step (F.Part a number) = false
+  simple_expr_step (F.Egal a b negated) = false
+  simple_expr_step (F.Isa a t) = false
+  simple_expr_step (F.Sub t u) = false
+  simple_expr_step (F.If test then_ else_) = false
+  simple_expr_step (F.And a b) = false
+  simple_expr_step (F.Or a b) = false
+  simple_expr_step (F.Block xs) = false
+  simple_expr_step (F.Eval xs) = false
+  simple_expr_step (F.Spawn place) = false
+  simple_expr_step (F.Fetch a) = false
 
   abbrev pub simple_item_step : Item-F Bool Bool Bool Bool → Bool
   simple_item_step (F.Define site) = nat_le prelude_count site && nat_lt site sites
   simple_item_step (F.Item::Do x) = x
-  simple_item_step _ = false
+  simple_item_step (F.Item::Bind slot x) = false
 
   abbrev pub simple_piece_step : Piece-F Bool Bool Bool Bool → Bool
   simple_piece_step (F.Text bytes) = true
   simple_piece_step (F.Show x) = x
 
   abbrev pub simple_stmt_step : Stmt-F Bool Bool Bool Bool → Bool
-  simple_stmt_step _ = false
+  simple_stmt_step (F.Stmt::Bind slot x) = false
+  simple_stmt_step (F.Stmt::Do x) = false
+  simple_stmt_step (F.Return x) = false
 
   -- whether an expression has only these forms
   abbrev pub is_simple : Expr → Bool
@@ -53,7 +70,10 @@ module _ (sites : ℕ) where
 abbrev pub is_simple_layer : Ty-F Ty → Bool
 is_simple_layer Any = true
 is_simple_layer (Nominal n []) = nat_le INT64 n && nat_lt n BUILTIN_TYPES
-is_simple_layer _ = false
+is_simple_layer (Nominal n (t ∷ ts)) = false
+is_simple_layer (Union ts) = false
+is_simple_layer (Tuple ts) = false
+is_simple_layer (Var v) = false
 
 abbrev pub is_simple_type : Ty → Bool
 is_simple_type t = is_simple_layer (out-Ty t)
@@ -61,7 +81,11 @@ is_simple_type t = is_simple_layer (out-Ty t)
 -- a built-in concrete type: that of an integer, a truth value, `nothing` or a task
 abbrev pub is_plain_layer : Ty-F Ty → Bool
 is_plain_layer (Nominal n []) = nat_le INT64 n && nat_lt n BUILTIN_TYPES
-is_plain_layer _ = false
+is_plain_layer (Nominal n (t ∷ ts)) = false
+is_plain_layer Any = false
+is_plain_layer (Union ts) = false
+is_plain_layer (Tuple ts) = false
+is_plain_layer (Var v) = false
 
 abbrev pub is_plain : Ty → Bool
 is_plain t = is_plain_layer (out-Ty t)

@@ -18,7 +18,7 @@ use Rattle.jl_program.specs.Prelude.{int64, bool}
 use Rattle.jl_program.proofs.FirstChoices.{any_forms, int_forms, any_put, int_vars, int_below_any, int_below_int}
 
 -- the signature
-abbrev same : Written
+abbrev pub same : Written
 same = record { vars = free ∷ []; parts = T.Var 0 ∷ T.Var 0 ∷ [] }
 
 abbrev vars : List Ty
@@ -203,7 +203,7 @@ module _ (n : Table) where
   args_of (L.Nominal m xs) = m
   args_of _ = 0
 
-  same_applies_not : NoneAbove → Applicable n same (int64 ∷ bool ∷ []) → ⊥
+  pub same_applies_not : NoneAbove → Applicable n same (int64 ∷ bool ∷ []) → ⊥
   same_applies_not lone (r, f, h, s, g, b) =
       let parts : vars ≡ r.parts = one vars r.parts (subst (λ (cs : List (List Ty)). Contains cs r.parts) rows_are h.parts) in
       let o : Occurs same 0 r.parts = subst (λ (ps : List Ty). Occurs same 0 ps) parts occurs in
@@ -224,20 +224,20 @@ module _ (n : Table) where
 abbrev builtins : Table
 builtins = table_of builtin_types
 
-abbrev is_there : Option (List Ty) → Bool
+abbrev pub is_there : Option (List Ty) → Bool
 is_there (Some zs) = true
 is_there None = false
 
-bool_no_int : up_in builtin_types 5 4 ≡ None
+pub bool_no_int : up_in builtin_types 5 4 ≡ None
 bool_no_int = rw (outs-Nominal 2 [], outs-Nominal 1 [], outs-Nominal 0 [], outs-Any) refl
 
-int_no_bool : up_in builtin_types 4 5 ≡ None
+pub int_no_bool : up_in builtin_types 4 5 ≡ None
 int_no_bool = rw (outs-Nominal 3 [], outs-Nominal 2 [], outs-Nominal 1 [], outs-Nominal 0 [], outs-Any) refl
 
-int_no_nothing : up_in builtin_types 4 6 ≡ None
+pub int_no_nothing : up_in builtin_types 4 6 ≡ None
 int_no_nothing = rw (outs-Nominal 3 [], outs-Nominal 2 [], outs-Nominal 1 [], outs-Nominal 0 [], outs-Any) refl
 
-int_no_task : up_in builtin_types 4 7 ≡ None
+pub int_no_task : up_in builtin_types 4 7 ≡ None
 int_no_task = rw (outs-Nominal 3 [], outs-Nominal 2 [], outs-Nominal 1 [], outs-Nominal 0 [], outs-Any) refl
 
 none_above : NoneAbove builtins

@@ -1,0 +1,92 @@
+-- The laws that each question of the rules has one answer. Each is the contract of a function of the module `answer_laws`.
+--
+-- "There is one" is said so: it can't be that there is none. The logic here decides nothing by itself, and whether a
+-- signature applies, or is below another, is decided by the calls that answer it, which may run out of memory.
+use Rattle.std.specs.Prelude.{ℕ, ◌≡◌, ◌≤◌, ◌⊎◌, Bool, List, length}
+use Rattle.std.specs.List.{Contains}
+use Rattle.jl_model.specs.declared.ty.Key.{Key}
+use Rattle.jl_model.specs.declared.ty.Ty.{Ty}
+use Rattle.jl_model.specs.declared.ty.Decl.{Decl}
+use Rattle.jl_model.specs.declared.ty.Written.{Written}
+use Rattle.jl_model.specs.Bindings.{bindings}
+use Rattle.jl_model.specs.Choice.{Method}
+use Rattle.jl_model.specs.Refusals.{Declared}
+use Rattle.jl_model.specs.Signature.{Applicable, SigBelow}
+use Rattle.jl_model.specs.Subtype.{Table}
+use Rattle.jl_program.specs.declared.choice.Choice.{Choice}
+use Rattle.jl_program.specs.declared.choice.Choice.TheVariants as C
+use Rattle.jl_program.specs.declared.tree.Program.{Program}
+use Rattle.jl_program.specs.declared.value.Value.{Value}
+use Rattle.jl_program.specs.Prelude.{prelude_count}
+use Rattle.jl_program.specs.Scope.{types_of}
+use Rattle.jl_calculus.specs.declared.history.Event.{Event}
+use Rattle.jl_calculus.specs.Operations.{make_tuple, make_struct, make_written, make_inferred, test_type, test_order, test_same}
+use Rattle.jl_calculus.specs.Ranges.{Covers, MayBegin, IsRightFill}
+use Rattle.jl_calculus.specs.World.{site_of, methods_in, Selects}
+
+-- it can't be that there is none, and there are no two
+pub record HasOne {X : Type 0} (P : X → Type 0) : Type 0 where
+  pub some : ((x : X) → P x → ⊥) → ⊥
+  pub one : (x y : X) → P x → P y → x ≡ y
+
+-- the choice for a call in a world
+abbrev pub ChoiceIsOne : Type 0
+ChoiceIsOne = (P : Program) (es : List Event) (f : ℕ) (ts : List Ty) (w : ℕ) → HasOne (Selects P es f ts w)
+
+-- it holds, or it does not
+abbrev pub IsDecided : Type 0 → Type 0
+IsDecided A = A ⊎ (A → ⊥)
+
+-- which of the methods apply, and which signature is below which, is decided
+pub record AreDecided (n : Table) (ms : List Method) (ts : List Ty) : Type 0 where
+  pub applies : (m : Method) → Contains ms m → IsDecided (Applicable n m.sig ts)
+  pub below : (a b : Method) → Contains ms a → Contains ms b → IsDecided (SigBelow n a.sig b.sig)
+
+-- where this is decided the choice is there
+abbrev pub ChoiceIsThere : Type 0
+ChoiceIsThere =
+    (P : Program) (es : List Event) (f : ℕ) (ts : List Ty) (w : ℕ) → AreDecided (types_of P) (methods_in P es f w) ts → (c : Choice) × Selects P es f ts w c
+
+-- a body gets one type for each variable of its signature
+abbrev pub BindingsAreThere : Type 0
+BindingsAreThere = (n : Table) (s : Written) (ts : List Ty) → length (bindings n s ts) ≡ length s.vars
+
+-- what a tuple is made of these values: a tuple or a fault
+abbrev pub TupleIsOne : Type 0
+TupleIsOne = (ds : List Decl) (vs : List Value) → HasOne (make_tuple ds vs)
+
+-- the struct of a type, of a written type, and of an inferred one: a struct or a fault
+abbrev pub StructIsOne : Type 0
+StructIsOne = (ds : List Decl) (t : Ty) (vs : List Value) → HasOne (make_struct ds t vs)
+
+abbrev pub WrittenIsOne : Type 0
+WrittenIsOne = (ds : List Decl) → Declared ds → (statics : List Ty) (t : Written) (vs : List Value) → HasOne (make_written ds statics t vs)
+
+abbrev pub InferredIsOne : Type 0
+InferredIsOne = (ds : List Decl) (name : ℕ) (vs : List Value) → HasOne (make_inferred ds name vs)
+
+-- `isa`, `<:`, `===` and `!==`: a truth value, or for a written type a fault
+abbrev pub TestIsOne : Type 0
+TestIsOne = (ds : List Decl) → Declared ds → (statics : List Ty) (v : Value) (t : Written) → HasOne (test_type ds statics v t)
+
+abbrev pub OrderIsOne : Type 0
+OrderIsOne = (ds : List Decl) → Declared ds → (statics : List Ty) (t u : Written) → HasOne (test_order ds statics t u)
+
+abbrev pub IdentityIsOne : Type 0
+IdentityIsOne = (negated : Bool) (u v : Value) → HasOne (test_same negated u v)
+
+-- in each world from the prelude's last on, one row of a key covers it: one first world, at which a row may begin
+abbrev pub CoverIsOne : Type 0
+CoverIsOne =
+    (P : Program) (es : List Event) (key : Key) (w : ℕ) → prelude_count ≤ w → HasOne (λ (first : ℕ). MayBegin P es key first × Covers P es key first w)
+
+-- what stands in the place of the site of a row: the site, or that no method is chosen in its first world
+abbrev pub HasSiteOrNone : Program → List Event → Key → ℕ → Choice → Type 0
+HasSiteOrNone P es key first (C.Method d) = IsRightFill P es key (site_of es d) first
+HasSiteOrNone P es key first C.None = (site : ℕ) → IsRightFill P es key site first → ⊥
+HasSiteOrNone P es key first (C.Ambiguous a b) = (site : ℕ) → IsRightFill P es key site first → ⊥
+
+-- where a row may begin, there is a right site exactly where the choice in its first world is a method: that method's
+abbrev pub SiteIsThere : Type 0
+SiteIsThere =
+    (P : Program) (es : List Event) (key : Key) (first : ℕ) (c : Choice) → MayBegin P es key first → Selects P es key.function key.types first c → HasSiteOrNone P es key first c

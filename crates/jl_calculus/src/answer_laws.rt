@@ -1,0 +1,34 @@
+//! Laws that each question of the rules has one answer. They are about definitions alone: each function does nothing, and its
+//! contract is the law.
+
+ghost use Rattle.jl_calculus.specs.AnswerLaws.{ChoiceIsOne, ChoiceIsThere, BindingsAreThere, TupleIsOne, StructIsOne, WrittenIsOne, InferredIsOne, TestIsOne, OrderIsOne, IdentityIsOne, CoverIsOne, SiteIsThere};
+
+/// A call has one choice in a world, which is there wherever it is decided which methods apply and which signature is below
+/// which. A body gets one type for each variable of its signature.
+pub fn law_choice_is_one()
+    ensures one { ChoiceIsOne }
+    ensures there { ChoiceIsThere }
+    ensures bindings { BindingsAreThere }
+{}
+
+/// Making a tuple or a struct of given values gives one answer: the value, or one fault.
+pub fn law_made_is_one()
+    ensures tuple { TupleIsOne }
+    ensures exact { StructIsOne }
+    ensures written { WrittenIsOne }
+    ensures inferred { InferredIsOne }
+{}
+
+/// `isa`, `<:` and `===` have one answer: a truth value, or one fault of a written type.
+pub fn law_test_is_one()
+    ensures test { TestIsOne }
+    ensures order { OrderIsOne }
+    ensures identity { IdentityIsOne }
+{}
+
+/// For each key and each world there is one row that covers it, and its site is the chosen method's; there is no right row
+/// exactly where no method is chosen.
+pub fn law_row_is_one()
+    ensures cover { CoverIsOne }
+    ensures site { SiteIsThere }
+{}
