@@ -1,5 +1,5 @@
 -- A new machine fits a fresh dispatcher, and one that ended has run.
-use Rattle.std.proofs.Common.{◌≡◌, ℕ, ◌<◌, List, [], refl, sym, ap, ◌∙◌, subst, arith, length, Result, Ok, Err, IfOk, None}
+use Rattle.std.proofs.Common.{◌≡◌, ℕ, ◌<◌, List, [], ◌++◌, refl, sym, ap, ◌∙◌, subst, arith, length, Result, Ok, Err, IfOk, None}
 use Rattle.std.specs.declared.alloc.AllocError.{AllocError}
 use Rattle.jl_program.specs.declared.value.Value.TheVariants as V
 use Rattle.jl_calculus.specs.declared.history.TraceItem.{TraceItem}
@@ -9,16 +9,17 @@ use Rattle.jl_program.specs.declared.tree.Program.{Program}
 use Rattle.jl_machine.specs.declared.point.Work.{Work}
 use Rattle.jl_machine.specs.declared.point.Work.TheVariants.{Eval, Give, Calling, Items, Defining, Pieces, Ended, Lost}
 use Rattle.jl_machine.specs.declared.point.Now.{Now}
-use Rattle.jl_calculus.specs.Run.{IsEnd, Run, open_calls}
-use Rattle.jl_machine.specs.Point.{Finishes}
+use Rattle.jl_calculus.specs.Run.{Run, open_calls}
 use Rattle.jl_calculus.specs.Simple.{IsSimple, is_simple_item}
 use Rattle.jl_machine.specs.declared.task.Task.{Task}
 use Rattle.jl_machine.specs.declared.task.Machine.{Machine}
-use Rattle.jl_machine.specs.Knows.{Knows}
+use Rattle.jl_machine.specs.Knows.{Knows, Refused}
 use Rattle.jl_machine.specs.declared.task.Phase.TheVariants as Ph
-use Rattle.jl_machine.specs.Fits.{setting, FitsWith, Fitting, Fits, MachineFits, Steps, phase_of, IsGoing, IsEnded, IsFresh, IsNew, NewFits, LostFits, IsRecordOf, HasEnded, IsRunOf}
+use Rattle.jl_machine.specs.Asks.{setting, Over, Ending, RunsTo, FinishesTo, Tells}
+use Rattle.jl_machine.specs.Fits.{FitsWith, Fitting, Fits, MachineFits, Steps, phase_of, IsGoing, IsEnded, IsFresh, IsNew, NewFits, LostFits, IsRecordOf, HasEnded, IsRunOf, EndedRuns, GrownFits}
 use Rattle.jl_machine.specs.Plain.{IsPlainWork}
 use Rattle.jl_machine.specs.Weight.{turns_left}
+use Rattle.jl_machine.proofs.Fitting.{grown}
 use Rattle.jl_machine.proofs.Traces.{append_nil}
 use Rattle.jl_machine.proofs.Equations.{every_passed}
 
@@ -42,7 +43,12 @@ module _ (P : Program) (fuel : ℕ) (k : Knows) where
     program = program;
     fuel_is = fuel_is;
     simple = simple;
-    runs = λ es a o out all rest h. rw trace (record { ran = subst (λ (q : Now × ℕ). Finishes (setting P es fuel) (IsEnd o out all []) (Items P.top V.Nothing, q.0) q.1 [] rest) (λ i. (now i, calls i)) h });
+    runs = λ x a rest e. (
+      λ h. subst (λ (q : Now × ℕ). FinishesTo P x fuel (Items P.top V.Nothing, q.0) q.1 rest e) (sym (λ i. (now i, calls i)))
+          (let r = subst (λ (is : List TraceItem). RunsTo P x fuel (is ++ rest) e) trace h in r.ran),
+      λ h. subst (λ (is : List TraceItem). RunsTo P x fuel (is ++ rest) e) (sym trace)
+          (record { ran = subst (λ (q : Now × ℕ). FinishesTo P x fuel (Items P.top V.Nothing, q.0) q.1 rest e) (λ i. (now i, calls i)) h }),
+    );
     learnt = rw trace tt;
     order = rw trace f.begun;
     looks = rw trace (sym f.looks);
@@ -60,13 +66,19 @@ module _ (P : Program) (fuel : ℕ) (k : Knows) where
   ran_task t o f r trace outcome out calls = record {
     program = f.program;
     runs = λ es a.
-        let ran = f.runs es a o t.now.out t.calls [] (record { is = refl; whole = refl; printed = refl; counted_calls = refl; spawned_tasks = refl }) in
-        let R = λ (is : List TraceItem). Run (setting P es fuel) None is o t.now.out t.calls [] in
-        let whole = subst R (append_nil t.trace) ran in
+        let x : Over = record { events = es; until = None } in
+        let e : Ending = record { outcome = o; output = t.now.out; calls = t.calls; starts = [] } in
+        let ran = (f.runs x a [] e).1 (record { is = refl; whole = refl; printed = refl; counted_calls = refl; spawned_tasks = refl }) in
+        let whole = subst (λ (is : List TraceItem). RunsTo P x fuel is e) (append_nil t.trace) ran in
         subst (λ n. Run (setting P es fuel) None r.trace r.outcome r.output n []) calls
         (subst (λ text. Run (setting P es fuel) None r.trace r.outcome text t.calls []) out
         (subst (λ p. Run (setting P es fuel) None r.trace p t.now.out t.calls []) outcome
         (subst (λ is. Run (setting P es fuel) None is o t.now.out t.calls []) trace whole)));
+    only = λ es a rest outcome2 output made starts h.
+        let x : Over = record { events = es; until = None } in
+        let e : Ending = record { outcome = outcome2; output = output; calls = made; starts = starts } in
+        let end = (f.runs x a rest e).0 (subst (λ (is : List TraceItem). RunsTo P x fuel (is ++ rest) e) (sym trace) h) in
+        (end.whole, sym end.is ∙ outcome, sym end.printed ∙ out, sym end.counted_calls ∙ calls, sym end.spawned_tasks);
     learnt = rw (← trace) f.learnt;
     order = rw (← trace) f.order;
     looks = rw (← trace) f.looks;
@@ -81,6 +93,24 @@ module _ (P : Program) (fuel : ℕ) (k : Knows) where
 -- a new machine fits a fresh dispatcher
 pub fits_new_law : (k : Knows) → NewFits k
 fits_new_law k P fuel m = fits_new P fuel k m
+
+-- what an ended machine did is a run
+pub ended_law : (k : Knows) → EndedRuns k
+ended_law k P fuel m r = ran_record P fuel k m r
+
+-- a machine goes on to fit where its dispatcher learns more
+grown_at : (P : Program) (fuel : ℕ) (k k' : Knows) (w : Work) (t : Task) → Refused k k' → Fits P fuel k w t → Fits P fuel k' w t
+grown_at P fuel k k' (Eval e) t r f = grown P fuel k k' (Eval e) t r f
+grown_at P fuel k k' (Give v) t r f = grown P fuel k k' (Give v) t r f
+grown_at P fuel k k' (Calling g vs) t r f = grown P fuel k k' (Calling g vs) t r f
+grown_at P fuel k k' (Items xs v) t r f = grown P fuel k k' (Items xs v) t r f
+grown_at P fuel k k' (Defining site xs) t r f = grown P fuel k k' (Defining site xs) t r f
+grown_at P fuel k k' (Pieces text xs line) t r f = grown P fuel k k' (Pieces text xs line) t r f
+grown_at P fuel k k' (Ended o) t r f = grown P fuel k k' (Ended o) t r f
+grown_at P fuel k k' Lost t r f = tt
+
+pub grown_law : (k k' : Knows) → GrownFits k k'
+grown_law k k' r P fuel m f = grown_at P fuel k k' m.work m.task r f
 
 -- a lost machine fits each dispatcher
 pub fits_lost : (k : Knows) → LostFits k
@@ -148,6 +178,10 @@ pub step_turns : (P : Program) (k k' : Knows) (w w' : Work) (t t' : Task) → P 
 step_turns P k k' w w' t t' e s =
     let same : t'.fuel ≡ t.fuel = s.fits.fuel_is in
     rw (same, e) s.lighter
+
+-- what a step tells
+pub step_tells : (P : Program) (k k' : Knows) (w w' : Work) (t t' : Task) → P ≡ k.program → Steps k w t k' w' t' → Tells P t.fuel k t.trace t'.trace
+step_tells P k k' w w' t t' e s = subst (λ Q. Tells Q t.fuel k t.trace t'.trace) (sym e) s.tells
 
 pub has_ended : (m : Machine) (r : Result Record AllocError) (o : Outcome) → m.work ≡ Ended o → IfOk r (λ x. IsRecordOf x m.task o) → IfOk r (λ x. HasEnded x m)
 has_ended m (Ok x) o e h = record { work = e ∙ ap Ended h.outcome; trace = h.trace; out = h.out; calls = h.calls }

@@ -1,5 +1,6 @@
--- When a machine fits a dispatcher: all that it did and all that is left to do make a run of the calculus.
-use Rattle.std.specs.Prelude.{◌≡◌, ℕ, ◌+◌, ◌≤◌, ◌<◌, List, [], ◌∷◌, ◌++◌, length, None}
+-- When a machine fits a dispatcher: what it did and what is left to do make a run of the calculus, and each run of the calculus that
+-- did so much comes by here.
+use Rattle.std.specs.Prelude.{◌≡◌, ◌↔◌, ℕ, ◌+◌, ◌≤◌, ◌<◌, List, [], ◌∷◌, ◌++◌, length, None}
 use Rattle.jl_program.specs.declared.prelude.TheConstants.{FIRST_WORLD}
 use Rattle.jl_program.specs.declared.value.Value.TheVariants as V
 use Rattle.jl_calculus.specs.declared.history.Event.{Event}
@@ -13,8 +14,8 @@ use Rattle.jl_machine.specs.declared.point.Frame.TheVariants as Fr
 use Rattle.jl_machine.specs.declared.point.Work.{Work}
 use Rattle.jl_machine.specs.declared.point.Work.TheVariants.{Eval, Give, Calling, Items, Defining, Pieces, Ended, Lost}
 use Rattle.jl_calculus.specs.Past.{IsInOrder, own_items}
-use Rattle.jl_calculus.specs.Run.{Setting, setting_of, IsEnd, Run, open_calls}
-use Rattle.jl_machine.specs.Point.{Finishes}
+use Rattle.jl_program.specs.declared.tree.Start.{Start}
+use Rattle.jl_calculus.specs.Run.{Run, open_calls}
 use Rattle.jl_calculus.specs.Simple.{IsSimple}
 use Rattle.jl_machine.specs.declared.task.Task.{Task}
 use Rattle.jl_machine.specs.declared.task.Machine.{Machine}
@@ -22,7 +23,8 @@ use Rattle.jl_machine.specs.declared.task.Phase.{Phase}
 use Rattle.jl_machine.specs.declared.task.Phase.TheVariants as Ph
 use Rattle.jl_machine.specs.declared.task.Turn.{Turn}
 use Rattle.jl_machine.specs.declared.task.Turn.TheVariants.{Again, Done}
-use Rattle.jl_machine.specs.Knows.{Knows, Looked}
+use Rattle.jl_machine.specs.Asks.{setting, Over, Ending, RunsTo, FinishesTo, Tells, Follows}
+use Rattle.jl_machine.specs.Knows.{Knows, Looked, Refused}
 use Rattle.jl_machine.specs.Plain.{IsPlainPoint}
 use Rattle.jl_machine.specs.Weight.{turns_left}
 use Rattle.jl_machine.specs.Worlds.{IsWorld}
@@ -49,19 +51,13 @@ AreWorlds (Fr.Body w k env bindings ∷ K) most = IsWorld w most × AreWorlds K 
 AreWorlds (Fr.Args f vs xs ∷ K) most = AreWorlds K most
 AreWorlds (Fr.Showing text xs line ∷ K) most = AreWorlds K most
 
--- the setting of a run over these events, without places
-abbrev pub setting : Program → List Event → ℕ → Setting
-setting P es fuel = setting_of P es None fuel
-
 -- a machine that has this to do, for a run of this program with this fuel
 pub record FitsWith (P : Program) (fuel : ℕ) (k : Knows) (w : Work) (t : Task) : Type 0 where
   pub program : k.program ≡ P
   pub fuel_is : t.fuel ≡ fuel
   pub simple : IsSimple P
-  -- each way to finish makes, with what was done, a run
-  pub runs : (es : List Event) → k.agrees es → (outcome : Outcome) (out : List ℕ) (made : ℕ) (rest : List TraceItem) →
-      Finishes (setting P es fuel) (IsEnd outcome out made []) (w, t.now) t.calls [] rest →
-      Run (setting P es fuel) None (t.trace ++ rest) outcome out made []
+  -- what was done and a rest are a run exactly where the rules finish from here with that rest
+  pub runs : (x : Over) → k.agrees x.events → (rest : List TraceItem) (e : Ending) → RunsTo P x fuel (t.trace ++ rest) e ↔ FinishesTo P x fuel (w, t.now) t.calls rest e
   pub learnt : AllLearnt k t.trace
   pub order : IsInOrder 1 t.trace k.seen
   pub looks : looks_of t.trace ≡ k.looks
@@ -74,10 +70,13 @@ pub record FitsWith (P : Program) (fuel : ℕ) (k : Knows) (w : Work) (t : Task)
 abbrev pub Fitting : Knows → Work → Task → Type 0
 Fitting k w t = FitsWith k.program t.fuel k w t
 
--- from one point to another: it fits again, for the same program and fuel, and fewer turns are left
+-- from one point to another: it fits again, for the same program and fuel, fewer turns are left, and an item that the trace gets
+-- answers what the task asked
 pub record Steps (k : Knows) (w : Work) (t : Task) (k' : Knows) (w' : Work) (t' : Task) : Type 0 where
   pub fits : FitsWith k.program t.fuel k' w' t'
   pub lighter : turns_left k.program t.fuel t'.calls w' t'.now < turns_left k.program t.fuel t.calls w t.now
+  pub tells : Tells k.program t.fuel k t.trace t'.trace
+  pub follows : Follows k t.trace k' t'.trace
 
 -- whether there is something to do
 abbrev pub phase_of : Work → Phase
@@ -130,6 +129,10 @@ IsLost m = m.work ≡ Lost
 abbrev pub fuel_of : Machine → ℕ
 fuel_of m = m.task.fuel
 
+-- the trace of a machine
+abbrev pub trace_of : Machine → List TraceItem
+trace_of m = m.task.trace
+
 -- the machine has ended
 abbrev pub IsEnded : Machine → Type 0
 IsEnded m = (o : Outcome) × (m.work ≡ Ended o)
@@ -150,11 +153,13 @@ pub record IsFresh (k : Knows) : Type 0 where
   pub world : FIRST_WORLD ≤ k.world
   pub begun : 1 ≤ k.seen
 
--- what a task did is a run, over every list of events that agrees; its items are learnt and in order, and its looks and
--- its own definitions are those of the dispatcher
+-- what a task did is a run, over every list of events that agrees, and the only one that has its trace and more; its items are learnt
+-- and in order, and its looks and its own definitions are those of the dispatcher
 pub record IsRunOf (P : Program) (fuel : ℕ) (k : Knows) (r : Record) : Type 0 where
   pub program : k.program ≡ P
   pub runs : (es : List Event) → k.agrees es → Run (setting P es fuel) None r.trace r.outcome r.output r.calls []
+  pub only : (es : List Event) → k.agrees es → (rest : List TraceItem) (outcome : Outcome) (output : List ℕ) (made : ℕ) (starts : List Start)
+      → Run (setting P es fuel) None (r.trace ++ rest) outcome output made starts → (rest ≡ []) × (outcome ≡ r.outcome) × (output ≡ r.output) × (made ≡ r.calls) × (starts ≡ [])
   pub learnt : AllLearnt k r.trace
   pub order : IsInOrder 1 r.trace k.seen
   pub looks : looks_of r.trace ≡ k.looks
@@ -189,3 +194,11 @@ pub record HasEnded (r : Record) (m : Machine) : Type 0 where
   pub trace : m.task.trace ≡ r.trace
   pub out : m.task.now.out ≡ r.output
   pub calls : m.task.calls ≡ r.calls
+
+-- a machine that fits and has ended did a run, which its record tells
+abbrev pub EndedRuns : Knows → Type 0
+EndedRuns k = (P : Program) (fuel : ℕ) (m : Machine) (r : Record) → MachineFits P fuel k m → HasEnded r m → IsRunOf P fuel k r
+
+-- a machine goes on to fit where its dispatcher learns more between two steps, and neither looks nor makes anything
+abbrev pub GrownFits : Knows → Knows → Type 0
+GrownFits k k' = Refused k k' → (P : Program) (fuel : ℕ) (m : Machine) → MachineFits P fuel k m → MachineFits P fuel k' m

@@ -12,6 +12,11 @@ use Rattle.jl_calculus.specs.Past.{IsTrueOf}
 use Rattle.jl_calculus.specs.World.{Selects, site_of, world_of}
 use Rattle.jl_machine.specs.Worlds.{IsWorld}
 
+-- what somebody claims that a task did: the events of the run, and the task's trace
+pub record Claim : Type 0 where
+  pub events : List Event
+  pub trace : List TraceItem
+
 pub record Knows : Type 1 where
   -- all answers speak of it
   pub program : Program
@@ -29,6 +34,8 @@ pub record Knows : Type 1 where
   pub own : List TraceItem
   -- how often it looked
   pub looks : ℕ
+  -- what a claim and the trace so far have to do with each other: it stays so where each item that is told joins the trace
+  pub follows : Claim → List TraceItem → Type 0
 
 -- what a call leaves: what was known stays known
 pub record Grew (before now : Knows) : Type 0 where
@@ -53,9 +60,17 @@ pub record Looked (before now : Knows) (w p : ℕ) : Type 0 where
   pub high : w ≤ now.world
   pub looks : now.looks ≡ before.looks + 1
   pub own : now.own ≡ before.own
+  pub follows : (c : Claim) (is : List TraceItem) → before.follows c is → now.follows c (is ++ Look w p ∷ [])
 
 -- a question that is no look and makes nothing
 pub record Asked (before now : Knows) : Type 0 where
+  pub grew : Grew before now
+  pub looks : now.looks ≡ before.looks
+  pub own : now.own ≡ before.own
+  pub follows : (c : Claim) (is : List TraceItem) → before.follows c is → now.follows c is
+
+-- a question that was refused: more may be known, and nothing was made or told
+pub record Refused (before now : Knows) : Type 0 where
   pub grew : Grew before now
   pub looks : now.looks ≡ before.looks
   pub own : now.own ≡ before.own
@@ -80,6 +95,7 @@ pub record Defined (before now : Knows) (site : ℕ) : Type 0 where
   pub place : before.seen < now.seen
   pub looks : now.looks ≡ before.looks
   pub own : now.own ≡ before.own ++ Def site (now.seen - 1) ∷ []
+  pub follows : (c : Claim) (is : List TraceItem) → before.follows c is → now.follows c (is ++ Def site (now.seen - 1) ∷ [])
 
 -- a world that a definition made: the newest one of the events that the task has then seen
 pub record IsMade (now : Knows) (w : ℕ) : Type 0 where
@@ -95,3 +111,4 @@ pub record Full (before now : Knows) : Type 0 where
   pub told : Told now (WorldFull now.seen)
   pub looks : now.looks ≡ before.looks
   pub own : now.own ≡ before.own
+  pub follows : (c : Claim) (is : List TraceItem) → before.follows c is → now.follows c (is ++ WorldFull now.seen ∷ [])

@@ -5,4 +5,5 @@ pub mod Plain
 pub mod Weight
 pub mod Size
 pub mod Point
+pub mod Asks
 pub mod Fits

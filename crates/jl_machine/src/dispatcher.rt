@@ -5,7 +5,7 @@ ghost use Rattle.std.specs.List.{list_all};
 ghost use Rattle.jl_program.specs.declared.prelude.TheConstants.{PRELUDE_SITES};
 ghost use Rattle.jl_calculus.specs.Simple.{is_plain};
 ghost use Rattle.jl_calculus.specs.declared.history.DefineFault.TheVariants.{WorldLimit};
-ghost use Rattle.jl_machine.specs.Knows.{Knows, Grew, Looked, Asked, IsRight, IsSite, Defined, IsMade, Full, IsFull};
+ghost use Rattle.jl_machine.specs.Knows.{Knows, Grew, Looked, Asked, Refused, IsRight, IsSite, Defined, IsMade, Full, IsFull};
 ghost use Rattle.jl_machine.specs.Worlds.{IsWorld};
 
 use jl_calculus::history::{DefineFault, Seen};
@@ -45,7 +45,7 @@ pub trait Dispatcher {
         ensures grew { Grew (knows self.old) (knows self.new) }
         ensures defined { IfOk result (λ _. Defined (knows self.old) (knows self.new) site) }
         ensures world { IfOk result (λ w. IsMade (knows self.new) w) }
-        ensures refused { OnErr result (Asked (knows self.old) (knows self.new)) }
+        ensures refused { OnErr result (Refused (knows self.old) (knows self.new)) }
         ensures full { result ≡ Err WorldLimit → Full (knows self.old) (knows self.new) }
         ensures limit { IsFull (knows self.old) → result ≡ Err WorldLimit };
 

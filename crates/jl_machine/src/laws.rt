@@ -1,6 +1,7 @@
-//! Laws of machines and dispatchers: which machine may take its first turn, and which one may take another.
+//! Laws of machines and dispatchers: which machine may take its first turn, which one may take another, and what one that has ended
+//! did.
 
-ghost use Rattle.jl_machine.specs.Fits.{NewFits, LostFits};
+ghost use Rattle.jl_machine.specs.Fits.{NewFits, LostFits, GrownFits, EndedRuns};
 
 use crate::dispatcher::Dispatcher;
 
@@ -12,4 +13,14 @@ pub fn law_new_machine<D: Dispatcher>(with: &D)
 /// A machine that has met want of memory fits each dispatcher.
 pub fn law_lost_machine<D: Dispatcher>(with: &D)
     ensures { LostFits (D.knows with.now) }
+{}
+
+/// A machine goes on to fit where its dispatcher gives way to one that knows more, and has looked and made as much.
+pub fn law_grown_machine<D: Dispatcher, E: Dispatcher>(before: &D, now: &E)
+    ensures { GrownFits (D.knows before.now) (E.knows now.now) }
+{}
+
+/// The record of a machine that has ended is a run, and the only one that has its trace.
+pub fn law_ended_machine<D: Dispatcher>(with: &D)
+    ensures { EndedRuns (D.knows with.now) }
 {}

@@ -7,7 +7,8 @@ ghost use Rattle.jl_machine.specs.declared.point.Work.TheVariants as W;
 ghost use Rattle.jl_calculus.specs.declared.history.Outcome.{Outcome};
 ghost use Rattle.jl_program.specs.declared.tree.Item.TheVariants as I;
 ghost use Rattle.jl_program.specs.TypeOf.{type_of};
-ghost use Rattle.jl_machine.specs.Fits.{looks_of, Fitting, Steps, IsGoing, phase_of, MachineFits, fuel_of, HasLooked, TurnSays, IsEnded, IsLost, IsNew, IsRecordOf, HasEnded, turns_of};
+ghost use Rattle.jl_machine.specs.Fits.{looks_of, Fitting, Steps, IsGoing, phase_of, MachineFits, fuel_of, HasLooked, TurnSays, IsEnded, IsLost, IsNew, IsRecordOf, HasEnded, turns_of, trace_of};
+ghost use Rattle.jl_machine.specs.Asks.{Tells, Follows};
 ghost use Rattle.jl_machine.specs.Size.{program_size};
 
 use crate::dispatcher::Dispatcher;
@@ -297,8 +298,8 @@ impl Machine {
         Ok(Machine { task, work })
     }
 
-    /// One turn. It keeps that the machine fits its dispatcher, and leaves fewer turns. After want of memory the machine
-    /// is lost: it answers so at each later turn.
+    /// One turn. It keeps that the machine fits its dispatcher, leaves fewer turns, and adds at most one item to the trace, which
+    /// answers what the task asked there. After want of memory the machine is lost: it answers so at each later turn.
     pub fn step<D: Dispatcher>(
         &mut self,
         program: &Program,
@@ -308,6 +309,8 @@ impl Machine {
         ensures fits { MachineFits program.now (fuel_of self.new) (D.knows with.new) self.new }
         ensures turn { IfOk result (λ turn. TurnSays program.now self.old self.new turn) }
         ensures fuel { IfOk result (λ _. fuel_of self.new ≡ fuel_of self.old) }
+        ensures tells { IfOk result (λ _. Tells program.now (fuel_of self.old) (D.knows with.old) (trace_of self.old) (trace_of self.new)) }
+        ensures follows { IfOk result (λ _. Follows (D.knows with.old) (trace_of self.old) (D.knows with.new) (trace_of self.new)) }
         ensures lost { OnErr result (IsLost self.new) }
         ensures kept { OnOk result (IsLost self.new → ⊥) }
         ensures still { IsLost self.old → IsErr result }

@@ -17,7 +17,7 @@ use Rattle.jl_program.specs.Scope.{types_of}
 use Rattle.jl_program.specs.Chooses.{Chooses}
 use Rattle.jl_calculus.specs.World.{world_of}
 use Rattle.jl_choice.specs.Methods.{methods_of, defs_from}
-use Rattle.jl_machine.specs.Knows.{Grew, Looked, Asked, IsRight, IsSite, Defined, IsMade, Full, IsFull}
+use Rattle.jl_machine.specs.Knows.{Grew, Looked, Asked, Refused, IsRight, IsSite, Defined, IsMade, Full, IsFull}
 use Rattle.jl_solo.specs.Alone.{defs_of, events_of, GoesOn, knows_at, IsOfScript, IsAlone}
 use Rattle.jl_solo.proofs.EventLemmas.{defined_alone, length_more, take_defs, defs_push, get_last, own_push}
 use Rattle.jl_solo.proofs.ChoiceOf.{of_world, selects_goes, site_goes}
@@ -79,10 +79,14 @@ module _ (P : Program) (sites : List ℕ) where
         high = omega arith;
         looks = refl;
         own = refl;
+        follows = λ c is h. tt;
       }
 
   pub asked : (n : ℕ) → Asked (knows_at P sites n) (knows_at P sites n)
-  asked n = record { grew = same n n; looks = refl; own = refl }
+  asked n = record { grew = same n n; looks = refl; own = refl; follows = λ c is h. tt }
+
+  pub refused : (n : ℕ) → Refused (knows_at P sites n) (knows_at P sites n)
+  refused n = record { grew = same n n; looks = refl; own = refl }
 
   pub full : (n : ℕ) → 14 + length sites ≡ 65535 → Full (knows_at P sites n) (knows_at P sites n)
   full n e =
@@ -91,6 +95,7 @@ module _ (P : Program) (sites : List ℕ) where
         told = record { learnt = told; right = told };
         looks = refl;
         own = refl;
+        follows = λ c is h. tt;
       }
 
   pub grew : (n s : ℕ) → Grew (knows_at P sites n) (knows_at P (sites ++ s ∷ []) n)
@@ -112,6 +117,7 @@ module _ (P : Program) (sites : List ℕ) where
         place = omega (arith, length-append sites (s ∷ []));
         looks = refl;
         own = own_push 1 sites s ∙ ap (λ p. own_part ++ Item.Def s p ∷ []) at;
+        follows = λ c is h. tt;
       }
     where
       own_part : List TraceItem

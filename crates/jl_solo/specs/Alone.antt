@@ -36,6 +36,7 @@ knows_at P sites looks = record {
   learnt = λ i. (es : List Event) → GoesOn sites es → IsTrueOf es 0 i;
   own = own_events 0 1 (defs_of sites);
   looks = looks;
+  follows = λ c is. Unit {0};
 }
 
 -- a site is one of the script's own

@@ -1,5 +1,5 @@
-use Rattle.std.proofs.Common.{refl, sym}
-use Rattle.jl_machine.proofs.Whole.{going, fitting, ended, step_fits, step_turns, never_lost, ended_never_lost, going_never_lost}
+use Rattle.std.proofs.Common.{refl, sym, inl}
+use Rattle.jl_machine.proofs.Whole.{going, fitting, ended, step_fits, step_turns, step_tells, never_lost, ended_never_lost, going_never_lost}
 use Rattle.jl_machine.proofs.task.Machine.step.Goals as goal
 
 pub go-requires-clause-fits : goal.go-requires-clause-fits
@@ -42,3 +42,16 @@ returns-in_ok-go-in-Going-clause-kept g c = let s = c.in_ok-go-in-Going.ensures.
 
 pub returns-in_ok-go-in-Going-clause-still : goal.returns-in_ok-go-in-Going-clause-still
 returns-in_ok-go-in-Going-clause-still g c = λ lost. absurd (going_never_lost _ (sym c.in-Going.ensures) lost)
+
+pub returns-in-Ended-clause-tells : goal.returns-in-Ended-clause-tells
+returns-in-Ended-clause-tells g c = inl refl
+
+pub returns-in_ok-go-in-Going-clause-tells : goal.returns-in_ok-go-in-Going-clause-tells
+returns-in_ok-go-in-Going-clause-tells g c =
+    step_tells _ _ _ _ _ c.args.self.now.task _ (fitting _ _ c.args.self.now.work c.args.self.now.task (going _ (sym c.in-Going.ensures)) c.requires).0 c.in_ok-go-in-Going.ensures.steps
+
+pub returns-in-Ended-clause-follows : goal.returns-in-Ended-clause-follows
+returns-in-Ended-clause-follows g c = λ x h. h
+
+pub returns-in_ok-go-in-Going-clause-follows : goal.returns-in_ok-go-in-Going-clause-follows
+returns-in_ok-go-in-Going-clause-follows g c = let s = c.in_ok-go-in-Going.ensures.steps in s.follows

@@ -2,7 +2,7 @@ use Rattle.std.proofs.Common.{◌∙◌, ap, sym, subst, arith, drop, length, is
 use Rattle.jl_machine.specs.Knows.{Grew, Defined, IsMade}
 use Rattle.jl_solo.specs.Alone.{knows_at, IsAlone}
 use Rattle.jl_solo.specs.Solo.{knows_of}
-use Rattle.jl_solo.proofs.Answered.{full_all, not_full_all, grew_all, made_all, made_world_all, asked, alone_if}
+use Rattle.jl_solo.proofs.Answered.{full_all, not_full_all, grew_all, made_all, made_world_all, refused, alone_if}
 use Rattle.jl_solo.proofs.solo.SoloDispatcher.define.Goals as goal
 
 pub returns-then-len-ge-MOST_WORLDS-clause-full : goal.returns-then-len-ge-MOST_WORLDS-clause-full
@@ -37,7 +37,7 @@ returns-in-Ok-clause-world c =
 pub returns-then-len-ge-MOST_WORLDS-clause-refused : goal.returns-then-len-ge-MOST_WORLDS-clause-refused
 returns-then-len-ge-MOST_WORLDS-clause-refused c =
     let s = c.args.self.now in
-    asked s.program.now (drop 14 s.sites.items) s.looks
+    refused s.program.now (drop 14 s.sites.items) s.looks
 
 pub returns-in-Ok-clause-limit : goal.returns-in-Ok-clause-limit
 returns-in-Ok-clause-limit c = λ full.
