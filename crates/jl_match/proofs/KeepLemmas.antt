@@ -27,7 +27,8 @@ use Rattle.jl_types.proofs.SettleLemmas.{settles_equal}
 use Rattle.jl_types.proofs.ExistLemmas.{exists}
 use Rattle.jl_types.proofs.PartsLemmas.{closed_parts}
 use Rattle.jl_model.specs.Found.{inner, outer}
-use Rattle.jl_match.specs.KeptRow.{IsArgument, AreArguments, closed, variable, applied, arguments_end, arguments_more, IsPart, AreParts, any as part_any, variable as part_var, tuple as part_tuple, nominal as part_nominal, parts_end, parts_more, IsPlain, IsKeptRow, row_of, with_bounds, AreKept, StandsFor}
+use Rattle.jl_match.specs.KeptRow.{IsArgument, AreArguments, closed, variable, applied, arguments_end, arguments_more, IsPart, AreParts, any as part_any, variable as part_var, tuple as part_tuple, nominal as part_nominal, parts_end, parts_more, IsKeptRow, row_of, with_bounds, AreKept, StandsFor}
+use Rattle.jl_search.specs.Serving.{IsPlain}
 use Rattle.jl_search.specs.Open.{EachVar, IsOpen, AreOpen, open_end, open_more, closed as open_closed, variable as open_var, applied as open_nominal}
 use Rattle.jl_match.proofs.ListLemmas.{In, in_of, in_either, in_each}
 use Rattle.jl_search.proofs.FindLemmas as L

@@ -8,7 +8,6 @@ pub mod ConcreteLemmas
 pub mod FitLemmas
 pub mod RowLemmas
 pub mod KnownLemmas
-pub mod ValueLemmas
 pub mod PlainLemmas
 pub mod TestLemmas
 pub mod ServeLemmas

@@ -23,7 +23,8 @@ use Rattle.jl_model.proofs.NormalLemmas.{kids_nominal, kids_tuple}
 use Rattle.jl_model.proofs.FillLemmas.{ancestors_known}
 use Rattle.jl_model.proofs.DeclaredLemmas.{declared_lawful}
 use Rattle.jl_model.specs.Found.{first, or_else, or_type, or_none, raised, parts_of, arguments_of, ancestor, find_arg, find_inner, find_outer, found}
-use Rattle.jl_match.specs.KeptRow.{IsPlain, IsKeptRow, AreConcrete, AreGround}
+use Rattle.jl_match.specs.KeptRow.{IsKeptRow, AreConcrete, AreGround}
+use Rattle.jl_search.specs.Serving.{IsPlain}
 use Rattle.jl_search.proofs.FindLemmas as L
 use Rattle.jl_match.proofs.RowLemmas.{lifted_normal, below_or}
 

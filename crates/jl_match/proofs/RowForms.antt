@@ -19,23 +19,7 @@ use Rattle.jl_search.specs.Open.{EachVar, AreOpen, closed, open_end, open_more}
 use Rattle.jl_match.proofs.TupleLemmas.{InRows, row_first, row_later, choice_of}
 use Rattle.jl_match.proofs.SubstLemmas.{tuples_in}
 use Rattle.jl_match.proofs.KindLemmas.{Inner, Comp, comp_any, comp_var, comp_union, comp_tuple, comp_nominal, Comps, comps_end, comps_more}
-
--- equations
-module _ (at : ℕ → List Ty) where
-  forms-any : forms at W.Any ≡ W.Any ∷ []
-  forms-any = ap (forms at) (sym rolls-Any) ∙ para-roll-Ty (List Ty) (forms_step at) Any
-
-  forms-union : (ts : List Ty) → forms at (V.Union ts) ≡ flat_map (forms at) ts
-  forms-union ts = ap (forms at) (sym (rolls-Union ts)) ∙ para-roll-Ty (List Ty) (forms_step at) (Union ts) ∙ flat_seconds (forms at) ts
-
-  pub forms-tuple : (ts : List Ty) → forms at (V.Tuple ts) ≡ map (λ us. V.Tuple us) (choices (map (forms at) ts))
-  forms-tuple ts = ap (forms at) (sym (rolls-Tuple ts)) ∙ para-roll-Ty (List Ty) (forms_step at) (Tuple ts) ∙ ap (λ z. map (λ us. V.Tuple us) (choices z)) (seconds (forms at) ts)
-
-  pub forms-nominal : (k : ℕ) (ts : List Ty) → forms at (V.Nominal k ts) ≡ V.Nominal k ts ∷ []
-  forms-nominal k ts = ap (forms at) (sym (rolls-Nominal k ts)) ∙ para-roll-Ty (List Ty) (forms_step at) (Nominal k ts) ∙ ap (λ z. V.Nominal k z ∷ []) (firsts (forms at) ts)
-
-  pub forms-var : (v : ℕ) → forms at (W.Var v) ≡ at v
-  forms-var v = ap (forms at) (sym (rolls-Var v)) ∙ para-roll-Ty (List Ty) (forms_step at) (Var v)
+use Rattle.jl_types.proofs.FormEquations.{forms-any, forms-var, forms-union, forms-tuple, forms-nominal}
 
 -- what is chosen from lists
 pub choices_by : (g : Ty → List Ty) (r ws : List Ty) → InRows r (choices (map g ws)) → Both (λ a w. Among a (g w)) r ws

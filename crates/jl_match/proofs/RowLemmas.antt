@@ -24,7 +24,8 @@ use Rattle.jl_model.proofs.NormalLemmas.{kids_nominal, kids_tuple}
 use Rattle.jl_model.proofs.FillLemmas.{ancestors_normal}
 use Rattle.jl_model.proofs.DeclaredLemmas.{declared_lawful}
 use Rattle.jl_model.specs.Found.{outer, inner, found}
-use Rattle.jl_match.specs.KeptRow.{IsPart, AreParts, any as part_any, variable as part_variable, tuple as part_tuple, nominal as part_nominal, parts_end, parts_more, IsPlace, AreKeptParts, IsKeptRow, AreConcrete, Fits}
+use Rattle.jl_match.specs.KeptRow.{IsPart, AreParts, any as part_any, variable as part_variable, tuple as part_tuple, nominal as part_nominal, parts_end, parts_more, AreKeptParts, IsKeptRow, AreConcrete, Fits}
+use Rattle.jl_search.specs.Serving.{IsPlace}
 use Rattle.jl_search.specs.Open.{EachVar}
 use Rattle.jl_search.proofs.HasLemmas.{Has}
 use Rattle.jl_search.proofs.MeetLemmas.{LeftForms, Laws}

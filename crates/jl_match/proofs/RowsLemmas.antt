@@ -25,7 +25,8 @@ use Rattle.jl_types.proofs.SettleLemmas.{settles_pass}
 use Rattle.jl_types.proofs.ExistLemmas.{exists}
 use Rattle.jl_types.proofs.KeptLemmas.{alts_pass}
 use Rattle.jl_types.proofs.PartsLemmas.{known_parts, closed_parts}
-use Rattle.jl_match.specs.KeptRow.{row_of, IsPlain, AreKept, StandsFor, with_bounds}
+use Rattle.jl_match.specs.KeptRow.{row_of, AreKept, StandsFor, with_bounds}
+use Rattle.jl_search.specs.Serving.{IsPlain}
 use Rattle.jl_match.specs.SigRows.{kept_row, AreKeptRows, AllStand, SomeStands, AreRowsOf}
 use Rattle.jl_match.specs.Listed.{IsKeptSig}
 use Rattle.jl_sig.specs.Fit.{IsKeptRow as IsKeptListed, AreKeptRows as AreKeptListed, rows_end as listed_end, rows_more as listed_more}

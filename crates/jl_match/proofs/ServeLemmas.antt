@@ -15,7 +15,8 @@ use Rattle.jl_model.proofs.FormLemmas.{vars-any, vars-union, vars-tuple, vars-no
 use Rattle.jl_model.proofs.PutLemmas.{and_l, and_r, put-closed}
 use Rattle.jl_types.specs.Ground.{IsGround}
 use Rattle.jl_types.proofs.GroundLemmas.{Tells}
-use Rattle.jl_match.specs.KeptRow.{Within, ServesAt, IsPlain, IsKeptRow}
+use Rattle.jl_match.specs.KeptRow.{IsKeptRow}
+use Rattle.jl_search.specs.Serving.{Within, ServesAt, IsPlain}
 use Rattle.jl_search.specs.Absent.{lacks}
 use Rattle.jl_match.proofs.ListLemmas.{In, in_of, of_in, in_left, in_right, in_either, in_map, map_in}
 use Rattle.jl_search.proofs.OccurLemmas.{lack-any, lack-union, lack-tuple, lack-nominal, lack-var}
@@ -112,14 +113,14 @@ module _ (ds : List Decl) (s : Written) (r : Row) (f : ℕ → Ty) (kept : IsKep
   top_stays : (v : ℕ) → Occurs s v r.parts → put f (top s r v) ≡ top s r v
   top_stays v o = put-closed f (top s r v) (kept.top v (low_of ds s r kept v o)).closed
 
-  pub serves_at : Serves n opaque s r f → (v : ℕ) → ServesAt n s r f v
+  pub serves_at : Serves n opaque s r f → (v : ℕ) → ServesAt n opaque s r f v
   serves_at h v o = (
     subst (λ z. Below n opaque z (f v)) (low_stays v o) (h.least v o),
     subst (Below n opaque (f v)) (top_stays v o) (h.most v o),
     (λ d. h.sure v o (diag_of (kind s v) d)),
   )
 
-  pub serves_all : ((v : ℕ) → v < width s → ServesAt n s r f v) → Serves n opaque s r f
+  pub serves_all : ((v : ℕ) → v < width s → ServesAt n opaque s r f v) → Serves n opaque s r f
   serves_all h = record {
     least = λ v o. subst (λ z. Below n opaque z (f v)) (sym (low_stays v o)) (h v (low_of ds s r kept v o) o).0;
     most = λ v o. subst (Below n opaque (f v)) (sym (top_stays v o)) (h v (low_of ds s r kept v o) o).1;
@@ -130,10 +131,10 @@ pub plain_ground : (ds : List Decl) (t : Ty) → IsPlain ds t → IsGround ds t
 plain_ground ds t h = record { normal = h.normal; known = h.known }
 
 -- the same test of the same things
-pub within_same : (n : Table) (r : Bool) (l low h high : Ty) (b d : Bool) (x value : Ty) → l ≡ low → h ≡ high → b ≡ d → x ≡ value → Tells r (Within n l h b x) → Tells r (Within n low high d value)
+pub within_same : (n : Table) (r : Bool) (l low h high : Ty) (b d : Bool) (x value : Ty) → l ≡ low → h ≡ high → b ≡ d → x ≡ value → Tells r (Within n opaque l h b x) → Tells r (Within n opaque low high d value)
 within_same n r l low h high b d x value e f g i t =
-    subst (λ z. Tells r (Within n low high d z)) i
-    (subst (λ z. Tells r (Within n low high z x)) g (subst (λ z. Tells r (Within n low z b x)) f (subst (λ z. Tells r (Within n z h b x)) e t)))
+    subst (λ z. Tells r (Within n opaque low high d z)) i
+    (subst (λ z. Tells r (Within n opaque low high z x)) g (subst (λ z. Tells r (Within n opaque low z b x)) f (subst (λ z. Tells r (Within n opaque z h b x)) e t)))
 
 pub at_present : (r : Bool) (O W : Type 0) → O → Tells r W → Tells r (O → W)
 at_present r O W o t = ((λ y k. t.0 y), (λ q. t.1 (q o)))

@@ -26,7 +26,8 @@ use Rattle.jl_sig.specs.Forms.{IsSmallForm}
 use Rattle.jl_sig.specs.Fit.{AreKeptRows as AreKeptListed}
 use Rattle.jl_sig.specs.Prepared.{IsSigOf}
 use Rattle.jl_sig.specs.SigParts.{written_of, bounded_of, diagonals_of, rows_of as kept_rows_of}
-use Rattle.jl_match.specs.KeptRow.{IsPlain, AreDiagonals, with_bounds}
+use Rattle.jl_match.specs.KeptRow.{AreDiagonals, with_bounds}
+use Rattle.jl_search.specs.Serving.{IsPlain}
 use Rattle.jl_match.specs.Listed.{IsKeptSig}
 use Rattle.jl_match.specs.SigRows.{AreKeptRows, AreRowsOf}
 use Rattle.jl_match.proofs.ComponentLemmas.{none_of}

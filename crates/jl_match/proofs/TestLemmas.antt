@@ -24,7 +24,8 @@ use Rattle.jl_model.proofs.DeclaredLemmas.{declared_lawful}
 use Rattle.jl_types.specs.Ground.{IsGround}
 use Rattle.jl_types.proofs.GroundLemmas.{Tells, normal-at, all-at}
 use Rattle.jl_model.specs.Found.{outer}
-use Rattle.jl_match.specs.KeptRow.{IsArgument, AreArguments, closed, variable, applied, arguments_end, arguments_more, IsPart, AreParts, any as part_any, variable as part_variable, tuple as part_tuple, nominal as part_nominal, parts_end, parts_more, IsPlace, IsKeptPart, AreKeptParts, AreGround}
+use Rattle.jl_match.specs.KeptRow.{IsArgument, AreArguments, closed, variable, applied, arguments_end, arguments_more, IsPart, AreParts, any as part_any, variable as part_variable, tuple as part_tuple, nominal as part_nominal, parts_end, parts_more, IsKeptPart, AreKeptParts, AreGround}
+use Rattle.jl_search.specs.Serving.{IsPlace}
 use Rattle.jl_search.specs.Open.{EachVar}
 use Rattle.jl_search.proofs.GoodLemmas.{split}
 use Rattle.jl_search.proofs.FindLemmas as L

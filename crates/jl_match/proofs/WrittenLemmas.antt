@@ -37,7 +37,8 @@ use Rattle.jl_match.proofs.ComponentLemmas.{none_of}
 use Rattle.jl_match.proofs.SubstLemmas.{tuples_in}
 use Rattle.jl_match.proofs.ConcreteLemmas.{Concrete, concrete_lone, concrete_turns}
 use Rattle.jl_match.proofs.KindLemmas.{Comp, comp_any, comp_var, comp_union, comp_tuple, comp_nominal, Comps, comps_end, comps_more}
-use Rattle.jl_match.proofs.RowForms.{forms-tuple, forms-nominal, forms-var, choices_by, only}
+use Rattle.jl_match.proofs.RowForms.{choices_by, only}
+use Rattle.jl_types.proofs.FormEquations.{forms-tuple, forms-nominal, forms-var}
 use Rattle.jl_match.proofs.FitLemmas.{both_put}
 use Rattle.jl_match.proofs.RowLemmas.{IsLeft, each_unit, left_forms}
 

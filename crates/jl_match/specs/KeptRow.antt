@@ -18,6 +18,7 @@ use Rattle.jl_types.specs.Form.{Settles}
 use Rattle.jl_model.specs.Valid.{is_known}
 use Rattle.jl_model.specs.Found.{inner, outer}
 use Rattle.jl_search.specs.Open.{EachVar, AreOpen}
+use Rattle.jl_search.specs.Serving.{IsPlain, IsPlace}
 
 module _ (n : Table) where
   mutual
@@ -43,12 +44,6 @@ module _ (n : Table) where
       parts_end : AreParts []
       parts_more : (t : Ty) (ts : List Ty) → IsPart t → AreParts ts → AreParts (t ∷ ts)
 
--- a normal form without variables, of declared nominal types
-pub record IsPlain (ds : List Decl) (t : Ty) : Type 0 where
-  pub normal : IsNormal (table_of ds) t
-  pub known : IsTrue (is_known (length ds) t)
-  pub closed : vars_in t ≡ []
-
 -- the row of these parts and chosen alternatives
 abbrev pub row_of : List Ty → List Ty → Row
 row_of parts chosen = record { parts = parts; chosen = at chosen }
@@ -68,10 +63,6 @@ pub record AreDiagonals (s : Written) (bs : List Bool) : Type 0 where
   pub long : length bs ≡ width s
   pub kinds : (v : ℕ) → v < width s → get_or bs v false ≡ is_diagonal (kind s v)
 
--- what may stand at a covariant place: a diagonal variable, or an atom of a bound one
-abbrev pub IsPlace : Written → ℕ → Type 0
-IsPlace s w = (root s w < width s) × (((kind s w ≡ diagonal) × (root s w ≡ w)) ⊎ ((kind s (root s w) ≡ bound) × (kind s w ≡ diagonal → ⊥)))
-
 pub record IsKeptPart (ds : List Decl) (s : Written) (u : Ty) : Type 0 where
   pub part : IsPart (table_of ds) u
   pub covariant : EachVar (IsPlace s) (outer u)
@@ -84,14 +75,6 @@ pub record AreKeptParts (ds : List Decl) (s : Written) (us : List Ty) : Type 0 w
 pub record AreGround (ds : List Decl) (ts : List Ty) : Type 0 where
   pub normal : AllNormal (table_of ds) ts
   pub known : IsTrue (list_all (is_known (length ds)) ts)
-
--- what is asked of the type put for a variable of a row
-abbrev pub Within : Table → Ty → Ty → Bool → Ty → Type 0
-Within n low high is_diagonal t = Below n opaque low t × Below n opaque t high × (IsTrue is_diagonal → IsTrue (is_concrete n opaque t))
-
--- what is put for the variable serves, if it stands in the row
-abbrev pub ServesAt : Table → Written → Row → (ℕ → Ty) → ℕ → Type 0
-ServesAt n s r f v = Occurs s v r.parts → Within n (low s v) (top s r v) (is_diagonal (kind s v)) (f v)
 
 -- concrete normal types
 pub record AreConcrete (ds : List Decl) (ts : List Ty) : Type 0 where

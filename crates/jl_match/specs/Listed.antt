@@ -9,7 +9,7 @@ use Rattle.jl_model.specs.Rows.{free, width, low, high, vars_in}
 use Rattle.jl_model.specs.Subtype.{Equal}
 use Rattle.jl_model.specs.Valid.{is_known}
 use Rattle.jl_model.specs.SigRefusals.{is_component}
-use Rattle.jl_match.specs.KeptRow.{IsPlain}
+use Rattle.jl_search.specs.Serving.{IsPlain}
 
 -- A signature that nothing refuses, with its bounds kept in normal form.
 pub record IsKeptSig (ds : List Decl) (s : Written) (bs : List Bound) : Type 0 where

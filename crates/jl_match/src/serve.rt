@@ -6,7 +6,8 @@ ghost use Rattle.jl_model.specs.Rows.{width};
 ghost use Rattle.jl_model.specs.Subtype.{opaque, at};
 ghost use Rattle.jl_model.specs.Signature.{Serves};
 ghost use Rattle.jl_types.specs.Ground.{IsGround};
-ghost use Rattle.jl_match.specs.KeptRow.{row_of, AreDiagonals, AreGround, IsKeptRow, Within, ServesAt};
+ghost use Rattle.jl_match.specs.KeptRow.{row_of, AreDiagonals, AreGround, IsKeptRow};
+ghost use Rattle.jl_search.specs.Serving.{Within, ServesAt};
 
 use crate::concrete::is_concrete;
 use crate::values::top;
@@ -20,7 +21,7 @@ fn is_within(table: &Table, low: &Ty, high: &Ty, is_diagonal: bool, value: &Ty) 
     requires low { IsGround table.now low.now }
     requires high { IsGround table.now high.now }
     requires value { IsGround table.now value.now }
-    ensures { IsTrue result ↔ Within (table_of table.now) low.now high.now is_diagonal value.now }
+    ensures { IsTrue result ↔ Within (table_of table.now) opaque low.now high.now is_diagonal value.now }
 {
     if !ground_sub(table, low, value) {
         return false;
@@ -50,7 +51,7 @@ fn serves_one(
     requires values { AreGround table.now values.now }
     requires long { length values.now ≡ width signature.now }
     requires variable { variable < width signature.now }
-    ensures { IfOk result (λ yes. IsTrue yes ↔ ServesAt (table_of table.now) signature.now (row_of parts.now chosen.now) (at values.now) variable) }
+    ensures { IfOk result (λ yes. IsTrue yes ↔ ServesAt (table_of table.now) opaque signature.now (row_of parts.now chosen.now) (at values.now) variable) }
 {
     let bounds = signature.vars.as_slice();
     if all_lack(bounds.len(), variable, parts) {

@@ -20,7 +20,7 @@ use Rattle.jl_types.proofs.PlaceLemmas.{known_up, free_is_field}
 use Rattle.jl_types.proofs.KeptOnceLemmas.{settled_same}
 use Rattle.jl_norm.specs.Refused.{IsWellWritten}
 use Rattle.jl_norm.specs.Judged.{IsArgument, AreArguments, given_of}
-use Rattle.jl_norm.proofs.GivenLemmas.{AllGiven, given-any, given-var, given-union, given-tuple, given-nominal, given_both, given_none, each_given, at_given}
+use Rattle.jl_types.proofs.GivenLemmas.{AllGiven, given-any, given-var, given-union, given-tuple, given-nominal, given_both, given_none, each_given, at_given}
 use Rattle.jl_norm.proofs.PlaceLemmas.{free-any, free-union, free-tuple, free-nominal, placed-union, placed-tuple, placed-nominal, field-var, field-union, field-tuple, field-nominal}
 use Rattle.jl_types.proofs.PartsLemmas.{closed-var, closed-nominal}
 use Rattle.jl_norm.proofs.KeepLemmas.{argument_nominal, argument_var, with_lawful, bounds_are_known, bounds_are_closed, fields_are_placed}

@@ -26,7 +26,7 @@ use Rattle.jl_norm.proofs.InheritLemmas.{Has, AllHave, has_any, has_var, has_uni
 use Rattle.jl_norm.proofs.PlaceLemmas.{free-union, free-tuple, placed-union, placed-tuple, placed-nominal, field-union, field-tuple, field-nominal}
 use Rattle.jl_types.proofs.PartsLemmas.{closed-union, closed-tuple, closed-nominal}
 use Rattle.jl_norm.proofs.PartLemmas.{AnyVar, AnyName, NoVar, free_known}
-use Rattle.jl_norm.proofs.GivenLemmas.{AllGiven, given-any, given-var, given-union, given-tuple, given-nominal, given_left, given_right, given_both, given_none, given_each, each_given, given_at, at_given}
+use Rattle.jl_types.proofs.GivenLemmas.{AllGiven, given-any, given-var, given-union, given-tuple, given-nominal, given_left, given_right, given_both, given_none, given_each, each_given, given_at, at_given}
 use Rattle.jl_norm.proofs.KeepLemmas.{with_lawful, bounds_are_closed, parent_is_known, fields_are_placed}
 use Rattle.jl_norm.proofs.KeptLemmas.{own_known, parent_known_next, parent_is_field, argument_exists}
 use Rattle.jl_norm.proofs.NextLemmas.{closed_has, has_closed}

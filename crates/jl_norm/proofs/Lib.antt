@@ -4,7 +4,6 @@ pub mod ArgumentLemmas
 pub mod InheritLemmas
 pub mod BoundLemmas
 pub mod CrossLemmas
-pub mod GivenLemmas
 pub mod OutsideLemmas
 pub mod ReadyLemmas
 pub mod JudgeLemmas

@@ -31,7 +31,7 @@ use Rattle.jl_norm.proofs.InheritLemmas.{Has, AllHave, has_any, has_var, has_uni
 use Rattle.jl_norm.proofs.ListLemmas.{all-types, counted-any, counted-var, counted-union, counted-tuple, counted-nominal}
 use Rattle.jl_norm.proofs.PlaceLemmas.{placed-any, placed-nominal, field-nominal}
 use Rattle.jl_norm.proofs.PartLemmas.{AnyVar, AnyName, NameBelow, known_has, has_known}
-use Rattle.jl_norm.proofs.GivenLemmas.{each_given}
+use Rattle.jl_types.proofs.GivenLemmas.{each_given}
 use Rattle.jl_norm.proofs.SizeLemmas.{within_front}
 use Rattle.jl_norm.proofs.ArgumentLemmas.{within_all_each}
 use Rattle.jl_norm.proofs.SmallLemmas.{NormalWhereClosed, kept_normal, all_within, bounds_again, within_in, contains_front}

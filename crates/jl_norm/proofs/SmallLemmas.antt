@@ -15,7 +15,7 @@ use Rattle.jl_model.specs.Kept.{field_types, Argument, AllArguments, closed, var
 use Rattle.jl_model.specs.Refusals.{table_with, bound_types, types_of, Given, given_from, given_in, AllWithinLimits}
 use Rattle.jl_model.proofs.TypeInduction.{Each}
 use Rattle.jl_model.proofs.FormLemmas.{is_any, is_union, is_tuple, is_nominal, is_var}
-use Rattle.jl_norm.proofs.GivenLemmas.{AllGiven, given-any, given-var, given-union, given-tuple, given-nominal, given_both, given_none, each_given, at_given}
+use Rattle.jl_types.proofs.GivenLemmas.{AllGiven, given-any, given-var, given-union, given-tuple, given-nominal, given_both, given_none, each_given, at_given}
 use Rattle.jl_types.proofs.PartsLemmas.{closed-var}
 use Rattle.jl_norm.proofs.ArgumentLemmas.{given_by, each_at, within_union, within_tuple, within_nominal}
 

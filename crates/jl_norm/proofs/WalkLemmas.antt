@@ -12,7 +12,7 @@ use Rattle.jl_model.specs.Counts.{nodes}
 use Rattle.jl_types.specs.declared.normal_form.NormFault.{NormFault}
 use Rattle.jl_types.proofs.ExpandLemmas.{nodes-positive}
 use Rattle.jl_norm.specs.Judged.{SomeLarge, Judged, IsArgument, AreArguments}
-use Rattle.jl_norm.proofs.GivenLemmas.{given-any, given-var, given-union, given-tuple, given-nominal, given_left, given_right}
+use Rattle.jl_types.proofs.GivenLemmas.{given-any, given-var, given-union, given-tuple, given-nominal, given_left, given_right}
 use Rattle.jl_norm.proofs.KeepSteps.{drop_at}
 use Rattle.jl_norm.proofs.JudgeLemmas.{judged_none, judged_join, large_left, large_right}
 

@@ -13,3 +13,4 @@ pub mod MeetLemmas
 pub mod OpenFound
 pub mod FoundLemmas
 pub mod ListedLemmas
+pub mod ValueLemmas

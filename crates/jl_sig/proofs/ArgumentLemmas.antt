@@ -6,7 +6,7 @@ use Rattle.jl_model.specs.declared.ty.Ty.TheViews as V
 use Rattle.jl_model.specs.Refusals.{Given, given_from, given_in}
 use Rattle.jl_sig.specs.declared.arguments.Argument.{Argument}
 use Rattle.jl_sig.specs.Parts.{given, all_given}
-use Rattle.jl_sig.proofs.GivenLemmas.{given-any, given-var, given-union, given-tuple, given-nominal}
+use Rattle.jl_types.proofs.GivenLemmas.{given-any, given-var, given-union, given-tuple, given-nominal}
 
 pub flat-suc : (ts : List Ty) (i : ℕ) (t : Ty) → i < length ts → t ≡ get_or ts i t → flat_map given_in (drop i ts) ≡ given_in t ++ flat_map given_in (drop (i + 1) ts)
 flat-suc [] i t h e = absurd (omega arith)

@@ -11,23 +11,9 @@ use Rattle.jl_model.specs.declared.ty.Ty.TheVariants as W
 use Rattle.jl_model.specs.declared.ty.Ty.TheFolds.{para-roll-Ty}
 use Rattle.jl_model.specs.Rows.{choices, forms, forms_step}
 use Rattle.jl_model.proofs.FormLemmas.{firsts, seconds, flat_seconds, is_any, is_union, is_tuple, is_nominal, is_var}
+use Rattle.jl_types.proofs.FormEquations.{forms-any, forms-var, forms-union, forms-tuple, forms-nominal}
 
 module _ (at : ℕ → List Ty) where
-  pub forms-any : forms at W.Any ≡ W.Any ∷ []
-  forms-any = ap (forms at) (sym rolls-Any) ∙ para-roll-Ty (List Ty) (forms_step at) Any
-
-  pub forms-var : (v : ℕ) → forms at (W.Var v) ≡ at v
-  forms-var v = ap (forms at) (sym (rolls-Var v)) ∙ para-roll-Ty (List Ty) (forms_step at) (Var v)
-
-  pub forms-union : (ts : List Ty) → forms at (V.Union ts) ≡ flat_map (forms at) ts
-  forms-union ts = ap (forms at) (sym (rolls-Union ts)) ∙ para-roll-Ty (List Ty) (forms_step at) (Union ts) ∙ flat_seconds (forms at) ts
-
-  pub forms-tuple : (ts : List Ty) → forms at (V.Tuple ts) ≡ map (λ us. V.Tuple us) (choices (map (forms at) ts))
-  forms-tuple ts = ap (forms at) (sym (rolls-Tuple ts)) ∙ para-roll-Ty (List Ty) (forms_step at) (Tuple ts) ∙ ap (λ z. map (λ us. V.Tuple us) (choices z)) (seconds (forms at) ts)
-
-  pub forms-nominal : (k : ℕ) (ts : List Ty) → forms at (V.Nominal k ts) ≡ V.Nominal k ts ∷ []
-  forms-nominal k ts = ap (forms at) (sym (rolls-Nominal k ts)) ∙ para-roll-Ty (List Ty) (forms_step at) (Nominal k ts) ∙ ap (λ z. V.Nominal k z ∷ []) (firsts (forms at) ts)
-
   pub sum-suc : (ts : List Ty) (i : ℕ) (t : Ty) → i < length ts → t ≡ get_or ts i t → length (flat_map (forms at) (drop i ts)) ≡ length (forms at t) + length (flat_map (forms at) (drop (i + 1) ts))
   sum-suc [] i t h e = absurd (omega arith)
   sum-suc (x ∷ xs) zero t h e = length-append (forms at x) (flat_map (forms at) xs) ∙ ap (λ z. length (forms at z) + length (flat_map (forms at) xs)) (sym e)

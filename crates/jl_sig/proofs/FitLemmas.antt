@@ -22,7 +22,7 @@ use Rattle.jl_model.proofs.KnownLemmas.{Known, union_known, tuple_known, nominal
 use Rattle.jl_types.proofs.KeepLemmas.{nominal_form}
 use Rattle.jl_types.proofs.PartsLemmas.{closed-any, closed-union, closed-tuple}
 use Rattle.jl_sig.specs.Fit.{IsSmall, IsFit, IsFitArgument, AllFit, AllFitArguments}
-use Rattle.jl_sig.proofs.GivenLemmas.{AllGiven, given-union, given-tuple, given-nominal, given_left, given_right, given_each}
+use Rattle.jl_types.proofs.GivenLemmas.{AllGiven, given-union, given-tuple, given-nominal, given_left, given_right, given_each}
 
 -- places, form by form
 pub argument-union : (ts : List Ty) → is_argument (V.Union ts) ≡ list_all is_closed ts

@@ -1,6 +1,5 @@
 pub mod KindLemmas
 pub mod UsableLemmas
-pub mod GivenLemmas
 pub mod ArgumentLemmas
 pub mod SearchLemmas
 pub mod FormSteps

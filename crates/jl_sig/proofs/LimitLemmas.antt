@@ -28,7 +28,7 @@ use Rattle.jl_types.specs.Form.{IsTooLarge}
 use Rattle.jl_types.proofs.ExistLemmas.{exists}
 use Rattle.jl_sig.specs.Parts.{HasWide}
 use Rattle.jl_sig.specs.Forms.{IsSmallForm, HasTooLarge, AreFormed, formed_end, formed_open, formed_closed, HasTooLargeGiven}
-use Rattle.jl_sig.proofs.GivenLemmas.{AllGiven, given-any, given-var, given-union, given-tuple, given-nominal, given_both, given_none}
+use Rattle.jl_types.proofs.GivenLemmas.{AllGiven, given-any, given-var, given-union, given-tuple, given-nominal, given_both, given_none}
 use Rattle.jl_sig.proofs.ExpansionLemmas.{length-choices}
 
 -- RAW ALTERNATIVES

@@ -12,7 +12,7 @@ use Rattle.jl_model.proofs.TypeInduction.{Each, by_cases}
 use Rattle.jl_model.proofs.FormLemmas.{vars-any, vars-tuple}
 use Rattle.jl_sig.proofs.KindLemmas.{places-union, places-tuple, places-nominal, places-var}
 use Rattle.jl_sig.proofs.UsableLemmas.{stands-any, stands-union, stands-tuple, stands-nominal, stands-var}
-use Rattle.jl_sig.proofs.ExpansionLemmas.{forms-any, forms-union, forms-tuple, forms-nominal, forms-var}
+use Rattle.jl_types.proofs.FormEquations.{forms-any, forms-union, forms-tuple, forms-nominal, forms-var}
 
 -- a variable that stands in a type has a place in it
 abbrev Had : ℕ → Ty → Type 0

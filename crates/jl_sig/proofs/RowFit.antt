@@ -20,7 +20,7 @@ use Rattle.jl_model.proofs.AncestorLemmas.{each_true}
 use Rattle.jl_model.proofs.KnownLemmas.{Known, known-any, known-var, known_tuple}
 use Rattle.jl_sig.specs.Fit.{IsFit, AllFit, AllRowsFit}
 use Rattle.jl_sig.specs.Prepared.{AreAllRows}
-use Rattle.jl_sig.proofs.GivenLemmas.{AllGiven, given-any, given-var, given-tuple, given_none, each_given}
+use Rattle.jl_types.proofs.GivenLemmas.{AllGiven, given-any, given-var, given-tuple, given_none, each_given}
 use Rattle.jl_sig.proofs.FitLemmas.{S, union_fit, tuple_fit, component-any, component-var, component-tuple}
 use Rattle.jl_sig.proofs.WholeLemmas.{Carries, Rows, chosen_have, forms_have}
 use Rattle.jl_sig.proofs.BuildLemmas.{is_diagonal_kind}

@@ -28,7 +28,7 @@ use Rattle.jl_sig.specs.Parts.{HasWide}
 use Rattle.jl_sig.specs.Forms.{IsSmallForm, AreFormed, AreKnown}
 use Rattle.jl_sig.specs.Fit.{IsFit, AllFit}
 use Rattle.jl_sig.specs.Prepared.{HasOwnVariables, IsExpandable, IsBuildable, AreAllRows, IsWellPlaced}
-use Rattle.jl_sig.proofs.GivenLemmas.{AllGiven, given-any, given-var, given-union, given-tuple, given-nominal, given_both, given_none, each_given}
+use Rattle.jl_types.proofs.GivenLemmas.{AllGiven, given-any, given-var, given-union, given-tuple, given-nominal, given_both, given_none, each_given}
 use Rattle.jl_sig.proofs.FitLemmas.{argument-any, argument-var, argument-union, argument-tuple, argument-nominal, component-any, component-union, component-tuple, component-nominal}
 use Rattle.jl_sig.proofs.LimitLemmas.{closed_bounds, few_alternatives, within, arguments_within, argument_form, not_too_large, no_large}
 use Rattle.jl_sig.proofs.BuildLemmas.{not_many}

@@ -25,7 +25,7 @@ use Rattle.jl_model.proofs.FormLemmas.{vars-var}
 use Rattle.jl_sig.specs.Built.{placed, picked, place_by, place_in, ArePicked, rows_from}
 use Rattle.jl_sig.proofs.KindLemmas.{places-any, places-union, places-tuple, places-nominal, places-var}
 use Rattle.jl_sig.proofs.UsableLemmas.{stands-union, stands-tuple, stands-nominal, stands-var}
-use Rattle.jl_sig.proofs.ExpansionLemmas.{forms-any, forms-union, forms-tuple, forms-nominal, forms-var}
+use Rattle.jl_types.proofs.FormEquations.{forms-any, forms-union, forms-tuple, forms-nominal, forms-var}
 use Rattle.jl_sig.proofs.LiveLemmas.{sift, sift-flat, sift_long, live, live_row, live_rows}
 use Rattle.jl_sig.proofs.RowLemmas.{each-get, each-long}
 

@@ -23,7 +23,8 @@ use Rattle.jl_types.proofs.GroundLemmas.{Tells, all-at, ground-at, union_singles
 use Rattle.jl_sig.specs.declared.row.SigRow.{SigRow}
 use Rattle.jl_sig.specs.declared.sig.Sig.{Sig}
 use Rattle.jl_sig.specs.SigParts.{kept_of, bounded_of}
-use Rattle.jl_subsig.specs.Side.{held, tops, IsPlain, IsItem, ArePlain, IsRigid, closed, applied, AreHeld, Every, AnyOf}
+use Rattle.jl_subsig.specs.Side.{held, tops, IsItem, ArePlain, IsRigid, closed, applied, AreHeld, Every, AnyOf}
+use Rattle.jl_search.specs.Serving.{IsPlain}
 use Rattle.jl_search.proofs.HasLemmas.{Has, has_left, has_right, none_has, has_none}
 use Rattle.jl_subsig.proofs.LiftLemmas.{lift}
 use Rattle.jl_subsig.proofs.OrderLemmas.{before, after}

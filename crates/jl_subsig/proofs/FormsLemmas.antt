@@ -11,23 +11,9 @@ use Rattle.jl_model.specs.Rows.{forms, forms_step, choices}
 use Rattle.jl_model.proofs.FormLemmas.{firsts, seconds, flat_seconds}
 use Rattle.jl_search.proofs.HasLemmas.{Has, Picks, has_map, map_has, has_flat, flat_has}
 use Rattle.jl_search.proofs.PickLemmas.{has_choices, choices_has}
+use Rattle.jl_types.proofs.FormEquations.{forms-any, forms-var, forms-union, forms-tuple, forms-nominal}
 
 module _ (at : ℕ → List Ty) where
-  pub forms-any : forms at W.Any ≡ W.Any ∷ []
-  forms-any = ap (forms at) (sym rolls-Any) ∙ para-roll-Ty (List Ty) (forms_step at) Any
-
-  pub forms-var : (v : ℕ) → forms at (W.Var v) ≡ at v
-  forms-var v = ap (forms at) (sym (rolls-Var v)) ∙ para-roll-Ty (List Ty) (forms_step at) (Var v)
-
-  pub forms-union : (ts : List Ty) → forms at (V.Union ts) ≡ flat_map (forms at) ts
-  forms-union ts = ap (forms at) (sym (rolls-Union ts)) ∙ para-roll-Ty (List Ty) (forms_step at) (Union ts) ∙ flat_seconds (forms at) ts
-
-  pub forms-tuple : (ts : List Ty) → forms at (V.Tuple ts) ≡ map (λ us. V.Tuple us) (choices (map (forms at) ts))
-  forms-tuple ts = ap (forms at) (sym (rolls-Tuple ts)) ∙ para-roll-Ty (List Ty) (forms_step at) (Tuple ts) ∙ ap (λ z. map (λ us. V.Tuple us) (choices z)) (seconds (forms at) ts)
-
-  pub forms-nominal : (k : ℕ) (ts : List Ty) → forms at (V.Nominal k ts) ≡ V.Nominal k ts ∷ []
-  forms-nominal k ts = ap (forms at) (sym (rolls-Nominal k ts)) ∙ para-roll-Ty (List Ty) (forms_step at) (Nominal k ts) ∙ ap (λ z. V.Nominal k z ∷ []) (firsts (forms at) ts)
-
   -- one form of each type
   pub union_form : (ts : List Ty) (x : Ty) → Has (forms at (V.Union ts)) x → (t : Ty) × Has ts t × Has (forms at t) x
   union_form ts x h = flat_has (forms at) ts x (subst (λ z. Has z x) (forms-union ts) h)

@@ -19,7 +19,8 @@ use Rattle.jl_sig.specs.declared.row.SigRow.{SigRow}
 use Rattle.jl_sig.specs.declared.sig.Sig.{Sig}
 use Rattle.jl_sig.specs.SigParts.{kept_of, bounded_of, diagonals_of, alternatives_of}
 use Rattle.jl_search.proofs.KindLemmas.{is_diag, less_or}
-use Rattle.jl_subsig.specs.Side.{held, tops, IsPlain, IsPlainForm, IsTold, AreHeld}
+use Rattle.jl_subsig.specs.Side.{held, tops, IsPlainForm, IsTold, AreHeld}
+use Rattle.jl_search.specs.Serving.{IsPlain}
 use Rattle.jl_subsig.proofs.ScopeLemmas.{is_less}
 
 pub any_plain : (ds : List Decl) → IsPlain ds W.Any

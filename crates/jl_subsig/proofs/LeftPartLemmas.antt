@@ -22,7 +22,8 @@ use Rattle.jl_sig.specs.declared.row.SigRow.{SigRow}
 use Rattle.jl_sig.specs.declared.sig.Sig.{Sig}
 use Rattle.jl_sig.specs.SigParts.{kept_of}
 use Rattle.jl_model.specs.Found.{raised, outer}
-use Rattle.jl_subsig.specs.Side.{held, tops, IsPlain, IsTold, IsLeftPart, AreLeftParts}
+use Rattle.jl_subsig.specs.Side.{held, tops, IsTold, IsLeftPart, AreLeftParts}
+use Rattle.jl_search.specs.Serving.{IsPlain}
 use Rattle.jl_search.proofs.HasLemmas.{Has, has_left, has_right, has_of, of_has, has_none, has_split}
 use Rattle.jl_search.proofs.FindLemmas.{outer-any, outer-union, outer-tuple, outer-nominal, outer-var}
 use Rattle.jl_subsig.proofs.HeldLemmas.{top_kept}

@@ -37,7 +37,6 @@ pub mod SomeLemmas
 pub mod AncestorSteps
 pub mod LeftPartLemmas
 pub mod SureSteps
-pub mod ValueSteps
 pub mod ServeSteps
 pub mod MeetSteps
 pub mod HitLemmas

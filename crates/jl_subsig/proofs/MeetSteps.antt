@@ -25,7 +25,8 @@ use Rattle.jl_types.proofs.GroundLemmas.{Tells}
 use Rattle.jl_model.specs.SigRefusals.{is_argument}
 use Rattle.jl_model.specs.Found.{raised}
 use Rattle.jl_search.proofs.KindLemmas.{is_diag}
-use Rattle.jl_subsig.specs.Side.{lift_to, IsPlace, IsRightPart, AreRightParts, right_any, right_variable, right_tuple, right_nominal, right_end, right_more}
+use Rattle.jl_subsig.specs.Side.{lift_to, IsRightPart, AreRightParts, right_any, right_variable, right_tuple, right_nominal, right_end, right_more}
+use Rattle.jl_search.specs.Serving.{IsPlace}
 use Rattle.jl_search.specs.Open.{IsOpen, AreOpen, closed, variable, applied, open_end, open_more}
 use Rattle.jl_subsig.proofs.RightLemmas.{arguments_of}
 use Rattle.jl_subsig.proofs.LeftLemmas.{lifted_at}

@@ -11,7 +11,7 @@ use Rattle.jl_model.specs.Signature.{Both, both_end, both_more}
 use Rattle.jl_model.proofs.FormLemmas.{is_any, is_union, is_tuple, is_nominal, is_var}
 use Rattle.jl_types.specs.Form.{Settles, AllSettle, any, var, union, tuple, nominal, none, more}
 use Rattle.jl_search.proofs.HasLemmas.{Has}
-use Rattle.jl_subsig.proofs.FormsLemmas.{forms-any, forms-var, forms-union, forms-tuple, forms-nominal}
+use Rattle.jl_types.proofs.FormEquations.{forms-any, forms-var, forms-union, forms-tuple, forms-nominal}
 
 -- lists of the same length, one by one
 pub data Pairs (X Y : Type 0) (P : X → Y → Type 0) : List X → List Y → Type 0 where

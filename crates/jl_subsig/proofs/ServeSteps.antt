@@ -17,7 +17,8 @@ use Rattle.jl_sig.specs.declared.row.SigRow.{SigRow}
 use Rattle.jl_sig.specs.declared.sig.Sig.{Sig}
 use Rattle.jl_sig.specs.SigParts.{kept_of, bounded_of}
 use Rattle.jl_search.proofs.KindLemmas.{is_diag, less_or}
-use Rattle.jl_subsig.specs.Side.{row_of, sided, tops, Within, ServesAt, IsItem, IsTold, AreValues, IsRightRow}
+use Rattle.jl_subsig.specs.Side.{row_of, sided, tops, IsItem, IsTold, AreValues, IsRightRow}
+use Rattle.jl_search.specs.Serving.{Within, ServesAt}
 use Rattle.jl_search.specs.Absent.{lacks}
 use Rattle.jl_search.proofs.HasLemmas.{Has, has_left, has_right, has_split, has_map, map_has, has_of, of_has}
 use Rattle.jl_search.proofs.OccurLemmas.{lack-any, lack-union, lack-tuple, lack-nominal, lack-var}

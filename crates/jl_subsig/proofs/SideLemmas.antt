@@ -27,7 +27,8 @@ use Rattle.jl_sig.proofs.WholeLemmas.{Carries, Rows, chosen_have, forms_have}
 use Rattle.jl_model.specs.SigRefusals.{is_argument, is_component}
 use Rattle.jl_model.specs.Found.{outer}
 use Rattle.jl_search.proofs.KindLemmas.{is_diag, less_or}
-use Rattle.jl_subsig.specs.Side.{row_of, held, sided, IsPlain, AreLeftParts, IsPlace, IsRightPart, AreRightParts, right_any, right_variable, right_tuple, right_nominal, right_end, right_more, IsRightRow, IsSide}
+use Rattle.jl_subsig.specs.Side.{row_of, held, sided, AreLeftParts, IsRightPart, AreRightParts, right_any, right_variable, right_tuple, right_nominal, right_end, right_more, IsRightRow, IsSide}
+use Rattle.jl_search.specs.Serving.{IsPlain, IsPlace}
 use Rattle.jl_search.proofs.HasLemmas.{Has, has_left, has_right, has_split, has_of, all_has, has_none, none_has}
 use Rattle.jl_search.proofs.PartLemmas.{Plain, plain_any, plain_tuple, plain_nominal, plain_var, AllPlain, all_end, all_more}
 use Rattle.jl_subsig.proofs.MadeLemmas.{Seeds, seeds_both}

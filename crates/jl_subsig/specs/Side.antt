@@ -22,6 +22,7 @@ use Rattle.jl_model.specs.SigRefusals.{is_argument}
 use Rattle.jl_model.specs.Found.{outer}
 use Rattle.jl_sig.specs.declared.sig.Sig.{Sig}
 use Rattle.jl_sig.specs.SigParts.{kept_of, bounded_of, diagonals_of, alternatives_of}
+use Rattle.jl_search.specs.Serving.{IsPlain, IsPlace}
 
 abbrev pub row_of : SigRow → Row
 row_of r = record { parts = r.parts; chosen = at r.chosen }
@@ -29,12 +30,6 @@ row_of r = record { parts = r.parts; chosen = at r.chosen }
 -- the variables of a row, held fixed
 abbrev pub held : Sig → SigRow → Fixed
 held s r = fixed (kept_of s) (row_of r)
-
--- a normal form without variables, of declared nominal types
-pub record IsPlain (ds : List Decl) (t : Ty) : Type 0 where
-  pub normal : IsNormal (table_of ds) t
-  pub known : IsTrue (is_known (length ds) t)
-  pub closed : vars_in t ≡ []
 
 -- a normal form of declared nominal types, with no variable in a union
 pub record IsItem (ds : List Decl) (t : Ty) : Type 0 where
@@ -84,10 +79,6 @@ lift_to n m (Union ts) = None
 lift_to n m (Tuple ts) = None
 lift_to n m (Var v) = None
 
--- what may stand at a covariant place of a right row: a diagonal variable, or an atom of a bound one
-abbrev pub IsPlace : Written → ℕ → Type 0
-IsPlace s w = (root s w < width s) × (((kind s w ≡ diagonal) × (root s w ≡ w)) ⊎ ((kind s (root s w) ≡ bound) × (kind s w ≡ diagonal → ⊥)))
-
 -- a part of a right row: no union stands at a covariant place, and arguments are normal forms
 module _ (n : Table) (s : Written) where
   mutual
@@ -104,14 +95,6 @@ module _ (n : Table) (s : Written) where
 -- the kept form of a signature, with its bounds in normal form
 abbrev pub sided : Sig → Written
 sided s = record { vars = (bounded_of s).vars; parts = (kept_of s).parts }
-
--- what is asked of the type put for a variable of a right row
-abbrev pub Within : Table → Fixed → Ty → Ty → Bool → Ty → Type 0
-Within n g low high is_diagonal t = Below n g low t × Below n g t high × (IsTrue is_diagonal → IsTrue (is_concrete n g t))
-
--- what is put for the variable serves, if it stands in the row
-abbrev pub ServesAt : Table → Fixed → Written → Row → (ℕ → Ty) → ℕ → Type 0
-ServesAt n g s r f v = Occurs s v r.parts → Within n g (low s v) (top s r v) (is_diagonal (kind s v)) (f v)
 
 -- one for each variable
 pub record AreValues (ds : List Decl) (m : ℕ) (vs : List Ty) : Type 0 where

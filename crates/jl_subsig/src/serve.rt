@@ -6,7 +6,8 @@ ghost use Rattle.jl_model.specs.Rows.{width};
 ghost use Rattle.jl_model.specs.Subtype.{at};
 ghost use Rattle.jl_model.specs.Signature.{Serves};
 ghost use Rattle.jl_sig.specs.SigParts.{kept_of};
-ghost use Rattle.jl_subsig.specs.Side.{row_of, held, sided, IsItem, AreHeld, AreValues, IsRightRow, Within, ServesAt};
+ghost use Rattle.jl_subsig.specs.Side.{row_of, held, sided, IsItem, AreHeld, AreValues, IsRightRow};
+ghost use Rattle.jl_search.specs.Serving.{Within, ServesAt};
 
 use crate::below::is_below;
 use crate::concrete::is_concrete;

@@ -24,3 +24,5 @@ pub mod ExistLemmas
 pub mod PlaceLemmas
 pub mod KeepLemmas
 pub mod KeptOnceLemmas
+pub mod GivenLemmas
+pub mod FormEquations

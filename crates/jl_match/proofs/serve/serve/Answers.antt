@@ -1,7 +1,8 @@
 use Rattle.std.proofs.Common.{◌≡◌, refl, subst, arith, true, inl, inr}
 use Rattle.jl_model.specs.Ancestors.{table_of}
-use Rattle.jl_model.specs.Subtype.{at}
-use Rattle.jl_match.specs.KeptRow.{row_of, ServesAt}
+use Rattle.jl_model.specs.Subtype.{opaque, at}
+use Rattle.jl_match.specs.KeptRow.{row_of}
+use Rattle.jl_search.specs.Serving.{ServesAt}
 use Rattle.jl_match.proofs.RowLemmas.{below_or}
 use Rattle.jl_match.proofs.ServeLemmas.{serves_at, serves_all}
 use Rattle.jl_match.proofs.serve.serve.Goals as goal
@@ -19,7 +20,7 @@ loop-variable-preserved c v l = elim (below_or v c.loop-variable.variable) [
   | inl h ↦ c.loop-variable.invariant v h
   | inr h ↦
       let e : c.loop-variable.variable ≡ v = omega (arith, l, h) in
-      subst (ServesAt (table_of c.args.table.now) c.args.signature.now (row_of c.args.parts.now c.args.chosen.now) (at c.args.values.now)) e (c.in_ok-serves_one.ensures.0 c.if-not-branch.false)
+      subst (ServesAt (table_of c.args.table.now) opaque c.args.signature.now (row_of c.args.parts.now c.args.chosen.now) (at c.args.values.now)) e (c.in_ok-serves_one.ensures.0 c.if-not-branch.false)
 ]
 
 pub returns : goal.returns

@@ -3,9 +3,10 @@ use Rattle.jl_model.specs.declared.ty.Ty.TheVariants as W
 use Rattle.jl_model.specs.declared.ty.Bound.{Bound}
 use Rattle.jl_model.specs.Ancestors.{table_of}
 use Rattle.jl_model.specs.Rows.{low, kind, Occurs}
-use Rattle.jl_model.specs.Subtype.{at}
+use Rattle.jl_model.specs.Subtype.{opaque, at}
 use Rattle.jl_model.specs.Signature.{top, is_diagonal}
-use Rattle.jl_match.specs.KeptRow.{row_of, Within}
+use Rattle.jl_match.specs.KeptRow.{row_of}
+use Rattle.jl_search.specs.Serving.{Within}
 use Rattle.jl_match.proofs.TestLemmas.{ground_at, get-same}
 use Rattle.jl_match.proofs.ServeLemmas.{absent, present, within_same, at_present, low_is}
 use Rattle.jl_match.proofs.serve.serves_one.Goals as goal
@@ -27,7 +28,7 @@ returns c =
     let n = table_of c.args.table.now in
     let m : length bs ≡ length s.vars = ap length c.as_slice-bounds.ensures in
     let o : Occurs s v c.args.parts.now = present s v (length bs) c.args.parts.now m (sym c.all_lack.ensures ∙ c.if-all_lack.false) in
-    at_present c.is_within.result (Occurs s v c.args.parts.now) (Within n (low s v) (top s (row_of c.args.parts.now c.args.chosen.now) v) (is_diagonal (kind s v)) (at c.args.values.now v)) o
+    at_present c.is_within.result (Occurs s v c.args.parts.now) (Within n opaque (low s v) (top s (row_of c.args.parts.now c.args.chosen.now) v) (is_diagonal (kind s v)) (at c.args.values.now v)) o
     (within_same n c.is_within.result (get_or bs v c.index-bounds-variable.result).low (low s v) c.in_ok-high.high (top s (row_of c.args.parts.now c.args.chosen.now) v) (get_or c.args.diagonals.now v false) (is_diagonal (kind s v)) c.index-values-variable.result (at c.args.values.now v)
     (ap (λ (z : Bound). z.low) (sym c.index-bounds-variable.is) ∙ low_is s bs v c.index-bounds-variable.result c.as_slice-bounds.ensures (omega (arith, m, c.requires.variable)) c.index-bounds-variable.is)
     c.in_ok-high.ensures (c.requires.diagonals.kinds v c.requires.variable)

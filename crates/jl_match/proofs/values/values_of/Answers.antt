@@ -3,7 +3,7 @@ use Rattle.jl_model.specs.Ancestors.{table_of}
 use Rattle.jl_model.specs.Subtype.{opaque}
 use Rattle.jl_model.specs.Found.{found}
 use Rattle.jl_match.specs.KeptRow.{row_of}
-use Rattle.jl_match.proofs.ValueLemmas.{Gives, gives_push}
+use Rattle.jl_search.proofs.ValueLemmas.{Gives, gives_push}
 use Rattle.jl_match.proofs.values.values_of.Goals as goal
 
 pub loop-variable-preserved : goal.loop-variable-preserved

@@ -1,7 +1,7 @@
 use Rattle.std.proofs.Common.{◌∙◌, ap}
 use Rattle.jl_model.specs.Refusals.{given_in}
 use Rattle.jl_sig.specs.Parts.{all_given}
-use Rattle.jl_sig.proofs.GivenLemmas.{given-any, given-var}
+use Rattle.jl_types.proofs.GivenLemmas.{given-any, given-var}
 use Rattle.jl_sig.proofs.ArgumentLemmas.{none_case, nominal_case}
 use Rattle.jl_sig.proofs.arguments.+arguments.Goals as goal
 

@@ -1,7 +1,8 @@
 use Rattle.std.proofs.Common.{◌≡◌, refl, subst, arith, true, inl, inr}
 use Rattle.jl_model.specs.Ancestors.{table_of}
 use Rattle.jl_model.specs.Subtype.{at}
-use Rattle.jl_subsig.specs.Side.{row_of, held, sided, ServesAt}
+use Rattle.jl_subsig.specs.Side.{row_of, held, sided}
+use Rattle.jl_search.specs.Serving.{ServesAt}
 use Rattle.jl_subsig.proofs.ServeSteps.{below_or, serves_at, serves_all}
 use Rattle.jl_subsig.proofs.serve.serve.Goals as goal
 

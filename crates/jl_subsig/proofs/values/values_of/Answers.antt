@@ -2,7 +2,7 @@ use Rattle.std.proofs.Common.{◌∙◌, sym, ap, subst, arith}
 use Rattle.jl_model.specs.Ancestors.{table_of}
 use Rattle.jl_model.specs.Found.{found}
 use Rattle.jl_subsig.specs.Side.{row_of, held, sided}
-use Rattle.jl_subsig.proofs.ValueSteps.{Gives, gives_push}
+use Rattle.jl_search.proofs.ValueLemmas.{Gives, gives_push}
 use Rattle.jl_subsig.proofs.values.values_of.Goals as goal
 
 pub loop-variable-preserved : goal.loop-variable-preserved

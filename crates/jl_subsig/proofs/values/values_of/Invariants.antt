@@ -2,7 +2,7 @@ use Rattle.std.proofs.Common.{◌≡◌, length}
 use Rattle.jl_model.specs.Ancestors.{table_of}
 use Rattle.jl_model.specs.Found.{found}
 use Rattle.jl_subsig.specs.Side.{row_of, held, sided}
-use Rattle.jl_subsig.proofs.ValueSteps.{Gives}
+use Rattle.jl_search.proofs.ValueLemmas.{Gives}
 use Rattle.jl_subsig.proofs.values.values_of.Given as goal
 
 abbrev pub invariant-loop-variable : goal.invariant-loop-variable
