@@ -1,5 +1,5 @@
 -- What a call did, from what its parts answer.
-use Rattle.std.proofs.Common.{◌≡◌, ℕ, ◌<◌, ◌≤◌, List, [], ◌∷◌, take, length, refl, sym, ap, ◌∙◌, subst, Option, None, Some, arith, Bool, true, false, cond, codes, bytes_eq, Ok, Err}
+use Rattle.std.proofs.Common.{◌≡◌, ℕ, ◌<◌, ◌≤◌, List, [], ◌∷◌, take, length, refl, sym, ap, ◌∙◌, subst, Option, None, Some, inl, arith, Bool, true, false, cond, codes, bytes_eq, Ok, Err}
 use Rattle.std.specs.Borrow.{Bor}
 use Rattle.std.proofs.lemmas.Slice.Eq.{bytes_eq-Decides}
 use Rattle.jl_calculus.specs.declared.history.History.{History}
@@ -49,13 +49,17 @@ used words left held held' source_rose sink_rose text status history other e d =
     delivered words left left held held' source_rose sink_rose [] (Gives-none left) (omega arith) 2 None text status history (λ is lt. absurd (other is)) (subst (λ (line : List ℕ). IsDue words [] 2 None line) (sym e) (usage words other)) d
 
 -- a read that failed, or that wanted memory
-pub unread : (left left' held : Option (List ℕ)) (source_rose sink_rose : Type 0) (words : List (List ℕ)) → IsCommand words → (bytes : List ℕ) × (length bytes ≤ 1048577) × Gives left bytes left' → source_rose
+pub unread : (left left' held : Option (List ℕ)) (source_rose sink_rose : Type 0) (words : List (List ℕ)) → IsCommand words → (bytes : List ℕ) → length bytes ≤ 1048577 → Gives left bytes left' → source_rose
     → HasRun words left left' held held source_rose sink_rose 4 None
-unread left left' held source_rose sink_rose words is r rose = record { bytes = r.0; written = []; read = r.2; wrote = Takes-none held; limited = r.1; all_read = λ e four six lt. absurd (four refl); answer = not_read is refl rose }
+unread left left' held source_rose sink_rose words is bytes within gives rose = record { bytes = bytes; written = []; read = gives; wrote = Takes-none held; limited = within; all_read = λ e four six lt. absurd (four refl); answer = not_read is refl rose }
 
-pub unread_for_memory : (left left' held : Option (List ℕ)) (source_rose sink_rose : Type 0) (words : List (List ℕ)) → IsCommand words → (bytes : List ℕ) × (length bytes ≤ 1048577) × Gives left bytes left'
+pub unread_for_memory : (left left' held : Option (List ℕ)) (source_rose sink_rose : Type 0) (words : List (List ℕ)) → IsCommand words → (bytes : List ℕ) → length bytes ≤ 1048576 → Gives left bytes left'
     → HasRun words left left' held held source_rose sink_rose 6 None
-unread_for_memory left left' held source_rose sink_rose words is r = record { bytes = r.0; written = []; read = r.2; wrote = Takes-none held; limited = r.1; all_read = λ e four six lt. absurd (six refl refl refl); answer = no_memory is refl }
+unread_for_memory left left' held source_rose sink_rose words is bytes within gives = record { bytes = bytes; written = []; read = gives; wrote = Takes-none held; limited = omega (arith, within); all_read = λ e four six lt. absurd (six refl refl refl); answer = no_memory is within refl }
+
+-- the line that is due for too many bytes
+pub too_long_due : (words : List (List ℕ)) (bytes text : List ℕ) → IsCommand words → 1048576 < length bytes → text ≡ codes "ERROR: SourceTooLong\n" → IsDue words bytes 3 None text
+too_long_due words bytes text is long e = subst (λ (line : List ℕ). IsDue words bytes 3 None line) (sym e) (refused words bytes _ is (no_tokens bytes T.SourceTooLong (inl (long, refl))))
 
 -- the words are a command exactly where the test says so
 is_command : (c : Command) → IsCommand (words_of c)

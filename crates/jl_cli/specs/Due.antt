@@ -91,8 +91,8 @@ module _ (words : List (List ℕ)) (bytes written : List ℕ) (source_rose sink_
     not_read : IsCommand words → written ≡ [] → source_rose → IsAnswer 4 None
     -- the sink failed: a first part of the text due was written
     not_written : (status : ℕ) (history : Option History) (text : List ℕ) (count : ℕ) → IsDue words bytes status history text → written ≡ take count text → sink_rose → IsAnswer 5 history
-    -- memory was refused before anything was written
-    no_memory : IsCommand words → written ≡ [] → IsAnswer 6 None
+    -- memory was refused before anything was written; to find that a source is too long, and to tell it, takes none
+    no_memory : IsCommand words → length bytes ≤ MOST_SOURCE_BYTES → written ≡ [] → IsAnswer 6 None
     -- the sink wanted memory: a first part of the text due was written
     no_memory_written : (status : ℕ) (history : Option History) (text : List ℕ) (count : ℕ) → IsDue words bytes status history text → written ≡ take count text → IsAnswer 6 history
 

@@ -15,6 +15,9 @@ use jl_token::token::TokenFault;
 use jl_written::fault::StaticKind;
 use std::alloc::{AllocError, Global};
 
+/// The line of a source that is too long, which takes no memory.
+pub(crate) const TOO_LONG: &str = "ERROR: SourceTooLong\n";
+
 /// A line as a text.
 pub(crate) fn line(alloc: Global, bytes: &[u8]) -> Result<Bytes, AllocError>
     ensures { IfOk result (λ line. line ≡ bytes.now) }
@@ -32,7 +35,7 @@ pub(crate) fn token_line(
     ensures told { IfOk result (λ _. fault ≡ Memory → ⊥) }
 {
     match fault {
-        TokenFault::SourceTooLong => line(alloc, b"ERROR: SourceTooLong\n"),
+        TokenFault::SourceTooLong => line(alloc, TOO_LONG.as_bytes()),
         TokenFault::BadUtf8(at) => fault_line(alloc, bytes, at, b"BadUtf8"),
         TokenFault::BadCharacter(at) => fault_line(alloc, bytes, at, b"BadCharacter"),
         TokenFault::NumberTooLarge(at) => fault_line(alloc, bytes, at, b"NumberTooLarge"),

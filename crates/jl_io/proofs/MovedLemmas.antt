@@ -1,5 +1,5 @@
 -- How the bytes of several reads or writes after one another go together.
-use Rattle.std.proofs.Common.{◌≡◌, ℕ, ◌+◌, ◌<◌, ◌≤◌, List, [], ◌∷◌, ◌++◌, Option, None, Some, option_map, IfSome, length, take, drop, refl, sym, ap, ◌∙◌, append_assoc, append-nil, inl, inr}
+use Rattle.std.proofs.Common.{◌≡◌, ℕ, ◌+◌, ◌<◌, ◌≤◌, List, [], ◌∷◌, ◌++◌, Option, None, Some, option_map, IfSome, Result, Ok, Err, OnErr, length, take, drop, refl, sym, ap, ◌∙◌, append_assoc, append-nil, inl, inr}
 use Rattle.std.proofs.Math.Nat.{eq-or-lt_of_le}
 use Rattle.std.proofs.Math.Seq.{take-append-add, take-add, take-append_seam}
 use Rattle.std.proofs.lemmas.List.{take-append-drop, drop-drop, take_all}
@@ -121,3 +121,8 @@ drop-copied text copied beyond at count source size =
     let whole : take count (drop at text) ++ drop count (drop at text) ≡ drop at text = take-append-drop count (drop at text) in
     let next : drop count (drop at text) ≡ drop (at + count) text = drop-drop count at text in
     cc
+
+-- what holds anyway holds on an error
+pub on-error : {A E : Type 0} (result : Result A E) (P : Type 0) → P → OnErr result P
+on-error (Ok value) P p = tt
+on-error (Err fault) P p = p

@@ -1,6 +1,6 @@
 //! Sources, and reading up to a limit.
 
-ghost use Rattle.std.specs.Prelude.{◌≡◌, ℕ, ◌<◌, ◌≤◌, List, ◌++◌, length, take};
+ghost use Rattle.std.specs.Prelude.{◌≡◌, ℕ, ◌+◌, ◌<◌, ◌≤◌, List, ◌++◌, length, take, vec_len, vec_capacity};
 ghost use Rattle.std.specs.Prelude.{Option, IfOk, OnOk, OnErr, IfErr};
 ghost use Rattle.jl_io.specs.Faults.{Rose, IsReadCause};
 ghost use Rattle.jl_io.specs.Moved.{Gives, EndsExactly, NothingLeft};
@@ -64,6 +64,8 @@ pub trait Source {
 
 /// Reads to the end of the input, or until `most` bytes are there. A caller that accepts no more
 /// than some number of bytes asks for one more than that. What was read before a fault is gone.
+///
+/// Memory is asked for before each read, so that no byte is read for which there is no room.
 pub fn read_up_to<S: Source>(
     alloc: Global,
     source: &mut S,
@@ -71,7 +73,8 @@ pub fn read_up_to<S: Source>(
 ) -> Result<Vec<u8>, ReadFault>
     ensures counted { S.faults source.old ≤ S.faults source.new }
     ensures taken { (bytes : List ℕ) × (length bytes ≤ most)
-        × Gives (S.left source.old) bytes (S.left source.new) }
+        × Gives (S.left source.old) bytes (S.left source.new)
+        × OnErr result (length bytes < most) }
     ensures within { IfOk result (λ bytes. length bytes.items ≤ most) }
     ensures gives { IfOk result (λ bytes.
         Gives (S.left source.old) bytes.items (S.left source.new)) }
@@ -84,7 +87,8 @@ pub fn read_up_to<S: Source>(
     let mut bytes = Vec::new(alloc);
     let mut piece = [0u8; PIECE];
     while bytes.len() < most {
-        let room = PIECE.min(most - bytes.len());
+        let spare = make_room(&mut bytes)?;
+        let room = PIECE.min(spare).min(most - bytes.len());
         let count = read_piece(source, &mut piece[..room], &mut bytes)?;
         if count == 0 {
             return Ok(bytes);
@@ -93,24 +97,38 @@ pub fn read_up_to<S: Source>(
     Ok(bytes)
 }
 
+/// Answers how many more bytes fit without memory, which are one or more: where none do, it makes room.
+fn make_room(bytes: &mut Vec<u8>) -> Result<usize, AllocError>
+    ensures items { bytes.new.items ≡ bytes.old.items }
+    ensures room { IfOk result (λ room.
+        (0 < room) × (vec_len bytes.new + room ≤ vec_capacity bytes.new)) }
+{
+    if bytes.len() == bytes.capacity() {
+        bytes.reserve(PIECE)?;
+    }
+    Ok(bytes.capacity() - bytes.len())
+}
+
 /// Reads once, appends what came to `bytes`, and answers its length.
 fn read_piece<S: Source>(
     source: &mut S,
     into: &mut [u8],
     bytes: &mut Vec<u8>,
-) -> Result<usize, ReadFault>
-    requires { 0 < length into.old }
+) -> Result<usize, Failed>
+    requires some { 0 < length into.old }
+    requires fits { vec_len bytes.old + length into.old ≤ vec_capacity bytes.old }
     ensures counted { S.faults source.old ≤ S.faults source.new }
-    ensures taken { (piece : List ℕ) × (length piece ≤ length into.new)
+    ensures taken { IfOk result (λ count. (piece : List ℕ) × (length piece ≤ length into.new)
         × Gives (S.left source.old) piece (S.left source.new)
-        × IfOk result (λ count.
-        (count ≡ length piece) × (bytes.new.items ≡ bytes.old.items ++ piece)) }
+        × (count ≡ length piece) × (bytes.new.items ≡ bytes.old.items ++ piece)) }
     ensures ended { IfOk result (λ count. count ≡ 0 → NothingLeft (S.left source.new)) }
     ensures quiet { OnOk result (S.faults source.new ≡ S.faults source.old) }
-    ensures rose { IfErr result (λ fault.
-        IsReadCause fault (S.faults source.old) (S.faults source.new)) }
+    ensures rose { OnErr result (Rose (S.faults source.old) (S.faults source.new)) }
+    ensures kept { OnErr result (S.left source.new ≡ S.left source.old) }
 {
     let count = source.read(into)?;
-    bytes.extend_from_slice(&into[..count])?;
-    Ok(count)
+    match bytes.extend_from_slice(&into[..count]) {
+        Ok(()) => Ok(count),
+        Err(_) => unreachable!(),
+    }
 }
