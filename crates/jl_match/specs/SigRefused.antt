@@ -16,7 +16,7 @@ pub record IsWellWritten (ds : List Decl) (s : Written) : Type 0 where
   pub few : TooManyParameters s → ⊥
   pub counted : WrongParameterCount ds s → ⊥
 
--- this refusal holds, and no earlier one; of want of memory nothing is said
+-- this refusal holds, and no earlier one; out of memory comes only after the test of the places, which takes none
 abbrev pub SigRefused : SigFault → List Decl → Written → Type 0
 SigRefused fault.VariablePlace ds s = VariablePlace s
 SigRefused fault.UnusedVariable ds s = (VariablePlace s → ⊥) × UnusedVariable s
@@ -25,7 +25,7 @@ SigRefused fault.WrongParameterCount ds s = (VariablePlace s → ⊥) × (Unused
 SigRefused fault.TypeLimit ds s = IsWellWritten ds s × TypeLimit ds s
 SigRefused fault.BoundsCrossed ds s = IsWellWritten ds s × (TypeLimit ds s → ⊥) × BoundsCrossed ds s
 SigRefused fault.BoundBroken ds s = IsWellWritten ds s × (TypeLimit ds s → ⊥) × (BoundsCrossed ds s → ⊥) × BoundBroken ds s
-SigRefused fault.Memory ds s = Unit {0}
+SigRefused fault.Memory ds s = VariablePlace s → ⊥
 
 -- nothing refuses it, and it is kept as it is written
 pub record IsMade (ds : List Decl) (s : Written) (g : Sig) : Type 0 where

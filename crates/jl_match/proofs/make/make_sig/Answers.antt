@@ -28,8 +28,8 @@ have_outside-requires c =
     let a : AreFormed ds (arguments_in s) (all_given c.as_slice-2.result.now) = subst (λ z. AreFormed ds (arguments_in s) (all_given z)) (sym c.as_slice-2.ensures.value) p.arguments in
     arguments_ground ds c.valid.ensures (arguments_in s) c.as_slice-2.result.now a
 
-pub returns-then-have_crossed : goal.returns-then-have_crossed
-returns-then-have_crossed c =
+pub returns-then-have_crossed-clause-made : goal.returns-then-have_crossed-clause-made
+returns-then-have_crossed-clause-made c =
     let ds = c.args.table.now in
     let s = c.args.written.now in
     let w : IsWellWritten ds s = record {
@@ -43,8 +43,8 @@ returns-then-have_crossed c =
     subst (λ z. Both (IsSmallForm ds) (bound_types s.vars) (bound_types z)) (sym c.bounds.ensures) (subst (λ (z : Written). Both (IsSmallForm ds) (bound_types z.vars) (bound_types c.in-Ok.prepared.sig.bounded.vars)) p.written p.kept.bounds) in
     (w, p.small, crossed_written ds c.valid.ensures s.vars c.bounds.result.now b (c.have_crossed.ensures.0 c.if-have_crossed.true))
 
-pub returns-then-have_outside : goal.returns-then-have_outside
-returns-then-have_outside c =
+pub returns-then-have_outside-clause-made : goal.returns-then-have_outside-clause-made
+returns-then-have_outside-clause-made c =
     let ds = c.args.table.now in
     let s = c.args.written.now in
     let w : IsWellWritten ds s = record {
@@ -61,8 +61,8 @@ returns-then-have_outside c =
     let r = outside_written ds c.valid.ensures (arguments_in s) (all_given c.as_slice-2.result.now) a (c.have_outside.ensures.0 c.if-have_outside.true) in
     (w, p.small, o, (r.0, r.1, r.2.0, r.2.1))
 
-pub returns : goal.returns
-returns c =
+pub returns-clause-made : goal.returns-clause-made
+returns-clause-made c =
     let ds = c.args.table.now in
     let s = c.args.written.now in
     let w : IsWellWritten ds s = record {
