@@ -111,52 +111,55 @@ impl Same for History {
 impl Same for Fault {
     fn same(&self, other: &Fault) -> bool {
         match self {
-            Fault::NoMethod(a, b, c) => match other {
-                Fault::NoMethod(w, x, y) => a == w && c == y && b.same(x),
+            Fault::NoMethod(function, types, world) => match other {
+                Fault::NoMethod(f, ts, w) => function == f && world == w && types.same(ts),
                 _ => false,
             },
-            Fault::Ambiguous(a, b, c, d) => match other {
-                Fault::Ambiguous(w, x, y, z) => a == w && c == y && d == z && b.same(x),
+            Fault::Ambiguous(function, types, first, second) => match other {
+                Fault::Ambiguous(f, ts, a, b) => function == f
+                    && first == a
+                    && second == b
+                    && types.same(ts),
                 _ => false,
             },
-            Fault::NoConstructor(a, b) => match other {
-                Fault::NoConstructor(w, x) => a.same(w) && b.same(x),
+            Fault::NoConstructor(ty, types) => match other {
+                Fault::NoConstructor(t, ts) => ty.same(t) && types.same(ts),
                 _ => false,
             },
             Fault::DivideError => match other {
                 Fault::DivideError => true,
                 _ => false,
             },
-            Fault::FieldType(a, b, c) => match other {
-                Fault::FieldType(w, x, y) => a.same(w) && b.same(x) && c.same(y),
+            Fault::FieldType(ty, name, got) => match other {
+                Fault::FieldType(t, n, g) => ty.same(t) && name.same(n) && got.same(g),
                 _ => false,
             },
-            Fault::BadParameter(a) => match other {
-                Fault::BadParameter(w) => a.same(w),
+            Fault::BadParameter(ty) => match other {
+                Fault::BadParameter(t) => ty.same(t),
                 _ => false,
             },
-            Fault::NoField(a, b) => match other {
-                Fault::NoField(w, x) => a.same(w) && b.same(x),
+            Fault::NoField(ty, name) => match other {
+                Fault::NoField(t, n) => ty.same(t) && name.same(n),
                 _ => false,
             },
-            Fault::NoIndex(a, b) => match other {
-                Fault::NoIndex(w, x) => b == x && a.same(w),
+            Fault::NoIndex(ty, number) => match other {
+                Fault::NoIndex(t, n) => number == n && ty.same(t),
                 _ => false,
             },
-            Fault::NotBool(a) => match other {
-                Fault::NotBool(w) => a.same(w),
+            Fault::NotBool(ty) => match other {
+                Fault::NotBool(t) => ty.same(t),
                 _ => false,
             },
-            Fault::NotTask(a) => match other {
-                Fault::NotTask(w) => a.same(w),
+            Fault::NotTask(ty) => match other {
+                Fault::NotTask(t) => ty.same(t),
                 _ => false,
             },
-            Fault::TaskFailed(a) => match other {
-                Fault::TaskFailed(w) => a == w,
+            Fault::TaskFailed(task) => match other {
+                Fault::TaskFailed(t) => task == t,
                 _ => false,
             },
-            Fault::FuelSpent(a) => match other {
-                Fault::FuelSpent(w) => a == w,
+            Fault::FuelSpent(fuel) => match other {
+                Fault::FuelSpent(f) => fuel == f,
                 _ => false,
             },
             Fault::StackLimit => match other {
@@ -186,36 +189,32 @@ impl Same for Fault {
 impl Same for TraceItem {
     fn same(&self, other: &TraceItem) -> bool {
         match self {
-            TraceItem::Look { world: a, at: b } => match other {
-                TraceItem::Look { world: w, at: x } => a == w && b == x,
+            TraceItem::Look { world, at } => match other {
+                TraceItem::Look { world: w, at: a } => world == w && at == a,
                 _ => false,
             },
-            TraceItem::Def { site: a, at: b } => match other {
-                TraceItem::Def { site: w, at: x } => a == w && b == x,
+            TraceItem::Def { site, at } => match other {
+                TraceItem::Def { site: s, at: a } => site == s && at == a,
                 _ => false,
             },
-            TraceItem::Spawn { child: a, at: b } => match other {
-                TraceItem::Spawn { child: w, at: x } => a == w && b == x,
+            TraceItem::Spawn { child, at } => match other {
+                TraceItem::Spawn { child: c, at: a } => child == c && at == a,
                 _ => false,
             },
-            TraceItem::Fetch {
-                task: a,
-                outcome: b,
-                at: c,
-            } => match other {
+            TraceItem::Fetch { task, outcome, at } => match other {
                 TraceItem::Fetch {
-                    task: w,
-                    outcome: x,
-                    at: y,
-                } => a == w && c == y && b.same(x),
+                    task: t,
+                    outcome: o,
+                    at: a,
+                } => task == t && at == a && outcome.same(o),
                 _ => false,
             },
-            TraceItem::WorldFull { at: a } => match other {
-                TraceItem::WorldFull { at: w } => a == w,
+            TraceItem::WorldFull { at } => match other {
+                TraceItem::WorldFull { at: a } => at == a,
                 _ => false,
             },
-            TraceItem::TaskFull { at: a } => match other {
-                TraceItem::TaskFull { at: w } => a == w,
+            TraceItem::TaskFull { at } => match other {
+                TraceItem::TaskFull { at: a } => at == a,
                 _ => false,
             },
         }
@@ -225,44 +224,36 @@ impl Same for TraceItem {
 impl Same for Event {
     fn same(&self, other: &Event) -> bool {
         match self {
-            Event::Begin(a) => match other {
-                Event::Begin(w) => a == w,
+            Event::Begin(fuel) => match other {
+                Event::Begin(f) => fuel == f,
                 _ => false,
             },
-            Event::Key(a) => match other {
-                Event::Key(w) => a.same(w),
+            Event::Key(key) => match other {
+                Event::Key(k) => key.same(k),
                 _ => false,
             },
-            Event::Fill {
-                key: a,
-                site: b,
-                first: c,
-            } => match other {
+            Event::Fill { key, site, first } => match other {
                 Event::Fill {
-                    key: w,
-                    site: x,
-                    first: y,
-                } => a == w && b == x && c == y,
+                    key: k,
+                    site: s,
+                    first: f,
+                } => key == k && site == s && first == f,
                 _ => false,
             },
-            Event::Def { task: a, site: b } => match other {
-                Event::Def { task: w, site: x } => a == w && b == x,
+            Event::Def { task, site } => match other {
+                Event::Def { task: t, site: s } => task == t && site == s,
                 _ => false,
             },
-            Event::Spawn {
-                task: a,
-                child: b,
-                start: c,
-            } => match other {
+            Event::Spawn { task, child, start } => match other {
                 Event::Spawn {
-                    task: w,
-                    child: x,
-                    start: y,
-                } => a == w && b == x && c.same(y),
+                    task: t,
+                    child: c,
+                    start: s,
+                } => task == t && child == c && start.same(s),
                 _ => false,
             },
-            Event::Done { task: a, ended: b } => match other {
-                Event::Done { task: w, ended: x } => a == w && b.same(x),
+            Event::Done { task, ended } => match other {
+                Event::Done { task: t, ended: e } => task == t && ended.same(e),
                 _ => false,
             },
         }
