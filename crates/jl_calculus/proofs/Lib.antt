@@ -40,3 +40,4 @@ pub mod LimitValues
 pub mod PointScript
 pub mod FuelScripts
 pub mod LaterScripts
+pub mod ToldFaults
