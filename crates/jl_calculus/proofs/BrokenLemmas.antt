@@ -22,10 +22,10 @@ use Rattle.jl_calculus.specs.Statics.{nominals_in, nominals_step, nominals_of, B
 
 -- ---- members of joined lists
 
-no_member : {X : Type 0} (y : X) → Contains [] y → ⊥
+pub no_member : {X : Type 0} (y : X) → Contains [] y → ⊥
 no_member y (k, l, e) = absurd (omega (arith, l))
 
-flat_from : {X Y : Type 0} (f : X → List Y) (xs : List X) (y : Y) → Contains (flat_map f xs) y → (x : X) × Contains xs x × Contains (f x) y
+pub flat_from : {X Y : Type 0} (f : X → List Y) (xs : List X) (y : Y) → Contains (flat_map f xs) y → (x : X) × Contains xs x × Contains (f x) y
 flat_from f [] y c = absurd (no_member y c)
 flat_from f (x ∷ xs) y c = by (λ d. flat_from f xs y d) (Contains-append_cases (f x) (flat_map f xs) y c)
   where
@@ -66,21 +66,21 @@ given-any = ap given_in (sym rolls-Any) ∙ para-roll-Ty (List Given) given_step
 given-var : (v : ℕ) → given_in (W.Var v) ≡ []
 given-var v = ap given_in (sym (rolls-Var v)) ∙ para-roll-Ty (List Given) given_step (Var v)
 
-nominals-union : (ts : List Ty) → nominals_in (T.Union ts) ≡ flat_map nominals_in ts
+pub nominals-union : (ts : List Ty) → nominals_in (T.Union ts) ≡ flat_map nominals_in ts
 nominals-union ts = ap nominals_in (sym (rolls-Union ts)) ∙ para-roll-Ty (List Ty) nominals_step (Union ts) ∙ flat_seconds nominals_in ts
 
-nominals-tuple : (ts : List Ty) → nominals_in (T.Tuple ts) ≡ flat_map nominals_in ts
+pub nominals-tuple : (ts : List Ty) → nominals_in (T.Tuple ts) ≡ flat_map nominals_in ts
 nominals-tuple ts = ap nominals_in (sym (rolls-Tuple ts)) ∙ para-roll-Ty (List Ty) nominals_step (Tuple ts) ∙ flat_seconds nominals_in ts
 
-nominals-nominal : (k : ℕ) (ts : List Ty) → nominals_in (T.Nominal k ts) ≡ flat_map nominals_in ts ++ T.Nominal k ts ∷ []
+pub nominals-nominal : (k : ℕ) (ts : List Ty) → nominals_in (T.Nominal k ts) ≡ flat_map nominals_in ts ++ T.Nominal k ts ∷ []
 nominals-nominal k ts =
     ap nominals_in (sym (rolls-Nominal k ts)) ∙ para-roll-Ty (List Ty) nominals_step (Nominal k ts)
     ∙ (λ i. flat_seconds nominals_in ts i ++ T.Nominal k (firsts nominals_in ts i) ∷ [])
 
-nominals-any : nominals_in W.Any ≡ []
+pub nominals-any : nominals_in W.Any ≡ []
 nominals-any = ap nominals_in (sym rolls-Any) ∙ para-roll-Ty (List Ty) nominals_step Any
 
-nominals-var : (v : ℕ) → nominals_in (W.Var v) ≡ []
+pub nominals-var : (v : ℕ) → nominals_in (W.Var v) ≡ []
 nominals-var v = ap nominals_in (sym (rolls-Var v)) ∙ para-roll-Ty (List Ty) nominals_step (Var v)
 
 -- ---- each argument is one of a nominal type that stands there

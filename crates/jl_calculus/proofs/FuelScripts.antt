@@ -1,8 +1,7 @@
 -- Whole scripts with fuel for three calls: `c() = 5`, `b() = c()`, `a() = b()`, `z() = a()`, and then `println(a())` or `println(z())`. And
 -- a task that fails and is not fetched.
-use Rattle.std.proofs.Common.{◌≡◌, ◌∙◌, refl, sym, ap, subst, ℕ, suc, pos, true, codes, List, [], ◌∷◌, ◌++◌, None, Some}
+use Rattle.std.proofs.Common.{◌≡◌, refl, ap, ℕ, suc, pos, true, codes, List, [], ◌∷◌, ◌++◌, None}
 use Rattle.std.specs.Fmt.{digits}
-use Rattle.jl_model.specs.Choice.{Method}
 use Rattle.jl_program.specs.declared.choice.Choice.TheVariants as C
 use Rattle.jl_program.specs.declared.datum.Datum.TheOpen as D
 use Rattle.jl_program.specs.declared.datum.Datum.TheFolds.{fold-roll-Datum}
@@ -11,7 +10,6 @@ use Rattle.jl_program.specs.declared.tree.Expr.{Expr}
 use Rattle.jl_program.specs.declared.tree.Expr.TheOpen as F
 use Rattle.jl_program.specs.declared.tree.Expr.TheVariants as E
 use Rattle.jl_program.specs.declared.tree.Expr.TheViews as X
-use Rattle.jl_program.specs.declared.tree.Item.{Item}
 use Rattle.jl_program.specs.declared.tree.Item.TheVariants as I
 use Rattle.jl_program.specs.declared.tree.Piece.TheVariants as Pi
 use Rattle.jl_program.specs.declared.tree.Program.{Program}
@@ -27,12 +25,11 @@ use Rattle.jl_calculus.specs.declared.history.Outcome.{Outcome}
 use Rattle.jl_calculus.specs.declared.history.Outcome.TheVariants as O
 use Rattle.jl_calculus.specs.declared.history.TraceItem.{TraceItem}
 use Rattle.jl_calculus.specs.declared.history.TraceItem.TheVariants.{Look, Def, Spawn}
-use Rattle.jl_calculus.specs.declared.history.Record.{Record}
 use Rattle.jl_calculus.specs.Legal.{text_of, status_of}
-use Rattle.jl_calculus.specs.Run.{Setting, setting_of, State, Then, IsEnd, Caller, Run, calls, runs, runs_item, prints, binds, with_scope, first_state, open_calls}
+use Rattle.jl_calculus.specs.Run.{Setting, setting_of, State, Then, IsEnd, Caller, Run, calls, runs_item, prints, binds, with_scope, first_state, open_calls}
 use Rattle.jl_calculus.specs.World.{Selects}
 use Rattle.jl_calculus.proofs.Forms.{form_is, item_form_is, int_runs, call_runs, print_runs, show_runs, define_runs, do_runs}
-use Rattle.jl_calculus.proofs.TaskScripts.{failing, division, start, child_fails}
+use Rattle.jl_calculus.proofs.TaskScripts.{division, start}
 use Rattle.jl_calculus.proofs.WorldScripts.{made, bare, empty_applies}
 
 -- a function without parameters, whose body is this

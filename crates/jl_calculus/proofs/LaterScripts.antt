@@ -1,9 +1,8 @@
 -- Definitions that are seen later: `tryeval` evaluates `newfun() = 1` and gives nothing, and the next line calls `newfun`; and two tasks
 -- that each define `f` once more, of which the later definition is called, whichever it is.
-use Rattle.std.proofs.Common.{◌≡◌, ◌∙◌, refl, sym, ap, subst, ℕ, zero, suc, ◌<◌, pos, true, codes, List, [], ◌∷◌, ◌++◌, None, arith}
+use Rattle.std.proofs.Common.{◌≡◌, refl, sym, ap, subst, ℕ, zero, suc, ◌<◌, pos, true, codes, List, [], ◌∷◌, ◌++◌, None, arith}
 use Rattle.std.specs.Fmt.{digits}
 use Rattle.std.specs.List.{Contains}
-use Rattle.jl_model.specs.declared.ty.Ty.{Ty}
 use Rattle.jl_model.specs.Choice.{Method, Applies, IsCandidate, IsBest, ChoosesMethod}
 use Rattle.jl_model.specs.Signature.{SameSignature}
 use Rattle.jl_model.specs.Subtype.{Table}
@@ -19,7 +18,6 @@ use Rattle.jl_program.specs.declared.tree.Piece.TheVariants as Pi
 use Rattle.jl_program.specs.declared.tree.Program.{Program}
 use Rattle.jl_program.specs.declared.tree.Site.{Site}
 use Rattle.jl_program.specs.declared.tree.Start.{Start}
-use Rattle.jl_program.specs.declared.tree.Stmt.{Stmt}
 use Rattle.jl_program.specs.declared.tree.Stmt.TheVariants as S
 use Rattle.jl_program.specs.declared.value.Value.TheVariants as V
 use Rattle.jl_program.specs.Prelude.{plain, prelude_functions, prelude_sites}
@@ -32,7 +30,7 @@ use Rattle.jl_calculus.specs.declared.history.Outcome.{Outcome}
 use Rattle.jl_calculus.specs.declared.history.Outcome.TheVariants as O
 use Rattle.jl_calculus.specs.declared.history.TraceItem.{TraceItem}
 use Rattle.jl_calculus.specs.declared.history.TraceItem.TheVariants.{Look, Def}
-use Rattle.jl_calculus.specs.Run.{Setting, setting_of, State, Then, IsEnd, Caller, Run, calls, runs, runs_stmt, runs_item, stmts_run, prints, with_env, with_scope, first_state, open_calls}
+use Rattle.jl_calculus.specs.Run.{Setting, setting_of, State, Then, IsEnd, Caller, Run, calls, runs_stmt, runs_item, stmts_run, prints, with_env, with_scope, first_state, open_calls}
 use Rattle.jl_calculus.specs.World.{site_of, Selects}
 use Rattle.jl_calculus.proofs.Forms.{form_is, stmt_form_is, item_form_is, int_runs, call_runs, print_runs, show_runs, define_runs, do_runs}
 use Rattle.jl_calculus.proofs.TaskRuns.{empty_below}

@@ -1,13 +1,12 @@
 -- Definitions and spawns that the run of their task does not come to, led by its trace: such a history is not legal, and this is
 -- seen at the event, before the end of the task.
-use Rattle.std.proofs.Common.{◌≡◌, ◌∙◌, refl, ap, sym, subst, ℕ, suc, Bool, true, false, true≢false, pos, List, [], ◌∷◌, Option, Some, None, arith}
+use Rattle.std.proofs.Common.{◌≡◌, ◌∙◌, refl, ap, sym, subst, ℕ, Bool, true, false, true≢false, List, [], ◌∷◌, Option, Some, None, arith}
 use Rattle.jl_program.specs.declared.fault.Fault.TheVariants as Fa
 use Rattle.jl_program.specs.declared.tree.Expr.TheOpen as F
 use Rattle.jl_program.specs.declared.tree.Expr.TheVariants as E
 use Rattle.jl_program.specs.declared.tree.Expr.TheViews as X
 use Rattle.jl_program.specs.declared.tree.Item.TheVariants as I
 use Rattle.jl_program.specs.declared.tree.Program.{Program}
-use Rattle.jl_program.specs.declared.tree.Start.{Start}
 use Rattle.jl_program.specs.declared.value.Value.TheVariants as V
 use Rattle.jl_program.specs.Prelude.{prelude_functions, prelude_sites}
 use Rattle.jl_program.proofs.FirstProgram.{P}
@@ -17,13 +16,12 @@ use Rattle.jl_calculus.specs.declared.history.Outcome.{Outcome}
 use Rattle.jl_calculus.specs.declared.history.Outcome.TheVariants as O
 use Rattle.jl_calculus.specs.declared.history.TraceItem.{TraceItem}
 use Rattle.jl_calculus.specs.declared.history.TraceItem.TheVariants.{Look, Def, Spawn}
-use Rattle.jl_calculus.specs.Led.{items_before, IsLedTo}
-use Rattle.jl_calculus.specs.Legal.{fuel_of}
-use Rattle.jl_calculus.specs.Run.{Question, a_look, a_definition, a_spawn, a_fetch, Setting, State, Then, Caller, IsEnd, Comes, calls, runs, runs_item, items_run, looks, spawns, start_at, binds, with_left, first_state, open_calls}
+use Rattle.jl_calculus.specs.Led.{IsLedTo}
+use Rattle.jl_calculus.specs.Run.{Question, a_look, a_definition, a_spawn, a_fetch, Setting, State, Then, Caller, IsEnd, Comes, calls, runs_item, spawns, binds, first_state, open_calls}
 use Rattle.jl_calculus.proofs.Forms.{form_is, item_form_is}
 use Rattle.jl_calculus.proofs.StopExamples.{looked, comes_to_f, to_no_other, not_at_once}
 use Rattle.jl_calculus.proofs.TaskScripts.{failing, start}
-use Rattle.jl_calculus.proofs.WorldScripts.{made, bare}
+use Rattle.jl_calculus.proofs.WorldScripts.{bare}
 
 -- ---- a definition: `f(x) = x + 1`, and then `println(f(2))`
 

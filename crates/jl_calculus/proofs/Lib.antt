@@ -41,3 +41,4 @@ pub mod LimitValues
 pub mod PointScript
 pub mod FuelScripts
 pub mod LaterScripts
+pub mod ToldFaults

@@ -1,9 +1,7 @@
 -- Whole scripts that end at a limit. The limit of open calls is reached by a lemma over any limit, so that nothing is counted.
-use Rattle.std.proofs.Common.{◌≡◌, ◌∙◌, refl, sym, ap, subst, ℕ, zero, suc, ◌+◌, ◌<◌, pos, Bool, true, false, nat_lt, codes, List, [], ◌∷◌, ◌++◌, Option, None, Some, arith}
+use Rattle.std.proofs.Common.{◌≡◌, refl, subst, ℕ, zero, suc, ◌+◌, ◌<◌, pos, Bool, true, nat_lt, codes, List, [], ◌∷◌, ◌++◌, None, arith}
 use Rattle.std.specs.Fmt.{digits}
-use Rattle.jl_model.specs.declared.ty.Ty.{Ty}
 use Rattle.jl_model.specs.declared.ty.Ty.TheVariants as T
-use Rattle.jl_model.specs.Choice.{Method}
 use Rattle.jl_program.specs.declared.choice.Choice.TheVariants as C
 use Rattle.jl_program.specs.declared.fault.Fault.TheVariants as Fa
 use Rattle.jl_program.specs.declared.tree.Expr.{Expr}
@@ -24,10 +22,9 @@ use Rattle.jl_calculus.specs.declared.history.Outcome.{Outcome}
 use Rattle.jl_calculus.specs.declared.history.Outcome.TheVariants as O
 use Rattle.jl_calculus.specs.declared.history.TraceItem.{TraceItem}
 use Rattle.jl_calculus.specs.declared.history.TraceItem.TheVariants.{Look, Def, WorldFull, TaskFull}
-use Rattle.jl_calculus.specs.declared.history.Record.{Record}
-use Rattle.jl_calculus.specs.Legal.{text_of, status_of}
-use Rattle.jl_calculus.specs.Run.{Setting, setting_of, State, Then, IsEnd, Caller, Run, either, calls, runs, runs_item, binds, first_state, open_calls, with_scope}
-use Rattle.jl_calculus.specs.World.{world_of, Selects}
+use Rattle.jl_calculus.specs.Legal.{text_of}
+use Rattle.jl_calculus.specs.Run.{Setting, setting_of, State, Then, IsEnd, Caller, Run, either, calls, runs_item, binds, first_state, open_calls, with_scope}
+use Rattle.jl_calculus.specs.World.{Selects}
 use Rattle.jl_calculus.proofs.Forms.{form_is, item_form_is, int_runs, local_runs, call_runs, define_runs, do_runs}
 use Rattle.jl_calculus.proofs.WorldScripts.{made, bare}
 

@@ -1,6 +1,6 @@
 -- Values that reach their limits. A pair of a pair of a pair has twice the nodes each time, in its type and in itself: the type of a
 -- tuple reaches its limit at the tenth, and a struct, whose type stays small, at the nineteenth.
-use Rattle.std.proofs.Common.{◌≡◌, ◌∙◌, refl, sym, ap, subst, ℕ, zero, suc, ◌+◌, ◌≤◌, ◌<◌, max, pos, List, [], ◌∷◌, map, arith, inl, inr}
+use Rattle.std.proofs.Common.{◌≡◌, ◌∙◌, refl, sym, ap, ℕ, zero, suc, ◌+◌, ◌<◌, max, pos, List, [], ◌∷◌, arith, inl, inr}
 use Rattle.jl_model.specs.declared.ty.Ty.{Ty}
 use Rattle.jl_model.specs.declared.ty.Ty.TheOpen as L
 use Rattle.jl_model.specs.declared.ty.Ty.TheViews as T
@@ -18,7 +18,6 @@ use Rattle.jl_program.specs.declared.value.Value.TheVariants as V
 use Rattle.jl_program.specs.Making.{tuple_of, struct_of}
 use Rattle.jl_program.specs.Meaning.{datum}
 use Rattle.jl_program.specs.Measures as values
-use Rattle.jl_program.specs.Prelude.{int64}
 use Rattle.jl_program.specs.ValidValue.{kept_step, kept_type, tuple_type}
 use Rattle.jl_calculus.specs.declared.history.Outcome.TheVariants as O
 use Rattle.jl_calculus.specs.Operations.{make_tuple, within_limits}

@@ -1,15 +1,14 @@
 -- A script whose constructor has no method, computed whole: `Point(1, true)` after `struct Point{T}; x::T; y::T end`.
-use Rattle.std.proofs.Common.{◌≡◌, ◌∙◌, refl, sym, ap, subst, ℕ, zero, suc, pos, Bool, true, false, true≢false, codes, List, [], ◌∷◌, ◌++◌, Option, None, Some, inl}
+use Rattle.std.proofs.Common.{◌≡◌, ◌∙◌, refl, sym, ap, zero, suc, pos, true, true≢false, codes, List, [], ◌∷◌, ◌++◌, None, inl}
 use Rattle.jl_model.specs.declared.ty.Decl.{Decl}
 use Rattle.jl_model.specs.declared.ty.DeclKind.TheVariants.{Struct}
-use Rattle.jl_model.specs.declared.ty.Ty.{Ty}
 use Rattle.jl_model.specs.declared.ty.Ty.TheVariants as W
 use Rattle.jl_model.specs.declared.ty.Ty.TheViews as T
 use Rattle.jl_model.specs.declared.ty.Ty.TheViews.{outs-Any, outs-Nominal}
 use Rattle.jl_model.specs.Ancestors.{builtin_types, table_of, up_in}
 use Rattle.jl_model.specs.Rows.{free}
 use Rattle.jl_model.specs.Signature.{Applicable}
-use Rattle.jl_model.specs.Subtype.{Table, put_in}
+use Rattle.jl_model.specs.Subtype.{put_in}
 use Rattle.jl_program.specs.declared.fault.Fault.TheVariants as Fa
 use Rattle.jl_program.specs.declared.tree.Expr.{Expr}
 use Rattle.jl_program.specs.declared.tree.Expr.TheOpen as F

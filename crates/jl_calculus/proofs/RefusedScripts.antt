@@ -1,17 +1,12 @@
 -- A script that ends with a refusal, computed whole: `true + 1`.
-use Rattle.std.proofs.Common.{◌≡◌, ◌∙◌, refl, sym, ap, subst, ℕ, zero, suc, ◌<◌, pos, Bool, true, false, true≢false, codes, List, [], ◌∷◌, ◌++◌, Option, None, Some, arith, inl, inr}
+use Rattle.std.proofs.Common.{◌≡◌, refl, sym, subst, zero, suc, pos, true, List, [], ◌∷◌, None, arith}
 use Rattle.std.specs.List.{Contains}
-use Rattle.jl_model.specs.declared.ty.Decl.{Decl}
-use Rattle.jl_model.specs.declared.ty.DeclKind.TheVariants.{Struct}
 use Rattle.jl_model.specs.declared.ty.Ty.{Ty}
-use Rattle.jl_model.specs.declared.ty.Ty.TheVariants as W
-use Rattle.jl_model.specs.declared.ty.Ty.TheViews as T
-use Rattle.jl_model.specs.declared.ty.Ty.TheViews.{outs-Any, outs-Nominal}
-use Rattle.jl_model.specs.Ancestors.{named, builtin_types, table_of, up_in}
+use Rattle.jl_model.specs.Ancestors.{table_of}
 use Rattle.jl_model.specs.Choice.{Method}
 use Rattle.jl_model.specs.Rows.{choices, components, root}
-use Rattle.jl_model.specs.Signature.{Applicable, Both, both_end, both_more}
-use Rattle.jl_model.specs.Subtype.{opaque, put, put_in, Below}
+use Rattle.jl_model.specs.Signature.{Applicable, Both, both_more}
+use Rattle.jl_model.specs.Subtype.{opaque, put, Below}
 use Rattle.jl_program.specs.declared.choice.Choice.TheVariants as C
 use Rattle.jl_program.specs.declared.fault.Fault.TheVariants as Fa
 use Rattle.jl_program.specs.declared.tree.Expr.{Expr}
@@ -24,14 +19,11 @@ use Rattle.jl_program.specs.declared.value.Value.TheVariants as V
 use Rattle.jl_program.specs.Prelude.{plain, int64, bool, two, prelude_functions, prelude_sites}
 use Rattle.jl_program.proofs.FirstChoices.{int_put, int_forms, places_in}
 use Rattle.jl_calculus.specs.declared.history.Event.{Event}
-use Rattle.jl_calculus.specs.declared.history.Event.TheVariants as Ev
 use Rattle.jl_calculus.specs.declared.history.Outcome.{Outcome}
 use Rattle.jl_calculus.specs.declared.history.Outcome.TheVariants as O
-use Rattle.jl_calculus.specs.declared.history.TraceItem.{TraceItem}
 use Rattle.jl_calculus.specs.declared.history.TraceItem.TheVariants.{Look}
-use Rattle.jl_calculus.specs.Operations.{make_inferred}
-use Rattle.jl_calculus.specs.Run.{Setting, setting_of, State, Then, IsEnd, Caller, Run, calls, runs, runs_item, first_state, open_calls}
-use Rattle.jl_calculus.specs.World.{Selects, methods_in}
+use Rattle.jl_calculus.specs.Run.{Setting, setting_of, State, Then, IsEnd, Caller, Run, calls, runs, first_state, open_calls}
+use Rattle.jl_calculus.specs.World.{Selects}
 use Rattle.jl_calculus.proofs.Forms.{form_is, int_runs, do_runs}
 use Rattle.jl_calculus.proofs.MakeExamples as Make
 use Rattle.jl_calculus.proofs.WorldScripts.{made, bare}

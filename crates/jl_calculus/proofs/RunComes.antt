@@ -22,11 +22,11 @@ use Rattle.jl_calculus.specs.declared.history.Outcome.TheVariants as O
 use Rattle.jl_calculus.specs.declared.history.TraceItem.{TraceItem}
 use Rattle.jl_calculus.specs.declared.history.TraceItem.TheVariants.{Look, Def, Spawn, Fetch, WorldFull, TaskFull}
 use Rattle.jl_calculus.specs.Answers.{Answer}
-use Rattle.jl_calculus.specs.Kept.{Places, Keeps}
+use Rattle.jl_calculus.specs.Kept.{Places}
 use Rattle.jl_calculus.specs.Operations.{make_written, test_type, test_order}
 use Rattle.jl_calculus.specs.Led.{asked_by}
 use Rattle.jl_calculus.specs.Run.{Question, a_look, a_definition, a_spawn, a_fetch, halts, Setting, State, Then, Runs, ItemRuns, PieceRuns, Caller, Body, operation, code, body_of, each_runs, texts_run, stmts_run, items_run, either, with_scope, with_env, with_left, with_calls, with_start, start_at, binds, prints, newline, looks, defines, spawns, fetched, fetches, fetches_value, decides, answers, operation_runs, expr_runs, stmt_runs, item_runs, piece_runs, runs, runs_stmt, runs_item, runs_piece, chosen, performs, calls, open_calls, first_state, task_runs, task_state, IsEnd, Run, Comes}
-use Rattle.jl_calculus.specs.World.{site_of, Selects}
+use Rattle.jl_calculus.specs.World.{site_of}
 use Rattle.jl_calculus.proofs.Layers.{runs_is, stmt_is, item_is, piece_is}
 use Rattle.jl_calculus.proofs.Induction.{Each, Below, BelowT, BelowI, BelowQ, all, allI}
 

@@ -2,26 +2,31 @@
 --
 -- "There is one" is said so: it can't be that there is none. The logic here decides nothing by itself, and whether a
 -- signature applies, or is below another, is decided by the calls that answer it, which may run out of memory.
-use Rattle.std.specs.Prelude.{ℕ, ◌≡◌, ◌≤◌, ◌⊎◌, Bool, List, length}
+use Rattle.std.specs.Prelude.{ℕ, ◌≡◌, ◌≤◌, ◌⊎◌, ◌↔◌, Bool, List, length}
 use Rattle.std.specs.List.{Contains}
 use Rattle.jl_model.specs.declared.ty.Key.{Key}
 use Rattle.jl_model.specs.declared.ty.Ty.{Ty}
 use Rattle.jl_model.specs.declared.ty.Decl.{Decl}
 use Rattle.jl_model.specs.declared.ty.Written.{Written}
+use Rattle.jl_model.specs.Ancestors.{table_of}
 use Rattle.jl_model.specs.Bindings.{bindings}
 use Rattle.jl_model.specs.Choice.{Method}
 use Rattle.jl_model.specs.Refusals.{Declared}
-use Rattle.jl_model.specs.Signature.{Applicable, SigBelow}
-use Rattle.jl_model.specs.Subtype.{Table}
+use Rattle.jl_model.specs.SigRefusals.{VariablePlace, BoundBroken}
+use Rattle.jl_model.specs.Signature.{Both, Applicable, SigBelow}
+use Rattle.jl_model.specs.Subtype.{Table, opaque, Below}
 use Rattle.jl_program.specs.declared.choice.Choice.{Choice}
 use Rattle.jl_program.specs.declared.choice.Choice.TheVariants as C
+use Rattle.jl_program.specs.declared.fault.Fault.{Fault}
 use Rattle.jl_program.specs.declared.tree.Program.{Program}
 use Rattle.jl_program.specs.declared.value.Value.{Value}
+use Rattle.jl_program.specs.Making.{IsFirstOther}
 use Rattle.jl_program.specs.Prelude.{prelude_count}
 use Rattle.jl_program.specs.Scope.{types_of}
 use Rattle.jl_calculus.specs.declared.history.Event.{Event}
 use Rattle.jl_calculus.specs.Operations.{make_tuple, make_struct, make_written, make_inferred, test_type, test_order, test_same}
 use Rattle.jl_calculus.specs.Ranges.{Covers, MayBegin, IsRightFill}
+use Rattle.jl_calculus.specs.Statics.{nominals_of, is_bad_parameter}
 use Rattle.jl_calculus.specs.World.{site_of, methods_in, Selects}
 
 -- it can't be that there is none, and there are no two
@@ -64,6 +69,18 @@ WrittenIsOne = (ds : List Decl) → Declared ds → (statics : List Ty) (t : Wri
 
 abbrev pub InferredIsOne : Type 0
 InferredIsOne = (ds : List Decl) (name : ℕ) (vs : List Value) → HasOne (make_inferred ds name vs)
+
+-- What a row of refusals asks for can be told. A signature in which no variable stands at a wrong place, and which breaks a declared
+-- bound, has a nominal type to name.
+abbrev pub BrokenIsTold : Type 0
+BrokenIsTold =
+    (ds : List Decl) → Declared ds → (s : Written) → (VariablePlace s → ⊥) → BoundBroken ds s → ((e : Fault) → is_bad_parameter ds (nominals_of s) e → ⊥) → ⊥
+
+-- Of as many types as there are fields not all are below their fields' exactly where there is a first one that is not.
+abbrev pub OtherIsTold : Type 0
+OtherIsTold =
+    (ds : List Decl) (types fields : List Ty) → length types ≡ length fields
+    → (Both (Below (table_of ds) opaque) types fields → ⊥) ↔ (((i : ℕ) → IsFirstOther ds types fields i → ⊥) → ⊥)
 
 -- `isa`, `<:`, `===` and `!==`: a truth value, or for a written type a fault
 abbrev pub TestIsOne : Type 0

@@ -1,7 +1,7 @@
 //! Laws that each question of the rules has one answer. They are about definitions alone: each function does nothing, and its
 //! contract is the law.
 
-ghost use Rattle.jl_calculus.specs.AnswerLaws.{ChoiceIsOne, ChoiceIsThere, BindingsAreThere, TupleIsOne, StructIsOne, WrittenIsOne, InferredIsOne, TestIsOne, OrderIsOne, IdentityIsOne, CoverIsOne, SiteIsThere};
+ghost use Rattle.jl_calculus.specs.AnswerLaws.{ChoiceIsOne, ChoiceIsThere, BindingsAreThere, TupleIsOne, StructIsOne, WrittenIsOne, InferredIsOne, BrokenIsTold, OtherIsTold, TestIsOne, OrderIsOne, IdentityIsOne, CoverIsOne, SiteIsThere};
 
 /// A call has one choice in a world, which is there wherever it is decided which methods apply and which signature is below
 /// which. A body gets one type for each variable of its signature.
@@ -17,6 +17,13 @@ pub fn law_made_is_one()
     ensures exact { StructIsOne }
     ensures written { WrittenIsOne }
     ensures inferred { InferredIsOne }
+{}
+
+/// Where a fault is due there is one to tell: a declared bound that is broken has a nominal type to name, and a part that is not of
+/// its field's type has a first one.
+pub fn law_fault_is_told()
+    ensures broken { BrokenIsTold }
+    ensures other { OtherIsTold }
 {}
 
 /// `isa`, `<:` and `===` have one answer: a truth value, or one fault of a written type.
