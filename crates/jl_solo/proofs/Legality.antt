@@ -11,7 +11,8 @@ use Rattle.jl_program.specs.declared.tree.Program.{Program}
 use Rattle.jl_calculus.specs.Legal.{start_of, IsRunning, AreTrueOf, HasTrueTrace, HasOwnEvents, HasRun, MayCome, OnDone, EachAfter, IsLegal}
 use Rattle.jl_calculus.specs.Past.{tasks_of, done_of, IsInOrder, own_starts}
 use Rattle.jl_calculus.specs.Run.{Run}
-use Rattle.jl_machine.specs.Fits.{AllLearnt, IsRunOf, setting}
+use Rattle.jl_machine.specs.Asks.{setting}
+use Rattle.jl_machine.specs.Fits.{AllLearnt, IsRunOf}
 use Rattle.jl_solo.specs.Alone.{defs_of, events_of, GoesOn, knows_at, IsOfScript, IsAlone}
 use Rattle.jl_solo.proofs.EventLemmas.{defined_alone, length_defs, defs_push, tasks_alone, not_done, no_start, no_starts, first_alone, tasks_ended, done_ended}
 use Rattle.jl_solo.proofs.Answered.{all_length}
