@@ -15,7 +15,8 @@ use Rattle.jl_model.proofs.PutLemmas.{and_l, and_r, both_true}
 use Rattle.jl_model.proofs.AncestorLemmas.{each_true, true_each, long-snoc}
 use Rattle.jl_model.proofs.DeclaredLemmas.{not_false, placed-union, placed-tuple, placed-nominal}
 use Rattle.jl_types.proofs.PlaceLemmas.{free_is_closed, field-union, field-tuple, field-nominal}
-use Rattle.jl_sig.specs.Fields.{fields_in, fields_of}
+use Rattle.jl_program.specs.BodyTypes.{fields_signature}
+use Rattle.jl_sig.specs.Fields.{fields_of}
 use Rattle.jl_sig.specs.Prepared.{IsWellPlaced}
 use Rattle.jl_sig.proofs.FitLemmas.{argument-any, argument-var, argument-union, argument-tuple, argument-nominal, component-any, component-var, component-union, component-tuple, component-nominal}
 use Rattle.jl_sig.proofs.WholeLemmas.{all_split}
@@ -135,7 +136,7 @@ fields_at m (d ∷ ds) (suc k) a l = fields_at m ds k a.1 (omega arith)
 pub fields_placed : (ds : List Decl) → Declared ds → (k : ℕ) → k < length ds → IsWellPlaced ds (fields_of ds k)
 fields_placed ds h k l =
     let f = fields_at (length ds) ds k (all_fields ds h) l in
-    subst (λ o. IsWellPlaced ds (fields_in o)) (sym f.1) (record {
+    subst (λ o. IsWellPlaced ds (fields_signature o)) (sym f.1) (record {
       own = f.2.variables;
       known = f.2.known;
       placed = λ e. let g : true ≡ false = sym f.2.placed ∙ e in cc;
