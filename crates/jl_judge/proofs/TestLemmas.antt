@@ -8,7 +8,6 @@ use Rattle.jl_model.specs.SigRefusals.{VariablePlace, UnusedVariable, TooManyPar
 use Rattle.jl_program.specs.BodyTypes.{fields_signature, without_statics, IsAllowedType}
 use Rattle.jl_types.proofs.DecideLemmas.{Decided}
 use Rattle.jl_sig.specs.Prepared.{HasOwnVariables}
-use Rattle.jl_sig.specs.Fields.{fields_in, fields_of}
 use Rattle.jl_body.specs.TypeRefused.{BodyTypeLimit}
 use Rattle.jl_resolve_forms.specs.TypesIn.{tests}
 use Rattle.jl_written.specs.declared.fault.StaticKind.{StaticKind}
@@ -38,13 +37,6 @@ under false x y z f g = g refl
 
 yes_under : {A : Type 0} (b : Bool) (x y : A) → b ≡ true → cond b x y ≡ x
 yes_under b x y e = rw e refl
-
-fields_alike : (o : Option Decl) → fields_in o ≡ fields_signature o
-fields_alike None = refl
-fields_alike (Some d) = refl
-
-pub fields_told : (ds : List Decl) (p : ℕ) (b : Bool) → Tells b (TypeLimit ds (fields_of ds p)) → Tells b (TypeLimit ds (fields_signature (slice_get ds p)))
-fields_told ds p b t = subst (λ s. Tells b (TypeLimit ds s)) (fields_alike (slice_get ds p)) t
 
 module _ (ds : List Decl) (valid : ∥ Declared ds ∥₁) (declared : Declared ds) where
   holds_tells : (P : Type 0) (f : Declared ds → Decided P) → Tells (holds ds valid P f) P

@@ -24,7 +24,7 @@ use Rattle.jl_types.proofs.PartsLemmas.{closed_parts}
 use Rattle.jl_sig.specs.declared.sig.Sig.{Sig}
 use Rattle.jl_sig.specs.Forms.{IsSmallForm}
 use Rattle.jl_sig.specs.Fit.{AreKeptRows as AreKeptListed}
-use Rattle.jl_sig.specs.Prepared.{IsSigOf}
+use Rattle.jl_sig.specs.Prepared.{IsKeptOf}
 use Rattle.jl_sig.specs.SigParts.{written_of, bounded_of, diagonals_of, rows_of as kept_rows_of}
 use Rattle.jl_match.specs.KeptRow.{AreDiagonals, with_bounds}
 use Rattle.jl_search.specs.Serving.{IsPlain}
@@ -91,7 +91,7 @@ module _ (ds : List Decl) (declared : Declared ds) where
       let r = and_r (is_closed b.low) (is_closed b.high && list_all is_closed (bound_types bs)) c in
       plain_bounds bs cs h (and_r (is_closed b.high) (list_all is_closed (bound_types bs)) r) v (omega arith)
 
-  module _ (g : Sig) (h : IsSigOf ds g) where
+  module _ (g : Sig) (h : IsKeptOf ds g) where
     abbrev s : Written
     s = (written_of g)
 
@@ -132,7 +132,7 @@ each_at f i [] d v l = absurd (omega arith)
 each_at f i (b ∷ bs) d zero l = ap f (omega arith)
 each_at f i (b ∷ bs) d (suc v) l = let e : i + 1 + v ≡ i + suc v = omega arith in each_at f (i + 1) bs d v (omega arith) ∙ ap f e
 
-pub sig_diagonals : (ds : List Decl) (declared : Declared ds) (g : Sig) → IsSigOf ds g → AreDiagonals (bounded_of g) (diagonals_of g)
+pub sig_diagonals : (ds : List Decl) (declared : Declared ds) (g : Sig) → IsKeptOf ds g → AreDiagonals (bounded_of g) (diagonals_of g)
 sig_diagonals ds declared g h =
     let long = (kept_sig ds declared g h).long in
     let f : ℕ → Bool = λ v. is_diagonal (kind (written_of g) v) in
@@ -154,7 +154,7 @@ total_append [] us = omega arith
 total_append (t ∷ ts) us = let h = total_append ts us in omega (arith, h)
 
 -- it has few variables
-pub few_variables : (ds : List Decl) (g : Sig) → IsSigOf ds g → length (written_of g).vars ≤ 1024
+pub few_variables : (ds : List Decl) (g : Sig) → IsKeptOf ds g → length (written_of g).vars ≤ 1024
 few_variables ds g h =
     let a = bounds_nodes (written_of g).vars in
     let b = total_append (bound_types (written_of g).vars) (written_of g).parts in

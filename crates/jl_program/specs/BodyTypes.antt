@@ -38,10 +38,14 @@ is_struct_type ds _ = false
 abbrev pub is_made : List Decl → Written → Bool
 is_made ds t = nat_eq (length t.vars) 0 && list_all (λ p. is_struct_type ds (out-Ty p)) t.parts
 
--- the signature of the fields of a struct: its parameters are the variables
+-- the types of a declaration's fields as a signature is written: its parameters with their bounds are the variables
+abbrev pub fields_written : Decl → Written
+fields_written d = record { vars = d.params; parts = field_types d.fields }
+
+-- the signature of the fields of a struct
 abbrev pub fields_signature : Option Decl → Written
 fields_signature None = record { vars = []; parts = [] }
-fields_signature (Some d) = record { vars = d.params; parts = field_types d.fields }
+fields_signature (Some d) = fields_written d
 
 -- it has variables, and may use all of them
 abbrev pub finds_variables : Written → Bool

@@ -2,12 +2,11 @@
 
 ghost use Rattle.std.specs.Prelude.{◌≡◌, slice_get, IfOk};
 ghost use Rattle.std.specs.List.{list_all};
-ghost use Rattle.jl_resolve_forms.specs.Parameters.{finds_all, finds_parameters, fields_signature, all_find};
+ghost use Rattle.jl_resolve_forms.specs.Parameters.{finds_all, finds_parameters, all_find};
 
-use jl_model::shared::SharedList;
-use jl_model::ty::{Decl, Written};
+use jl_model::ty::Decl;
 use jl_names::decls::DeclList;
-use jl_sig::usable_variables;
+use jl_sig::{fields_written, usable_variables};
 use std::alloc::{AllocError, Global};
 use std::marker::Model;
 
@@ -75,7 +74,7 @@ fn all_find(alloc: Global, decls: &[Decl]) -> Result<Vec<bool>, AllocError>
 fn finds_all(alloc: Global, decl: &Decl) -> Result<bool, AllocError>
     ensures { IfOk result (λ b. b ≡ finds_all decl.now) }
 {
-    let written = fields_signature(alloc, decl)?;
+    let written = fields_written(alloc, decl)?;
     let flags = usable_variables(alloc, &written)?;
     Ok(are_all(flags.as_slice()))
 }
@@ -89,18 +88,4 @@ fn are_all(flags: &[bool]) -> bool
         }
     }
     true
-}
-
-/// The signature of a struct's fields.
-fn fields_signature(alloc: Global, decl: &Decl) -> Result<Written, AllocError>
-    ensures { IfOk result (λ w. w ≡ fields_signature decl.now) }
-{
-    let mut parts = Vec::new(alloc);
-    for field in decl.fields.as_slice() {
-        parts.push(field.ty.copy()?)?;
-    }
-    Ok(Written {
-        vars: decl.params.copy()?,
-        parts: SharedList::from_vec(alloc, parts)?,
-    })
 }

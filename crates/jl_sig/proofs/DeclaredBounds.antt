@@ -1,6 +1,6 @@
--- The declared bounds of parameters are normal forms.
+-- The declared bounds of parameters are normal forms, and in order.
 use Rattle.std.proofs.Common.{◌≡◌, ◌∙◌, sym, ap, subst, refl, ℕ, zero, suc, ◌+◌, ◌<◌, ◌≤◌, arith, true, ◌&&◌, nat_lt, List, [], ◌∷◌, ◌++◌, length, get_or, slice_get, None, Some}
-use Rattle.std.specs.List.{list_all}
+use Rattle.std.specs.List.{list_all, Contains}
 use Rattle.std.proofs.lemmas.List.{get_or_past}
 use Rattle.jl_model.specs.declared.ty.Ty.{Ty}
 use Rattle.jl_model.specs.declared.ty.Ty.TheViews as V
@@ -8,12 +8,12 @@ use Rattle.jl_model.specs.declared.ty.Bound.{Bound}
 use Rattle.jl_model.specs.declared.ty.Decl.{Decl}
 use Rattle.jl_model.specs.Ancestors.{table_of}
 use Rattle.jl_model.specs.Rows.{alts, free}
-use Rattle.jl_model.specs.Subtype.{opaque, below, Covered, none}
+use Rattle.jl_model.specs.Subtype.{opaque, Below, below, Covered, none}
 use Rattle.jl_model.specs.Valid.{is_known, names_in, params_of}
 use Rattle.jl_model.specs.Kept.{field_types, Bounds, bounds_end, bounds_more}
 use Rattle.jl_model.specs.Refusals.{Declared, builtin, added, table_with, bound_types, is_known_decl, own, Given, Between}
 use Rattle.jl_model.proofs.PutLemmas.{and_l, and_r, both_true}
-use Rattle.jl_model.proofs.KnownLemmas.{Known, normal_move}
+use Rattle.jl_model.proofs.KnownLemmas.{Known, normal_move, below_move}
 use Rattle.jl_model.proofs.AncestorLemmas.{long-snoc, slice_past}
 use Rattle.jl_model.proofs.BelowLemmas.{below_any}
 use Rattle.jl_model.proofs.FormLemmas.{alts-union}
@@ -32,12 +32,16 @@ known_later m (k ∷ ks) h =
 known_more : (ds : List Decl) (d : Decl) (t : Ty) → Known (length ds) t → Known (length (ds ++ d ∷ [])) t
 known_more ds d t h = subst (λ m. Known m t) (sym (long-snoc ds d)) (known_later (length ds) (names_in t) h)
 
+-- each low bound is below its high bound
+abbrev AreOrdered : List Decl → List Bound → Type 0
+AreOrdered ds bs = (b : Bound) → Contains bs b → (Below (table_of ds) opaque b.low b.high → ⊥) → ⊥
+
 -- each declaration's bounds
 abbrev AllDecls : List Decl → List Decl → Type 0
 AllDecls ds [] = Unit {0}
-AllDecls ds (d ∷ es) = AllGround ds d.params × AllDecls ds es
+AllDecls ds (d ∷ es) = (AllGround ds d.params × AreOrdered ds d.params) × AllDecls ds es
 
-decls_snoc : (ds es : List Decl) (d : Decl) → AllDecls ds es → AllGround ds d.params → AllDecls ds (es ++ d ∷ [])
+decls_snoc : (ds es : List Decl) (d : Decl) → AllDecls ds es → AllGround ds d.params × AreOrdered ds d.params → AllDecls ds (es ++ d ∷ [])
 decls_snoc ds [] d a g = (g, tt)
 decls_snoc ds (e ∷ es) d a g = (a.0, decls_snoc ds es d a.1 g)
 
@@ -52,9 +56,19 @@ bounds_later : (ds : List Decl) → Declared ds → (d : Decl) (bs : List Bound)
 bounds_later ds h d [] g = tt
 bounds_later ds h d (b ∷ bs) g = (ground_more ds h d b.low g.0, ground_more ds h d b.high g.1, bounds_later ds h d bs g.2)
 
+ground_in : (ds : List Decl) (bs : List Bound) (i : ℕ) (b : Bound) → AllGround ds bs → i < length bs → b ≡ get_or bs i b → IsGround ds b.low × IsGround ds b.high
+ground_in ds [] i b g l e = absurd (omega arith)
+ground_in ds (x ∷ xs) zero b g l e = subst (λ (y : Bound). IsGround ds y.low × IsGround ds y.high) (sym e) (g.0, g.1)
+ground_in ds (x ∷ xs) (suc i) b g l e = ground_in ds xs i b g.2 (omega arith) e
+
+ordered_later : (ds : List Decl) → Declared ds → (d : Decl) (bs : List Bound) → AllGround ds bs → AreOrdered ds bs → AreOrdered (ds ++ d ∷ []) bs
+ordered_later ds h d bs g o b c f =
+    let k = ground_in ds bs c.0 b g c.1 (sym c.2) in
+    o b c (λ x. f (below_move (table_of ds) (table_of (ds ++ d ∷ [])) (length ds) (declared_agree ds d h) b.low b.high k.0.known k.1.known x))
+
 decls_later : (ds : List Decl) → Declared ds → (d : Decl) (es : List Decl) → AllDecls ds es → AllDecls (ds ++ d ∷ []) es
 decls_later ds h d [] a = tt
-decls_later ds h d (e ∷ es) a = (bounds_later ds h d e.params a.0, decls_later ds h d es a.1)
+decls_later ds h d (e ∷ es) a = ((bounds_later ds h d e.params a.0.0, ordered_later ds h d e.params a.0.0 a.0.1), decls_later ds h d es a.1)
 
 own_bounds : (ds : List Decl) (d : Decl) (bs cs : List Bound) → Bounds (table_with ds d) bs cs → list_all (is_known (length ds)) (bound_types cs) ≡ true → AllGround (ds ++ d ∷ []) cs
 own_bounds ds d bs cs bounds_end k = tt
@@ -65,23 +79,32 @@ own_bounds ds d bs cs (bounds_more b c as_ es l u r) k =
       own_bounds ds d as_ es r (and_r (is_known (length ds) c.high) (list_all (is_known (length ds)) (bound_types es)) k1),
     )
 
-all_ground : (ds : List Decl) → Declared ds → AllDecls ds ds
-all_ground ds builtin = (tt, (tt, (tt, (tt, (tt, (tt, (tt, (tt, tt))))))))
-all_ground ds (added es d h r) =
+no_bounds : (ds : List Decl) (bs : List Bound) → bs ≡ [] → AllGround ds bs × AreOrdered ds bs
+no_bounds ds [] e = (tt, (λ b c f. let l = c.1 in omega (arith, l)))
+no_bounds ds (b ∷ bs) e = let n : length (b ∷ bs) ≡ 0 = ap length e in absurd (omega (arith, n))
+
+all_bounds : (ds : List Decl) → Declared ds → AllDecls ds ds
+all_bounds ds builtin =
+    let n : AllGround ds [] × AreOrdered ds [] = no_bounds ds [] refl in
+    (n, (n, (n, (n, (n, (n, (n, (n, tt))))))))
+all_bounds ds (added es d h r) =
     let bs = list_all (is_known (length es)) (bound_types d.params) in
     let p = is_known (length es) d.parent in
     let fs = list_all (is_known (length es + own d.kind)) (field_types d.fields) in
     let k = and_l bs p (and_l (bs && p) fs (not_false (is_known_decl es d) r.allowed.known)) in
-    decls_snoc (es ++ d ∷ []) es d (decls_later es h d es (all_ground es h)) (own_bounds es d d.params d.params r.normal.params k)
+    decls_snoc (es ++ d ∷ []) es d (decls_later es h d es (all_bounds es h)) (own_bounds es d d.params d.params r.normal.params k, (λ b c f. r.allowed.ordered (b, c, f)))
 
-decl_ground : (ds es : List Decl) (k : ℕ) (d : Decl) → AllDecls ds es → slice_get es k ≡ Some d → AllGround ds d.params
-decl_ground ds [] k d a e = let f : None ≡ Some d = e in cc
-decl_ground ds (x ∷ xs) zero d a e = let f : Some x ≡ Some d = e in let g : x ≡ d = cc in subst (λ (z : Decl). AllGround ds z.params) g a.0
-decl_ground ds (x ∷ xs) (suc k) d a e = decl_ground ds xs k d a.1 e
+decl_bounds : (ds es : List Decl) (k : ℕ) (d : Decl) → AllDecls ds es → slice_get es k ≡ Some d → AllGround ds d.params × AreOrdered ds d.params
+decl_bounds ds [] k d a e = let f : None ≡ Some d = e in cc
+decl_bounds ds (x ∷ xs) zero d a e = let f : Some x ≡ Some d = e in let g : x ≡ d = cc in subst (λ (z : Decl). AllGround ds z.params × AreOrdered ds z.params) g a.0
+decl_bounds ds (x ∷ xs) (suc k) d a e = decl_bounds ds xs k d a.1 e
 
 -- those of a declared type
 pub declared_ground : (ds : List Decl) → Declared ds → (k : ℕ) (d : Decl) → slice_get ds k ≡ Some d → AllGround ds d.params
-declared_ground ds h k d e = decl_ground ds ds k d (all_ground ds h) e
+declared_ground ds h k d e = (decl_bounds ds ds k d (all_bounds ds h) e).0
+
+pub declared_ordered : (ds : List Decl) → Declared ds → (k : ℕ) (d : Decl) → slice_get ds k ≡ Some d → AreOrdered ds d.params
+declared_ordered ds h k d e = (decl_bounds ds ds k d (all_bounds ds h) e).1
 
 -- where nothing is declared, everything is between the bounds
 pub free_between : (ds : List Decl) (t : Ty) (b : Bound) → b ≡ free → Between (table_of ds) b t

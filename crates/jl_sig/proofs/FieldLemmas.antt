@@ -1,5 +1,5 @@
--- The fields of a declared type make a signature whose names are declared and whose variables stand where they may.
-use Rattle.std.proofs.Common.{◌≡◌, ◌∙◌, sym, subst, refl, ℕ, zero, suc, ◌+◌, ◌<◌, ◌≤◌, arith, Bool, true, false, ◌&&◌, nat_lt, List, [], ◌∷◌, ◌++◌, length, Some, slice_get}
+-- The fields of a declared type make a signature whose names are declared, whose variables stand where they may, and whose bounds are in order.
+use Rattle.std.proofs.Common.{◌≡◌, ◌∙◌, sym, subst, refl, ℕ, zero, suc, ◌+◌, ◌<◌, ◌≤◌, arith, Bool, true, false, ◌&&◌, nat_lt, List, [], ◌∷◌, ◌++◌, length, Option, None, Some, slice_get}
 use Rattle.std.specs.List.{flat_map, list_all}
 use Rattle.jl_model.specs.declared.ty.Ty.{Ty}
 use Rattle.jl_model.specs.declared.ty.Decl.{Decl}
@@ -9,14 +9,16 @@ use Rattle.jl_model.specs.Rows.{vars_in}
 use Rattle.jl_model.specs.Valid.{is_known, is_closed, names_in}
 use Rattle.jl_model.specs.Kept.{field_types}
 use Rattle.jl_model.specs.Refusals.{Declared, builtin, added, IsReady, bound_types, is_known_decl, is_placed_decl, is_free_of, is_placed, is_placed_field, own}
-use Rattle.jl_model.specs.SigRefusals.{is_argument, is_component}
+use Rattle.jl_model.specs.SigRefusals.{is_argument, is_component, BoundsCrossed}
 use Rattle.jl_model.proofs.TypeInduction.{Each, by_cases}
 use Rattle.jl_model.proofs.PutLemmas.{and_l, and_r, both_true}
 use Rattle.jl_model.proofs.AncestorLemmas.{each_true, true_each, long-snoc}
 use Rattle.jl_model.proofs.DeclaredLemmas.{not_false, placed-union, placed-tuple, placed-nominal}
 use Rattle.jl_types.proofs.PlaceLemmas.{free_is_closed, field-union, field-tuple, field-nominal}
-use Rattle.jl_sig.specs.Fields.{fields_in, fields_of}
+use Rattle.jl_program.specs.BodyTypes.{fields_signature}
+use Rattle.jl_sig.specs.Fields.{fields_of}
 use Rattle.jl_sig.specs.Prepared.{IsWellPlaced}
+use Rattle.jl_sig.proofs.DeclaredBounds.{declared_ordered}
 use Rattle.jl_sig.proofs.FitLemmas.{argument-any, argument-var, argument-union, argument-tuple, argument-nominal, component-any, component-var, component-union, component-tuple, component-nominal}
 use Rattle.jl_sig.proofs.WholeLemmas.{all_split}
 
@@ -135,8 +137,15 @@ fields_at m (d ∷ ds) (suc k) a l = fields_at m ds k a.1 (omega arith)
 pub fields_placed : (ds : List Decl) → Declared ds → (k : ℕ) → k < length ds → IsWellPlaced ds (fields_of ds k)
 fields_placed ds h k l =
     let f = fields_at (length ds) ds k (all_fields ds h) l in
-    subst (λ o. IsWellPlaced ds (fields_in o)) (sym f.1) (record {
+    subst (λ o. IsWellPlaced ds (fields_signature o)) (sym f.1) (record {
       own = f.2.variables;
       known = f.2.known;
       placed = λ e. let g : true ≡ false = sym f.2.placed ∙ e in cc;
     })
+
+crossed_at : (ds : List Decl) → Declared ds → (k : ℕ) (o : Option Decl) → slice_get ds k ≡ o → BoundsCrossed ds (fields_signature o) → ⊥
+crossed_at ds h k None e (b, c, f) = let l = c.1 in omega (arith, l)
+crossed_at ds h k (Some d) e (b, c, f) = declared_ordered ds h k d e b c f
+
+pub fields_ordered : (ds : List Decl) → Declared ds → (k : ℕ) → BoundsCrossed ds (fields_of ds k) → ⊥
+fields_ordered ds h k c = crossed_at ds h k (slice_get ds k) refl c

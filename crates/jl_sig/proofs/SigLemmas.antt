@@ -13,7 +13,7 @@ use Rattle.jl_model.specs.Rows.{alts, free, high}
 use Rattle.jl_model.specs.Signature.{Both}
 use Rattle.jl_model.specs.Valid.{is_known, is_closed}
 use Rattle.jl_model.specs.Refusals.{Declared, bound_types, Given, given_in, given_from}
-use Rattle.jl_model.specs.SigRefusals.{types_in, arguments_in, are_placed, is_component, is_argument, TypeLimit}
+use Rattle.jl_model.specs.SigRefusals.{types_in, arguments_in, are_placed, is_component, is_argument, TypeLimit, BoundsCrossed}
 use Rattle.jl_model.specs.AllRows.{Listed}
 use Rattle.jl_model.proofs.TypeInduction.{Each, by_cases}
 use Rattle.jl_model.proofs.FormLemmas.{alts-any}
@@ -27,7 +27,8 @@ use Rattle.jl_types.proofs.PartsLemmas.{closed-any, closed-union, closed-tuple, 
 use Rattle.jl_sig.specs.Parts.{HasWide}
 use Rattle.jl_sig.specs.Forms.{IsSmallForm, AreFormed, AreKnown}
 use Rattle.jl_sig.specs.Fit.{IsFit, AllFit}
-use Rattle.jl_sig.specs.Prepared.{HasOwnVariables, IsExpandable, IsBuildable, AreAllRows, IsWellPlaced}
+use Rattle.jl_sig.specs.declared.sig.Prepared.{Prepared}
+use Rattle.jl_sig.specs.Prepared.{HasOwnVariables, IsExpandable, IsBuildable, AreAllRows, IsWellPlaced, IsSigOf, IsPrepared}
 use Rattle.jl_types.proofs.GivenLemmas.{AllGiven, given-any, given-var, given-union, given-tuple, given-nominal, given_both, given_none, each_given}
 use Rattle.jl_sig.proofs.FitLemmas.{argument-any, argument-var, argument-union, argument-tuple, argument-nominal, component-any, component-union, component-tuple, component-nominal}
 use Rattle.jl_sig.proofs.LimitLemmas.{closed_bounds, few_alternatives, within, arguments_within, argument_form, not_too_large, no_large}
@@ -202,3 +203,7 @@ few_nodes s ts r e h f = elim (lt_cases 1024 (total (map nodes (types_in s)))) [
 
 pub not_wide_here : (s : Written) (ts : List Ty) (r : Bool) → ts ≡ types_in s → (IsTrue r ↔ HasWide ts) → r ≡ false → HasWide (types_in s) → ⊥
 not_wide_here s ts r e h f w = let g : r ≡ true = h.1 (subst HasWide (sym e) w) in let k : true ≡ false = sym g ∙ f in cc
+
+-- what is prepared is a signature where its bounds are in order
+pub in_order : (ds : List Decl) (s : Written) (p : Prepared) → IsPrepared ds s p → (BoundsCrossed ds s → ⊥) → IsSigOf ds p.sig
+in_order ds s p h o = record { kept = h.kept; ordered = subst (λ z. BoundsCrossed ds z → ⊥) (sym h.written) o }

@@ -12,7 +12,7 @@ use Rattle.jl_model.specs.Signature.{Both, is_diagonal}
 use Rattle.jl_model.specs.Subtype.{Table}
 use Rattle.jl_model.specs.Valid.{is_known, is_closed}
 use Rattle.jl_model.specs.Refusals.{bound_types}
-use Rattle.jl_model.specs.SigRefusals.{types_in, arguments_in, VariablePlace, TypeLimit}
+use Rattle.jl_model.specs.SigRefusals.{types_in, arguments_in, VariablePlace, TypeLimit, BoundsCrossed}
 use Rattle.jl_model.specs.AllRows.{Listed, ArePicks, all_rows, each_var}
 use Rattle.jl_sig.specs.declared.row.SigRow.{SigRow}
 use Rattle.jl_sig.specs.declared.sig.Sig.{Sig}
@@ -64,7 +64,7 @@ AreDiagonals s bs = bs ≡ each_var (λ v. is_diagonal (kind s v)) 0 s.vars
 -- What is kept of a signature that is small: the signature with the bounds of its variables in normal form, the signature with
 -- the arguments of nominal types in normal form, all its rows so, which variables are diagonal, and for each variable
 -- the alternatives of its upper bound as it is kept.
-pub record IsSigOf (ds : List Decl) (g : Sig) : Type 0 where
+pub record IsKeptOf (ds : List Decl) (g : Sig) : Type 0 where
   pub placed : IsWellPlaced ds (written_of g)
   pub small : TypeLimit ds (written_of g) → ⊥
   pub bounds : Both (IsSmallForm ds) (bound_types (written_of g).vars) (bound_types (bounded_of g).vars)
@@ -74,9 +74,14 @@ pub record IsSigOf (ds : List Decl) (g : Sig) : Type 0 where
   pub diagonals : AreDiagonals (written_of g) (diagonals_of g)
   pub alternatives : alternatives_of g ≡ map (λ b. alts b.high) (kept_of g).vars
 
+-- a signature, written or of a struct's fields, that may be matched and compared: its bounds are in order, and this is kept of it
+pub record IsSigOf (ds : List Decl) (g : Sig) : Type 0 where
+  pub kept : IsKeptOf ds g
+  pub ordered : BoundsCrossed ds (written_of g) → ⊥
+
 -- a signature that is small, with what is kept of it and its arguments without variables in normal form
 pub record IsPrepared (ds : List Decl) (s : Written) (p : Prepared) : Type 0 where
   pub written : written_of p.sig ≡ s
-  pub kept : IsSigOf ds p.sig
+  pub kept : IsKeptOf ds p.sig
   pub arguments : AreFormed ds (arguments_in s) (all_given p.arguments.items)
   pub small : TypeLimit ds s → ⊥

@@ -2,9 +2,10 @@
 
 ghost use Rattle.std.specs.Prelude.{◌≡◌, ◌<◌, IfOk, length};
 ghost use Rattle.jl_model.specs.Kept.{field_types};
+ghost use Rattle.jl_program.specs.BodyTypes.{fields_written};
 ghost use Rattle.jl_sig.specs.Fields.{fields_of};
 
-use jl_model::ty::{Field, Tys, Written};
+use jl_model::ty::{Decl, Field, Tys, Written};
 use jl_types::Table;
 use std::alloc::{AllocError, Global};
 
@@ -20,13 +21,20 @@ fn field_types(alloc: Global, fields: &[Field]) -> Result<Tys, AllocError>
     Ok(types)
 }
 
-/// The types of a declared type's fields, and its parameters as variables.
+/// The types of a declaration's fields, and its parameters as variables.
+pub fn fields_written(alloc: Global, decl: &Decl) -> Result<Written, AllocError>
+    ensures { IfOk result (λ written. written ≡ fields_written decl.now) }
+{
+    let vars = decl.params.copy()?;
+    let parts = field_types(alloc, decl.fields.as_slice())?;
+    Ok(Written { vars, parts })
+}
+
+/// The same of the type of this number.
 pub fn fields_of(alloc: Global, table: &Table, name: u32) -> Result<Written, AllocError>
     requires { name < length table.now }
     ensures { IfOk result (λ written. written ≡ fields_of table.now name) }
 {
-    let decl = table.decl(name);
-    let vars = decl.params.copy()?;
-    let parts = field_types(alloc, decl.fields.as_slice())?;
-    Ok(Written { vars, parts })
+    let written = fields_written(alloc, table.decl(name))?;
+    Ok(written)
 }

@@ -25,6 +25,7 @@ mod variables;
 
 pub use build::all_rows;
 pub use fault::SigFault;
+pub use fields::fields_written;
 pub use kind::{Kind, kind_of};
 pub use ready::Ready;
 pub use sig::{Prepared, Sig, prepare};

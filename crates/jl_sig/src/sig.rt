@@ -12,7 +12,7 @@ ghost use Rattle.jl_sig.specs.KindIn.{kind_in};
 ghost use Rattle.jl_sig.specs.Fields.{fields_of, FieldsRefused};
 ghost use Rattle.jl_sig.specs.Built.{listed, AreKinds};
 ghost use Rattle.jl_sig.specs.SigParts.{written_of, bounded_of, kept_of, diagonals_of, alternatives_of, rows_of};
-ghost use Rattle.jl_sig.specs.Prepared.{HasOwnVariables, IsBuildable, IsWellPlaced, AreAllRows, IsSigOf, IsPrepared};
+ghost use Rattle.jl_sig.specs.Prepared.{HasOwnVariables, IsBuildable, IsWellPlaced, AreAllRows, IsKeptOf, IsSigOf, IsPrepared};
 
 use crate::arguments::{Argument, arguments_in};
 use crate::build::all_rows;
@@ -163,7 +163,7 @@ fn sig_of(
     requires kinds { AreKinds written.now kinds.now }
     requires rows { AreAllRows (table_of table.now) written.now (map listed rows.now) }
     ensures written { IfOk result (λ sig. written_of sig ≡ written.now) }
-    ensures kept { IfOk result (λ sig. IsSigOf table.now sig) }
+    ensures kept { IfOk result (λ sig. IsKeptOf table.now sig) }
 {
     let kept = keep_signature(alloc, table, written)?;
     let alternatives = alternatives(alloc, kept.vars.as_slice())?;

@@ -9,7 +9,6 @@ use Rattle.jl_model.specs.Rows.{alts, width, high, kind, root, Occurs}
 use Rattle.jl_model.specs.Signature.{Row, top, by_kind, fixed, is_diagonal, Serves, Meet, RowBelow, SigBelow}
 use Rattle.jl_model.specs.Subtype.{Table, put, Below}
 use Rattle.jl_model.specs.Refusals.{Declared}
-use Rattle.jl_model.specs.SigRefusals.{IsAllowedSig}
 use Rattle.jl_model.proofs.DeclaredLemmas.{declared_lawful}
 use Rattle.jl_sig.specs.declared.row.SigRow.{SigRow}
 use Rattle.jl_sig.specs.declared.sig.Sig.{Sig}
@@ -101,37 +100,37 @@ every_on P [] i x p l e h = absurd (omega arith)
 every_on P (y ∷ ys) zero x p l e h = (subst P e p, h)
 every_on P (y ∷ ys) (suc i) x p l e h = every_on P ys i x p (omega arith) e (rw add-one (rw add-one at h))
 
-module _ (ds : List Decl) (declared : Declared ds) (g : Sig) (kept : IsSigOf ds g) (allowed : IsAllowedSig ds (written_of g)) where
+module _ (ds : List Decl) (declared : Declared ds) (g : Sig) (kept : IsSigOf ds g) where
   pub sides : Every (IsSide ds g) (rows_of g)
-  sides = every_has (IsSide ds g) (rows_of g) (λ q h. S.side ds declared g kept allowed q h)
+  sides = every_has (IsSide ds g) (rows_of g) (λ q h. S.side ds declared g kept q h)
 
-module _ (ds : List Decl) (declared : Declared ds) (a : Sig) (akept : IsSigOf ds a) (aallowed : IsAllowedSig ds (written_of a)) (b : Sig) (bkept : IsSigOf ds b) (ballowed : IsAllowedSig ds (written_of b)) where
+module _ (ds : List Decl) (declared : Declared ds) (a : Sig) (akept : IsSigOf ds a) (b : Sig) (bkept : IsSigOf ds b) where
   abbrev pub Rows : Type 0
   Rows = Every (λ k. AnyOf (λ q. RowBelow (table_of ds) (kept_of a) (row_of k) (kept_of b) (row_of q)) (rows_of b)) (rows_of a)
 
   kept_order : Rows → SigBelow (table_of ds) (kept_of a) (kept_of b)
   kept_order h l row =
-      let k = S.all_kept ds declared a akept aallowed l row in
+      let k = S.all_kept ds declared a akept l row in
       let q = any_of (λ q. RowBelow (table_of ds) (kept_of a) (row_of k.item) (kept_of b) (row_of q)) (rows_of b)
       (has_every (λ k. AnyOf (λ q. RowBelow (table_of ds) (kept_of a) (row_of k) (kept_of b) (row_of q)) (rows_of b)) (rows_of a) h k.item k.has) in
-      (row_of q.0, (S.side ds declared b bkept ballowed q.0 q.1).row, left_same (kept_of a) (row_of k.item) l k.chosen (table_of ds) (kept_of b) (row_of q.0) k.parts q.2)
+      (row_of q.0, (S.side ds declared b bkept q.0 q.1).row, left_same (kept_of a) (row_of k.item) l k.chosen (table_of ds) (kept_of b) (row_of q.0) k.parts q.2)
 
   rows_of_order : SigBelow (table_of ds) (kept_of a) (kept_of b) → Rows
   rows_of_order h = every_has (λ k. AnyOf (λ q. RowBelow (table_of ds) (kept_of a) (row_of k) (kept_of b) (row_of q)) (rows_of b)) (rows_of a) (λ k i.
-      let r = h (row_of k) (S.side ds declared a akept aallowed k i).row in
-      let q = S.all_kept ds declared b bkept ballowed r.0 r.1 in
+      let r = h (row_of k) (S.side ds declared a akept k i).row in
+      let q = S.all_kept ds declared b bkept r.0 r.1 in
       of_any (λ q. RowBelow (table_of ds) (kept_of a) (row_of k) (kept_of b) (row_of q)) (rows_of b) q.item q.has
       (right_same (kept_of b) r.0 (row_of q.item) (λ v d. sym (q.chosen v d)) (table_of ds) (kept_of a) (row_of k) (sym q.parts) r.2))
 
   pub order_told : Rows → SigBelow (table_of ds) (written_of a) (written_of b)
   order_told h =
       let n = table_of ds in
-      sig_below_alike n (declared_lawful ds declared) (kept_of a) (written_of a) (kept_of b) (written_of b) (turned_signatures n (written_of a) (kept_of a) (S.match ds declared a akept aallowed))
-      (turned_signatures n (written_of b) (kept_of b) (S.match ds declared b bkept ballowed)) (kept_order h)
+      sig_below_alike n (declared_lawful ds declared) (kept_of a) (written_of a) (kept_of b) (written_of b) (turned_signatures n (written_of a) (kept_of a) (S.match ds declared a akept))
+      (turned_signatures n (written_of b) (kept_of b) (S.match ds declared b bkept)) (kept_order h)
 
   pub tells_order : SigBelow (table_of ds) (written_of a) (written_of b) → Rows
   tells_order h =
       let n = table_of ds in
       rows_of_order (order_alike n (declared_lawful ds declared) (written_of a) (kept_of a) (written_of b) (kept_of b)
-      (kept_is_alike ds declared (written_of a) (kept_of a) (S.scoped ds declared a akept aallowed) (S.placed ds declared a akept aallowed) (S.form ds declared a akept aallowed))
-      (kept_is_alike ds declared (written_of b) (kept_of b) (S.scoped ds declared b bkept ballowed) (S.placed ds declared b bkept ballowed) (S.form ds declared b bkept ballowed)) h)
+      (kept_is_alike ds declared (written_of a) (kept_of a) (S.scoped ds declared a akept) (S.placed ds declared a akept) (S.form ds declared a akept))
+      (kept_is_alike ds declared (written_of b) (kept_of b) (S.scoped ds declared b bkept) (S.placed ds declared b bkept) (S.form ds declared b bkept)) h)

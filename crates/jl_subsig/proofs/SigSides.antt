@@ -1,4 +1,4 @@
--- What is kept of an allowed signature: each of its kept rows is one of its kept form, and these are all.
+-- What is kept of a signature: each of its kept rows is one of its kept form, and these are all.
 use Rattle.std.proofs.Common.{◌≡◌, ◌∙◌, sym, ap, subst, refl, ℕ, zero, suc, ◌+◌, ◌<◌, ◌≤◌, arith, Bool, true, false, nat_lt, List, [], ◌∷◌, ◌++◌, map, length, get_or, ◌⊎◌, inl, inr}
 use Rattle.std.specs.List.{flat_map, list_all}
 use Rattle.jl_model.specs.declared.ty.Ty.{Ty}
@@ -15,7 +15,7 @@ use Rattle.jl_model.specs.Subtype.{Table, at, Equal}
 use Rattle.jl_model.specs.Normal.{IsNormal, AllNormal, IsNormalForm, no_union, is_single, any as normal_any, var as normal_var, nominal as normal_nominal, tuple as normal_tuple, none as normals_end, more as normals_more}
 use Rattle.jl_model.specs.Valid.{is_known, is_closed}
 use Rattle.jl_model.specs.Refusals.{Declared, bound_types}
-use Rattle.jl_model.specs.SigRefusals.{are_placed, is_component, IsAllowedSig}
+use Rattle.jl_model.specs.SigRefusals.{are_placed, is_component}
 use Rattle.jl_model.specs.AllRows.{Listed, each_var, all_rows}
 use Rattle.jl_model.proofs.TypeInduction.{Each}
 use Rattle.jl_model.proofs.FormLemmas.{is_any, is_union, is_tuple, is_nominal, vars-union}
@@ -34,7 +34,7 @@ use Rattle.jl_sig.specs.SigParts.{written_of, kept_of, bounded_of, diagonals_of,
 use Rattle.jl_sig.specs.Forms.{IsSmallForm}
 use Rattle.jl_sig.specs.Fit.{AreKeptRows, rows_end, rows_more}
 use Rattle.jl_sig.specs.Fit as F
-use Rattle.jl_sig.specs.Prepared.{IsSigOf}
+use Rattle.jl_sig.specs.Prepared.{IsKeptOf, IsSigOf}
 use Rattle.jl_sig.proofs.WholeLemmas.{Carries, forms_have}
 use Rattle.jl_search.proofs.KindLemmas.{less_or}
 use Rattle.jl_subsig.specs.Scoped.{IsScoped, IsPlaced, IsOrdered, HasNormalArguments}
@@ -211,7 +211,10 @@ module _ (ds : List Decl) (declared : Declared ds) where
   aligns rs ks (rows_more s q ss qs p t) r (inl e) = (q, inl refl, subst (λ (z : Listed). F.IsKeptRow ds z q) e p)
   aligns rs ks (rows_more s q ss qs p t) r (inr h) = let w = aligns ss qs t r h in (w.0, inr w.1, w.2)
 
-  module _ (g : Sig) (kept : IsSigOf ds g) (allowed : IsAllowedSig ds (written_of g)) where
+  module _ (g : Sig) (sig : IsSigOf ds g) where
+    abbrev kept : IsKeptOf ds g
+    kept = sig.kept
+
     placed_true : are_placed (written_of g) ≡ true
     placed_true = elim (H.true_or (are_placed (written_of g))) [ inl e ↦ e | inr e ↦ absurd (kept.placed.placed e) ]
 
@@ -225,7 +228,7 @@ module _ (ds : List Decl) (declared : Declared ds) where
     form = record { bounds = kept.kept.bounds; parts = kept.kept.parts }
 
     pub ordered : IsOrdered (table_of ds) (written_of g)
-    ordered = bounds_ordered ds declared (written_of g) (λ b c f. allowed.ordered (b, c, f))
+    ordered = bounds_ordered ds declared (written_of g) (λ b c f. sig.ordered (b, c, f))
 
     pub match : Matches (table_of ds) (written_of g) (kept_of g)
     match = matches_of (table_of ds) (written_of g) (kept_of g) (kept_is_alike ds declared (written_of g) (kept_of g) scoped placed form)

@@ -5,7 +5,6 @@ use Rattle.jl_model.specs.declared.ty.Decl.{Decl}
 use Rattle.jl_model.specs.declared.ty.Written.{Written}
 use Rattle.jl_model.specs.Choice as M
 use Rattle.jl_model.specs.Signature.{SigBelow}
-use Rattle.jl_model.specs.SigRefusals.{IsAllowedSig}
 use Rattle.jl_model.specs.Subtype.{Table}
 use Rattle.jl_program.specs.declared.choice.Choice.{Choice}
 use Rattle.jl_program.specs.declared.choice.Choice.TheVariants as C
@@ -21,10 +20,9 @@ method_in m = record { number = m.number; sig = written_of m.sig.now }
 abbrev pub methods_in : List Method → List M.Method
 methods_in ms = map method_in ms
 
--- the signature is kept as it has to be, and nothing refuses it
+-- the signature is kept as it has to be
 pub record IsSound (ds : List Decl) (m : Method) : Type 0 where
   pub kept : IsSigOf ds m.sig.now
-  pub allowed : IsAllowedSig ds (written_of m.sig.now)
 
 abbrev pub nothing : M.Method
 nothing = record { number = 0; sig = record { vars = []; parts = [] } }

@@ -6,7 +6,6 @@ ghost use Rattle.std.specs.List.Sorted.{IsStrictlyIncreasing};
 ghost use Rattle.jl_model.specs.declared.ty.Ty.{Ty};
 ghost use Rattle.jl_model.specs.Ancestors.{table_of};
 ghost use Rattle.jl_model.specs.Signature.{Applicable};
-ghost use Rattle.jl_model.specs.SigRefusals.{IsAllowedSig};
 ghost use Rattle.jl_program.specs.Chooses.{Chooses};
 ghost use Rattle.jl_sig.specs.Prepared.{IsSigOf};
 ghost use Rattle.jl_sig.specs.SigParts.{written_of};
@@ -42,7 +41,6 @@ fn compared_with(
     methods: &[Method],
 ) -> Result<SharedList<bool>, AllocError>
     requires kept { IsSigOf table.now sig.now }
-    requires allowed { IsAllowedSig table.now (written_of sig.now) }
     requires methods { Every (IsSound table.now) methods.now }
     ensures { IfOk result (λ bs. IsCompared (table_of table.now) (written_of sig.now) (methods_in methods.now) bs) }
 {

@@ -3,7 +3,6 @@
 ghost use Rattle.std.specs.Prelude.{◌↔◌, IsTrue, IfOk};
 ghost use Rattle.jl_model.specs.Ancestors.{table_of};
 ghost use Rattle.jl_model.specs.Signature.{RowBelow, SigBelow};
-ghost use Rattle.jl_model.specs.SigRefusals.{IsAllowedSig};
 ghost use Rattle.jl_sig.specs.Prepared.{IsSigOf};
 ghost use Rattle.jl_sig.specs.SigParts.{written_of, kept_of, rows_of};
 ghost use Rattle.jl_subsig.specs.Side.{row_of, AnyOf, Every, IsSide};
@@ -50,12 +49,10 @@ fn are_below_some(alloc: Global, table: &Table, left: &Sig, right: &Sig) -> Resu
 
 /// Whether a signature is below another: whether every list of arguments' types below the one is below the other, as far as the
 /// rules tell (Julia manual, Methods: Method Ambiguities; Zappa Nardelli et al., OOPSLA 2018). The cost is at most the rows of
-/// both times that of one pair of rows. Both signatures are allowed in the table.
+/// both times that of one pair of rows. A signature may be written or that of a struct's fields.
 pub fn sig_sub(alloc: Global, table: &Table, left: &Sig, right: &Sig) -> Result<bool, AllocError>
     requires left { IsSigOf table.now left.now }
-    requires left_allowed { IsAllowedSig table.now (written_of left.now) }
     requires right { IsSigOf table.now right.now }
-    requires right_allowed { IsAllowedSig table.now (written_of right.now) }
     ensures { IfOk result (λ yes. IsTrue yes ↔ SigBelow (table_of table.now) (written_of left.now) (written_of right.now)) }
 {
     table.valid();

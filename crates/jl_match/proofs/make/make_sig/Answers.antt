@@ -7,6 +7,7 @@ use Rattle.jl_model.specs.Refusals.{bound_types}
 use Rattle.jl_model.specs.SigRefusals.{arguments_in, BoundsCrossed}
 use Rattle.jl_sig.specs.Parts.{all_given}
 use Rattle.jl_sig.specs.Forms.{IsSmallForm, AreFormed}
+use Rattle.jl_sig.proofs.SigLemmas.{in_order}
 use Rattle.jl_match.specs.SigRefused.{IsWellWritten}
 use Rattle.jl_match.proofs.MakeLemmas.{forms_ground, crossed_kept, crossed_written, outside_kept, outside_written, arguments_ground}
 use Rattle.jl_match.proofs.make.make_sig.Goals as goal
@@ -75,6 +76,7 @@ returns-clause-made c =
     let b : Both (IsSmallForm ds) (bound_types s.vars) (bound_types c.bounds.result.now) =
     subst (λ z. Both (IsSmallForm ds) (bound_types s.vars) (bound_types z)) (sym c.bounds.ensures) (subst (λ (z : Written). Both (IsSmallForm ds) (bound_types z.vars) (bound_types c.in-Ok.prepared.sig.bounded.vars)) p.written p.kept.bounds) in
     let a : AreFormed ds (arguments_in s) (all_given c.as_slice-2.result.now) = subst (λ z. AreFormed ds (arguments_in s) (all_given z)) (sym c.as_slice-2.ensures.value) p.arguments in
+    let o : BoundsCrossed ds s → ⊥ = λ h. let g = c.have_crossed.ensures.1 (crossed_kept ds c.valid.ensures s.vars c.bounds.result.now b h) in let f : true ≡ false = sym g ∙ c.if-have_crossed.false in cc in
     record {
       allowed = record {
         placed = w.placed;
@@ -82,9 +84,9 @@ returns-clause-made c =
         few = w.few;
         counted = w.counted;
         small = p.small;
-        ordered = λ h. let g = c.have_crossed.ensures.1 (crossed_kept ds c.valid.ensures s.vars c.bounds.result.now b h) in let f : true ≡ false = sym g ∙ c.if-have_crossed.false in cc;
+        ordered = o;
         within = λ h. let g = c.have_outside.ensures.1 (outside_kept ds c.valid.ensures (arguments_in s) (all_given c.as_slice-2.result.now) a (h.0, h.1, (h.2, h.3))) in let f : true ≡ false = sym g ∙ c.if-have_outside.false in cc;
       };
       written = p.written;
-      kept = p.kept;
+      kept = in_order ds s c.in-Ok.prepared p o;
     }

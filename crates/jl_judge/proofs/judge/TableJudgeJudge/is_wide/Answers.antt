@@ -1,6 +1,6 @@
 use Rattle.std.proofs.Common.{refl, arith, false}
 use Rattle.std.proofs.lemmas.Result.{IfOk-weaker}
-use Rattle.jl_judge.proofs.TestLemmas.{wide_is, fields_told}
+use Rattle.jl_judge.proofs.TestLemmas.{wide_is}
 use Rattle.jl_judge.proofs.judge.TableJudgeJudge.is_wide.Goals as goal
 
 pub returns-then-number-count : goal.returns-then-number-count
@@ -16,4 +16,4 @@ returns c =
     let e = c.count.ensures in
     let i = c.if-number-count.false in
     IfOk-weaker c.is_too_wide.result _ _
-    (λ b t. wide_is s.table.now s.declared c.valid.ensures c.args.number b (λ l. fields_told s.table.now c.args.number b t) (λ d. absurd (d (omega (arith, e, i))))) c.is_too_wide.ensures
+    (λ b t. wide_is s.table.now s.declared c.valid.ensures c.args.number b (λ l. t) (λ d. absurd (d (omega (arith, e, i))))) c.is_too_wide.ensures
