@@ -1,6 +1,7 @@
 //! What running a program means, and what a history of a run is.
 #![tactic(auto)]
 
+pub mod choice_laws;
 pub mod history;
 pub mod history_laws;
 pub mod laws;
