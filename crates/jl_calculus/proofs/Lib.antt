@@ -1,4 +1,6 @@
 pub mod ChoiceLaws
+pub mod ApplyLemmas
+pub mod MethodLemmas
 pub mod ValueLemmas
 pub mod SameLemmas
 pub mod AnswerLemmas

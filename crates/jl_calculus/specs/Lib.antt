@@ -1,5 +1,7 @@
 pub mod Host
 pub mod World
+pub mod Definitions
+pub mod ChoiceLaws
 pub mod Past
 pub mod Ranges
 pub mod Kept

@@ -2,6 +2,7 @@
 #![tactic(auto)]
 
 pub mod answer_laws;
+pub mod choice_laws;
 pub mod history;
 pub mod history_laws;
 pub mod laws;

@@ -50,3 +50,4 @@ pub mod ChoiceLists
 pub mod ChoicePairs
 pub mod ChoiceLemmas
 pub mod PlaceLemmas
+pub mod DefinitionLemmas

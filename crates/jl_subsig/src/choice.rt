@@ -194,7 +194,7 @@ fn choose_among(answers: &[SharedList<bool>], candidates: &[Ranked]) -> Choice
 /// signature is strictly below that of every other candidate, none where there is none, and else the two definitions that the
 /// ambiguity names (Julia manual, Methods; Method Ambiguities). A candidate is a method that no later one of the same signature
 /// replaces. Each ordered pair of signatures is compared once.
-pub fn choose(alloc: Global, table: &Table, methods: &[Method]) -> Result<Choice, AllocError>
+pub fn choose_method(alloc: Global, table: &Table, methods: &[Method]) -> Result<Choice, AllocError>
     requires sound { Every (IsSound table.now) methods.now }
     requires ordered { IsStrictlyIncreasing (map (λ m. m.number) methods.now) }
     ensures { IfOk result (λ c. (ts : List Ty) → Every (λ m. Applicable (table_of table.now) (written_of m.sig.now) ts) methods.now → Chooses (table_of table.now) (methods_in methods.now) ts c) }

@@ -5,6 +5,7 @@
 mod below;
 mod choice;
 mod concrete;
+mod definitions;
 mod find;
 pub mod laws;
 mod meet;
@@ -14,6 +15,7 @@ mod serve;
 mod top;
 mod values;
 
-pub use choice::{Method, choose};
+pub use choice::{Method, choose_method};
+pub use definitions::choose;
 pub use order::sig_sub;
 pub use row::row_below;

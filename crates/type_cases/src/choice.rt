@@ -3,7 +3,7 @@
 use crate::halt::Halt;
 use crate::signatures::signature;
 use jl_program::choice::Choice;
-use jl_subsig::{Method, choose};
+use jl_subsig::{Method, choose_method};
 use jl_types::Table;
 use std::alloc::Global;
 
@@ -14,7 +14,7 @@ fn of_one(alloc: Global, table: &Table, text: &str) -> Result<Choice, Halt> {
         number: 15,
         sig: &first,
     }];
-    Ok(choose(alloc, table, &methods)?)
+    Ok(choose_method(alloc, table, &methods)?)
 }
 
 /// The choice between two methods. Each signature is let go by a call: a drop that is left to the compiler is unrolled into this
@@ -38,7 +38,7 @@ fn of_two(alloc: Global, table: &Table, first: &str, second: &str) -> Result<Cho
             sig: &second,
         },
     ];
-    let choice = choose(alloc, table, &methods);
+    let choice = choose_method(alloc, table, &methods);
     drop(first);
     drop(second);
     Ok(choice?)
@@ -82,7 +82,7 @@ fn of_three(
             sig: &third,
         },
     ];
-    let choice = choose(alloc, table, &methods);
+    let choice = choose_method(alloc, table, &methods);
     drop(first);
     drop(second);
     drop(third);
@@ -141,7 +141,7 @@ fn of_four(
             sig: &fourth,
         },
     ];
-    let choice = choose(alloc, table, &methods);
+    let choice = choose_method(alloc, table, &methods);
     drop(first);
     drop(second);
     drop(third);
@@ -152,7 +152,7 @@ fn of_four(
 /// The choice among at most four methods.
 fn of_all(alloc: Global, table: &Table, texts: &[&str]) -> Result<Choice, Halt> {
     match texts {
-        [] | [""] => Ok(choose(alloc, table, &[])?),
+        [] | [""] => Ok(choose_method(alloc, table, &[])?),
         [first] => of_one(alloc, table, first),
         [first, second] => of_two(alloc, table, first, second),
         [first, second, third] => of_three(alloc, table, first, second, third),

@@ -3,7 +3,7 @@ use Rattle.jl_model.specs.Ancestors.{table_of}
 use Rattle.jl_program.specs.Chooses.{Chooses}
 use Rattle.jl_subsig.specs.Decide.{methods_in, candidates, choice_among}
 use Rattle.jl_subsig.proofs.PlaceLemmas.{chosen}
-use Rattle.jl_subsig.proofs.choice.choose.Goals as goal
+use Rattle.jl_subsig.proofs.choice.choose_method.Goals as goal
 
 pub returns : goal.returns
 returns c ts a =
