@@ -41,3 +41,4 @@ pub mod PointScript
 pub mod FuelScripts
 pub mod LaterScripts
 pub mod ToldFaults
+pub mod RunStarts
