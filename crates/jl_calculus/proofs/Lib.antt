@@ -42,3 +42,4 @@ pub mod FuelScripts
 pub mod LaterScripts
 pub mod ToldFaults
 pub mod RunStarts
+pub mod ChoiceScripts
