@@ -1,6 +1,6 @@
 -- Whole scripts with two methods of one name: `g(x::Int64) = 1`, `g(x) = 2`, and then `println(g(0))`; and `f(x::Int64, y) = 1`,
 -- `f(x, y::Int64) = 2`, and then `println(f(1, 2))`.
-use Rattle.std.proofs.Common.{◌≡◌, ◌∙◌, refl, sym, ap, subst, ℕ, suc, pos, true, codes, List, [], ◌∷◌, ◌++◌, None}
+use Rattle.std.proofs.Common.{◌≡◌, ◌∙◌, refl, sym, ap, ℕ, suc, pos, true, codes, List, [], ◌∷◌, ◌++◌, None}
 use Rattle.std.specs.Fmt.{digits}
 use Rattle.jl_model.specs.declared.ty.Ty.{Ty}
 use Rattle.jl_model.specs.declared.ty.Ty.TheVariants as T
@@ -12,13 +12,11 @@ use Rattle.jl_program.specs.declared.datum.Datum.TheOpen as D
 use Rattle.jl_program.specs.declared.datum.Datum.TheFolds.{fold-roll-Datum}
 use Rattle.jl_program.specs.declared.fault.Fault.TheVariants as Fa
 use Rattle.jl_program.specs.declared.tree.Expr.{Expr}
-use Rattle.jl_program.specs.declared.tree.Expr.TheOpen as F
 use Rattle.jl_program.specs.declared.tree.Expr.TheVariants as E
 use Rattle.jl_program.specs.declared.tree.Expr.TheViews as X
 use Rattle.jl_program.specs.declared.tree.Item.TheVariants as I
 use Rattle.jl_program.specs.declared.tree.Piece.TheVariants as Pi
 use Rattle.jl_program.specs.declared.tree.Program.{Program}
-use Rattle.jl_program.specs.declared.tree.Site.{Site}
 use Rattle.jl_program.specs.declared.value.Value.TheVariants as V
 use Rattle.jl_program.specs.Prelude.{plain, int64, two, prelude_functions, prelude_sites}
 use Rattle.jl_program.specs.Scope.{types_of}
@@ -30,8 +28,7 @@ use Rattle.jl_calculus.specs.declared.history.Outcome.{Outcome}
 use Rattle.jl_calculus.specs.declared.history.Outcome.TheVariants as O
 use Rattle.jl_calculus.specs.declared.history.TraceItem.{TraceItem}
 use Rattle.jl_calculus.specs.declared.history.TraceItem.TheVariants.{Look, Def}
-use Rattle.jl_calculus.specs.declared.history.Record.{Record}
-use Rattle.jl_calculus.specs.Legal.{text_of, status_of}
+use Rattle.jl_calculus.specs.Legal.{text_of}
 use Rattle.jl_calculus.specs.Run.{Setting, setting_of, State, Then, IsEnd, Caller, Run, calls, runs, runs_item, prints, with_scope, first_state, open_calls}
 use Rattle.jl_calculus.specs.World.{Selects}
 use Rattle.jl_calculus.proofs.Forms.{int_runs, call_runs, print_runs, show_runs, define_runs, do_runs}

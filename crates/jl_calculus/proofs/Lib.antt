@@ -43,3 +43,4 @@ pub mod LaterScripts
 pub mod ToldFaults
 pub mod RunStarts
 pub mod ChoiceScripts
+pub mod ThereAnswers
