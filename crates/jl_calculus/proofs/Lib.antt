@@ -44,3 +44,6 @@ pub mod PointScript
 pub mod FuelScripts
 pub mod LaterScripts
 pub mod ToldFaults
+pub mod RunStarts
+pub mod ChoiceScripts
+pub mod ThereAnswers

@@ -234,7 +234,7 @@ module _ (ds : List Decl) where
   abbrev B : Ty → Ty → Type 0
   B = Below (table_of ds) opaque
 
-  other_next : (t u : Ty) (ts us : List Ty) (i : ℕ) → B t u → IsFirstOther ds ts us i → IsFirstOther ds (t ∷ ts) (u ∷ us) (suc i)
+  pub other_next : (t u : Ty) (ts us : List Ty) (i : ℕ) → B t u → IsFirstOther ds ts us i → IsFirstOther ds (t ∷ ts) (u ∷ us) (suc i)
   other_next t u ts us i b h = record { inside = omega (arith, h.inside); before = both_more t u (take i ts) (take i us) b h.before; other = h.other }
 
   abbrev Told : List Ty → List Ty → Type 0

@@ -24,6 +24,7 @@ use Rattle.jl_program.specs.Making.{IsFirstOther}
 use Rattle.jl_program.specs.Prelude.{prelude_count}
 use Rattle.jl_program.specs.Scope.{types_of}
 use Rattle.jl_calculus.specs.declared.history.Event.{Event}
+use Rattle.jl_calculus.specs.declared.history.Outcome.{Outcome}
 use Rattle.jl_calculus.specs.Operations.{make_tuple, make_struct, make_written, make_inferred, test_type, test_order, test_same}
 use Rattle.jl_calculus.specs.Ranges.{Covers, MayBegin, IsRightFill}
 use Rattle.jl_calculus.specs.Statics.{nominals_of, is_bad_parameter}
@@ -69,6 +70,17 @@ WrittenIsOne = (ds : List Decl) → Declared ds → (statics : List Ty) (t : Wri
 
 abbrev pub InferredIsOne : Type 0
 InferredIsOne = (ds : List Decl) (name : ℕ) (vs : List Value) → HasOne (make_inferred ds name vs)
+
+-- The answers that the definitions decide by themselves are there: of two types whether one is below the other, and what a tuple and a
+-- struct of a type are made of these values.
+abbrev pub BelowIsDecided : Type 0
+BelowIsDecided = (ds : List Decl) → Declared ds → (t u : Ty) → IsDecided (Below (table_of ds) opaque t u)
+
+abbrev pub TupleIsThere : Type 0
+TupleIsThere = (ds : List Decl) (vs : List Value) → (o : Outcome) × make_tuple ds vs o
+
+abbrev pub StructIsThere : Type 0
+StructIsThere = (ds : List Decl) → Declared ds → (t : Ty) (vs : List Value) → (o : Outcome) × make_struct ds t vs o
 
 -- What a row of refusals asks for can be told. A signature in which no variable stands at a wrong place, and which breaks a declared
 -- bound, has a nominal type to name.

@@ -1,6 +1,6 @@
 -- Runs that a trace leads, up to a definition or a spawn: what a judge of a history asks at these events, before the task that
 -- makes them has ended.
-use Rattle.std.specs.Prelude.{ℕ, ◌≡◌, cond, nat_eq, List, [], ◌∷◌, ◌++◌, length, Option, None, Some}
+use Rattle.std.specs.Prelude.{ℕ, ◌≡◌, cond, nat_eq, List, [], ◌∷◌, ◌++◌, ◌+◌, length, slice_get, Option, None, Some}
 use Rattle.jl_program.specs.declared.tree.Program.{Program}
 use Rattle.jl_program.specs.declared.tree.Start.{Start}
 use Rattle.jl_calculus.specs.declared.history.Event.{Event}
@@ -12,15 +12,30 @@ use Rattle.jl_calculus.specs.Kept.{Places}
 use Rattle.jl_calculus.specs.Legal.{fuel_of, start_of}
 use Rattle.jl_calculus.specs.Run.{Question, a_look, a_definition, a_spawn, a_fetch, setting_of, Run, Comes}
 
--- the question that an item of a trace answers, where the item tells it: a Spawn does not tell the start of its task, and what is
--- full does not tell what there was no room for
-abbrev pub asked_by : TraceItem → Option Question
-asked_by (Look w p) = Some a_look
-asked_by (Def site p) = Some (a_definition site)
-asked_by (Fetch task outcome p) = Some (a_fetch task)
-asked_by (Spawn child p) = None
-asked_by (WorldFull p) = None
-asked_by (TaskFull p) = None
+-- the question of a spawn from this start
+abbrev pub spawn_asked : Option Start → Option Question
+spawn_asked None = None
+spawn_asked (Some start) = Some (a_spawn start)
+
+-- the question that an item of a trace answers, where a spawn is from this start: what is full does not tell what there was no room
+-- for
+abbrev pub asked_by : Option Start → TraceItem → Option Question
+asked_by start (Look w p) = Some a_look
+asked_by start (Def site p) = Some (a_definition site)
+asked_by start (Spawn child p) = spawn_asked start
+asked_by start (Fetch task outcome p) = Some (a_fetch task)
+asked_by start (WorldFull p) = None
+asked_by start (TaskFull p) = None
+
+-- how many spawns a trace has
+abbrev pub spawn_count : List TraceItem → ℕ
+spawn_count [] = 0
+spawn_count (Spawn child p ∷ is) = 1 + spawn_count is
+spawn_count (Look w p ∷ is) = spawn_count is
+spawn_count (Def site p ∷ is) = spawn_count is
+spawn_count (Fetch task outcome p ∷ is) = spawn_count is
+spawn_count (WorldFull p ∷ is) = spawn_count is
+spawn_count (TaskFull p ∷ is) = spawn_count is
 
 -- the items of a trace before its definition or spawn at a place
 abbrev pub items_before : ℕ → List TraceItem → List TraceItem
@@ -48,8 +63,10 @@ IsLedTo P es traces (Ev.Done task ended) = Unit {0}
 
 -- ---- the law
 
--- a run comes, at each item of its trace that tells a question, to this question: a trace that is cut off before the item leads to it
+-- a run comes, at each item of its trace that tells a question, to this question: a trace that is cut off before the item leads to it;
+-- a spawn is from the start that the run has for it
 abbrev pub RunsCome : Type 0
 RunsCome =
     (P : Program) (es : List Event) (places : Option Places) (fuel : ℕ) (start : Option Start) (before : List TraceItem) (item : TraceItem) (after : List TraceItem) (outcome : Outcome) (output : List ℕ) (made : ℕ) (spawned : List Start) (question : Question)
-    → Run (setting_of P es places fuel) start (before ++ item ∷ after) outcome output made spawned → asked_by item ≡ Some question → Comes P es places fuel start before question
+    → Run (setting_of P es places fuel) start (before ++ item ∷ after) outcome output made spawned → asked_by (slice_get spawned (spawn_count before)) item ≡ Some question
+    → Comes P es places fuel start before question

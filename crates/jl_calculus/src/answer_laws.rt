@@ -1,7 +1,7 @@
 //! Laws that each question of the rules has one answer. They are about definitions alone: each function does nothing, and its
 //! contract is the law.
 
-ghost use Rattle.jl_calculus.specs.AnswerLaws.{ChoiceIsOne, ChoiceIsThere, BindingsAreThere, TupleIsOne, StructIsOne, WrittenIsOne, InferredIsOne, BrokenIsTold, OtherIsTold, TestIsOne, OrderIsOne, IdentityIsOne, CoverIsOne, SiteIsThere};
+ghost use Rattle.jl_calculus.specs.AnswerLaws.{ChoiceIsOne, ChoiceIsThere, BindingsAreThere, TupleIsOne, StructIsOne, WrittenIsOne, InferredIsOne, BelowIsDecided, TupleIsThere, StructIsThere, BrokenIsTold, OtherIsTold, TestIsOne, OrderIsOne, IdentityIsOne, CoverIsOne, SiteIsThere};
 
 /// A call has one choice in a world, which is there wherever it is decided which methods apply and which signature is below
 /// which. A body gets one type for each variable of its signature.
@@ -17,6 +17,14 @@ pub fn law_made_is_one()
     ensures exact { StructIsOne }
     ensures written { WrittenIsOne }
     ensures inferred { InferredIsOne }
+{}
+
+/// Of two types it is decided whether one is below the other, and so what a tuple and a struct of a type are made of given values is
+/// there.
+pub fn law_made_is_there()
+    ensures below { BelowIsDecided }
+    ensures tuple { TupleIsThere }
+    ensures exact { StructIsThere }
 {}
 
 /// Where a fault is due there is one to tell: a declared bound that is broken has a nominal type to name, and a part that is not of

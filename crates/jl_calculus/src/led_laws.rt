@@ -3,8 +3,8 @@
 
 ghost use Rattle.jl_calculus.specs.Led.{RunsCome};
 
-/// A run comes to each look, definition and fetch of its trace: the trace before the item leads to the question that the item
-/// answers.
+/// A run comes to each look, definition, spawn and fetch of its trace: the trace before the item leads to the question that the
+/// item answers. A spawn is from the start that the run has for it.
 pub fn law_runs_come()
     ensures { RunsCome }
 {}

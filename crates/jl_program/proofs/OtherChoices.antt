@@ -89,10 +89,10 @@ alone_int = record { only = ap (λ fs. choices (fs ∷ [])) (int_forms (places_i
 alone_any : IsAlone (T.Any ∷ [])
 alone_any = record { only = ap (λ fs. choices (fs ∷ [])) (any_forms (places_in (T.Any ∷ []))); free = ap (λ vs. vs ++ []) any_vars }
 
-abbrev left : List Ty
+abbrev pub left : List Ty
 left = int64 ∷ T.Any ∷ []
 
-abbrev right : List Ty
+abbrev pub right : List Ty
 right = T.Any ∷ int64 ∷ []
 
 alone_left : IsAlone left
@@ -156,7 +156,7 @@ module _ (n : Table) where
       by l (is_first e) later s = absurd (omega (arith, later, ap (λ (m : Method). m.number) e))
       by l (is_second e) later s = general_not_below (subst (λ (m : Method). SigBelow n m.sig (plain (int64 ∷ []))) (sym e) s.1)
 
-  chooses_special : ChoosesMethod n both_g (int64 ∷ []) 15
+  pub chooses_special : ChoosesMethod n both_g (int64 ∷ []) 15
   chooses_special = (special, record { candidate = special_candidate; below = λ c h other. by c (either_of special general c h.applies.stands) other }, refl)
     where
       by : (c : Method) → Either special general c → (c.number ≡ 15 → ⊥) → StrictlyBelow n (plain (int64 ∷ [])) c.sig
@@ -216,7 +216,7 @@ module _ (n : Table) where
           let s = h.below a_method a_candidate (λ z. absurd (omega (arith, z, ap (λ (x : Method). x.number) e))) in
           right_not_below (subst (λ (x : Method). SigBelow n x.sig (plain left)) (sym e) s.0)
 
-  chooses_ambiguous : ChoosesAmbiguous n both_f two 15 16
+  pub chooses_ambiguous : ChoosesAmbiguous n both_f two 15 16
   chooses_ambiguous = record {
     none_best = none_is_best;
     pair = (
