@@ -34,7 +34,7 @@ use Rattle.jl_machine.specs.Point.{Point, gives, leaves, state_of, Finishes}
 use Rattle.jl_calculus.proofs.ChoiceLaws.{determined}
 use Rattle.jl_calculus.proofs.Layers.{item_is}
 use Rattle.jl_machine.specs.declared.task.Task.{Task}
-use Rattle.jl_machine.specs.Knows.{Knows, Grew, Told, Looked, Refused, IsRight, IsSite, Defined, Full}
+use Rattle.jl_machine.specs.Knows.{Knows, Grew, Told, Looked, Refused, IsRight, Defined, Full}
 use Rattle.jl_machine.specs.Worlds.{IsWorld}
 use Rattle.jl_machine.specs.Performed.{answered, performed}
 use Rattle.jl_machine.specs.Plain.{Every, is_plain_value, IsPlainPoint, IsPlainNow}
@@ -319,37 +319,44 @@ module _ (P : Program) (fuel : ℕ) where
     ChosenHere x rest o c = Chosen x (EndsAs o) f vs t.now.world (state rest) (next_of t x (EndsAs o)) (t.now.room - 1) c
 
     -- a choice, and what it leads to
-    by_choice : (c : Choice) (p : Point) → t.calls < fuel → 0 < t.now.room → IsRight k f (map type_of vs) t.now.world c → IsWorld p.1.world k.world → AreWorlds p.1.stack k.world → IsPlainPoint (length P.sites) p.0 p.1
-        → ((x : Over) → k.agrees x.events → (rest : List TraceItem) (o : Ending) → FinishesTo P x fuel p (t.calls + 1) rest o ≡ ChosenHere x rest o c)
+    by_choice : (p : Point) → t.calls < fuel → 0 < t.now.room → IsWorld p.1.world k.world → AreWorlds p.1.stack k.world → IsPlainPoint (length P.sites) p.0 p.1
+        → ((x : Over) → k.agrees x.events → (c : Choice) × Selects k.program x.events f (map type_of vs) t.now.world c × ((rest : List TraceItem) (o : Ending) → FinishesTo P x fuel p (t.calls + 1) rest o ≡ ChosenHere x rest o c))
         → FitsWith P fuel k p.0 (record t { now = p.1; calls = t.calls + 1 })
-    by_choice c p lt some r world worlds plain same =
+    by_choice p lt some world worlds plain right =
         let e : t.now.room ≡ suc (t.now.room - 1) = omega arith in
         moved k (Calling f vs) t p (t.calls + 1) world worlds plain
         (λ x a rest o.
-        let sel : Selects P x.events f (map type_of vs) t.now.world c = subst (λ R. Selects R x.events f (map type_of vs) t.now.world c) h.program (r.right x.events a) in
-        let pick = picks x (EndsAs o) f vs t.now.world (state rest) (next_of t x (EndsAs o)) (t.now.room - 1) c lt sel in
-        let go = both_ways (ChosenHere x rest o c) (FinishesTo P x fuel p (t.calls + 1) rest o) (same x a rest o) in
+        let (c, sel, same) = right x a in
+        let sel' : Selects P x.events f (map type_of vs) t.now.world c = subst (λ R. Selects R x.events f (map type_of vs) t.now.world c) h.program sel in
+        let pick = picks x (EndsAs o) f vs t.now.world (state rest) (next_of t x (EndsAs o)) (t.now.room - 1) c lt sel' in
+        let go = both_ways (ChosenHere x rest o c) (FinishesTo P x fuel p (t.calls + 1) rest o) (same rest o) in
         subst (λ n. calls (over P x fuel) (EndsAs o) n f vs t.now.world (state rest) (next_of t x (EndsAs o)) ↔ FinishesTo P x fuel p (t.calls + 1) rest o) (sym e) (λ g. go.0 (pick.0 g), λ g. pick.1 (go.1 g))) h
 
     pub call_none : t.calls < fuel → 0 < t.now.room → IsRight k f (map type_of vs) t.now.world C.None
         → FitsWith P fuel k (Ended (O.Error (NoMethod f (map type_of vs) t.now.world))) (record t { calls = t.calls + 1 })
     call_none lt some r =
-        by_choice C.None (Ended (O.Error (NoMethod f (map type_of vs) t.now.world)), t.now) lt some r h.world h.worlds (record { work = tt; now = h.plain.now }) (λ x a rest o. refl)
+        by_choice (Ended (O.Error (NoMethod f (map type_of vs) t.now.world)), t.now) lt some h.world h.worlds (record { work = tt; now = h.plain.now }) (λ x a. (C.None, r.right x.events a, λ rest o. refl))
 
     pub call_ambiguous : (a b : ℕ) → t.calls < fuel → 0 < t.now.room → IsRight k f (map type_of vs) t.now.world (C.Ambiguous a b)
         → FitsWith P fuel k (Ended (O.Error (Ambiguous f (map type_of vs) a b))) (record t { calls = t.calls + 1 })
     call_ambiguous a b lt some r =
-        by_choice (C.Ambiguous a b) (Ended (O.Error (Ambiguous f (map type_of vs) a b)), t.now) lt some r h.world h.worlds (record { work = tt; now = h.plain.now }) (λ x ag rest o. refl)
+        by_choice (Ended (O.Error (Ambiguous f (map type_of vs) a b)), t.now) lt some h.world h.worlds (record { work = tt; now = h.plain.now }) (λ x ag. (C.Ambiguous a b, r.right x.events ag, λ rest o. refl))
 
-    pub call_method : (d site : ℕ) → t.calls < fuel → 0 < t.now.room → IsRight k f (map type_of vs) t.now.world (C.Method d) → IsSite k d site
+    -- the method of which the dispatcher tells the site may be another than the one that the rules choose
+    pub call_method : (d site : ℕ) → t.calls < fuel → 0 < t.now.room → IsRight k f (map type_of vs) t.now.world (C.Method d) → site ≡ k.site d
         → FitsWith P fuel k (performed (body_of P site) t.now.world vs t.now).0 (record t { now = (performed (body_of P site) t.now.world vs t.now).1; calls = t.calls + 1 })
     call_method d site lt some r at =
         let b = body_of P site in
         let w = t.now.world in
         let ok = performed_well k.world b w vs t.now (simple_body P h.simple site) (light_body P site) h.plain.work h.world h.world h.worlds h.plain.now in
-        by_choice (C.Method d) (performed b w vs t.now) lt some r ok.world ok.worlds ok.plain
-        (λ x a rest o. performed_same x (EndsAs o) b w vs t.now (t.calls + 1) rest (simple_body P h.simple site)
-        ∙ ap (λ i. Goes x (EndsAs o) f vs w (state rest) (next_of t x (EndsAs o)) (t.now.room - 1) i) (sym (at.right x.events a)))
+        by_choice (performed b w vs t.now) lt some ok.world ok.worlds ok.plain
+        (λ x a.
+        let (chosen, sel, is) = r.right x.events a in (
+          C.Method chosen,
+          sel,
+          λ rest o. performed_same x (EndsAs o) b w vs t.now (t.calls + 1) rest (simple_body P h.simple site)
+              ∙ ap (λ i. Goes x (EndsAs o) f vs w (state rest) (next_of t x (EndsAs o)) (t.now.room - 1) i) (at ∙ sym is),
+        ))
 
     pub performed_light : (site : ℕ) → load (performed (body_of P site) t.now.world vs t.now).0 (performed (body_of P site) t.now.world vs t.now).1 ≤ heaviest P.sites + (1 + stack_weight t.now.stack)
     performed_light site =

@@ -25,7 +25,7 @@ use Rattle.jl_calculus.specs.Simple.{is_simple_item}
 use Rattle.jl_machine.specs.Point.{Point, begun, given, go_pieces}
 use Rattle.jl_machine.proofs.Steps.{begun_same, given_same, pieces_same}
 use Rattle.jl_machine.specs.declared.task.Task.{Task}
-use Rattle.jl_machine.specs.Knows.{Knows, Grew, Asked, Refused, IsRight, IsSite, Defined, Full}
+use Rattle.jl_machine.specs.Knows.{Knows, Grew, Asked, Refused, IsRight, Defined, Full}
 use Rattle.jl_machine.specs.Performed.{performed}
 use Rattle.jl_machine.specs.Weight.{load, heaviest, expr_weight, item_weight}
 use Rattle.jl_machine.specs.Asks.{EndsAs, over, Follows}
@@ -83,7 +83,7 @@ module _ (k k' : Knows) (t : Task) (f : ℕ) (vs : List Value) (ts : List Ty) (l
   pub step_ambiguous : (a b : ℕ) → IsRight k' f ts t.now.world (C.Ambiguous a b) → Steps k (Calling f vs) t k' (Ended (O.Error (Ambiguous f ts a b))) (record t { calls = t.calls + 1 })
   step_ambiguous a b r = rw types (ends k k' t f vs (O.Error (Ambiguous f (map type_of vs) a b)) lt (λ c. asked.follows c t.trace) (call_ambiguous k.program t.fuel k' t f vs (grown k.program t.fuel k k' (Calling f vs) t (refused k k' asked) h) a b lt some (subst (λ us. IsRight k' f us t.now.world (C.Ambiguous a b)) types r)))
 
-  performs_well : (d site : ℕ) (work : Work) (n : Now) → (work, n) ≡ performed (body_of k.program site) t.now.world vs t.now → IsRight k' f ts t.now.world (C.Method d) → IsSite k' d site → Steps k (Calling f vs) t k' work (record t { now = n; calls = t.calls + 1 })
+  performs_well : (d site : ℕ) (work : Work) (n : Now) → (work, n) ≡ performed (body_of k.program site) t.now.world vs t.now → IsRight k' f ts t.now.world (C.Method d) → site ≡ k'.site d → Steps k (Calling f vs) t k' work (record t { now = n; calls = t.calls + 1 })
   performs_well d site work n e r at =
       let S : Point → Type 0 = λ q. Steps k (Calling f vs) t k' q.0 (record t { now = q.1; calls = t.calls + 1 }) in
       let h' = grown k.program t.fuel k k' (Calling f vs) t (refused k k' asked) h in
@@ -92,7 +92,7 @@ module _ (k k' : Knows) (t : Task) (f : ℕ) (vs : List Value) (ts : List Ty) (l
       let c = fewer k.program t.fuel t.calls (heaviest k.program.sites) lt in
       subst S (sym e) (record { fits = call_method k.program t.fuel k' t f vs h' d site lt some (subst (λ us. IsRight k' f us t.now.world (C.Method d)) types r) at; lighter = omega (arith, l, c); tells = inl refl; follows = λ x. asked.follows x t.trace })
 
-  pub step_method : (r : Result Work AllocError) (P : Program) (d site : ℕ) (n : Now) → P ≡ k.program → IfOk r (λ work. (work, n) ≡ performed (body_of P site) t.now.world vs t.now) → IsRight k' f ts t.now.world (C.Method d) → IsSite k' d site → IfOk r (λ work. Steps k (Calling f vs) t k' work (record t { now = n; calls = t.calls + 1 }))
+  pub step_method : (r : Result Work AllocError) (P : Program) (d site : ℕ) (n : Now) → P ≡ k.program → IfOk r (λ work. (work, n) ≡ performed (body_of P site) t.now.world vs t.now) → IsRight k' f ts t.now.world (C.Method d) → site ≡ k'.site d → IfOk r (λ work. Steps k (Calling f vs) t k' work (record t { now = n; calls = t.calls + 1 }))
   step_method (Ok work) P d site n eP e right at = performs_well d site work n (subst (λ Q. (work, n) ≡ performed (body_of Q site) t.now.world vs t.now) eP e) right at
   step_method (Err x) P d site n eP e right at = tt
 

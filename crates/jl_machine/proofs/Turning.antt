@@ -6,7 +6,7 @@ use Rattle.jl_program.specs.declared.tree.Expr.{Expr, out-Expr}
 use Rattle.jl_program.specs.declared.tree.Item.{Item}
 use Rattle.jl_program.specs.declared.tree.Piece.{Piece, out-Piece}
 use Rattle.jl_program.specs.declared.tree.Stmt.{Stmt}
-use Rattle.jl_program.specs.declared.tree.Expr.TheOpen.{Expr-F, Item-F, Piece-F}
+use Rattle.jl_program.specs.declared.tree.Expr.TheOpen.{Expr-F, Piece-F}
 use Rattle.jl_program.specs.declared.tree.Expr.TheOpen as F
 use Rattle.jl_program.specs.declared.tree.Program.{Program}
 use Rattle.jl_machine.specs.declared.point.Frame.{Frame}

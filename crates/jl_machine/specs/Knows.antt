@@ -34,6 +34,8 @@ pub record Knows : Type 1 where
   pub own : List TraceItem
   -- how often it looked
   pub looks : ℕ
+  -- the site that it tells for a definition, until the next call
+  pub site : ℕ → ℕ
   -- what a claim and the trace so far have to do with each other: it stays so where each item that is told joins the trace
   pub follows : Claim → List TraceItem → Type 0
 
@@ -80,14 +82,16 @@ abbrev pub IsOfWorld : Choice → ℕ → Type 0
 IsOfWorld (C.Method d) w = (1 ≤ d) × (d ≤ w)
 IsOfWorld _ w = Unit {0}
 
+-- it is right to answer this where the rules choose: their choice, and for a definition any of which the dispatcher tells the same site
+abbrev pub SelectsBySite : Knows → List Event → ℕ → List Ty → ℕ → Choice → Type 0
+SelectsBySite k es f ts w (C.Method d) = (chosen : ℕ) × Selects k.program es f ts w (C.Method chosen) × (site_of es chosen ≡ k.site d)
+SelectsBySite k es f ts w C.None = Selects k.program es f ts w C.None
+SelectsBySite k es f ts w (C.Ambiguous a b) = Selects k.program es f ts w (C.Ambiguous a b)
+
 -- a choice is right
 pub record IsRight (now : Knows) (f : ℕ) (ts : List Ty) (w : ℕ) (c : Choice) : Type 0 where
-  pub right : (es : List Event) → now.agrees es → Selects now.program es f ts w c
+  pub right : (es : List Event) → now.agrees es → SelectsBySite now es f ts w c
   pub of_world : IsOfWorld c w
-
--- the site of a definition
-pub record IsSite (now : Knows) (d site : ℕ) : Type 0 where
-  pub right : (es : List Event) → now.agrees es → site_of es d ≡ site
 
 -- a definition of a site, which is then seen
 pub record Defined (before now : Knows) (site : ℕ) : Type 0 where

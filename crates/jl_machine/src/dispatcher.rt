@@ -5,7 +5,7 @@ ghost use Rattle.std.specs.List.{list_all};
 ghost use Rattle.jl_program.specs.declared.prelude.TheConstants.{PRELUDE_SITES};
 ghost use Rattle.jl_calculus.specs.Simple.{is_plain};
 ghost use Rattle.jl_calculus.specs.declared.history.DefineFault.TheVariants.{WorldLimit};
-ghost use Rattle.jl_machine.specs.Knows.{Knows, Grew, Looked, Asked, Refused, IsRight, IsSite, Defined, IsMade, Full, IsFull};
+ghost use Rattle.jl_machine.specs.Knows.{Knows, Grew, Looked, Asked, Refused, IsRight, Defined, IsMade, Full, IsFull};
 ghost use Rattle.jl_machine.specs.Worlds.{IsWorld};
 
 use jl_calculus::history::{DefineFault, Seen};
@@ -33,10 +33,11 @@ pub trait Dispatcher {
         ensures asked { Asked (knows self.old) (knows self.new) }
         ensures right { IfOk result (λ choice. IsRight (knows self.new) key.function key.types world choice) };
 
-    /// The site of a definition of a world that the task knows.
+    /// The site of a definition that the last call of `select` answered. Until the next call it is that of the definition that the
+    /// rules choose, which need not be the same definition.
     fn site(&self, definition: u32) -> u32
         requires { (1 ≤ definition) × (definition ≤ (knows self.now).world) }
-        ensures { IsSite (knows self.now) definition result };
+        ensures { result ≡ (knows self.now).site definition };
 
     /// Makes a definition of a site, and answers its world. Where it answers an error, nothing was made. `WorldLimit` comes only
     /// where the world is full, and wherever the task knows that it is.

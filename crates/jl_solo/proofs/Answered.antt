@@ -4,6 +4,7 @@ use Rattle.std.proofs.lemmas.List.Elements.{All-push}
 use Rattle.std.proofs.lemmas.List.{drop-append-le, length-take-le}
 use Rattle.jl_model.specs.declared.ty.Ty.{Ty}
 use Rattle.jl_program.specs.declared.choice.Choice.{Choice}
+use Rattle.jl_program.specs.declared.choice.Choice.TheVariants as C
 use Rattle.jl_calculus.specs.declared.history.Event.{Event}
 use Rattle.jl_calculus.specs.declared.history.Event.TheVariants as Ev
 use Rattle.jl_calculus.specs.declared.history.TraceItem.{TraceItem}
@@ -15,9 +16,9 @@ use Rattle.jl_calculus.specs.Past.{IsTrueOf, DefinesAt}
 use Rattle.jl_program.specs.Prelude.{prelude_numbers}
 use Rattle.jl_program.specs.Scope.{types_of}
 use Rattle.jl_program.specs.Chooses.{Chooses}
-use Rattle.jl_calculus.specs.World.{world_of}
+use Rattle.jl_calculus.specs.World.{world_of, Selects}
 use Rattle.jl_choice.specs.Methods.{methods_of, defs_from}
-use Rattle.jl_machine.specs.Knows.{Grew, Looked, Asked, Refused, IsRight, IsSite, Defined, IsMade, Full, IsFull}
+use Rattle.jl_machine.specs.Knows.{Grew, Looked, Asked, Refused, IsOfWorld, SelectsBySite, IsRight, Defined, IsMade, Full, IsFull}
 use Rattle.jl_solo.specs.Alone.{defs_of, events_of, GoesOn, knows_at, IsOfScript, IsAlone}
 use Rattle.jl_solo.proofs.EventLemmas.{defined_alone, length_more, take_defs, defs_push, get_last, own_push}
 use Rattle.jl_solo.proofs.ChoiceOf.{of_world, selects_goes, site_goes}
@@ -123,15 +124,21 @@ module _ (P : Program) (sites : List ℕ) where
       own_part : List TraceItem
       own_part = (knows_at P sites n).own
 
+-- a choice of the rules is right to answer, since each definition's own site is told
+by_site : (P : Program) (all : List ℕ) (n f w : ℕ) (ts : List Ty) (c : Choice) → IsAlone P all → w ≤ length all → IsOfWorld c w → (es : List Event) → GoesOn (drop 14 all) es
+    → Selects P es f ts w c → SelectsBySite (knows_at P (drop 14 all) n) es f ts w c
+by_site P all n f w ts C.None h l o es g s = s
+by_site P all n f w ts (C.Ambiguous a b) h l o es g s = s
+by_site P all n f w ts (C.Method d) h l o es g s = (d, s, site_goes d all (drop 14 all) h.prelude o.0 (omega (arith, o.1, l)) es g ∙ ap (λ xs. get_or xs (d - 1) 0) h.prelude)
+
 pub right : (P : Program) (all : List ℕ) (n f w : ℕ) (ts : List Ty) (c : Choice) → IsAlone P all → w ≤ length all
     → Chooses (types_of P) (methods_of P (defs_from P f 1 (take w all))) ts c → IsRight (knows_at P (drop 14 all) n) f ts w c
-right P all n f w ts c h l k = record {
-  right = selects_goes P f w ts c all (drop 14 all) h.prelude l k;
-  of_world = of_world P f w (take w all) ts c (omega (arith, length-take-le w all l)) k;
-}
+right P all n f w ts c h l k =
+    let o : IsOfWorld c w = of_world P f w (take w all) ts c (omega (arith, length-take-le w all l)) k in
+    record { right = λ es g. by_site P all n f w ts c h l o es g (selects_goes P f w ts c all (drop 14 all) h.prelude l k es g); of_world = o }
 
-pub site : (P : Program) (all : List ℕ) (n d s : ℕ) → IsAlone P all → 1 ≤ d → d ≤ length all → s ≡ get_or all (d - 1) 0 → IsSite (knows_at P (drop 14 all) n) d s
-site P all n d s h low high e = record { right = λ es g. site_goes d all (drop 14 all) h.prelude low high es g ∙ sym e }
+pub site : (P : Program) (all : List ℕ) (n d s : ℕ) → IsAlone P all → s ≡ get_or all (d - 1) 0 → s ≡ (knows_at P (drop 14 all) n).site d
+site P all n d s h e = e ∙ ap (λ xs. get_or xs (d - 1) 0) h.prelude
 
 -- ---- the same, by the list of all definitions
 

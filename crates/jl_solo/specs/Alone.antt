@@ -1,5 +1,5 @@
 -- What a task that runs alone has done, as a list of the sites that it defined.
-use Rattle.std.specs.Prelude.{ℕ, ◌+◌, ◌≡◌, ◌<◌, ◌≤◌, All, Bool, IsTrue, false, nat_eq, List, [], ◌∷◌, ◌++◌, drop, length, Option, None, Some}
+use Rattle.std.specs.Prelude.{ℕ, ◌+◌, ◌-◌, get_or, ◌≡◌, ◌<◌, ◌≤◌, All, Bool, IsTrue, false, nat_eq, List, [], ◌∷◌, ◌++◌, drop, length, Option, None, Some}
 use Rattle.std.specs.List.{list_all}
 use Rattle.jl_model.specs.declared.limits.TheConstants.{MOST_WORLDS}
 use Rattle.jl_program.specs.declared.prelude.TheConstants.{FIRST_WORLD, PRELUDE_SITES}
@@ -36,6 +36,7 @@ knows_at P sites looks = record {
   learnt = λ i. (es : List Event) → GoesOn sites es → IsTrueOf es 0 i;
   own = own_events 0 1 (defs_of sites);
   looks = looks;
+  site = λ d. get_or (prelude_numbers ++ sites) (d - 1) 0;
   follows = λ c is. Unit {0};
 }
 

@@ -7,5 +7,5 @@ pub returns : goal.returns
 returns c =
     let s = c.args.self.now in
     let n = all_length s.program.now s.sites.items s.alone in
-    site s.program.now s.sites.items s.looks c.args.definition c.index.result.now s.alone c.requires.0 (omega (arith, c.requires.1, n))
+    site s.program.now s.sites.items s.looks c.args.definition c.index.result.now s.alone
     (get_or_read s.sites.items (c.args.definition - 1) c.index.result.now (omega (arith, c.requires.0, c.requires.1, n)) c.index.ensures 0)
