@@ -47,3 +47,4 @@ pub mod ToldFaults
 pub mod RunStarts
 pub mod ChoiceScripts
 pub mod ThereAnswers
+pub mod ToldBodies

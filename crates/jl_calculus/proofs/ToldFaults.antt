@@ -33,28 +33,28 @@ use Rattle.jl_calculus.proofs.SureLemmas.{Sure, Known, sure_known, In, in_of, su
 
 -- ---- where variables may stand
 
-argument-any : is_argument W.Any ≡ true
+pub argument-any : is_argument W.Any ≡ true
 argument-any = ap is_argument (sym rolls-Any) ∙ para-roll-Ty Bool argument_step Any
 
-argument-var : (v : ℕ) → is_argument (W.Var v) ≡ true
+pub argument-var : (v : ℕ) → is_argument (W.Var v) ≡ true
 argument-var v = ap is_argument (sym (rolls-Var v)) ∙ para-roll-Ty Bool argument_step (Var v)
 
-argument-union : (ts : List Ty) → is_argument (T.Union ts) ≡ list_all is_closed ts
+pub argument-union : (ts : List Ty) → is_argument (T.Union ts) ≡ list_all is_closed ts
 argument-union ts = ap is_argument (sym (rolls-Union ts)) ∙ para-roll-Ty Bool argument_step (Union ts) ∙ all_firsts is_argument is_closed ts
 
-argument-tuple : (ts : List Ty) → is_argument (T.Tuple ts) ≡ list_all is_closed ts
+pub argument-tuple : (ts : List Ty) → is_argument (T.Tuple ts) ≡ list_all is_closed ts
 argument-tuple ts = ap is_argument (sym (rolls-Tuple ts)) ∙ para-roll-Ty Bool argument_step (Tuple ts) ∙ all_firsts is_argument is_closed ts
 
-argument-nominal : (k : ℕ) (ts : List Ty) → is_argument (T.Nominal k ts) ≡ list_all is_argument ts
+pub argument-nominal : (k : ℕ) (ts : List Ty) → is_argument (T.Nominal k ts) ≡ list_all is_argument ts
 argument-nominal k ts = ap is_argument (sym (rolls-Nominal k ts)) ∙ para-roll-Ty Bool argument_step (Nominal k ts) ∙ all_seconds is_argument ts
 
-component-union : (ts : List Ty) → is_component (T.Union ts) ≡ list_all is_component ts
+pub component-union : (ts : List Ty) → is_component (T.Union ts) ≡ list_all is_component ts
 component-union ts = ap is_component (sym (rolls-Union ts)) ∙ para-roll-Ty Bool component_step (Union ts) ∙ all_seconds is_component ts
 
-component-tuple : (ts : List Ty) → is_component (T.Tuple ts) ≡ list_all is_component ts
+pub component-tuple : (ts : List Ty) → is_component (T.Tuple ts) ≡ list_all is_component ts
 component-tuple ts = ap is_component (sym (rolls-Tuple ts)) ∙ para-roll-Ty Bool component_step (Tuple ts) ∙ all_seconds is_component ts
 
-component-nominal : (k : ℕ) (ts : List Ty) → is_component (T.Nominal k ts) ≡ list_all is_argument ts
+pub component-nominal : (k : ℕ) (ts : List Ty) → is_component (T.Nominal k ts) ≡ list_all is_argument ts
 component-nominal k ts = ap is_component (sym (rolls-Nominal k ts)) ∙ para-roll-Ty Bool component_step (Nominal k ts) ∙ all_firsts is_component is_argument ts
 
 -- one by one
@@ -66,12 +66,12 @@ all_pass : (p : Ty → Bool) (ts : List Ty) → Each (λ t. p t ≡ true) ts →
 all_pass p [] e = refl
 all_pass p (t ∷ ts) e = both_true (p t) (list_all p ts) e.0 (all_pass p ts e.1)
 
-each_all : (Q : Ty → Type 0) → ((t : Ty) → Q t) → (ts : List Ty) → Each Q ts
+pub each_all : (Q : Ty → Type 0) → ((t : Ty) → Q t) → (ts : List Ty) → Each Q ts
 each_all Q q [] = tt
 each_all Q q (t ∷ ts) = (q t, each_all Q q ts)
 
 -- a type without variables may stand anywhere
-closed_argument : (t : Ty) → is_closed t ≡ true → is_argument t ≡ true
+pub closed_argument : (t : Ty) → is_closed t ≡ true → is_argument t ≡ true
 closed_argument = by_cases (λ t. is_closed t ≡ true → is_argument t ≡ true) (record {
   any = λ h. argument-any;
   union = λ ts e h. argument-union ts ∙ sym (closed_parts.union_is ts) ∙ h;

@@ -2,8 +2,8 @@
 --
 -- "There is one" is said so: it can't be that there is none. The logic here decides nothing by itself, and whether a
 -- signature applies, or is below another, is decided by the calls that answer it, which may run out of memory.
-use Rattle.std.specs.Prelude.{ℕ, ◌≡◌, ◌≤◌, ◌⊎◌, ◌↔◌, Bool, List, length}
-use Rattle.std.specs.List.{Contains}
+use Rattle.std.specs.Prelude.{ℕ, ◌≡◌, ◌≤◌, ◌⊎◌, ◌↔◌, Bool, IsTrue, List, length}
+use Rattle.std.specs.List.{Contains, list_all}
 use Rattle.jl_model.specs.declared.ty.Key.{Key}
 use Rattle.jl_model.specs.declared.ty.Ty.{Ty}
 use Rattle.jl_model.specs.declared.ty.Decl.{Decl}
@@ -15,11 +15,13 @@ use Rattle.jl_model.specs.Refusals.{Declared}
 use Rattle.jl_model.specs.SigRefusals.{VariablePlace, BoundBroken}
 use Rattle.jl_model.specs.Signature.{Both, Applicable, SigBelow}
 use Rattle.jl_model.specs.Subtype.{Table, opaque, Below}
+use Rattle.jl_model.specs.Valid.{is_closed}
 use Rattle.jl_program.specs.declared.choice.Choice.{Choice}
 use Rattle.jl_program.specs.declared.choice.Choice.TheVariants as C
 use Rattle.jl_program.specs.declared.fault.Fault.{Fault}
 use Rattle.jl_program.specs.declared.tree.Program.{Program}
 use Rattle.jl_program.specs.declared.value.Value.{Value}
+use Rattle.jl_program.specs.BodyTypes.{without_statics}
 use Rattle.jl_program.specs.Making.{IsFirstOther}
 use Rattle.jl_program.specs.Prelude.{prelude_count}
 use Rattle.jl_program.specs.Scope.{types_of}
@@ -27,7 +29,7 @@ use Rattle.jl_calculus.specs.declared.history.Event.{Event}
 use Rattle.jl_calculus.specs.declared.history.Outcome.{Outcome}
 use Rattle.jl_calculus.specs.Operations.{make_tuple, make_struct, make_written, make_inferred, test_type, test_order, test_same}
 use Rattle.jl_calculus.specs.Ranges.{Covers, MayBegin, IsRightFill}
-use Rattle.jl_calculus.specs.Statics.{nominals_of, is_bad_parameter}
+use Rattle.jl_calculus.specs.Statics.{with_statics, nominals_of, is_bad_parameter}
 use Rattle.jl_calculus.specs.World.{site_of, methods_in, Selects}
 
 -- it can't be that there is none, and there are no two
@@ -87,6 +89,12 @@ StructIsThere = (ds : List Decl) → Declared ds → (t : Ty) (vs : List Value) 
 abbrev pub BrokenIsTold : Type 0
 BrokenIsTold =
     (ds : List Decl) → Declared ds → (s : Written) → (VariablePlace s → ⊥) → BoundBroken ds s → ((e : Fault) → is_bad_parameter ds (nominals_of s) e → ⊥) → ⊥
+
+-- So has a type in a body, which no variable stands at a wrong place of, with types without variables put in for its static parameters.
+abbrev pub BodyIsTold : Type 0
+BodyIsTold =
+    (ds : List Decl) → Declared ds → (statics : List Ty) (t : Written) → IsTrue (list_all is_closed statics) → (VariablePlace (without_statics t) → ⊥) → BoundBroken ds (with_statics statics t)
+    → ((e : Fault) → is_bad_parameter ds (nominals_of (with_statics statics t)) e → ⊥) → ⊥
 
 -- Of as many types as there are fields not all are below their fields' exactly where there is a first one that is not.
 abbrev pub OtherIsTold : Type 0

@@ -1,4 +1,4 @@
--- The laws of the questions that the rules ask: each has at most one answer. That it has one is shown by who answers it.
+-- The laws of the questions that the rules ask: each has at most one answer. That there is one is said in `AnswerLaws`.
 use Rattle.std.specs.Prelude.{ℕ, ◌≡◌, ◌↔◌, Bool, List, Option, None}
 use Rattle.std.specs.List.{Contains}
 use Rattle.jl_model.specs.declared.ty.Ty.{Ty}

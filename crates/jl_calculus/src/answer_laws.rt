@@ -1,7 +1,7 @@
 //! Laws that each question of the rules has one answer. They are about definitions alone: each function does nothing, and its
 //! contract is the law.
 
-ghost use Rattle.jl_calculus.specs.AnswerLaws.{ChoiceIsOne, ChoiceIsThere, BindingsAreThere, TupleIsOne, StructIsOne, WrittenIsOne, InferredIsOne, BelowIsDecided, TupleIsThere, StructIsThere, BrokenIsTold, OtherIsTold, TestIsOne, OrderIsOne, IdentityIsOne, CoverIsOne, SiteIsThere};
+ghost use Rattle.jl_calculus.specs.AnswerLaws.{ChoiceIsOne, ChoiceIsThere, BindingsAreThere, TupleIsOne, StructIsOne, WrittenIsOne, InferredIsOne, BelowIsDecided, TupleIsThere, StructIsThere, BrokenIsTold, BodyIsTold, OtherIsTold, TestIsOne, OrderIsOne, IdentityIsOne, CoverIsOne, SiteIsThere};
 
 /// A call has one choice in a world, which is there wherever it is decided which methods apply and which signature is below
 /// which. A body gets one type for each variable of its signature.
@@ -31,6 +31,7 @@ pub fn law_made_is_there()
 /// its field's type has a first one.
 pub fn law_fault_is_told()
     ensures broken { BrokenIsTold }
+    ensures body { BodyIsTold }
     ensures other { OtherIsTold }
 {}
 
