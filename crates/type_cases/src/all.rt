@@ -1,8 +1,6 @@
 //! The answers about all that was listed, a line each: all pairs of types, all pairs of signatures, and each signature with each call.
 
-ghost use Rattle.jl_model.specs.SigRefusals.{IsAllowedSig};
 ghost use Rattle.jl_sig.specs.Prepared.{IsSigOf};
-ghost use Rattle.jl_sig.specs.SigParts.{written_of};
 
 use crate::halt::Halt;
 use crate::ready::made;
@@ -53,7 +51,6 @@ fn sig_line(
     out: &mut String,
 ) -> Result<(), Halt>
     requires sig { IsSigOf table.now sig.now }
-    requires allowed { IsAllowedSig table.now (written_of sig.now) }
 {
     for written in rights {
         let right = made(alloc, table, written)?;

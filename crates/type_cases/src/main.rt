@@ -7,10 +7,10 @@
 //!
 //! - `nodes T` how large a normal form is, `types T | S` how two types stand to one another
 //! - `names` all types, `kept S` the parent and the fields that the table keeps of a type, `above T | S` the arguments of an ancestor
-//! - `rows SIG` rows, `keep SIG` what is kept of a signature, both also with `fields S` for the signature of a struct's fields;
-//!   `variables SIG` how its variables stand and whether a body may use them
+//! - `rows SIG` rows, `keep SIG` what is kept of a signature, `variables SIG` how its variables stand and whether a body may use them
 //! - `apply SIG | (T, S)` what a body gets for the variables, `signatures SIG | SIG` how two signatures stand to one another,
 //!   `choose SIG | SIG` which of up to four methods runs; they are numbered from 15 on
+//! - `fields S` is the signature of a struct's fields in `rows`, `keep` and `signatures`
 //! - `body (T, S) where V` whether a type in a body is allowed: the variables that have no name are static parameters
 //! - `find N (T, S) | (T, S)` what stands at the first place of variable N among arguments, `lacking N (T)` which of N variables do not
 //!   stand there, nor an atom of theirs

@@ -1,9 +1,7 @@
 //! The answers about signatures, methods and types in bodies.
 
 ghost use Rattle.std.specs.Prelude.{IfOk};
-ghost use Rattle.jl_model.specs.SigRefusals.{IsAllowedSig};
 ghost use Rattle.jl_sig.specs.Prepared.{IsSigOf};
-ghost use Rattle.jl_sig.specs.SigParts.{written_of};
 
 use crate::halt::Halt;
 use crate::heads::{read_signature, variables_in};
@@ -38,7 +36,9 @@ pub fn row_count(alloc: Global, table: &Table, written: &Written) -> Result<Stri
 }
 
 /// A signature that is written so, or that of a struct's fields.
-fn sig_of(alloc: Global, table: &Table, text: &str) -> Result<Sig, Halt> {
+fn sig_of(alloc: Global, table: &Table, text: &str) -> Result<Sig, Halt>
+    ensures { IfOk result (λ sig. IsSigOf table.now sig) }
+{
     let Some(name) = text.strip_prefix("fields ") else {
         return signature(alloc, table, text);
     };
@@ -148,11 +148,11 @@ pub fn application(alloc: Global, table: &Table, text: &str) -> Result<String, H
     applied(alloc, table, &sig, types.as_slice(), "none")
 }
 
-/// How two signatures stand to one another.
+/// How two signatures stand to one another, where each may be that of a struct's fields.
 pub fn sig_standing(alloc: Global, table: &Table, text: &str) -> Result<&'static str, Halt> {
     let (left, right) = text.split_once(" | ").unwrap_or((text, ""));
-    let left = signature(alloc, table, left)?;
-    let right = signature(alloc, table, right)?;
+    let left = sig_of(alloc, table, left)?;
+    let right = sig_of(alloc, table, right)?;
     let below = sig_sub(alloc, table, &left, &right)?;
     let above = sig_sub(alloc, table, &right, &left)?;
     Ok(standing(below, above))
@@ -160,8 +160,7 @@ pub fn sig_standing(alloc: Global, table: &Table, text: &str) -> Result<&'static
 
 /// A signature that is written so.
 pub fn signature(alloc: Global, table: &Table, text: &str) -> Result<Sig, Halt>
-    ensures kept { IfOk result (λ sig. IsSigOf table.now sig) }
-    ensures allowed { IfOk result (λ sig. IsAllowedSig table.now (written_of sig)) }
+    ensures { IfOk result (λ sig. IsSigOf table.now sig) }
 {
     let written = read_signature(alloc, table, text)?;
     let sig = made(alloc, table, &written)?;
