@@ -29,6 +29,7 @@ pub record Ending : Type 0 where
   pub calls : ℕ
   pub starts : List Start
 
+-- what holds of the outcome and the state there
 abbrev pub EndsAs : Ending → Outcome → State → Type 0
 EndsAs e = IsEnd e.outcome e.output e.calls e.starts
 

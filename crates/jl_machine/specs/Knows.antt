@@ -71,7 +71,7 @@ pub record Asked (before now : Knows) : Type 0 where
   pub own : now.own ≡ before.own
   pub follows : (c : Claim) (is : List TraceItem) → before.follows c is → now.follows c is
 
--- a question that was refused: more may be known, and nothing was made or told
+-- a question that was refused: more may be known, and nothing was made
 pub record Refused (before now : Knows) : Type 0 where
   pub grew : Grew before now
   pub looks : now.looks ≡ before.looks
@@ -82,7 +82,7 @@ abbrev pub IsOfWorld : Choice → ℕ → Type 0
 IsOfWorld (C.Method d) w = (1 ≤ d) × (d ≤ w)
 IsOfWorld _ w = Unit {0}
 
--- it is right to answer this where the rules choose: their choice, and for a definition any of which the dispatcher tells the same site
+-- what may be answered where the rules choose: their choice, or for a definition one of which the dispatcher tells the same site
 abbrev pub SelectsBySite : Knows → List Event → ℕ → List Ty → ℕ → Choice → Type 0
 SelectsBySite k es f ts w (C.Method d) = (chosen : ℕ) × Selects k.program es f ts w (C.Method chosen) × (site_of es chosen ≡ k.site d)
 SelectsBySite k es f ts w C.None = Selects k.program es f ts w C.None
