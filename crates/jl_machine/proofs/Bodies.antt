@@ -11,7 +11,6 @@ use Rattle.std.specs.Ordering.{int_eq}
 use Rattle.jl_model.specs.Ancestors.{named}
 use Rattle.jl_model.specs.declared.ty.Ty.TheOpen.{Nominal}
 use Rattle.jl_model.specs.declared.ty.Ty.TheViews.{outs-Nominal}
-use Rattle.jl_program.specs.declared.fault.Fault.TheVariants.{DivideError}
 use Rattle.jl_program.specs.declared.tree.Expr.TheViews.{outs-Nothing}
 use Rattle.jl_program.specs.Prelude.{operation_of}
 use Rattle.jl_program.specs.declared.prelude.Operation.{Operation}
