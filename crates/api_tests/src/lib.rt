@@ -1,5 +1,5 @@
 //! Tests of public calls that no text can show: faults of devices in mid-stream, tables of names, the numbers of slots and
-//! variables, what is asked of a table of declarations, and what is kept of a
+//! variables, what is asked of a table of declarations, a list that threads share, and what is kept of a
 //! program. All else is told by the lines of script_cases and check_cases.
 #![tactic(auto)]
 
@@ -19,6 +19,8 @@ mod names_tests;
 mod ready_tests;
 #[cfg(test)]
 mod resolve_tests;
+#[cfg(test)]
+mod shared_tests;
 #[cfg(test)]
 mod walk_tests;
 #[cfg(test)]
