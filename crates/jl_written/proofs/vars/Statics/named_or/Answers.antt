@@ -20,7 +20,7 @@ returns-in_ok-number-in-Some-find-clause-means c =
 
 pub returns-in_err-number-in-Some-find-clause-limit : goal.returns-in_err-number-in-Some-find-clause-limit
 returns-in_err-number-in-Some-find-clause-limit c =
-    on_err c.from_residual-in_err-number-in-Some-find.result (HasLargeNumber (var_of c.self.now c.args.name.now))
+    on_err c.from_residual.result (HasLargeNumber (var_of c.args.self.now c.args.name.now))
     (subst HasLargeNumber
     (sym (ap (λ z. var_of z c.args.name.now) (sym (ap (λ o. shifted c.self.inside.by (or_no_vars (option_copied o))) (sym c.in-Some.is) ∙ c.self.view_is))
     ∙ shifted_some c.self.inside.by c.in-Some.vars.now c.args.name.now c.in-Some-find.var.now (sym c.find.ensures ∙ ap option_copied c.in-Some-find.is)))
