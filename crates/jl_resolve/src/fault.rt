@@ -3,14 +3,17 @@
 ghost use Rattle.std.specs.Prelude.{◌≡◌};
 ghost use Rattle.jl_resolve.specs.declared.fault.StaticFault.TheVariants.{Memory};
 
-use jl_written::fault::StaticKind;
+pub use jl_written::fault::StaticKind;
 use std::alloc::AllocError;
+use thiserror::Error;
 
 /// Why a script is no program: its first static fault, by its name and the offset in bytes where it stands.
-#[derive(Clone, Copy, Debug, PartialEq, Eq)]
+#[derive(Clone, Copy, Debug, Drop, PartialEq, Eq, Error)]
 pub enum StaticFault {
+    #[error("{kind}")]
     At { kind: StaticKind, at: u32 },
     /// Memory was refused.
+    #[error("out of memory")]
     Memory,
 }
 

@@ -5,5 +5,5 @@ pub mod fault;
 pub mod laws;
 mod meaning;
 
-pub use fault::StaticFault;
+pub use fault::{StaticFault, StaticKind};
 pub use meaning::program;

@@ -1,5 +1,5 @@
 -- The last variable of a name: by its place, among static parameters and others, and with another number.
-use Rattle.std.proofs.Common.{◌≡◌, ◌∙◌, refl, sym, ap, ℕ, zero, suc, ◌+◌, arith, Bool, true, false, cond, ◌||◌, List, [], ◌∷◌, ◌++◌, map, Option, Some, None, is_some, slice_get, option_copied, Bor}
+use Rattle.std.proofs.Common.{◌≡◌, ◌∙◌, refl, sym, ap, ℕ, zero, suc, ◌+◌, arith, Bool, true, false, cond, ◌||◌, List, [], ◌∷◌, ◌++◌, map, Option, Some, None, is_some, slice_get, option_copied, Bor, Result, Ok, Err, OnErr}
 use Rattle.std.specs.Option.{option_or, option_map}
 use Rattle.jl_program.specs.Names.{same_text}
 use Rattle.jl_names.specs.Stacks.{last_from, last_place}
@@ -100,3 +100,7 @@ shifted_has k vs n = ap is_some (var_shifted k vs n) ∙ by (var_of vs n)
     by : (o : Option TypeVar) → is_some (option_map (shift_var k) o) ≡ is_some o
     by None = refl
     by (Some v) = refl
+
+pub on_err : {A E : Type 0} (r : Result A E) (P : Type 0) → P → OnErr r P
+on_err (Ok x) P p = tt
+on_err (Err e) P p = p

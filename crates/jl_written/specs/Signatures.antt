@@ -1,5 +1,5 @@
 -- What the types of a signature, of a body and of a declaration mean.
-use Rattle.std.specs.Prelude.{ℕ, ◌+◌, Bool, false, cond, nat_lt, List, [], ◌∷◌, map, length, Option, Some, None, get_or, slice_set}
+use Rattle.std.specs.Prelude.{ℕ, ◌+◌, ◌^◌, ◌≤◌, Bool, false, cond, nat_lt, List, [], ◌∷◌, map, length, Option, Some, None, get_or, slice_set}
 use Rattle.jl_model.specs.declared.ty.Ty.{Ty}
 use Rattle.jl_model.specs.declared.ty.Ty.TheVariants as W
 use Rattle.jl_model.specs.declared.ty.Bound.{Bound}
@@ -58,6 +58,11 @@ signature ds ts vs = let s = all_bound ds vs [] unread in record { vars = s.vars
 -- the static parameters of a body, where the variables of the type itself have the numbers before them
 abbrev pub shifted : ℕ → List TypeVar → List TypeVar
 shifted n vars = map (λ (v : TypeVar). record { name = v.name; number = n + v.number; usable = v.usable }) vars
+
+-- a variable whose number is too large for 32 bits
+abbrev pub HasLargeNumber : Option TypeVar → Type 0
+HasLargeNumber None = ⊥
+HasLargeNumber (Some v) = 2 ^ 32 ≤ v.number
 
 -- no method is around a type, or one with static parameters
 abbrev pub or_no_vars : Option (List TypeVar) → List TypeVar

@@ -1,8 +1,8 @@
 //! The type variables that are visible where a type stands, and what a name means there.
 
-ghost use Rattle.std.specs.Prelude.{◌≡◌, ◌++◌, ◌∷◌, [], length, take, is_some, slice_get, option_copied, IfOk, OnOk};
+ghost use Rattle.std.specs.Prelude.{◌≡◌, ◌++◌, ◌∷◌, [], length, take, is_some, slice_get, option_copied, ◌≤◌, ◌^◌, IfOk, OnOk, OnErr};
 ghost use Rattle.jl_written.specs.Meaning.{var_of, var_or, named};
-ghost use Rattle.jl_written.specs.Signatures.{shifted};
+ghost use Rattle.jl_written.specs.Signatures.{shifted, HasLargeNumber};
 
 use crate::names::{small, word_of};
 use crate::reading::{Named, TypeVar};
@@ -125,9 +125,10 @@ impl<'a> Statics<'a> {
         Statics { vars: None, by: 0 }
     }
 
-    /// Want of memory stands for 2^32 variables of the type, too.
+    /// It takes no memory, and is out of memory only where the type has 2^32 variables.
     pub fn behind(vars: &'a TypeVars, by: usize) -> Result<Statics<'a>, AllocError>
-        ensures { IfOk result (λ s. s ≡ shifted by vars.now) }
+        ensures shifted { IfOk result (λ s. s ≡ shifted by vars.now) }
+        ensures limit { OnErr result (2 ^ 32 ≤ by) }
     {
         Ok(Statics {
             vars: Some(vars),
@@ -145,9 +146,11 @@ impl<'a> Statics<'a> {
         }
     }
 
-    /// What a name means where one that is no static parameter means the other. Want of memory stands for a number of 2^32, too.
+    /// What a name means where one that is no static parameter means the other. It takes no memory, and is out of memory only where
+    /// the number of the variable is 2^32 or more.
     pub fn named_or(&self, name: &[u8], other: Named) -> Result<Named, AllocError>
-        ensures { IfOk result (λ n. n ≡ var_or (var_of self.now name.now) other) }
+        ensures means { IfOk result (λ n. n ≡ var_or (var_of self.now name.now) other) }
+        ensures limit { OnErr result (HasLargeNumber (var_of self.now name.now)) }
     {
         match self.vars {
             None => Ok(other),

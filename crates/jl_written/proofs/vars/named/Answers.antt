@@ -9,5 +9,5 @@ returns-in-Some c =
 
 pub returns-in_ok-named-in-None : goal.returns-in_ok-named-in-None
 returns-in_ok-named-in-None c =
-    c.in_ok-named-in-None.ensures ∙ ap (var_or (var_of c.args.around.now.statics c.args.name.now)) c.word_of.ensures
+    c.in_ok-named-in-None.ensures.means ∙ ap (var_or (var_of c.args.around.now.statics c.args.name.now)) c.word_of.ensures
     ∙ sym (named_static c.args.around.now.statics c.args.vars.now c.args.name.now (word_of c.args.around.now.decls.now c.args.name.now) (sym c.find.ensures ∙ ap option_copied c.in-None.is))
