@@ -8,6 +8,8 @@ mod cli_tests;
 #[cfg(test)]
 mod declare_tests;
 #[cfg(test)]
+mod history_tests;
+#[cfg(test)]
 mod host_tests;
 #[cfg(test)]
 mod io_tests;
