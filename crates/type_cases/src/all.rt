@@ -54,8 +54,9 @@ fn sig_line(
 {
     for written in rights {
         let right = made(alloc, table, written)?;
-        let is_below = sig_sub(alloc, table, sig, &right)?;
-        out.push_str(if is_below { "<" } else { "." })?;
+        let is_below = sig_sub(alloc, table, sig, &right);
+        drop(right);
+        out.push_str(if is_below? { "<" } else { "." })?;
     }
     out.push_str("\n")?;
     Ok(())
@@ -66,7 +67,9 @@ pub fn sig_lines(alloc: Global, table: &Table, sigs: &[Written]) -> Result<Strin
     let mut out = String::new(alloc);
     for written in sigs {
         let sig = made(alloc, table, written)?;
-        sig_line(alloc, table, &sig, sigs, &mut out)?;
+        let written = sig_line(alloc, table, &sig, sigs, &mut out);
+        drop(sig);
+        written?;
     }
     Ok(out)
 }
@@ -99,7 +102,9 @@ pub fn call_lines(
     let mut out = String::new(alloc);
     for written in sigs {
         let sig = made(alloc, table, written)?;
-        call_line(alloc, table, &sig, calls, &mut out)?;
+        let written = call_line(alloc, table, &sig, calls, &mut out);
+        drop(sig);
+        written?;
     }
     Ok(out)
 }

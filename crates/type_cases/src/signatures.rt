@@ -32,6 +32,7 @@ fn scope<'a>(table: &'a Table, vars: &'a [VarText<'a>]) -> Scope<'a> {
 pub fn row_count(alloc: Global, table: &Table, written: &Written) -> Result<String, Halt> {
     let sig = made(alloc, table, written)?;
     let count = sig.rows().len();
+    drop(sig);
     Ok(format!(in alloc; "{count}")?)
 }
 
@@ -56,7 +57,9 @@ fn sig_of(alloc: Global, table: &Table, text: &str) -> Result<Sig, Halt>
 pub fn rows(alloc: Global, table: &Table, text: &str) -> Result<String, Halt> {
     let vars = variables_in(alloc, text)?;
     let sig = sig_of(alloc, table, text)?;
-    Ok(rows_text(alloc, scope(table, vars.as_slice()), sig.rows())?)
+    let answer = rows_text(alloc, scope(table, vars.as_slice()), sig.rows());
+    drop(sig);
+    Ok(answer?)
 }
 
 /// What is kept of a variable of a signature.
@@ -80,20 +83,25 @@ fn variable_text(alloc: Global, scope: Scope, sig: &Sig, variable: u32) -> Resul
     )?)
 }
 
-/// What is kept of a signature: its components as they are written and as they are kept, and its variables.
-pub fn keeping(alloc: Global, table: &Table, text: &str) -> Result<String, Halt> {
-    let vars = variables_in(alloc, text)?;
-    let scope = scope(table, vars.as_slice());
-    let sig = sig_of(alloc, table, text)?;
+fn kept_text(alloc: Global, scope: Scope, sig: &Sig) -> Result<String, Halt> {
     let written = list_text(alloc, scope, sig.written().parts.as_slice())?;
     let kept = list_text(alloc, scope, sig.kept().parts.as_slice())?;
     let mut out = format!(in alloc; "{written} as {kept}")?;
     for variable in 0..sig.written().vars.len() {
         let variable = u32::try_from(variable).unwrap_or(u32::MAX);
-        let line = variable_text(alloc, scope, &sig, variable)?;
+        let line = variable_text(alloc, scope, sig, variable)?;
         out.push_str(line.as_str())?;
     }
     Ok(out)
+}
+
+/// What is kept of a signature: its components as they are written and as they are kept, and its variables.
+pub fn keeping(alloc: Global, table: &Table, text: &str) -> Result<String, Halt> {
+    let vars = variables_in(alloc, text)?;
+    let sig = sig_of(alloc, table, text)?;
+    let answer = kept_text(alloc, scope(table, vars.as_slice()), &sig);
+    drop(sig);
+    answer
 }
 
 /// Whether a body may use a variable.
@@ -145,17 +153,35 @@ pub fn application(alloc: Global, table: &Table, text: &str) -> Result<String, H
     let written = read_signature(alloc, table, left)?;
     let types = read_types(alloc, plain_scope(table), right)?;
     let sig = made(alloc, table, &written)?;
-    applied(alloc, table, &sig, types.as_slice(), "none")
+    let answer = applied(alloc, table, &sig, types.as_slice(), "none");
+    drop(sig);
+    answer
+}
+
+fn compare(alloc: Global, table: &Table, left: &Sig, right: &Sig) -> Result<&'static str, Halt>
+    requires left { IsSigOf table.now left.now }
+    requires right { IsSigOf table.now right.now }
+{
+    let below = sig_sub(alloc, table, left, right)?;
+    let above = sig_sub(alloc, table, right, left)?;
+    Ok(standing(below, above))
 }
 
 /// How two signatures stand to one another, where each may be that of a struct's fields.
 pub fn sig_standing(alloc: Global, table: &Table, text: &str) -> Result<&'static str, Halt> {
     let (left, right) = text.split_once(" | ").unwrap_or((text, ""));
     let left = sig_of(alloc, table, left)?;
-    let right = sig_of(alloc, table, right)?;
-    let below = sig_sub(alloc, table, &left, &right)?;
-    let above = sig_sub(alloc, table, &right, &left)?;
-    Ok(standing(below, above))
+    let right = match sig_of(alloc, table, right) {
+        Ok(right) => right,
+        Err(halt) => {
+            drop(left);
+            return Err(halt);
+        }
+    };
+    let answer = compare(alloc, table, &left, &right);
+    drop(left);
+    drop(right);
+    answer
 }
 
 /// A signature that is written so.
