@@ -71,61 +71,30 @@ fn history(alloc: Global, slot: i64, calls: u64) -> Result<History, AllocError> 
     })
 }
 
-// What is dropped here is dropped by a call: a drop of these enums that is not written takes the checker long at each way out.
-
-fn event_is_copied(alloc: Global, event: &Event) -> Result<bool, AllocError> {
-    let copy = event.copy(alloc)?;
-    let is_same = copy.same(event);
-    drop(copy);
-    Ok(is_same)
-}
-
-fn fault_is_copied(fault: &Fault) -> Result<bool, AllocError> {
-    let copy = fault.copy()?;
-    let is_same = copy.same(fault);
-    drop(copy);
-    Ok(is_same)
-}
-
-fn start_is_copied(alloc: Global, start: &Start) -> Result<bool, AllocError> {
-    let copy = start.copy(alloc)?;
-    let is_same = copy.same(start);
-    drop(copy);
-    Ok(is_same)
-}
-
-fn history_is_copied(alloc: Global, history: &History) -> Result<bool, AllocError> {
-    for event in history.events.as_slice() {
-        if !event_is_copied(alloc, event)? {
+fn copies_are_the_same(alloc: Global) -> Result<bool, AllocError> {
+    let whole = history(alloc, 7, 2)?;
+    for event in whole.events.as_slice() {
+        if !event.copy(alloc)?.same(event) {
             return Ok(false);
         }
     }
-    let copy = history.copy()?;
-    Ok(copy.same(history))
-}
-
-fn copies_are_the_same(alloc: Global) -> Result<bool, AllocError> {
-    let fault = fault(alloc, 14)?;
-    let is_fault_same = fault_is_copied(&fault);
-    drop(fault);
     let start = start(alloc, 7)?;
-    let is_start_same = start_is_copied(alloc, &start);
-    drop(start);
-    let history = history(alloc, 7, 2)?;
-    let is_history_same = history_is_copied(alloc, &history);
-    drop(history);
-    Ok(is_fault_same? && is_start_same? && is_history_same?)
-}
-
-/// Whether two histories are the same that differ in a slot of a start and in the calls of a record as told.
-fn are_same(alloc: Global, slot: i64, calls: u64) -> Result<bool, AllocError> {
-    let whole = history(alloc, 7, 2)?;
-    let other = history(alloc, slot, calls)?;
-    Ok(whole.same(&other))
+    let fault = fault(alloc, 14)?;
+    Ok(
+        whole.copy()?.same(&whole)
+            && start.copy(alloc)?.same(&start)
+            && fault.copy()?.same(&fault)
+            && whole.same(&history(alloc, 7, 2)?),
+    )
 }
 
 fn others_are_told_apart(alloc: Global) -> Result<bool, AllocError> {
-    Ok(are_same(alloc, 7, 2)? && !are_same(alloc, 8, 2)? && !are_same(alloc, 7, 3)?)
+    let whole = history(alloc, 7, 2)?;
+    Ok(
+        !whole.same(&history(alloc, 8, 2)?)
+            && !whole.same(&history(alloc, 7, 3)?)
+            && !fault(alloc, 14)?.same(&fault(alloc, 15)?),
+    )
 }
 
 #[test]
