@@ -4,7 +4,6 @@ use Rattle.std.specs.Prelude.{◌≡◌, ◌<◌, Bool, true, false, IsTrue, Lis
 use Rattle.jl_model.specs.declared.ty.Ty.{Ty}
 use Rattle.jl_model.specs.declared.ty.Decl.{Decl}
 use Rattle.jl_model.specs.Ancestors.{table_of}
-use Rattle.jl_model.specs.Counts.{IsWithinLimits}
 use Rattle.jl_model.specs.Normal.{IsNormal}
 use Rattle.jl_model.specs.Valid.{IsValidType, is_closed}
 use Rattle.jl_program.specs.declared.tree.Program.{Program}
@@ -13,12 +12,12 @@ use Rattle.jl_program.specs.Scope.{all_types}
 use Rattle.jl_program.specs.ValidValue.{AllValid}
 use Rattle.jl_calculus.specs.Views.{view_at}
 
--- a type that a static parameter may have: a normal form without variables, valid and within the limits
+-- A type that a static parameter may have: a normal form without variables, and valid. It need not be within the limits of a type:
+-- an argument of an ancestor, which a static parameter may stand for, can be larger than the type that was declared below it.
 pub record IsStaticType (ds : List Decl) (t : Ty) : Type 0 where
   pub normal : IsNormal (table_of ds) t
   pub valid : IsValidType ds t
   pub closed : IsTrue (is_closed t)
-  pub small : IsWithinLimits t
 
 -- a type for each static parameter; nothing is asked of that of one which is not usable
 abbrev pub AreStatics : List Decl → List Bool → List Ty → Type 0
