@@ -1,0 +1,6 @@
+pub mod Traces
+pub mod Fitting
+pub mod Turning
+pub mod Calling
+pub mod Asking
+pub mod Skipping

@@ -1,0 +1,16 @@
+pub mod Steps
+pub mod Weighing
+pub mod Lighter
+pub mod SizeLemmas
+pub mod Asking
+pub mod Bodies
+pub mod FitLemmas
+pub mod StaticLaws
+pub mod GoodLayers
+pub mod ValueTypes
+pub mod TurnsKept
+pub mod ItemsKept
+pub mod ProgramLemmas
+pub mod EnteredKept
+pub mod AskedLemmas
+pub mod SelectedLemmas
