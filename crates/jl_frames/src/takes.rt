@@ -1,0 +1,107 @@
+//! The topmost frame is taken off.
+
+ghost use Rattle.std.specs.Prelude.{◌≡◌, ◌≤◌, ◌++◌, take, drop, length};
+ghost use Rattle.jl_frames.specs.Popped.{Popped, Passed};
+
+use crate::flat::Flat;
+use crate::frames::Frames;
+use crate::scopes::drop_own;
+use jl_program::value::Value;
+
+/// The values between two places are dropped.
+fn remove_between(values: &mut Vec<Value>, from: u32, to: u32)
+    requires order { from ≤ to }
+    requires within { to ≤ length values.old.items }
+    ensures { values.new.items ≡ take from values.old.items ++ drop to values.old.items }
+{
+    drop(values.drain(from as usize..to as usize));
+}
+
+impl<'p> Frames<'p> {
+    /// The topmost frame takes back what was kept for it: an expression its values, below those that are open, a `print` its text, a block its
+    /// slots, and an evaluated block and a body the static parameters too.
+    pub fn take(&mut self) -> Option<Flat<'p>>
+        ensures { Popped result self.old self.new }
+    {
+        match self.flat.pop() {
+            None => None,
+            Some(flat) => match flat {
+                Flat::Args(from, _, _) => {
+                    self.from = from;
+                    Some(flat)
+                }
+                Flat::Second(from, _, _) => {
+                    self.from = from;
+                    Some(flat)
+                }
+                Flat::Testing(_) => Some(flat),
+                Flat::AfterStmt(_, _) => Some(flat),
+                Flat::Block(base, kept) => {
+                    let around = self.scope.kept as usize;
+                    self.slots.truncate(around);
+                    self.scope.base = base;
+                    self.scope.kept = kept;
+                    Some(flat)
+                }
+                Flat::AfterItem(_, _, _, _) => Some(flat),
+                Flat::Evaluated(scope) => {
+                    drop_own(&mut self.slots, &mut self.types, self.scope);
+                    self.scope = scope;
+                    Some(flat)
+                }
+                Flat::Showing(_, begin, _) => {
+                    self.text_from = begin;
+                    Some(flat)
+                }
+                Flat::Body(_, _, scope) => {
+                    drop_own(&mut self.slots, &mut self.types, self.scope);
+                    self.scope = scope;
+                    Some(flat)
+                }
+            },
+        }
+    }
+
+    /// The topmost frame lets a `return` pass. What was kept for it is dropped, except the scope that a body puts back.
+    pub fn pass(&mut self) -> Option<Flat<'p>>
+        ensures { Passed result self.old self.new }
+    {
+        match self.flat.pop() {
+            None => None,
+            Some(flat) => match flat {
+                Flat::Args(from, _, _) => {
+                    remove_between(&mut self.values, from, self.from);
+                    self.from = from;
+                    Some(flat)
+                }
+                Flat::Second(from, _, _) => {
+                    remove_between(&mut self.values, from, self.from);
+                    self.from = from;
+                    Some(flat)
+                }
+                Flat::Testing(_) => Some(flat),
+                Flat::AfterStmt(_, _) => Some(flat),
+                Flat::Block(_, kept) => {
+                    self.scope.kept = kept;
+                    Some(flat)
+                }
+                Flat::AfterItem(_, _, _, _) => Some(flat),
+                Flat::Evaluated(scope) => {
+                    self.scope.kept = scope.kept;
+                    self.scope.types_kept = scope.types_kept;
+                    Some(flat)
+                }
+                Flat::Showing(_, begin, _) => {
+                    self.text.truncate(begin as usize);
+                    self.text_from = begin;
+                    Some(flat)
+                }
+                Flat::Body(_, _, scope) => {
+                    drop_own(&mut self.slots, &mut self.types, self.scope);
+                    self.scope = scope;
+                    Some(flat)
+                }
+            },
+        }
+    }
+}
