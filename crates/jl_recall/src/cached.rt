@@ -1,0 +1,117 @@
+//! A dispatcher over another one.
+
+ghost use Rattle.std.specs.Prelude.{◌≡◌, IfOk};
+ghost use Rattle.jl_recall.specs.Kept.{NoneKept};
+
+use crate::table::{Kept, PLACES, find_by_values, keep};
+use jl_calculus::history::{DefineFault, FetchFault, Outcome, Seen, SpawnFault};
+use jl_dispatcher::{Dispatcher, Recall, Recalled};
+use jl_model::ty::{Key, Tys};
+use jl_program::choice::Choice;
+use jl_program::tree::Start;
+use jl_program::value::Value;
+use std::alloc::{AllocError, Global};
+use std::marker::Model;
+
+/// A dispatcher over another one, which is told what to remember: methods that were chosen, each for the world in which it was
+/// asked. A call that was answered before in its world is found again in a table, by the numbers of its types, and compared in
+/// place; so it takes no memory. The table has its places from the start. Contracts see the other dispatcher.
+#[derive(Drop)]
+pub struct Cached<D: Dispatcher + Drop> {
+    inner: D,
+    table: Vec<Option<Kept>>,
+}
+
+impl<D: Dispatcher + Drop> Model for Cached<D> {
+    ghost use Rattle.jl_recall.specs.Kept.{AreKept};
+
+    ghost Value = { D };
+
+    ghost coded = { D.code };
+
+    ghost view = { λ a. a.inner };
+
+    ghost invariant = { λ a. AreKept (D.knows a.inner) a.table.items };
+}
+
+/// A table that keeps nothing.
+fn empty_table(alloc: Global) -> Result<Vec<Option<Kept>>, AllocError>
+    ensures { IfOk result (λ table. NoneKept table.items) }
+{
+    let mut table = Vec::new(alloc);
+    for _ in 0..PLACES {
+        table.push(None)?;
+    }
+    Ok(table)
+}
+
+impl<D: Dispatcher + Drop> Cached<D> {
+    /// A dispatcher over this one, which remembers nothing yet.
+    pub fn new(alloc: Global, inner: D) -> Result<Cached<D>, AllocError>
+        ensures { IfOk result (λ cached. cached ≡ inner) }
+    {
+        let table = empty_table(alloc)?;
+        Ok(Cached { inner, table })
+    }
+
+    /// The dispatcher that is asked.
+    pub fn inner(&self) -> &D
+        ensures { result.now ≡ self.now }
+    {
+        &self.inner
+    }
+}
+
+impl<D: Dispatcher + Drop> Dispatcher for Cached<D> {
+    ghost knows = { D.knows };
+
+    fn newest(&mut self) -> Seen {
+        self.inner.newest()
+    }
+
+    fn select(&mut self, key: Key, world: u32) -> Result<Choice, AllocError> {
+        self.inner.select(key, world)
+    }
+
+    fn site(&self, definition: u32) -> u32 {
+        self.inner.site(definition)
+    }
+
+    fn define(&mut self, site: u32) -> Result<u32, DefineFault> {
+        self.inner.define(site)
+    }
+
+    fn spawn(&mut self, start: Start) -> Result<u32, SpawnFault> {
+        self.inner.spawn(start)
+    }
+
+    fn fetched(&mut self, task: u32) -> Result<Outcome, FetchFault> {
+        self.inner.fetched(task)
+    }
+
+    fn seen(&self) -> u32 {
+        self.inner.seen()
+    }
+}
+
+impl<D: Dispatcher + Drop> Recall for Cached<D> {
+    fn recall(&self, function: u32, values: &[Value], world: u32) -> Option<Recalled<'_>> {
+        match find_by_values(&self.table, function, values, world) {
+            Some(kept) => Some(Recalled {
+                site: kept.site,
+                statics: kept.statics.as_slice(),
+            }),
+            None => None,
+        }
+    }
+
+    fn keep(&mut self, key: Key, world: u32, site: u32, statics: Tys) {
+        let kept = Kept {
+            key,
+            world,
+            site,
+            statics,
+        };
+        keep(&mut self.table, kept);
+    }
+}

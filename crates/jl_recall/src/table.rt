@@ -1,0 +1,152 @@
+//! A table of what was chosen, found by a number that is made of a call.
+
+ghost use Rattle.std.specs.Prelude.{◌≡◌, IsTrue, MatchOption, map};
+ghost use Rattle.jl_model.specs.Ancestors.{named};
+ghost use Rattle.jl_program.specs.TypeOf.{type_of};
+ghost use Rattle.jl_recall.specs.Kept.{IsFound, IsOf, IsPut};
+
+use jl_model::builtin::{BOOL, INT64, NOTHING, TASK};
+use jl_model::ty::{Key, Ty, Tys};
+use jl_program::value::Value;
+use jl_types::same::same;
+use std::mem;
+
+/// How many calls are remembered. One that comes to the place of another takes it.
+pub(crate) const PLACES: usize = 1_024;
+/// The number of bits of a hash that are no place.
+const OTHER_BITS: u32 = 22;
+/// An odd number near 2^32 divided by the golden ratio, which spreads small numbers (Knuth, multiplicative hashing).
+const SPREAD: u32 = 0x9E37_79B1;
+/// What stands for the number of a type that has none.
+const NO_NUMBER: u32 = 0;
+
+/// A call with the world in which it was answered, the site of the method that was chosen, and the types of the variables of its
+/// signature.
+#[derive(Drop)]
+pub(crate) struct Kept {
+    pub(crate) key: Key,
+    pub(crate) world: u32,
+    pub(crate) site: u32,
+    pub(crate) statics: Tys,
+}
+
+/// The number of a nominal type.
+fn number_of(ty: &Ty) -> u32 {
+    match ty {
+        Ty::Nominal(number, _) => *number,
+        _ => NO_NUMBER,
+    }
+}
+
+/// The number of the type of a value.
+fn number_of_value(value: &Value) -> u32 {
+    match value {
+        Value::Int(_) => INT64,
+        Value::Bool(_) => BOOL,
+        Value::Nothing => NOTHING,
+        Value::Task(_) => TASK,
+        Value::Tuple(made) | Value::Struct(made) => number_of(&made.get().ty),
+    }
+}
+
+/// A hash with one more number in it.
+fn mixed(hash: u32, number: u32) -> u32 {
+    (hash ^ number).wrapping_mul(SPREAD)
+}
+
+/// The place of a call with these arguments.
+fn place_of_values(function: u32, values: &[Value]) -> usize {
+    let mut hash = mixed(0, function);
+    for value in values {
+        hash = mixed(hash, number_of_value(value));
+    }
+    (hash >> OTHER_BITS) as usize
+}
+
+/// The place of a call by its key, which is that by its arguments.
+fn place_of(key: &Key) -> usize {
+    let mut hash = mixed(0, key.function);
+    for ty in key.types.as_slice() {
+        hash = mixed(hash, number_of(ty));
+    }
+    (hash >> OTHER_BITS) as usize
+}
+
+/// Whether a type is the nominal one of this number without arguments.
+fn is_named(ty: &Ty, number: u32) -> bool
+    ensures { IsTrue result → named number ≡ ty.now }
+{
+    match ty {
+        Ty::Nominal(found, arguments) => *found == number && arguments.len() == 0,
+        _ => false,
+    }
+}
+
+/// Whether a type is that of a value.
+fn is_type_of(ty: &Ty, value: &Value) -> bool
+    ensures { IsTrue result → type_of value.now ≡ ty.now }
+{
+    match value {
+        Value::Int(_) => is_named(ty, INT64),
+        Value::Bool(_) => is_named(ty, BOOL),
+        Value::Nothing => is_named(ty, NOTHING),
+        Value::Task(_) => is_named(ty, TASK),
+        Value::Tuple(made) | Value::Struct(made) => same(&made.get().ty, ty),
+    }
+}
+
+/// Whether these are the types of these values.
+fn are_types_of(types: &[Ty], values: &[Value]) -> bool
+    ensures { IsTrue result → map type_of values.now ≡ types.now }
+{
+    if types.len() != values.len() {
+        return false;
+    }
+    for (i, ty) in types.iter().enumerate() {
+        if !is_type_of(ty, &values[i]) {
+            return false;
+        }
+    }
+    true
+}
+
+/// Whether what is kept is of a call with these arguments in this world.
+fn is_of_values(kept: &Kept, function: u32, values: &[Value], world: u32) -> bool
+    ensures { IsTrue result → IsOf kept.now function (map type_of values.now) world }
+{
+    kept.key.function == function
+        && kept.world == world
+        && are_types_of(kept.key.types.as_slice(), values)
+}
+
+/// What is kept for a call with these arguments in a world.
+pub(crate) fn find_by_values<'t>(
+    table: &'t [Option<Kept>],
+    function: u32,
+    values: &[Value],
+    world: u32,
+) -> Option<&'t Kept>
+    ensures { MatchOption result (Unit {0}) (λ kept. IsFound table.now function (map type_of values.now) world kept.now) }
+{
+    match table.get(place_of_values(function, values)) {
+        Some(Some(kept)) => {
+            if is_of_values(kept, function, values, world) {
+                return Some(kept);
+            }
+            None
+        }
+        _ => None,
+    }
+}
+
+/// Keeps a call in place of the one that has its place.
+pub(crate) fn keep(table: &mut Vec<Option<Kept>>, kept: Kept)
+    ensures { IsPut kept table.old.items table.new.items }
+{
+    let place = place_of(&kept.key);
+    if place >= table.len() {
+        drop(kept);
+        return;
+    }
+    drop(mem::replace(&mut table[place], Some(kept)));
+}
