@@ -5,7 +5,7 @@ use Rattle.std.proofs.lemmas.Slice.Eq.{bytes_eq-Decides}
 use Rattle.jl_calculus.specs.declared.history.History.{History}
 use Rattle.jl_program.specs.declared.tree.Program.{Program}
 use Rattle.jl_calculus.specs.Legal.{IsLegal, fuel_of, text_of, status_of}
-use Rattle.jl_calculus.specs.Simple.{IsSimple}
+use Rattle.jl_solo.specs.Tasks.{HasNoTasks}
 use Rattle.jl_cli.specs.declared.answering.Due.{Due}
 use Rattle.jl_cli.specs.declared.command.Command.{Command}
 use Rattle.jl_cli.specs.declared.command.Command.TheVariants as C
@@ -146,13 +146,13 @@ pub no_program_line : (bytes : List ℕ) (s : Script) (f : StaticFault) → AreS
 no_program_line bytes s (F.At kind at) are refusal told = no_program bytes s at kind are refusal
 no_program_line bytes s F.Memory are refusal told = absurd (told refl)
 
--- what is due for a program with forms that do not run so far
-pub not_run_due : (d : Due) (bytes line : List ℕ) (P : Program) → (IsSimple P → ⊥) → line ≡ not_yet_read_line → (d.status ≡ 3) × (d.history ≡ None) × (d.text ≡ line) → AreProgram bytes P
+-- what is due for a program that spawns tasks
+pub not_run_due : (d : Due) (bytes line : List ℕ) (P : Program) → (HasNoTasks P → ⊥) → line ≡ not_yet_read_line → (d.status ≡ 3) × (d.history ≡ None) × (d.text ≡ line) → AreProgram bytes P
     → IsDue run_words bytes d.status d.history d.text
 not_run_due d bytes line P other e h are = refused_so d run_words bytes line (subst (λ (t : List ℕ). IsDue run_words bytes 3 None t) (sym e) (not_yet_read bytes P are other)) h
 
 -- an answer with the history of a program
-pub ran_so : (bytes text : List ℕ) (status : ℕ) (P : Program) (h : History) → IsSimple P
+pub ran_so : (bytes text : List ℕ) (status : ℕ) (P : Program) (h : History) → HasNoTasks P
     → IsLegal P h.events → fuel_of h.events ≡ Some default_fuel → status ≡ status_of h.events → text ≡ text_of P h.events → AreProgram bytes P → IsDue run_words bytes status (Some h) text
 ran_so bytes text status P h simple legal begun st tx are =
     subst (λ (n : ℕ). IsDue run_words bytes n (Some h) text) (sym st)

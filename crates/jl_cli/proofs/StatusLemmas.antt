@@ -2,7 +2,7 @@
 use Rattle.std.proofs.Common.{◌≡◌, ◌↔◌, ℕ, List, Option, Ok, Err, refl, sym, subst, arith}
 use Rattle.jl_calculus.specs.declared.history.History.{History}
 use Rattle.jl_program.specs.declared.tree.Program.{Program}
-use Rattle.jl_calculus.specs.Simple.{IsSimple}
+use Rattle.jl_solo.specs.Tasks.{HasNoTasks}
 use Rattle.jl_grammar.specs.declared.tree.Script.{Script}
 use Rattle.jl_token.specs.declared.token.Token.{Token}
 use Rattle.jl_token.specs.declared.token.TokenFault.{TokenFault}
@@ -14,7 +14,7 @@ use Rattle.jl_reader.proofs.OneAnswer.{reads_once}
 use Rattle.jl_resolve.specs.Program.{IsProgramOf}
 use Rattle.jl_resolve.proofs.OneMeaning.{no_fault, one_program}
 use Rattle.jl_cli.specs.Due.{run_words, check_words, IsCommand, runs, checks, AreScript, AreProgram, IsFaultLine, no_tokens, no_script, no_program, IsDue, usage, refused, checked, not_yet_read, ran}
-use Rattle.jl_cli.specs.Laws.{IsProgram, IsSimpleProgram}
+use Rattle.jl_cli.specs.Laws.{IsProgram, IsProgramAlone}
 use Rattle.jl_cli.proofs.LawLemmas.{ran_small}
 
 -- the tokens, and the script, are the same
@@ -68,12 +68,12 @@ check_program_law bytes status h text due = check_program check_words bytes stat
 pub check_none_law : (bytes : List ℕ) (status : ℕ) (h : Option History) (text : List ℕ) → IsDue check_words bytes status h text → (status ≡ 3) ↔ (IsProgram bytes → ⊥)
 check_none_law bytes status h text due = check_none check_words bytes status h text due refl
 
-run_none : (words : List (List ℕ)) (bytes : List ℕ) (status : ℕ) (h : Option History) (text : List ℕ) → IsDue words bytes status h text → words ≡ run_words → (status ≡ 3) ↔ (IsSimpleProgram bytes → ⊥)
+run_none : (words : List (List ℕ)) (bytes : List ℕ) (status : ℕ) (h : Option History) (text : List ℕ) → IsDue words bytes status h text → words ≡ run_words → (status ≡ 3) ↔ (IsProgramAlone bytes → ⊥)
 run_none _ _ _ _ _ (usage words other) e = absurd (other (subst IsCommand (sym e) runs))
 run_none _ _ _ _ _ (refused words bytes line is fault) e = (λ z p. fault_apart bytes line fault (p.0, p.1), λ no_. refl)
 run_none _ _ _ _ _ (checked bytes P are) e = absurd (apart e)
-run_none _ _ _ _ _ (not_yet_read bytes P are other_form) e = (λ z p. other_form (subst IsSimple (same_program bytes p.0 P p.1 are) p.2), λ no_. refl)
+run_none _ _ _ _ _ (not_yet_read bytes P are other_form) e = (λ z p. other_form (subst HasNoTasks (same_program bytes p.0 P p.1 are) p.2), λ no_. refl)
 run_none _ _ _ _ _ (ran bytes P h are simple legal begun) e = (λ z. absurd (ran_small h 1 z), λ no_. absurd (no_ (P, are, simple)))
 
-pub run_law : (bytes : List ℕ) (status : ℕ) (h : Option History) (text : List ℕ) → IsDue run_words bytes status h text → (status ≡ 3) ↔ (IsSimpleProgram bytes → ⊥)
+pub run_law : (bytes : List ℕ) (status : ℕ) (h : Option History) (text : List ℕ) → IsDue run_words bytes status h text → (status ≡ 3) ↔ (IsProgramAlone bytes → ⊥)
 run_law bytes status h text due = run_none run_words bytes status h text due refl

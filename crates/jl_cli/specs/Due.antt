@@ -6,7 +6,7 @@ use Rattle.jl_calculus.specs.declared.history.History.{History}
 use Rattle.jl_program.specs.declared.tree.Program.{Program}
 use Rattle.jl_calculus.specs.Legal.{IsLegal, fuel_of, text_of, status_of}
 use Rattle.jl_program.specs.Prelude.{prelude_count}
-use Rattle.jl_calculus.specs.Simple.{IsSimple}
+use Rattle.jl_solo.specs.Tasks.{HasNoTasks}
 use Rattle.jl_grammar.specs.declared.tree.Script.{Script}
 use Rattle.jl_reader.specs.declared.fault.SyntaxFault.{SyntaxFault}
 use Rattle.jl_reader.specs.Answers.{Reads}
@@ -74,10 +74,10 @@ pub data IsDue : List (List ℕ) → List ℕ → ℕ → Option History → Lis
   refused : (words : List (List ℕ)) (bytes line : List ℕ) → IsCommand words → IsFaultLine bytes line → IsDue words bytes 3 None line
   -- `check` of a program: its counts
   checked : (bytes : List ℕ) (P : Program) → AreProgram bytes P → IsDue check_words bytes 0 None (ok_line P)
-  -- `run` of a program with forms that do not run so far
-  not_yet_read : (bytes : List ℕ) (P : Program) → AreProgram bytes P → (IsSimple P → ⊥) → IsDue run_words bytes 3 None not_yet_read_line
+  -- `run` of a program that spawns tasks, which nobody runs so far
+  not_yet_read : (bytes : List ℕ) (P : Program) → AreProgram bytes P → (HasNoTasks P → ⊥) → IsDue run_words bytes 3 None not_yet_read_line
   -- `run` of any other program: the text of a legal history of it, and the status by the root's outcome
-  ran : (bytes : List ℕ) (P : Program) (h : History) → AreProgram bytes P → IsSimple P → IsLegal P h.events → fuel_of h.events ≡ Some default_fuel
+  ran : (bytes : List ℕ) (P : Program) (h : History) → AreProgram bytes P → HasNoTasks P → IsLegal P h.events → fuel_of h.events ≡ Some default_fuel
       → IsDue run_words bytes (status_of h.events) (Some h) (text_of P h.events)
 
 -- Words, the bytes that were read, the bytes that were written, and that the count of faults of the source and of the

@@ -3,16 +3,16 @@ use Rattle.std.specs.Prelude.{ℕ, ◌≡◌, ◌⊎◌, List, Option, None}
 use Rattle.jl_calculus.specs.declared.history.History.{History}
 use Rattle.jl_program.specs.declared.tree.Program.{Program}
 use Rattle.jl_calculus.specs.Legal.{IsLegal}
-use Rattle.jl_calculus.specs.Simple.{IsSimple}
+use Rattle.jl_solo.specs.Tasks.{HasNoTasks}
 use Rattle.jl_cli.specs.Due.{AreProgram, IsFaultLine, ok_line}
 
 -- the bytes are a script that is a program
 abbrev pub IsProgram : List ℕ → Type 0
 IsProgram bytes = (P : Program) × AreProgram bytes P
 
--- they are one whose forms all run so far
-abbrev pub IsSimpleProgram : List ℕ → Type 0
-IsSimpleProgram bytes = (P : Program) × AreProgram bytes P × IsSimple P
+-- they are one that spawns no tasks
+abbrev pub IsProgramAlone : List ℕ → Type 0
+IsProgramAlone bytes = (P : Program) × AreProgram bytes P × HasNoTasks P
 
 -- what `check` owes: the counts of a program, or the line of a fault, and no history
 abbrev pub ChecksTo : List ℕ → ℕ → Option History → List ℕ → Type 0

@@ -17,7 +17,8 @@ use jl_program::prelude::PRELUDE_SITES;
 use jl_program::tree::Program;
 use jl_reader::read;
 use jl_resolve::program;
-use jl_solo::{is_simple, run_alone, status, text};
+use jl_sig::Ready;
+use jl_solo::{has_no_tasks, run_alone, status, text};
 use jl_token::tokens;
 use std::alloc::{AllocError, Global};
 
@@ -55,13 +56,14 @@ fn script(alloc: Global, bytes: &[u8]) -> Result<Result<Script, Bytes>, AllocErr
 }
 
 /// What is due where a program is to be run.
-fn ran(alloc: Global, program: &Program) -> Result<Due, AllocError>
-    ensures { IfOk result (λ due. (bytes : List ℕ) → AreProgram bytes program.now → IsDue run_words bytes due.status due.history due.text) }
+fn ran(alloc: Global, ready: &Ready) -> Result<Due, AllocError>
+    ensures { IfOk result (λ due. (bytes : List ℕ) → AreProgram bytes ready.now → IsDue run_words bytes due.status due.history due.text) }
 {
-    if !is_simple(program) {
+    let program = ready.program();
+    if !has_no_tasks(ready) {
         return Ok(refused(line(alloc, b"ERROR: NotYetRead\n")?));
     }
-    let history = run_alone(alloc, program, DEFAULT_FUEL)?;
+    let history = run_alone(alloc, ready, DEFAULT_FUEL)?;
     let text = text(alloc, program, &history)?;
     let status = status(&history);
     Ok(Due {
@@ -104,12 +106,12 @@ fn checked(alloc: Global, program: &Program) -> Result<Due, AllocError>
 }
 
 /// What a command owes for a program.
-fn owed(alloc: Global, command: Command, program: &Program) -> Result<Due, AllocError>
-    ensures { IfOk result (λ due. (bytes : List ℕ) → AreProgram bytes program.now → IsDue (words_of command) bytes due.status due.history due.text) }
+fn owed(alloc: Global, command: Command, ready: &Ready) -> Result<Due, AllocError>
+    ensures { IfOk result (λ due. (bytes : List ℕ) → AreProgram bytes ready.now → IsDue (words_of command) bytes due.status due.history due.text) }
 {
     match command {
-        Command::Run => ran(alloc, program),
-        Command::Check => checked(alloc, program),
+        Command::Run => ran(alloc, ready),
+        Command::Check => checked(alloc, ready.program()),
     }
 }
 
@@ -125,7 +127,7 @@ fn owed_for(
 {
     match program(alloc, script) {
         Ok(ready) => {
-            let due = owed(alloc, command, ready.program());
+            let due = owed(alloc, command, &ready);
             drop(ready);
             let due = due?;
             Ok(due)

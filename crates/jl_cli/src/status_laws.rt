@@ -3,7 +3,7 @@
 ghost use Rattle.std.specs.Prelude.{◌≡◌, ◌↔◌, ℕ, List, Option};
 ghost use Rattle.jl_calculus.specs.declared.history.History.{History as AnyHistory};
 ghost use Rattle.jl_cli.specs.Due.{IsDue, run_words, check_words};
-ghost use Rattle.jl_cli.specs.Laws.{IsProgram, IsSimpleProgram};
+ghost use Rattle.jl_cli.specs.Laws.{IsProgram, IsProgramAlone};
 
 /// For `check`, status 0 is due exactly where the bytes are a program, and status 3 exactly where they are none.
 pub fn law_check_status()
@@ -11,7 +11,7 @@ pub fn law_check_status()
     ensures none { (bytes : List ℕ) (status : ℕ) (h : Option AnyHistory) (text : List ℕ) → IsDue check_words bytes status h text → (status ≡ 3) ↔ (IsProgram bytes → ⊥) }
 {}
 
-/// For `run`, status 3 is due exactly where the bytes are no program whose forms all run so far.
+/// For `run`, status 3 is due exactly where the bytes are no program that spawns no tasks.
 pub fn law_run_status()
-    ensures { (bytes : List ℕ) (status : ℕ) (h : Option AnyHistory) (text : List ℕ) → IsDue run_words bytes status h text → (status ≡ 3) ↔ (IsSimpleProgram bytes → ⊥) }
+    ensures { (bytes : List ℕ) (status : ℕ) (h : Option AnyHistory) (text : List ℕ) → IsDue run_words bytes status h text → (status ≡ 3) ↔ (IsProgramAlone bytes → ⊥) }
 {}

@@ -1,10 +1,6 @@
 pub mod Performing
-pub mod Equations
-pub mod Steps
-pub mod Turning
-pub mod Traces
-pub mod Bodies
-pub mod Fitting
 pub mod Stepping
+pub mod Choosing
+pub mod Asking
+pub mod Acting
 pub mod Whole
-pub mod SizeLemmas

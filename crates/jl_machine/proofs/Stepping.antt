@@ -1,140 +1,202 @@
--- From what the machine's code answers to a step: it fits again, fewer turns are left, and what the trace gets answers what was asked.
-use Rattle.std.proofs.Common.{◌≡◌, refl, inl, inr, ℕ, ◌+◌, ◌-◌, ◌<◌, ◌≤◌, List, [], ◌∷◌, ◌++◌, Bool, sym, ap, ◌∙◌, subst, arith, map, length, Result, Ok, Err, IfOk, IsTrue, nat_le, nat_lt}
-use Rattle.std.proofs.lemmas.Bool.{ltb-true, leb-true}
+-- From what the machine's code answers to a step of its task.
+use Rattle.std.proofs.Common.{◌≡◌, refl, sym, ap, ◌∙◌, subst, ℕ, zero, suc, ◌+◌, ◌-◌, ◌<◌, ◌≤◌, Bool, List, [], ◌∷◌, ◌++◌, map, length, take, drop, get_or, slice_get, Option, None, Some, Result, Ok, Err, IfOk, arith}
 use Rattle.std.specs.declared.alloc.AllocError.{AllocError}
 use Rattle.jl_model.specs.declared.ty.Ty.{Ty}
-use Rattle.jl_program.specs.declared.value.Value.{Value}
-use Rattle.jl_program.specs.declared.value.Value.TheVariants as V
-use Rattle.jl_program.specs.declared.tree.Expr.{Expr}
-use Rattle.jl_program.specs.declared.tree.Item.{Item}
-use Rattle.jl_program.specs.declared.tree.Item.TheVariants as I
+use Rattle.jl_program.specs.declared.choice.Choice.TheVariants as C
+use Rattle.jl_program.specs.declared.fault.Fault.TheVariants.{NoMethod, Ambiguous, FuelSpent, StackLimit, WorldLimit, TaskLimit}
+use Rattle.jl_program.specs.declared.tree.Expr.{Expr, out-Expr}
+use Rattle.jl_program.specs.declared.tree.Expr.TheOpen as F
+use Rattle.jl_program.specs.declared.tree.Item.{Item, out-Item}
+use Rattle.jl_program.specs.declared.tree.Stmt.{Stmt}
 use Rattle.jl_program.specs.declared.tree.Piece.{Piece}
 use Rattle.jl_program.specs.declared.tree.Program.{Program}
-use Rattle.jl_calculus.specs.declared.history.TraceItem.TheVariants.{Look, Def, WorldFull}
-use Rattle.jl_program.specs.declared.choice.Choice.TheVariants as C
+use Rattle.jl_program.specs.declared.tree.Site.{Site}
+use Rattle.jl_program.specs.declared.tree.Start.{Start}
+use Rattle.jl_program.specs.declared.value.Value.{Value}
+use Rattle.jl_program.specs.declared.value.Value.TheVariants as V
+use Rattle.jl_program.specs.TypeOf.{type_of}
+use Rattle.jl_program.specs.Valid.{IsValid}
+use Rattle.jl_calculus.specs.declared.history.Event.{Event}
 use Rattle.jl_calculus.specs.declared.history.Outcome.{Outcome}
 use Rattle.jl_calculus.specs.declared.history.Outcome.TheVariants as O
-use Rattle.jl_program.specs.declared.fault.Fault.TheVariants.{NoMethod, Ambiguous, FuelSpent, StackLimit, WorldLimit}
-use Rattle.jl_machine.specs.declared.point.Frame.TheVariants as Fr
-use Rattle.jl_machine.specs.declared.point.Work.{Work}
-use Rattle.jl_machine.specs.declared.point.Work.TheVariants.{Eval, Give, Calling, Items, Defining, Pieces, Ended}
-use Rattle.jl_machine.specs.declared.point.Now.{Now}
-use Rattle.jl_program.specs.TypeOf.{type_of}
-use Rattle.jl_calculus.specs.Run.{a_look, a_definition, body_of}
-use Rattle.jl_calculus.specs.Simple.{is_simple_item}
-use Rattle.jl_machine.specs.Point.{Point, begun, given, go_pieces}
-use Rattle.jl_machine.proofs.Steps.{begun_same, given_same, pieces_same}
+use Rattle.jl_calculus.specs.declared.history.TraceItem.{TraceItem}
+use Rattle.jl_calculus.specs.declared.history.TraceItem.TheVariants.{Look, Def, Spawn, Fetch, WorldFull, TaskFull}
+use Rattle.jl_calculus.specs.Kept.{Keeps}
+use Rattle.jl_calculus.specs.Run.{Body, operation, code, body_of}
+use Rattle.jl_calculus.specs.World.{Selects, site_of}
+use Rattle.jl_point.specs.declared.point.Work.{Work}
+use Rattle.jl_point.specs.declared.point.Work.TheVariants as W
+use Rattle.jl_point.specs.declared.point.Now.{Now}
+use Rattle.jl_point.specs.Operated.{performed}
+use Rattle.jl_point.specs.Skip.{skip_begun, skip_given}
+use Rattle.jl_point.specs.Turns.{Point, answered, left, go_pieces, go_stmts, looked_item, start_of}
+use Rattle.jl_point.specs.ValidPoint.{IsGoodPoint}
+use Rattle.jl_point.proofs.AskedLemmas.{no_method_valid, ambiguous_valid, fuel_spent_valid, stack_limit_valid, world_limit_valid, task_limit_valid, ended_good, call_is, call_good, call_key, latest_good, operated_good}
+use Rattle.jl_point.proofs.EnteredKept.{spawn_good}
+use Rattle.jl_point.proofs.SelectedLemmas.{IsSelected, selected, selected_good}
+use Rattle.jl_point.proofs.TurnsKept.{left_good, pieces_good, stmts_good}
+use Rattle.jl_dispatcher.specs.Knows.{Knows, Asked, IsRight, IsOfSite, IsMethod, variables_of}
+use Rattle.jl_fit.specs.Fits.{Fitting, Steps}
+use Rattle.jl_fit.proofs.Calling.{step_spent, step_deep, step_none, step_ambiguous, step_method, of_site, acting_call, step_acting}
+use Rattle.jl_fit.proofs.Skipping.{step_skip_begun, step_skip_given}
+use Rattle.jl_fit.proofs.Turning.{step_left, step_pieces, step_stmts, step_end}
+use Rattle.jl_machine.specs.declared.now.LentNow.{LentNow}
+use Rattle.jl_machine.specs.declared.now.LentWork.{LentWork}
+use Rattle.jl_machine.specs.declared.now.LentWork.TheVariants as L
 use Rattle.jl_machine.specs.declared.task.Task.{Task}
-use Rattle.jl_machine.specs.Knows.{Knows, Grew, Asked, Refused, IsRight, Defined, Full}
-use Rattle.jl_machine.specs.Performed.{performed}
-use Rattle.jl_machine.specs.Weight.{load, heaviest, expr_weight, item_weight}
-use Rattle.jl_machine.specs.Asks.{EndsAs, over, Follows}
-use Rattle.jl_machine.specs.Fits.{FitsWith, Fitting, Steps, HasLooked}
-use Rattle.jl_machine.proofs.Turning.{kept_begun, kept_given, kept_pieces}
-use Rattle.jl_machine.proofs.Equations.{simple_item_out, item_weighs, item_layer, both_true, fails}
-use Rattle.jl_machine.proofs.Fitting.{asks_definition, asks_before_expression, asks_before_definition, moved, turned, grown, look_do, look_define, define_made, define_full, call_spent, call_deep, call_none, call_ambiguous, call_method, performed_light, fewer}
+use Rattle.jl_machine.specs.Lent.{now_of, work_of, given_value, IsGiven, Reaches}
+use Rattle.jl_machine.specs.Steps.{progress_of, LentSteps, AppliesAt, variables_at}
 
--- a question that tells nothing is one that may have been refused
-refused : (k k' : Knows) → Asked k k' → Refused k k'
-refused k k' a = record { grew = a.grew; looks = a.looks; own = a.own }
+-- a step to a point is a step to what is at that point
+pub lent_is : (work : LentWork) (k k' : Knows) (w : Work) (t t' : Task) (n : LentNow) (p : Point) → Reaches work n p → Steps k w (progress_of t) k' p.0 (record (progress_of t') { now = p.1 }) → LentSteps k w t k' work (record t' { now = n })
+lent_is work k k' w t t' n p h s =
+    let S : Point → Type 0 = λ q. Steps k w (progress_of t) k' q.0 (record (progress_of t') { now = q.1 }) in
+    record { steps = subst S (sym h.point) s; settled = h.settled }
 
--- a turn of the machine's own
-turn_fits : (k : Knows) (t : Task) (w work : Work) (n : Now) (p : Point) → (work, n) ≡ p → FitsWith k.program t.fuel k p.0 (record t { now = p.1 }) → load p.0 p.1 < load w t.now → Steps k w t k work (record t { now = n })
-turn_fits k t w work n p e f l =
-    let S : Point → Type 0 = λ q. Steps k w t k q.0 (record t { now = q.1 }) in
-    subst S (sym e) (record { fits = f; lighter = omega (arith, l); tells = inl refl; follows = λ c h. h })
+pub lent_ok : (r : Result LentWork AllocError) (k k' : Knows) (w : Work) (t t' : Task) (n : LentNow) (p : Point) → IfOk r (λ work. Reaches work n p) → Steps k w (progress_of t) k' p.0 (record (progress_of t') { now = p.1 }) → IfOk r (λ work. LentSteps k w t k' work (record t' { now = n }))
+lent_ok (Ok work) k k' w t t' n p h s = lent_is work k k' w t t' n p h s
+lent_ok (Err x) k k' w t t' n p h s = tt
 
-turn_ok : (r : Result Work AllocError) (k : Knows) (t : Task) (w : Work) (n : Now) (p : Point) → IfOk r (λ work. (work, n) ≡ p) → FitsWith k.program t.fuel k p.0 (record t { now = p.1 }) → load p.0 p.1 < load w t.now → IfOk r (λ work. Steps k w t k work (record t { now = n }))
-turn_ok (Ok work) k t w n p e f l = turn_fits k t w work n p e f l
-turn_ok (Err x) k t w n p e f l = tt
+-- ---- turns of the machine's own
 
-pub step_begun : (r : Result Work AllocError) (k : Knows) (t : Task) (e : Expr) (n : Now) → IfOk r (λ work. (work, n) ≡ begun e t.now) → Fitting k (Eval e) t → IfOk r (λ work. Steps k (Eval e) t k work (record t { now = n }))
-step_begun r k t e n is f =
-    let kept = kept_begun k.world (length k.program.sites) e t.now in
-    turn_ok r k t (Eval e) n (begun e t.now) is (turned k.program t.fuel k (Eval e) t (begun e t.now) kept (λ x rest o. begun_same (over k.program x t.fuel) (EndsAs o) t.calls [] rest t.now (length k.program.sites) e f.plain.work) f) kept.lighter
+pub lent_begun : (r : Result LentWork AllocError) (k : Knows) (t : Task) (e : Expr) (n : LentNow) → IfOk r (λ work. Reaches work n (skip_begun e (now_of t.now))) → Fitting k (W.Eval e) (progress_of t) → IfOk r (λ work. LentSteps k (W.Eval e) t k work (record t { now = n }))
+lent_begun r k t e n h f = lent_ok r k k (W.Eval e) t t n (skip_begun e (now_of t.now)) h (step_skip_begun k (progress_of t) e f)
 
-pub step_given : (r : Result Work AllocError) (k : Knows) (t : Task) (P : Program) (v : Value) (n : Now) → P ≡ k.program → IfOk r (λ work. (work, n) ≡ given P t.now.stack v t.now) → Fitting k (Give v) t → IfOk r (λ work. Steps k (Give v) t k work (record t { now = n }))
-step_given r k t P v n eP is f =
-    let kept = kept_given k.world (length k.program.sites) k.program v t.now in
-    turn_ok r k t (Give v) n (given k.program t.now.stack v t.now) (subst (λ Q. IfOk r (λ work. (work, n) ≡ given Q t.now.stack v t.now)) eP is)
-    (turned k.program t.fuel k (Give v) t (given k.program t.now.stack v t.now) kept (λ x rest o. given_same (over k.program x t.fuel) (EndsAs o) t.calls [] rest t.now.stack v t.now) f) kept.lighter
+pub lent_given : (r : Result LentWork AllocError) (k : Knows) (t : Task) (P : Program) (v : Value) (n : LentNow) → P ≡ k.program → IfOk r (λ work. Reaches work n (skip_given P t.now.frames.stack v (now_of t.now))) → Fitting k (W.Give v) (progress_of t) → IfOk r (λ work. LentSteps k (W.Give v) t k work (record t { now = n }))
+lent_given r k t P v n eP h f =
+    lent_ok r k k (W.Give v) t t n (skip_given k.program t.now.frames.stack v (now_of t.now)) (subst (λ Q. IfOk r (λ work. Reaches work n (skip_given Q t.now.frames.stack v (now_of t.now)))) eP h) (step_skip_given k (progress_of t) v f)
 
-pub step_pieces : (r : Result Work AllocError) (k : Knows) (t : Task) (text : List ℕ) (xs : List Piece) (line : Bool) (n : Now) → IfOk r (λ work. (work, n) ≡ go_pieces text xs line t.now) → Fitting k (Pieces text xs line) t → IfOk r (λ work. Steps k (Pieces text xs line) t k work (record t { now = n }))
-step_pieces r k t text xs line n is f =
-    let kept = kept_pieces k.world (length k.program.sites) text xs line t.now in
-    turn_ok r k t (Pieces text xs line) n (go_pieces text xs line t.now) is (turned k.program t.fuel k (Pieces text xs line) t (go_pieces text xs line t.now) kept (λ x rest o. pieces_same (over k.program x t.fuel) (EndsAs o) t.calls [] rest t.now text xs line) f) kept.lighter
+pub lent_left : (work : LentWork) (k : Knows) (t : Task) (v : Value) (n : LentNow) → Reaches work n (left t.now.frames.stack v (now_of t.now)) → Fitting k (W.Leave v) (progress_of t) → LentSteps k (W.Leave v) t k work (record t { now = n })
+lent_left work k t v n h f =
+    lent_is work k k (W.Leave v) t t n (left t.now.frames.stack v (now_of t.now)) h (step_left k (progress_of t) v f (left_good k.program f.valid.views t.now.frames.stack v (now_of t.now) f.good))
 
--- calls
-pub step_spent : (k : Knows) (t : Task) (f : ℕ) (vs : List Value) → t.fuel ≤ t.calls → Fitting k (Calling f vs) t → Steps k (Calling f vs) t k (Ended (O.Error (FuelSpent t.fuel))) t
-step_spent k t f vs le h = record { fits = call_spent k.program t.fuel k t f vs h le; lighter = omega arith; tells = inl refl; follows = λ c q. q }
+pub lent_pieces : (r : Result LentWork AllocError) (k : Knows) (t : Task) (text : List ℕ) (xs : List Piece) (line : Bool) (n : LentNow) → IfOk r (λ work. Reaches work n (go_pieces text xs line (now_of t.now))) → Fitting k (W.Pieces text xs line) (progress_of t) → IfOk r (λ work. LentSteps k (W.Pieces text xs line) t k work (record t { now = n }))
+lent_pieces r k t text xs line n h f =
+    lent_ok r k k (W.Pieces text xs line) t t n (go_pieces text xs line (now_of t.now)) h (step_pieces k (progress_of t) text xs line f (pieces_good k.program f.valid.views text xs line (now_of t.now) f.good))
 
-ends : (k k' : Knows) (t : Task) (f : ℕ) (vs : List Value) (o : Outcome) → t.calls < t.fuel → Follows k t.trace k' t.trace → FitsWith k.program t.fuel k' (Ended o) (record t { calls = t.calls + 1 }) → Steps k (Calling f vs) t k' (Ended o) (record t { calls = t.calls + 1 })
-ends k k' t f vs o lt follows h =
-    let e = fewer k.program t.fuel t.calls (heaviest k.program.sites) lt in
-    record { fits = h; lighter = omega (arith, e); tells = inl refl; follows = follows }
+pub lent_stmts : (r : Result LentWork AllocError) (k : Knows) (t : Task) (xs : List Stmt) (v : Value) (n : LentNow) → IfOk r (λ work. Reaches work n (go_stmts xs v (now_of t.now))) → Fitting k (W.Stmts xs v) (progress_of t) → IfOk r (λ work. LentSteps k (W.Stmts xs v) t k work (record t { now = n }))
+lent_stmts r k t xs v n h f =
+    lent_ok r k k (W.Stmts xs v) t t n (go_stmts xs v (now_of t.now)) h (step_stmts k (progress_of t) xs v f (stmts_good k.program f.valid.views xs v (now_of t.now) f.good))
 
-pub step_deep : (k : Knows) (t : Task) (f : ℕ) (vs : List Value) → t.calls < t.fuel → t.now.room ≡ 0 → Fitting k (Calling f vs) t → Steps k (Calling f vs) t k (Ended (O.Error StackLimit)) (record t { calls = t.calls + 1 })
-step_deep k t f vs lt room h = ends k k t f vs (O.Error StackLimit) lt (λ c q. q) (call_deep k.program t.fuel k t f vs h lt room)
+-- ---- calls
 
-module _ (k k' : Knows) (t : Task) (f : ℕ) (vs : List Value) (ts : List Ty) (lt : t.calls < t.fuel) (some : 0 < t.now.room) (asked : Asked k k') (types : ts ≡ map type_of vs) (h : Fitting k (Calling f vs) t) where
-  pub step_none : IsRight k' f ts t.now.world C.None → Steps k (Calling f vs) t k' (Ended (O.Error (NoMethod f ts t.now.world))) (record t { calls = t.calls + 1 })
-  step_none r = rw types (ends k k' t f vs (O.Error (NoMethod f (map type_of vs) t.now.world)) lt (λ c. asked.follows c t.trace) (call_none k.program t.fuel k' t f vs (grown k.program t.fuel k k' (Calling f vs) t (refused k k' asked) h) lt some (subst (λ us. IsRight k' f us t.now.world C.None) types r)))
+-- the point at which a chosen method's body is begun
+body_good : (P : Program) (v : IsValid P) (es : List Event) (f w d : ℕ) (vs : List Value) (n : Now) (b : Body) → body_of P (site_of es d) ≡ b → Selects P es f (map type_of vs) w (C.Method d)
+    → IsGoodPoint P v.views (W.Calling f w vs, n) → IsGoodPoint P v.views (performed P b w vs n)
+body_good P v es f w d vs n (operation site) is sel good = operated_good P v.views f w site vs n good
+body_good P v es f w d vs n (code sig e) is sel good = selected_good P v es f w w w d vs n sig e sel is good
 
-  pub step_ambiguous : (a b : ℕ) → IsRight k' f ts t.now.world (C.Ambiguous a b) → Steps k (Calling f vs) t k' (Ended (O.Error (Ambiguous f ts a b))) (record t { calls = t.calls + 1 })
-  step_ambiguous a b r = rw types (ends k k' t f vs (O.Error (Ambiguous f (map type_of vs) a b)) lt (λ c. asked.follows c t.trace) (call_ambiguous k.program t.fuel k' t f vs (grown k.program t.fuel k k' (Calling f vs) t (refused k k' asked) h) a b lt some (subst (λ us. IsRight k' f us t.now.world (C.Ambiguous a b)) types r)))
+pub method_good : (k : Knows) (f w site : ℕ) (vs : List Value) (n : Now) (v : IsValid k.program) → IsOfSite k f (map type_of vs) w site → IsGoodPoint k.program v.views (W.Calling f w vs, n)
+    → IsGoodPoint k.program v.views (performed k.program (body_of k.program site) w vs n)
+method_good k f w site vs n v right good =
+    let (d, sel, is) = right k.events k.agreed in
+    subst (λ s. IsGoodPoint k.program v.views (performed k.program (body_of k.program s) w vs n)) is (body_good k.program v k.events f w d vs n (body_of k.program (site_of k.events d)) refl sel good)
 
-  performs_well : (d site : ℕ) (work : Work) (n : Now) → (work, n) ≡ performed (body_of k.program site) t.now.world vs t.now → IsRight k' f ts t.now.world (C.Method d) → site ≡ k'.site d → Steps k (Calling f vs) t k' work (record t { now = n; calls = t.calls + 1 })
-  performs_well d site work n e r at =
-      let S : Point → Type 0 = λ q. Steps k (Calling f vs) t k' q.0 (record t { now = q.1; calls = t.calls + 1 }) in
-      let h' = grown k.program t.fuel k k' (Calling f vs) t (refused k k' asked) h in
-      let p = performed (body_of k.program site) t.now.world vs t.now in
-      let l = performed_light k.program t.fuel k' t f vs h' site in
-      let c = fewer k.program t.fuel t.calls (heaviest k.program.sites) lt in
-      subst S (sym e) (record { fits = call_method k.program t.fuel k' t f vs h' d site lt some (subst (λ us. IsRight k' f us t.now.world (C.Method d)) types r) at; lighter = omega (arith, l, c); tells = inl refl; follows = λ x. asked.follows x t.trace })
+-- the site of a chosen method is there, and its signature applies
+pub method_there : (k : Knows) (f w site : ℕ) (ts : List Ty) → IsOfSite k f ts w site → IsSelected k.program f site ts
+method_there k f w site ts right =
+    let (d, sel, is) = right k.events k.agreed in
+    subst (λ s. IsSelected k.program f s ts) is (selected k.program k.events f w d ts sel)
 
-  pub step_method : (r : Result Work AllocError) (P : Program) (d site : ℕ) (n : Now) → P ≡ k.program → IfOk r (λ work. (work, n) ≡ performed (body_of P site) t.now.world vs t.now) → IsRight k' f ts t.now.world (C.Method d) → site ≡ k'.site d → IfOk r (λ work. Steps k (Calling f vs) t k' work (record t { now = n; calls = t.calls + 1 }))
-  step_method (Ok work) P d site n eP e right at = performs_well d site work n (subst (λ Q. (work, n) ≡ performed (body_of Q site) t.now.world vs t.now) eP e) right at
-  step_method (Err x) P d site n eP e right at = tt
+below_length : (xs : List Site) (i : ℕ) (x : Site) → slice_get xs i ≡ Some x → i < length xs
+below_length [] i x h = absurd (cc)
+below_length (y ∷ ys) zero x h = omega arith
+below_length (y ∷ ys) (suc i) x h = omega (arith, below_length ys i x h)
 
--- statements
-pub step_end : (k : Knows) (t : Task) (v : Value) (xs : List Item) → xs ≡ [] → Fitting k (Items xs v) t → Steps k (Items xs v) t k (Give v) t
-step_end k t v xs e h =
-    let S : List Item → Type 0 = λ ys. Fitting k (Items ys v) t → Steps k (Items ys v) t k (Give v) t in
-    subst S (sym e) (λ h'. record { fits = moved k.program t.fuel k (Items [] v) t (Give v, t.now) t.calls h'.world h'.worlds (record { work = h'.plain.work.1; now = h'.plain.now }) (λ x a rest o. (λ g. g, λ g. g)) h'; lighter = omega arith; tells = inl refl; follows = λ c q. q }) h
+pub site_below : (P : Program) (f site : ℕ) (ts : List Ty) → IsSelected P f site ts → site < length P.sites
+site_below P f site ts s = below_length P.sites site s.site s.there
 
-weighs-do : (e : Expr) → item_weight (I.Do e) ≡ 1 + expr_weight e
-weighs-do e = item_weighs (I.Do e) ∙ ap item_layer (I.outs-Do e)
+pub applies_at : (P : Program) (f site : ℕ) (ts : List Ty) → IsSelected P f site ts → AppliesAt P ts (slice_get P.sites site)
+applies_at P f site ts s = subst (AppliesAt P ts) (sym s.there) s.applies
 
-weighs-define : (site : ℕ) → item_weight (I.Define site) ≡ 2
-weighs-define site = item_weighs (I.Define site) ∙ ap item_layer (I.outs-Define site)
+-- so is that of a method that is remembered
+pub recalled_below : (k : Knows) (P : Program) (f w site : ℕ) (ts us : List Ty) → P ≡ k.program → IsMethod k f ts w site us → site < length P.sites
+recalled_below k P f w site ts us e m = subst (λ Q. site < length Q.sites) (sym e) (site_below k.program f site ts (method_there k f w site ts m.right))
 
-pub no_bind : (n : ℕ) (x : ℕ) (e : Expr) → IsTrue (is_simple_item n (I.Bind x e)) → ⊥
-no_bind n x e h = fails (rw I.outs-Bind at (simple_item_out n (I.Bind x e) h))
+variables_same : (k : Knows) (P : Program) (ts : List Ty) (o : Option Site) → P ≡ k.program → variables_at P ts o ≡ variables_of k ts o
+variables_same k P ts None e = refl
+variables_same k P ts (Some site) e = ap (λ Q. variables_at Q ts (Some site)) e
 
-in_range : (n site : ℕ) → IsTrue (is_simple_item n (I.Define site)) → (14 ≤ site) × (site < n)
-in_range n site h =
-    let b = both_true (nat_le 14 site) (nat_lt site n) (rw I.outs-Define at (simple_item_out n (I.Define site) h)) in
-    (leb-true 14 site b.0, ltb-true site n b.1)
+-- what is remembered of a method fits what the machine does with it
+pub variables_are : (k : Knows) (P : Program) (ts us : List Ty) (site : ℕ) → P ≡ k.program → variables_of k ts (slice_get k.program.sites site) ≡ us → variables_at P ts (slice_get P.sites site) ≡ us
+variables_are k P ts us site e h =
+    ap (λ Q. variables_at Q ts (slice_get Q.sites site)) e ∙ variables_same k k.program ts (slice_get k.program.sites site) refl ∙ h
 
-module _ (k k' : Knows) (w : ℕ) (t t' : Task) (l : HasLooked k k' w t t') where
-  pub step_do : (e : Expr) (xs : List Item) (v : Value) → Fitting k (Items (I.Do e ∷ xs) v) t → Steps k (Items (I.Do e ∷ xs) v) t k' (Eval e) (record t' { now = record t'.now { world = w; stack = Fr.AfterItem t'.now.world xs ∷ t'.now.stack } })
-  step_do e xs v h =
-      let S : Task → Type 0 = λ u. Steps k (Items (I.Do e ∷ xs) v) t k' (Eval e) (record u { now = record u.now { world = w; stack = Fr.AfterItem u.now.world xs ∷ u.now.stack } }) in
-      subst S (sym l.task) (record { fits = look_do k.program t.fuel k k' t w l.place l.looked e xs v h; lighter = omega (arith, weighs-do e); tells = inr (Look w l.place, a_look, refl, tt, asks_before_expression k.program t.fuel k t e xs v h); follows = λ c. l.looked.follows c t.trace })
+pub variables_known : (k : Knows) (P : Program) (ts us : List Ty) (site : ℕ) → P ≡ k.program → variables_at P ts (slice_get P.sites site) ≡ us → variables_of k ts (slice_get k.program.sites site) ≡ us
+variables_known k P ts us site e h =
+    sym (variables_same k k.program ts (slice_get k.program.sites site) refl) ∙ ap (λ Q. variables_at Q ts (slice_get Q.sites site)) (sym e) ∙ h
 
-  pub step_define : (site : ℕ) (xs : List Item) (v : Value) → Fitting k (Items (I.Define site ∷ xs) v) t → Steps k (Items (I.Define site ∷ xs) v) t k' (Defining site xs) t'
-  step_define site xs v h =
-      let S : Task → Type 0 = λ u. Steps k (Items (I.Define site ∷ xs) v) t k' (Defining site xs) u in
-      subst S (sym l.task) (record { fits = look_define k.program t.fuel k k' t w l.place l.looked site xs v (in_range (length k.program.sites) site h.plain.work.0.0) h; lighter = omega (arith, weighs-define site); tells = inr (Look w l.place, a_look, refl, tt, asks_before_definition k.program t.fuel k t site xs v h); follows = λ c. l.looked.follows c t.trace })
+same_knows : (k : Knows) → Asked k k
+same_knows k = let w : k.world ≤ k.world = omega arith in let s : k.seen ≤ k.seen = omega arith in record {
+  grew = record { program = refl; places = refl; task = refl; start = refl; first = refl; world = w; seen = s; agrees = λ es a. a; learnt = λ i l. l };
+  looks = refl;
+  own = refl;
+  starts = refl;
+  follows = λ c is h. h;
+}
 
-  -- the same, where the statements are known to begin so
-  pub step_define_first : (ys : List Item) (site : ℕ) (xs : List Item) (v : Value) → ys ≡ I.Define site ∷ xs → Fitting k (Items ys v) t → Steps k (Items ys v) t k' (Defining site xs) t'
-  step_define_first ys site xs v e h =
-      let S : List Item → Type 0 = λ zs. Fitting k (Items zs v) t → Steps k (Items zs v) t k' (Defining site xs) t' in
-      subst S (sym e) (step_define site xs v) h
+module _ (k : Knows) (t : Task) (f w : ℕ) (h : Fitting k (W.Calling f w t.now.frames.open_values) (progress_of t)) where
+  abbrev vs : List Value
+  vs = t.now.frames.open_values
 
-pub step_made : (k k' : Knows) (t : Task) (site : ℕ) (xs : List Item) → Grew k k' → Defined k k' site → Fitting k (Defining site xs) t → Steps k (Defining site xs) t k' (Items xs V.Nothing) (record t { trace = t.trace ++ Def site (k'.seen - 1) ∷ [] })
-step_made k k' t site xs g d h = record { fits = define_made k.program t.fuel k k' t site xs g d h; lighter = omega arith; tells = inr (Def site (k'.seen - 1), a_definition site, refl, refl, asks_definition k.program t.fuel k t site xs h); follows = λ c. d.follows c t.trace }
+  pub lent_spent : (work : LentWork) (n : LentNow) → Reaches work n (W.Ended (O.Error (FuelSpent t.fuel)), now_of t.now) → t.fuel ≤ t.calls → LentSteps k (W.Calling f w vs) t k work (record t { now = n })
+  lent_spent work n r le =
+      lent_is work k k (W.Calling f w vs) t t n (W.Ended (O.Error (FuelSpent t.fuel)), now_of t.now) r
+      (step_spent k (progress_of t) f w vs h le (ended_good k.program h.valid.views (W.Calling f w vs) (now_of t.now) (O.Error (FuelSpent t.fuel)) h.good (fuel_spent_valid k.program t.fuel)))
 
-pub step_full : (k k' : Knows) (t : Task) (site : ℕ) (xs : List Item) → Grew k k' → Full k k' → Fitting k (Defining site xs) t → Steps k (Defining site xs) t k' (Ended (O.Error WorldLimit)) (record t { trace = t.trace ++ WorldFull k'.seen ∷ [] })
-step_full k k' t site xs g d h = record { fits = define_full k.program t.fuel k k' t site xs g d h; lighter = omega arith; tells = inr (WorldFull k'.seen, a_definition site, refl, tt, asks_definition k.program t.fuel k t site xs h); follows = λ c. d.follows c t.trace }
+  pub lent_deep : (work : LentWork) (n : LentNow) → Reaches work n (W.Ended (O.Error StackLimit), now_of t.now) → t.calls < t.fuel → t.now.room ≡ 0 → LentSteps k (W.Calling f w vs) t k work (record t { now = n; calls = t.calls + 1 })
+  lent_deep work n r lt room =
+      lent_is work k k (W.Calling f w vs) t (record t { calls = t.calls + 1 }) n (W.Ended (O.Error StackLimit), now_of t.now) r
+      (step_deep k (progress_of t) f w vs h lt room (ended_good k.program h.valid.views (W.Calling f w vs) (now_of t.now) (O.Error StackLimit) h.good (stack_limit_valid k.program)))
+
+  module _ (k' : Knows) (lt : t.calls < t.fuel) (some : 0 < t.now.room) (asked : Asked k k') where
+    pub lent_none : (work : LentWork) (n : LentNow) (ts : List Ty) → ts ≡ map type_of vs → Reaches work n (W.Ended (O.Error (NoMethod f ts w)), now_of t.now) → IsRight k' f ts w C.None → LentSteps k (W.Calling f w vs) t k' work (record t { now = n; calls = t.calls + 1 })
+    lent_none work n ts types r right =
+        let here = call_is k.program h.valid.views f w vs (now_of t.now) h.good in
+        lent_is work k k' (W.Calling f w vs) t (record t { calls = t.calls + 1 }) n (W.Ended (O.Error (NoMethod f (map type_of vs) w)), now_of t.now)
+        (subst (λ us. Reaches work n (W.Ended (O.Error (NoMethod f us w)), now_of t.now)) types r)
+        (step_none k (progress_of t) f w vs k' lt some asked h
+        (ended_good k.program h.valid.views (W.Calling f w vs) (now_of t.now) (O.Error (NoMethod f (map type_of vs) w)) h.good (no_method_valid k.program f w vs h.valid here.0 here.2))
+        (subst (λ us. IsRight k' f us w C.None) types right))
+
+    pub lent_ambiguous : (work : LentWork) (n : LentNow) (ts : List Ty) (a b : ℕ) → ts ≡ map type_of vs → Reaches work n (W.Ended (O.Error (Ambiguous f ts a b)), now_of t.now) → IsRight k' f ts w (C.Ambiguous a b)
+        → LentSteps k (W.Calling f w vs) t k' work (record t { now = n; calls = t.calls + 1 })
+    lent_ambiguous work n ts a b types r right =
+        let here = call_is k.program h.valid.views f w vs (now_of t.now) h.good in
+        lent_is work k k' (W.Calling f w vs) t (record t { calls = t.calls + 1 }) n (W.Ended (O.Error (Ambiguous f (map type_of vs) a b)), now_of t.now)
+        (subst (λ us. Reaches work n (W.Ended (O.Error (Ambiguous f us a b)), now_of t.now)) types r)
+        (step_ambiguous k (progress_of t) f w vs k' lt some asked h a b
+        (ended_good k.program h.valid.views (W.Calling f w vs) (now_of t.now) (O.Error (Ambiguous f (map type_of vs) a b)) h.good (ambiguous_valid k.program f a b vs h.valid here.0 here.2))
+        (subst (λ us. IsRight k' f us w (C.Ambiguous a b)) types right))
+
+    -- the method of a site, where the dispatcher's program is the machine's
+    pub lent_method : (r : Result LentWork AllocError) (P : Program) (site : ℕ) (n : LentNow) → P ≡ k.program → IfOk r (λ work. Reaches work n (performed P (body_of P site) w vs (now_of t.now))) → IsOfSite k' f (map type_of vs) w site
+        → ((es : List Event) → k'.agrees es → Keeps k'.program es k'.places f (map type_of vs) w)
+        → IfOk r (λ work. LentSteps k (W.Calling f w vs) t k' work (record t { now = n; calls = t.calls + 1 }))
+    lent_method r P site n eP reach right kept =
+        let same : k'.program ≡ k.program = asked.grew.program in
+        let p = performed k.program (body_of k.program site) w vs (now_of t.now) in
+        let good = good_at k'.program same in
+        lent_ok r k k' (W.Calling f w vs) t (record t { calls = t.calls + 1 }) n p (subst (λ Q. IfOk r (λ work. Reaches work n (performed Q (body_of Q site) w vs (now_of t.now)))) eP reach)
+        (step_method k (progress_of t) f w vs k' lt some asked h site good right (λ x a. kept x.events a))
+      where
+        good_at : (Q : Program) → Q ≡ k.program → IsGoodPoint k.program h.valid.views (performed k.program (body_of k.program site) w vs (now_of t.now))
+        good_at Q e =
+            let (d, sel, is) = right k'.events k'.agreed in
+            let sel' : Selects k.program k'.events f (map type_of vs) w (C.Method d) = subst (λ R. Selects R k'.events f (map type_of vs) w (C.Method d)) asked.grew.program sel in
+            subst (λ s. IsGoodPoint k.program h.valid.views (performed k.program (body_of k.program s) w vs (now_of t.now))) is
+            (body_good k.program h.valid k'.events f w d vs (now_of t.now) (body_of k.program (site_of k'.events d)) refl sel' h.good)
+
+    -- the same, of types that are those of the arguments
+    pub lent_method_is : (work : LentWork) (P : Program) (site : ℕ) (n : LentNow) (ts : List Ty) → P ≡ k.program → ts ≡ map type_of vs → Reaches work n (performed P (body_of P site) w vs (now_of t.now)) → IsOfSite k' f ts w site
+        → ((es : List Event) → k'.agrees es → Keeps k'.program es k'.places f ts w) → LentSteps k (W.Calling f w vs) t k' work (record t { now = n; calls = t.calls + 1 })
+    lent_method_is work P site n ts eP types reach right kept =
+        lent_method (Ok work) P site n eP reach (subst (λ us. IsOfSite k' f us w site) types right) (subst (λ us. (es : List Event) → k'.agrees es → Keeps k'.program es k'.places f us w) types kept)
+
+  -- a method that is recalled
+  pub lent_recalled : (r : Result LentWork AllocError) (P : Program) (site : ℕ) (statics : List Ty) (n : LentNow) (us : List Value) → t.calls < t.fuel → 0 < t.now.room → P ≡ k.program → us ≡ vs → IsMethod k f (map type_of us) w site statics
+      → IfOk r (λ work. Reaches work n (performed P (body_of P site) w vs (now_of t.now)))
+      → IfOk r (λ work. LentSteps k (W.Calling f w vs) t k work (record t { now = n; calls = t.calls + 1 }))
+  lent_recalled r P site statics n us lt some eP e found reach =
+      let found' : IsMethod k f (map type_of vs) w site statics = subst (λ xs. IsMethod k f (map type_of xs) w site statics) e found in
+      lent_method k lt some (same_knows k) r P site n eP reach found'.right found'.kept

@@ -1,188 +1,316 @@
--- A new machine fits a fresh dispatcher, and one that ended has run.
-use Rattle.std.proofs.Common.{◌≡◌, ℕ, ◌<◌, List, [], ◌++◌, refl, sym, ap, ◌∙◌, subst, arith, length, Result, Ok, Err, IfOk, None}
-use Rattle.std.specs.declared.alloc.AllocError.{AllocError}
+-- A machine's step, its beginning and its end.
+use Rattle.std.proofs.Common.{◌≡◌, refl, sym, ap, ◌∙◌, subst, ℕ, zero, suc, ◌<◌, ◌≤◌, ◌+◌, ◌*◌, get_or, List, [], ◌∷◌, ◌++◌, map, length, Option, None, Some, Result, Ok, Err, IfOk, slice_get, false, arith}
+use Rattle.jl_model.specs.declared.ty.Ty.{Ty}
+use Rattle.jl_program.specs.declared.tree.Expr.{Expr}
+use Rattle.jl_program.specs.declared.tree.Program.{Program}
+use Rattle.jl_program.specs.declared.tree.Start.{Start}
+use Rattle.jl_program.specs.declared.prelude.TheConstants.{FIRST_WORLD}
+use Rattle.jl_program.specs.declared.value.Value.{Value}
 use Rattle.jl_program.specs.declared.value.Value.TheVariants as V
-use Rattle.jl_calculus.specs.declared.history.TraceItem.{TraceItem}
+use Rattle.std.specs.declared.alloc.AllocError.{AllocError}
+use Rattle.jl_program.specs.Meaning.{datum, value_of}
+use Rattle.jl_calculus.proofs.ValueLemmas.{value_back}
+use Rattle.jl_frames.specs.Held.{Held, nothing_held, with_open, starts}
+use Rattle.jl_program.specs.Valid.{IsValid}
+use Rattle.jl_calculus.specs.declared.history.Event.{Event}
 use Rattle.jl_calculus.specs.declared.history.Outcome.{Outcome}
 use Rattle.jl_calculus.specs.declared.history.Record.{Record}
-use Rattle.jl_program.specs.declared.tree.Program.{Program}
-use Rattle.jl_machine.specs.declared.point.Work.{Work}
-use Rattle.jl_machine.specs.declared.point.Work.TheVariants.{Eval, Give, Calling, Items, Defining, Pieces, Ended, Lost}
-use Rattle.jl_machine.specs.declared.point.Now.{Now}
-use Rattle.jl_calculus.specs.Run.{Run, open_calls}
-use Rattle.jl_calculus.specs.Simple.{IsSimple, is_simple_item}
+use Rattle.jl_calculus.specs.declared.history.TraceItem.{TraceItem}
+use Rattle.jl_calculus.specs.Run.{setting_of, Run}
+use Rattle.jl_calculus.specs.ValidStart.{IsValidStart}
+use Rattle.jl_point.specs.declared.point.Work.{Work}
+use Rattle.jl_point.specs.declared.point.Work.TheVariants as W
+use Rattle.jl_point.specs.declared.point.Now.{Now}
+use Rattle.jl_point.specs.Turns.{Point}
+use Rattle.jl_point.specs.ValidPoint.{IsGoodPoint}
+use Rattle.jl_point.specs.Weight.{turns_left}
+use Rattle.jl_point.specs.Worlds.{IsWithin}
+use Rattle.jl_point.proofs.AskedLemmas.{never_lost}
+use Rattle.jl_point.specs.Size.{program_size}
+use Rattle.jl_point.proofs.SizeLemmas.{root_few, task_few}
+use Rattle.jl_point.proofs.EnteredKept.{root_good, task_good}
+use Rattle.jl_dispatcher.specs.Knows.{Knows, Refused}
+use Rattle.jl_dispatcher.specs.Worlds.{IsWorld}
+use Rattle.jl_fit.specs.Asks.{Job, Over, Ending, RunsTo, FinishesTo, Tells}
+use Rattle.jl_fit.specs.Fits.{Progress, FitsWith, Fitting, Steps, IsFresh, IsRunOf, job_of}
+use Rattle.jl_fit.proofs.Fitting.{grown}
+use Rattle.jl_fit.proofs.Traces.{append_nil}
+use Rattle.jl_machine.specs.declared.now.LentWork.{LentWork}
+use Rattle.jl_machine.specs.declared.now.LentWork.TheVariants.{Eval, Give, Leave, Acting, Calling, Stmts, Items, Defining, Pieces, Ended, Lost}
 use Rattle.jl_machine.specs.declared.task.Task.{Task}
 use Rattle.jl_machine.specs.declared.task.Machine.{Machine}
-use Rattle.jl_machine.specs.Knows.{Knows, Refused}
-use Rattle.jl_machine.specs.declared.task.Phase.TheVariants as Ph
-use Rattle.jl_machine.specs.Asks.{setting, Over, Ending, RunsTo, FinishesTo, Tells}
-use Rattle.jl_machine.specs.Fits.{FitsWith, Fitting, Fits, MachineFits, Steps, phase_of, IsGoing, IsEnded, IsFresh, IsNew, NewFits, LostFits, IsRecordOf, HasEnded, IsRunOf, EndedRuns, GrownFits}
-use Rattle.jl_machine.specs.Plain.{IsPlainWork}
-use Rattle.jl_machine.specs.Weight.{turns_left}
-use Rattle.jl_machine.proofs.Fitting.{grown}
-use Rattle.jl_machine.proofs.Traces.{append_nil}
-use Rattle.jl_machine.proofs.Equations.{every_passed}
+use Rattle.jl_machine.specs.Lent.{now_of, work_of, IsSettled}
+use Rattle.jl_machine.specs.Steps.{progress_of, LentSteps, LentWaits, IsWorking, job_with, IsAt, FitsAt, MachineFits, fuel_of, turns_of, IsLost, IsNewAt, first_now, IsNewRoot, IsNewTask, IsFirst, HasEnded, RootFits, TaskFits, LostFits, EndedRuns, GrownFits}
 
--- what is left fits as a machine
-pub fits : (P : Program) (fuel : ℕ) (k : Knows) (w : Work) (t : Task) → FitsWith P fuel k w t → Fits P fuel k w t
-fits P fuel k (Eval e) t f = f
-fits P fuel k (Give v) t f = f
-fits P fuel k (Calling g vs) t f = f
-fits P fuel k (Items xs v) t f = f
-fits P fuel k (Defining site xs) t f = f
-fits P fuel k (Pieces text xs line) t f = f
-fits P fuel k (Ended o) t f = f
-fits P fuel k Lost t f = tt
+-- ---- by what comes next
 
-module _ (P : Program) (fuel : ℕ) (k : Knows) where
-  abbrev start : Now
-  start = record { world = 14; room = open_calls; env = []; bindings = []; stack = []; out = [] }
+pub working : (work : LentWork) → (work ≡ Ended → ⊥) → (work ≡ Lost → ⊥) → IsWorking work
+working Ended e l = absurd (e refl)
+working Lost e l = absurd (l refl)
+working (Eval x) e l = tt
+working Give e l = tt
+working Leave e l = tt
+working (Acting x) e l = tt
+working (Calling f w) e l = tt
+working (Stmts xs) e l = tt
+working (Items fresh xs) e l = tt
+working (Defining fresh site xs) e l = tt
+working (Pieces line xs) e l = tt
 
-  fresh_at : (t : Task) → k.program ≡ P → IsSimple P → IsFresh k → t.now ≡ start → t.fuel ≡ fuel → t.trace ≡ [] → t.calls ≡ 0 → FitsWith P fuel k (Items P.top V.Nothing) t
-  fresh_at t program simple f now fuel_is trace calls = record {
+-- a machine that has something to do fits as a task
+pub fits_at : (P : Program) (fuel : ℕ) (k : Knows) (work : LentWork) (t : Task) → IsWorking work → FitsAt P fuel k work t → IsAt P fuel k work t
+fits_at P fuel k Ended t w f = absurd w
+fits_at P fuel k Lost t w f = absurd w
+fits_at P fuel k (Eval x) t w f = f
+fits_at P fuel k Give t w f = f
+fits_at P fuel k Leave t w f = f
+fits_at P fuel k (Acting x) t w f = f
+fits_at P fuel k (Calling g u) t w f = f
+fits_at P fuel k (Stmts xs) t w f = f
+fits_at P fuel k (Items fresh xs) t w f = f
+fits_at P fuel k (Defining fresh site xs) t w f = f
+fits_at P fuel k (Pieces line xs) t w f = f
+
+-- what fits as a task fits as a machine
+pub at_fits : (P : Program) (fuel : ℕ) (k : Knows) (work : LentWork) (t : Task) → IsAt P fuel k work t → FitsAt P fuel k work t
+at_fits P fuel k Ended t f = f
+at_fits P fuel k Lost t f = tt
+at_fits P fuel k (Eval x) t f = f
+at_fits P fuel k Give t f = f
+at_fits P fuel k Leave t f = f
+at_fits P fuel k (Acting x) t f = f
+at_fits P fuel k (Calling g u) t f = f
+at_fits P fuel k (Stmts xs) t f = f
+at_fits P fuel k (Items fresh xs) t f = f
+at_fits P fuel k (Defining fresh site xs) t f = f
+at_fits P fuel k (Pieces line xs) t f = f
+
+-- a lost machine fits each dispatcher
+lost_at : (P : Program) (fuel : ℕ) (k : Knows) (work : LentWork) (t : Task) → work ≡ Lost → FitsAt P fuel k work t
+lost_at P fuel k work t e = subst (λ w. FitsAt P fuel k w t) (sym e) tt
+
+-- ---- steps
+
+module _ (P : Program) (k : Knows) (work : LentWork) (t : Task) (w : IsWorking work) (f : FitsAt P t.fuel k work t) where
+  abbrev here : IsAt P t.fuel k work t
+  here = fits_at P t.fuel k work t w f
+
+  pub program_is : P ≡ k.program
+  program_is = sym here.fits.program
+
+  pub fitting : Fitting k (work_of work t.now) (progress_of t)
+  fitting = subst (λ Q. FitsWith (job_with Q t.fuel k) k (work_of work t.now) (progress_of t)) (sym here.fits.program) here.fits
+
+  pub settled_is : IsSettled work t.now
+  settled_is = here.settled
+
+  module _ (k' : Knows) (work' : LentWork) (t' : Task) (s : LentSteps k (work_of work t.now) t k' work' t') where
+    pub step_fits : FitsAt P t'.fuel k' work' t'
+    step_fits =
+        let g = s.steps.fits in
+        let same : job_of k t.fuel ≡ job_with P t'.fuel k' = λ i. record { program = sym program_is i; start = sym g.start i; places = sym g.places i; fuel = sym g.fuel_is i } in
+        at_fits P t'.fuel k' work' t' (record { fits = subst (λ j. FitsWith j k' (work_of work' t'.now) (progress_of t')) same g; settled = s.settled })
+
+    pub step_fuel : t'.fuel ≡ t.fuel
+    step_fuel = s.steps.fits.fuel_is
+
+    pub step_turns : turns_left P t'.fuel t'.calls (work_of work' t'.now) (now_of t'.now) < turns_left P t.fuel t.calls (work_of work t.now) (now_of t.now)
+    step_turns = rw (step_fuel, program_is) s.steps.lighter
+
+    pub step_tells : Tells (job_with P t.fuel k) k t.trace t'.trace
+    step_tells = subst (λ Q. Tells (job_with Q t.fuel k) k t.trace t'.trace) (sym program_is) s.steps.tells
+
+    pub step_kept : work' ≡ Lost → ⊥
+    step_kept e =
+        let g = s.steps.fits in
+        let lost : work_of work' t'.now ≡ W.Lost = ap (λ u. work_of u t'.now) e in
+        never_lost k.program g.valid.views (now_of t'.now) (subst (λ u. IsGoodPoint k.program g.valid.views (u, now_of t'.now)) lost g.good)
+
+  -- a machine that waits fits again
+  pub waits_fit : (k' : Knows) (t' : Task) → LentWaits k (work_of work t.now) t k' t' → FitsAt P t'.fuel k' work t'
+  waits_fit k' t' s =
+      let g = s.waits.fits in
+      let same : job_of k t.fuel ≡ job_with P t.fuel k' = λ i. record { program = sym program_is i; start = sym g.start i; places = sym g.places i; fuel = t.fuel } in
+      subst (λ u. FitsAt P u.fuel k' work u) (sym s.same)
+      (at_fits P t.fuel k' work t (record { fits = subst (λ j. FitsWith j k' (work_of work t.now) (progress_of t)) same g; settled = here.settled }))
+
+-- ---- new machines
+
+module _ (j : Job) (k : Knows) (w : Work) (n : Now) where
+  -- a task that has done nothing yet, at a point from which the rules finish as the whole run does
+  fresh_at : (t : Progress) → IsValid j.program → k.program ≡ j.program → k.start ≡ j.start → k.places ≡ j.places → IsFresh k → t.fuel ≡ j.fuel → t.trace ≡ [] → t.calls ≡ 0 → t.now ≡ n
+      → ((x : Over) (rest : List TraceItem) (e : Ending) → FinishesTo j x (w, n) 0 [] rest e → RunsTo j x rest e) → ((x : Over) (rest : List TraceItem) (e : Ending) → RunsTo j x rest e → FinishesTo j x (w, n) 0 [] rest e)
+      → IsWithin k.world (w, n) → (v : IsValid j.program) → IsGoodPoint j.program v.views (w, n) → FitsWith j k w t
+  fresh_at t valid program start places f fuel trace calls now up down worlds v good = record {
     program = program;
-    fuel_is = fuel_is;
-    simple = simple;
+    start = start;
+    places = places;
+    fuel_is = fuel;
+    valid = v;
     runs = λ x a rest e. (
-      λ h. subst (λ (q : Now × ℕ). FinishesTo P x fuel (Items P.top V.Nothing, q.0) q.1 rest e) (sym (λ i. (now i, calls i)))
-          (let r = subst (λ (is : List TraceItem). RunsTo P x fuel (is ++ rest) e) trace h in r.ran),
-      λ h. subst (λ (is : List TraceItem). RunsTo P x fuel (is ++ rest) e) (sym trace)
-          (record { ran = subst (λ (q : Now × ℕ). FinishesTo P x fuel (Items P.top V.Nothing, q.0) q.1 rest e) (λ i. (now i, calls i)) h }),
+      λ h. subst (λ (q : (Now × ℕ) × List Start). FinishesTo j x (w, q.0.0) q.0.1 q.1 rest e) (sym (λ i. ((now i, calls i), f.starts i)))
+          (down x rest e (subst (λ (is : List TraceItem). RunsTo j x (is ++ rest) e) trace h)),
+      λ h. subst (λ (is : List TraceItem). RunsTo j x (is ++ rest) e) (sym trace)
+          (up x rest e (subst (λ (q : (Now × ℕ) × List Start). FinishesTo j x (w, q.0.0) q.0.1 q.1 rest e) (λ i. ((now i, calls i), f.starts i)) h)),
     );
     learnt = rw trace tt;
     order = rw trace f.begun;
     looks = rw trace (sym f.looks);
     own = rw trace (sym f.own);
-    world = rw now (omega arith, f.world);
-    worlds = rw now tt;
-    plain = record { work = (every_passed (is_simple_item (length P.sites)) P.top simple.top, refl); now = rw now (record { env = tt; stack = tt }) };
+    worlds = subst (λ m. IsWithin k.world (w, m)) (sym now) worlds;
+    good = subst (λ m. IsGoodPoint j.program v.views (w, m)) (sym now) good;
   }
 
-  pub fits_new : (m : Machine) → P ≡ k.program → IsSimple P → IsFresh k → IsNew P fuel m → MachineFits P fuel k m
-  fits_new m program simple f new =
-      subst (λ w. Fits P fuel k w m.task) (sym new.work) (fits P fuel k (Items P.top V.Nothing) m.task (fresh_at m.task (sym program) simple f new.now new.fuel new.trace new.calls))
+-- the same, of a machine
+new_at : (P : Program) (fuel : ℕ) (k : Knows) (w : Work) (n : Now) (m : Machine) → IsNewAt w n fuel m → ((t : Progress) → t.fuel ≡ fuel → t.trace ≡ [] → t.calls ≡ 0 → t.now ≡ n → FitsWith (job_with P fuel k) k w t) → MachineFits P fuel k m
+new_at P fuel k w n m new fits =
+    at_fits P fuel k m.work m.task (record { fits = subst (λ u. FitsWith (job_with P fuel k) k u (progress_of m.task)) (sym new.work) (fits (progress_of m.task) new.fuel new.trace new.calls new.now); settled = new.settled })
 
-  ran_task : (t : Task) (o : Outcome) → FitsWith P fuel k (Ended o) t → (r : Record) → t.trace ≡ r.trace → o ≡ r.outcome → t.now.out ≡ r.output → t.calls ≡ r.calls → IsRunOf P fuel k r
-  ran_task t o f r trace outcome out calls = record {
-    program = f.program;
-    runs = λ es a.
-        let x : Over = record { events = es; until = None } in
-        let e : Ending = record { outcome = o; output = t.now.out; calls = t.calls; starts = [] } in
-        let ran = (f.runs x a [] e).1 (record { is = refl; whole = refl; printed = refl; counted_calls = refl; spawned_tasks = refl }) in
-        let whole = subst (λ (is : List TraceItem). RunsTo P x fuel is e) (append_nil t.trace) ran in
-        subst (λ n. Run (setting P es fuel) None r.trace r.outcome r.output n []) calls
-        (subst (λ text. Run (setting P es fuel) None r.trace r.outcome text t.calls []) out
-        (subst (λ p. Run (setting P es fuel) None r.trace p t.now.out t.calls []) outcome
-        (subst (λ is. Run (setting P es fuel) None is o t.now.out t.calls []) trace whole)));
-    only = λ es a rest outcome2 output made starts h.
-        let x : Over = record { events = es; until = None } in
-        let e : Ending = record { outcome = outcome2; output = output; calls = made; starts = starts } in
-        let end = (f.runs x a rest e).0 (subst (λ (is : List TraceItem). RunsTo P x fuel (is ++ rest) e) (sym trace) h) in
-        (end.whole, sym end.is ∙ outcome, sym end.printed ∙ out, sym end.counted_calls ∙ calls, sym end.spawned_tasks);
-    learnt = rw (← trace) f.learnt;
-    order = rw (← trace) f.order;
-    looks = rw (← trace) f.looks;
-    own = rw (← trace) f.own;
-  }
+pub root_law : (k : Knows) → RootFits k
+root_law k P fuel m valid program start f new =
+    new_at P fuel k (W.Items false P.top V.Nothing) (first_now FIRST_WORLD [] []) m new
+    (λ t fuel_is trace calls now. root_fits t fuel_is trace calls now)
+  where
+    j : Job
+    j = record { program = P; start = None; places = k.places; fuel = fuel }
 
-  pub ran_record : (m : Machine) (r : Record) → MachineFits P fuel k m → HasEnded r m → IsRunOf P fuel k r
-  ran_record m r f h =
-      let g : FitsWith P fuel k (Ended r.outcome) m.task = subst (λ w. Fits P fuel k w m.task) h.work f in
-      ran_task m.task r.outcome g r h.trace refl h.out h.calls
+    root_fits : (t : Progress) → t.fuel ≡ fuel → t.trace ≡ [] → t.calls ≡ 0 → t.now ≡ first_now FIRST_WORLD [] [] → FitsWith (job_with P fuel k) k (W.Items false P.top V.Nothing) t
+    root_fits t fuel_is trace calls now =
+        subst (λ s. FitsWith (record { program = P; start = s; places = k.places; fuel = fuel }) k (W.Items false P.top V.Nothing) t) (sym start)
+        (fresh_at (record { program = P; start = None; places = k.places; fuel = fuel }) k (W.Items false P.top V.Nothing) (first_now FIRST_WORLD [] []) t valid (sym program) start refl f fuel_is trace calls now
+        (λ x rest e h. record { ran = h }) (λ x rest e h. h.ran)
+        (record { world = (omega arith, f.world); waiting = tt; called = tt }) valid (root_good P valid (first_now FIRST_WORLD [] []) refl refl refl))
 
--- a new machine fits a fresh dispatcher
-pub fits_new_law : (k : Knows) → NewFits k
-fits_new_law k P fuel m = fits_new P fuel k m
+pub task_law : (k : Knows) → TaskFits k
+task_law k P start fuel m valid sv program is world f new =
+    new_at P fuel k (W.Eval new.expr) (first_now start.world (map value_of start.env) start.bindings) m new.new
+    (λ t fuel_is trace calls now. task_fits t fuel_is trace calls now)
+  where
+    task_fits : (t : Progress) → t.fuel ≡ fuel → t.trace ≡ [] → t.calls ≡ 0 → t.now ≡ first_now start.world (map value_of start.env) start.bindings → FitsWith (job_with P fuel k) k (W.Eval new.expr) t
+    task_fits t fuel_is trace calls now =
+        subst (λ s. FitsWith (record { program = P; start = s; places = k.places; fuel = fuel }) k (W.Eval new.expr) t) (sym is)
+        (fresh_at (record { program = P; start = Some start; places = k.places; fuel = fuel }) k (W.Eval new.expr) (first_now start.world (map value_of start.env) start.bindings) t valid (sym program) is refl f fuel_is trace calls now
+        (λ x rest e h. record { ran = rw new.there h }) (λ x rest e h. rw new.there at h.ran)
+        (record { world = world; waiting = tt; called = tt }) valid
+        (task_good P valid start new.expr (first_now start.world (map value_of start.env) start.bindings) sv new.there refl refl refl))
 
--- what an ended machine did is a run
-pub ended_law : (k : Knows) → EndedRuns k
-ended_law k P fuel m r = ran_record P fuel k m r
+-- the turns that a new machine has left
+new_turns : (P : Program) (w : Work) (n : Now) (fuel : ℕ) (m : Machine) → IsNewAt w n fuel m → turns_of P m ≡ turns_left P fuel 0 w n
+new_turns P w n fuel m new = λ i. turns_left P (new.fuel i) (new.calls i) (new.work i) (new.now i)
 
--- a machine goes on to fit where its dispatcher learns more
-grown_at : (P : Program) (fuel : ℕ) (k k' : Knows) (w : Work) (t : Task) → Refused k k' → Fits P fuel k w t → Fits P fuel k' w t
-grown_at P fuel k k' (Eval e) t r f = grown P fuel k k' (Eval e) t r f
-grown_at P fuel k k' (Give v) t r f = grown P fuel k k' (Give v) t r f
-grown_at P fuel k k' (Calling g vs) t r f = grown P fuel k k' (Calling g vs) t r f
-grown_at P fuel k k' (Items xs v) t r f = grown P fuel k k' (Items xs v) t r f
-grown_at P fuel k k' (Defining site xs) t r f = grown P fuel k k' (Defining site xs) t r f
-grown_at P fuel k k' (Pieces text xs line) t r f = grown P fuel k k' (Pieces text xs line) t r f
-grown_at P fuel k k' (Ended o) t r f = grown P fuel k k' (Ended o) t r f
-grown_at P fuel k k' Lost t r f = tt
+pub root_turns : (P : Program) (fuel : ℕ) (m : Machine) → IsNewRoot P fuel m → turns_of P m ≤ 4 * (fuel + 1) * (program_size P + 1)
+root_turns P fuel m new =
+    let n = first_now FIRST_WORLD [] [] in
+    subst (λ k. k ≤ 4 * (fuel + 1) * (program_size P + 1)) (sym (new_turns P (W.Items false P.top V.Nothing) n fuel m new)) (root_few P fuel V.Nothing n refl)
+
+pub task_turns : (P : Program) (start : Start) (fuel : ℕ) (m : Machine) → IsNewTask P start fuel m → turns_of P m ≤ 4 * (fuel + 1) * (program_size P + 1)
+task_turns P start fuel m new =
+    let n = first_now start.world (map value_of start.env) start.bindings in
+    subst (λ k. k ≤ 4 * (fuel + 1) * (program_size P + 1)) (sym (new_turns P (W.Eval new.expr) n fuel m new.new)) (task_few P fuel start.spawn new.expr n new.there refl)
+
+-- ---- the other laws
+
+pub lost_law : (k : Knows) → LostFits k
+lost_law k P fuel m lost = lost_at P fuel k m.work m.task lost
+
+-- the job of one dispatcher is that of another that knows more
+grown_job : (P : Program) (fuel : ℕ) (k k' : Knows) → Refused k k' → job_with P fuel k ≡ job_with P fuel k'
+grown_job P fuel k k' r = λ i. record { program = P; start = sym r.grew.start i; places = sym r.grew.places i; fuel = fuel }
+
+grown_at : (P : Program) (fuel : ℕ) (k k' : Knows) (work : LentWork) (t : Task) → Refused k k' → IsAt P fuel k work t → IsAt P fuel k' work t
+grown_at P fuel k k' work t r f = record {
+  fits = subst (λ j. FitsWith j k' (work_of work t.now) (progress_of t)) (grown_job P fuel k k' r) (grown (job_with P fuel k) k k' (work_of work t.now) (progress_of t) r f.fits);
+  settled = f.settled;
+}
+
+grown_fits : (P : Program) (fuel : ℕ) (k k' : Knows) (work : LentWork) (t : Task) → Refused k k' → FitsAt P fuel k work t → FitsAt P fuel k' work t
+grown_fits P fuel k k' Lost t r f = tt
+grown_fits P fuel k k' Ended t r f = grown_at P fuel k k' Ended t r f
+grown_fits P fuel k k' (Eval x) t r f = grown_at P fuel k k' (Eval x) t r f
+grown_fits P fuel k k' Give t r f = grown_at P fuel k k' Give t r f
+grown_fits P fuel k k' Leave t r f = grown_at P fuel k k' Leave t r f
+grown_fits P fuel k k' (Acting x) t r f = grown_at P fuel k k' (Acting x) t r f
+grown_fits P fuel k k' (Calling g u) t r f = grown_at P fuel k k' (Calling g u) t r f
+grown_fits P fuel k k' (Stmts xs) t r f = grown_at P fuel k k' (Stmts xs) t r f
+grown_fits P fuel k k' (Items fresh xs) t r f = grown_at P fuel k k' (Items fresh xs) t r f
+grown_fits P fuel k k' (Defining fresh site xs) t r f = grown_at P fuel k k' (Defining fresh site xs) t r f
+grown_fits P fuel k k' (Pieces line xs) t r f = grown_at P fuel k k' (Pieces line xs) t r f
 
 pub grown_law : (k k' : Knows) → GrownFits k k'
-grown_law k k' r P fuel m f = grown_at P fuel k k' m.work m.task r f
+grown_law k k' r P fuel m f = grown_fits P fuel k k' m.work m.task r f
 
--- a lost machine fits each dispatcher
-pub fits_lost : (k : Knows) → LostFits k
-fits_lost k P fuel m lost = subst (λ w. Fits P fuel k w m.task) (sym lost) tt
+-- ---- the end
 
-pub record_ok : (r : Result Record AllocError) (P : Program) (fuel : ℕ) (k : Knows) (m : Machine) → MachineFits P fuel k m → IfOk r (λ x. HasEnded x m) → IfOk r (λ x. IsRunOf P fuel k x)
-record_ok (Ok x) P fuel k m f h = ran_record P fuel k m x f h
+ran_task : (j : Job) (k : Knows) (t : Progress) (o : Outcome) → FitsWith j k (W.Ended o) t → (r : Record) → t.trace ≡ r.trace → o ≡ r.outcome → t.now.out ≡ r.output → t.calls ≡ r.calls → IsRunOf j k r
+ran_task j k t o f r trace outcome out calls = record {
+  program = f.program;
+  start = f.start;
+  places = f.places;
+  runs = λ es a.
+      let x : Over = record { events = es; until = None } in
+      let e : Ending = record { outcome = o; output = t.now.out; calls = t.calls; starts = k.starts } in
+      let ran = (f.runs x a [] e).1 (record { is = refl; whole = refl; printed = refl; counted_calls = refl; spawned_tasks = refl }) in
+      let whole = subst (λ (is : List TraceItem). RunsTo j x is e) (append_nil t.trace) ran in
+      subst (λ n. Run (setting_of j.program es j.places j.fuel) j.start r.trace r.outcome r.output n k.starts) calls
+      (subst (λ text. Run (setting_of j.program es j.places j.fuel) j.start r.trace r.outcome text t.calls k.starts) out
+      (subst (λ p. Run (setting_of j.program es j.places j.fuel) j.start r.trace p t.now.out t.calls k.starts) outcome
+      (subst (λ is. Run (setting_of j.program es j.places j.fuel) j.start is o t.now.out t.calls k.starts) trace whole)));
+  only = λ es a rest outcome2 output made starts h.
+      let x : Over = record { events = es; until = None } in
+      let e : Ending = record { outcome = outcome2; output = output; calls = made; starts = starts } in
+      let end = (f.runs x a rest e).0 (subst (λ (is : List TraceItem). RunsTo j x (is ++ rest) e) (sym trace) h) in
+      (end.whole, sym end.is ∙ outcome, sym end.printed ∙ out, sym end.counted_calls ∙ calls, sym end.spawned_tasks);
+  learnt = rw (← trace) f.learnt;
+  order = rw (← trace) f.order;
+  looks = rw (← trace) f.looks;
+  own = rw (← trace) f.own;
+}
+
+ended_work : (P : Program) (fuel : ℕ) (k : Knows) (work : LentWork) (t : Task) (o : Outcome) → work_of work t.now ≡ W.Ended o → FitsAt P fuel k work t → FitsWith (job_with P fuel k) k (W.Ended o) (progress_of t)
+ended_work P fuel k Ended t o e f = subst (λ u. FitsWith (job_with P fuel k) k u (progress_of t)) e f.fits
+ended_work P fuel k Lost t o e f = absurd (cc)
+ended_work P fuel k (Eval x) t o e f = absurd (cc)
+ended_work P fuel k Give t o e f = absurd (cc)
+ended_work P fuel k Leave t o e f = absurd (cc)
+ended_work P fuel k (Acting x) t o e f = absurd (cc)
+ended_work P fuel k (Calling g u) t o e f = absurd (cc)
+ended_work P fuel k (Stmts xs) t o e f = absurd (cc)
+ended_work P fuel k (Items fresh xs) t o e f = absurd (cc)
+ended_work P fuel k (Defining fresh site xs) t o e f = absurd (cc)
+ended_work P fuel k (Pieces line xs) t o e f = absurd (cc)
+
+pub ended_law : (k : Knows) → EndedRuns k
+ended_law k P fuel m r f h = ran_task (job_with P fuel k) k (progress_of m.task) r.outcome (ended_work P fuel k m.work m.task r.outcome h.work f) r h.trace refl h.out h.calls
+
+pub record_ok : (r : Result Record AllocError) (P : Program) (fuel : ℕ) (k : Knows) (m : Machine) → MachineFits P fuel k m → IfOk r (λ x. HasEnded x m) → IfOk r (λ x. IsRunOf (job_with P fuel k) k x)
+record_ok (Ok x) P fuel k m f h = ended_law k P fuel m x f h
 record_ok (Err e) P fuel k m f h = tt
 
--- a step as the machine's fit
-pub step_fits : (P : Program) (k k' : Knows) (w w' : Work) (t t' : Task) → P ≡ k.program → Steps k w t k' w' t' → Fits P t'.fuel k' w' t'
-step_fits P k k' w w' t t' e s =
-    let f : FitsWith k.program t'.fuel k' w' t' = subst (λ n. FitsWith k.program n k' w' t') (sym s.fits.fuel_is) s.fits in
-    subst (λ Q. Fits Q t'.fuel k' w' t') (sym e) (fits k.program t'.fuel k' w' t' f)
+-- a task from a start, as the code makes it
+values_back : (vs : List Value) → map value_of (map datum vs) ≡ vs
+values_back [] = refl
+values_back (v ∷ vs) = λ i. value_back v i ∷ values_back vs i
 
--- what fits as a point of a run, has ended or has something to do is not lost
-pub never_lost : (P : Program) (fuel : ℕ) (k : Knows) (w : Work) (t : Task) → FitsWith P fuel k w t → w ≡ Lost → ⊥
-never_lost P fuel k w t f lost = subst (IsPlainWork (length P.sites)) lost f.plain.work
+pub new_task_is : (P : Program) (start : Start) (fuel : ℕ) (vs : List Value) (frames : Held) (work : LentWork) (t : Task) (e : Expr) → slice_get P.spawns start.spawn ≡ Some e → map datum vs ≡ start.env → frames ≡ starts (with_open nothing_held vs) start.bindings
+    → IsFirst fuel start.world frames t → work_of work t.now ≡ W.Eval e → IsSettled work t.now → IsNewTask P start fuel (record { task = t; work = work })
+new_task_is P start fuel vs frames work t e there values held first is settled =
+    let env : map value_of start.env ≡ vs = ap (map value_of) (sym values) ∙ values_back vs in
+    let fr : t.now.frames ≡ starts (with_open nothing_held vs) start.bindings = first.frames_are ∙ held in
+    record {
+      expr = e;
+      there = there;
+      new = record {
+        work = is;
+        now = λ i. record { world = first.world i; room = first.room i; env = ((λ j. (fr j).env) ∙ sym env) i; bindings = (fr i).bindings; stack = (fr i).stack; out = first.out i };
+        fuel = first.fuel;
+        trace = first.trace;
+        calls = first.calls;
+        settled = settled;
+      };
+    }
 
-pub ended_never_lost : (w : Work) → phase_of w ≡ Ph.Ended → w ≡ Lost → ⊥
-ended_never_lost w h lost = let e : Ph.Lost ≡ Ph.Ended = subst (λ u. phase_of u ≡ Ph.Ended) lost h in cc
-
-pub going_never_lost : (w : Work) → phase_of w ≡ Ph.Going → w ≡ Lost → ⊥
-going_never_lost w h lost = let e : Ph.Lost ≡ Ph.Going = subst (λ u. phase_of u ≡ Ph.Going) lost h in cc
-
--- a machine that fits and has something to do
-pub going : (w : Work) → phase_of w ≡ Ph.Going → IsGoing w
-going (Eval e) h = tt
-going (Give v) h = tt
-going (Calling g vs) h = tt
-going (Items xs v) h = tt
-going (Defining site xs) h = tt
-going (Pieces text xs line) h = tt
-going (Ended o) h = absurd (cc)
-going Lost h = absurd (cc)
-
-fitting_with : (P : Program) (k : Knows) (w : Work) (t : Task) → FitsWith P t.fuel k w t → Fitting k w t
-fitting_with P k w t f = subst (λ Q. FitsWith Q t.fuel k w t) (sym f.program) f
-
-pub fitting : (P : Program) (k : Knows) (w : Work) (t : Task) → IsGoing w → Fits P t.fuel k w t → (P ≡ k.program) × Fitting k w t
-fitting P k (Eval e) t h f = (sym f.program, fitting_with P k (Eval e) t f)
-fitting P k (Give v) t h f = (sym f.program, fitting_with P k (Give v) t f)
-fitting P k (Calling g vs) t h f = (sym f.program, fitting_with P k (Calling g vs) t f)
-fitting P k (Items xs v) t h f = (sym f.program, fitting_with P k (Items xs v) t f)
-fitting P k (Defining site xs) t h f = (sym f.program, fitting_with P k (Defining site xs) t f)
-fitting P k (Pieces text xs line) t h f = (sym f.program, fitting_with P k (Pieces text xs line) t f)
-fitting P k (Ended o) t h f = absurd h
-fitting P k Lost t h f = absurd h
-
-pub ended : (m : Machine) → phase_of m.work ≡ Ph.Ended → IsEnded m
-ended m h = ended_work m.work h
-  where
-    ended_work : (w : Work) → phase_of w ≡ Ph.Ended → (o : Outcome) × (w ≡ Ended o)
-    ended_work (Ended o) h = (o, refl)
-    ended_work (Eval e) h = absurd (cc)
-    ended_work (Give v) h = absurd (cc)
-    ended_work (Calling g vs) h = absurd (cc)
-    ended_work (Items xs v) h = absurd (cc)
-    ended_work (Defining site xs) h = absurd (cc)
-    ended_work (Pieces text xs line) h = absurd (cc)
-    ended_work Lost h = absurd (cc)
-
--- the turns that are left after a step
-pub step_turns : (P : Program) (k k' : Knows) (w w' : Work) (t t' : Task) → P ≡ k.program → Steps k w t k' w' t' → turns_left P t'.fuel t'.calls w' t'.now < turns_left P t.fuel t.calls w t.now
-step_turns P k k' w w' t t' e s =
-    let same : t'.fuel ≡ t.fuel = s.fits.fuel_is in
-    rw (same, e) s.lighter
-
--- what a step tells
-pub step_tells : (P : Program) (k k' : Knows) (w w' : Work) (t t' : Task) → P ≡ k.program → Steps k w t k' w' t' → Tells P t.fuel k t.trace t'.trace
-step_tells P k k' w w' t t' e s = subst (λ Q. Tells Q t.fuel k t.trace t'.trace) (sym e) s.tells
-
-pub has_ended : (m : Machine) (r : Result Record AllocError) (o : Outcome) → m.work ≡ Ended o → IfOk r (λ x. IsRecordOf x m.task o) → IfOk r (λ x. HasEnded x m)
-has_ended m (Ok x) o e h = record { work = e ∙ ap Ended h.outcome; trace = h.trace; out = h.out; calls = h.calls }
-has_ended m (Err x) o e h = tt
+-- what stands at a place of a list
+pub there_is : {X : Type 0} (xs : List X) (i : ℕ) (x : X) → i < length xs → x ≡ get_or xs i x → slice_get xs i ≡ Some x
+there_is [] i x lt e = absurd (omega (arith, lt))
+there_is (y ∷ ys) zero x lt e = ap Some (sym e)
+there_is (y ∷ ys) (suc i) x lt e = there_is ys i x (omega (arith, lt)) e

@@ -1,9 +1,5 @@
-pub mod Worlds
-pub mod Knows
-pub mod Performed
-pub mod Plain
-pub mod Weight
-pub mod Size
-pub mod Point
-pub mod Asks
-pub mod Fits
+pub mod Lent
+pub mod Leafed
+pub mod Fetched
+pub mod Acting
+pub mod Steps

@@ -1,13 +1,14 @@
 //! Laws of machines and dispatchers: which machine may take its first turn, which one may take another, and what one that has ended
 //! did.
 
-ghost use Rattle.jl_machine.specs.Fits.{NewFits, LostFits, GrownFits, EndedRuns};
+ghost use Rattle.jl_machine.specs.Steps.{RootFits, TaskFits, LostFits, GrownFits, EndedRuns};
 
-use crate::dispatcher::Dispatcher;
+use jl_dispatcher::Dispatcher;
 
-/// A new machine fits each dispatcher of its program that has done nothing for its task yet.
+/// A new machine fits each dispatcher of its program, and of its start, that has done nothing for its task yet.
 pub fn law_new_machine<D: Dispatcher>(with: &D)
-    ensures { NewFits (D.knows with.now) }
+    ensures root { RootFits (D.knows with.now) }
+    ensures task { TaskFits (D.knows with.now) }
 {}
 
 /// A machine that has met want of memory fits each dispatcher.

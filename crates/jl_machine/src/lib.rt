@@ -1,14 +1,15 @@
-//! The evaluator: a machine that runs one task turn by turn, with a stack of its own, and asks a dispatcher for all that
+//! The evaluator: a machine that runs one task turn by turn, with stacks of its own, and asks a dispatcher for all that
 //! other tasks may change.
 #![tactic(auto)]
 
-pub mod dispatcher;
+mod acts;
 pub mod laws;
+mod now;
 mod operations;
-pub mod point;
 mod root;
 mod task;
 mod turns;
 
+pub use now::{LentNow, LentWork};
 pub use root::run_root;
-pub use task::{Machine, Turn};
+pub use task::{Machine, Task, Turn};

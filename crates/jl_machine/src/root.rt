@@ -1,32 +1,34 @@
 //! The whole run of a root.
 
-ghost use Rattle.std.specs.Prelude.{◌≡◌, IfOk};
-ghost use Rattle.jl_calculus.specs.Simple.{IsSimple};
-ghost use Rattle.jl_machine.specs.Fits.{IsFresh, IsRunOf};
+ghost use Rattle.std.specs.Prelude.{◌≡◌, IfOk, None};
+ghost use Rattle.jl_fit.specs.Fits.{IsFresh, IsRunOf};
+ghost use Rattle.jl_machine.specs.Steps.{job_with};
 
-use crate::dispatcher::Dispatcher;
 use crate::task::{Machine, Turn};
 use jl_calculus::history::Record;
-use jl_program::tree::Program;
+use jl_dispatcher::Recall;
+use jl_sig::Ready;
 use std::alloc::{AllocError, Global};
 
 /// Runs the root of a program to its end, with so many calls. The record is a run over every list of events that agrees
-/// with the dispatcher then.
-pub fn run_root<D: Dispatcher>(
+/// with the dispatcher then. A root that waits for a task that nobody runs goes no further: it is as out of memory.
+pub fn run_root<D: Recall>(
     alloc: Global,
-    program: &Program,
+    ready: &Ready,
     fuel: u64,
     with: &mut D,
 ) -> Result<Record, AllocError>
-    requires program { program.now ≡ (D.knows with.old).program }
-    requires simple { IsSimple program.now }
+    requires program { ready.now ≡ (D.knows with.old).program }
+    requires root { (D.knows with.old).start ≡ None }
     requires fresh { IsFresh (D.knows with.old) }
-    ensures { IfOk result (λ r. IsRunOf program.now fuel (D.knows with.new) r) }
+    ensures { IfOk result (λ r. IsRunOf (job_with ready.now fuel (D.knows with.new)) (D.knows with.new) r) }
 {
-    let mut machine = Machine::root(alloc, program, fuel)?;
+    ready.valid();
+    let mut machine = Machine::root(alloc, ready, fuel)?;
     'turns: loop {
-        match machine.step(program, with)? {
+        match machine.step(ready, with)? {
             Turn::Again => {}
+            Turn::NeedFetch(_) => return Err(AllocError),
             Turn::Done => return machine.record(),
         }
     }

@@ -1,47 +1,65 @@
-//! One task as far as it has come, and its turns.
+//! One task over a lent program, and its turns.
 
-ghost use Rattle.std.specs.Prelude.{◌≡◌, ◌<◌, ◌≤◌, ◌+◌, ◌*◌, ◌++◌, ◌∷◌, [], ℕ, IfOk, IsErr, OnOk, OnErr, map, length};
+ghost use Rattle.std.specs.Prelude.{◌≡◌, ◌<◌, ◌≤◌, ◌+◌, ◌*◌, [], ◌∷◌, ◌++◌, IfOk, OnOk, OnErr, IsErr, MatchOption, map, length, slice_get};
+ghost use Rattle.jl_model.specs.Bindings.{bindings};
 ghost use Rattle.jl_model.specs.declared.ty.Ty.{Ty};
-ghost use Rattle.jl_program.specs.declared.value.Value.{Value};
-ghost use Rattle.jl_machine.specs.declared.point.Work.TheVariants as W;
-ghost use Rattle.jl_calculus.specs.declared.history.Outcome.{Outcome};
+ghost use Rattle.jl_program.specs.declared.tree.Expr.{out-Expr};
+ghost use Rattle.jl_program.specs.declared.tree.Expr.TheOpen as F;
 ghost use Rattle.jl_program.specs.declared.tree.Item.TheVariants as I;
+ghost use Rattle.jl_program.specs.declared.value.Value.TheVariants as V;
+ghost use Rattle.jl_program.specs.Scope.{all_types};
+ghost use Rattle.jl_match.specs.KeptRow.{AreConcrete};
+ghost use Rattle.jl_program.specs.Meaning.{datum};
 ghost use Rattle.jl_program.specs.TypeOf.{type_of};
-ghost use Rattle.jl_machine.specs.Fits.{looks_of, Fitting, Steps, IsGoing, phase_of, MachineFits, fuel_of, HasLooked, TurnSays, IsEnded, IsLost, IsNew, IsRecordOf, HasEnded, turns_of, trace_of};
-ghost use Rattle.jl_machine.specs.Asks.{Tells, Follows};
-ghost use Rattle.jl_machine.specs.Size.{program_size};
+ghost use Rattle.jl_program.specs.Valid.{IsValid};
+ghost use Rattle.jl_calculus.specs.Run.{body_of};
+ghost use Rattle.jl_frames.specs.Held.{IsOne, first_value, with_open};
+ghost use Rattle.jl_point.specs.declared.point.Work.TheVariants as W;
+ghost use Rattle.jl_point.specs.Operated.{performed};
+ghost use Rattle.jl_point.specs.Turns.{answered};
+ghost use Rattle.jl_fit.specs.Fits.{looks_of, Fitting};
+ghost use Rattle.jl_fit.specs.Asks.{Tells, Follows};
+ghost use Rattle.jl_machine.specs.Lent.{now_of, work_of, given_value, IsClosed, IsGiven, IsSettled, Reaches};
+ghost use Rattle.jl_machine.specs.Acting.{IsOperation};
+ghost use Rattle.jl_machine.specs.Fetched.{task_of};
+ghost use Rattle.jl_fit.specs.Fits.{fetched_outcome};
+ghost use Rattle.jl_point.specs.Size.{program_size};
+ghost use Rattle.jl_machine.specs.Steps.{fuel_of, trace_of, turns_of, job_with, MachineFits, TurnSays, IsLost, IsEnded, IsNewRoot, IsNewTask, HasEnded, IsRecordOf, IsFirst, progress_of, LentSteps, LentWaits, Goes, HasLooked, IsWorking, variables_at, AppliesAt};
 
-use crate::dispatcher::Dispatcher;
-use crate::point::{Frame, Now, Work};
-use crate::turns;
-use jl_calculus::history::{DefineFault, Outcome, Record, TraceItem};
+use crate::now::{LentNow, LentWork};
+use crate::{acts, turns};
+use jl_calculus::history::{DefineFault, FetchFault, Outcome, Record, SpawnFault, TraceItem};
+use jl_dispatcher::{Dispatcher, Recall};
+use jl_frames::Frames;
+use jl_match::applies;
 use jl_model::limits::MOST_OPEN_CALLS;
-use jl_model::rows::{Rest, Row, Stack};
+use jl_model::rows::Row;
 use jl_model::shared::SharedList;
-use jl_model::ty::{Key, Tys};
+use jl_model::ty::{Key, Ty, Tys};
 use jl_program::choice::Choice;
 use jl_program::fault::Fault;
 use jl_program::prelude::FIRST_WORLD;
-use jl_program::tree::{Expr, Item, Program};
-use jl_program::value::Value;
+use jl_program::tree::{Expr, Item, Start};
+use jl_program::value::{Value, Values};
+use jl_sig::Ready;
+use jl_value::type_of;
 use std::alloc::{AllocError, Global};
-use std::mem;
 
 /// One task, as far as it has come, but for what comes next.
 #[derive(Drop)]
-pub struct Task {
+pub struct Task<'p> {
     alloc: Global,
     fuel: u64,
     trace: Row<TraceItem>,
     calls: u64,
-    now: Now,
+    now: LentNow<'p>,
 }
 
 /// One task, as far as it has come: what it does next, and all else.
 #[derive(Drop)]
-pub struct Machine {
-    task: Task,
-    work: Work,
+pub struct Machine<'p> {
+    task: Task<'p>,
+    work: LentWork<'p>,
 }
 
 /// What a turn leads to.
@@ -49,45 +67,97 @@ pub struct Machine {
 pub enum Turn {
     /// There is more to do.
     Again,
+    /// The task waits for the end of another one, and is as it was.
+    NeedFetch(u32),
     /// The task has ended.
     Done,
 }
 
-/// Whether a task has something to do.
-#[derive(Clone, Copy, PartialEq, Eq, Debug)]
-pub enum Phase {
-    Going,
-    Ended,
-    Lost,
-}
-
-fn phase_at(work: &Work) -> Phase
-    ensures { result ≡ phase_of work.now }
-{
-    match work {
-        Work::Ended(_) => Phase::Ended,
-        Work::Lost => Phase::Lost,
-        Work::Eval(_) => Phase::Going,
-        Work::Give(_) => Phase::Going,
-        Work::Calling(_, _) => Phase::Going,
-        Work::Items(_, _) => Phase::Going,
-        Work::Defining(_, _) => Phase::Going,
-        Work::Pieces(_, _, _) => Phase::Going,
-    }
+/// What comes after a turn.
+#[derive(Clone, Copy)]
+enum Next<'p> {
+    Go(LentWork<'p>),
+    /// The task waits for another one.
+    Wait(u32),
 }
 
 /// The types of the arguments of a call.
-fn types_of(alloc: Global, values: &[Value]) -> Result<Tys, AllocError>
+fn types_of(alloc: Global, ready: &Ready, values: &[Value]) -> Result<Tys, AllocError>
     ensures { IfOk result (λ types. types ≡ map type_of values.now) }
 {
     let mut types = Row::new(alloc);
     for value in values {
-        types.push(turns::type_of(value)?)?;
+        types.push(type_of(ready.table(), value).copy()?)?;
     }
     types.into_shared(alloc)
 }
 
-impl Task {
+/// Equal values, whose parts are shared.
+fn copy_values(alloc: Global, values: &[Value]) -> Result<Vec<Value>, AllocError>
+    ensures { IfOk result (λ copies. copies.items ≡ values.now) }
+{
+    let mut copies = Vec::new(alloc);
+    for value in values {
+        copies.push(value.copy()?)?;
+    }
+    Ok(copies)
+}
+
+/// Equal types, whose parts are shared.
+fn copy_types(alloc: Global, types: &[Ty]) -> Result<Tys, AllocError>
+    ensures { IfOk result (λ copies. copies ≡ types.now) }
+{
+    let mut copies = Row::new(alloc);
+    for ty in types {
+        copies.push(ty.copy()?)?;
+    }
+    copies.into_shared(alloc)
+}
+
+/// The start of a task that sees these values and these types, at a place.
+fn start_at(
+    alloc: Global,
+    place: u32,
+    env: &[Value],
+    bindings: &[Ty],
+    world: u32,
+) -> Result<Start, AllocError>
+    ensures { IfOk result (λ start. start ≡ record { spawn = place; env = map datum env.now; bindings = bindings.now; world = world }) }
+{
+    let env = copy_values(alloc, env)?;
+    let bindings = copy_types(alloc, bindings)?;
+    Ok(Start {
+        spawn: place,
+        env: Values::from_vec(env),
+        bindings,
+        world,
+    })
+}
+
+/// The task that the first of these values is.
+fn task_of(values: &[Value]) -> Option<u32>
+    ensures { result ≡ task_of (first_value values.now) }
+{
+    match values {
+        [Value::Task(task), ..] => Some(*task),
+        _ => None,
+    }
+}
+
+/// What the task that fetches another goes on with.
+fn fetched_outcome(task: u32, outcome: Outcome) -> Outcome
+    ensures { result ≡ fetched_outcome task outcome }
+{
+    match outcome {
+        Outcome::Value(value) => Outcome::Value(value),
+        Outcome::Error(fault) => {
+            drop(fault);
+            Outcome::Error(Fault::TaskFailed(task))
+        }
+    }
+}
+
+impl<'p> Task<'p> {
     /// A look, which the trace keeps.
     fn look<D: Dispatcher>(&mut self, with: &mut D) -> Result<u32, AllocError>
         requires { looks_of self.old.trace ≡ (D.knows with.old).looks }
@@ -105,153 +175,305 @@ impl Task {
         Ok(seen.world)
     }
 
-    /// A call whose arguments are values: the fuel, then the open calls, then the choice of a method.
-    fn call<D: Dispatcher>(
+    /// A call whose arguments are the open values: the fuel, then the open calls, then the choice of a method.
+    fn call<D: Recall>(
         &mut self,
-        program: &Program,
+        ready: &'p Ready,
         with: &mut D,
         function: u32,
-        values: Row<Value>,
-    ) -> Result<Work, AllocError>
-        requires fits { Fitting (D.knows with.old) (W.Calling function values) self.old }
-        requires program { program.now ≡ (D.knows with.old).program }
-        ensures { IfOk result (λ work. Steps (D.knows with.old) (W.Calling function values) self.old (D.knows with.new) work self.new) }
+        world: u32,
+    ) -> Result<LentWork<'p>, AllocError>
+        requires fits { Fitting (D.knows with.old) (W.Calling function world self.old.now.frames.open_values) (progress_of self.old) }
+        requires program { ready.now ≡ (D.knows with.old).program }
+        requires settled { self.old.now.frames.open_text ≡ [] }
+        ensures { IfOk result (λ work. LentSteps (D.knows with.old) (W.Calling function world self.old.now.frames.open_values) self.old (D.knows with.new) work self.new) }
     {
         if self.calls >= self.fuel {
-            return Ok(Work::Ended(Outcome::Error(Fault::FuelSpent(self.fuel))));
+            return Ok(turns::end(&mut self.now, Outcome::Error(Fault::FuelSpent(self.fuel))));
         }
-        self.calls += 1;
         if self.now.room == 0 {
-            return Ok(Work::Ended(Outcome::Error(Fault::StackLimit)));
+            self.calls += 1;
+            return Ok(turns::end(&mut self.now, Outcome::Error(Fault::StackLimit)));
         }
-        let world = self.now.world;
-        let types = types_of(self.alloc, values.as_slice())?;
+        match with.recall(function, self.now.frames.open_values(), world) {
+            Some(found) => {
+                self.calls += 1;
+                turns::perform(&mut self.now, ready, found.site, world, found.statics)
+            }
+            None => self.choose(ready, with, function, world),
+        }
+    }
+
+    /// The types of the variables of a site's signature, for arguments of these types.
+    fn statics_of(&self, ready: &Ready, site: u32, types: &Tys) -> Result<Tys, AllocError>
+        requires there { site < length ready.now.sites }
+        requires concrete { AreConcrete (all_types ready.now) types.now }
+        requires applies { AppliesAt ready.now types.now (slice_get ready.now.sites site) }
+        ensures { IfOk result (λ statics. variables_at ready.now types.now (slice_get ready.now.sites site) ≡ statics) }
+    {
+        let sig = ready.sig(site);
+        if sig.written().vars.len() == 0 {
+            return Ok(SharedList::empty());
+        }
+        match applies(self.alloc, ready.table(), sig, types.as_slice())? {
+            Some(statics) => Ok(statics),
+            None => unreachable!(),
+        }
+    }
+
+    /// A call that is not recalled: a key is made, and a method chosen and remembered.
+    fn choose<D: Recall>(
+        &mut self,
+        ready: &'p Ready,
+        with: &mut D,
+        function: u32,
+        world: u32,
+    ) -> Result<LentWork<'p>, AllocError>
+        requires fits { Fitting (D.knows with.old) (W.Calling function world self.old.now.frames.open_values) (progress_of self.old) }
+        requires program { ready.now ≡ (D.knows with.old).program }
+        requires settled { self.old.now.frames.open_text ≡ [] }
+        requires fuel { self.old.calls < self.old.fuel }
+        requires room { 0 < self.old.now.room }
+        ensures { IfOk result (λ work. LentSteps (D.knows with.old) (W.Calling function world self.old.now.frames.open_values) self.old (D.knows with.new) work self.new) }
+    {
+        self.calls += 1;
+        let types = types_of(self.alloc, ready, self.now.frames.open_values())?;
         let key = Key {
             function,
             types: types.copy()?,
         };
         match with.select(key, world)? {
-            Choice::None => Ok(Work::Ended(Outcome::Error(Fault::NoMethod(
-                function, types, world,
-            )))),
-            Choice::Ambiguous(first, second) => {
-                let fault = Fault::Ambiguous(function, types, first, second);
-                Ok(Work::Ended(Outcome::Error(fault)))
-            }
+            Choice::None => Ok(turns::end(
+                &mut self.now,
+                Outcome::Error(Fault::NoMethod(function, types, world)),
+            )),
+            Choice::Ambiguous(first, second) => Ok(turns::end(
+                &mut self.now,
+                Outcome::Error(Fault::Ambiguous(function, types, first, second)),
+            )),
             Choice::Method(definition) => {
                 let site = with.site(definition);
-                turns::perform(&mut self.now, program, site, world, values)
+                let statics = self.statics_of(ready, site, &types)?;
+                let work = turns::perform(&mut self.now, ready, site, world, statics.as_slice())?;
+                with.keep(Key { function, types }, world, site, statics);
+                Ok(work)
             }
         }
     }
 
-    /// The next statement, which looks first.
+    /// The next statement at the top or of an evaluated block, which looks first. The value of the one before is open.
     fn go_items<D: Dispatcher>(
         &mut self,
         with: &mut D,
-        mut rest: Rest<Item>,
-        last: Value,
-    ) -> Result<Work, AllocError>
-        requires { Fitting (D.knows with.old) (W.Items rest last) self.old }
-        ensures { IfOk result (λ work. Steps (D.knows with.old) (W.Items rest last) self.old (D.knows with.new) work self.new) }
+        fresh: bool,
+        items: &'p [Item],
+    ) -> Result<LentWork<'p>, AllocError>
+        requires fits { Fitting (D.knows with.old) (W.Items fresh items.now (given_value self.old.now)) (progress_of self.old) }
+        requires settled { IsGiven self.old.now.frames }
+        ensures { IfOk result (λ work. LentSteps (D.knows with.old) (W.Items fresh items.now (given_value self.old.now)) self.old (D.knows with.new) work self.new) }
     {
-        match rest.next()? {
-            None => Ok(Work::Give(last)),
-            Some(item) => match item {
-                Item::Define(site) => {
-                    self.look(with)?;
-                    Ok(Work::Defining(site, rest))
-                }
-                Item::Do(expr) => self.evaluate(with, expr, rest, last),
-                Item::Bind(_, _) => unreachable!(),
-            },
+        match items {
+            [] => Ok(LentWork::Give),
+            [item, rest @ ..] => {
+                let world = self.look(with)?;
+                turns::begin_item(&mut self.now, item, fresh, rest, world)
+            }
         }
-    }
-
-    /// An expression at the top is begun, in the world that it saw.
-    fn evaluate<D: Dispatcher>(
-        &mut self,
-        with: &mut D,
-        expr: Expr,
-        rest: Rest<Item>,
-        last: Value,
-    ) -> Result<Work, AllocError>
-        requires { Fitting (D.knows with.old) (W.Items (I.Do expr ∷ rest) last) self.old }
-        ensures { IfOk result (λ work. Steps (D.knows with.old) (W.Items (I.Do expr ∷ rest) last) self.old (D.knows with.new) work self.new) }
-    {
-        drop(last);
-        let world = self.look(with)?;
-        self.now.stack.push(Frame::AfterItem(self.now.world, rest))?;
-        self.now.world = world;
-        Ok(Work::Eval(expr))
     }
 
     /// A definition that has looked is made.
     fn define<D: Dispatcher>(
         &mut self,
         with: &mut D,
+        fresh: bool,
         site: u32,
-        rest: Rest<Item>,
-    ) -> Result<Work, AllocError>
-        requires { Fitting (D.knows with.old) (W.Defining site rest) self.old }
-        ensures { IfOk result (λ work. Steps (D.knows with.old) (W.Defining site rest) self.old (D.knows with.new) work self.new) }
+        rest: &'p [Item],
+    ) -> Result<LentWork<'p>, AllocError>
+        requires fits { Fitting (D.knows with.old) (W.Defining site fresh rest.now) (progress_of self.old) }
+        requires settled { IsClosed self.old.now.frames }
+        ensures { IfOk result (λ work. LentSteps (D.knows with.old) (W.Defining site fresh rest.now) self.old (D.knows with.new) work self.new) }
     {
         match with.define(site) {
             Ok(_) => {
                 let at = with.seen() - 1;
                 self.trace.push(TraceItem::Def { site, at })?;
-                Ok(Work::Items(rest, Value::Nothing))
+                self.now.frames.push(Value::Nothing)?;
+                Ok(LentWork::Items(fresh, rest))
             }
             Err(DefineFault::WorldLimit) => {
                 self.trace.push(TraceItem::WorldFull { at: with.seen() })?;
-                Ok(Work::Ended(Outcome::Error(Fault::WorldLimit)))
+                Ok(turns::end(&mut self.now, Outcome::Error(Fault::WorldLimit)))
             }
             Err(DefineFault::Memory) => Err(AllocError),
         }
     }
 
-    /// One turn: what comes next, and what comes after it.
-    fn turn<D: Dispatcher>(
+    /// A task is spawned at a place.
+    fn spawn<D: Dispatcher>(
         &mut self,
-        program: &Program,
         with: &mut D,
-        work: Work,
-    ) -> Result<Work, AllocError>
-        requires fits { Fitting (D.knows with.old) work self.old }
-        requires program { program.now ≡ (D.knows with.old).program }
-        requires going { IsGoing work }
-        ensures { IfOk result (λ next. Steps (D.knows with.old) work self.old (D.knows with.new) next self.new) }
+        expr: &'p Expr,
+        place: u32,
+    ) -> Result<LentWork<'p>, AllocError>
+        requires fits { Fitting (D.knows with.old) (W.Acting expr.now self.old.now.frames.open_values) (progress_of self.old) }
+        requires form { out-Expr expr.now ≡ F.Spawn place }
+        requires settled { IsClosed self.old.now.frames }
+        ensures { IfOk result (λ work. LentSteps (D.knows with.old) (W.Acting expr.now self.old.now.frames.open_values) self.old (D.knows with.new) work self.new) }
+    {
+        let start = start_at(
+            self.alloc,
+            place,
+            self.now.frames.env(),
+            self.now.frames.bindings(),
+            self.now.world,
+        )?;
+        match with.spawn(start) {
+            Ok(child) => {
+                let at = with.seen() - 1;
+                self.trace.push(TraceItem::Spawn { child, at })?;
+                self.now.frames.push(Value::Task(child))?;
+                Ok(LentWork::Give)
+            }
+            Err(SpawnFault::TaskLimit) => {
+                self.trace.push(TraceItem::TaskFull { at: with.seen() })?;
+                Ok(turns::end(&mut self.now, Outcome::Error(Fault::TaskLimit)))
+            }
+            Err(SpawnFault::Memory) => Err(AllocError),
+        }
+    }
+
+    /// A value that is no task is fetched. It is the one open value.
+    fn refuse_fetch(&mut self, ready: &Ready) -> Result<LentWork<'p>, AllocError>
+        requires { IsOne self.old.now.frames }
+        ensures reaches { IfOk result (λ work. Reaches work self.new.now (W.Ended (Outcome.Error (Fault.NotTask (type_of (given_value self.old.now)))), now_of self.old.now)) }
+        ensures same { self.new ≡ record self.old { now = self.new.now } }
+    {
+        let value = self.now.frames.take_one();
+        let ty = type_of(ready.table(), &value).copy()?;
+        drop(value);
+        Ok(turns::end(&mut self.now, Outcome::Error(Fault::NotTask(ty))))
+    }
+
+    /// A task is fetched: the value that is fetched is the one open value.
+    fn fetch<D: Dispatcher>(
+        &mut self,
+        ready: &Ready,
+        with: &mut D,
+        expr: &'p Expr,
+    ) -> Result<Next<'p>, AllocError>
+        requires fits { Fitting (D.knows with.old) (W.Acting expr.now self.old.now.frames.open_values) (progress_of self.old) }
+        requires form { (a : _) × (out-Expr expr.now ≡ F.Fetch a) }
+        requires settled { IsGiven self.old.now.frames }
+        ensures { IfOk result (λ next. Goes (D.knows with.old) (W.Acting expr.now self.old.now.frames.open_values) self.old (D.knows with.new) next self.new) }
+    {
+        match task_of(self.now.frames.open_values()) {
+            None => Ok(Next::Go(self.refuse_fetch(ready)?)),
+            Some(task) => match with.fetched(task) {
+                Ok(outcome) => {
+                    let answer = fetched_outcome(task, outcome.copy()?);
+                    let at = with.seen();
+                    self.trace.push(TraceItem::Fetch { task, outcome, at })?;
+                    self.now.frames.clear();
+                    Ok(Next::Go(turns::answer(&mut self.now, answer)?))
+                }
+                Err(FetchFault::NotYet) => Ok(Next::Wait(task)),
+                Err(FetchFault::Memory) => Err(AllocError),
+            },
+        }
+    }
+
+    /// A form that asks nobody has its answer.
+    fn operate<D: Recall>(
+        &mut self,
+        ready: &Ready,
+        with: &D,
+        expr: &'p Expr,
+    ) -> Result<LentWork<'p>, AllocError>
+        requires fits { Fitting (D.knows with.now) (W.Acting expr.now self.old.now.frames.open_values) (progress_of self.old) }
+        requires program { ready.now ≡ (D.knows with.now).program }
+        requires form { IsOperation (out-Expr expr.now) }
+        requires settled { self.old.now.frames.open_text ≡ [] }
+        ensures { IfOk result (λ work. LentSteps (D.knows with.now) (W.Acting expr.now self.old.now.frames.open_values) self.old (D.knows with.now) work self.new) }
+    {
+        let outcome = acts::operate(self.alloc, ready, &self.now.frames, expr)?;
+        self.now.frames.clear();
+        turns::answer(&mut self.now, outcome)
+    }
+
+    /// An expression acts, whose parts are the open values.
+    fn act<D: Recall>(
+        &mut self,
+        ready: &'p Ready,
+        with: &mut D,
+        expr: &'p Expr,
+    ) -> Result<Next<'p>, AllocError>
+        requires fits { Fitting (D.knows with.old) (W.Acting expr.now self.old.now.frames.open_values) (progress_of self.old) }
+        requires program { ready.now ≡ (D.knows with.old).program }
+        requires settled { self.old.now.frames.open_text ≡ [] }
+        ensures { IfOk result (λ next. Goes (D.knows with.old) (W.Acting expr.now self.old.now.frames.open_values) self.old (D.knows with.new) next self.new) }
+    {
+        match expr {
+            Expr::Call(function, _) => {
+                let world = self.now.world;
+                Ok(Next::Go(self.call(ready, with, *function, world)?))
+            }
+            Expr::Latest(function, _) => {
+                let world = self.look(with)?;
+                Ok(Next::Go(LentWork::Calling(*function, world)))
+            }
+            Expr::Spawn(place) => Ok(Next::Go(self.spawn(with, expr, *place)?)),
+            Expr::Fetch(_) => self.fetch(ready, with, expr),
+            Expr::Make(_, _) | Expr::Infer(_, _) | Expr::Parts(_) | Expr::Field(_, _) => {
+                Ok(Next::Go(self.operate(ready, with, expr)?))
+            }
+            Expr::Part(_, _) | Expr::Egal(_, _, _) | Expr::Isa(_, _) | Expr::Sub(_, _) => {
+                Ok(Next::Go(self.operate(ready, with, expr)?))
+            }
+            Expr::Int(_) | Expr::Bool(_) | Expr::Nothing | Expr::Local(_) => unreachable!(),
+            Expr::If(_, _, _) | Expr::And(_, _) | Expr::Or(_, _) => unreachable!(),
+            Expr::Block(_) | Expr::Eval(_) | Expr::Print(_, _) => unreachable!(),
+        }
+    }
+
+    /// One turn: what comes next, and what comes after it.
+    fn turn<D: Recall>(
+        &mut self,
+        ready: &'p Ready,
+        with: &mut D,
+        work: LentWork<'p>,
+    ) -> Result<Next<'p>, AllocError>
+        requires fits { Fitting (D.knows with.old) (work_of work self.old.now) (progress_of self.old) }
+        requires settled { IsSettled work self.old.now }
+        requires program { ready.now ≡ (D.knows with.old).program }
+        requires working { IsWorking work }
+        ensures { IfOk result (λ next. Goes (D.knows with.old) (work_of work.entry self.old.now) self.old (D.knows with.new) next self.new) }
     {
         match work {
-            Work::Eval(expr) => turns::begin(self.alloc, &mut self.now, expr),
-            Work::Give(value) => turns::give(program, &mut self.now, value),
-            Work::Calling(function, values) => self.call(program, with, function, values),
-            Work::Items(rest, last) => self.go_items(with, rest, last),
-            Work::Defining(site, rest) => self.define(with, site, rest),
-            Work::Pieces(text, rest, newline) => {
-                turns::go_pieces(&mut self.now, text, rest, newline)
+            LentWork::Eval(expr) => Ok(Next::Go(turns::begin(&mut self.now, expr)?)),
+            LentWork::Give => Ok(Next::Go(turns::give(ready, &mut self.now)?)),
+            LentWork::Leave => Ok(Next::Go(turns::leave(&mut self.now))),
+            LentWork::Acting(expr) => self.act(ready, with, expr),
+            LentWork::Calling(function, world) => {
+                Ok(Next::Go(self.call(ready, with, function, world)?))
             }
-            Work::Ended(_) => unreachable!(),
-            Work::Lost => unreachable!(),
+            LentWork::Stmts(stmts) => Ok(Next::Go(turns::go_stmts(&mut self.now, stmts)?)),
+            LentWork::Items(fresh, items) => Ok(Next::Go(self.go_items(with, fresh, items)?)),
+            LentWork::Defining(fresh, site, rest) => {
+                Ok(Next::Go(self.define(with, fresh, site, rest)?))
+            }
+            LentWork::Pieces(line, pieces) => {
+                Ok(Next::Go(turns::go_pieces(&mut self.now, pieces, line)?))
+            }
+            LentWork::Ended => unreachable!(),
+            LentWork::Lost => unreachable!(),
         }
     }
 }
 
-/// The outcome of a task that has ended.
-fn outcome_of(work: Work) -> Outcome
-    requires { (o : Outcome) × (work ≡ W.Ended o) }
-    ensures { work ≡ W.Ended result }
-{
-    match work {
-        Work::Ended(outcome) => outcome,
-        _ => unreachable!(),
-    }
-}
-
-impl Task {
-    /// What the task did, with this outcome.
-    fn into_record(self, outcome: Outcome) -> Result<Record, AllocError>
-        ensures { IfOk result (λ r. IsRecordOf r self outcome) }
+impl<'p> Task<'p> {
+    /// What the task did.
+    fn into_record(self) -> Result<Record, AllocError>
+        ensures { IfOk result (λ r. IsRecordOf r self.entry) }
     {
         let Task {
             alloc,
@@ -260,7 +482,8 @@ impl Task {
             now,
             ..
         } = self;
-        let output = now.out.into_shared(alloc)?;
+        let LentNow { out, outcome, .. } = now;
+        let output = out.into_shared(alloc)?;
         let trace = trace.into_shared(alloc)?;
         Ok(Record {
             trace,
@@ -271,80 +494,131 @@ impl Task {
     }
 }
 
-impl Machine {
+/// A task that has done nothing yet, in a world.
+fn first_task<'p>(alloc: Global, fuel: u64, world: u32, frames: Frames<'p>) -> Task<'p>
+    ensures { IsFirst fuel world frames.entry result }
+{
+    let now = LentNow {
+        world,
+        room: MOST_OPEN_CALLS,
+        frames,
+        out: Row::new(alloc),
+        outcome: Outcome::Value(Value::Nothing),
+    };
+    Task {
+        alloc,
+        fuel,
+        trace: Row::new(alloc),
+        calls: 0,
+        now,
+    }
+}
+
+/// Opens these values, above those that are open.
+fn push_all(frames: &mut Frames<'_>, values: &[Value]) -> Result<(), AllocError>
+    ensures { OnOk result (frames.new ≡ with_open frames.old (frames.old.open_values ++ values.now)) }
+{
+    for value in values {
+        frames.push(value.copy()?)?;
+    }
+    Ok(())
+}
+
+/// The root of a program, which has done nothing yet.
+fn new_root<'p>(alloc: Global, ready: &'p Ready, fuel: u64) -> Result<Machine<'p>, AllocError>
+    ensures { IfOk result (λ m. IsNewRoot ready.now fuel m) }
+{
+    let mut frames = Frames::new(alloc);
+    frames.push(Value::Nothing)?;
+    let task = first_task(alloc, fuel, FIRST_WORLD, frames);
+    let work = LentWork::Items(false, ready.program().top.as_slice());
+    Ok(Machine { task, work })
+}
+
+/// A task from a start, which has done nothing yet.
+fn new_task<'p>(
+    alloc: Global,
+    ready: &'p Ready,
+    start: &Start,
+    fuel: u64,
+) -> Result<Machine<'p>, AllocError>
+    requires { start.now.spawn < length ready.now.spawns }
+    ensures { IfOk result (λ m. IsNewTask ready.now start.now fuel m) }
+{
+    let mut frames = Frames::new(alloc);
+    push_all(&mut frames, start.env.as_slice())?;
+    frames.start(start.bindings.as_slice())?;
+    let task = first_task(alloc, fuel, start.world, frames);
+    let expr = &ready.program().spawns.as_slice()[start.spawn as usize];
+    let work = LentWork::Eval(expr);
+    Ok(Machine { task, work })
+}
+
+impl<'p> Machine<'p> {
     /// The root of a program, which has done nothing yet and may make so many calls. The bound of its turns is in
     /// proportion to the size of the program, for each of the calls and once besides.
-    pub fn root(alloc: Global, program: &Program, fuel: u64) -> Result<Machine, AllocError>
-        ensures begun { IfOk result (λ m. IsNew program.now fuel m) }
-        ensures turns { IfOk result (λ m. turns_of program.now m ≤ 4 * (fuel + 1) * (program_size program.now + 1)) }
+    pub fn root(alloc: Global, ready: &'p Ready, fuel: u64) -> Result<Machine<'p>, AllocError>
+        ensures begun { IfOk result (λ m. IsNewRoot ready.now fuel m) }
+        ensures turns { IfOk result (λ m. turns_of ready.now m ≤ 4 * (fuel + 1) * (program_size ready.now + 1)) }
     {
-        let top = program.top.copy()?;
-        let now = Now {
-            world: FIRST_WORLD,
-            room: MOST_OPEN_CALLS,
-            env: Row::new(alloc),
-            bindings: SharedList::empty(),
-            stack: Stack::new(alloc),
-            out: Row::new(alloc),
-        };
-        let task = Task {
-            alloc,
-            fuel,
-            trace: Row::new(alloc),
-            calls: 0,
-            now,
-        };
-        let work = Work::Items(Rest::all(top), Value::Nothing);
-        Ok(Machine { task, work })
+        let machine = new_root(alloc, ready, fuel)?;
+        Ok(machine)
+    }
+
+    /// A task from a start, which has done nothing yet and may make so many calls. Its turns are bounded as the root's.
+    pub fn start(
+        alloc: Global,
+        ready: &'p Ready,
+        start: &Start,
+        fuel: u64,
+    ) -> Result<Machine<'p>, AllocError>
+        requires place { start.now.spawn < length ready.now.spawns }
+        ensures begun { IfOk result (λ m. IsNewTask ready.now start.now fuel m) }
+        ensures turns { IfOk result (λ m. turns_of ready.now m ≤ 4 * (fuel + 1) * (program_size ready.now + 1)) }
+    {
+        let machine = new_task(alloc, ready, start, fuel)?;
+        Ok(machine)
     }
 
     /// One turn. It keeps that the machine fits its dispatcher, leaves fewer turns, and adds at most one item to the trace, which
-    /// answers what the task asked there. After want of memory the machine is lost: it answers so at each later turn.
-    pub fn step<D: Dispatcher>(
-        &mut self,
-        program: &Program,
-        with: &mut D,
-    ) -> Result<Turn, AllocError>
-        requires { MachineFits program.now (fuel_of self.old) (D.knows with.old) self.old }
-        ensures fits { MachineFits program.now (fuel_of self.new) (D.knows with.new) self.new }
-        ensures turn { IfOk result (λ turn. TurnSays program.now self.old self.new turn) }
+    /// answers what the task asked there. `NeedFetch` comes exactly where the dispatcher answered that a task has not ended yet, and the
+    /// machine is then as it was. After want of memory the machine is lost: it answers so at each later turn.
+    pub fn step<D: Recall>(&mut self, ready: &'p Ready, with: &mut D) -> Result<Turn, AllocError>
+        requires { MachineFits ready.now (fuel_of self.old) (D.knows with.old) self.old }
+        ensures fits { MachineFits ready.now (fuel_of self.new) (D.knows with.new) self.new }
+        ensures turn { IfOk result (λ turn. TurnSays ready.now self.old self.new turn) }
         ensures fuel { IfOk result (λ _. fuel_of self.new ≡ fuel_of self.old) }
-        ensures tells { IfOk result (λ _. Tells program.now (fuel_of self.old) (D.knows with.old) (trace_of self.old) (trace_of self.new)) }
+        ensures tells { IfOk result (λ _. Tells (job_with ready.now (fuel_of self.old) (D.knows with.old)) (D.knows with.old) (trace_of self.old) (trace_of self.new)) }
         ensures follows { IfOk result (λ _. Follows (D.knows with.old) (trace_of self.old) (D.knows with.new) (trace_of self.new)) }
         ensures lost { OnErr result (IsLost self.new) }
         ensures kept { OnOk result (IsLost self.new → ⊥) }
         ensures still { IsLost self.old → IsErr result }
     {
-        match phase_at(&self.work) {
-            Phase::Lost => Err(AllocError),
-            Phase::Ended => Ok(Turn::Done),
-            Phase::Going => {
-                self.go(program, with)?;
-                Ok(Turn::Again)
+        match self.work {
+            LentWork::Lost => Err(AllocError),
+            LentWork::Ended => Ok(Turn::Done),
+            work => {
+                self.work = LentWork::Lost;
+                match self.task.turn(ready, with, work)? {
+                    Next::Go(next) => {
+                        self.work = next;
+                        Ok(Turn::Again)
+                    }
+                    Next::Wait(task) => {
+                        self.work = work;
+                        Ok(Turn::NeedFetch(task))
+                    }
+                }
             }
         }
-    }
-
-    /// One turn of a machine that has something to do.
-    fn go<D: Dispatcher>(&mut self, program: &Program, with: &mut D) -> Result<(), AllocError>
-        requires fits { Fitting (D.knows with.old) self.old.work self.old.task }
-        requires program { program.now ≡ (D.knows with.old).program }
-        requires going { IsGoing self.old.work }
-        ensures steps { IfOk result (λ _. Steps (D.knows with.old) self.old.work self.old.task (D.knows with.new) self.new.work self.new.task) }
-        ensures lost { OnErr result (IsLost self.new) }
-    {
-        let work = mem::replace(&mut self.work, Work::Lost);
-        let next = self.task.turn(program, with, work)?;
-        drop(mem::replace(&mut self.work, next));
-        Ok(())
     }
 
     /// What the task did, after its last turn.
     pub fn record(self) -> Result<Record, AllocError>
         requires { IsEnded self }
-        ensures { IfOk result (λ r. HasEnded r self) }
+        ensures { IfOk result (λ r. HasEnded r self.entry) }
     {
-        let Machine { task, work } = self;
-        task.into_record(outcome_of(work))
+        let Machine { task, .. } = self;
+        task.into_record()
     }
 }

@@ -1,208 +1,456 @@
 //! What the machine does by itself. Each of these answers what comes next.
 
-ghost use Rattle.std.specs.Prelude.{◌≡◌, ◌<◌, [], ◌∷◌, ◌++◌, IfOk, get_or, slice_get};
-ghost use Rattle.jl_program.specs.declared.value.Value.TheVariants.{Nothing};
+ghost use Rattle.std.specs.Prelude.{◌≡◌, ◌<◌, [], ◌∷◌, IfOk, length, map, slice_get};
+ghost use Rattle.jl_program.specs.declared.tree.Expr.{out-Expr};
+ghost use Rattle.jl_program.specs.declared.tree.Stmt.{out-Stmt};
+ghost use Rattle.jl_program.specs.declared.tree.Item.{out-Item};
+ghost use Rattle.jl_program.specs.declared.value.Value.TheVariants as V;
+ghost use Rattle.jl_frames.specs.Held.{IsOne, first_value};
+ghost use Rattle.jl_point.specs.declared.point.Work.TheVariants as W;
+ghost use Rattle.jl_point.specs.Turns.{go_pieces, go_stmts, tested, after_stmt, after_item, left, answered, entered, looked_item};
+ghost use Rattle.jl_point.specs.Skip.{leaf, skip_args, skip_begun, skip_given};
+ghost use Rattle.jl_machine.specs.Lent.{now_of, given_value, IsClosed, IsGiven, Reaches};
+ghost use Rattle.jl_machine.specs.Leafed.{Leafed, truth_of};
+ghost use Rattle.jl_machine.specs.Steps.{variables_at};
 ghost use Rattle.jl_program.specs.TypeOf.{type_of};
-ghost use Rattle.jl_calculus.specs.Run.{body_of};
-ghost use Rattle.jl_machine.specs.Point.{pushes, go_args, go_pieces, begun, taken, given};
-ghost use Rattle.jl_machine.specs.Performed.{answered, performed, entered, expr_at};
+ghost use Rattle.jl_calculus.specs.Run.{body_of, operates};
+ghost use Rattle.jl_point.specs.Operated.{performed};
 
+use crate::now::{LentNow, LentWork};
 use crate::operations::operate;
-use crate::point::{Frame, Now, Work};
 use jl_calculus::history::Outcome;
-use jl_model::builtin::{BOOL, INT64, NOTHING, TASK};
-use jl_model::rows::{Rest, Row, Share};
-use jl_model::shared::SharedList;
+use jl_frames::{Flat, Frames};
 use jl_model::ty::Ty;
+use jl_program::fault::Fault;
 use jl_program::prelude::PRELUDE_SITES;
-use jl_program::tree::{Expr, Piece, Program};
+use jl_program::tree::{Expr, Item, Piece, Stmt};
 use jl_program::value::Value;
-use jl_text::append_value;
-use std::alloc::{AllocError, Global};
+use jl_sig::Ready;
+use jl_value::type_of;
+use std::alloc::AllocError;
 use std::mem;
 
-/// An expression is begun under a frame that waits for its value.
-fn wait(now: &mut Now, frame: Frame, expr: Expr) -> Result<Work, AllocError>
-    ensures { IfOk result (λ work. (work, now.new) ≡ pushes expr frame now.old) }
+fn int_value(number: &i64) -> Value
+    ensures { result ≡ V.Int number.now }
 {
-    now.stack.push(frame)?;
-    Ok(Work::Eval(expr))
+    Value::Int(*number)
 }
 
-/// The next argument of a call, or the call.
-fn go_args(
-    now: &mut Now,
-    function: u32,
-    done: Row<Value>,
-    mut rest: Rest<Expr>,
-) -> Result<Work, AllocError>
-    ensures { IfOk result (λ work. (work, now.new) ≡ go_args function done rest now.old) }
+/// Opens the value of a leaf, and tells whether it was one.
+fn push_leaf(frames: &mut Frames<'_>, expr: &Expr) -> Result<bool, AllocError>
+    ensures { IfOk result (λ is. Leafed is (leaf frames.old.env (out-Expr expr.now)) frames.old frames.new) }
 {
-    match rest.next()? {
-        None => Ok(Work::Calling(function, done)),
-        Some(first) => wait(now, Frame::Args(function, done, rest), first),
+    match expr {
+        Expr::Int(number) => {
+            frames.push(int_value(number))?;
+            Ok(true)
+        }
+        Expr::Local(slot) => {
+            frames.push_local(*slot)?;
+            Ok(true)
+        }
+        Expr::Bool(truth) => {
+            frames.push(Value::Bool(*truth))?;
+            Ok(true)
+        }
+        Expr::Nothing => {
+            frames.push(Value::Nothing)?;
+            Ok(true)
+        }
+        _ => Ok(false),
     }
 }
 
-/// The next piece of a `print`, or its end: the text is written when all of it is there.
-pub(crate) fn go_pieces(
-    now: &mut Now,
-    mut text: Row<u8>,
-    mut rest: Rest<Piece>,
-    newline: bool,
-) -> Result<Work, AllocError>
-    ensures { IfOk result (λ work. (work, now.new) ≡ go_pieces text rest newline now.old) }
+/// The parts of an expression that are leaves, up to the first that is none, or the expression acts.
+fn go_args<'p>(
+    now: &mut LentNow<'p>,
+    expr: &'p Expr,
+    parts: &'p [Expr],
+) -> Result<LentWork<'p>, AllocError>
+    requires { now.old.frames.open_text ≡ [] }
+    ensures { IfOk result (λ work. Reaches work now.new (skip_args expr.now now.old.frames.open_values parts.now (now_of now.old))) }
 {
-    match rest.next()? {
-        None => {
-            if newline {
-                text.push(b'\n')?;
-            }
-            now.out.append(text.as_slice())?;
-            Ok(Work::Give(Value::Nothing))
+    for (i, first) in parts.iter().enumerate() {
+        if !push_leaf(&mut now.frames, first)? {
+            now.frames.wait_args(expr, &parts[i + 1..])?;
+            return Ok(LentWork::Eval(first));
         }
-        Some(piece) => match piece {
-            Piece::Text(bytes) => {
-                text.append(bytes.as_slice())?;
-                Ok(Work::Pieces(text, rest, newline))
+    }
+    Ok(LentWork::Acting(expr))
+}
+
+/// The one part of an expression, or its last one.
+fn go_last<'p>(
+    now: &mut LentNow<'p>,
+    expr: &'p Expr,
+    part: &'p Expr,
+) -> Result<LentWork<'p>, AllocError>
+    requires { now.old.frames.open_text ≡ [] }
+    ensures { IfOk result (λ work. Reaches work now.new (skip_args expr.now now.old.frames.open_values (part.now ∷ []) (now_of now.old))) }
+{
+    if push_leaf(&mut now.frames, part)? {
+        return Ok(LentWork::Acting(expr));
+    }
+    now.frames.wait_args(expr, &[])?;
+    Ok(LentWork::Eval(part))
+}
+
+/// The two sides of a comparison.
+fn go_both<'p>(
+    now: &mut LentNow<'p>,
+    expr: &'p Expr,
+    left: &'p Expr,
+    right: &'p Expr,
+) -> Result<LentWork<'p>, AllocError>
+    requires { now.old.frames.open_text ≡ [] }
+    ensures { IfOk result (λ work. Reaches work now.new (skip_args expr.now now.old.frames.open_values (left.now ∷ right.now ∷ []) (now_of now.old))) }
+{
+    if push_leaf(&mut now.frames, left)? {
+        return go_last(now, expr, right);
+    }
+    now.frames.wait_second(expr, right)?;
+    Ok(LentWork::Eval(left))
+}
+
+/// The task ends.
+pub(crate) fn end<'p>(now: &mut LentNow<'p>, outcome: Outcome) -> LentWork<'p>
+    ensures { Reaches result now.new (W.Ended outcome, now_of now.old) }
+{
+    drop(mem::replace(&mut now.outcome, outcome));
+    LentWork::Ended
+}
+
+/// An expression is begun.
+pub(crate) fn begin<'p>(now: &mut LentNow<'p>, expr: &'p Expr) -> Result<LentWork<'p>, AllocError>
+    requires { IsClosed now.old.frames }
+    ensures { IfOk result (λ work. Reaches work now.new (skip_begun expr.now (now_of now.old))) }
+{
+    if push_leaf(&mut now.frames, expr)? {
+        return Ok(LentWork::Give);
+    }
+    match expr {
+        Expr::Call(_, parts)
+        | Expr::Latest(_, parts)
+        | Expr::Make(_, parts)
+        | Expr::Infer(_, parts)
+        | Expr::Parts(parts) => go_args(now, expr, parts.as_slice()),
+        Expr::Field(part, _) | Expr::Part(part, _) | Expr::Isa(part, _) | Expr::Fetch(part) =>
+            go_last(now, expr, part.get()),
+        Expr::Egal(left, right, _) => go_both(now, expr, left.get(), right.get()),
+        Expr::If(test, _, _) | Expr::And(test, _) | Expr::Or(test, _) => {
+            now.frames.wait_test(expr)?;
+            Ok(LentWork::Eval(test.get()))
+        }
+        Expr::Sub(_, _) | Expr::Spawn(_) => Ok(LentWork::Acting(expr)),
+        Expr::Block(stmts) => {
+            now.frames.wait_block()?;
+            now.frames.push(Value::Nothing)?;
+            Ok(LentWork::Stmts(stmts.as_slice()))
+        }
+        Expr::Eval(items) => {
+            now.frames.wait_eval()?;
+            now.frames.push(Value::Nothing)?;
+            Ok(LentWork::Items(true, items.as_slice()))
+        }
+        Expr::Print(pieces, line) => Ok(LentWork::Pieces(*line, pieces.as_slice())),
+        Expr::Int(_) | Expr::Bool(_) | Expr::Nothing | Expr::Local(_) => unreachable!(),
+    }
+}
+
+/// The truth value that the first of these values is.
+fn truth_of(values: &[Value]) -> Option<bool>
+    ensures { result ≡ truth_of (first_value values.now) }
+{
+    match values {
+        [Value::Bool(truth), ..] => Some(*truth),
+        _ => None,
+    }
+}
+
+/// The branch that a condition takes: the condition's value is open.
+fn branch<'p>(
+    ready: &'p Ready,
+    now: &mut LentNow<'p>,
+    expr: &'p Expr,
+) -> Result<LentWork<'p>, AllocError>
+    requires { IsGiven now.old.frames }
+    ensures { IfOk result (λ work. Reaches work now.new (tested (out-Expr expr.now) (given_value now.old) (now_of now.old))) }
+{
+    match truth_of(now.frames.open_values()) {
+        None => {
+            let value = now.frames.take_one();
+            let ty = type_of(ready.table(), &value).copy()?;
+            drop(value);
+            Ok(end(now, Outcome::Error(Fault::NotBool(ty))))
+        }
+        Some(truth) => match expr {
+            Expr::If(_, yes, no) => {
+                now.frames.clear();
+                if truth {
+                    return Ok(LentWork::Eval(yes.get()));
+                }
+                Ok(LentWork::Eval(no.get()))
             }
-            Piece::Show(expr) => wait(now, Frame::Showing(text, rest, newline), expr),
+            Expr::And(_, right) => {
+                if truth {
+                    now.frames.clear();
+                    return Ok(LentWork::Eval(right.get()));
+                }
+                Ok(LentWork::Give)
+            }
+            Expr::Or(_, right) => {
+                if truth {
+                    return Ok(LentWork::Give);
+                }
+                now.frames.clear();
+                Ok(LentWork::Eval(right.get()))
+            }
+            _ => Ok(LentWork::Lost),
         },
     }
 }
 
-/// The value of a slot.
-fn local(now: &Now, slot: u32) -> Result<Value, AllocError>
-    ensures { IfOk result (λ v. v ≡ get_or now.now.env slot Nothing) }
+/// A statement of a block has its value, which is open.
+fn after_stmt<'p>(
+    now: &mut LentNow<'p>,
+    stmt: &'p Stmt,
+    rest: &'p [Stmt],
+) -> Result<LentWork<'p>, AllocError>
+    requires { IsGiven now.old.frames }
+    ensures { IfOk result (λ work. Reaches work now.new (after_stmt (out-Stmt stmt.now) rest.now (given_value now.old) (now_of now.old))) }
 {
-    match now.env.as_slice().get(slot as usize) {
-        None => Ok(Value::Nothing),
-        Some(value) => value.copy(),
-    }
-}
-
-/// An expression is begun.
-pub(crate) fn begin(alloc: Global, now: &mut Now, expr: Expr) -> Result<Work, AllocError>
-    ensures { IfOk result (λ work. (work, now.new) ≡ begun expr now.old) }
-{
-    match expr {
-        Expr::Int(number) => Ok(Work::Give(Value::Int(number))),
-        Expr::Bool(truth) => Ok(Work::Give(Value::Bool(truth))),
-        Expr::Nothing => Ok(Work::Give(Value::Nothing)),
-        Expr::Local(slot) => Ok(Work::Give(local(now, slot)?)),
-        Expr::Call(function, arguments) => go_args(
-            now,
-            function,
-            Row::new(alloc),
-            Rest::all(arguments),
-        ),
-        Expr::Print(pieces, newline) => Ok(Work::Pieces(
-            Row::new(alloc),
-            Rest::all(pieces),
-            newline,
-        )),
-        _ => Ok(Work::Lost),
-    }
-}
-
-/// A frame takes a value.
-fn take(program: &Program, now: &mut Now, frame: Frame, value: Value) -> Result<Work, AllocError>
-    ensures { IfOk result (λ work. (work, now.new) ≡ taken program.now frame value now.old) }
-{
-    match frame {
-        Frame::Args(function, mut done, rest) => {
-            done.push(value)?;
-            go_args(now, function, done, rest)
+    match stmt {
+        Stmt::Bind(slot, _) => {
+            now.frames.bind(*slot)?;
+            Ok(LentWork::Stmts(rest))
         }
-        Frame::AfterItem(world, rest) => {
-            now.world = world;
-            Ok(Work::Items(rest, value))
-        }
-        Frame::Showing(mut text, rest, newline) => {
-            append_value(&mut text, program, &value)?;
-            Ok(Work::Pieces(text, rest, newline))
-        }
-        Frame::Body(world, room, env, bindings) => {
-            now.world = world;
-            now.room = room;
-            now.env = env;
-            now.bindings = bindings;
-            Ok(Work::Give(value))
-        }
+        Stmt::Do(_) => Ok(LentWork::Stmts(rest)),
+        Stmt::Return(_) => Ok(LentWork::Leave),
     }
 }
 
-/// A value is given to the topmost frame.
-pub(crate) fn give(program: &Program, now: &mut Now, value: Value) -> Result<Work, AllocError>
-    ensures { IfOk result (λ work. (work, now.new) ≡ given program.now now.old.stack value now.old) }
+/// A statement at the top or of an evaluated block has its value, which is open.
+fn after_item<'p>(
+    now: &mut LentNow<'p>,
+    item: &'p Item,
+    fresh: bool,
+    rest: &'p [Item],
+) -> Result<LentWork<'p>, AllocError>
+    requires { IsGiven now.old.frames }
+    ensures { IfOk result (λ work. Reaches work now.new (after_item (out-Item item.now) fresh rest.now (given_value now.old) (now_of now.old))) }
 {
-    match now.stack.pop() {
-        None => Ok(Work::Ended(Outcome::Value(value))),
-        Some(frame) => take(program, now, frame, value),
+    match item {
+        Item::Define(_) => Ok(LentWork::Items(fresh, rest)),
+        Item::Bind(slot, _) => {
+            now.frames.bind(*slot)?;
+            Ok(LentWork::Items(fresh, rest))
+        }
+        Item::Do(_) => Ok(LentWork::Items(fresh, rest)),
     }
 }
 
-/// The concrete type of a value.
-pub(crate) fn type_of(value: &Value) -> Result<Ty, AllocError>
-    ensures { IfOk result (λ t. t ≡ type_of value.now) }
+/// The one open value is given to the topmost frame.
+pub(crate) fn give<'p>(ready: &'p Ready, now: &mut LentNow<'p>) -> Result<LentWork<'p>, AllocError>
+    requires { IsGiven now.old.frames }
+    ensures { IfOk result (λ work. Reaches work now.new (skip_given ready.now now.old.frames.stack (given_value now.old) (now_of now.old))) }
 {
-    match value {
-        Value::Int(_) => Ok(Ty::Nominal(INT64, SharedList::empty())),
-        Value::Bool(_) => Ok(Ty::Nominal(BOOL, SharedList::empty())),
-        Value::Nothing => Ok(Ty::Nominal(NOTHING, SharedList::empty())),
-        Value::Task(_) => Ok(Ty::Nominal(TASK, SharedList::empty())),
-        Value::Tuple(made) | Value::Struct(made) => made.get().ty.copy(),
+    match now.frames.take() {
+        None => {
+            let value = now.frames.take_one();
+            Ok(end(now, Outcome::Value(value)))
+        }
+        Some(flat) => match flat {
+            Flat::Args(_, expr, rest) => go_args(now, expr, rest),
+            Flat::Second(_, expr, second) => go_last(now, expr, second),
+            Flat::Testing(expr) => branch(ready, now, expr),
+            Flat::AfterStmt(stmt, rest) => after_stmt(now, stmt, rest),
+            Flat::Block(_, _) => Ok(LentWork::Give),
+            Flat::AfterItem(fresh, world, item, rest) => {
+                now.world = world;
+                after_item(now, item, fresh, rest)
+            }
+            Flat::Evaluated(_) => Ok(LentWork::Give),
+            Flat::Showing(line, _, rest) => {
+                now.frames.show(ready.program())?;
+                Ok(LentWork::Pieces(line, rest))
+            }
+            Flat::Body(world, room, _) => {
+                now.world = world;
+                now.room = room;
+                Ok(LentWork::Give)
+            }
+        },
     }
 }
 
-/// What an operation answers.
-fn answer(outcome: Outcome) -> Work
-    ensures { result ≡ answered outcome }
+/// A `return` passes the topmost frame.
+pub(crate) fn leave<'p>(now: &mut LentNow<'p>) -> LentWork<'p>
+    requires { IsGiven now.old.frames }
+    ensures { Reaches result now.new (left now.old.frames.stack (given_value now.old) (now_of now.old)) }
+{
+    match now.frames.pass() {
+        None => {
+            let value = now.frames.take_one();
+            end(now, Outcome::Value(value))
+        }
+        Some(flat) => match flat {
+            Flat::AfterItem(_, world, _, _) => {
+                now.world = world;
+                LentWork::Leave
+            }
+            Flat::Body(world, room, _) => {
+                now.world = world;
+                now.room = room;
+                LentWork::Give
+            }
+            Flat::Args(_, _, _) => LentWork::Leave,
+            Flat::Second(_, _, _) => LentWork::Leave,
+            Flat::Testing(_) => LentWork::Leave,
+            Flat::AfterStmt(_, _) => LentWork::Leave,
+            Flat::Block(_, _) => LentWork::Leave,
+            Flat::Evaluated(_) => LentWork::Leave,
+            Flat::Showing(_, _, _) => LentWork::Leave,
+        },
+    }
+}
+
+/// The next piece of a `print`, or its end: the text is written when all of it is there.
+pub(crate) fn go_pieces<'p>(
+    now: &mut LentNow<'p>,
+    pieces: &'p [Piece],
+    line: bool,
+) -> Result<LentWork<'p>, AllocError>
+    requires { now.old.frames.open_values ≡ [] }
+    ensures { IfOk result (λ work. Reaches work now.new (go_pieces now.old.frames.open_text pieces.now line (now_of now.old))) }
+{
+    match pieces {
+        [] => {
+            now.frames.write(&mut now.out, line)?;
+            now.frames.push(Value::Nothing)?;
+            Ok(LentWork::Give)
+        }
+        [piece, rest @ ..] => match piece {
+            Piece::Text(bytes) => {
+                now.frames.push_text(bytes.as_slice())?;
+                Ok(LentWork::Pieces(line, rest))
+            }
+            Piece::Show(expr) => {
+                now.frames.wait_text(rest, line)?;
+                Ok(LentWork::Eval(expr))
+            }
+        },
+    }
+}
+
+/// The next statement of a block, or its end: the value of the one before is open.
+pub(crate) fn go_stmts<'p>(
+    now: &mut LentNow<'p>,
+    stmts: &'p [Stmt],
+) -> Result<LentWork<'p>, AllocError>
+    requires { IsGiven now.old.frames }
+    ensures { IfOk result (λ work. Reaches work now.new (go_stmts stmts.now (given_value now.old) (now_of now.old))) }
+{
+    match stmts {
+        [] => Ok(LentWork::Give),
+        [stmt, rest @ ..] => {
+            now.frames.clear();
+            now.frames.wait_stmt(stmt, rest)?;
+            match stmt {
+                Stmt::Bind(_, expr) => Ok(LentWork::Eval(expr)),
+                Stmt::Do(expr) => Ok(LentWork::Eval(expr)),
+                Stmt::Return(expr) => Ok(LentWork::Eval(expr)),
+            }
+        }
+    }
+}
+
+/// What an operation answers: nothing is open.
+pub(crate) fn answer<'p>(
+    now: &mut LentNow<'p>,
+    outcome: Outcome,
+) -> Result<LentWork<'p>, AllocError>
+    requires { IsClosed now.old.frames }
+    ensures { IfOk result (λ work. Reaches work now.new (answered outcome, now_of now.old)) }
 {
     match outcome {
-        Outcome::Value(value) => Work::Give(value),
-        Outcome::Error(fault) => Work::Ended(Outcome::Error(fault)),
+        Outcome::Value(value) => {
+            now.frames.push(value)?;
+            Ok(LentWork::Give)
+        }
+        Outcome::Error(fault) => Ok(end(now, Outcome::Error(fault))),
     }
 }
 
-/// A method's body is begun.
-fn enter(now: &mut Now, world: u32, values: Row<Value>, expr: Expr) -> Result<Work, AllocError>
-    requires { 0 < now.old.room }
-    ensures { IfOk result (λ work. (work, now.new) ≡ entered expr world values now.old) }
+/// An operation of the prelude, whose arguments are the open values.
+fn operation<'p>(now: &mut LentNow<'p>, site: u32) -> Result<LentWork<'p>, AllocError>
+    requires { now.old.frames.open_text ≡ [] }
+    ensures { IfOk result (λ work. Reaches work now.new (answered (operates site now.old.frames.open_values), now_of now.old)) }
 {
-    let env = mem::replace(&mut now.env, values);
-    let bindings = mem::replace(&mut now.bindings, SharedList::empty());
-    now.stack
-        .push(Frame::Body(now.world, now.room, env, bindings))?;
+    let outcome = operate(site, now.frames.open_values());
+    now.frames.clear();
+    answer(now, outcome)
+}
+
+/// A method's body is begun, in a world and with these types for its static parameters. Its arguments are the open values.
+fn enter<'p>(
+    now: &mut LentNow<'p>,
+    world: u32,
+    statics: &[Ty],
+    body: &'p Expr,
+) -> Result<LentWork<'p>, AllocError>
+    requires room { 0 < now.old.room }
+    requires text { now.old.frames.open_text ≡ [] }
+    ensures { IfOk result (λ work. Reaches work now.new (entered body.now world now.old.frames.open_values statics.now (now_of now.old))) }
+{
+    now.frames.enter(now.world, now.room, statics)?;
     now.world = world;
     now.room -= 1;
-    Ok(Work::Eval(expr))
+    Ok(LentWork::Eval(body))
 }
 
-/// The body of a site of the script.
-fn body_at(program: &Program, site: u32) -> Result<Expr, AllocError>
-    ensures { IfOk result (λ e. e ≡ expr_at (slice_get program.now.sites site)) }
-{
-    match program.sites.as_slice().get(site as usize) {
-        None => Ok(Expr::Nothing),
-        Some(found) => found.body.share(),
-    }
-}
-
-/// A site does what it does.
-pub(crate) fn perform(
-    now: &mut Now,
-    program: &Program,
+/// A site does what it does, in a world and with these types for its static parameters.
+pub(crate) fn perform<'p>(
+    now: &mut LentNow<'p>,
+    ready: &'p Ready,
     site: u32,
     world: u32,
-    values: Row<Value>,
-) -> Result<Work, AllocError>
-    requires { 0 < now.old.room }
-    ensures { IfOk result (λ work. (work, now.new) ≡ performed (body_of program.now site) world values now.old) }
+    statics: &[Ty],
+) -> Result<LentWork<'p>, AllocError>
+    requires room { 0 < now.old.room }
+    requires text { now.old.frames.open_text ≡ [] }
+    requires there { site < length ready.now.sites }
+    requires statics { variables_at ready.now (map type_of now.old.frames.open_values) (slice_get ready.now.sites site) ≡ statics.now }
+    ensures { IfOk result (λ work. Reaches work now.new (performed ready.now (body_of ready.now site) world now.old.frames.open_values (now_of now.old))) }
 {
     if site < PRELUDE_SITES {
-        return Ok(answer(operate(site, values.as_slice())));
+        return operation(now, site);
     }
-    let body = body_at(program, site)?;
-    enter(now, world, values, body)
+    let body = &ready.program().sites.as_slice()[site as usize].body;
+    enter(now, world, statics, body)
+}
+
+/// A statement at the top or of an evaluated block is begun, in the world that it saw. The value of the one before is open.
+pub(crate) fn begin_item<'p>(
+    now: &mut LentNow<'p>,
+    item: &'p Item,
+    fresh: bool,
+    rest: &'p [Item],
+    world: u32,
+) -> Result<LentWork<'p>, AllocError>
+    requires { IsGiven now.old.frames }
+    ensures { IfOk result (λ work. Reaches work now.new (looked_item item.now (out-Item item.now) fresh rest.now world (now_of now.old))) }
+{
+    now.frames.clear();
+    if fresh {
+        now.frames.forget();
+    }
+    match item {
+        Item::Define(site) => Ok(LentWork::Defining(fresh, *site, rest)),
+        Item::Bind(_, expr) | Item::Do(expr) => {
+            let around = now.world;
+            now.frames.wait_item(item, fresh, around, rest)?;
+            now.world = world;
+            Ok(LentWork::Eval(expr))
+        }
+    }
 }

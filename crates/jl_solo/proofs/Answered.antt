@@ -1,5 +1,5 @@
 -- What a dispatcher for a task that runs alone answers is right.
-use Rattle.std.proofs.Common.{◌≡◌, ◌∙◌, ap, sym, subst, refl, ℕ, suc, ◌+◌, ◌-◌, ◌<◌, ◌≤◌, arith, All, Bool, true, false, cond, List, [], ◌∷◌, ◌++◌, length, take, drop, get_or, slice_get, append_assoc, length-append, Result, Ok, Err, IfOk}
+use Rattle.std.proofs.Common.{◌≡◌, ◌∙◌, ap, sym, subst, refl, ℕ, suc, ◌+◌, ◌-◌, ◌<◌, ◌≤◌, arith, All, List, [], ◌∷◌, ◌++◌, length, take, drop, get_or, slice_get, append_assoc, length-append, None, Result, Ok, Err, IfOk, OnOk, OnErr}
 use Rattle.std.proofs.lemmas.List.Elements.{All-push}
 use Rattle.std.proofs.lemmas.List.{drop-append-le, length-take-le}
 use Rattle.jl_model.specs.declared.ty.Ty.{Ty}
@@ -12,15 +12,19 @@ use Rattle.jl_calculus.specs.declared.history.TraceItem.TheVariants.{Look, World
 use Rattle.jl_calculus.specs.declared.history.TraceItem.TheVariants as Item
 use Rattle.jl_calculus.specs.declared.history.Def.{Def}
 use Rattle.jl_program.specs.declared.tree.Program.{Program}
-use Rattle.jl_calculus.specs.Past.{IsTrueOf, DefinesAt}
+use Rattle.jl_calculus.specs.Past.{IsTrueOf, DefinesAt, done_of}
 use Rattle.jl_program.specs.Prelude.{prelude_numbers}
 use Rattle.jl_program.specs.Scope.{types_of}
 use Rattle.jl_program.specs.Chooses.{Chooses}
 use Rattle.jl_calculus.specs.World.{world_of, Selects}
-use Rattle.jl_choice.specs.Methods.{methods_of, defs_from}
-use Rattle.jl_machine.specs.Knows.{Grew, Looked, Asked, Refused, IsOfWorld, SelectsBySite, IsRight, Defined, IsMade, Full, IsFull}
+use Rattle.jl_calculus.specs.Definitions.{methods_of, defs_from}
+use Rattle.jl_dispatcher.specs.Knows.{Grew, Looked, Asked, Refused, IsOfWorld, SelectsBySite, IsRight, Defined, IsMade, WorldsFull, IsFull, IsNotDone}
 use Rattle.jl_solo.specs.Alone.{defs_of, events_of, GoesOn, knows_at, IsOfScript, IsAlone}
-use Rattle.jl_solo.proofs.EventLemmas.{defined_alone, length_more, take_defs, defs_push, get_last, own_push}
+use Rattle.jl_solo.proofs.EventLemmas.{defined_alone, none_done, length_more, take_defs, defs_push, get_last, own_push}
+use Rattle.jl_program.specs.Valid.{IsValid}
+use Rattle.jl_solo.specs.ByFunction.{AreLatest}
+use Rattle.jl_solo.proofs.FunctionLemmas.{defs_sites}
+use Rattle.jl_solo.proofs.PickLemmas.{latest_chooses}
 use Rattle.jl_solo.proofs.ChoiceOf.{of_world, selects_goes, site_goes}
 
 -- ---- the list of all definitions
@@ -33,7 +37,6 @@ drop_push P all s h = drop-append-le 14 all (s ∷ []) (omega (arith, all_length
 
 pub alone_push : (P : Program) (all : List ℕ) (s : ℕ) → IsAlone P all → length all < 65535 → 14 ≤ s → s < length P.sites → IsAlone P (all ++ s ∷ [])
 alone_push P all s h most low high = record {
-  bare = h.bare;
   prelude =
       ap (λ xs. xs ++ s ∷ []) h.prelude
       ∙ append_assoc prelude_numbers (drop 14 all) (s ∷ [])
@@ -54,6 +57,15 @@ world_goes sites es (fuel, more, q) =
           ∙ ap (λ xs. 14 + length xs) (defined_alone sites),
     )
 
+-- none has ended
+done_goes : (task : ℕ) (sites : List ℕ) (es : List Event) → GoesOn sites es → done_of task (take (1 + length sites) es) ≡ None
+done_goes task sites es (fuel, more, q) =
+    let n : 1 + length sites ≡ suc (length sites) = omega arith in
+    ap (λ xs. done_of task (take (1 + length sites) xs)) q
+    ∙ ap (λ k. done_of task (take k (events_of fuel sites ++ more))) n
+    ∙ ap (λ xs. done_of task (Ev.Begin fuel ∷ xs)) (take_defs sites more)
+    ∙ none_done task sites
+
 defines_goes : (sites : List ℕ) (s : ℕ) (es : List Event) → GoesOn (sites ++ s ∷ []) es → DefinesAt es (1 + length sites) 0 s
 defines_goes sites s es (fuel, more, q) =
     let n : 1 + length sites ≡ suc (length sites) = omega arith in
@@ -67,7 +79,7 @@ goes_less sites s es (fuel, more, q) =
 
 module _ (P : Program) (sites : List ℕ) where
   pub same : (n k : ℕ) → Grew (knows_at P sites n) (knows_at P sites k)
-  same n k = record { program = refl; task = refl; world = omega arith; seen = omega arith; agrees = λ es a. a; learnt = λ i h. h }
+  same n k = record { program = refl; places = refl; task = refl; start = refl; first = refl; world = omega arith; seen = omega arith; agrees = λ es a. a; learnt = λ i h. h }
 
   pub looked : (n w p : ℕ) → w ≡ 14 + length sites → p ≡ 1 + length sites → Looked (knows_at P sites n) (knows_at P sites (n + 1)) w p
   looked n w p e q =
@@ -80,29 +92,37 @@ module _ (P : Program) (sites : List ℕ) where
         high = omega arith;
         looks = refl;
         own = refl;
+        starts = refl;
         follows = λ c is h. tt;
       }
 
   pub asked : (n : ℕ) → Asked (knows_at P sites n) (knows_at P sites n)
-  asked n = record { grew = same n n; looks = refl; own = refl; follows = λ c is h. tt }
+  asked n = record { grew = same n n; looks = refl; own = refl; starts = refl; follows = λ c is h. tt }
 
   pub refused : (n : ℕ) → Refused (knows_at P sites n) (knows_at P sites n)
-  refused n = record { grew = same n n; looks = refl; own = refl }
+  refused n = record { grew = same n n; looks = refl; own = refl; starts = refl }
 
-  pub full : (n : ℕ) → 14 + length sites ≡ 65535 → Full (knows_at P sites n) (knows_at P sites n)
+  pub running : (n task : ℕ) → IsNotDone (knows_at P sites n) task
+  running n task = done_goes task sites
+
+  pub full : (n : ℕ) → 14 + length sites ≡ 65535 → WorldsFull (knows_at P sites n) (knows_at P sites n)
   full n e =
       let told : (es : List Event) → GoesOn sites es → IsTrueOf es 0 (WorldFull (1 + length sites)) = λ es g.
       let h = world_goes sites es g in (h.0, h.1 ∙ e) in record {
         told = record { learnt = told; right = told };
         looks = refl;
         own = refl;
+        starts = refl;
         follows = λ c is h. tt;
       }
 
   pub grew : (n s : ℕ) → Grew (knows_at P sites n) (knows_at P (sites ++ s ∷ []) n)
   grew n s = record {
     program = refl;
+    places = refl;
     task = refl;
+    start = refl;
+    first = refl;
     world = omega (arith, length-append sites (s ∷ []));
     seen = omega (arith, length-append sites (s ∷ []));
     agrees = goes_less sites s;
@@ -118,6 +138,7 @@ module _ (P : Program) (sites : List ℕ) where
         place = omega (arith, length-append sites (s ∷ []));
         looks = refl;
         own = own_push 1 sites s ∙ ap (λ p. own_part ++ Item.Def s p ∷ []) at;
+        starts = refl;
         follows = λ c is h. tt;
       }
     where
@@ -135,7 +156,7 @@ pub right : (P : Program) (all : List ℕ) (n f w : ℕ) (ts : List Ty) (c : Cho
     → Chooses (types_of P) (methods_of P (defs_from P f 1 (take w all))) ts c → IsRight (knows_at P (drop 14 all) n) f ts w c
 right P all n f w ts c h l k =
     let o : IsOfWorld c w = of_world P f w (take w all) ts c (omega (arith, length-take-le w all l)) k in
-    record { right = λ es g. by_site P all n f w ts c h l o es g (selects_goes P f w ts c all (drop 14 all) h.prelude l k es g); of_world = o }
+    record { right = λ es g. by_site P all n f w ts c h l o es g (selects_goes P f w ts c all (drop 14 all) h.prelude l k es g); kept = λ es g. tt; of_world = o }
 
 pub site : (P : Program) (all : List ℕ) (n d s : ℕ) → IsAlone P all → s ≡ get_or all (d - 1) 0 → s ≡ (knows_at P (drop 14 all) n).site d
 site P all n d s h e = e ∙ ap (λ xs. get_or xs (d - 1) 0) h.prelude
@@ -146,7 +167,7 @@ module _ (P : Program) (all : List ℕ) (h : IsAlone P all) where
   pub looked_all : (n w : ℕ) → w ≡ length all → Looked (knows_at P (drop 14 all) n) (knows_at P (drop 14 all) (n + 1)) w (w - 13)
   looked_all n w e = looked P (drop 14 all) n w (w - 13) (omega (arith, e, all_length P all h)) (omega (arith, e, all_length P all h))
 
-  pub full_all : (n : ℕ) → 65535 ≤ length all → Full (knows_at P (drop 14 all) n) (knows_at P (drop 14 all) n)
+  pub full_all : (n : ℕ) → 65535 ≤ length all → WorldsFull (knows_at P (drop 14 all) n) (knows_at P (drop 14 all) n)
   full_all n l = full P (drop 14 all) n (omega (arith, l, h.most, all_length P all h))
 
   pub not_full_all : (n : ℕ) → length all < 65535 → IsFull (knows_at P (drop 14 all) n) → ⊥
@@ -170,13 +191,39 @@ module _ (P : Program) (all : List ℕ) (h : IsAlone P all) where
       let same_world : 14 + length later ≡ w = omega (arith, e, more, length-append all (s ∷ []), all_length P all h) in
       record { right = λ es g. (world_goes later es g).1 ∙ same_world; world = (omega (arith, same_world), omega (arith, same_world)) }
 
-  pub alone_if : (s : ℕ) → length all < 65535 → 14 ≤ s → s < length P.sites → (b : Bool) → IsAlone P (cond b (all ++ s ∷ []) all)
-  alone_if s most low high true = alone_push P all s h most low high
-  alone_if s most low high false = h
-
-  pub right_all : {E : Type 0} (n f w : ℕ) (ts types : List Ty) (defs : List Def) → w ≤ length all → defs ≡ defs_from P f 1 (take w all) → types ≡ ts → (r : Result Choice E)
-      → IfOk r (λ c. Chooses (types_of P) (methods_of P defs) types c) → IfOk r (λ c. IsRight (knows_at P (drop 14 all) n) f ts w c)
-  right_all n f w ts types defs l e q (Ok c) k =
+  pub right_all : {E : Type 0} (Q : Program) (n f w : ℕ) (ts types : List Ty) (defs : List Def) → w ≤ length all → Q ≡ P → IsValid Q → AreLatest (defs_from P f 1 (take w all)) defs → types ≡ ts
+      → (r : Result Choice E) → IfOk r (λ c. Chooses (types_of Q) (methods_of Q defs) types c) → IfOk r (λ c. IsRight (knows_at P (drop 14 all) n) f ts w c)
+  right_all Q n f w ts types defs l p v e q (Ok c) k =
+      let among : Chooses (types_of P) (methods_of P defs) ts c =
+      subst (λ xs. Chooses (types_of P) (methods_of P defs) xs c) q (subst (λ R. Chooses (types_of R) (methods_of R defs) types c) p k) in
       right P all n f w ts c h l
-      (subst (λ ds. Chooses (types_of P) (methods_of P ds) ts c) e (subst (λ xs. Chooses (types_of P) (methods_of P defs) xs c) q k))
-  right_all n f w ts types defs l e q (Err x) k = k
+      (latest_chooses P (subst IsValid p v) ts (defs_from P f 1 (take w all)) defs (defs_sites P f 1 (take w all)) e c among)
+  right_all Q n f w ts types defs l p v e q (Err x) k = k
+
+-- ---- after a definition was tried
+
+module _ (old new : Program × List ℕ) (h : IsAlone old.0 old.1) (s : ℕ) where
+  pub alone_after : {E : Type 0} (r : Result (Unit {0}) E) → length old.1 < 65535 → 14 ≤ s → s < length old.0.sites
+      → OnOk r (new ≡ (old.0, old.1 ++ s ∷ [])) → OnErr r (new ≡ old) → IsAlone new.0 new.1
+  alone_after (Ok u) most low high a b = subst (λ (v : Program × List ℕ). IsAlone v.0 v.1) (sym a) (alone_push old.0 old.1 s h most low high)
+  alone_after (Err e) most low high a b = subst (λ (v : Program × List ℕ). IsAlone v.0 v.1) (sym b) h
+
+  -- and the program still spawns no tasks
+  pub spawns_after : {E : Type 0} (r : Result (Unit {0}) E) → OnOk r (new ≡ (old.0, old.1 ++ s ∷ [])) → OnErr r (new ≡ old) → length old.0.spawns ≡ 0 → length new.0.spawns ≡ 0
+  spawns_after (Ok u) a b none = ap (λ (v : Program × List ℕ). length v.0.spawns) a ∙ none
+  spawns_after (Err e) a b none = ap (λ (v : Program × List ℕ). length v.0.spawns) b ∙ none
+
+  module _ (n : ℕ) (e : new ≡ (old.0, old.1 ++ s ∷ [])) where
+    pub grew_after : Grew (knows_at old.0 (drop 14 old.1) n) (knows_at new.0 (drop 14 new.1) n)
+    grew_after = subst (λ (v : Program × List ℕ). Grew (knows_at old.0 (drop 14 old.1) n) (knows_at v.0 (drop 14 v.1) n)) (sym e) (grew_all old.0 old.1 h n s)
+
+    pub defined_after : Defined (knows_at old.0 (drop 14 old.1) n) (knows_at new.0 (drop 14 new.1) n) s
+    defined_after = subst (λ (v : Program × List ℕ). Defined (knows_at old.0 (drop 14 old.1) n) (knows_at v.0 (drop 14 v.1) n) s) (sym e) (made_all old.0 old.1 h n s)
+
+    pub made_after : (xs : List ℕ) → xs ≡ new.1 → IsMade (knows_at new.0 (drop 14 new.1) n) (length xs)
+    made_after xs q =
+        subst (λ (v : Program × List ℕ). IsMade (knows_at v.0 (drop 14 v.1) n) (length xs)) (sym e)
+        (made_world_all old.0 old.1 h n (length xs) s (ap length (q ∙ ap (λ (v : Program × List ℕ). v.1) e)))
+
+  pub refused_after : (n : ℕ) → new ≡ old → Refused (knows_at old.0 (drop 14 old.1) n) (knows_at new.0 (drop 14 new.1) n)
+  refused_after n e = subst (λ (v : Program × List ℕ). Refused (knows_at old.0 (drop 14 old.1) n) (knows_at v.0 (drop 14 v.1) n)) (sym e) (refused old.0 (drop 14 old.1) n)

@@ -6,7 +6,6 @@ use Rattle.jl_model.specs.declared.ty.Ty.{Ty}
 use Rattle.jl_model.specs.Choice.{Method}
 use Rattle.jl_program.specs.declared.choice.Choice.{Choice}
 use Rattle.jl_program.specs.declared.choice.Choice.TheVariants as C
-use Rattle.jl_calculus.specs.declared.history.Def.{Def}
 use Rattle.jl_calculus.specs.declared.history.Event.{Event}
 use Rattle.jl_program.specs.declared.tree.Site.{Site}
 use Rattle.jl_program.specs.declared.tree.Program.{Program}
@@ -14,16 +13,11 @@ use Rattle.jl_program.specs.Prelude.{prelude_numbers}
 use Rattle.jl_program.specs.Scope.{types_of}
 use Rattle.jl_program.specs.Chooses.{Chooses}
 use Rattle.jl_calculus.specs.World.{defined, definitions, method_at, methods_from, site_of, Selects}
-use Rattle.jl_choice.specs.Methods.{methods_of, def_at, defs_from}
-use Rattle.jl_choice.proofs.MethodLemmas.{methods_of_defs, selects_from_chooses}
-use Rattle.jl_machine.specs.Knows.{IsOfWorld}
-use Rattle.jl_solo.specs.Alone.{GoesOn, is_of}
+use Rattle.jl_calculus.specs.Definitions.{methods_of, defs_from}
+use Rattle.jl_calculus.proofs.MethodLemmas.{methods_of_defs, selects_from_chooses}
+use Rattle.jl_dispatcher.specs.Knows.{IsOfWorld}
+use Rattle.jl_solo.specs.Alone.{GoesOn}
 use Rattle.jl_solo.proofs.EventLemmas.{defined_by}
-
--- a definition is of the function exactly where its site is
-pub def_by : (o : Option Site) (f w site : ℕ) (ds : List Def) → def_at o f w site ds ≡ cond (is_of f o) (record { world = w; site = site } ∷ ds) ds
-def_by None f w site ds = refl
-def_by (Some s) f w site ds = refl
 
 -- ---- the numbers of methods
 

@@ -50,9 +50,12 @@ pub tasks_alone : (sites : List ℕ) → tasks_of (defs_of sites) ≡ 1
 tasks_alone [] = refl
 tasks_alone (s ∷ sites) = tasks_alone sites
 
+pub none_done : (task : ℕ) (sites : List ℕ) → done_of task (defs_of sites) ≡ None
+none_done task [] = refl
+none_done task (s ∷ sites) = none_done task sites
+
 pub not_done : (sites : List ℕ) → done_of 0 (defs_of sites) ≡ None
-not_done [] = refl
-not_done (s ∷ sites) = not_done sites
+not_done sites = none_done 0 sites
 
 pub no_start : (sites : List ℕ) → start_of 0 (defs_of sites) ≡ None
 no_start [] = refl

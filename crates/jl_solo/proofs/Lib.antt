@@ -1,7 +1,10 @@
-pub mod Bare
+pub mod Slices
+pub mod LatestLemmas
+pub mod KeyTypes
+pub mod FunctionLemmas
+pub mod PickLemmas
 pub mod EventLemmas
 pub mod ChoiceOf
 pub mod Answered
 pub mod Legality
 pub mod Texts
-pub mod SimpleForms

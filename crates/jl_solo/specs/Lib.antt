@@ -1,3 +1,5 @@
 pub mod Alone
+pub mod ByFunction
+pub mod Picked
 pub mod Solo
-pub mod SimpleSites
+pub mod Tasks

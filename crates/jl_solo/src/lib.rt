@@ -1,11 +1,14 @@
 //! A run of a program on one task, over a plain list of events: its history is legal.
 #![tactic(auto)]
 
+mod choosing;
+mod definitions;
+mod history;
 mod output;
 mod run;
-mod simple;
 mod solo;
+mod tasks;
 
 pub use output::{status, text};
 pub use run::run_alone;
-pub use simple::is_simple;
+pub use tasks::has_no_tasks;

@@ -1,5 +1,5 @@
-use Rattle.jl_machine.proofs.Whole.{fits_lost}
+use Rattle.jl_machine.proofs.Whole.{lost_law}
 use Rattle.jl_machine.proofs.laws.law_lost_machine.Goals as goal
 
 pub returns : goal.returns
-returns g c = fits_lost _
+returns g c = lost_law _

@@ -1,12 +1,12 @@
-use Rattle.jl_machine.specs.Fits.{MachineFits, fuel_of, turns_of}
 use Rattle.std.proofs.Common.{◌≡◌}
+use Rattle.jl_machine.specs.Steps.{MachineFits, fuel_of, turns_of}
 use Rattle.jl_machine.proofs.root.run_root.Given as goal
 
 abbrev pub invariant-turns : goal.invariant-turns
 invariant-turns g l = record {
-  fits : MachineFits l.program l.fuel (g.D.Dispatcher.knows l.with) l.machine;
+  fits : MachineFits l.ready l.fuel (g.D.Dispatcher.knows l.with) l.machine;
   fuel : fuel_of l.machine ≡ l.fuel;
 }
 
 abbrev pub decreases-turns : goal.decreases-turns
-decreases-turns g l = turns_of l.program l.machine
+decreases-turns g l = turns_of l.ready l.machine

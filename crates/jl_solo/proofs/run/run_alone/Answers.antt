@@ -1,16 +1,14 @@
-use Rattle.std.proofs.Common.{sym, subst}
-use Rattle.jl_calculus.specs.Legal.{IsLegal}
-use Rattle.jl_solo.proofs.Legality.{history_legal, put_together, root_alone, slice_end}
+use Rattle.std.proofs.Common.{◌∙◌, ap}
+use Rattle.jl_machine.specs.Steps.{job_with}
+use Rattle.jl_solo.specs.Solo.{knows_of}
+use Rattle.jl_solo.proofs.Legality.{whole_legal, whole_alone}
 use Rattle.jl_solo.proofs.run.run_alone.Goals as goal
 
-pub returns-clause-legal : goal.returns-clause-legal
-returns-clause-legal c =
+pub returns-in_ok-history-in-Ok-clause-legal : goal.returns-in_ok-history-in-Ok-clause-legal
+returns-in_ok-history-in-Ok-clause-legal c =
     let s = c.run_root.new.with in
-    subst (IsLegal c.args.program.now)
-    (sym (put_together c.args.fuel _ s.sites.items c.in_ok-ended.ended _ _ _ _ _ c.new-events.ensures c.in_ok-push.ensures (slice_end 14 _ _ c.deref.ensures.value) c.in_ok-append_definitions.ensures c.in_ok-push-2.ensures c.in_ok-events.ensures))
-    (history_legal c.args.program.now s.program.now c.args.fuel s.looks s.sites.items c.in_ok-ended.ended s.alone c.requires.fuel c.in_ok-ended.ensures)
+    whole_legal (job_with c.args.ready.now c.args.fuel (knows_of s)) s.definitions.0 s.looks s.definitions.1 c.sites-sites.result.now c.in-Ok.ended c.in_ok-history-in-Ok.history.events s.alone c.requires.fuel
+    c.in-Ok.ensures (c.sites-sites.ensures ∙ ap (λ s. s.definitions.1) c.inner.ensures) c.in_ok-history-in-Ok.ensures
 
-pub returns-clause-alone : goal.returns-clause-alone
-returns-clause-alone c =
-    root_alone c.args.fuel _ c.in_ok-ended.ended _
-    (put_together c.args.fuel _ c.run_root.new.with.sites.items c.in_ok-ended.ended _ _ _ _ _ c.new-events.ensures c.in_ok-push.ensures (slice_end 14 _ _ c.deref.ensures.value) c.in_ok-append_definitions.ensures c.in_ok-push-2.ensures c.in_ok-events.ensures)
+pub returns-in_ok-history-in-Ok-clause-alone : goal.returns-in_ok-history-in-Ok-clause-alone
+returns-in_ok-history-in-Ok-clause-alone c = whole_alone c.args.fuel c.sites-sites.result.now c.in-Ok.ended c.in_ok-history-in-Ok.history.events c.in_ok-history-in-Ok.ensures

@@ -1,10 +1,10 @@
-use Rattle.jl_machine.proofs.Stepping.{step_end, step_define_first}
+use Rattle.jl_machine.proofs.Asking.{lent_end, lent_item, split_first}
 use Rattle.jl_machine.proofs.task.Task.go_items.Goals as goal
 
-pub returns-in-None : goal.returns-in-None
-returns-in-None g c = let none = rw c.in-None.is at c.in_ok-next.ensures in step_end _ c.args.self.now _ _ none.0 c.requires
+pub returns-in-empty : goal.returns-in-empty
+returns-in-empty g c = lent_end _ c.args.self.now c.args.fresh c.args.items.now c.in-empty.len_below c.requires.settled c.requires.fits
 
-pub returns-in_ok-look-in-Define : goal.returns-in_ok-look-in-Define
-returns-in_ok-look-in-Define g c =
-    let first = rw (c.in-Some.is, c.in-Define.is) at c.in_ok-next.ensures in
-    step_define_first _ _ _ c.args.self.now c.look.new.self c.in_ok-look-in-Define.ensures c.args.rest c.in-Define.site c.next.new.self c.args.last first c.requires
+pub returns-in_ok-world-in-len1-up : goal.returns-in_ok-world-in-len1-up
+returns-in_ok-world-in-len1-up g c =
+    lent_item _ _ c.in_ok-world-in-len1-up.world c.args.self.now c.look.new.self c.in_ok-world-in-len1-up.ensures c.begin_item.result c.args.fresh c.args.items.now c.item-item.result _ _ c.begin_item.new.now
+    (split_first c.args.items.now c.item-item.result c.in-len1-up.len_at_least c.item-item.is) c.requires.fits c.begin_item.ensures

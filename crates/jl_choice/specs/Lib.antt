@@ -1,3 +1,0 @@
-pub mod Methods
-pub mod Simple
-pub mod Decide

@@ -1,0 +1,218 @@
+-- A question to the dispatcher is a step of the machine's task.
+use Rattle.std.proofs.Common.{◌≡◌, refl, sym, ap, ◌∙◌, subst, ℕ, zero, suc, ◌+◌, ◌-◌, ◌<◌, ◌≤◌, Bool, true, false, List, [], ◌∷◌, ◌++◌, map, length, take, drop, get_or, Option, None, Some, Result, Ok, Err, IfOk, arith}
+use Rattle.std.proofs.lemmas.List.{take_rest}
+use Rattle.std.specs.declared.alloc.AllocError.{AllocError}
+use Rattle.jl_program.specs.declared.fault.Fault.TheVariants.{WorldLimit, TaskLimit, NotTask}
+use Rattle.jl_program.specs.declared.tree.Expr.{Expr, out-Expr}
+use Rattle.jl_program.specs.declared.tree.Expr.TheOpen.{Item-F}
+use Rattle.jl_program.specs.declared.tree.Expr.TheOpen as F
+use Rattle.jl_program.specs.declared.tree.Item.{Item, out-Item}
+use Rattle.jl_program.specs.declared.tree.Stmt.{Stmt}
+use Rattle.jl_program.specs.declared.tree.Piece.{Piece}
+use Rattle.jl_program.specs.declared.tree.Program.{Program}
+use Rattle.jl_program.specs.declared.tree.Start.{Start}
+use Rattle.jl_program.specs.Meaning.{datum}
+use Rattle.jl_model.specs.declared.ty.Ty.{Ty}
+use Rattle.jl_calculus.specs.ValidStart.{IsValidStart}
+use Rattle.jl_point.proofs.EnteredKept.{spawn_good}
+use Rattle.jl_program.specs.declared.value.Value.{Value}
+use Rattle.jl_program.specs.declared.value.Value.TheVariants as V
+use Rattle.jl_program.specs.Scope.{View}
+use Rattle.jl_program.specs.TypeOf.{type_of}
+use Rattle.jl_calculus.specs.declared.history.Outcome.{Outcome}
+use Rattle.jl_calculus.specs.declared.history.Outcome.TheVariants as O
+use Rattle.jl_calculus.specs.declared.history.TraceItem.{TraceItem}
+use Rattle.jl_calculus.specs.declared.history.TraceItem.TheVariants.{Look, Def, Spawn, Fetch, WorldFull, TaskFull}
+use Rattle.jl_calculus.specs.ValidHistory.{IsValidOutcome, IsValidValue}
+use Rattle.jl_frames.specs.Held.{Held, with_open, first_value}
+use Rattle.jl_point.specs.declared.point.Work.{Work}
+use Rattle.jl_point.specs.declared.point.Work.TheVariants as W
+use Rattle.jl_point.specs.declared.point.Now.{Now}
+use Rattle.jl_point.specs.Point.{value_at}
+use Rattle.jl_point.specs.Turns.{Point, answered, looked_item, start_of}
+use Rattle.jl_point.specs.ValidPoint.{IsGoodPoint, AreValidValues}
+use Rattle.jl_point.proofs.AskedLemmas.{task_failed_valid, world_limit_valid, task_limit_valid, not_task_valid, ended_good, acted_good, acting_values, latest_good}
+use Rattle.jl_point.proofs.ValueTypes.{task_valid, nothing_valid}
+use Rattle.jl_point.proofs.ItemsKept.{item_bind_good, item_do_good, item_define_good, items_end, define_good}
+use Rattle.jl_dispatcher.specs.Knows.{Knows, Grew, Asked, Defined, WorldsFull, Spawned, TasksFull, Fetched}
+use Rattle.jl_fit.specs.Fits.{Fitting, Steps, fetched_outcome}
+use Rattle.jl_fit.proofs.Asking.{step_item, step_latest, step_made, step_worlds_full, step_spawned, step_tasks_full, step_fetched, step_refused, waits, IsNoTask}
+use Rattle.jl_fit.proofs.Turning.{step_end}
+use Rattle.jl_machine.specs.declared.now.LentNow.{LentNow}
+use Rattle.jl_machine.specs.declared.now.LentWork.{LentWork}
+use Rattle.jl_machine.specs.declared.now.LentWork.TheVariants as L
+use Rattle.jl_machine.specs.declared.task.Task.{Task}
+use Rattle.jl_machine.specs.Fetched.{task_of}
+use Rattle.jl_machine.specs.Lent.{now_of, work_of, given_value, IsClosed, IsGiven, Reaches}
+use Rattle.jl_machine.specs.Steps.{progress_of, LentSteps, LentWaits, HasLooked}
+use Rattle.jl_machine.proofs.Stepping.{lent_is, lent_ok}
+
+-- ---- lists as the code takes them apart
+
+pub empty_of : (xs : List Item) → length xs < 1 → xs ≡ []
+empty_of [] h = refl
+empty_of (x ∷ xs) h = absurd (omega (arith, h))
+
+pub split_first : (xs : List Item) (x : Item) → 1 ≤ length xs → x ≡ get_or xs 0 x → xs ≡ x ∷ take (length xs - 1) (drop 1 xs)
+split_first [] x h e = absurd (omega (arith, h))
+split_first (y ∷ ys) x h e = ap (λ z. z ∷ ys) (sym e) ∙ ap (λ zs. x ∷ zs) (sym (take_rest (y ∷ ys) 1))
+
+-- ---- looks
+
+-- a statement that looked is begun at a good point
+module _ (P : Program) (views : List View) (x : Item) (xs : List Item) (v : Value) (w : ℕ) (n : Now) where
+  looked_good : (fresh : Bool) (y : Item-F Expr Item Piece Stmt) → out-Item x ≡ y → IsGoodPoint P views (W.Items fresh (x ∷ xs) v, n) → IsGoodPoint P views (looked_item x y fresh xs w n)
+  looked_good true (F.Define site) is good = item_define_good P views true x site xs v n is good
+  looked_good false (F.Define site) is good = item_define_good P views false x site xs v n is good
+  looked_good true (F.Item::Bind slot e) is good = item_bind_good P views true x slot e xs v n.world w n is good
+  looked_good false (F.Item::Bind slot e) is good = item_bind_good P views false x slot e xs v n.world w n is good
+  looked_good true (F.Item::Do e) is good = item_do_good P views true x e xs v n.world w n is good
+  looked_good false (F.Item::Do e) is good = item_do_good P views false x e xs v n.world w n is good
+
+-- the statements are done
+pub lent_end : (k : Knows) (t : Task) (fresh : Bool) (xs : List Item) → length xs < 1 → IsGiven t.now.frames → Fitting k (W.Items fresh xs (given_value t.now)) (progress_of t) → LentSteps k (W.Items fresh xs (given_value t.now)) t k L.Give t
+lent_end k t fresh xs e one h =
+    let S : List Item → Type 0 = λ ys. Fitting k (W.Items fresh ys (given_value t.now)) (progress_of t) → LentSteps k (W.Items fresh ys (given_value t.now)) t k L.Give t in
+    subst S (sym (empty_of xs e)) (λ f. record { steps = step_end k (progress_of t) fresh (given_value t.now) f (items_end k.program f.valid.views fresh (given_value t.now) (now_of t.now) f.good); settled = one }) h
+
+module _ (k k' : Knows) (w : ℕ) (t t' : Task) (l : HasLooked k k' w t t') where
+  -- the first of some statements has looked
+  pub lent_item : (r : Result LentWork AllocError) (fresh : Bool) (ys : List Item) (x : Item) (xs : List Item) (v : Value) (n : LentNow) → ys ≡ x ∷ xs → Fitting k (W.Items fresh ys v) (progress_of t)
+      → IfOk r (λ work. Reaches work n (looked_item x (out-Item x) fresh xs w (now_of t'.now))) → IfOk r (λ work. LentSteps k (W.Items fresh ys v) t k' work (record t' { now = n }))
+  lent_item r fresh ys x xs v n items h reach =
+      let S : List Item → Type 0 = λ zs. Fitting k (W.Items fresh zs v) (progress_of t) → IfOk r (λ work. LentSteps k (W.Items fresh zs v) t k' work (record t' { now = n })) in
+      subst S (sym items) (λ f. at f t' l.task reach) h
+    where
+      at : Fitting k (W.Items fresh (x ∷ xs) v) (progress_of t) → (u : Task) → u ≡ record t { trace = t.trace ++ Look w l.place ∷ [] } → IfOk r (λ work. Reaches work n (looked_item x (out-Item x) fresh xs w (now_of u.now)))
+          → IfOk r (λ work. LentSteps k (W.Items fresh (x ∷ xs) v) t k' work (record u { now = n }))
+      at f u is go =
+          let T : Task → Type 0 = λ u. IfOk r (λ work. Reaches work n (looked_item x (out-Item x) fresh xs w (now_of u.now))) → IfOk r (λ work. LentSteps k (W.Items fresh (x ∷ xs) v) t k' work (record u { now = n })) in
+          subst T (sym is)
+          (λ reach. lent_ok r k k' (W.Items fresh (x ∷ xs) v) t (record t { trace = t.trace ++ Look w l.place ∷ [] }) n (looked_item x (out-Item x) fresh xs w (now_of t.now)) reach
+          (step_item k k' (progress_of t) w l.place l.looked fresh x xs v f (looked_good k.program f.valid.views x xs v w (now_of t.now) fresh (out-Item x) refl f.good))) go
+
+  -- a call in the newest world has looked
+  pub lent_latest : (e : Expr) (f : ℕ) (xs : List Expr) → out-Expr e ≡ F.Latest f xs → t.now.frames.open_text ≡ [] → Fitting k (W.Acting e t.now.frames.open_values) (progress_of t)
+      → LentSteps k (W.Acting e t.now.frames.open_values) t k' (L.Calling f w) t'
+  lent_latest e f xs is text h =
+      let S : Task → Type 0 = λ u. LentSteps k (W.Acting e t.now.frames.open_values) t k' (L.Calling f w) u in
+      subst S (sym l.task)
+      (record {
+        steps = step_latest k k' (progress_of t) w l.place l.looked e f xs t.now.frames.open_values is h (latest_good k.program h.valid.views e f w xs t.now.frames.open_values (now_of t.now) is h.good);
+        settled = text;
+      })
+
+-- ---- definitions
+
+module _ (k k' : Knows) (t : Task) (site : ℕ) (fresh : Bool) (xs : List Item) (grew : Grew k k') (h : Fitting k (W.Defining site fresh xs) (progress_of t)) where
+  pub lent_made : (trace : List TraceItem) (frames : Held) → trace ≡ t.trace ++ Def site (k'.seen - 1) ∷ [] → frames ≡ with_open t.now.frames (V.Nothing ∷ []) → Defined k k' site
+      → Steps k (W.Defining site fresh xs) (progress_of t) k' (W.Items fresh xs (first_value frames.open_values)) (progress_of (record t { trace = trace; now = record t.now { frames = frames } }))
+  lent_made trace frames at is d =
+      let S : List TraceItem × Held → Type 0 = λ q. Steps k (W.Defining site fresh xs) (progress_of t) k' (W.Items fresh xs (first_value q.1.open_values)) (progress_of (record t { trace = q.0; now = record t.now { frames = q.1 } })) in
+      subst S (λ i. (sym at i, sym is i)) (step_made k k' (progress_of t) site fresh xs grew h d (define_good k.program h.valid.views site fresh xs (now_of t.now) h.good))
+
+  pub lent_worlds_full : (work : LentWork) (trace : List TraceItem) (n : LentNow) → trace ≡ t.trace ++ WorldFull k'.seen ∷ [] → WorldsFull k k' → Reaches work n (W.Ended (O.Error WorldLimit), now_of t.now)
+      → LentSteps k (W.Defining site fresh xs) t k' work (record t { trace = trace; now = n })
+  lent_worlds_full work trace n at d r =
+      let S : List TraceItem → Type 0 = λ is. Steps k (W.Defining site fresh xs) (progress_of t) k' (W.Ended (O.Error WorldLimit)) (record (progress_of t) { trace = is }) in
+      lent_is work k k' (W.Defining site fresh xs) t (record t { trace = trace }) n (W.Ended (O.Error WorldLimit), now_of t.now) r
+      (subst S (sym at) (step_worlds_full k k' (progress_of t) site fresh xs grew h d
+      (ended_good k.program h.valid.views (W.Defining site fresh xs) (now_of t.now) (O.Error WorldLimit) h.good (world_limit_valid k.program))))
+
+-- ---- spawns
+
+module _ (k k' : Knows) (t : Task) (e : Expr) (place : ℕ) (is : out-Expr e ≡ F.Spawn place) (grew : Grew k k') (h : Fitting k (W.Acting e t.now.frames.open_values) (progress_of t)) where
+  abbrev vs : List Value
+  vs = t.now.frames.open_values
+
+  pub lent_spawned : (child : ℕ) (trace : List TraceItem) (frames : Held) → trace ≡ t.trace ++ Spawn child (k'.seen - 1) ∷ [] → frames ≡ with_open t.now.frames (V.Task child ∷ []) → Spawned k k' child (start_of place (now_of t.now))
+      → Steps k (W.Acting e vs) (progress_of t) k' (W.Give (first_value frames.open_values)) (progress_of (record t { trace = trace; now = record t.now { frames = frames } }))
+  lent_spawned child trace frames at held d =
+      let S : List TraceItem × Held → Type 0 = λ q. Steps k (W.Acting e vs) (progress_of t) k' (W.Give (first_value q.1.open_values)) (progress_of (record t { trace = q.0; now = record t.now { frames = q.1 } })) in
+      subst S (λ i. (sym at i, sym held i))
+      (step_spawned k k' (progress_of t) e place vs is grew h child d (acted_good k.program h.valid.views e vs (now_of t.now) (O.Value (V.Task child)) h.good (task_valid k.program child)))
+
+  pub lent_tasks_full : (work : LentWork) (trace : List TraceItem) (n : LentNow) → trace ≡ t.trace ++ TaskFull k'.seen ∷ [] → TasksFull k k' → Reaches work n (W.Ended (O.Error TaskLimit), now_of t.now)
+      → LentSteps k (W.Acting e vs) t k' work (record t { trace = trace; now = n })
+  lent_tasks_full work trace n at d r =
+      let S : List TraceItem → Type 0 = λ items. Steps k (W.Acting e vs) (progress_of t) k' (W.Ended (O.Error TaskLimit)) (record (progress_of t) { trace = items }) in
+      lent_is work k k' (W.Acting e vs) t (record t { trace = trace }) n (W.Ended (O.Error TaskLimit), now_of t.now) r
+      (subst S (sym at) (step_tasks_full k k' (progress_of t) e place vs is grew h d
+      (ended_good k.program h.valid.views (W.Acting e vs) (now_of t.now) (O.Error TaskLimit) h.good (task_limit_valid k.program))))
+
+-- the start that the code makes is that of a task that is spawned here
+start_is : (t : Task) (place : ℕ) (start : Start) (env : List Value) (types : List Ty) → env ≡ t.now.frames.env → types ≡ t.now.frames.bindings → start ≡ record { spawn = place; env = map datum env; bindings = types; world = t.now.world }
+    → start ≡ start_of place (now_of t.now)
+start_is t place start env types e b h = h ∙ (λ i. record { spawn = place; env = map datum (e i); bindings = b i; world = t.now.world })
+
+pub start_valid : (k : Knows) (t : Task) (e : Expr) (place : ℕ) → out-Expr e ≡ F.Spawn place → Fitting k (W.Acting e t.now.frames.open_values) (progress_of t) → (start : Start) (env : List Value) (types : List Ty) → env ≡ t.now.frames.env → types ≡ t.now.frames.bindings
+    → start ≡ record { spawn = place; env = map datum env; bindings = types; world = t.now.world } → IsValidStart k.program start
+start_valid k t e place is h start env types ee eb eq =
+    subst (IsValidStart k.program) (sym (start_is t place start env types ee eb eq)) (spawn_good k.program h.valid e place t.now.world t.now.frames.open_values (now_of t.now) is h.good)
+
+pub spawned_of : (k k' : Knows) (t : Task) (place child : ℕ) (start : Start) (env : List Value) (types : List Ty) → env ≡ t.now.frames.env → types ≡ t.now.frames.bindings → start ≡ record { spawn = place; env = map datum env; bindings = types; world = t.now.world }
+    → Spawned k k' child start → Spawned k k' child (start_of place (now_of t.now))
+spawned_of k k' t place child start env types ee eb eq d = subst (Spawned k k' child) (start_is t place start env types ee eb eq) d
+
+-- ---- fetches
+
+-- the task that a value is
+is_task : (v : Value) (n : ℕ) → task_of v ≡ Some n → v ≡ V.Task n
+is_task (V.Task m) n h = let same : m ≡ n = cc in ap V.Task same
+is_task (V.Int i) n h = absurd (cc)
+is_task (V.Bool b) n h = absurd (cc)
+is_task V.Nothing n h = absurd (cc)
+is_task (V.Tuple c) n h = absurd (cc)
+is_task (V.Struct c) n h = absurd (cc)
+
+no_task : (k : Knows) (t : Task) (e a : Expr) (xs : List Value) (is : out-Expr e ≡ F.Fetch a) (h : Fitting k (W.Acting e xs) (progress_of t)) (v : Value) → task_of v ≡ None → IsNoTask k (progress_of t) e a xs is h v
+no_task k t e a xs is h (V.Task m) eq = absurd (cc)
+no_task k t e a xs is h (V.Int i) eq = tt
+no_task k t e a xs is h (V.Bool b) eq = tt
+no_task k t e a xs is h V.Nothing eq = tt
+no_task k t e a xs is h (V.Tuple c) eq = tt
+no_task k t e a xs is h (V.Struct c) eq = tt
+
+first_is : (us : List Value) → value_at us 0 ≡ first_value us
+first_is [] = refl
+first_is (v ∷ vs) = refl
+
+first_valid : (P : Program) (vs : List Value) → AreValidValues P vs → IsValidValue P (first_value vs)
+first_valid P [] h = nothing_valid P
+first_valid P (v ∷ vs) h = h.0
+
+fetched_valid : (P : Program) (task : ℕ) (o : Outcome) → IsValidOutcome P o → IsValidOutcome P (fetched_outcome task o)
+fetched_valid P task (O.Value v) h = h
+fetched_valid P task (O.Error e) h = task_failed_valid P task
+
+module _ (k k' : Knows) (t : Task) (e a : Expr) (is : out-Expr e ≡ F.Fetch a) (h : Fitting k (W.Acting e t.now.frames.open_values) (progress_of t)) where
+  abbrev xs : List Value
+  xs = t.now.frames.open_values
+
+  pub lent_fetched : (r : Result LentWork AllocError) (task : ℕ) (o : Outcome) (trace : List TraceItem) (n : LentNow) → Grew k k' → task_of (first_value xs) ≡ Some task → Fetched k k' task o → IsValidOutcome k.program o → trace ≡ t.trace ++ Fetch task o k'.seen ∷ []
+      → IfOk r (λ work. Reaches work n (answered (fetched_outcome task o), now_of t.now)) → IfOk r (λ work. LentSteps k (W.Acting e xs) t k' work (record t { trace = trace; now = n }))
+  lent_fetched r task o trace n grew first d valid at reach =
+      let S : List TraceItem → Type 0 = λ items. Steps k (W.Acting e xs) (progress_of t) k' (answered (fetched_outcome task o)) (record (progress_of t) { trace = items }) in
+      lent_ok r k k' (W.Acting e xs) t (record t { trace = trace }) n (answered (fetched_outcome task o), now_of t.now) reach
+      (subst S (sym at) (step_fetched k k' (progress_of t) e a task xs is (first_is xs ∙ is_task (first_value xs) task first) grew h o d
+      (acted_good k.program h.valid.views e xs (now_of t.now) (fetched_outcome task o) h.good (fetched_valid k.program task o valid))))
+
+  pub lent_refused : (r : Result LentWork AllocError) (n : LentNow) → task_of (first_value xs) ≡ None → IsValidOutcome k.program (O.Error (NotTask (type_of (first_value xs))))
+      → IfOk r (λ work. Reaches work n (W.Ended (O.Error (NotTask (type_of (first_value xs)))), now_of t.now)) → IfOk r (λ work. LentSteps k (W.Acting e xs) t k work (record t { now = n }))
+  lent_refused r n first valid reach =
+      lent_ok r k k (W.Acting e xs) t t n (W.Ended (O.Error (NotTask (type_of (first_value xs)))), now_of t.now) reach
+      (step_refused k (progress_of t) e a xs is h (first_value xs) (first_is xs) (no_task k t e a xs is h (first_value xs) first)
+      (ended_good k.program h.valid.views (W.Acting e xs) (now_of t.now) (O.Error (NotTask (type_of (first_value xs)))) h.good valid))
+
+  pub lent_fetched_is : (work : LentWork) (task : ℕ) (o : Outcome) (trace : List TraceItem) (n : LentNow) → Grew k k' → task_of (first_value xs) ≡ Some task → Fetched k k' task o → IsValidOutcome k.program o → trace ≡ t.trace ++ Fetch task o k'.seen ∷ []
+      → Reaches work n (answered (fetched_outcome task o), now_of t.now) → LentSteps k (W.Acting e xs) t k' work (record t { trace = trace; now = n })
+  lent_fetched_is work task o trace n = lent_fetched (Ok work) task o trace n
+
+  pub lent_refused_is : (work : LentWork) (n : LentNow) → task_of (first_value xs) ≡ None
+      → Reaches work n (W.Ended (O.Error (NotTask (type_of (first_value xs)))), now_of t.now) → LentSteps k (W.Acting e xs) t k work (record t { now = n })
+  lent_refused_is work n first reach =
+      lent_refused (Ok work) n first
+      (not_task_valid k.program (first_value xs) h.valid (first_valid k.program xs (acting_values k.program h.valid.views e xs (now_of t.now) h.good))) reach
+
+  pub lent_waits : Asked k k' → LentWaits k (W.Acting e xs) t k' t
+  lent_waits asked = record { waits = waits k k' (progress_of t) (W.Acting e xs) asked h; same = refl }

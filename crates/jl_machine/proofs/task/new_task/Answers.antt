@@ -1,0 +1,14 @@
+use Rattle.std.proofs.Common.{◌≡◌, ◌∙◌, ap, refl, ◌++◌, length}
+use Rattle.jl_program.specs.declared.tree.Program.{Program}
+use Rattle.jl_frames.specs.Held.{Held, nothing_held, with_open, starts}
+use Rattle.jl_machine.proofs.Whole.{new_task_is, there_is}
+use Rattle.jl_machine.proofs.task.new_task.Goals as goal
+
+pub returns : goal.returns
+returns c =
+    let spawns = c.as_slice-3.ensures ∙ ap (λ (P : Program). P.spawns) c.program.ensures in
+    let there = there_is c.as_slice-3.result.now c.args.start.now.spawn c.index-as_slice-start.result (rw spawns c.requires) c.index-as_slice-start.is in
+    let pushed = c.in_ok-push_all.ensures ∙ ap (λ (h : Held). with_open h (h.open_values ++ c.as_slice.result.now)) c.new-frames.ensures in
+    let started = c.in_ok-start.ensures ∙ (λ i. starts (pushed i) (c.as_slice-2.ensures i)) in
+    new_task_is c.args.ready.now c.args.start.now c.args.fuel c.as_slice.result.now _ _ c.first_task-task.result c.index-as_slice-start.result (rw spawns at there) c.as_slice.ensures started c.first_task-task.ensures refl
+    (record { values = ap (λ (h : Held). h.open_values) (c.first_task-task.ensures.frames_are ∙ started); text = ap (λ (h : Held). h.open_text) (c.first_task-task.ensures.frames_are ∙ started) })

@@ -1,0 +1,218 @@
+-- A step of a machine over a lent program is a step of the task that it stands for.
+use Rattle.std.specs.Prelude.{◌≡◌, ◌<◌, ℕ, [], ◌∷◌, ◌++◌, List, map, Option, None, Some, slice_get, false}
+use Rattle.jl_model.specs.declared.ty.Ty.{Ty}
+use Rattle.jl_model.specs.Bindings.{bindings}
+use Rattle.jl_model.specs.Signature.{Applicable}
+use Rattle.jl_program.specs.declared.prelude.TheConstants.{FIRST_WORLD}
+use Rattle.jl_program.specs.declared.tree.Expr.{Expr, out-Expr}
+use Rattle.jl_program.specs.declared.tree.Program.{Program}
+use Rattle.jl_program.specs.declared.tree.Site.{Site}
+use Rattle.jl_program.specs.declared.tree.Start.{Start}
+use Rattle.jl_program.specs.declared.value.Value.{Value}
+use Rattle.jl_program.specs.declared.value.Value.TheVariants as V
+use Rattle.jl_program.specs.Meaning.{value_of}
+use Rattle.jl_program.specs.Scope.{all_types, types_of}
+use Rattle.jl_program.specs.TypeOf.{type_of}
+use Rattle.jl_program.specs.Valid.{IsValid}
+use Rattle.jl_calculus.specs.declared.history.Outcome.{Outcome}
+use Rattle.jl_calculus.specs.declared.history.Record.{Record}
+use Rattle.jl_calculus.specs.declared.history.TraceItem.{TraceItem}
+use Rattle.jl_calculus.specs.declared.history.TraceItem.TheVariants.{Look}
+use Rattle.jl_calculus.specs.Run.{open_calls}
+use Rattle.jl_calculus.specs.ValidHistory.{IsValidOutcome}
+use Rattle.jl_calculus.specs.ValidStart.{IsValidStart}
+use Rattle.jl_point.specs.Operated.{operation_of}
+use Rattle.jl_point.specs.Turns.{answered}
+use Rattle.jl_frames.specs.Held.{Held}
+use Rattle.jl_point.specs.declared.point.Work.{Work}
+use Rattle.jl_point.specs.declared.point.Work.TheVariants as W
+use Rattle.jl_point.specs.declared.point.Now.{Now}
+use Rattle.jl_point.specs.ValidPoint.{IsGoodPoint}
+use Rattle.jl_point.specs.Weight.{turns_left}
+use Rattle.jl_dispatcher.specs.Knows.{Knows, Looked, Refused}
+use Rattle.jl_dispatcher.specs.Worlds.{IsWorld}
+use Rattle.jl_fit.specs.Asks.{Job}
+use Rattle.jl_fit.specs.Fits.{Progress, FitsWith, Steps, Waits, IsFresh, IsRunOf}
+use Rattle.jl_machine.specs.declared.now.LentNow.{LentNow}
+use Rattle.jl_machine.specs.declared.now.LentWork.{LentWork}
+use Rattle.jl_machine.specs.declared.now.LentWork.TheVariants.{Eval, Give, Leave, Acting, Calling, Stmts, Items, Defining, Pieces, Ended, Lost}
+use Rattle.jl_machine.specs.declared.task.Task.{Task}
+use Rattle.jl_machine.specs.declared.task.Machine.{Machine}
+use Rattle.jl_machine.specs.declared.task.Next.{Next}
+use Rattle.jl_machine.specs.declared.task.Next.TheVariants as N
+use Rattle.jl_machine.specs.declared.task.Turn.{Turn}
+use Rattle.jl_machine.specs.declared.task.Turn.TheVariants as T
+use Rattle.jl_machine.specs.Lent.{now_of, work_of, IsSettled, Reaches}
+
+-- as far as a task has come
+abbrev pub progress_of : Task → Progress
+progress_of t = record { fuel = t.fuel; trace = t.trace; calls = t.calls; now = now_of t.now }
+
+pub record LentSteps (k : Knows) (w : Work) (t : Task) (k' : Knows) (work : LentWork) (t' : Task) : Type 0 where
+  pub steps : Steps k w (progress_of t) k' (work_of work t'.now) (progress_of t')
+  pub settled : IsSettled work t'.now
+
+-- a task that waits for another is as it was
+pub record LentWaits (k : Knows) (w : Work) (t : Task) (k' : Knows) (t' : Task) : Type 0 where
+  pub waits : Waits k w (progress_of t) k'
+  pub same : t' ≡ t
+
+-- what a turn leads to
+abbrev pub Goes : Knows → Work → Task → Knows → Next → Task → Type 0
+Goes k w t k' (N.Go work) t' = LentSteps k w t k' work t'
+Goes k w t k' (N.Wait task) t' = LentWaits k w t k' t'
+
+-- a look, which stands in the trace
+pub record HasLooked (before now : Knows) (w : ℕ) (t t' : Task) : Type 0 where
+  pub place : ℕ
+  pub looked : Looked before now w place
+  pub task : t' ≡ record t { trace = t.trace ++ Look w place ∷ [] }
+
+-- there is something to do
+abbrev pub IsWorking : LentWork → Type 0
+IsWorking (Eval e) = Unit {0}
+IsWorking Give = Unit {0}
+IsWorking Leave = Unit {0}
+IsWorking (Acting e) = Unit {0}
+IsWorking (Calling f w) = Unit {0}
+IsWorking (Stmts xs) = Unit {0}
+IsWorking (Items fresh xs) = Unit {0}
+IsWorking (Defining fresh site xs) = Unit {0}
+IsWorking (Pieces line xs) = Unit {0}
+IsWorking Ended = ⊥
+IsWorking Lost = ⊥
+
+-- the values of an expression that acts are those of a good point
+abbrev pub IsGoodActing : Program → Now → Expr → List Value → Type 0
+IsGoodActing P n e vs = (v : IsValid P) × IsGoodPoint P v.views (W.Acting e vs, n)
+
+-- the types of the variables of a site's signature, if the site is there, for arguments of these types
+abbrev pub variables_at : Program → List Ty → Option Site → List Ty
+variables_at P ts None = []
+variables_at P ts (Some site) = bindings (types_of P) site.sig ts
+
+-- the signature of a site applies to types, if the site is there
+abbrev pub AppliesAt : Program → List Ty → Option Site → Type 0
+AppliesAt P ts None = ⊥
+AppliesAt P ts (Some site) = Applicable (types_of P) site.sig ts
+
+-- ---- machines
+
+-- the job of a machine with this program and this fuel, which asks this dispatcher
+abbrev pub job_with : Program → ℕ → Knows → Job
+job_with P fuel k = record { program = P; start = k.start; places = k.places; fuel = fuel }
+
+-- what a machine has to do fits its dispatcher
+pub record IsAt (P : Program) (fuel : ℕ) (k : Knows) (work : LentWork) (t : Task) : Type 0 where
+  pub fits : FitsWith (job_with P fuel k) k (work_of work t.now) (progress_of t)
+  pub settled : IsSettled work t.now
+
+-- a machine that is lost fits each dispatcher
+abbrev pub FitsAt : Program → ℕ → Knows → LentWork → Task → Type 0
+FitsAt P fuel k Lost t = Unit {0}
+FitsAt P fuel k (Eval e) t = IsAt P fuel k (Eval e) t
+FitsAt P fuel k Give t = IsAt P fuel k Give t
+FitsAt P fuel k Leave t = IsAt P fuel k Leave t
+FitsAt P fuel k (Acting e) t = IsAt P fuel k (Acting e) t
+FitsAt P fuel k (Calling f w) t = IsAt P fuel k (Calling f w) t
+FitsAt P fuel k (Stmts xs) t = IsAt P fuel k (Stmts xs) t
+FitsAt P fuel k (Items fresh xs) t = IsAt P fuel k (Items fresh xs) t
+FitsAt P fuel k (Defining fresh site xs) t = IsAt P fuel k (Defining fresh site xs) t
+FitsAt P fuel k (Pieces line xs) t = IsAt P fuel k (Pieces line xs) t
+FitsAt P fuel k Ended t = IsAt P fuel k Ended t
+
+-- a machine fits a dispatcher, for this program and this fuel
+abbrev pub MachineFits : Program → ℕ → Knows → Machine → Type 0
+MachineFits P fuel k m = FitsAt P fuel k m.work m.task
+
+abbrev pub fuel_of : Machine → ℕ
+fuel_of m = m.task.fuel
+
+abbrev pub trace_of : Machine → List TraceItem
+trace_of m = m.task.trace
+
+-- the machine has met want of memory, and does nothing more
+abbrev pub IsLost : Machine → Type 0
+IsLost m = m.work ≡ Lost
+
+-- the machine has ended
+abbrev pub IsEnded : Machine → Type 0
+IsEnded m = m.work ≡ Ended
+
+-- the turns that a machine has left, at most
+abbrev pub turns_of : Program → Machine → ℕ
+turns_of P m = turns_left P m.task.fuel m.task.calls (work_of m.work m.task.now) (now_of m.task.now)
+
+-- what a turn says: fewer turns are left, the machine waits as it was, or the task has ended
+abbrev pub TurnSays : Program → Machine → Machine → Turn → Type 0
+TurnSays P before now T.Again = turns_of P now < turns_of P before
+TurnSays P before now (T.NeedFetch task) = now ≡ before
+TurnSays P before now T.Done = IsEnded now
+
+-- a machine that has done nothing yet, at this point
+pub record IsNewAt (w : Work) (n : Now) (most : ℕ) (m : Machine) : Type 0 where
+  pub work : work_of m.work m.task.now ≡ w
+  pub now : now_of m.task.now ≡ n
+  pub fuel : m.task.fuel ≡ most
+  pub trace : m.task.trace ≡ []
+  pub calls : m.task.calls ≡ 0
+  pub settled : IsSettled m.work m.task.now
+
+-- nothing is there but a world and what is visible
+abbrev pub first_now : ℕ → List Value → List Ty → Now
+first_now w env bindings = record { world = w; room = open_calls; env = env; bindings = bindings; stack = []; out = [] }
+
+-- the root of a program
+abbrev pub IsNewRoot : Program → ℕ → Machine → Type 0
+IsNewRoot P fuel m = IsNewAt (W.Items false P.top V.Nothing) (first_now FIRST_WORLD [] []) fuel m
+
+-- a task from a start, at the expression of its place
+pub record IsNewTask (P : Program) (start : Start) (fuel : ℕ) (m : Machine) : Type 0 where
+  pub expr : Expr
+  pub there : slice_get P.spawns start.spawn ≡ Some expr
+  pub new : IsNewAt (W.Eval expr) (first_now start.world (map value_of start.env) start.bindings) fuel m
+
+-- a record is of a machine that ended
+pub record HasEnded (r : Record) (m : Machine) : Type 0 where
+  pub work : work_of m.work m.task.now ≡ W.Ended r.outcome
+  pub trace : m.task.trace ≡ r.trace
+  pub out : m.task.now.out ≡ r.output
+  pub calls : m.task.calls ≡ r.calls
+
+-- a record is of a task that ended
+pub record IsRecordOf (r : Record) (t : Task) : Type 0 where
+  pub outcome : t.now.outcome ≡ r.outcome
+  pub trace : t.trace ≡ r.trace
+  pub out : t.now.out ≡ r.output
+  pub calls : t.calls ≡ r.calls
+
+-- a task that has done nothing yet
+pub record IsFirst (most w : ℕ) (frames : Held) (t : Task) : Type 0 where
+  pub fuel : t.fuel ≡ most
+  pub trace : t.trace ≡ []
+  pub calls : t.calls ≡ 0
+  pub world : t.now.world ≡ w
+  pub room : t.now.room ≡ open_calls
+  pub frames_are : t.now.frames ≡ frames
+  pub out : t.now.out ≡ []
+
+-- ---- laws
+
+-- a new root fits a fresh dispatcher of its program, and so does a new task with the start that the dispatcher tells
+abbrev pub RootFits : Knows → Type 0
+RootFits k = (P : Program) (fuel : ℕ) (m : Machine) → IsValid P → P ≡ k.program → k.start ≡ None → IsFresh k → IsNewRoot P fuel m → MachineFits P fuel k m
+
+abbrev pub TaskFits : Knows → Type 0
+TaskFits k = (P : Program) (start : Start) (fuel : ℕ) (m : Machine) → IsValid P → IsValidStart P start → P ≡ k.program → k.start ≡ Some start → IsWorld start.world k.world → IsFresh k → IsNewTask P start fuel m → MachineFits P fuel k m
+
+-- a machine that has met want of memory fits each dispatcher
+abbrev pub LostFits : Knows → Type 0
+LostFits k = (P : Program) (fuel : ℕ) (m : Machine) → IsLost m → MachineFits P fuel k m
+
+-- a machine that fits and has ended did a run, which its record tells
+abbrev pub EndedRuns : Knows → Type 0
+EndedRuns k = (P : Program) (fuel : ℕ) (m : Machine) (r : Record) → MachineFits P fuel k m → HasEnded r m → IsRunOf (job_with P fuel k) k r
+
+-- a machine goes on to fit where its dispatcher learns more between two steps, and neither looks nor makes anything
+abbrev pub GrownFits : Knows → Knows → Type 0
+GrownFits k k' = Refused k k' → (P : Program) (fuel : ℕ) (m : Machine) → MachineFits P fuel k m → MachineFits P fuel k' m

@@ -1,0 +1,64 @@
+//! What the forms answer that ask nobody, once their parts have values.
+
+ghost use Rattle.std.specs.Prelude.{◌≡◌, ◌<◌, IfOk, length};
+ghost use Rattle.jl_program.specs.declared.tree.Expr.{out-Expr};
+ghost use Rattle.jl_program.specs.Scope.{all_types};
+ghost use Rattle.jl_calculus.specs.ValidHistory.{IsValidOutcome};
+ghost use Rattle.jl_point.specs.Operated.{operation_of};
+ghost use Rattle.jl_point.specs.Point.{value_at};
+ghost use Rattle.jl_machine.specs.Acting.{MayAct, IsOperation};
+
+use jl_calculus::history::Outcome;
+use jl_frames::Frames;
+use jl_operations::{
+    get_field, get_part, make_inferred, make_tuple, make_written, test_order, test_same, test_type,
+};
+use jl_program::tree::Expr;
+use jl_program::value::Value;
+use jl_sig::Ready;
+use std::alloc::{AllocError, Global};
+
+/// The value at a place.
+fn value_at(values: &[Value], place: usize) -> &Value
+    requires { place < length values.now }
+    ensures { result.now ≡ value_at values.now place }
+{
+    &values[place]
+}
+
+/// What a form answers whose parts are the open values.
+pub(crate) fn operate(
+    alloc: Global,
+    ready: &Ready,
+    frames: &Frames<'_>,
+    expr: &Expr,
+) -> Result<Outcome, AllocError>
+    requires good { MayAct ready.now frames.now.bindings expr.now frames.now.open_values }
+    requires form { IsOperation (out-Expr expr.now) }
+    ensures answer { IfOk result (λ o. operation_of (all_types ready.now) frames.now.bindings (out-Expr expr.now) frames.now.open_values o) }
+    ensures valid { IfOk result (λ o. IsValidOutcome ready.now o) }
+{
+    let values = frames.open_values();
+    match expr {
+        Expr::Make(written, _) => { make_written(alloc, ready, frames.bindings(), written, values) }
+        Expr::Infer(name, _) => make_inferred(alloc, ready, *name, values),
+        Expr::Parts(_) => make_tuple(alloc, ready, values),
+        Expr::Field(_, name) => get_field(ready, value_at(values, 0), name),
+        Expr::Part(_, number) => get_part(ready, value_at(values, 0), *number),
+        Expr::Egal(_, _, negated) => {
+            Ok(test_same(*negated, value_at(values, 0), value_at(values, 1)))
+        }
+        Expr::Isa(_, written) => test_type(
+            alloc,
+            ready,
+            frames.bindings(),
+            value_at(values, 0),
+            written,
+        ),
+        Expr::Sub(left, right) => test_order(alloc, ready, frames.bindings(), left, right),
+        Expr::Int(_) | Expr::Bool(_) | Expr::Nothing | Expr::Local(_) => unreachable!(),
+        Expr::Call(_, _) | Expr::Latest(_, _) | Expr::Spawn(_) | Expr::Fetch(_) => unreachable!(),
+        Expr::If(_, _, _) | Expr::And(_, _) | Expr::Or(_, _) => unreachable!(),
+        Expr::Block(_) | Expr::Eval(_) | Expr::Print(_, _) => unreachable!(),
+    }
+}
