@@ -1,0 +1,12 @@
+pub mod Lists
+pub mod Growth
+pub mod Bounds
+pub mod Rights
+pub mod SeatLists
+pub mod Moves
+pub mod Wording
+pub mod Stores
+pub mod Values
+pub mod Passing
+pub mod Opens
+pub mod RowLoads

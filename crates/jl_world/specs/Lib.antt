@@ -1,0 +1,7 @@
+pub mod Views
+pub mod Places
+pub mod Rule
+pub mod Tells
+pub mod Names
+pub mod Opening
+pub mod Adds
