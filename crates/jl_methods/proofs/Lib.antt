@@ -1,0 +1,11 @@
+pub mod RoomLemmas
+pub mod EachLemmas
+pub mod FilterLemmas
+pub mod PutLemmas
+pub mod FunctionLemmas
+pub mod NoteLemmas
+pub mod TouchLemmas
+pub mod AppliesLemmas
+pub mod PreludeLemmas
+pub mod StepLemmas
+pub mod UpLemmas

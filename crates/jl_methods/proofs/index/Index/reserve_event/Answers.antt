@@ -1,0 +1,10 @@
+use Rattle.std.proofs.Common.{arith, subst}
+use Rattle.jl_calculus.specs.Legal.{MayCome}
+use Rattle.jl_methods.proofs.FunctionLemmas.{function_of_known}
+use Rattle.jl_methods.proofs.index.Index.reserve_event.Goals as goal
+
+pub reserve_def-requires-clause-function : goal.reserve_def-requires-clause-function
+reserve_def-requires-clause-function c =
+    let P = c.args.ready.now in
+    let may = subst (MayCome P c.requires.es) c.in-Def.is c.requires.may_come in
+    omega (arith, function_of_known P c.valid.ensures c.in-Def.site may.of_program, c.function_of.ensures, c.requires.index.all_defs)

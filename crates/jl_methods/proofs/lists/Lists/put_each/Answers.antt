@@ -1,0 +1,20 @@
+use Rattle.std.proofs.Common.{◌∙◌}
+use Rattle.jl_methods.specs.Room.{items_of, HasRoomAt}
+use Rattle.jl_methods.proofs.EachLemmas.{first_has, rest_has, rest_rises, rest_put}
+use Rattle.jl_methods.proofs.lists.Lists.put_each.Goals as goal
+
+pub put-requires : goal.put-requires
+put-requires g c =
+    first_has (HasRoomAt c.loop-number.self) (HasRoomAt c.loop-number.self) c.args.numbers.now c.loop-number.number-index c.loop-number-test.true c.loop-number.invariant.1.room
+
+pub loop-number-preserved : goal.loop-number-preserved
+loop-number-preserved g c =
+    let ns = c.args.numbers.now in
+    let i = c.loop-number.number-index in
+    let room = c.loop-number.invariant.1 in (
+      rest_put (items_of c.loop-number.self) (items_of c.put.new.self) ns i c.args.element c.loop-number-test.true c.put.ensures.put ∙ c.loop-number.invariant.0,
+      record {
+        room = rest_has (HasRoomAt c.loop-number.self) (HasRoomAt c.put.new.self) ns i c.loop-number-test.true room.rises c.put.ensures.other room.room;
+        rises = rest_rises ns i c.loop-number-test.true room.rises;
+      },
+    )

@@ -1,0 +1,94 @@
+-- When an index is that of a list of events, and what it has room for.
+use Rattle.std.specs.Prelude.{ℕ, ◌≡◌, ◌<◌, List, All, length, slice_get, Some}
+use Rattle.jl_model.specs.declared.limits.TheConstants.{MOST_WORLDS, MOST_CACHE_KEYS, MOST_CACHE_ROWS}
+use Rattle.jl_model.specs.declared.ty.Key.{Key}
+use Rattle.jl_program.specs.declared.tree.Program.{Program}
+use Rattle.jl_calculus.specs.declared.history.Def.{Def}
+use Rattle.jl_calculus.specs.declared.history.Event.{Event}
+use Rattle.jl_calculus.specs.declared.history.Event.TheVariants as Ev
+use Rattle.jl_calculus.specs.Legal.{IsKeyOf, MayCome}
+use Rattle.jl_calculus.specs.Definitions.{AppliesTo, defs_from}
+use Rattle.jl_calculus.specs.Ranges.{CacheRow, keys_of, rows_of}
+use Rattle.jl_calculus.specs.World.{definitions}
+use Rattle.jl_methods.specs.declared.index.Index.{Index}
+use Rattle.jl_methods.specs.Filters.{numbers_from, is_key_of, is_row_of, ArePicked, ComesWith}
+use Rattle.jl_methods.specs.Noted.{Noted, function_of}
+use Rattle.jl_methods.specs.Numbered.{nth}
+use Rattle.jl_methods.specs.Room.{items_of, IsRoomy, HasRoomAt, HasRoomAtEach, HasPlace}
+
+-- what the index has noted
+abbrev pub noted_in : Index → Noted
+noted_in i =
+    record {
+      keys = i.keys.items;
+      sites = i.sites.items;
+      defs = items_of i.defs;
+      numbers = items_of i.numbers;
+      rows = items_of i.rows;
+      touching = items_of i.touching;
+      fills = i.fills;
+    }
+
+-- what came along with the event that the index has room for
+abbrev pub awaited_in : Index → List ℕ
+awaited_in i = i.awaited.items
+
+-- each list is what it has to be for these sites of definitions, these keys and these rows
+pub record AreFilters (P : Program) (sites : List ℕ) (keys : List Key) (rows : List CacheRow) (v : Noted) : Type 0 where
+  pub known_keys : v.keys ≡ keys
+  pub proper_keys : All (IsKeyOf P) keys
+  pub known_sites : v.sites ≡ sites
+  pub filled : v.fills ≡ length rows
+  pub all_defs : length v.defs ≡ length P.functions
+  pub all_numbers : length v.numbers ≡ length P.functions
+  pub all_rows : length v.rows ≡ length keys
+  pub all_touching : length v.touching ≡ length keys
+  pub each_defs : (f : ℕ) → nth v.defs f ≡ defs_from P f 1 sites
+  pub each_numbers : (f : ℕ) → nth v.numbers f ≡ numbers_from (is_key_of f) 0 keys
+  pub each_rows : (n : ℕ) → nth v.rows n ≡ numbers_from (is_row_of n) 0 rows
+  pub each_touching : (n : ℕ) (key : Key) → slice_get keys n ≡ Some key → ArePicked (AppliesTo P key.types) (λ (d : Def). d.world) (defs_from P key.function 1 sites) (nth v.touching n)
+
+-- the index is that of these events of a run of the program
+abbrev pub IsIndexOf : Program → List Event → Index → Type 0
+IsIndexOf P es i = AreFilters P (definitions es) (keys_of es) (rows_of es) (noted_in i)
+
+-- it is that of some events
+abbrev pub IsIndex : Program → Index → Type 0
+IsIndex P i = (es : List Event) × IsIndexOf P es i
+
+-- it is that of some events after which this one may come, and these come along with it
+pub record MayBeNoted (P : Program) (i : Index) (event : Event) (ns : List ℕ) : Type 0 where
+  pub es : List Event
+  pub index : IsIndexOf P es i
+  pub may_come : MayCome P es event
+  pub comes_with : ComesWith P es event ns
+
+-- a key can be noted without memory
+pub record HasRoomForKey (key : Key) (i : Index) : Type 0 where
+  pub next_key : i.next_key ≡ Some key
+  pub few : length i.keys.items < MOST_CACHE_KEYS
+  pub list : IsRoomy i.keys
+  pub number : HasRoomAt i.numbers key.function
+  pub row_list : HasPlace i.rows
+  pub touching_list : HasPlace i.touching
+
+-- a row of a key can
+pub record HasRoomForRow (key : ℕ) (i : Index) : Type 0 where
+  pub few : i.fills < MOST_CACHE_ROWS
+  pub row : HasRoomAt i.rows key
+
+-- a definition of a function can
+pub record HasRoomForDef (function : ℕ) (i : Index) : Type 0 where
+  pub few : length i.sites.items < MOST_WORLDS
+  pub list : IsRoomy i.sites
+  pub def : HasRoomAt i.defs function
+  pub worlds : HasRoomAtEach i.touching (awaited_in i)
+
+-- an event can be noted without memory
+abbrev pub HasRoomFor : Program → Event → Index → Type 0
+HasRoomFor P (Ev.Key key) i = HasRoomForKey key i
+HasRoomFor P (Ev.Fill key site first) i = HasRoomForRow key i
+HasRoomFor P (Ev.Def task site) i = (site < length P.sites) × HasRoomForDef (function_of P site) i
+HasRoomFor P (Ev.Begin fuel) i = Unit {0}
+HasRoomFor P (Ev.Spawn task child start) i = Unit {0}
+HasRoomFor P (Ev.Done task ended) i = Unit {0}

@@ -1,0 +1,9 @@
+//! The index of a history: for each function its definitions and the keys that ask it, and for each key its rows and the
+//! definitions that touch it (Julia manual, Redefining Methods; Belyakova et al., OOPSLA 2020).
+#![tactic(auto)]
+
+mod index;
+mod lists;
+mod touch;
+
+pub use index::Index;
