@@ -1,0 +1,6 @@
+pub mod Reached
+pub mod Laws
+pub mod View
+pub mod State
+pub mod Kept
+pub mod Flags

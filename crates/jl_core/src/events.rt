@@ -1,0 +1,121 @@
+//! What a list of events tells. Each question walks the list once.
+
+ghost use Rattle.std.specs.Prelude.{◌≡◌, ◌≤◌, length, slice_get, IfOk, MatchOption, None, Some};
+ghost use Rattle.jl_calculus.specs.Past.{done_of};
+ghost use Rattle.jl_calculus.specs.Ranges.{keys_of};
+ghost use Rattle.jl_calculus.specs.Words.{is_worldly, is_fill_of, world_length, fill_length};
+ghost use Rattle.jl_calculus.specs.World.{definitions, world_of};
+
+use jl_calculus::history::{Event, Record};
+use jl_model::ty::Key;
+use jl_program::prelude::FIRST_WORLD;
+use std::alloc::{AllocError, Global};
+
+/// The sites of the prelude's operations, which are defined before a script begins.
+const PRELUDE: [u32; 14] = [0, 1, 2, 3, 4, 5, 6, 7, 8, 9, 10, 11, 12, 13];
+
+/// Whether an event makes a world.
+fn is_worldly(event: &Event) -> bool
+    ensures { result ≡ is_worldly event.now }
+{
+    match event {
+        Event::Begin(_) | Event::Def { .. } => true,
+        Event::Key(_) | Event::Fill { .. } | Event::Spawn { .. } | Event::Done { .. } => false,
+    }
+}
+
+/// Whether an event is a fill of the key of this number.
+fn is_fill_of(number: u32, event: &Event) -> bool
+    ensures { result ≡ is_fill_of number event.now }
+{
+    match event {
+        Event::Fill { key, .. } => *key == number,
+        Event::Begin(_)
+        | Event::Key(_)
+        | Event::Def { .. }
+        | Event::Spawn { .. }
+        | Event::Done { .. } => false,
+    }
+}
+
+/// How long the events are just after what made the newest world.
+pub(crate) fn world_length(events: &[Event]) -> usize
+    ensures { result ≡ world_length events.now }
+{
+    let mut count = 0;
+    for (i, event) in events.iter().enumerate() {
+        if is_worldly(event) {
+            count = i + 1;
+        }
+    }
+    count
+}
+
+/// How long they are just after the last fill of a key, and 0 where it has none.
+pub(crate) fn fill_length(number: u32, events: &[Event]) -> usize
+    ensures { result ≡ fill_length number events.now }
+{
+    let mut count = 0;
+    for (i, event) in events.iter().enumerate() {
+        if is_fill_of(number, event) {
+            count = i + 1;
+        }
+    }
+    count
+}
+
+/// The newest world.
+pub(crate) fn world_of(events: &[Event]) -> usize
+    ensures { result ≡ world_of events.now }
+{
+    let mut world = FIRST_WORLD as usize;
+    for event in events {
+        if let Event::Def { .. } = event {
+            world += 1;
+        }
+    }
+    world
+}
+
+/// The key of a number.
+pub(crate) fn key_at(events: &[Event], number: u32) -> Option<&Key>
+    ensures { MatchOption result (slice_get (keys_of events.now) number ≡ None) (λ key. slice_get (keys_of events.now) number ≡ Some key.now) }
+{
+    let mut left = number;
+    for event in events {
+        if let Event::Key(key) = event {
+            if left == 0 {
+                return Some(key);
+            }
+            left -= 1;
+        }
+    }
+    None
+}
+
+/// What a task did, where it has ended.
+pub(crate) fn done_of(events: &[Event], of: u32) -> Option<&Record>
+    ensures { MatchOption result (done_of of events.now ≡ None) (λ ended. done_of of events.now ≡ Some ended.now) }
+{
+    for event in events {
+        if let Event::Done { task, ended } = event {
+            if *task == of {
+                return Some(ended);
+            }
+        }
+    }
+    None
+}
+
+/// The sites of all definitions, the prelude's first: the definition that makes world 1 stands first.
+pub(crate) fn definitions(alloc: Global, events: &[Event]) -> Result<Vec<u32>, AllocError>
+    ensures { IfOk result (λ sites. sites.items ≡ definitions events.now) }
+{
+    let mut sites = Vec::from_slice(alloc, &PRELUDE)?;
+    for event in events {
+        if let Event::Def { site, .. } = event {
+            sites.push(*site)?;
+        }
+    }
+    Ok(sites)
+}
