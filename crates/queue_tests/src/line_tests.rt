@@ -1,0 +1,40 @@
+//! A line hands out what it was given.
+
+use jl_queue::{Line, Popped, PutFault, Setup};
+use std::test::Fail;
+
+/// The value that is handed out, 0 where there is none yet, and 1 where there will be none.
+fn pop(line: &mut Line<u32>) -> u32 {
+    match line.pop() {
+        Popped::Item(value) => value,
+        Popped::Empty => 0,
+        Popped::Closed => 1,
+    }
+}
+
+/// Whether the line is closed to a value, which comes back.
+fn is_closed_to(line: &mut Line<u32>, value: u32) -> bool {
+    match line.push(value) {
+        Ok(()) => false,
+        Err(PutFault::Closed(back)) => back == value,
+        Err(PutFault::Memory(_)) => false,
+    }
+}
+
+#[test]
+fn values_come_in_their_order_and_a_closed_line_takes_none(rt: HostRuntime) -> Result<(), Fail> {
+    let mut line = Line::new(rt.alloc());
+    assert!(rt; pop(&mut line) == 0);
+    assert!(rt; !is_closed_to(&mut line, 7) && !is_closed_to(&mut line, 8));
+    line.close();
+    assert!(rt; is_closed_to(&mut line, 9));
+    assert!(rt; pop(&mut line) == 7 && pop(&mut line) == 8 && pop(&mut line) == 1);
+    Ok(())
+}
+
+#[test]
+fn a_setup_has_the_whole_cache(rt: HostRuntime) -> Result<(), Fail> {
+    let setup = Setup::with_whole_cache(4, 10);
+    assert!(rt; setup.keys == 8192 && setup.rows == 16384);
+    Ok(())
+}
