@@ -1,0 +1,6 @@
+use Rattle.std.proofs.Common.{◌≡◌, ◌++◌}
+use Rattle.jl_gen.specs.Script.{for_each, print_line}
+use Rattle.jl_gen.proofs.lines.append_prints.Given as goal
+
+abbrev pub invariant-loop-i : goal.invariant-loop-i
+invariant-loop-i l = l.out ≡ l.initial.out ++ for_each print_line l.i
