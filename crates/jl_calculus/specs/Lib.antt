@@ -18,7 +18,6 @@ pub mod Views
 pub mod ValidStart
 pub mod ValidHistory
 pub mod HistoryLaws
-pub mod Simple
 pub mod Laws
 pub mod AnswerLaws
 pub mod Led
