@@ -12,15 +12,15 @@ use Rattle.jl_calculus.specs.declared.history.TraceItem.TheVariants.{Look, World
 use Rattle.jl_calculus.specs.declared.history.TraceItem.TheVariants as Item
 use Rattle.jl_calculus.specs.declared.history.Def.{Def}
 use Rattle.jl_program.specs.declared.tree.Program.{Program}
-use Rattle.jl_calculus.specs.Past.{IsTrueOf, DefinesAt, done_of}
+use Rattle.jl_calculus.specs.Past.{IsTrueOf, DefinesAt, done_of, tasks_of}
 use Rattle.jl_program.specs.Prelude.{prelude_numbers}
 use Rattle.jl_program.specs.Scope.{types_of}
 use Rattle.jl_program.specs.Chooses.{Chooses}
 use Rattle.jl_calculus.specs.World.{world_of, Selects}
 use Rattle.jl_calculus.specs.Definitions.{methods_of, defs_from}
-use Rattle.jl_dispatcher.specs.Knows.{Grew, Looked, Asked, Refused, IsOfWorld, SelectsBySite, IsRight, Defined, IsMade, WorldsFull, IsFull, IsNotDone}
+use Rattle.jl_dispatcher.specs.Knows.{Grew, Looked, Asked, Refused, IsOfWorld, SelectsBySite, IsRight, Defined, IsMade, WorldsFull, IsFull, AreTasksFull, IsNotDone}
 use Rattle.jl_solo.specs.Alone.{defs_of, events_of, GoesOn, knows_at, IsOfScript, IsAlone}
-use Rattle.jl_solo.proofs.EventLemmas.{defined_alone, none_done, length_more, take_defs, defs_push, get_last, own_push}
+use Rattle.jl_solo.proofs.EventLemmas.{defined_alone, none_done, tasks_alone, length_more, take_defs, defs_push, get_last, own_push}
 use Rattle.jl_program.specs.Valid.{IsValid}
 use Rattle.jl_solo.specs.ByFunction.{AreLatest}
 use Rattle.jl_solo.proofs.FunctionLemmas.{defs_sites}
@@ -178,6 +178,17 @@ module _ (P : Program) (all : List ℕ) (h : IsAlone P all) where
       let last : 14 + length sites ≡ 65535 = sym (world_goes sites es goes).1 ∙ (full es goes).1 in
       absurd (omega (arith, l, last, all_length P all h))
 
+  pub not_full_tasks : (n : ℕ) → AreTasksFull (knows_at P (drop 14 all) n) → ⊥
+  not_full_tasks n full =
+      let sites : List ℕ = drop 14 all in
+      let es : List Event = events_of 0 sites ++ [] in
+      let goes : GoesOn sites es = (0, [], refl) in
+      let k : 1 + length sites ≡ suc (length sites) = omega arith in
+      let one : tasks_of (take (1 + length sites) es) ≡ 1 =
+      ap (λ m. tasks_of (take m es)) k ∙ ap (λ xs. tasks_of (Ev.Begin 0 ∷ xs)) (take_defs sites []) ∙ tasks_alone sites in
+      let most : tasks_of (take (1 + length sites) es) ≡ 4096 = (full es goes).1 in
+      absurd (omega (arith, one, most))
+
   pub grew_all : (n s : ℕ) → Grew (knows_at P (drop 14 all) n) (knows_at P (drop 14 (all ++ s ∷ [])) n)
   grew_all n s = subst (λ xs. Grew (knows_at P (drop 14 all) n) (knows_at P xs n)) (sym (drop_push P all s h)) (grew P (drop 14 all) n s)
 
@@ -207,11 +218,6 @@ module _ (old new : Program × List ℕ) (h : IsAlone old.0 old.1) (s : ℕ) whe
       → OnOk r (new ≡ (old.0, old.1 ++ s ∷ [])) → OnErr r (new ≡ old) → IsAlone new.0 new.1
   alone_after (Ok u) most low high a b = subst (λ (v : Program × List ℕ). IsAlone v.0 v.1) (sym a) (alone_push old.0 old.1 s h most low high)
   alone_after (Err e) most low high a b = subst (λ (v : Program × List ℕ). IsAlone v.0 v.1) (sym b) h
-
-  -- and the program still spawns no tasks
-  pub spawns_after : {E : Type 0} (r : Result (Unit {0}) E) → OnOk r (new ≡ (old.0, old.1 ++ s ∷ [])) → OnErr r (new ≡ old) → length old.0.spawns ≡ 0 → length new.0.spawns ≡ 0
-  spawns_after (Ok u) a b none = ap (λ (v : Program × List ℕ). length v.0.spawns) a ∙ none
-  spawns_after (Err e) a b none = ap (λ (v : Program × List ℕ). length v.0.spawns) b ∙ none
 
   module _ (n : ℕ) (e : new ≡ (old.0, old.1 ++ s ∷ [])) where
     pub grew_after : Grew (knows_at old.0 (drop 14 old.1) n) (knows_at new.0 (drop 14 new.1) n)

@@ -1,6 +1,6 @@
 //! A dispatcher for a task that runs alone.
 
-ghost use Rattle.std.specs.Prelude.{◌≡◌, ◌≤◌, ◌<◌, ◌++◌, ◌∷◌, [], IfOk, OnOk, OnErr, length};
+ghost use Rattle.std.specs.Prelude.{◌≡◌, ◌≤◌, ◌<◌, ◌++◌, ◌∷◌, [], IfOk, OnOk, OnErr};
 ghost use Rattle.jl_program.specs.Prelude.{prelude_numbers};
 ghost use Rattle.jl_solo.specs.Alone.{IsAlone};
 
@@ -16,15 +16,14 @@ use jl_program::tree::Start;
 use jl_sig::Ready;
 use std::alloc::{AllocError, Global};
 
-/// The definitions so far, the prelude's first: the definition that makes world 1 stands first. The program spawns no tasks, so
-/// there is none but the root, and the root has not ended while it asks.
+/// The definitions so far, the prelude's first: the definition that makes world 1 stands first. There is no task but the root, and
+/// the root has not ended while it asks.
 #[derive(Drop)]
 pub(crate) struct Solo<'p> {
     alloc: Global,
     pub(crate) definitions: Definitions<'p>,
     pub(crate) looks: u64,
     ghost alone: { IsAlone definitions.0 definitions.1 },
-    ghost spawns: { length definitions.0.spawns ≡ 0 },
 }
 
 /// The definitions of the prelude's operations, which are made before a script begins.
@@ -40,9 +39,8 @@ fn prelude_definitions<'p>(alloc: Global, ready: &'p Ready) -> Result<Definition
 }
 
 impl<'p> Solo<'p> {
-    /// Nothing but the prelude is defined yet. The program has no place that spawns.
+    /// Nothing but the prelude is defined yet.
     pub(crate) fn new(alloc: Global, ready: &'p Ready) -> Result<Solo<'p>, AllocError>
-        requires { length ready.now.spawns ≡ 0 }
         ensures definitions { IfOk result (λ solo. solo.definitions ≡ (ready.now, prelude_numbers)) }
         ensures looks { IfOk result (λ solo. solo.looks ≡ 0) }
     {
@@ -89,9 +87,10 @@ impl Dispatcher for Solo<'_> {
         }
     }
 
+    /// No program that runs alone comes here: it has no place that spawns. There is no room for a second task.
     fn spawn(&mut self, start: Start) -> Result<u32, SpawnFault> {
         drop(start);
-        unreachable!()
+        Err(SpawnFault::Memory)
     }
 
     fn fetched(&mut self, task: u32) -> Result<Outcome, FetchFault> {

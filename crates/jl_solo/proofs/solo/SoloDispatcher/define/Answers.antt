@@ -1,5 +1,5 @@
 use Rattle.std.proofs.Common.{ap, arith, length, drop}
-use Rattle.jl_solo.proofs.Answered.{full_all, not_full_all, refused, alone_after, spawns_after, grew_after, defined_after, made_after, refused_after, same}
+use Rattle.jl_solo.proofs.Answered.{full_all, not_full_all, refused, alone_after, grew_after, defined_after, made_after, refused_after, same}
 use Rattle.jl_solo.proofs.solo.SoloDispatcher.define.Goals as goal
 
 pub returns-then-sites-ge-MOST_WORLDS-clause-grew : goal.returns-then-sites-ge-MOST_WORLDS-clause-grew
@@ -21,7 +21,6 @@ invariant_of-self c =
     let s = c.args.self.now in record {
       alone = alone_after s.definitions c.push.new.self s.alone c.args.site c.push.result (omega (arith, c.if-sites-ge-MOST_WORLDS.false, ap length c.sites.ensures))
           c.requires.0 c.requires.1 c.push.ensures.added c.push.ensures.refused;
-      spawns = spawns_after s.definitions c.push.new.self s.alone c.args.site c.push.result c.push.ensures.added c.push.ensures.refused s.spawns;
     }
 
 pub returns-in-Ok-clause-grew : goal.returns-in-Ok-clause-grew
