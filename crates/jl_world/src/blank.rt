@@ -25,11 +25,13 @@ const FIRST_WORD: u64 = 4_294_967_310;
 pub struct Blank {
     pub(crate) table: WordTable,
     pub(crate) seat: Seat<(), View>,
+    pub(crate) fuel: u64,
     pub(crate) keys: u32,
     pub(crate) rows: u32,
     ghost places: { HasPlaces table.shared.key },
     ghost sized: { table.shared.table_id.words ≡ word_count table.shared.key },
     ghost counts: { (keys ≡ table.shared.key.keys) × (rows ≡ table.shared.key.rows) },
+    ghost fueled: { fuel ≡ table.shared.key.fuel },
     ghost fits: { seat.table_id ≡ table.shared.table_id },
     ghost knows: { seat.me ≡ (first_view table.shared.key, []) },
 }
@@ -75,8 +77,16 @@ impl Blank {
         Ok(Blank {
             table,
             seat,
+            fuel,
             keys,
             rows,
         })
+    }
+
+    /// How many calls each task may make.
+    pub fn fuel(&self) -> u64
+        ensures { result ≡ (about_of self.now).fuel }
+    {
+        self.fuel
     }
 }

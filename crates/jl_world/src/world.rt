@@ -48,6 +48,7 @@ impl<N: Naming> World<N> {
         let Blank {
             table,
             seat,
+            fuel: _,
             keys,
             rows,
         } = blank;
