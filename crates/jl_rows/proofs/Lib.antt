@@ -1,0 +1,9 @@
+pub mod Numbers
+pub mod SpanLemmas
+pub mod OpenLemmas
+pub mod RowReads
+pub mod CutLemmas
+pub mod LatestLemmas
+pub mod ApplyingLemmas
+pub mod PlanLemmas
+pub mod KeptLemmas

@@ -1,0 +1,94 @@
+-- Which row is right for a key around a world.
+use Rattle.std.proofs.Common.{◌≡◌, sym, subst, ℕ, ◌+◌, ◌<◌, ◌⊎◌, inl, inr, List, length, slice_get, Option, Some, None}
+use Rattle.std.specs.Prelude.{◌↔◌}
+use Rattle.std.specs.List.{Contains}
+use Rattle.jl_model.specs.declared.ty.Key.{Key}
+use Rattle.jl_program.specs.declared.choice.Choice.{Choice}
+use Rattle.jl_program.specs.declared.choice.Choice.TheVariants as C
+use Rattle.jl_program.specs.declared.tree.Program.{Program}
+use Rattle.jl_program.specs.Prelude.{prelude_count}
+use Rattle.jl_calculus.specs.declared.history.Event.{Event}
+use Rattle.jl_calculus.specs.Learnt.{IsNamed, IsUncovered}
+use Rattle.jl_calculus.specs.Legal.{MayStand}
+use Rattle.jl_calculus.specs.Ranges.{keys_of, rows_of, Touches, Covers, MayBegin, IsCovered}
+use Rattle.jl_calculus.specs.World.{site_of, Selects}
+use Rattle.jl_calculus.proofs.BetweenLemmas.{row_made}
+use Rattle.jl_calculus.proofs.RowLemmas.{one_first}
+use Rattle.jl_cache.specs.Finds.{IsRangeEnd, HasRangeEnd}
+use Rattle.jl_methods.specs.declared.index.Index.{Index}
+use Rattle.jl_methods.specs.Indexed.{IsIndexOf}
+use Rattle.jl_world.specs.declared.about.About.{About}
+use Rattle.jl_world.specs.Adds.{IsNextFill}
+use Rattle.jl_world.proofs.Lists.{one_there, place_in, there}
+use Rattle.jl_world.proofs.Rights.{rows_right}
+use Rattle.jl_rows.specs.declared.plan.NewRow.{NewRow}
+use Rattle.jl_rows.specs.declared.plan.RowPlan.{RowPlan}
+use Rattle.jl_rows.specs.declared.span.Span.{Span}
+use Rattle.jl_rows.specs.Open.{HasRowFrom}
+use Rattle.jl_rows.specs.Plans.{IsRowFor, IsRowPlan, IsPlanFor}
+use Rattle.jl_rows.specs.Spans.{EndsSo, IsSpanAt}
+
+module _ (P : Program) (es : List Event) (stand : MayStand P es) (number : ℕ) (key : Key) (named : IsNamed es number key) (ws : List ℕ)
+    (exact : (d : ℕ) → Contains ws d ↔ Touches P es d key) (w : ℕ) (span : Span) (h : IsSpanAt ws w span) where
+  begins : MayBegin P es key span.first
+  begins = by h.begun
+    where
+      by : (span.first ≡ prelude_count) ⊎ ((prelude_count < span.first) × Contains ws span.first) → MayBegin P es key span.first
+      by (inl e) = inl e
+      by (inr (lt, c)) = inr (lt, (exact span.first).0 c)
+
+  covers : Covers P es key span.first w
+  covers = record { begun = h.low; going = λ d low high t. h.between d ((exact d).1 t) low high }
+
+  range_end : HasRangeEnd P es number span.first span.last
+  range_end = (key, named, by span.last h.ends)
+    where
+      by : (o : Option ℕ) → EndsSo ws span.first o → IsRangeEnd P es key span.first o
+      by None e = λ d low t. e d ((exact d).1 t) low
+      by (Some last) e = record { covers = record { begun = e.0; going = λ d low high t. e.2 d ((exact d).1 t) low high }; touched = (exact (last + 1)).0 e.1 }
+
+  -- a row that begins there covers the world
+  pub from_covers : HasRowFrom es number span.first → IsCovered P es number key w
+  from_covers r = (r.row, record { stands = r.stands; of_key = r.of_key; covers = subst (λ n. Covers P es key n w) (sym r.begins) covers })
+
+  -- and no other does
+  covers_from : IsCovered P es number key w → HasRowFrom es number span.first
+  covers_from (row, c) =
+      let (r, at) = place_in (rows_of es) row c.stands in
+      let right = rows_right P es stand r row at in
+      let same : right.key ≡ key = one_there (keys_of es) number right.key key (subst (λ n. slice_get (keys_of es) n ≡ Some right.key) c.of_key right.named) named in
+      let begun : MayBegin P es key row.first = subst (λ (k : Key). MayBegin P es k row.first) same right.right.begun in
+      record { row = row; stands = c.stands; of_key = c.of_key; begins = one_first P es key row.first span.first w begun begins c.covers covers }
+
+  pub none_covers : (HasRowFrom es number span.first → ⊥) → IsUncovered P es number w
+  none_covers none other at c =
+      none (covers_from (subst (λ (k : Key). IsCovered P es number k w) (one_there (keys_of es) number other key at named) c))
+
+  -- so this row is right
+  pub row_for : (d : ℕ) → Selects P es key.function key.types w (C.Method d) → (HasRowFrom es number span.first → ⊥) → (row : NewRow) → row.site ≡ site_of es d → row.first ≡ span.first → row.last ≡ span.last → IsRowFor P es number key w row
+  row_for d chosen none row site first last = record {
+    fill = subst (λ n. IsNextFill P es number row.site n) (sym first) fill;
+    last = subst (λ n. HasRangeEnd P es number n row.last) (sym first) (subst (HasRangeEnd P es number span.first) (sym last) range_end);
+    covers = subst (λ n. Covers P es key n w) (sym first) covers;
+  }
+    where
+      fill : IsNextFill P es number row.site span.first
+      fill = record {
+        key = key;
+        named = named;
+        right = row_made P es key row.site span.first w begins covers (d, chosen, sym site);
+        new = λ r c of f. none (record { row = r; stands = c; of_key = of; begins = f });
+      }
+
+-- the plan for a key
+pub plan_made : (about : About) (P : Program) (es : List Event) (index : Index) (number w : ℕ) (c : Choice) (row : RowPlan) → P ≡ about.program.value → IsIndexOf about.program.value es index → number < length (keys_of es)
+    → ((es : List Event) (k : Key) → IsIndexOf P es index → slice_get (keys_of es) number ≡ Some k → Selects P es k.function k.types w c)
+    → ((k : Key) → IsNamed es number k → IsRowPlan about es number k w c row) → IsPlanFor about es number w (record { choice = c; row = row })
+plan_made about P es index number w c row same h low chosen planned =
+    let (k, at) = there (keys_of es) number low in
+    record {
+      key = k;
+      named = at;
+      choice = subst (λ (Q : Program). Selects Q es k.function k.types w c) same (chosen es k (subst (λ (Q : Program). IsIndexOf Q es index) (sym same) h) at);
+      row = planned k at;
+    }

@@ -1,0 +1,13 @@
+//! What the book of a run does with the rows of its cache: which row a miss wants, and which rows a definition ends.
+#![tactic(auto)]
+
+mod choosing;
+mod cutting;
+pub mod laws;
+mod plan;
+mod rows;
+mod span;
+
+pub use choosing::select;
+pub use cutting::cut_rows;
+pub use plan::{NewRow, Plan, RowPlan, plan_for_key};
