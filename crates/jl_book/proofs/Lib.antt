@@ -1,0 +1,13 @@
+pub mod Counting
+pub mod Pushing
+pub mod Ends
+pub mod Starts
+pub mod Stays
+pub mod Shares
+pub mod PartLemmas
+pub mod Valid
+pub mod Seating
+pub mod Finding
+pub mod Selecting
+pub mod Fills
+pub mod PlanLemmas

@@ -1,0 +1,8 @@
+use Rattle.std.proofs.Common.{◌∙◌, ap}
+use Rattle.jl_book.specs.Tasks.{unfinished_of}
+use Rattle.jl_book.proofs.Pushing.{legal_closed}
+use Rattle.jl_book.proofs.book.Book.close.Goals as goal
+
+pub returns-clause-legal : goal.returns-clause-legal
+returns-clause-legal g c =
+    legal_closed g.N.Naming.about c.self.inside.seat.events c.in_ok-events.events c.self.invariant.book (ap unfinished_of c.self.view_is ∙ c.requires) (c.in_ok-events.ensures ∙ c.self.invariant.keeps)

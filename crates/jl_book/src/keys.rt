@@ -1,0 +1,85 @@
+//! The number of a key.
+
+ghost use Rattle.std.specs.Prelude.{◌≡◌, ◌↔◌, ◌++◌, ◌∷◌, [], ℕ, List, IfOk, OnErr, Err};
+ghost use Rattle.jl_calculus.specs.declared.history.Event.{Event};
+ghost use Rattle.jl_calculus.specs.declared.history.Event.TheVariants as E;
+ghost use Rattle.jl_calculus.specs.Learnt.{IsNamed};
+ghost use Rattle.jl_calculus.specs.Legal.{IsKeyOf, MayCome};
+ghost use Rattle.jl_methods.specs.Filters.{ComesWith};
+ghost use Rattle.jl_methods.specs.Indexed.{noted_in, awaited_in, IsIndexOf, HasRoomFor};
+ghost use Rattle.jl_methods.specs.Room.{IsRoomy};
+ghost use Rattle.jl_world.specs.Views.{Begins, met};
+ghost use Rattle.jl_book.specs.declared.faults.KeyFault.TheVariants as F;
+ghost use Rattle.jl_book.specs.Answers.{AreKeysFull, IsAddedOnce};
+
+use crate::book::Book;
+use crate::faults::KeyFault;
+use crate::parts;
+use crate::pass::Pass;
+use jl_cache::Cache;
+use jl_calculus::history::Event;
+use jl_methods::Index;
+use jl_model::ty::Key;
+use jl_sig::Ready;
+use jl_world::Naming;
+use std::alloc::{AllocError, Global};
+
+/// Takes all the memory that a new key needs, and gives its event.
+fn reserve_key(
+    alloc: Global,
+    ready: &Ready,
+    index: &mut Index,
+    events: &mut Vec<Event>,
+    key: &Key,
+) -> Result<Event, AllocError>
+    requires { (es : List Event) × IsIndexOf ready.now es index.old × MayCome ready.now es (E.Key key.now) }
+    ensures event { IfOk result (λ event. event ≡ E.Key key.now) }
+    ensures room { IfOk result (λ event. HasRoomFor ready.now (E.Key key.now) index.new) }
+    ensures awaited { IfOk result (λ event. (es : List Event) → IsIndexOf ready.now es index.old → ComesWith ready.now es (E.Key key.now) (awaited_in index.new)) }
+    ensures place { IfOk result (λ event. IsRoomy events.new) }
+    ensures noted { noted_in index.new ≡ noted_in index.old }
+    ensures events { events.new.items ≡ events.old.items }
+{
+    let touching = index.find_touching(alloc, ready, key)?;
+    let event = Event::Key(key.copy()?);
+    parts::reserve(ready, index, events, &event, touching.as_slice())?;
+    Ok(event)
+}
+
+impl<N: Naming> Book<N> {
+    /// The number of a key, which is added where the history does not have it. It is refused exactly where it is new and all places for
+    /// keys are in use.
+    pub fn key(
+        &mut self,
+        alloc: Global,
+        ready: &Ready,
+        cache: &Cache<N>,
+        pass: &mut Pass<N>,
+        key: &Key,
+    ) -> Result<u32, KeyFault>
+        requires ready { ready.now ≡ N.about.program.value }
+        requires key { IsKeyOf N.about.program.value key.now }
+        ensures named { IfOk result (λ number. IsNamed self.new number key.now) }
+        ensures added { IfOk result (λ number. IsAddedOnce self.old key.now self.new) }
+        ensures full { result ≡ Err F.KeysFull ↔ AreKeysFull N.about self.old key.now }
+        ensures refused { OnErr result (self.new ≡ self.old) }
+        ensures pass { pass.new ≡ met self.new pass.old }
+        ensures seen { Begins pass.old.seen self.old }
+    {
+        cache.world().meet(&mut self.seat, &mut pass.seat);
+        if let Some(number) = parts::find_key(&self.index, key) {
+            return Ok(number);
+        }
+        if self.keys == cache.world().keys() {
+            return Err(KeyFault::KeysFull);
+        }
+        let Ok(event) = reserve_key(alloc, ready, &mut self.index, &mut self.events, key) else {
+            return Err(KeyFault::Memory);
+        };
+        cache.world().note(&mut self.seat, &event);
+        parts::add(ready, &mut self.index, &mut self.events, event);
+        cache.world().meet(&mut self.seat, &mut pass.seat);
+        self.keys += 1;
+        Ok(self.keys - 1)
+    }
+}
