@@ -1,8 +1,8 @@
 -- What holds in each round: the choice for `f()`, which rows have an end, and that the next steps are allowed.
-use Rattle.std.proofs.Common.{◌≡◌, ◌∙◌, ap, sym, subst, refl, ℕ, zero, suc, ◌+◌, ◌-◌, ◌<◌, ◌≤◌, ◌⊎◌, ◌↔◌, inl, inr, ⊎_elim, arith, List, [], ◌∷◌, ◌++◌, map, length, take, replicate, slice_get, get_or, append-nil, append_assoc, length-append, Option, Some, None}
+use Rattle.std.proofs.Common.{◌≡◌, ◌∙◌, ap, sym, subst, refl, ℕ, zero, suc, ◌+◌, ◌-◌, ◌<◌, ◌≤◌, ◌⊎◌, inl, inr, ⊎_elim, arith, List, [], ◌∷◌, ◌++◌, map, length, take, replicate, slice_get, append-nil, append_assoc, length-append, Some}
 use Rattle.std.specs.List.{Contains}
-use Rattle.std.proofs.lemmas.Option.{same_Some, slice_get_within, get_or_from_slice_get}
-use Rattle.jl_model.specs.Choice.{Method, Applies, IsCandidate, IsBest, ChoosesMethod}
+use Rattle.std.proofs.lemmas.Option.{get_or_from_slice_get}
+use Rattle.jl_model.specs.Choice.{Method, Applies, IsCandidate, ChoosesMethod}
 use Rattle.jl_model.specs.Signature.{SameSignature}
 use Rattle.jl_model.specs.declared.ty.Key.{Key}
 use Rattle.jl_model.specs.declared.ty.Written.{Written}
@@ -11,9 +11,9 @@ use Rattle.jl_program.specs.Scope.{types_of}
 use Rattle.jl_program.specs.declared.choice.Choice.TheVariants as C
 use Rattle.jl_calculus.specs.declared.history.Event.{Event}
 use Rattle.jl_calculus.specs.declared.history.Event.TheVariants as Ev
-use Rattle.jl_calculus.specs.Ranges.{CacheRow, keys_of, rows_of, site_in, SiteTouches, Touches, HasNoEnd, SelectsSite, IsRightFill}
+use Rattle.jl_calculus.specs.Ranges.{CacheRow, keys_of, rows_of, site_in, SiteTouches, Touches, HasNoEnd, IsRightFill}
 use Rattle.jl_calculus.specs.Words.{IsToCut, AreAllCut}
-use Rattle.jl_calculus.specs.World.{defined, definitions, site_of, world_of, methods_from, methods_in, Selects}
+use Rattle.jl_calculus.specs.World.{defined, definitions, world_of, methods_from, Selects}
 use Rattle.jl_calculus.proofs.GrowthLemmas.{defined_append, rows_append, keys_append, touches_known}
 use Rattle.jl_calculus.proofs.TaskHistories.{no_arguments}
 use Rattle.jl_calculus.proofs.TaskRuns.{empty_below}
@@ -22,8 +22,8 @@ use Rattle.jl_world.specs.declared.view.TaskView.{TaskView}
 use Rattle.jl_world.specs.Adds.{IsNextFill}
 use Rattle.jl_world.specs.Views.{HasTask, cut_at, grown, noted}
 use Rattle.jl_world.specs.Rule.{IsOpenRow}
-use Rattle.jl_world.proofs.Lists.{get_push, get_pushed, one_there, place_in, take_whole, contains_front, contains_cons}
-use Rattle.word_tests.specs.Rounds.{the_program, site_for, f_key, rounds, history, IsRound}
+use Rattle.jl_world.proofs.Lists.{get_push, get_pushed, one_there, place_in, take_whole, contains_front}
+use Rattle.word_tests.specs.Rounds.{the_program, f_key, rounds, history, IsRound}
 
 -- ---- lists
 

@@ -8,3 +8,4 @@ mod rounds;
 mod searches;
 #[cfg(test)]
 mod tests;
+mod threads;

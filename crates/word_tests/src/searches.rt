@@ -11,6 +11,9 @@ use jl_world::{Naming, TaskSeat};
 /// The history begins with a Begin, a definition and a key; each round adds a fill and a definition.
 const BEFORE: u32 = 3;
 
+/// How often a look waits for a definition at most.
+const MOST_LOOKS: u32 = 100_000_000;
+
 /// The world of so many events.
 fn world_at(length: u32) -> u32 {
     if length < BEFORE {
@@ -54,7 +57,7 @@ fn search<N: Naming>(cache: &Cache<N>, seat: &mut TaskSeat<N>) -> bool
 }
 
 /// How many of so many searches were not right.
-pub fn search_often<N: Naming>(cache: &Cache<N>, mut seat: TaskSeat<N>, count: u32) -> u32
+fn search_often<N: Naming>(cache: &Cache<N>, mut seat: TaskSeat<N>, count: u32) -> u32
     requires key { 0 < length (keys_of seat.seen) }
 {
     let mut wrong = 0;
@@ -64,4 +67,25 @@ pub fn search_often<N: Naming>(cache: &Cache<N>, mut seat: TaskSeat<N>, count: u
         }
     }
     wrong
+}
+
+/// Looks until there is a second definition, or too often.
+fn wait_for_a_definition<N: Naming>(cache: &Cache<N>, seat: &mut TaskSeat<N>)
+    requires key { 0 < length (keys_of seat.old.seen) }
+    ensures key { 0 < length (keys_of seat.new.seen) }
+{
+    for _ in 0..MOST_LOOKS {
+        let seen = cache.world().look(seat);
+        if seen.world > FIRST {
+            return;
+        }
+    }
+}
+
+/// The same, once the other side has begun, so that both are at work at once.
+pub fn search_beside<N: Naming>(cache: &Cache<N>, mut seat: TaskSeat<N>, count: u32) -> u32
+    requires key { 0 < length (keys_of seat.seen) }
+{
+    wait_for_a_definition(cache, &mut seat);
+    search_often(cache, seat, count)
 }

@@ -1,6 +1,4 @@
-use Rattle.std.proofs.Common.{◌≡◌, ◌∙◌, ap, sym, subst, arith, length}
-use Rattle.jl_calculus.specs.Ranges.{keys_of}
-use Rattle.jl_calculus.specs.World.{world_of}
+use Rattle.std.proofs.Common.{arith}
 use Rattle.jl_world.proofs.Growth.{keys_grow, worlds_grow}
 use Rattle.word_tests.proofs.searches.search.Goals as goal
 
