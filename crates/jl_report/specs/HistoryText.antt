@@ -13,56 +13,43 @@ use Rattle.jl_calculus.specs.declared.history.Outcome.{Outcome}
 use Rattle.jl_calculus.specs.declared.history.Outcome.TheVariants as O
 use Rattle.jl_calculus.specs.declared.history.TraceItem.{TraceItem}
 use Rattle.jl_calculus.specs.declared.history.TraceItem.TheVariants as I
+use Rattle.jl_report.specs.declared.entry.Step.{Step}
+use Rattle.jl_report.specs.declared.entry.Step.TheVariants as S
+use Rattle.jl_report.specs.declared.entry.Ending.{Ending}
+use Rattle.jl_report.specs.declared.entry.Ending.TheVariants as N
+use Rattle.jl_report.specs.declared.entry.Entry.{Entry}
+use Rattle.jl_report.specs.declared.entry.Entry.TheVariants as E
 
 -- ---- what the text tells
 
--- what it tells of an item of a trace; of a fetch it leaves out the outcome, which is that of the fetched task
-pub data Step : Type 0 where
-  look : (world at : ℕ) → Step
-  def_at : (site at : ℕ) → Step
-  spawn_at : (child at : ℕ) → Step
-  fetch : (task at : ℕ) → Step
-  world_full : (at : ℕ) → Step
-  task_full : (at : ℕ) → Step
-
--- how a task ended, by the text of its value or of its fault
-pub data Ending : Type 0 where
-  value : (text : List ℕ) → Ending
-  error : (text : List ℕ) → Ending
-
--- what it tells of an event; of a spawn it leaves out the values that the task starts with
-pub data Entry : Type 0 where
-  begin : (fuel : ℕ) → Entry
-  key : (number : ℕ) (function tuple : List ℕ) → Entry
-  fill : (key site first : ℕ) → Entry
-  def : (task site : ℕ) → Entry
-  spawn : (task child place : ℕ) → Entry
-  done : (task calls : ℕ) (trace : List Step) (output : List ℕ) (ending : Ending) → Entry
-
+-- what the text tells of an item of a trace; of a fetch it leaves out the outcome, which is that of the fetched task
 abbrev pub step_of : TraceItem → Step
-step_of (I.Look w p) = look w p
-step_of (I.Def site p) = def_at site p
-step_of (I.Spawn child p) = spawn_at child p
-step_of (I.Fetch task outcome p) = fetch task p
-step_of (I.WorldFull p) = world_full p
-step_of (I.TaskFull p) = task_full p
+step_of (I.Look w p) = S.Look w p
+step_of (I.Def site p) = S.Def site p
+step_of (I.Spawn child p) = S.Spawn child p
+step_of (I.Fetch task outcome p) = S.Fetch task p
+step_of (I.WorldFull p) = S.WorldFull p
+step_of (I.TaskFull p) = S.TaskFull p
 
+-- what it tells of the items of a trace
 abbrev pub steps_of : List TraceItem → List Step
 steps_of [] = []
 steps_of (i ∷ is) = step_of i ∷ steps_of is
 
+-- what it tells of an outcome: the text of the value or of the fault
 abbrev pub ending_of : Program → Outcome → Ending
-ending_of P (O.Value v) = value (value_text P v)
-ending_of P (O.Error e) = error (fault_text P e)
+ending_of P (O.Value v) = N.Value (value_text P v)
+ending_of P (O.Error e) = N.Error (fault_text P e)
 
--- the entry of an event, with so many keys before it; its types stand as those of a tuple
+-- the entry of an event, with so many keys before it; its types stand as those of a tuple, and of a spawn it leaves out the
+-- values that the task starts with
 abbrev pub entry_of : Program → ℕ → Event → Entry
-entry_of P keys (Ev.Begin fuel) = begin fuel
-entry_of P keys (Ev.Key k) = key keys (function_name P k.function) (type_text P (Tuple k.types))
-entry_of P keys (Ev.Fill k site first) = fill k site first
-entry_of P keys (Ev.Def task site) = def task site
-entry_of P keys (Ev.Spawn task child start) = spawn task child start.spawn
-entry_of P keys (Ev.Done task ended) = done task ended.calls (steps_of ended.trace) ended.output (ending_of P ended.outcome)
+entry_of P keys (Ev.Begin fuel) = E.Begin fuel
+entry_of P keys (Ev.Key k) = E.Key keys (function_name P k.function) (type_text P (Tuple k.types))
+entry_of P keys (Ev.Fill k site first) = E.Fill k site first
+entry_of P keys (Ev.Def task site) = E.Def task site
+entry_of P keys (Ev.Spawn task child start) = E.Spawn task child start.spawn
+entry_of P keys (Ev.Done task ended) = E.Done task ended.calls (steps_of ended.trace) ended.output (ending_of P ended.outcome)
 
 -- how many keys there are with this event, with so many before it: keys are numbered from 0
 abbrev pub keys_with : ℕ → Event → ℕ
@@ -85,13 +72,15 @@ abbrev pub spaced : List ℕ → List ℕ
 spaced [] = []
 spaced (n ∷ ns) = codes " " ++ (decimal n ++ spaced ns)
 
--- a line of a word and numbers, and one of a word and a text
+-- a line of a word and numbers
 abbrev pub number_line : List ℕ → List ℕ → List ℕ
 number_line word ns = word ++ (spaced ns ++ codes "\n")
 
+-- a line of a word and a text
 abbrev pub text_line : List ℕ → List ℕ → List ℕ
 text_line word text = word ++ (text ++ codes "\n")
 
+-- the bytes that are escaped in quotes
 abbrev pub backslash : ℕ
 backslash = 92
 
@@ -112,43 +101,50 @@ escaped b =
     (cond (nat_eq b newline) (codes "\\n")
     (cond (nat_eq b carriage_return) (codes "\\r") (b ∷ []))))
 
+-- bytes as they stand in quotes
 abbrev pub all_escaped : List ℕ → List ℕ
 all_escaped [] = []
 all_escaped (b ∷ bs) = escaped b ++ all_escaped bs
 
+-- bytes in quotes
 abbrev pub quoted : List ℕ → List ℕ
 quoted bs = codes "\"" ++ (all_escaped bs ++ codes "\"")
 
+-- the line of an item of a trace
 abbrev pub step_line : Step → List ℕ
-step_line (look world at) = number_line (codes "look") (world ∷ at ∷ [])
-step_line (def_at site at) = number_line (codes "def") (site ∷ at ∷ [])
-step_line (spawn_at child at) = number_line (codes "spawn") (child ∷ at ∷ [])
-step_line (fetch task at) = number_line (codes "fetch") (task ∷ at ∷ [])
-step_line (world_full at) = number_line (codes "worldfull") (at ∷ [])
-step_line (task_full at) = number_line (codes "taskfull") (at ∷ [])
+step_line (S.Look world at) = number_line (codes "look") (world ∷ at ∷ [])
+step_line (S.Def site at) = number_line (codes "def") (site ∷ at ∷ [])
+step_line (S.Spawn child at) = number_line (codes "spawn") (child ∷ at ∷ [])
+step_line (S.Fetch task at) = number_line (codes "fetch") (task ∷ at ∷ [])
+step_line (S.WorldFull at) = number_line (codes "worldfull") (at ∷ [])
+step_line (S.TaskFull at) = number_line (codes "taskfull") (at ∷ [])
 
+-- the lines of a trace
 abbrev pub step_lines : List Step → List ℕ
 step_lines [] = []
 step_lines (s ∷ ss) = step_line s ++ step_lines ss
 
+-- the line of how a task ended
 abbrev pub ending_line : Ending → List ℕ
-ending_line (value text) = text_line (codes "outcome value ") text
-ending_line (error text) = text_line (codes "outcome error ") text
+ending_line (N.Value text) = text_line (codes "outcome value ") text
+ending_line (N.Error text) = text_line (codes "outcome error ") text
 
 -- the lines of an entry; that of the end of a task tells how many lines of its trace come after it
 abbrev pub entry_lines : Entry → List ℕ
-entry_lines (begin fuel) = number_line (codes "begin") (fuel ∷ [])
-entry_lines (key number function tuple) = codes "key" ++ (spaced (number ∷ []) ++ (codes " " ++ (function ++ (codes " " ++ (tuple ++ codes "\n")))))
-entry_lines (fill k site first) = number_line (codes "fill") (k ∷ site ∷ first ∷ [])
-entry_lines (def task site) = number_line (codes "def") (task ∷ site ∷ [])
-entry_lines (spawn task child place) = number_line (codes "spawn") (task ∷ child ∷ place ∷ [])
-entry_lines (done task calls trace output ending) =
+entry_lines (E.Begin fuel) = number_line (codes "begin") (fuel ∷ [])
+entry_lines (E.Key number function tuple) = codes "key" ++ (spaced (number ∷ []) ++ (codes " " ++ (function ++ (codes " " ++ (tuple ++ codes "\n")))))
+entry_lines (E.Fill k site first) = number_line (codes "fill") (k ∷ site ∷ first ∷ [])
+entry_lines (E.Def task site) = number_line (codes "def") (task ∷ site ∷ [])
+entry_lines (E.Spawn task child place) = number_line (codes "spawn") (task ∷ child ∷ place ∷ [])
+entry_lines (E.Done task calls trace output ending) =
     number_line (codes "done") (task ∷ calls ∷ length trace ∷ []) ++ (step_lines trace ++ (text_line (codes "output ") (quoted output) ++ ending_line ending))
 
+-- the lines of entries, in order
 abbrev pub all_lines : List Entry → List ℕ
 all_lines [] = []
 all_lines (e ∷ es) = entry_lines e ++ all_lines es
 
+-- the first line
 abbrev pub header : List ℕ
 header = codes "%%history 1\n"
 
@@ -158,8 +154,10 @@ entries_text es = header ++ (all_lines es ++ number_line (codes "end") (length e
 
 -- ---- the text of a history
 
+-- the entries of the events of a history
 abbrev pub entries_of : Program → List Event → List Entry
 entries_of P es = entries_from P 0 es
 
+-- the text of a history of the program
 abbrev pub history_text : Program → List Event → List ℕ
 history_text P es = entries_text (entries_of P es)

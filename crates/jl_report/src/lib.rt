@@ -2,6 +2,7 @@
 #![tactic(auto)]
 
 mod entries;
+mod entry;
 mod family;
 mod lines;
 mod result;
@@ -9,5 +10,6 @@ mod steps;
 mod summed;
 
 pub use entries::{append_history, history_text};
+pub use entry::{Ending, Entries, Entry, Step, Steps};
 pub use result::{append_result, render, status};
 pub use summed::{append_summary, summary};

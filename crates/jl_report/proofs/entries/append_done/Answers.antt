@@ -1,4 +1,4 @@
-use Rattle.std.proofs.Common.{◌∙◌, ap, ◌++◌, codes, List, [], ◌∷◌, length}
+use Rattle.std.proofs.Common.{◌∙◌, ap, ◌++◌, codes, [], ◌∷◌, length}
 use Rattle.jl_report.specs.HistoryText.{number_line, text_line, quoted, steps_of, step_lines, ending_of, ending_line}
 use Rattle.jl_report.proofs.PieceLemmas.{after_three}
 use Rattle.jl_report.proofs.entries.append_done.Goals as goal

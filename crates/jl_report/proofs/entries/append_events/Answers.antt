@@ -1,4 +1,4 @@
-use Rattle.std.proofs.Common.{codes, List, [], ◌∷◌, length}
+use Rattle.std.proofs.Common.{codes, [], ◌∷◌, length}
 use Rattle.jl_report.specs.HistoryText.{number_line, header, all_lines, entries_of}
 use Rattle.jl_report.proofs.PieceLemmas.{after_two}
 use Rattle.jl_report.proofs.entries.append_events.Goals as goal

@@ -1,0 +1,9 @@
+pub mod OptionLemmas
+pub mod CutLemmas
+pub mod NumberLemmas
+pub mod QuoteLemmas
+pub mod LineLemmas
+pub mod StateLemmas
+pub mod StepLemmas
+pub mod RunLemmas
+pub mod WholeLemmas

@@ -1,0 +1,16 @@
+//! The text of a history, read: what it tells of each event, or the first line that is not of the form. Each history has
+//! exactly one text.
+#![tactic(auto)]
+
+mod fault;
+mod fields;
+mod history;
+mod laws;
+mod lines;
+mod reader;
+mod texts;
+
+pub use fault::HistoryFault;
+pub use fields::{MOST_ITEMS, MOST_NUMBER};
+pub use history::{MOST_HISTORY_BYTES, read_history};
+pub use laws::{law_one_line, law_one_text};
