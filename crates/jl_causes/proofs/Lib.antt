@@ -1,0 +1,10 @@
+pub mod TableLemmas
+pub mod SketchLemmas
+pub mod StandLemmas
+pub mod AlikeLemmas
+pub mod TraceLemmas
+pub mod LawLemmas
+pub mod LegalLemmas
+pub mod PlaceLemmas
+pub mod TaskLemmas
+pub mod TruthLemmas

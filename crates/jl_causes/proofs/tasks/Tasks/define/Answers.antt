@@ -1,0 +1,15 @@
+use Rattle.std.proofs.Common.{◌∙◌, ap, refl, arith, [], ◌∷◌, ◌++◌, ◌<◌, length, get_or}
+use Rattle.std.proofs.lemmas.List.{get_or_read}
+use Rattle.jl_report.specs.declared.entry.Step.TheVariants as S
+use Rattle.jl_causes.proofs.TaskLemmas.{task_defines}
+use Rattle.jl_causes.proofs.tasks.Tasks.define.Goals as goal
+
+pub returns : goal.returns
+returns c = λ es h at.
+    let (ds, k, l) = c.requires in
+    let own = c.args.self.now.own.items in
+    let task = c.args.task in
+    let site = c.args.site in
+    let within : task < length own = omega (arith, k.many_own, l) in
+    task_defines es c.args.self.now _ task site c.push.new.self refl refl refl within
+    (c.in_ok-push.ensures ∙ ap (λ xs. xs ++ S.Def site c.args.at ∷ []) (get_or_read own task c.index_mut.result.now within c.index_mut.ensures.value []) ∙ ap (λ n. get_or own task [] ++ S.Def site n ∷ []) at) h

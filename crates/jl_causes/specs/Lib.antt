@@ -1,0 +1,4 @@
+pub mod Sketch
+pub mod Causes
+pub mod Laws
+pub mod Tables

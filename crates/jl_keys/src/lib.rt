@@ -1,0 +1,6 @@
+//! Keys by their texts: which key of a program a function's name and the text of a tuple of types name.
+#![tactic(auto)]
+
+mod laws;
+
+pub use laws::{law_keys_apart, law_types_are_read};
