@@ -13,11 +13,12 @@ use std::test::Fail;
 fn a_seat_that_met_nobody_looks(rt: HostRuntime) -> Result<(), Fail> {
     let program = make_program(rt.alloc())?;
     let blank = Blank::make(rt.alloc(), &program, 100, 1, 1)?;
-    let (first, again) = look_after_a_definition::<Brand>(blank);
+    let (first, again, seen) = look_after_a_definition::<Brand>(blank);
     assert_eq!(rt; first.world, 15);
     assert_eq!(rt; first.length, 2);
     assert_eq!(rt; again.world, 15);
     assert_eq!(rt; again.length, 2);
+    assert_eq!(rt; seen, 2);
     Ok(())
 }
 
