@@ -1,9 +1,13 @@
 //! The top call over devices that fail in mid-stream.
 
+use crate::host_tests::all_operations;
 use jl_cli::run;
 use jl_io::{CleanSink, CleanSource, MemSink, MemSource};
+use jl_queue::OpenGate;
 use std::alloc::{AllocError, Global};
+use std::sync::Wait;
 use std::test::Fail;
+use std::thread::Threads;
 
 const FIRST: &[u8] = b"f(x) = x + 1\nprintln(f(2))\n";
 
@@ -11,24 +15,33 @@ const FIRST: &[u8] = b"f(x) = x + 1\nprintln(f(2))\n";
 type Answer = (u8, Vec<u8>, bool);
 
 /// What a run answers where the read of this number fails, each read giving one byte.
-fn read_failing(alloc: Global, script: &[u8], call: u64) -> Result<Answer, AllocError> {
+fn read_failing<R: Threads + Wait + Sync>(
+    rt: &R,
+    alloc: Global,
+    words: &[&str],
+    script: &[u8],
+    call: u64,
+) -> Result<Answer, AllocError> {
     let mut faults = Vec::new(alloc);
     faults.push(call)?;
     let mut source = MemSource::new(Vec::from_slice(alloc, script)?, 1, faults);
     let mut sink = CleanSink::new(alloc);
-    let ended = run(alloc, &["run"], &mut source, &mut sink);
+    let ops = all_operations(alloc)?;
+    let ended = run(rt, alloc, words, &mut source, &mut sink, &OpenGate, ops);
     let written = Vec::from_slice(alloc, sink.bytes())?;
     Ok((ended.status, written, ended.history.is_some()))
 }
 
 /// Whether a run whose read of this number fails answers so.
-fn reads_so(
+fn reads_so<R: Threads + Wait + Sync>(
+    rt: &R,
     alloc: Global,
+    words: &[&str],
     script: &[u8],
     call: u64,
     due: (u8, &str, bool),
 ) -> Result<bool, AllocError> {
-    let (status, written, history) = read_failing(alloc, script, call)?;
+    let (status, written, history) = read_failing(rt, alloc, words, script, call)?;
     Ok(status == due.0 && written.as_slice() == due.1.as_bytes() && history == due.2)
 }
 
@@ -41,7 +54,7 @@ fn each_failing_read_answers_four(rt: HostRuntime) -> Result<(), Fail> {
             (0, "3\n", true)
         };
         assert!(rt;
-            reads_so(rt.alloc(), FIRST, call, due)?,
+            reads_so(&rt, rt.alloc(), &["run"], FIRST, call, due)?,
             "read {call} fails"
         );
     }
@@ -49,9 +62,17 @@ fn each_failing_read_answers_four(rt: HostRuntime) -> Result<(), Fail> {
 }
 
 #[test]
+fn a_command_that_reads_nothing_has_no_failing_read(rt: HostRuntime) -> Result<(), Fail> {
+    let summary =
+        "generated 0\ntypes 2\ndefinitions 7\ntasks 1\nworld 20\noutput 2 bytes\nstatus 0\n";
+    assert!(rt; reads_so(&rt, rt.alloc(), &["gen", "0"], FIRST, 1, (0, summary, true))?);
+    Ok(())
+}
+
+#[test]
 fn bytes_that_are_no_text_are_told_with_their_place(rt: HostRuntime) -> Result<(), Fail> {
     let due = (3, "ERROR: line 2, column 1: BadUtf8\n", false);
-    assert!(rt; reads_so(rt.alloc(), b"x = 1\n\xff", 9, due)?);
+    assert!(rt; reads_so(&rt, rt.alloc(), &["run"], b"x = 1\n\xff", 9, due)?);
     Ok(())
 }
 
@@ -84,24 +105,34 @@ println(w(1))";
 #[test]
 fn fuel_is_spent_by_doubling_calls(rt: HostRuntime) -> Result<(), Fail> {
     let due = (1, "ERROR: FuelSpent: 10000000 calls\n", true);
-    assert!(rt; reads_so(rt.alloc(), DOUBLING, 1_000, due)?);
+    assert!(rt; reads_so(&rt, rt.alloc(), &["run"], DOUBLING, 1_000, due)?);
     Ok(())
 }
 
 /// What `println(34)` answers where the write of this number fails, each write taking one byte.
-fn write_failing(alloc: Global, call: u64) -> Result<Answer, AllocError> {
+fn write_failing<R: Threads + Wait + Sync>(
+    rt: &R,
+    alloc: Global,
+    call: u64,
+) -> Result<Answer, AllocError> {
     let mut faults = Vec::new(alloc);
     faults.push(call)?;
     let mut source = CleanSource::new(Vec::from_slice(alloc, b"println(34)")?);
     let mut sink = MemSink::new(alloc, 1, faults);
-    let ended = run(alloc, &["run"], &mut source, &mut sink);
+    let ops = all_operations(alloc)?;
+    let ended = run(rt, alloc, &["run"], &mut source, &mut sink, &OpenGate, ops);
     let written = Vec::from_slice(alloc, sink.bytes())?;
     Ok((ended.status, written, ended.history.is_some()))
 }
 
 /// Whether it writes so, and hands out its history.
-fn writes_so(alloc: Global, call: u64, due: (u8, &str)) -> Result<bool, AllocError> {
-    let (status, written, history) = write_failing(alloc, call)?;
+fn writes_so<R: Threads + Wait + Sync>(
+    rt: &R,
+    alloc: Global,
+    call: u64,
+    due: (u8, &str),
+) -> Result<bool, AllocError> {
+    let (status, written, history) = write_failing(rt, alloc, call)?;
     Ok(status == due.0 && written.as_slice() == due.1.as_bytes() && history)
 }
 
@@ -112,7 +143,10 @@ static WRITES: [(u64, u8, &str); 4] = [(1, 5, ""), (2, 5, "3"), (3, 5, "34"), (4
 fn each_failing_write_leaves_a_first_part(rt: HostRuntime) -> Result<(), Fail> {
     for (call, status, text) in &WRITES {
         let due = (*status, *text);
-        assert!(rt; writes_so(rt.alloc(), *call, due)?, "write {call} fails");
+        assert!(rt;
+            writes_so(&rt, rt.alloc(), *call, due)?,
+            "write {call} fails"
+        );
     }
     Ok(())
 }

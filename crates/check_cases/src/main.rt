@@ -10,21 +10,41 @@ mod script;
 
 use crate::script::ScriptText;
 use jl_cli::run;
+use jl_host::{HostOp, HostOps, operations};
 use jl_io::{CleanSink, CleanSource};
-use std::alloc::AllocError;
-use std::io::{self, BufRead, BufReader};
+use jl_queue::OpenGate;
+use std::alloc::{AllocError, Global};
+use std::io::{self, BufRead, BufReader, Print};
 use std::str;
+use std::sync::Wait;
+use std::thread::Threads;
 
 /// Makes the call, and gives what it wrote, its status and whether it handed out a history.
-fn called(
-    rt: &HostRuntime,
+fn called<R: Threads + Wait + Sync>(
+    rt: &R,
+    alloc: Global,
     words: &[&str],
     text: &[u8],
 ) -> Result<(Vec<u8>, u8, bool), AllocError> {
-    let alloc = rt.alloc();
+    let mut list = Vec::new(alloc);
+    list.push(HostOp::new(0, operations::add))?;
+    list.push(HostOp::new(1, operations::subtract))?;
+    list.push(HostOp::new(2, operations::multiply))?;
+    list.push(HostOp::new(3, operations::divide))?;
+    list.push(HostOp::new(4, operations::remainder))?;
+    list.push(HostOp::new(5, operations::negate))?;
+    list.push(HostOp::new(6, operations::equal))?;
+    list.push(HostOp::new(7, operations::not_equal))?;
+    list.push(HostOp::new(8, operations::less))?;
+    list.push(HostOp::new(9, operations::less_equal))?;
+    list.push(HostOp::new(10, operations::greater))?;
+    list.push(HostOp::new(11, operations::greater_equal))?;
+    list.push(HostOp::new(12, operations::not))?;
+    list.push(HostOp::new(13, operations::equal_truths))?;
+    let ops = HostOps::new(list);
     let mut source = CleanSource::new(Vec::from_slice(alloc, text)?);
     let mut sink = CleanSink::new(alloc);
-    let ended = run(alloc, words, &mut source, &mut sink);
+    let ended = run(rt, alloc, words, &mut source, &mut sink, &OpenGate, ops);
     let status = ended.status;
     let has_history = ended.history.is_some();
     drop(ended);
@@ -32,22 +52,32 @@ fn called(
 }
 
 /// Answers a script.
-fn answer(rt: &HostRuntime, words: &str, text: &[u8]) -> io::Result<()> {
-    let mut list = Vec::new(rt.alloc());
+fn answer<R: Threads + Wait + Sync + Print>(
+    rt: &R,
+    alloc: Global,
+    words: &str,
+    text: &[u8],
+) -> io::Result<()> {
+    let mut list = Vec::new(alloc);
     for word in words.split_whitespace() {
         list.push(word)?;
     }
-    let (written, status, has_history) = called(rt, list.as_slice(), text)?;
+    let (written, status, has_history) = called(rt, alloc, list.as_slice(), text)?;
     let lines = str::from_utf8(written.as_slice()).unwrap_or("no text\n");
     let history = if has_history { ", history" } else { "" };
     print!(rt; "{lines}=> {status}{history}\n")
 }
 
 /// Takes a line. The script so far stands in `script`.
-fn take(rt: &HostRuntime, script: &mut ScriptText, line: &str) -> io::Result<()> {
+fn take<R: Threads + Wait + Sync + Print>(
+    rt: &R,
+    alloc: Global,
+    script: &mut ScriptText,
+    line: &str,
+) -> io::Result<()> {
     println!(rt; "{line}")?;
     if let Some(words) = line.strip_prefix("$") {
-        answer(rt, words, script.text())?;
+        answer(rt, alloc, words, script.text())?;
         script.clear();
         return Ok(());
     }
@@ -61,7 +91,7 @@ fn main(rt: HostRuntime) -> io::Result<()> {
     let alloc = rt.alloc();
     let mut script = ScriptText::new(alloc);
     for line in BufReader::new(alloc, rt.reader())?.lines(alloc) {
-        take(&rt, &mut script, line?.as_str())?;
+        take(&rt, alloc, &mut script, line?.as_str())?;
     }
     Ok(())
 }

@@ -1,14 +1,18 @@
 -- What a call did, from what its parts answer.
-use Rattle.std.proofs.Common.{◌≡◌, ℕ, ◌<◌, ◌≤◌, List, [], ◌∷◌, take, length, refl, sym, ap, ◌∙◌, subst, Option, None, Some, inl, arith, Bool, true, false, cond, codes, bytes_eq, Ok, Err}
-use Rattle.std.specs.Borrow.{Bor}
-use Rattle.std.proofs.lemmas.Slice.Eq.{bytes_eq-Decides}
+use Rattle.std.proofs.Common.{◌≡◌, ℕ, ◌<◌, ◌≤◌, List, [], ◌∷◌, take, length, refl, sym, ◌∙◌, subst, Option, None, Some, inl, arith, codes, Result, IfOk, Ok, Err}
+use Rattle.std.specs.declared.alloc.AllocError.{AllocError}
 use Rattle.jl_calculus.specs.declared.history.History.{History}
 use Rattle.jl_program.specs.declared.tree.Program.{Program}
-use Rattle.jl_calculus.specs.Legal.{IsLegal, fuel_of, text_of, status_of}
-use Rattle.jl_solo.specs.Tasks.{HasNoTasks}
+use Rattle.jl_calculus.specs.Legal.{status_of}
+use Rattle.jl_queue.specs.declared.setup.Setup.{Setup}
+use Rattle.jl_command.specs.declared.commands.Command.{Command}
+use Rattle.jl_command.specs.declared.commands.Command.TheVariants as C
+use Rattle.jl_command.specs.declared.read.WordsFault.{WordsFault}
+use Rattle.jl_command.specs.declared.read.WordsFault.TheVariants as N
 use Rattle.jl_cli.specs.declared.answering.Due.{Due}
-use Rattle.jl_cli.specs.declared.command.Command.{Command}
-use Rattle.jl_cli.specs.declared.command.Command.TheVariants as C
+use Rattle.jl_cli.specs.declared.work.Work.{Work}
+use Rattle.jl_cli.specs.declared.work.Work.TheVariants as W
+use Rattle.jl_cli.specs.declared.work.Telling.{Telling}
 use Rattle.jl_io.specs.Moved.{Gives, NothingLeft}
 use Rattle.jl_io.proofs.MovedLemmas.{Gives-none, Takes-none}
 use Rattle.jl_token.specs.declared.token.Token.{Token}
@@ -26,99 +30,119 @@ use Rattle.jl_resolve.specs.declared.fault.StaticFault.{StaticFault}
 use Rattle.jl_resolve.specs.declared.fault.StaticFault.TheVariants as F
 use Rattle.jl_resolve.specs.Program.{IsRefused}
 use Rattle.jl_cli.specs.Place.{token_line, syntax_line, static_line}
-use Rattle.jl_cli.specs.Words.{words_of, named, command_in}
-use Rattle.jl_cli.specs.Due.{texts, run_words, check_words, IsCommand, runs, checks, default_fuel, usage_line, not_yet_read_line, ok_line, AreScript, AreProgram, IsFaultLine, no_tokens, no_script, no_program, IsDue, usage, refused, checked, not_yet_read, ran, whole, not_read, not_written, no_memory, no_memory_written, HasRun}
+use Rattle.jl_cli.specs.Work.{most_read, script_of, work_of, told, whole_setup}
+use Rattle.jl_cli.specs.Due.{usage_line, not_yet_read_line, ok_line, AreScript, IsFaultLine, no_tokens, no_script, no_program, IsHistoryIn, IsResult, counted, ran, IsOwed, refused, IsDue, usage, not_yet_read, owed, whole, not_read, not_written, no_memory, no_memory_written, HasRun}
 use Rattle.jl_cli.specs.Delivered.{IsDelivered, all, failed, no_memory as no_memory_left}
 
-pub fails : false ≡ true → ⊥
-fails h = cc
-
 -- what was due was delivered
-module _ (words : List (List ℕ)) (left left' held held' : Option (List ℕ)) (source_rose sink_rose : Type 0) (bytes : List ℕ) (read : Gives left bytes left') (limited : length bytes ≤ 1048577) where
+module _ (asked : Option Command) (left left' held held' : Option (List ℕ)) (source_rose sink_rose : Type 0) (bytes : List ℕ) (read : Gives left bytes left') (limited : length bytes ≤ most_read asked) where
   pub delivered : (st : ℕ) (h : Option History) (text : List ℕ) (status : ℕ) (history : Option History)
-      → (IsCommand words → length bytes < 1048577 → NothingLeft left') → IsDue words bytes st h text → IsDelivered held held' sink_rose st h text status history
-      → HasRun words left left' held held' source_rose sink_rose status history
-  delivered st h text _ _ ends due (all takes) = record { bytes = bytes; written = text; read = read; wrote = takes; limited = limited; all_read = λ e a b lt. ends e lt; answer = whole st h due }
-  delivered st h text _ _ ends due (failed count takes rose) = record { bytes = bytes; written = take count text; read = read; wrote = takes; limited = limited; all_read = λ e a b lt. ends e lt; answer = not_written st h text count due refl rose }
-  delivered st h text _ _ ends due (no_memory_left count takes) = record { bytes = bytes; written = take count text; read = read; wrote = takes; limited = limited; all_read = λ e a b lt. ends e lt; answer = no_memory_written st h text count due refl }
+      → (length bytes < most_read asked → NothingLeft left') → IsDue asked bytes st h text → IsDelivered held held' sink_rose st h text status history
+      → HasRun asked left left' held held' source_rose sink_rose status history
+  delivered st h text _ _ ends due (all takes) = record { bytes = bytes; written = text; read = read; wrote = takes; limited = limited; all_read = λ a b. ends; answer = whole st h due }
+  delivered st h text _ _ ends due (failed count takes rose) = record { bytes = bytes; written = take count text; read = read; wrote = takes; limited = limited; all_read = λ a b. ends; answer = not_written st h text count due refl rose }
+  delivered st h text _ _ ends due (no_memory_left count takes) = record { bytes = bytes; written = take count text; read = read; wrote = takes; limited = limited; all_read = λ a b. ends; answer = no_memory_written st h text count due refl }
+
+  -- the source failed, or memory was refused before anything was due
+  pub unread : 0 < most_read asked → source_rose → held' ≡ held → HasRun asked left left' held held' source_rose sink_rose 4 None
+  unread some rose e =
+      subst (λ (o : Option (List ℕ)). HasRun asked left left' held o source_rose sink_rose 4 None) (sym e)
+      (record { bytes = bytes; written = []; read = read; wrote = Takes-none held; limited = limited; all_read = λ four six lt. absurd (four refl); answer = not_read some refl rose })
+
+  pub refused_memory : length bytes ≤ 1048576 → held' ≡ held → HasRun asked left left' held held' source_rose sink_rose 6 None
+  refused_memory few e =
+      subst (λ (o : Option (List ℕ)). HasRun asked left left' held o source_rose sink_rose 6 None) (sym e)
+      (record { bytes = bytes; written = []; read = read; wrote = Takes-none held; limited = limited; all_read = λ four six lt. absurd (six refl refl refl); answer = no_memory few refl })
+
+-- a command reads no more than one byte past the limit of a source
+pub most_small : (c : Command) → most_read (Some c) ≤ 1048577
+most_small (C.Run threads fuel) = omega arith
+most_small (C.Trace threads fuel) = omega arith
+most_small C.Check = omega arith
+most_small C.Replay = omega arith
+most_small (C.Gen n threads fuel) = omega arith
+
+-- a call that did the same for other words, or ended with the same status and history
+pub run_along : (asked asked' : Option Command) (left left' held held' : Option (List ℕ)) (source_rose sink_rose : Type 0) (status : ℕ) (history : Option History) → asked' ≡ asked
+    → HasRun asked left left' held held' source_rose sink_rose status history → HasRun asked' left left' held held' source_rose sink_rose status history
+run_along asked asked' left left' held held' source_rose sink_rose status history e run =
+    subst (λ (a : Option Command). HasRun a left left' held held' source_rose sink_rose status history) (sym e) run
+
+pub ended_along : (asked : Option Command) (left left' held held' : Option (List ℕ)) (source_rose sink_rose : Type 0) (st status : ℕ) (history : Option History) → (status ≡ st) × (history ≡ None)
+    → HasRun asked left left' held held' source_rose sink_rose st None → HasRun asked left left' held held' source_rose sink_rose status history
+ended_along asked left left' held held' source_rose sink_rose st status history e run =
+    subst (λ (n : ℕ). HasRun asked left left' held held' source_rose sink_rose n history) (sym e.0)
+    (subst (λ (h : Option History). HasRun asked left left' held held' source_rose sink_rose st h) (sym e.1) run)
+
+-- words that are a command, or of which memory was refused to tell, are none that are refused for certain
+pub command_apart : (c : Command) → ◌≡◌ {A = Result Command WordsFault} (Ok c) (Err N.NoCommand) → ⊥
+command_apart c e = cc
+
+pub memory_apart : (f : WordsFault) → f ≡ N.Memory → ◌≡◌ {A = Result Command WordsFault} (Err f) (Err N.NoCommand) → ⊥
+memory_apart f m e = cc
 
 -- the words are no command, and the usage line was delivered
-pub used : (words : List (List ℕ)) (left held held' : Option (List ℕ)) (source_rose sink_rose : Type 0) (text : List ℕ) (status : ℕ) (history : Option History)
-    → (IsCommand words → ⊥) → text ≡ usage_line → IsDelivered held held' sink_rose 2 None text status history → HasRun words left left held held' source_rose sink_rose status history
-used words left held held' source_rose sink_rose text status history other e d =
-    delivered words left left held held' source_rose sink_rose [] (Gives-none left) (omega arith) 2 None text status history (λ is lt. absurd (other is)) (subst (λ (line : List ℕ). IsDue words [] 2 None line) (sym e) (usage words other)) d
+pub used : (left held held' : Option (List ℕ)) (source_rose sink_rose : Type 0) (text : List ℕ) (status : ℕ) (history : Option History)
+    → text ≡ usage_line → IsDelivered held held' sink_rose 2 None text status history → HasRun None left left held held' source_rose sink_rose status history
+used left held held' source_rose sink_rose text status history e d =
+    delivered None left left held held' source_rose sink_rose [] (Gives-none left) (omega arith) 2 None text status history (λ lt. absurd (omega (arith, lt)))
+    (subst (λ (line : List ℕ). IsDue None [] 2 None line) (sym e) usage) d
 
--- a read that failed, or that wanted memory
-pub unread : (left left' held : Option (List ℕ)) (source_rose sink_rose : Type 0) (words : List (List ℕ)) → IsCommand words → (bytes : List ℕ) → length bytes ≤ 1048577 → Gives left bytes left' → source_rose
-    → HasRun words left left' held held source_rose sink_rose 4 None
-unread left left' held source_rose sink_rose words is bytes within gives rose = record { bytes = bytes; written = []; read = gives; wrote = Takes-none held; limited = within; all_read = λ e four six lt. absurd (four refl); answer = not_read is refl rose }
+-- a text that was delivered is the same text
+pub delivered_along : (held held' : Option (List ℕ)) (sink_rose : Type 0) (st : ℕ) (h : Option History) (text text' : List ℕ) (status : ℕ) (history : Option History) → text ≡ text'
+    → IsDelivered held held' sink_rose st h text status history → IsDelivered held held' sink_rose st h text' status history
+delivered_along held held' sink_rose st h text text' status history e d = subst (λ (t : List ℕ). IsDelivered held held' sink_rose st h t status history) e d
 
-pub unread_for_memory : (left left' held : Option (List ℕ)) (source_rose sink_rose : Type 0) (words : List (List ℕ)) → IsCommand words → (bytes : List ℕ) → length bytes ≤ 1048576 → Gives left bytes left'
-    → HasRun words left left' held held source_rose sink_rose 6 None
-unread_for_memory left left' held source_rose sink_rose words is bytes within gives = record { bytes = bytes; written = []; read = gives; wrote = Takes-none held; limited = omega (arith, within); all_read = λ e four six lt. absurd (six refl refl refl); answer = no_memory is within refl }
+-- the line that is due for too many bytes, which only a command that reads has
+pub too_long_due : (c : Command) (bytes text : List ℕ) → 1048576 < length bytes → length bytes ≤ most_read (Some c) → text ≡ codes "ERROR: SourceTooLong\n" → IsDue (Some c) bytes 3 None text
+too_long_due c bytes text long within e = subst (λ (line : List ℕ). IsDue (Some c) bytes 3 None line) (sym e) (line_due c within)
+  where
+    too_long : (work : Work) → IsOwed work bytes 3 None (codes "ERROR: SourceTooLong\n")
+    too_long work = refused work bytes _ (no_tokens bytes T.SourceTooLong (inl (long, refl)))
 
--- the line that is due for too many bytes
-pub too_long_due : (words : List (List ℕ)) (bytes text : List ℕ) → IsCommand words → 1048576 < length bytes → text ≡ codes "ERROR: SourceTooLong\n" → IsDue words bytes 3 None text
-too_long_due words bytes text is long e = subst (λ (line : List ℕ). IsDue words bytes 3 None line) (sym e) (refused words bytes _ is (no_tokens bytes T.SourceTooLong (inl (long, refl))))
+    line_due : (c : Command) → length bytes ≤ most_read (Some c) → IsDue (Some c) bytes 3 None (codes "ERROR: SourceTooLong\n")
+    line_due (C.Run threads fuel) within = owed (C.Run threads fuel) _ bytes 3 None _ refl (too_long _)
+    line_due (C.Trace threads fuel) within = owed (C.Trace threads fuel) _ bytes 3 None _ refl (too_long _)
+    line_due C.Check within = owed C.Check W.Check bytes 3 None _ refl (too_long W.Check)
+    line_due C.Replay within = absurd (omega (arith, long, within))
+    line_due (C.Gen n threads fuel) within = absurd (omega (arith, long, within))
 
--- the words are a command exactly where the test says so
-is_command : (c : Command) → IsCommand (words_of c)
-is_command C.Run = runs
-is_command C.Check = checks
+-- an answer with a line
+pub refused_so : (d : Due) (work : Work) (script line : List ℕ) → IsFaultLine script line → (d.status ≡ 3) × (d.history ≡ None) × (d.text ≡ line) → IsOwed work script d.status d.history d.text
+refused_so d work script line fault h =
+    subst (λ (n : ℕ). IsOwed work script n d.history d.text) (sym h.0)
+    (subst (λ (o : Option History). IsOwed work script 3 o d.text) (sym h.1)
+    (subst (λ (t : List ℕ). IsOwed work script 3 None t) (sym h.2) (refused work script line fault)))
 
-named_so : (t u : Bool) (word : List ℕ) (c : Command) → (t ≡ true → word ≡ codes "run") → (u ≡ true → word ≡ codes "check") → cond t (Some C.Run) (cond u (Some C.Check) None) ≡ Some c → word ∷ [] ≡ words_of c
-named_so true u word C.Run h k e = ap (λ (x : List ℕ). x ∷ []) (h refl)
-named_so true u word C.Check h k e = cc
-named_so false true word C.Run h k e = cc
-named_so false true word C.Check h k e = ap (λ (x : List ℕ). x ∷ []) (k refl)
-named_so false false word c h k e = cc
+pub not_yet_read_so : (d : Due) (c : Command) (bytes line : List ℕ) → c ≡ C.Replay → length bytes ≤ most_read (Some c) → line ≡ not_yet_read_line → (d.status ≡ 3) × (d.history ≡ None) × (d.text ≡ line)
+    → IsDue (Some c) bytes d.status d.history d.text
+not_yet_read_so d c bytes line is within e h =
+    subst (λ (n : ℕ). IsDue (Some c) bytes n d.history d.text) (sym h.0)
+    (subst (λ (o : Option History). IsDue (Some c) bytes 3 o d.text) (sym h.1)
+    (subst (λ (t : List ℕ). IsDue (Some c) bytes 3 None t) (sym (h.2 ∙ e))
+    (subst (λ (x : Command). IsDue (Some x) bytes 3 None not_yet_read_line) (sym is)
+    (nothing bytes (subst (λ (x : Command). length bytes ≤ most_read (Some x)) is within)))))
+  where
+    nothing : (bytes : List ℕ) → length bytes ≤ 0 → IsDue (Some C.Replay) bytes 3 None not_yet_read_line
+    nothing [] few = not_yet_read
+    nothing (b ∷ bs) few = absurd (omega (arith, few))
 
-pub command_yes : (ws : List (Bor (List ℕ))) (c : Command) → command_in ws ≡ Some c → texts ws ≡ words_of c
-command_yes [] c e = cc
-command_yes (w ∷ []) c e = named_so (bytes_eq w.now (codes "run")) (bytes_eq w.now (codes "check")) w.now c (bytes_eq-Decides w.now (codes "run")).0 (bytes_eq-Decides w.now (codes "check")).0 e
-command_yes (w ∷ (v ∷ ws)) c e = cc
+-- a command owes what its work on its script owes
+pub owed_so : (d : Due) (c like : Command) (work given : Work) (bytes : List ℕ) → c ≡ like → given ≡ work → work_of like ≡ Some work → IsOwed given (script_of like bytes) d.status d.history d.text
+    → IsDue (Some c) bytes d.status d.history d.text
+owed_so d c like work given bytes is same works o =
+    subst (λ (x : Command). IsDue (Some x) bytes d.status d.history d.text) (sym is)
+    (owed like work bytes d.status d.history d.text works (subst (λ (w : Work). IsOwed w (script_of like bytes) d.status d.history d.text) same o))
 
-pub command_is : (ws : List (Bor (List ℕ))) (c : Command) → command_in ws ≡ Some c → IsCommand (texts ws)
-command_is ws c e = subst IsCommand (sym (command_yes ws c e)) (is_command c)
+-- the same of an answer that may be want of memory
+pub all_owed : (r : Result Due AllocError) (c like : Command) (work given : Work) (bytes : List ℕ) → c ≡ like → given ≡ work → work_of like ≡ Some work
+    → IfOk r (λ d. IsOwed given (script_of like bytes) d.status d.history d.text) → IfOk r (λ d. IsDue (Some c) bytes d.status d.history d.text)
+all_owed (Ok d) c like work given bytes is same works o = owed_so d c like work given bytes is same works o
+all_owed (Err e) c like work given bytes is same works o = o
 
-unnamed : (t u : Bool) → cond t (Some C.Run) (cond u (Some C.Check) None) ≡ None → (t ≡ false) × (u ≡ false)
-unnamed true u e = cc
-unnamed false true e = cc
-unnamed false false e = (refl, refl)
-
-other_word : (word : List ℕ) → named word ≡ None → (words : List (List ℕ)) → words ≡ word ∷ [] → IsCommand words → ⊥
-other_word word e _ is runs =
-    let off = unnamed (bytes_eq word (codes "run")) (bytes_eq word (codes "check")) e in
-    let same : word ≡ codes "run" = cc in
-    fails (sym off.0 ∙ (bytes_eq-Decides word (codes "run")).1 same)
-other_word word e _ is checks =
-    let off = unnamed (bytes_eq word (codes "run")) (bytes_eq word (codes "check")) e in
-    let same : word ≡ codes "check" = cc in
-    fails (sym off.1 ∙ (bytes_eq-Decides word (codes "check")).1 same)
-
-no_words : (words : List (List ℕ)) → words ≡ [] → IsCommand words → ⊥
-no_words _ is runs = cc
-no_words _ is checks = cc
-
-more_words : (words : List (List ℕ)) (w v : List ℕ) (ws : List (List ℕ)) → words ≡ w ∷ (v ∷ ws) → IsCommand words → ⊥
-more_words _ w v ws is runs = cc
-more_words _ w v ws is checks = cc
-
-pub command_no : (ws : List (Bor (List ℕ))) → command_in ws ≡ None → IsCommand (texts ws) → ⊥
-command_no [] e = no_words [] refl
-command_no (w ∷ []) e = other_word w.now e (w.now ∷ []) refl
-command_no (w ∷ (v ∷ ws)) e = more_words (texts (w ∷ (v ∷ ws))) w.now v.now (texts ws) refl
-
--- an answer with the line of a refused source
-pub refused_so : (d : Due) (words : List (List ℕ)) (bytes line : List ℕ) → IsDue words bytes 3 None line
-    → (d.status ≡ 3) × (d.history ≡ None) × (d.text ≡ line) → IsDue words bytes d.status d.history d.text
-refused_so d words bytes line due h =
-    subst (λ (n : ℕ). IsDue words bytes n d.history d.text) (sym h.0)
-    (subst (λ (o : Option History). IsDue words bytes 3 o d.text) (sym h.1)
-    (subst (λ (t : List ℕ). IsDue words bytes 3 None t) (sym h.2) due))
-
-pub refused_under : (d : Due) (c : Command) (bytes line : List ℕ) → IsFaultLine bytes line → (d.status ≡ 3) × (d.history ≡ None) × (d.text ≡ line) → IsDue (words_of c) bytes d.status d.history d.text
-refused_under d c bytes line fault h = refused_so d (words_of c) bytes line (refused (words_of c) bytes line (is_command c) fault) h
+-- a setup with these numbers
+pub setup_is : (s : Setup) (threads fuel : ℕ) → (s.threads ≡ threads) × (s.fuel ≡ fuel) → (s.keys ≡ 8192) × (s.rows ≡ 16384) → s ≡ whole_setup threads fuel
+setup_is s threads fuel e f = λ i. record { threads = e.0 i; fuel = e.1 i; keys = f.0 i; rows = f.1 i }
 
 -- the line of a fault, where a text is that line
 pub line_along : (bytes line text : List ℕ) → text ≡ line → IsFaultLine bytes line → IsFaultLine bytes text
@@ -146,21 +170,15 @@ pub no_program_line : (bytes : List ℕ) (s : Script) (f : StaticFault) → AreS
 no_program_line bytes s (F.At kind at) are refusal told = no_program bytes s at kind are refusal
 no_program_line bytes s F.Memory are refusal told = absurd (told refl)
 
--- what is due for a program that spawns tasks
-pub not_run_due : (d : Due) (bytes line : List ℕ) (P : Program) → (HasNoTasks P → ⊥) → line ≡ not_yet_read_line → (d.status ≡ 3) × (d.history ≡ None) × (d.text ≡ line) → AreProgram bytes P
-    → IsDue run_words bytes d.status d.history d.text
-not_run_due d bytes line P other e h are = refused_so d run_words bytes line (subst (λ (t : List ℕ). IsDue run_words bytes 3 None t) (sym e) (not_yet_read bytes P are other)) h
+-- what work on a program comes to, where the status and the text are these
+pub ran_so : (setup : Setup) (telling : Telling) (P : Program) (h : History) (status : ℕ) (text : List ℕ) → IsHistoryIn P setup h → status ≡ status_of h.events → text ≡ told telling P h.events
+    → IsResult (W.Run setup telling) P status (Some h) text
+ran_so setup telling P h status text is st tx =
+    subst (λ (n : ℕ). IsResult (W.Run setup telling) P n (Some h) text) (sym st)
+    (subst (λ (t : List ℕ). IsResult (W.Run setup telling) P (status_of h.events) (Some h) t) (sym tx) (ran setup telling P h is))
 
--- an answer with the history of a program
-pub ran_so : (bytes text : List ℕ) (status : ℕ) (P : Program) (h : History) → HasNoTasks P
-    → IsLegal P h.events → fuel_of h.events ≡ Some default_fuel → status ≡ status_of h.events → text ≡ text_of P h.events → AreProgram bytes P → IsDue run_words bytes status (Some h) text
-ran_so bytes text status P h simple legal begun st tx are =
-    subst (λ (n : ℕ). IsDue run_words bytes n (Some h) text) (sym st)
-    (subst (λ (t : List ℕ). IsDue run_words bytes (status_of h.events) (Some h) t) (sym tx) (ran bytes P h are simple legal begun))
-
--- the counts of a program
-pub checked_so : (bytes text : List ℕ) (P : Program) → text ≡ ok_line P → AreProgram bytes P → IsDue check_words bytes 0 None text
-checked_so bytes text P e are = subst (λ (t : List ℕ). IsDue check_words bytes 0 None t) (sym e) (checked bytes P are)
+pub checked_so : (P : Program) (text : List ℕ) → text ≡ ok_line P → IsResult W.Check P 0 None text
+checked_so P text e = subst (λ (t : List ℕ). IsResult W.Check P 0 None t) (sym e) (counted P)
 
 -- the lines as the code writes them
 pub not_yet_read_is : codes "ERROR: NotYetRead\n" ≡ not_yet_read_line
@@ -171,11 +189,10 @@ pub usage_is : codes "usage: jl run|trace [--threads N] [--fuel N] | jl check|re
 unfolding usage_line
 usage_is = refl
 
--- what is due for the same words, bytes and text
-pub due_along : (ws ws' : List (List ℕ)) (bs bs' t t' : List ℕ) (st : ℕ) (h : Option History) → ws' ≡ ws → bs ≡ bs' → t' ≡ t → IsDue ws bs st h t → IsDue ws' bs' st h t'
-due_along ws ws' bs bs' t t' st h e f g due =
-    subst (λ (x : List (List ℕ)). IsDue x bs' st h t') (sym e)
-    (subst (λ (x : List ℕ). IsDue ws x st h t') f (subst (λ (x : List ℕ). IsDue ws bs st h x) (sym g) due))
+-- what is due for the same bytes and text
+pub due_along : (asked : Option Command) (bs bs' t t' : List ℕ) (st : ℕ) (h : Option History) → bs ≡ bs' → t' ≡ t → IsDue asked bs st h t → IsDue asked bs' st h t'
+due_along asked bs bs' t t' st h f g due =
+    subst (λ (x : List ℕ). IsDue asked x st h t') f (subst (λ (x : List ℕ). IsDue asked bs st h x) (sym g) due)
 
 -- what is read is well formed
 pub formed : (bytes : List ℕ) (s : Script) → AreScript bytes s → FormedScript s

@@ -1,8 +1,9 @@
 -- Bytes that are a program have no fault, and mean one program alone.
-use Rattle.std.proofs.Common.{◌≡◌, ◌↔◌, ℕ, List, Option, Ok, Err, refl, sym, subst, arith}
+use Rattle.std.proofs.Common.{◌≡◌, ◌↔◌, ℕ, List, Option, None, Some, Ok, Err, refl, sym, subst, arith}
+use Rattle.std.specs.Prelude.{IsSome}
 use Rattle.jl_calculus.specs.declared.history.History.{History}
+use Rattle.jl_calculus.specs.Legal.{status_of}
 use Rattle.jl_program.specs.declared.tree.Program.{Program}
-use Rattle.jl_solo.specs.Tasks.{HasNoTasks}
 use Rattle.jl_grammar.specs.declared.tree.Script.{Script}
 use Rattle.jl_token.specs.declared.token.Token.{Token}
 use Rattle.jl_token.specs.declared.token.TokenFault.{TokenFault}
@@ -12,10 +13,17 @@ use Rattle.jl_reader.specs.declared.fault.SyntaxFault.{SyntaxFault}
 use Rattle.jl_reader.specs.Answers.{Reads}
 use Rattle.jl_reader.proofs.OneAnswer.{reads_once}
 use Rattle.jl_resolve.specs.Program.{IsProgramOf}
-use Rattle.jl_resolve.proofs.OneMeaning.{no_fault, one_program}
-use Rattle.jl_cli.specs.Due.{run_words, check_words, IsCommand, runs, checks, AreScript, AreProgram, IsFaultLine, no_tokens, no_script, no_program, IsDue, usage, refused, checked, not_yet_read, ran}
-use Rattle.jl_cli.specs.Laws.{IsProgram, IsProgramAlone}
-use Rattle.jl_cli.proofs.LawLemmas.{ran_small}
+use Rattle.jl_resolve.proofs.OneMeaning.{no_fault}
+use Rattle.jl_queue.specs.declared.setup.Setup.{Setup}
+use Rattle.jl_command.specs.declared.commands.Command.{Command}
+use Rattle.jl_command.specs.declared.commands.Command.TheVariants as C
+use Rattle.jl_cli.specs.declared.work.Work.{Work}
+use Rattle.jl_cli.specs.declared.work.Work.TheVariants as W
+use Rattle.jl_cli.specs.declared.work.Telling.{Telling}
+use Rattle.jl_cli.specs.Work.{script_of, work_of}
+use Rattle.jl_cli.specs.Due.{AreScript, IsFaultLine, no_tokens, no_script, no_program, IsResult, counted, ran, IsOwed, refused, worked, IsDue, usage, not_yet_read, owed}
+use Rattle.jl_cli.specs.Laws.{IsProgram}
+use Rattle.jl_cli.proofs.LawLemmas.{result_small}
 
 -- the tokens, and the script, are the same
 same_tokens : (bytes : List ℕ) (ts us : List Token) → ReadsSource bytes (Ok ts) → ReadsSource bytes (Ok us) → ts ≡ us
@@ -25,10 +33,6 @@ same_script : (bytes : List ℕ) (s t : Script) → AreScript bytes s → AreScr
 same_script bytes s t h k =
     let r : Reads h.0 (Ok t) = subst (λ (ts : List Token). Reads ts (Ok t)) (sym (same_tokens bytes h.0 k.0 h.1 k.1)) k.2 in
     let e = reads_once h.0 (Ok s) (Ok t) h.2 r in cc
-
-same_program : (bytes : List ℕ) (P Q : Program) → AreProgram bytes P → AreProgram bytes Q → P ≡ Q
-same_program bytes P Q h k =
-    one_program h.0 P Q h.2 (subst (λ (s : Script). IsProgramOf s Q) (sym (same_script bytes h.0 k.0 h.1 k.1)) k.2)
 
 tokens_apart : (bytes : List ℕ) (ts : List Token) (f : TokenFault) → ReadsSource bytes (Ok ts) → ReadsSource bytes (Err f) → ⊥
 tokens_apart bytes ts f h k = let e = one-source bytes (Ok ts) (Err f) h k in cc
@@ -45,35 +49,90 @@ fault_apart _ _ (no_script bytes ts f tokens reads) (P, are) = script_apart byte
 fault_apart _ _ (no_program bytes s at kind script fault) (P, are) =
     no_fault s P at kind (subst (λ (t : Script). IsProgramOf t P) (same_script bytes are.0 s are.1 script) are.2) fault
 
-apart : check_words ≡ run_words → ⊥
-apart e = cc
+-- ---- status 3
 
-check_program : (words : List (List ℕ)) (bytes : List ℕ) (status : ℕ) (h : Option History) (text : List ℕ) → IsDue words bytes status h text → words ≡ check_words → (status ≡ 0) ↔ IsProgram bytes
-check_program _ _ _ _ _ (usage words other) e = absurd (other (subst IsCommand (sym e) checks))
-check_program _ _ _ _ _ (refused words bytes line is fault) e = (λ z. absurd (omega (arith, z)), λ p. absurd (fault_apart bytes line fault p))
-check_program _ _ _ _ _ (checked bytes P are) e = (λ z. (P, are), λ p. refl)
-check_program _ _ _ _ _ (not_yet_read bytes P are other_form) e = absurd (apart (sym e))
-check_program _ _ _ _ _ (ran bytes P h are simple legal begun) e = absurd (apart (sym e))
+owed_none : (work : Work) (script : List ℕ) (status : ℕ) (h : Option History) (text : List ℕ) → IsOwed work script status h text → (status ≡ 3) ↔ (IsProgram script → ⊥)
+owed_none _ _ _ _ _ (refused work script line fault) = (λ z p. fault_apart script line fault p, λ no_. refl)
+owed_none _ _ _ _ _ (worked work script P status h text are result) = (λ z. absurd (result_small work P status h text 1 result z), λ no_. absurd (no_ (P, are)))
 
-check_none : (words : List (List ℕ)) (bytes : List ℕ) (status : ℕ) (h : Option History) (text : List ℕ) → IsDue words bytes status h text → words ≡ check_words → (status ≡ 3) ↔ (IsProgram bytes → ⊥)
-check_none _ _ _ _ _ (usage words other) e = absurd (other (subst IsCommand (sym e) checks))
-check_none _ _ _ _ _ (refused words bytes line is fault) e = (λ z p. fault_apart bytes line fault p, λ no_. refl)
-check_none _ _ _ _ _ (checked bytes P are) e = (λ z. absurd (omega (arith, z)), λ no_. absurd (no_ (P, are)))
-check_none _ _ _ _ _ (not_yet_read bytes P are other_form) e = absurd (apart (sym e))
-check_none _ _ _ _ _ (ran bytes P h are simple legal begun) e = absurd (apart (sym e))
+due_none : (asked : Option Command) (bytes : List ℕ) (status : ℕ) (h : Option History) (text : List ℕ) (c : Command) (work : Work) → work_of c ≡ Some work → IsDue asked bytes status h text → asked ≡ Some c
+    → (status ≡ 3) ↔ (IsProgram (script_of c bytes) → ⊥)
+due_none _ _ _ _ _ c work works usage e = cc
+due_none _ _ _ _ _ c work works not_yet_read e =
+    let is : c ≡ C.Replay = cc in
+    let none_ : None ≡ Some work = subst (λ (x : Command). work_of x ≡ Some work) is works in
+    cc
+due_none _ _ _ _ _ c work works (owed d done bytes status h text worked_ o) e =
+    let is : d ≡ c = cc in
+    subst (λ (x : Command). (status ≡ 3) ↔ (IsProgram (script_of x bytes) → ⊥)) is (owed_none done (script_of d bytes) status h text o)
 
-pub check_program_law : (bytes : List ℕ) (status : ℕ) (h : Option History) (text : List ℕ) → IsDue check_words bytes status h text → (status ≡ 0) ↔ IsProgram bytes
-check_program_law bytes status h text due = check_program check_words bytes status h text due refl
+pub none_law : (c : Command) (work : Work) (bytes : List ℕ) (status : ℕ) (h : Option History) (text : List ℕ) → work_of c ≡ Some work → IsDue (Some c) bytes status h text → (status ≡ 3) ↔ (IsProgram (script_of c bytes) → ⊥)
+none_law c work bytes status h text works due = due_none (Some c) bytes status h text c work works due refl
 
-pub check_none_law : (bytes : List ℕ) (status : ℕ) (h : Option History) (text : List ℕ) → IsDue check_words bytes status h text → (status ≡ 3) ↔ (IsProgram bytes → ⊥)
-check_none_law bytes status h text due = check_none check_words bytes status h text due refl
+-- ---- status 0 of a check
 
-run_none : (words : List (List ℕ)) (bytes : List ℕ) (status : ℕ) (h : Option History) (text : List ℕ) → IsDue words bytes status h text → words ≡ run_words → (status ≡ 3) ↔ (IsProgramAlone bytes → ⊥)
-run_none _ _ _ _ _ (usage words other) e = absurd (other (subst IsCommand (sym e) runs))
-run_none _ _ _ _ _ (refused words bytes line is fault) e = (λ z p. fault_apart bytes line fault (p.0, p.1), λ no_. refl)
-run_none _ _ _ _ _ (checked bytes P are) e = absurd (apart e)
-run_none _ _ _ _ _ (not_yet_read bytes P are other_form) e = (λ z p. other_form (subst HasNoTasks (same_program bytes p.0 P p.1 are) p.2), λ no_. refl)
-run_none _ _ _ _ _ (ran bytes P h are simple legal begun) e = (λ z. absurd (ran_small h 1 z), λ no_. absurd (no_ (P, are, simple)))
+result_zero : (work : Work) (P : Program) (status : ℕ) (h : Option History) (text : List ℕ) → IsResult work P status h text → work ≡ W.Check → status ≡ 0
+result_zero _ _ _ _ _ (counted P) e = refl
+result_zero _ _ _ _ _ (ran setup telling P h is) e = cc
 
-pub run_law : (bytes : List ℕ) (status : ℕ) (h : Option History) (text : List ℕ) → IsDue run_words bytes status h text → (status ≡ 3) ↔ (IsProgramAlone bytes → ⊥)
-run_law bytes status h text due = run_none run_words bytes status h text due refl
+owed_checked : (work : Work) (script : List ℕ) (status : ℕ) (h : Option History) (text : List ℕ) → IsOwed work script status h text → work ≡ W.Check → (status ≡ 0) ↔ IsProgram script
+owed_checked _ _ _ _ _ (refused work script line fault) e = (λ z. absurd (omega (arith, z)), λ p. absurd (fault_apart script line fault p))
+owed_checked _ _ _ _ _ (worked work script P status h text are result) e = (λ z. (P, are), λ p. result_zero work P status h text result e)
+
+due_checked : (asked : Option Command) (bytes : List ℕ) (status : ℕ) (h : Option History) (text : List ℕ) → IsDue asked bytes status h text → asked ≡ Some C.Check → (status ≡ 0) ↔ IsProgram bytes
+due_checked _ _ _ _ _ usage e = cc
+due_checked _ _ _ _ _ not_yet_read e = cc
+due_checked _ _ _ _ _ (owed c work bytes status h text works o) e =
+    let is : c ≡ C.Check = cc in
+    let same : Some W.Check ≡ Some work = subst (λ (x : Command). work_of x ≡ Some work) is works in
+    let back : work ≡ W.Check = cc in
+    owed_checked work bytes status h text (subst (λ (x : Command). IsOwed work (script_of x bytes) status h text) is o) back
+
+pub checked_law : (bytes : List ℕ) (status : ℕ) (h : Option History) (text : List ℕ) → IsDue (Some C.Check) bytes status h text → (status ≡ 0) ↔ IsProgram bytes
+checked_law bytes status h text due = due_checked (Some C.Check) bytes status h text due refl
+
+-- ---- the history of a run, and its status
+
+result_some : (work : Work) (P : Program) (status : ℕ) (h : Option History) (text : List ℕ) (setup : Setup) (telling : Telling) → IsResult work P status h text → work ≡ W.Run setup telling → IsSome h
+result_some _ _ _ _ _ setup telling (counted P) e = cc
+result_some _ _ _ _ _ setup telling (ran s t P h is) e = refl
+
+nothing_there : IsSome {T = History} None → ⊥
+nothing_there e = cc
+
+owed_some : (work : Work) (script : List ℕ) (status : ℕ) (h : Option History) (text : List ℕ) (setup : Setup) (telling : Telling) → IsOwed work script status h text → work ≡ W.Run setup telling → IsSome h ↔ IsProgram script
+owed_some _ _ _ _ _ setup telling (refused work script line fault) e = (λ s. absurd (nothing_there s), λ p. absurd (fault_apart script line fault p))
+owed_some _ _ _ _ _ setup telling (worked work script P status h text are result) e = (λ s. (P, are), λ p. result_some work P status h text setup telling result e)
+
+due_some : (asked : Option Command) (bytes : List ℕ) (status : ℕ) (h : Option History) (text : List ℕ) (c : Command) (setup : Setup) (telling : Telling) → work_of c ≡ Some (W.Run setup telling) → IsDue asked bytes status h text
+    → asked ≡ Some c → IsSome h ↔ IsProgram (script_of c bytes)
+due_some _ _ _ _ _ c setup telling works usage e = cc
+due_some _ _ _ _ _ c setup telling works not_yet_read e =
+    let is : c ≡ C.Replay = cc in
+    let none_ : None ≡ Some (W.Run setup telling) = subst (λ (x : Command). work_of x ≡ Some (W.Run setup telling)) is works in
+    cc
+due_some _ _ _ _ _ c setup telling works (owed d work bytes status h text given o) e =
+    let is : d ≡ c = cc in
+    let same : work_of c ≡ Some work = subst (λ (x : Command). work_of x ≡ Some work) is given in
+    let back : work ≡ W.Run setup telling = cc in
+    subst (λ (x : Command). IsSome h ↔ IsProgram (script_of x bytes)) is (owed_some work (script_of d bytes) status h text setup telling o back)
+
+pub run_history_law : (c : Command) (setup : Setup) (telling : Telling) (bytes : List ℕ) (status : ℕ) (h : Option History) (text : List ℕ) → work_of c ≡ Some (W.Run setup telling) → IsDue (Some c) bytes status h text
+    → IsSome h ↔ IsProgram (script_of c bytes)
+run_history_law c setup telling bytes status h text works due = due_some (Some c) bytes status h text c setup telling works due refl
+
+result_outcome : (work : Work) (P : Program) (status : ℕ) (o : Option History) (text : List ℕ) (h : History) → IsResult work P status o text → o ≡ Some h → status ≡ status_of h.events
+result_outcome _ _ _ _ _ h (counted P) e = cc
+result_outcome _ _ _ _ _ h (ran setup telling P g is) e = let same : g ≡ h = cc in subst (λ (x : History). status_of g.events ≡ status_of x.events) same refl
+
+owed_outcome : (work : Work) (script : List ℕ) (status : ℕ) (o : Option History) (text : List ℕ) (h : History) → IsOwed work script status o text → o ≡ Some h → status ≡ status_of h.events
+owed_outcome _ _ _ _ _ h (refused work script line fault) e = cc
+owed_outcome _ _ _ _ _ h (worked work script P status o text are result) e = result_outcome work P status o text h result e
+
+due_outcome : (asked : Option Command) (bytes : List ℕ) (status : ℕ) (o : Option History) (text : List ℕ) (h : History) → IsDue asked bytes status o text → o ≡ Some h → status ≡ status_of h.events
+due_outcome _ _ _ _ _ h usage e = cc
+due_outcome _ _ _ _ _ h not_yet_read e = cc
+due_outcome _ _ _ _ _ h (owed c work bytes status o text works owes) e = owed_outcome work (script_of c bytes) status o text h owes e
+
+pub outcome_law : (c : Command) (bytes : List ℕ) (status : ℕ) (h : History) (text : List ℕ) → IsDue (Some c) bytes status (Some h) text → status ≡ status_of h.events
+outcome_law c bytes status h text due = due_outcome (Some c) bytes status (Some h) text h due refl

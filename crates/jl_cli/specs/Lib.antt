@@ -1,5 +1,5 @@
+pub mod Work
 pub mod Due
-pub mod Words
 pub mod Laws
 pub mod Delivered
 pub mod Place

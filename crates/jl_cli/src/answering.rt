@@ -1,26 +1,39 @@
 //! What is due for a script's bytes.
 
-ghost use Rattle.std.specs.Prelude.{◌≡◌, ℕ, List, None, IfOk, MatchResult, drop, length};
+ghost use Rattle.std.specs.Prelude.{◌≡◌, ◌≤◌, None, Some, IfOk, MatchResult, drop, length};
 ghost use Rattle.jl_program.specs.Prelude.{prelude_count};
-ghost use Rattle.jl_cli.specs.Due.{IsDue, IsFaultLine, AreScript, AreProgram, run_words, check_words, ok_line};
-ghost use Rattle.jl_cli.specs.Words.{words_of};
+ghost use Rattle.jl_queue.specs.Setups.{IsSetup};
+ghost use Rattle.jl_gen.specs.declared.numbers.TheConstants.{MOST_NUMBER};
+ghost use Rattle.jl_gen.specs.Script.{script_text};
+ghost use Rattle.jl_cli.specs.declared.work.Telling.TheVariants as T;
+ghost use Rattle.jl_cli.specs.declared.work.Work.TheVariants as W;
+ghost use Rattle.jl_cli.specs.Due.{IsDue, IsOwed, IsResult, IsFaultLine, AreScript, ok_line};
+ghost use Rattle.jl_command.specs.Rule.{IsInRange};
+ghost use Rattle.jl_cli.specs.Work.{IsSetUp, most_read};
 
-use crate::command::Command;
-use crate::faults::{line, static_line, syntax_line, token_line};
+use crate::faults::{NOT_YET_READ, line, static_line, syntax_line, token_line};
 use crate::place::append_number;
+use crate::telling::told;
+use crate::work::{Telling, Work};
 use jl_calculus::history::History;
+use jl_command::Command;
+use jl_gen::script_of;
 use jl_grammar::tree::Script;
-use jl_model::limits::DEFAULT_FUEL;
+use jl_host::HostOps;
 use jl_model::rows::Row;
 use jl_model::ty::Bytes;
 use jl_program::prelude::PRELUDE_SITES;
 use jl_program::tree::Program;
+use jl_queue::{Gate, Setup};
 use jl_reader::read;
+use jl_report::status;
 use jl_resolve::program;
+use jl_runner::run_tasks;
 use jl_sig::Ready;
-use jl_solo::{has_no_tasks, run_alone, status, text};
 use jl_token::tokens;
 use std::alloc::{AllocError, Global};
+use std::sync::Wait;
+use std::thread::Threads;
 
 /// What is due: a status, a history and a text.
 #[derive(Drop)]
@@ -30,7 +43,7 @@ pub(crate) struct Due {
     pub(crate) text: Bytes,
 }
 
-/// The answer to a source that is no program, with its line.
+/// The answer where nothing is done, with its line.
 fn refused(text: Bytes) -> Due
     ensures { (result.status ≡ 3) × (result.history ≡ None) × (result.text ≡ text) }
 {
@@ -55,16 +68,21 @@ fn script(alloc: Global, bytes: &[u8]) -> Result<Result<Script, Bytes>, AllocErr
     }
 }
 
-/// What is due where a program is to be run.
-fn ran(alloc: Global, ready: &Ready) -> Result<Due, AllocError>
-    ensures { IfOk result (λ due. (bytes : List ℕ) → AreProgram bytes ready.now → IsDue run_words bytes due.status due.history due.text) }
+/// What a run of a program comes to.
+fn ran<R: Threads + Wait + Sync, G: Gate>(
+    rt: &R,
+    alloc: Global,
+    ready: &Ready,
+    setup: Setup,
+    telling: Telling,
+    gate: &G,
+    ops: &HostOps,
+) -> Result<Due, AllocError>
+    requires { IsSetup setup }
+    ensures { IfOk result (λ due. IsResult (W.Run setup telling) ready.now due.status due.history due.text) }
 {
-    let program = ready.program();
-    if !has_no_tasks(ready) {
-        return Ok(refused(line(alloc, b"ERROR: NotYetRead\n")?));
-    }
-    let history = run_alone(alloc, ready, DEFAULT_FUEL)?;
-    let text = text(alloc, program, &history)?;
+    let history = run_tasks(rt, alloc, ready, &setup, gate, ops)?;
+    let text = told(alloc, telling, ready, &history)?;
     let status = status(&history);
     Ok(Due {
         status,
@@ -93,11 +111,11 @@ fn ok_line(alloc: Global, program: &Program) -> Result<Bytes, AllocError>
     out.into_shared(alloc)
 }
 
-/// What is due where a program is only to be checked.
-fn checked(alloc: Global, program: &Program) -> Result<Due, AllocError>
-    ensures { IfOk result (λ due. (bytes : List ℕ) → AreProgram bytes program.now → IsDue check_words bytes due.status due.history due.text) }
+/// What a check of a program comes to.
+fn checked(alloc: Global, ready: &Ready) -> Result<Due, AllocError>
+    ensures { IfOk result (λ due. IsResult W.Check ready.now due.status due.history due.text) }
 {
-    let text = ok_line(alloc, program)?;
+    let text = ok_line(alloc, ready.program())?;
     Ok(Due {
         status: 0,
         history: None,
@@ -105,29 +123,41 @@ fn checked(alloc: Global, program: &Program) -> Result<Due, AllocError>
     })
 }
 
-/// What a command owes for a program.
-fn owed(alloc: Global, command: Command, ready: &Ready) -> Result<Due, AllocError>
-    ensures { IfOk result (λ due. (bytes : List ℕ) → AreProgram bytes ready.now → IsDue (words_of command) bytes due.status due.history due.text) }
+/// What work on a program comes to.
+fn result_of<R: Threads + Wait + Sync, G: Gate>(
+    rt: &R,
+    alloc: Global,
+    work: Work,
+    ready: &Ready,
+    gate: &G,
+    ops: &HostOps,
+) -> Result<Due, AllocError>
+    requires { IsSetUp work }
+    ensures { IfOk result (λ due. IsResult work ready.now due.status due.history due.text) }
 {
-    match command {
-        Command::Run => ran(alloc, ready),
-        Command::Check => checked(alloc, ready.program()),
+    match work {
+        Work::Check => checked(alloc, ready),
+        Work::Run(setup, telling) => ran(rt, alloc, ready, setup, telling, gate, ops),
     }
 }
 
-/// What a command owes for the script that these bytes are.
-fn owed_for(
+/// What work on the script that these bytes are comes to.
+fn owed_for<R: Threads + Wait + Sync, G: Gate>(
+    rt: &R,
     alloc: Global,
-    command: Command,
+    work: Work,
     bytes: &[u8],
     script: &Script,
+    gate: &G,
+    ops: &HostOps,
 ) -> Result<Due, AllocError>
-    requires { AreScript bytes.now script.now }
-    ensures { IfOk result (λ due. IsDue (words_of command) bytes.now due.status due.history due.text) }
+    requires script { AreScript bytes.now script.now }
+    requires setup { IsSetUp work }
+    ensures { IfOk result (λ due. IsOwed work bytes.now due.status due.history due.text) }
 {
     match program(alloc, script) {
         Ok(ready) => {
-            let due = owed(alloc, command, &ready);
+            let due = result_of(rt, alloc, work, &ready, gate, ops);
             drop(ready);
             let due = due?;
             Ok(due)
@@ -139,16 +169,82 @@ fn owed_for(
     }
 }
 
-/// What a command owes for these bytes, of which there may be one past the limit.
-pub(crate) fn answer(alloc: Global, command: Command, bytes: &[u8]) -> Result<Due, AllocError>
-    ensures { IfOk result (λ due. IsDue (words_of command) bytes.now due.status due.history due.text) }
+/// What work on these bytes comes to.
+fn owed<R: Threads + Wait + Sync, G: Gate>(
+    rt: &R,
+    alloc: Global,
+    work: Work,
+    bytes: &[u8],
+    gate: &G,
+    ops: &HostOps,
+) -> Result<Due, AllocError>
+    requires { IsSetUp work }
+    ensures { IfOk result (λ due. IsOwed work bytes.now due.status due.history due.text) }
 {
     let script = match script(alloc, bytes)? {
         Ok(script) => script,
         Err(line) => return Ok(refused(line)),
     };
-    let due = owed_for(alloc, command, bytes, &script);
+    let due = owed_for(rt, alloc, work, bytes, &script, gate, ops);
     drop(script);
     let due = due?;
     Ok(due)
+}
+
+/// What a run of the generated script of a number owes.
+fn generated<R: Threads + Wait + Sync, G: Gate>(
+    rt: &R,
+    alloc: Global,
+    n: u32,
+    setup: Setup,
+    gate: &G,
+    ops: &HostOps,
+) -> Result<Due, AllocError>
+    requires number { n ≤ MOST_NUMBER }
+    requires setup { IsSetup setup }
+    ensures { IfOk result (λ due. IsOwed (W.Run setup (T.Summary n)) (script_text n) due.status due.history due.text) }
+{
+    let text = script_of(alloc, n)?;
+    owed(
+        rt,
+        alloc,
+        Work::Run(setup, Telling::Summary(n)),
+        text.as_slice(),
+        gate,
+        ops,
+    )
+}
+
+/// What a command owes, where these bytes were read, of which there may be one past the limit of a source.
+pub(crate) fn answer<R: Threads + Wait + Sync, G: Gate>(
+    rt: &R,
+    alloc: Global,
+    command: Command,
+    bytes: &[u8],
+    gate: &G,
+    ops: &HostOps,
+) -> Result<Due, AllocError>
+    requires ranges { IsInRange command }
+    requires limited { length bytes.now ≤ most_read (Some command) }
+    ensures { IfOk result (λ due. IsDue (Some command) bytes.now due.status due.history due.text) }
+{
+    match command {
+        Command::Run(threads, fuel) => {
+            let work = Work::Run(Setup::with_whole_cache(threads, fuel), Telling::Text);
+            owed(rt, alloc, work, bytes, gate, ops)
+        }
+        Command::Trace(threads, fuel) => {
+            let work = Work::Run(Setup::with_whole_cache(threads, fuel), Telling::Trace);
+            owed(rt, alloc, work, bytes, gate, ops)
+        }
+        Command::Check => owed(rt, alloc, Work::Check, bytes, gate, ops),
+        Command::Replay => {
+            let line = line(alloc, NOT_YET_READ.as_bytes())?;
+            Ok(refused(line))
+        }
+        Command::Gen(n, threads, fuel) => {
+            let setup = Setup::with_whole_cache(threads, fuel);
+            generated(rt, alloc, n, setup, gate, ops)
+        }
+    }
 }

@@ -18,6 +18,9 @@ use std::alloc::{AllocError, Global};
 /// The line of a source that is too long, which takes no memory.
 pub(crate) const TOO_LONG: &str = "ERROR: SourceTooLong\n";
 
+/// The line of a command that is not built yet.
+pub(crate) const NOT_YET_READ: &str = "ERROR: NotYetRead\n";
+
 /// A line as a text.
 pub(crate) fn line(alloc: Global, bytes: &[u8]) -> Result<Bytes, AllocError>
     ensures { IfOk result (λ line. line ≡ bytes.now) }

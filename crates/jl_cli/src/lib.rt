@@ -2,11 +2,12 @@
 #![tactic(auto)]
 
 mod answering;
-mod command;
 mod faults;
 pub mod laws;
 mod place;
 pub mod status_laws;
+mod telling;
 mod top;
+mod work;
 
 pub use top::{Ended, run};

@@ -1,17 +1,24 @@
 //! The top call.
 
-ghost use Rattle.std.specs.Prelude.{◌≡◌, ◌≤◌};
+ghost use Rattle.std.specs.Prelude.{◌≡◌, ◌≤◌, None, Some};
 ghost use Rattle.jl_io.specs.Faults.{Rose};
-ghost use Rattle.jl_cli.specs.Due.{texts, HasRun};
+ghost use Rattle.jl_command.specs.Texts.{texts};
+ghost use Rattle.jl_command.specs.Rule.{command_of, opening, IsInRange};
+ghost use Rattle.jl_cli.specs.Due.{HasRun, usage_line};
 ghost use Rattle.jl_cli.specs.Delivered.{IsDelivered};
 
 use crate::answering::{Due, answer};
-use crate::command::command_in;
 use crate::faults::TOO_LONG;
+use crate::work::most_read;
 use jl_calculus::history::History;
+use jl_command::{Command, WordsFault, command};
+use jl_host::HostOps;
 use jl_io::{ReadFault, Sink, SinkFault, Source, read_up_to, write_all};
 use jl_model::limits::MOST_SOURCE_BYTES;
+use jl_queue::Gate;
 use std::alloc::Global;
+use std::sync::Wait;
+use std::thread::Threads;
 
 /// The line that tells the commands.
 const USAGE: &str =
@@ -22,6 +29,16 @@ const USAGE: &str =
 pub struct Ended {
     pub status: u8,
     pub history: Option<History>,
+}
+
+/// An end without a history.
+fn without_history(status: u8) -> Ended
+    ensures { (result.status ≡ status) × (result.history ≡ None) }
+{
+    Ended {
+        status,
+        history: None,
+    }
 }
 
 /// Writes a text, and answers with this status and history where all of it was taken.
@@ -37,42 +54,32 @@ fn deliver<K: Sink>(sink: &mut K, status: u8, history: Option<History>, text: &[
     }
 }
 
-/// Does what the words ask of the script that a source gives, and writes the answer to a sink: `run` runs the script and
-/// writes the text of its run, and `check` writes how many types and definitions it has.
-///
-/// The words are those of the command line after the program's name. Status 0: the run ended with a value, or the script that
-/// was checked is a program. 1: the run ended with a fault. 2: the words are no command. 3: the source is no program, or none
-/// that runs so far. 4: the source failed. 5: the sink failed. 6: memory was refused. Each fault of the source ends in status 4,
-/// and each of the sink in status 5.
-pub fn run<S: Source, K: Sink>(alloc: Global, words: &[&str], source: &mut S, sink: &mut K) -> Ended
+/// Does what a command asks for.
+fn obey<R: Threads + Wait + Sync, S: Source, K: Sink, G: Gate>(
+    rt: &R,
+    alloc: Global,
+    command: Command,
+    source: &mut S,
+    sink: &mut K,
+    gate: &G,
+    ops: &HostOps,
+) -> Ended
+    requires { IsInRange command }
     ensures reads_counted { S.faults source.old ≤ S.faults source.new }
     ensures writes_counted { K.faults sink.old ≤ K.faults sink.new }
     ensures reads_quiet { (result.status ≡ 4 → ⊥) → S.faults source.new ≡ S.faults source.old }
     ensures writes_quiet { (result.status ≡ 5 → ⊥) → K.faults sink.new ≡ K.faults sink.old }
-    ensures ran { HasRun (texts words.now) (S.left source.old) (S.left source.new) (K.written sink.old) (K.written sink.new) (Rose (S.faults source.old) (S.faults source.new)) (Rose (K.faults sink.old) (K.faults sink.new)) result.status result.history }
+    ensures ran { HasRun (Some command) (S.left source.old) (S.left source.new) (K.written sink.old) (K.written sink.new) (Rose (S.faults source.old) (S.faults source.new)) (Rose (K.faults sink.old) (K.faults sink.new)) result.status result.history }
 {
-    let Some(command) = command_in(words) else {
-        return deliver(sink, 2, None, USAGE.as_bytes());
-    };
-    let bytes = match read_up_to(alloc, source, MOST_SOURCE_BYTES + 1) {
+    let bytes = match read_up_to(alloc, source, most_read(command)) {
         Ok(bytes) => bytes,
-        Err(ReadFault::Failed) => {
-            return Ended {
-                status: 4,
-                history: None,
-            };
-        }
-        Err(ReadFault::Memory) => {
-            return Ended {
-                status: 6,
-                history: None,
-            };
-        }
+        Err(ReadFault::Failed) => return without_history(4),
+        Err(ReadFault::Memory) => return without_history(6),
     };
     if bytes.len() > MOST_SOURCE_BYTES {
         return deliver(sink, 3, None, TOO_LONG.as_bytes());
     }
-    match answer(alloc, command, bytes.as_slice()) {
+    match answer(rt, alloc, command, bytes.as_slice(), gate, ops) {
         Ok(due) => {
             let Due {
                 status,
@@ -81,9 +88,41 @@ pub fn run<S: Source, K: Sink>(alloc: Global, words: &[&str], source: &mut S, si
             } = due;
             deliver(sink, status, history, text.as_slice())
         }
-        Err(_) => Ended {
-            status: 6,
-            history: None,
-        },
+        Err(_) => without_history(6),
+    }
+}
+
+/// Does what the words ask for, with the script that a source gives, and writes the answer to a sink. `run` runs the script and
+/// writes the text of its result. `trace` writes the text of its history too. `check` writes how many types and definitions
+/// the script has. `gen N` runs the generated script of number N, and writes a summary. `replay` is not built yet.
+///
+/// The words are those of the command line after the program's name. A run has as many workers as they say, which start and end
+/// in this call. The gate is told of its tasks. `ops` has the operations of the prelude.
+///
+/// Status 0: the run ended with a value, or the script that was checked is a program. 1: the run ended with a fault. 2: the words
+/// are no command. 3: the script is no program, or the command is not built yet. 4: the source failed. 5: the sink failed. 6:
+/// memory was refused. Each fault of the source ends in status 4, and each of the sink in status 5.
+///
+/// Words of which the first asks for no command, or a later one is no option and no value, take no memory.
+pub fn run<R: Threads + Wait + Sync, S: Source, K: Sink, G: Gate>(
+    rt: &R,
+    alloc: Global,
+    words: &[&str],
+    source: &mut S,
+    sink: &mut K,
+    gate: &G,
+    ops: HostOps,
+) -> Ended
+    ensures reads_counted { S.faults source.old ≤ S.faults source.new }
+    ensures writes_counted { K.faults sink.old ≤ K.faults sink.new }
+    ensures reads_quiet { (result.status ≡ 4 → ⊥) → S.faults source.new ≡ S.faults source.old }
+    ensures writes_quiet { (result.status ≡ 5 → ⊥) → K.faults sink.new ≡ K.faults sink.old }
+    ensures ran { HasRun (command_of (texts words.now)) (S.left source.old) (S.left source.new) (K.written sink.old) (K.written sink.new) (Rose (S.faults source.old) (S.faults source.new)) (Rose (K.faults sink.old) (K.faults sink.new)) result.status result.history }
+    ensures refused { opening (texts words.now) ≡ None → IsDelivered (K.written sink.old) (K.written sink.new) (Rose (K.faults sink.old) (K.faults sink.new)) 2 None usage_line result.status result.history }
+{
+    match command(alloc, words) {
+        Ok(command) => obey(rt, alloc, command, source, sink, gate, &ops),
+        Err(WordsFault::NoCommand) => deliver(sink, 2, None, USAGE.as_bytes()),
+        Err(WordsFault::Memory) => without_history(6),
     }
 }

@@ -6,3 +6,4 @@ pub mod Tells
 pub mod Top
 pub mod Digits
 pub mod Decide
+pub mod Ranges

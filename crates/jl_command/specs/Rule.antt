@@ -1,5 +1,5 @@
 -- Which lists of words are commands, and which commands they are.
-use Rattle.std.specs.Prelude.{ℕ, ◌+◌, ◌-◌, ◌*◌, ◌&&◌, Bool, true, false, cond, nat_le, codes, List, [], ◌∷◌, length, take, drop, map, bytes_eq, Option, None, Some}
+use Rattle.std.specs.Prelude.{ℕ, ◌+◌, ◌-◌, ◌*◌, ◌≤◌, ◌&&◌, Bool, true, false, cond, nat_le, codes, List, [], ◌∷◌, length, take, drop, map, bytes_eq, Option, None, Some}
 use Rattle.std.specs.List.{list_all}
 use Rattle.jl_model.specs.declared.limits.TheConstants.{DEFAULT_FUEL, DEFAULT_THREADS, MOST_FUEL, MOST_THREADS}
 use Rattle.jl_gen.specs.declared.numbers.TheConstants.{MOST_NUMBER}
@@ -212,3 +212,11 @@ are_known ws = list_all (λ w. is_known (form_of w)) ws
 -- the same, where the words after the first may stand there
 abbrev pub opening : List (List ℕ) → Option Verb
 opening ws = cond (are_known (drop 1 ws)) (first_verb ws) None
+
+-- the numbers of a command are in their ranges: its threads t, its fuel f and the number n of its generated script
+abbrev pub IsInRange : Command → Type 0
+IsInRange (C.Run t f) = (1 ≤ t) × (t ≤ MOST_THREADS) × (f ≤ MOST_FUEL)
+IsInRange (C.Trace t f) = (1 ≤ t) × (t ≤ MOST_THREADS) × (f ≤ MOST_FUEL)
+IsInRange C.Check = Unit {0}
+IsInRange C.Replay = Unit {0}
+IsInRange (C.Gen n t f) = (n ≤ MOST_NUMBER) × (1 ≤ t) × (t ≤ MOST_THREADS) × (f ≤ MOST_FUEL)

@@ -3,7 +3,7 @@
 ghost use Rattle.std.specs.Prelude.{◌≡◌, ◌↔◌, [], Some, None, Err, IfOk, IfErr, MatchResult};
 ghost use Rattle.clap.specs.Words.{fault_of, subcommand_of, subcommand_rows_of};
 ghost use Rattle.jl_command.specs.App.{jl_app, made_by};
-ghost use Rattle.jl_command.specs.Rule.{command_of, opening};
+ghost use Rattle.jl_command.specs.Rule.{command_of, opening, IsInRange};
 ghost use Rattle.jl_command.specs.Texts.{texts};
 
 use crate::app::jl;
@@ -72,6 +72,7 @@ fn answer(verb: Verb, matches: &ArgMatches<'_>) -> Result<Command, WordsFault>
 #[tactic(auto, using(crate::proofs::Decide::opened_none))]
 pub fn command<'a>(alloc: Global, words: &'a [&'a str]) -> Result<Command, WordsFault>
     ensures command { IfOk result (λ c. command_of (texts words.entry.now) ≡ Some c) }
+    ensures ranges { IfOk result IsInRange }
     ensures refused { IfErr result (λ e. (e ≡ WordsFault.NoCommand) → command_of (texts words.entry.now) ≡ None) }
     ensures certain { opening (texts words.entry.now) ≡ None → result ≡ Err WordsFault.NoCommand }
 {

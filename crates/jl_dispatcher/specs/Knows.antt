@@ -18,9 +18,10 @@ use Rattle.jl_calculus.specs.Past.{IsTrueOf, done_of}
 use Rattle.jl_calculus.specs.World.{Selects, site_of, world_of}
 use Rattle.jl_dispatcher.specs.Worlds.{IsWorld}
 
--- what somebody claims that a task did: the events of the run, and the task's trace
+-- what somebody claims that a task did: the events of the run, the task, and its trace
 pub record Claim : Type 0 where
   pub events : List Event
+  pub task : ℕ
   pub trace : List TraceItem
 
 pub record Knows : Type 1 where

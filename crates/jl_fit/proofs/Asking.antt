@@ -91,7 +91,7 @@ module _ (k k' : Knows) (t : Progress) (w p : ℕ) (l : Looked k k' w p) where
       fits = looks_to (Items fresh (x ∷ xs) v) h (looked_item x (out-Item x) fresh xs w t.now) (looked_within (out-Item x)) good
           (λ o rest e. item_looked (over (job_of k t.fuel) o) (EndsAs e) t.calls k.starts t.now fresh x xs v w p rest);
       lighter = let light = looked_light (out-Item x) refl in omega (arith, light);
-      tells = inr (Look w p, a_look, refl, tt, asks_look);
+      tells = inr (Look w p, a_look, refl, tt, l.starts, asks_look);
       follows = λ c. l.follows c t.trace;
     }
 
@@ -109,7 +109,7 @@ module _ (k k' : Knows) (t : Progress) (w p : ℕ) (l : Looked k k' w p) where
           (record { world = between_up t.now.world k.world k'.world l.grew.world h.worlds.world; waiting = worlds_up t.now.stack k.world k'.world l.grew.world h.worlds.waiting; called = (l.low, l.high) }) good
           (λ o rest d. sym (acts_same (over (job_of k t.fuel) o) (EndsAs d) t.calls k.starts t.now e (F.Latest f xs) vs (Look w p ∷ rest) is));
       lighter = omega arith;
-      tells = inr (Look w p, a_look, refl, tt, asks_newest);
+      tells = inr (Look w p, a_look, refl, tt, l.starts, asks_newest);
       follows = λ c. l.follows c t.trace;
     }
 
@@ -134,7 +134,7 @@ module _ (k k' : Knows) (t : Progress) (site : ℕ) (fresh : Bool) (xs : List It
             (record { world = ws.world; waiting = ws.waiting; called = tt }) good
             (λ x rest e. subst (λ starts. FinishesTo (job_of k t.fuel) x (Defining site fresh xs, t.now) t.calls k.starts (Def site (k'.seen - 1) ∷ rest) e ↔ FinishesTo (job_of k t.fuel) x (Items fresh xs V.Nothing, t.now) t.calls starts rest e) (sym d.starts) (λ r. r.1, λ r. (refl, r)));
         lighter = omega arith;
-        tells = inr (Def site (k'.seen - 1), a_definition site, refl, refl, asks_definition);
+        tells = inr (Def site (k'.seen - 1), a_definition site, refl, refl, d.starts, asks_definition);
         follows = λ c. d.follows c t.trace;
       }
 
@@ -148,7 +148,7 @@ module _ (k k' : Knows) (t : Progress) (site : ℕ) (fresh : Bool) (xs : List It
             (record { world = ws.world; waiting = ws.waiting; called = tt }) good
             (λ x rest e. subst (λ starts. FinishesTo (job_of k t.fuel) x (Defining site fresh xs, t.now) t.calls k.starts (WorldFull k'.seen ∷ rest) e ↔ FinishesTo (job_of k t.fuel) x (Ended (O.Error WorldLimit), t.now) t.calls starts rest e) (sym d.starts) (λ r. r, λ r. r));
         lighter = omega arith;
-        tells = inr (WorldFull k'.seen, a_definition site, refl, tt, asks_definition);
+        tells = inr (WorldFull k'.seen, a_definition site, refl, tt, d.starts, asks_definition);
         follows = λ c. d.follows c t.trace;
       }
 
@@ -183,7 +183,7 @@ module _ (k k' : Knows) (t : Progress) (e : Expr) (place : ℕ) (vs : List Value
             (λ x rest o. subst (λ starts. FinishesTo j x (Acting e vs, t.now) t.calls k.starts (i ∷ rest) o ↔ FinishesTo j x (Give (V.Task child), t.now) t.calls starts rest o) (sym d.starts)
             (both_ways _ _ (sym (acts_same (over j x) (EndsAs o) t.calls k.starts t.now e (F.Spawn place) vs (i ∷ rest) is))));
         lighter = omega arith;
-        tells = inr (i, a_spawn start, refl, tt, asks_spawn);
+        tells = inr (i, a_spawn start, refl, tt, d.starts, asks_spawn);
         follows = λ c. d.follows c t.trace;
       }
 
@@ -199,7 +199,7 @@ module _ (k k' : Knows) (t : Progress) (e : Expr) (place : ℕ) (vs : List Value
             (λ x rest o. subst (λ starts. FinishesTo j x (Acting e vs, t.now) t.calls k.starts (i ∷ rest) o ↔ FinishesTo j x (Ended (O.Error TaskLimit), t.now) t.calls starts rest o) (sym d.starts)
             (both_ways _ _ (sym (acts_same (over j x) (EndsAs o) t.calls k.starts t.now e (F.Spawn place) vs (i ∷ rest) is))));
         lighter = omega arith;
-        tells = inr (i, a_spawn start, refl, tt, asks_spawn);
+        tells = inr (i, a_spawn start, refl, tt, d.starts, asks_spawn);
         follows = λ c. d.follows c t.trace;
       }
 
@@ -248,7 +248,7 @@ module _ (k k' : Knows) (t : Progress) (e a : Expr) (of : ℕ) (vs : List Value)
             (λ x rest o. subst (λ starts. FinishesTo job x (Acting e vs, t.now) t.calls k.starts (i ∷ rest) o ↔ FinishesTo job x (answered (fetched_outcome of q), t.now) t.calls starts rest o) (sym d.starts)
             (let same = both_ways _ _ (sym (fetches_here x o (i ∷ rest))) in let go = fetch_same x o rest q k'.seen in (λ r. go.1 (same.0 r), λ r. same.1 (go.0 r))));
         lighter = let light = answer_light (fetched_outcome of q) in omega (arith, light);
-        tells = inr (i, a_fetch of, refl, refl, asks_fetch);
+        tells = inr (i, a_fetch of, refl, refl, d.starts, asks_fetch);
         follows = λ c. d.follows c t.trace;
       }
 

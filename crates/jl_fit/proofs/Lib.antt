@@ -4,3 +4,5 @@ pub mod Turning
 pub mod Calling
 pub mod Asking
 pub mod Skipping
+pub mod KnownLemmas
+pub mod KnowingSteps

@@ -5,8 +5,9 @@ use Rattle.jl_program.specs.declared.tree.Start.{Start}
 use Rattle.jl_calculus.specs.declared.history.Event.{Event}
 use Rattle.jl_calculus.specs.declared.history.Outcome.{Outcome}
 use Rattle.jl_calculus.specs.declared.history.TraceItem.{TraceItem}
+use Rattle.jl_calculus.specs.declared.history.TraceItem.TheVariants.{Spawn}
 use Rattle.jl_calculus.specs.Kept.{Places}
-use Rattle.jl_calculus.specs.Run.{Question, Setting, State, IsEnd, Run, Comes}
+use Rattle.jl_calculus.specs.Run.{Question, a_spawn, Setting, State, IsEnd, Run, Comes}
 use Rattle.jl_dispatcher.specs.Knows.{Claim, Knows}
 use Rattle.jl_point.specs.Turns.{Point}
 use Rattle.jl_point.specs.Point.{Finishes}
@@ -53,9 +54,14 @@ pub record Asks (j : Job) (k : Knows) (trace : List TraceItem) (q : Question) : 
   pub goes : (x : Over) → k.agrees x.events → (rest : List TraceItem) (e : Ending) → RunsTo j x (trace ++ rest) e → GoesOnFrom x.until q rest
   pub comes : (es : List Event) → k.agrees es → Comes j.program es j.places j.fuel j.start trace q
 
--- what a step adds to a trace: nothing, or an answer to what the task asked
-abbrev pub Tells : Job → Knows → List TraceItem → List TraceItem → Type 0
-Tells j k old new = (new ≡ old) ⊎ ((i : TraceItem) × (q : Question) × (new ≡ old ++ i ∷ []) × IsAnswerTo q i × Asks j k old q)
+-- the start that was asked for joins those of the spawns where an item answers a question with a spawn, and nothing else does
+abbrev pub StartsJoin : Question → TraceItem → List Start → List Start → Type 0
+StartsJoin (a_spawn start) (Spawn child p) old new = new ≡ old ++ start ∷ []
+StartsJoin _ _ old new = new ≡ old
+
+-- what a step adds to a trace: nothing, or an answer to what the task asked; the start of a spawn is the one that was asked for
+abbrev pub Tells : Job → Knows → List TraceItem → Knows → List TraceItem → Type 0
+Tells j k old k' new = (new ≡ old) ⊎ ((i : TraceItem) × (q : Question) × (new ≡ old ++ i ∷ []) × IsAnswerTo q i × StartsJoin q i k.starts k'.starts × Asks j k old q)
 
 -- what is known of a claim and the trace stays known
 abbrev pub Follows : Knows → List TraceItem → Knows → List TraceItem → Type 0

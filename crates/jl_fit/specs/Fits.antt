@@ -18,6 +18,7 @@ use Rattle.jl_point.specs.ValidPoint.{IsGoodPoint}
 use Rattle.jl_point.specs.Weight.{turns_left}
 use Rattle.jl_point.specs.Worlds.{IsWithin}
 use Rattle.jl_dispatcher.specs.Knows.{Knows, Looked}
+use Rattle.jl_fit.specs.Known.{IsKnown, AreFetchesKnown, AreStartsKnown, KnowsItsTasks, PointMentions}
 use Rattle.jl_fit.specs.Asks.{Job, Over, Ending, RunsTo, FinishesTo, Tells, Follows}
 
 -- how many looks a trace has
@@ -57,6 +58,12 @@ pub record FitsWith (j : Job) (k : Knows) (w : Work) (t : Progress) : Type 0 whe
   pub worlds : IsWithin k.world (w, t.now)
   pub good : IsGoodPoint j.program valid.views (w, t.now)
 
+-- A task that has this to do next knows each task that it fetched, that the starts of its spawns mention, and that any of its values mentions.
+pub record IsKnowing (k : Knows) (w : Work) (t : Progress) : Type 0 where
+  pub fetches : AreFetchesKnown k.start t.trace
+  pub spawns : AreStartsKnown k.start t.trace k.starts
+  pub point : PointMentions (IsKnown k.start t.trace) (w, t.now)
+
 -- the job of the task that asks this dispatcher
 abbrev pub job_of : Knows → ℕ → Job
 job_of k fuel = record { program = k.program; start = k.start; places = k.places; fuel = fuel }
@@ -70,7 +77,7 @@ Fitting k w t = FitsWith (job_of k t.fuel) k w t
 pub record Steps (k : Knows) (w : Work) (t : Progress) (k' : Knows) (w' : Work) (t' : Progress) : Type 0 where
   pub fits : FitsWith (job_of k t.fuel) k' w' t'
   pub lighter : turns_left k.program t.fuel t'.calls w' t'.now < turns_left k.program t.fuel t.calls w t.now
-  pub tells : Tells (job_of k t.fuel) k t.trace t'.trace
+  pub tells : Tells (job_of k t.fuel) k t.trace k' t'.trace
   pub follows : Follows k t.trace k' t'.trace
 
 -- a task that waits for another: it is as it was, and fits again
@@ -98,7 +105,7 @@ pub record IsFresh (k : Knows) : Type 0 where
   pub begun : k.first ≤ k.seen
 
 -- what a task did is a run, over every list of events that agrees, and the only one that has its trace and more; its items are learnt
--- and in order, and its looks and its own definitions and spawns are those of the dispatcher
+-- and in order, its looks and its own definitions and spawns are those of the dispatcher, and it fetched and mentions only tasks that it knows
 pub record IsRunOf (j : Job) (k : Knows) (r : Record) : Type 0 where
   pub program : k.program ≡ j.program
   pub start : k.start ≡ j.start
@@ -111,3 +118,4 @@ pub record IsRunOf (j : Job) (k : Knows) (r : Record) : Type 0 where
   pub order : IsInOrder k.first r.trace k.seen
   pub looks : looks_of r.trace ≡ k.looks
   pub own : own_items r.trace ≡ k.own
+  pub tasks : KnowsItsTasks k.start r.trace k.starts r.outcome

@@ -2,6 +2,7 @@
 #![tactic(auto)]
 
 mod op;
+pub mod operations;
 mod ops;
 mod reply;
 

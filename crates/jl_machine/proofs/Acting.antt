@@ -31,6 +31,7 @@ use Rattle.jl_point.specs.ValidPoint.{AreMany, parts_of, IsGoodPoint}
 use Rattle.jl_point.proofs.AskedLemmas.{Acts, acts_of, acting_data, acted_good, call_good, make_asks, isa_asks, sub_asks, infer_asks, static_where, IsWrittenWhere}
 use Rattle.jl_dispatcher.specs.Knows.{Knows}
 use Rattle.jl_fit.specs.Fits.{Fitting}
+use Rattle.jl_fit.proofs.KnownLemmas.{answered_mentions, operated_mentions}
 use Rattle.jl_fit.proofs.Calling.{acting_call, step_acting}
 use Rattle.jl_fit.proofs.Turning.{step_operated}
 use Rattle.jl_machine.specs.declared.now.LentNow.{LentNow}
@@ -39,7 +40,7 @@ use Rattle.jl_machine.specs.declared.task.Task.{Task}
 use Rattle.jl_machine.specs.Acting.{MayAct, IsOperation}
 use Rattle.jl_machine.specs.Lent.{now_of, Reaches}
 use Rattle.jl_machine.specs.Steps.{progress_of, LentSteps}
-use Rattle.jl_machine.proofs.Stepping.{lent_ok}
+use Rattle.jl_machine.proofs.Stepping.{lent_ok, knows_turn}
 use Rattle.jl_calculus.specs.ValidHistory.{IsValidOutcome}
 use Rattle.jl_point.specs.Turns.{answered}
 
@@ -142,6 +143,7 @@ module _ (k : Knows) (P : Program) (t : Task) (e : Expr) (eP : P ≡ k.program) 
       lent_ok r k k (W.Acting e vs) t t n (answered o, now_of t.now) reach
       (step_operated k (progress_of t) e vs o h (acted_good k.program h.valid.views e vs (now_of t.now) o h.good valid')
       (operation_once (all_types k.program) h.valid.decls t.now.frames.bindings (out-Expr e) vs form) answer')
+      (knows_turn k (W.Acting e vs) t (answered o, now_of t.now) (λ K m. answered_mentions K (now_of t.now) m.env m.stack o (operated_mentions K (all_types k.program) t.now.frames.bindings (out-Expr e) vs o m.work answer')))
 
 -- a call
 module _ (k : Knows) (t : Task) (e : Expr) (f : ℕ) (es : List Expr) (is : e ≡ E.Call f es) (h : Fitting k (W.Acting e t.now.frames.open_values) (progress_of t)) where
@@ -152,7 +154,11 @@ module _ (k : Knows) (t : Task) (e : Expr) (f : ℕ) (es : List Expr) (is : e �
   call_fits = acting_call k (progress_of t) e f es t.now.frames.open_values form h (call_good k.program h.valid.views e f t.now.world es t.now.frames.open_values (now_of t.now) form h.good)
 
   pub call_steps : (k' : Knows) (work : LentWork) (t' : Task) → LentSteps k (W.Calling f t.now.world t.now.frames.open_values) t k' work t' → LentSteps k (W.Acting e t.now.frames.open_values) t k' work t'
-  call_steps k' work t' s = record { steps = step_acting k (progress_of t) e f es t.now.frames.open_values form k' _ (progress_of t') s.steps; settled = s.settled }
+  call_steps k' work t' s = record {
+    steps = step_acting k (progress_of t) e f es t.now.frames.open_values form k' _ (progress_of t') s.steps;
+    knows = λ g. s.knows (record { fetches = g.fetches; spawns = g.spawns; point = record { env = g.point.env; stack = g.point.stack; work = g.point.work } });
+    settled = s.settled;
+  }
 
 -- the value that is fetched is the one that is open
 one_of : (vs : List Value) → length vs ≡ 1 → (v : Value) × (vs ≡ v ∷ [])

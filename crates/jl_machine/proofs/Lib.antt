@@ -1,5 +1,6 @@
 pub mod Performing
 pub mod Stepping
+pub mod TakenLemmas
 pub mod Choosing
 pub mod Asking
 pub mod Acting

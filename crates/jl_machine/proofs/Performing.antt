@@ -1,18 +1,15 @@
 -- What a site of the script does is its body.
-use Rattle.std.proofs.Common.{◌≡◌, ℕ, ℤ, ◌≤◌, ◌<◌, List, Option, None, Some, Result, Ok, Err, IfOk, cond, refl, sym, ap, ◌∙◌, subst, slice_get, get_or, map, length, zero, suc, arith, [], ◌∷◌}
+use Rattle.std.proofs.Common.{◌≡◌, ℕ, ◌≤◌, ◌<◌, List, Option, None, Some, Result, Ok, Err, IfOk, cond, refl, sym, ap, ◌∙◌, subst, slice_get, get_or, map, length, zero, suc, arith, [], ◌∷◌}
 use Rattle.std.proofs.lemmas.Bool.{le-ltb, lt-ltb}
 use Rattle.std.specs.declared.alloc.AllocError.{AllocError}
 use Rattle.jl_model.specs.declared.ty.Ty.{Ty}
 use Rattle.jl_program.specs.declared.value.Value.{Value}
-use Rattle.jl_program.specs.declared.value.Value.TheVariants as V
 use Rattle.jl_program.specs.declared.tree.Site.{Site}
 use Rattle.jl_program.specs.declared.tree.Expr.{Expr}
 use Rattle.jl_program.specs.declared.tree.Program.{Program}
 use Rattle.jl_program.specs.Prelude.{prelude_count}
 use Rattle.jl_program.specs.TypeOf.{type_of}
-use Rattle.jl_calculus.specs.declared.history.Outcome.{Outcome}
-use Rattle.jl_calculus.specs.Host.{host_meaning}
-use Rattle.jl_calculus.specs.Run.{operation, code_of, body_of, number_of, operates}
+use Rattle.jl_calculus.specs.Run.{operation, code_of, body_of, operates}
 use Rattle.jl_point.specs.declared.point.Now.{Now}
 use Rattle.jl_point.specs.Operated.{performed}
 use Rattle.jl_point.specs.Turns.{answered, entered}
@@ -20,10 +17,6 @@ use Rattle.jl_machine.specs.declared.now.LentNow.{LentNow}
 use Rattle.jl_machine.specs.declared.now.LentWork.{LentWork}
 use Rattle.jl_machine.specs.Lent.{now_of, Reaches}
 use Rattle.jl_machine.specs.Steps.{variables_at}
-
--- an operation on two numbers that are those of its arguments
-pub operates_on : (o : Outcome) (n : ℕ) (vs : List Value) (a b : ℤ) → o ≡ host_meaning n a b → a ≡ number_of (get_or vs 0 V.Nothing) → b ≡ number_of (get_or vs 1 V.Nothing) → o ≡ operates n vs
-operates_on o n vs a b h e f = h ∙ (λ i. host_meaning n (e i) (f i))
 
 -- a site of the prelude is an operation, and one past it is code
 prelude_body : (P : Program) (site : ℕ) → site < 14 → body_of P site ≡ operation site

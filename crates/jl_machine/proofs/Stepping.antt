@@ -36,7 +36,10 @@ use Rattle.jl_point.proofs.EnteredKept.{spawn_good}
 use Rattle.jl_point.proofs.SelectedLemmas.{IsSelected, selected, selected_good}
 use Rattle.jl_point.proofs.TurnsKept.{left_good, pieces_good, stmts_good}
 use Rattle.jl_dispatcher.specs.Knows.{Knows, Asked, IsRight, IsOfSite, IsMethod, variables_of}
-use Rattle.jl_fit.specs.Fits.{Fitting, Steps}
+use Rattle.jl_fit.specs.Fits.{Fitting, IsKnowing, Steps}
+use Rattle.jl_fit.specs.Known.{PointMentions}
+use Rattle.jl_fit.proofs.KnowingSteps.{knows_on}
+use Rattle.jl_fit.proofs.KnownLemmas.{begun_mentions, next_mentions, left_mentions, pieces_mention, stmts_mention, ended_mentions, performed_mentions}
 use Rattle.jl_fit.proofs.Calling.{step_spent, step_deep, step_none, step_ambiguous, step_method, of_site, acting_call, step_acting}
 use Rattle.jl_fit.proofs.Skipping.{step_skip_begun, step_skip_given}
 use Rattle.jl_fit.proofs.Turning.{step_left, step_pieces, step_stmts, step_end}
@@ -45,38 +48,65 @@ use Rattle.jl_machine.specs.declared.now.LentWork.{LentWork}
 use Rattle.jl_machine.specs.declared.now.LentWork.TheVariants as L
 use Rattle.jl_machine.specs.declared.task.Task.{Task}
 use Rattle.jl_machine.specs.Lent.{now_of, work_of, given_value, IsGiven, Reaches}
-use Rattle.jl_machine.specs.Steps.{progress_of, LentSteps, AppliesAt, variables_at}
+use Rattle.jl_machine.specs.Steps.{progress_of, KnowsOn, LentSteps, AppliesAt, variables_at}
+
+-- where each task that is mentioned then was mentioned before
+abbrev pub MentionsNoMore : Point → Point → Type 1
+MentionsNoMore p q = (K : ℕ → Type 0) → PointMentions K p → PointMentions K q
+
+-- a point of a task, with what its own turns change
+abbrev pub KnowsAt : Knows → Work → Task → Knows → Point → Task → Type 0
+KnowsAt k w t k' p t' = IsKnowing k w (progress_of t) → IsKnowing k' p.0 (record (progress_of t') { now = p.1 })
+
+-- a turn of the task's own
+pub knows_turn : (k : Knows) (w : Work) (t : Task) (p : Point) → MentionsNoMore (w, now_of t.now) p → KnowsAt k w t k p t
+knows_turn k w t p keeps = knows_on k k refl w p.0 (progress_of t) (record (progress_of t) { now = p.1 }) refl refl keeps
+
+-- one that asks, and so many calls were made then
+pub knows_asked : (k k' : Knows) → Asked k k' → (w : Work) (t : Task) (calls : ℕ) (p : Point) → MentionsNoMore (w, now_of t.now) p → KnowsAt k w t k' p (record t { calls = calls })
+knows_asked k k' asked w t calls p keeps = knows_on k k' asked.grew.start w p.0 (progress_of t) (record (progress_of t) { now = p.1; calls = calls }) asked.starts refl keeps
 
 -- a step to a point is a step to what is at that point
-pub lent_is : (work : LentWork) (k k' : Knows) (w : Work) (t t' : Task) (n : LentNow) (p : Point) → Reaches work n p → Steps k w (progress_of t) k' p.0 (record (progress_of t') { now = p.1 }) → LentSteps k w t k' work (record t' { now = n })
-lent_is work k k' w t t' n p h s =
+pub lent_is : (work : LentWork) (k k' : Knows) (w : Work) (t t' : Task) (n : LentNow) (p : Point) → Reaches work n p → Steps k w (progress_of t) k' p.0 (record (progress_of t') { now = p.1 }) → KnowsAt k w t k' p t' → LentSteps k w t k' work (record t' { now = n })
+lent_is work k k' w t t' n p h s knows =
     let S : Point → Type 0 = λ q. Steps k w (progress_of t) k' q.0 (record (progress_of t') { now = q.1 }) in
-    record { steps = subst S (sym h.point) s; settled = h.settled }
+    let T : Point → Type 0 = λ q. KnowsAt k w t k' q t' in
+    record { steps = subst S (sym h.point) s; knows = subst T (sym h.point) knows; settled = h.settled }
 
-pub lent_ok : (r : Result LentWork AllocError) (k k' : Knows) (w : Work) (t t' : Task) (n : LentNow) (p : Point) → IfOk r (λ work. Reaches work n p) → Steps k w (progress_of t) k' p.0 (record (progress_of t') { now = p.1 }) → IfOk r (λ work. LentSteps k w t k' work (record t' { now = n }))
-lent_ok (Ok work) k k' w t t' n p h s = lent_is work k k' w t t' n p h s
-lent_ok (Err x) k k' w t t' n p h s = tt
+pub lent_ok : (r : Result LentWork AllocError) (k k' : Knows) (w : Work) (t t' : Task) (n : LentNow) (p : Point) → IfOk r (λ work. Reaches work n p) → Steps k w (progress_of t) k' p.0 (record (progress_of t') { now = p.1 }) → KnowsAt k w t k' p t' → IfOk r (λ work. LentSteps k w t k' work (record t' { now = n }))
+lent_ok (Ok work) k k' w t t' n p h s knows = lent_is work k k' w t t' n p h s knows
+lent_ok (Err x) k k' w t t' n p h s knows = tt
 
 -- ---- turns of the machine's own
 
 pub lent_begun : (r : Result LentWork AllocError) (k : Knows) (t : Task) (e : Expr) (n : LentNow) → IfOk r (λ work. Reaches work n (skip_begun e (now_of t.now))) → Fitting k (W.Eval e) (progress_of t) → IfOk r (λ work. LentSteps k (W.Eval e) t k work (record t { now = n }))
-lent_begun r k t e n h f = lent_ok r k k (W.Eval e) t t n (skip_begun e (now_of t.now)) h (step_skip_begun k (progress_of t) e f)
+lent_begun r k t e n h f =
+    let p = skip_begun e (now_of t.now) in
+    lent_ok r k k (W.Eval e) t t n p h (step_skip_begun k (progress_of t) e f) (knows_turn k (W.Eval e) t p (λ K m. begun_mentions K e (now_of t.now) m))
 
 pub lent_given : (r : Result LentWork AllocError) (k : Knows) (t : Task) (P : Program) (v : Value) (n : LentNow) → P ≡ k.program → IfOk r (λ work. Reaches work n (skip_given P t.now.frames.stack v (now_of t.now))) → Fitting k (W.Give v) (progress_of t) → IfOk r (λ work. LentSteps k (W.Give v) t k work (record t { now = n }))
 lent_given r k t P v n eP h f =
-    lent_ok r k k (W.Give v) t t n (skip_given k.program t.now.frames.stack v (now_of t.now)) (subst (λ Q. IfOk r (λ work. Reaches work n (skip_given Q t.now.frames.stack v (now_of t.now)))) eP h) (step_skip_given k (progress_of t) v f)
+    let p = skip_given k.program t.now.frames.stack v (now_of t.now) in
+    lent_ok r k k (W.Give v) t t n p (subst (λ Q. IfOk r (λ work. Reaches work n (skip_given Q t.now.frames.stack v (now_of t.now)))) eP h) (step_skip_given k (progress_of t) v f)
+    (knows_turn k (W.Give v) t p (λ K m. next_mentions K k.program t.now.frames.stack v (now_of t.now) refl m))
 
 pub lent_left : (work : LentWork) (k : Knows) (t : Task) (v : Value) (n : LentNow) → Reaches work n (left t.now.frames.stack v (now_of t.now)) → Fitting k (W.Leave v) (progress_of t) → LentSteps k (W.Leave v) t k work (record t { now = n })
 lent_left work k t v n h f =
-    lent_is work k k (W.Leave v) t t n (left t.now.frames.stack v (now_of t.now)) h (step_left k (progress_of t) v f (left_good k.program f.valid.views t.now.frames.stack v (now_of t.now) f.good))
+    let p = left t.now.frames.stack v (now_of t.now) in
+    lent_is work k k (W.Leave v) t t n p h (step_left k (progress_of t) v f (left_good k.program f.valid.views t.now.frames.stack v (now_of t.now) f.good))
+    (knows_turn k (W.Leave v) t p (λ K m. left_mentions K t.now.frames.stack v (now_of t.now) refl m))
 
 pub lent_pieces : (r : Result LentWork AllocError) (k : Knows) (t : Task) (text : List ℕ) (xs : List Piece) (line : Bool) (n : LentNow) → IfOk r (λ work. Reaches work n (go_pieces text xs line (now_of t.now))) → Fitting k (W.Pieces text xs line) (progress_of t) → IfOk r (λ work. LentSteps k (W.Pieces text xs line) t k work (record t { now = n }))
 lent_pieces r k t text xs line n h f =
-    lent_ok r k k (W.Pieces text xs line) t t n (go_pieces text xs line (now_of t.now)) h (step_pieces k (progress_of t) text xs line f (pieces_good k.program f.valid.views text xs line (now_of t.now) f.good))
+    let p = go_pieces text xs line (now_of t.now) in
+    lent_ok r k k (W.Pieces text xs line) t t n p h (step_pieces k (progress_of t) text xs line f (pieces_good k.program f.valid.views text xs line (now_of t.now) f.good))
+    (knows_turn k (W.Pieces text xs line) t p (λ K m. pieces_mention K text xs line (now_of t.now) m))
 
 pub lent_stmts : (r : Result LentWork AllocError) (k : Knows) (t : Task) (xs : List Stmt) (v : Value) (n : LentNow) → IfOk r (λ work. Reaches work n (go_stmts xs v (now_of t.now))) → Fitting k (W.Stmts xs v) (progress_of t) → IfOk r (λ work. LentSteps k (W.Stmts xs v) t k work (record t { now = n }))
 lent_stmts r k t xs v n h f =
-    lent_ok r k k (W.Stmts xs v) t t n (go_stmts xs v (now_of t.now)) h (step_stmts k (progress_of t) xs v f (stmts_good k.program f.valid.views xs v (now_of t.now) f.good))
+    let p = go_stmts xs v (now_of t.now) in
+    lent_ok r k k (W.Stmts xs v) t t n p h (step_stmts k (progress_of t) xs v f (stmts_good k.program f.valid.views xs v (now_of t.now) f.good))
+    (knows_turn k (W.Stmts xs v) t p (λ K m. stmts_mention K xs v (now_of t.now) m))
 
 -- ---- calls
 
@@ -143,11 +173,13 @@ module _ (k : Knows) (t : Task) (f w : ℕ) (h : Fitting k (W.Calling f w t.now.
   lent_spent work n r le =
       lent_is work k k (W.Calling f w vs) t t n (W.Ended (O.Error (FuelSpent t.fuel)), now_of t.now) r
       (step_spent k (progress_of t) f w vs h le (ended_good k.program h.valid.views (W.Calling f w vs) (now_of t.now) (O.Error (FuelSpent t.fuel)) h.good (fuel_spent_valid k.program t.fuel)))
+      (knows_turn k (W.Calling f w vs) t (W.Ended (O.Error (FuelSpent t.fuel)), now_of t.now) (λ K m. ended_mentions K (now_of t.now) m.env m.stack (O.Error (FuelSpent t.fuel)) tt))
 
   pub lent_deep : (work : LentWork) (n : LentNow) → Reaches work n (W.Ended (O.Error StackLimit), now_of t.now) → t.calls < t.fuel → t.now.room ≡ 0 → LentSteps k (W.Calling f w vs) t k work (record t { now = n; calls = t.calls + 1 })
   lent_deep work n r lt room =
       lent_is work k k (W.Calling f w vs) t (record t { calls = t.calls + 1 }) n (W.Ended (O.Error StackLimit), now_of t.now) r
       (step_deep k (progress_of t) f w vs h lt room (ended_good k.program h.valid.views (W.Calling f w vs) (now_of t.now) (O.Error StackLimit) h.good (stack_limit_valid k.program)))
+      (knows_asked k k (same_knows k) (W.Calling f w vs) t (t.calls + 1) (W.Ended (O.Error StackLimit), now_of t.now) (λ K m. ended_mentions K (now_of t.now) m.env m.stack (O.Error StackLimit) tt))
 
   module _ (k' : Knows) (lt : t.calls < t.fuel) (some : 0 < t.now.room) (asked : Asked k k') where
     pub lent_none : (work : LentWork) (n : LentNow) (ts : List Ty) → ts ≡ map type_of vs → Reaches work n (W.Ended (O.Error (NoMethod f ts w)), now_of t.now) → IsRight k' f ts w C.None → LentSteps k (W.Calling f w vs) t k' work (record t { now = n; calls = t.calls + 1 })
@@ -158,6 +190,8 @@ module _ (k : Knows) (t : Task) (f w : ℕ) (h : Fitting k (W.Calling f w t.now.
         (step_none k (progress_of t) f w vs k' lt some asked h
         (ended_good k.program h.valid.views (W.Calling f w vs) (now_of t.now) (O.Error (NoMethod f (map type_of vs) w)) h.good (no_method_valid k.program f w vs h.valid here.0 here.2))
         (subst (λ us. IsRight k' f us w C.None) types right))
+        (knows_asked k k' asked (W.Calling f w vs) t (t.calls + 1) (W.Ended (O.Error (NoMethod f (map type_of vs) w)), now_of t.now)
+        (λ K m. ended_mentions K (now_of t.now) m.env m.stack (O.Error (NoMethod f (map type_of vs) w)) tt))
 
     pub lent_ambiguous : (work : LentWork) (n : LentNow) (ts : List Ty) (a b : ℕ) → ts ≡ map type_of vs → Reaches work n (W.Ended (O.Error (Ambiguous f ts a b)), now_of t.now) → IsRight k' f ts w (C.Ambiguous a b)
         → LentSteps k (W.Calling f w vs) t k' work (record t { now = n; calls = t.calls + 1 })
@@ -168,6 +202,8 @@ module _ (k : Knows) (t : Task) (f w : ℕ) (h : Fitting k (W.Calling f w t.now.
         (step_ambiguous k (progress_of t) f w vs k' lt some asked h a b
         (ended_good k.program h.valid.views (W.Calling f w vs) (now_of t.now) (O.Error (Ambiguous f (map type_of vs) a b)) h.good (ambiguous_valid k.program f a b vs h.valid here.0 here.2))
         (subst (λ us. IsRight k' f us w (C.Ambiguous a b)) types right))
+        (knows_asked k k' asked (W.Calling f w vs) t (t.calls + 1) (W.Ended (O.Error (Ambiguous f (map type_of vs) a b)), now_of t.now)
+        (λ K m. ended_mentions K (now_of t.now) m.env m.stack (O.Error (Ambiguous f (map type_of vs) a b)) tt))
 
     -- the method of a site, where the dispatcher's program is the machine's
     pub lent_method : (r : Result LentWork AllocError) (P : Program) (site : ℕ) (n : LentNow) → P ≡ k.program → IfOk r (λ work. Reaches work n (performed P (body_of P site) w vs (now_of t.now))) → IsOfSite k' f (map type_of vs) w site
@@ -179,6 +215,7 @@ module _ (k : Knows) (t : Task) (f w : ℕ) (h : Fitting k (W.Calling f w t.now.
         let good = good_at k'.program same in
         lent_ok r k k' (W.Calling f w vs) t (record t { calls = t.calls + 1 }) n p (subst (λ Q. IfOk r (λ work. Reaches work n (performed Q (body_of Q site) w vs (now_of t.now)))) eP reach)
         (step_method k (progress_of t) f w vs k' lt some asked h site good right (λ x a. kept x.events a))
+        (knows_asked k k' asked (W.Calling f w vs) t (t.calls + 1) p (λ K m. performed_mentions K k.program (body_of k.program site) w vs (now_of t.now) m.env m.stack m.work))
       where
         good_at : (Q : Program) → Q ≡ k.program → IsGoodPoint k.program h.valid.views (performed k.program (body_of k.program site) w vs (now_of t.now))
         good_at Q e =

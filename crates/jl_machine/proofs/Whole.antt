@@ -32,15 +32,19 @@ use Rattle.jl_point.proofs.EnteredKept.{root_good, task_good}
 use Rattle.jl_dispatcher.specs.Knows.{Knows, Refused}
 use Rattle.jl_dispatcher.specs.Worlds.{IsWorld}
 use Rattle.jl_fit.specs.Asks.{Job, Over, Ending, RunsTo, FinishesTo, Tells}
-use Rattle.jl_fit.specs.Fits.{Progress, FitsWith, Fitting, Steps, IsFresh, IsRunOf, job_of}
+use Rattle.jl_fit.specs.Fits.{Progress, FitsWith, IsKnowing, Fitting, Steps, IsFresh, IsRunOf, job_of}
+use Rattle.jl_fit.specs.Known.{IsKnown, AreFetchesKnown, AllMention, PointMentions}
+use Rattle.jl_fit.proofs.KnownLemmas.{nothing_mentions}
+use Rattle.jl_fit.proofs.KnowingSteps.{knows_on, begins_known}
 use Rattle.jl_fit.proofs.Fitting.{grown}
 use Rattle.jl_fit.proofs.Traces.{append_nil}
 use Rattle.jl_machine.specs.declared.now.LentWork.{LentWork}
 use Rattle.jl_machine.specs.declared.now.LentWork.TheVariants.{Eval, Give, Leave, Acting, Calling, Stmts, Items, Defining, Pieces, Ended, Lost}
 use Rattle.jl_machine.specs.declared.task.Task.{Task}
 use Rattle.jl_machine.specs.declared.task.Machine.{Machine}
+use Rattle.jl_machine.specs.declared.task.Turn.TheVariants as T
 use Rattle.jl_machine.specs.Lent.{now_of, work_of, IsSettled}
-use Rattle.jl_machine.specs.Steps.{progress_of, LentSteps, LentWaits, IsWorking, job_with, IsAt, FitsAt, MachineFits, fuel_of, turns_of, IsLost, IsNewAt, first_now, IsNewRoot, IsNewTask, IsFirst, HasEnded, RootFits, TaskFits, LostFits, EndedRuns, GrownFits}
+use Rattle.jl_machine.specs.Steps.{progress_of, LentSteps, LentWaits, IsWorking, job_with, IsAt, FitsAt, MachineFits, fuel_of, turns_of, KnowsTasks, IsLost, IsNewAt, first_now, IsNewRoot, IsNewTask, IsFirst, HasEnded, RootFits, TaskFits, LostFits, EndedRuns, GrownFits}
 
 -- ---- by what comes next
 
@@ -109,7 +113,7 @@ module _ (P : Program) (k : Knows) (work : LentWork) (t : Task) (w : IsWorking w
     step_fits =
         let g = s.steps.fits in
         let same : job_of k t.fuel ≡ job_with P t'.fuel k' = λ i. record { program = sym program_is i; start = sym g.start i; places = sym g.places i; fuel = sym g.fuel_is i } in
-        at_fits P t'.fuel k' work' t' (record { fits = subst (λ j. FitsWith j k' (work_of work' t'.now) (progress_of t')) same g; settled = s.settled })
+        at_fits P t'.fuel k' work' t' (record { fits = subst (λ j. FitsWith j k' (work_of work' t'.now) (progress_of t')) same g; knows = s.knows here.knows; settled = s.settled })
 
     pub step_fuel : t'.fuel ≡ t.fuel
     step_fuel = s.steps.fits.fuel_is
@@ -117,8 +121,8 @@ module _ (P : Program) (k : Knows) (work : LentWork) (t : Task) (w : IsWorking w
     pub step_turns : turns_left P t'.fuel t'.calls (work_of work' t'.now) (now_of t'.now) < turns_left P t.fuel t.calls (work_of work t.now) (now_of t.now)
     step_turns = rw (step_fuel, program_is) s.steps.lighter
 
-    pub step_tells : Tells (job_with P t.fuel k) k t.trace t'.trace
-    step_tells = subst (λ Q. Tells (job_with Q t.fuel k) k t.trace t'.trace) (sym program_is) s.steps.tells
+    pub step_tells : Tells (job_with P t.fuel k) k t.trace k' t'.trace
+    step_tells = subst (λ Q. Tells (job_with Q t.fuel k) k t.trace k' t'.trace) (sym program_is) s.steps.tells
 
     pub step_kept : work' ≡ Lost → ⊥
     step_kept e =
@@ -126,13 +130,38 @@ module _ (P : Program) (k : Knows) (work : LentWork) (t : Task) (w : IsWorking w
         let lost : work_of work' t'.now ≡ W.Lost = ap (λ u. work_of u t'.now) e in
         never_lost k.program g.valid.views (now_of t'.now) (subst (λ u. IsGoodPoint k.program g.valid.views (u, now_of t'.now)) lost g.good)
 
-  -- a machine that waits fits again
-  pub waits_fit : (k' : Knows) (t' : Task) → LentWaits k (work_of work t.now) t k' t' → FitsAt P t'.fuel k' work t'
-  waits_fit k' t' s =
+    pub step_knows : KnowsTasks k.start t.trace t'.trace T.Again
+    step_knows =
+        let after = s.knows here.knows in
+        record { waits = λ task e. absurd (cc); fetches = subst (λ start. AreFetchesKnown start t'.trace) s.steps.fits.start after.fetches }
+
+  -- a machine that waits fits again, and knows the task that it waits for
+  pub waits_known : (k' : Knows) (task : ℕ) (t' : Task) → LentWaits k (work_of work t.now) t k' task t' → KnowsTasks k.start t.trace t'.trace (T.NeedFetch task)
+  waits_known k' task t' s = record {
+    waits = λ other e. let same : task ≡ other = cc in subst (IsKnown k.start t.trace) same (s.known here.knows);
+    fetches = subst (λ u. AreFetchesKnown k.start u.trace) (sym s.same) here.knows.fetches;
+  }
+
+  pub waits_fit : (k' : Knows) (task : ℕ) (t' : Task) → LentWaits k (work_of work t.now) t k' task t' → FitsAt P t'.fuel k' work t'
+  waits_fit k' task t' s =
       let g = s.waits.fits in
       let same : job_of k t.fuel ≡ job_with P t.fuel k' = λ i. record { program = sym program_is i; start = sym g.start i; places = sym g.places i; fuel = t.fuel } in
       subst (λ u. FitsAt P u.fuel k' work u) (sym s.same)
-      (at_fits P t.fuel k' work t (record { fits = subst (λ j. FitsWith j k' (work_of work t.now) (progress_of t)) same g; settled = here.settled }))
+      (at_fits P t.fuel k' work t (record { fits = subst (λ j. FitsWith j k' (work_of work t.now) (progress_of t)) same g; knows = s.knows here.knows; settled = here.settled }))
+
+-- a machine that has ended fetched tasks alone that it knew
+pub ended_known : (P : Program) (fuel : ℕ) (k : Knows) (work : LentWork) (t : Task) → work ≡ Ended → FitsAt P fuel k work t → KnowsTasks k.start t.trace t.trace T.Done
+ended_known P fuel k Ended t e f = record { waits = λ task h. absurd (cc); fetches = f.knows.fetches }
+ended_known P fuel k Lost t e f = absurd (cc)
+ended_known P fuel k (Eval x) t e f = absurd (cc)
+ended_known P fuel k Give t e f = absurd (cc)
+ended_known P fuel k Leave t e f = absurd (cc)
+ended_known P fuel k (Acting x) t e f = absurd (cc)
+ended_known P fuel k (Calling g u) t e f = absurd (cc)
+ended_known P fuel k (Stmts xs) t e f = absurd (cc)
+ended_known P fuel k (Items fresh xs) t e f = absurd (cc)
+ended_known P fuel k (Defining fresh site xs) t e f = absurd (cc)
+ended_known P fuel k (Pieces line xs) t e f = absurd (cc)
 
 -- ---- new machines
 
@@ -162,14 +191,24 @@ module _ (j : Job) (k : Knows) (w : Work) (n : Now) where
   }
 
 -- the same, of a machine
-new_at : (P : Program) (fuel : ℕ) (k : Knows) (w : Work) (n : Now) (m : Machine) → IsNewAt w n fuel m → ((t : Progress) → t.fuel ≡ fuel → t.trace ≡ [] → t.calls ≡ 0 → t.now ≡ n → FitsWith (job_with P fuel k) k w t) → MachineFits P fuel k m
-new_at P fuel k w n m new fits =
-    at_fits P fuel k m.work m.task (record { fits = subst (λ u. FitsWith (job_with P fuel k) k u (progress_of m.task)) (sym new.work) (fits (progress_of m.task) new.fuel new.trace new.calls new.now); settled = new.settled })
+new_at : (P : Program) (fuel : ℕ) (k : Knows) (w : Work) (n : Now) (m : Machine) → IsNewAt w n fuel m → ((t : Progress) → t.fuel ≡ fuel → t.trace ≡ [] → t.calls ≡ 0 → t.now ≡ n → FitsWith (job_with P fuel k) k w t)
+    → IsFresh k → PointMentions (IsKnown k.start []) (w, n) → MachineFits P fuel k m
+new_at P fuel k w n m new fits f mentions =
+    at_fits P fuel k m.work m.task (record {
+      fits = subst (λ u. FitsWith (job_with P fuel k) k u (progress_of m.task)) (sym new.work) (fits (progress_of m.task) new.fuel new.trace new.calls new.now);
+      knows = record {
+        fetches = rw new.trace tt;
+        spawns = rw f.starts tt;
+        point = rw new.trace (subst (PointMentions (IsKnown k.start [])) (λ i. (sym new.work i, sym new.now i)) mentions);
+      };
+      settled = new.settled;
+    })
 
 pub root_law : (k : Knows) → RootFits k
 root_law k P fuel m valid program start f new =
     new_at P fuel k (W.Items false P.top V.Nothing) (first_now FIRST_WORLD [] []) m new
-    (λ t fuel_is trace calls now. root_fits t fuel_is trace calls now)
+    (λ t fuel_is trace calls now. root_fits t fuel_is trace calls now) f
+    (record { env = tt; stack = tt; work = nothing_mentions (IsKnown k.start []) })
   where
     j : Job
     j = record { program = P; start = None; places = k.places; fuel = fuel }
@@ -184,7 +223,8 @@ root_law k P fuel m valid program start f new =
 pub task_law : (k : Knows) → TaskFits k
 task_law k P start fuel m valid sv program is world f new =
     new_at P fuel k (W.Eval new.expr) (first_now start.world (map value_of start.env) start.bindings) m new.new
-    (λ t fuel_is trace calls now. task_fits t fuel_is trace calls now)
+    (λ t fuel_is trace calls now. task_fits t fuel_is trace calls now) f
+    (record { env = subst (λ s. AllMention (IsKnown s []) (map value_of start.env)) (sym is) (begins_known start); stack = tt; work = tt })
   where
     task_fits : (t : Progress) → t.fuel ≡ fuel → t.trace ≡ [] → t.calls ≡ 0 → t.now ≡ first_now start.world (map value_of start.env) start.bindings → FitsWith (job_with P fuel k) k (W.Eval new.expr) t
     task_fits t fuel_is trace calls now =
@@ -220,6 +260,7 @@ grown_job P fuel k k' r = λ i. record { program = P; start = sym r.grew.start i
 grown_at : (P : Program) (fuel : ℕ) (k k' : Knows) (work : LentWork) (t : Task) → Refused k k' → IsAt P fuel k work t → IsAt P fuel k' work t
 grown_at P fuel k k' work t r f = record {
   fits = subst (λ j. FitsWith j k' (work_of work t.now) (progress_of t)) (grown_job P fuel k k' r) (grown (job_with P fuel k) k k' (work_of work t.now) (progress_of t) r f.fits);
+  knows = knows_on k k' r.grew.start (work_of work t.now) (work_of work t.now) (progress_of t) (progress_of t) r.starts refl (λ K m. m) f.knows;
   settled = f.settled;
 }
 
@@ -241,8 +282,8 @@ grown_law k k' r P fuel m f = grown_fits P fuel k k' m.work m.task r f
 
 -- ---- the end
 
-ran_task : (j : Job) (k : Knows) (t : Progress) (o : Outcome) → FitsWith j k (W.Ended o) t → (r : Record) → t.trace ≡ r.trace → o ≡ r.outcome → t.now.out ≡ r.output → t.calls ≡ r.calls → IsRunOf j k r
-ran_task j k t o f r trace outcome out calls = record {
+ran_task : (j : Job) (k : Knows) (t : Progress) (o : Outcome) → FitsWith j k (W.Ended o) t → IsKnowing k (W.Ended o) t → (r : Record) → t.trace ≡ r.trace → o ≡ r.outcome → t.now.out ≡ r.output → t.calls ≡ r.calls → IsRunOf j k r
+ran_task j k t o f g r trace outcome out calls = record {
   program = f.program;
   start = f.start;
   places = f.places;
@@ -264,10 +305,12 @@ ran_task j k t o f r trace outcome out calls = record {
   order = rw (← trace) f.order;
   looks = rw (← trace) f.looks;
   own = rw (← trace) f.own;
+  tasks = rw (← trace, ← outcome) (record { fetches = g.fetches; spawns = g.spawns; ends = g.point.work });
 }
 
-ended_work : (P : Program) (fuel : ℕ) (k : Knows) (work : LentWork) (t : Task) (o : Outcome) → work_of work t.now ≡ W.Ended o → FitsAt P fuel k work t → FitsWith (job_with P fuel k) k (W.Ended o) (progress_of t)
-ended_work P fuel k Ended t o e f = subst (λ u. FitsWith (job_with P fuel k) k u (progress_of t)) e f.fits
+ended_work : (P : Program) (fuel : ℕ) (k : Knows) (work : LentWork) (t : Task) (o : Outcome) → work_of work t.now ≡ W.Ended o → FitsAt P fuel k work t
+    → FitsWith (job_with P fuel k) k (W.Ended o) (progress_of t) × IsKnowing k (W.Ended o) (progress_of t)
+ended_work P fuel k Ended t o e f = (subst (λ u. FitsWith (job_with P fuel k) k u (progress_of t)) e f.fits, subst (λ u. IsKnowing k u (progress_of t)) e f.knows)
 ended_work P fuel k Lost t o e f = absurd (cc)
 ended_work P fuel k (Eval x) t o e f = absurd (cc)
 ended_work P fuel k Give t o e f = absurd (cc)
@@ -280,7 +323,9 @@ ended_work P fuel k (Defining fresh site xs) t o e f = absurd (cc)
 ended_work P fuel k (Pieces line xs) t o e f = absurd (cc)
 
 pub ended_law : (k : Knows) → EndedRuns k
-ended_law k P fuel m r f h = ran_task (job_with P fuel k) k (progress_of m.task) r.outcome (ended_work P fuel k m.work m.task r.outcome h.work f) r h.trace refl h.out h.calls
+ended_law k P fuel m r f h =
+    let (fits, knows) = ended_work P fuel k m.work m.task r.outcome h.work f in
+    ran_task (job_with P fuel k) k (progress_of m.task) r.outcome fits knows r h.trace refl h.out h.calls
 
 pub record_ok : (r : Result Record AllocError) (P : Program) (fuel : ℕ) (k : Knows) (m : Machine) → MachineFits P fuel k m → IfOk r (λ x. HasEnded x m) → IfOk r (λ x. IsRunOf (job_with P fuel k) k x)
 record_ok (Ok x) P fuel k m f h = ended_law k P fuel m x f h

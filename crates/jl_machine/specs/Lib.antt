@@ -2,4 +2,5 @@ pub mod Lent
 pub mod Leafed
 pub mod Fetched
 pub mod Acting
+pub mod Taken
 pub mod Steps

@@ -32,7 +32,8 @@ use Rattle.jl_point.specs.Weight.{turns_left}
 use Rattle.jl_dispatcher.specs.Knows.{Knows, Looked, Refused}
 use Rattle.jl_dispatcher.specs.Worlds.{IsWorld}
 use Rattle.jl_fit.specs.Asks.{Job}
-use Rattle.jl_fit.specs.Fits.{Progress, FitsWith, Steps, Waits, IsFresh, IsRunOf}
+use Rattle.jl_fit.specs.Fits.{Progress, FitsWith, IsKnowing, Steps, Waits, IsFresh, IsRunOf}
+use Rattle.jl_fit.specs.Known.{IsKnown, AreFetchesKnown}
 use Rattle.jl_machine.specs.declared.now.LentNow.{LentNow}
 use Rattle.jl_machine.specs.declared.now.LentWork.{LentWork}
 use Rattle.jl_machine.specs.declared.now.LentWork.TheVariants.{Eval, Give, Leave, Acting, Calling, Stmts, Items, Defining, Pieces, Ended, Lost}
@@ -48,19 +49,26 @@ use Rattle.jl_machine.specs.Lent.{now_of, work_of, IsSettled, Reaches}
 abbrev pub progress_of : Task → Progress
 progress_of t = record { fuel = t.fuel; trace = t.trace; calls = t.calls; now = now_of t.now }
 
+-- a task that knows the tasks that it mentions goes on to know them
+abbrev pub KnowsOn : Knows → Work → Task → Knows → Work → Task → Type 0
+KnowsOn k w t k' w' t' = IsKnowing k w (progress_of t) → IsKnowing k' w' (progress_of t')
+
 pub record LentSteps (k : Knows) (w : Work) (t : Task) (k' : Knows) (work : LentWork) (t' : Task) : Type 0 where
   pub steps : Steps k w (progress_of t) k' (work_of work t'.now) (progress_of t')
+  pub knows : KnowsOn k w t k' (work_of work t'.now) t'
   pub settled : IsSettled work t'.now
 
--- a task that waits for another is as it was
-pub record LentWaits (k : Knows) (w : Work) (t : Task) (k' : Knows) (t' : Task) : Type 0 where
+-- a task that waits for another, which it knows, is as it was
+pub record LentWaits (k : Knows) (w : Work) (t : Task) (k' : Knows) (task : ℕ) (t' : Task) : Type 0 where
   pub waits : Waits k w (progress_of t) k'
+  pub knows : KnowsOn k w t k' w t
+  pub known : IsKnowing k w (progress_of t) → IsKnown k.start t.trace task
   pub same : t' ≡ t
 
 -- what a turn leads to
 abbrev pub Goes : Knows → Work → Task → Knows → Next → Task → Type 0
 Goes k w t k' (N.Go work) t' = LentSteps k w t k' work t'
-Goes k w t k' (N.Wait task) t' = LentWaits k w t k' t'
+Goes k w t k' (N.Wait task) t' = LentWaits k w t k' task t'
 
 -- a look, which stands in the trace
 pub record HasLooked (before now : Knows) (w : ℕ) (t t' : Task) : Type 0 where
@@ -105,6 +113,7 @@ job_with P fuel k = record { program = P; start = k.start; places = k.places; fu
 -- what a machine has to do fits its dispatcher
 pub record IsAt (P : Program) (fuel : ℕ) (k : Knows) (work : LentWork) (t : Task) : Type 0 where
   pub fits : FitsWith (job_with P fuel k) k (work_of work t.now) (progress_of t)
+  pub knows : IsKnowing k (work_of work t.now) (progress_of t)
   pub settled : IsSettled work t.now
 
 -- a machine that is lost fits each dispatcher
@@ -148,6 +157,11 @@ abbrev pub TurnSays : Program → Machine → Machine → Turn → Type 0
 TurnSays P before now T.Again = turns_of P now < turns_of P before
 TurnSays P before now (T.NeedFetch task) = now ≡ before
 TurnSays P before now T.Done = IsEnded now
+
+-- a machine that goes on to wait for a task knows it, and each task that it fetched so far
+pub record KnowsTasks (start : Option Start) (before now : List TraceItem) (turn : Turn) : Type 0 where
+  pub waits : (task : ℕ) → turn ≡ T.NeedFetch task → IsKnown start before task
+  pub fetches : AreFetchesKnown start now
 
 -- a machine that has done nothing yet, at this point
 pub record IsNewAt (w : Work) (n : Now) (most : ℕ) (m : Machine) : Type 0 where

@@ -3,9 +3,9 @@
 #![tactic(auto)]
 
 mod acts;
+mod host;
 pub mod laws;
 mod now;
-mod operations;
 mod root;
 mod task;
 mod turns;

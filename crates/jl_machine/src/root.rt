@@ -7,6 +7,7 @@ ghost use Rattle.jl_machine.specs.Steps.{job_with};
 use crate::task::{Machine, Turn};
 use jl_calculus::history::Record;
 use jl_dispatcher::Recall;
+use jl_host::HostOps;
 use jl_sig::Ready;
 use std::alloc::{AllocError, Global};
 
@@ -16,6 +17,7 @@ pub fn run_root<D: Recall>(
     alloc: Global,
     ready: &Ready,
     fuel: u64,
+    ops: &HostOps,
     with: &mut D,
 ) -> Result<Record, AllocError>
     requires program { ready.now ≡ (D.knows with.old).program }
@@ -26,7 +28,7 @@ pub fn run_root<D: Recall>(
     ready.valid();
     let mut machine = Machine::root(alloc, ready, fuel)?;
     'turns: loop {
-        match machine.step(ready, with)? {
+        match machine.step(ready, ops, with)? {
             Turn::Again => {}
             Turn::NeedFetch(_) => return Err(AllocError),
             Turn::Done => return machine.record(),

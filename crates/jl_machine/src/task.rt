@@ -24,13 +24,14 @@ ghost use Rattle.jl_machine.specs.Acting.{IsOperation};
 ghost use Rattle.jl_machine.specs.Fetched.{task_of};
 ghost use Rattle.jl_fit.specs.Fits.{fetched_outcome};
 ghost use Rattle.jl_point.specs.Size.{program_size};
-ghost use Rattle.jl_machine.specs.Steps.{fuel_of, trace_of, turns_of, job_with, MachineFits, TurnSays, IsLost, IsEnded, IsNewRoot, IsNewTask, HasEnded, IsRecordOf, IsFirst, progress_of, LentSteps, LentWaits, Goes, HasLooked, IsWorking, variables_at, AppliesAt};
+ghost use Rattle.jl_machine.specs.Steps.{fuel_of, trace_of, turns_of, job_with, MachineFits, TurnSays, KnowsTasks, IsLost, IsEnded, IsNewRoot, IsNewTask, HasEnded, IsRecordOf, IsFirst, progress_of, LentSteps, LentWaits, Goes, HasLooked, IsWorking, variables_at, AppliesAt};
 
 use crate::now::{LentNow, LentWork};
 use crate::{acts, turns};
 use jl_calculus::history::{DefineFault, FetchFault, Outcome, Record, SpawnFault, TraceItem};
 use jl_dispatcher::{Dispatcher, Recall};
 use jl_frames::Frames;
+use jl_host::HostOps;
 use jl_match::applies;
 use jl_model::limits::MOST_OPEN_CALLS;
 use jl_model::rows::Row;
@@ -179,6 +180,7 @@ impl<'p> Task<'p> {
     fn call<D: Recall>(
         &mut self,
         ready: &'p Ready,
+        ops: &HostOps,
         with: &mut D,
         function: u32,
         world: u32,
@@ -198,9 +200,9 @@ impl<'p> Task<'p> {
         match with.recall(function, self.now.frames.open_values(), world) {
             Some(found) => {
                 self.calls += 1;
-                turns::perform(&mut self.now, ready, found.site, world, found.statics)
+                turns::perform(&mut self.now, ready, ops, found.site, world, found.statics)
             }
-            None => self.choose(ready, with, function, world),
+            None => self.choose(ready, ops, with, function, world),
         }
     }
 
@@ -225,6 +227,7 @@ impl<'p> Task<'p> {
     fn choose<D: Recall>(
         &mut self,
         ready: &'p Ready,
+        ops: &HostOps,
         with: &mut D,
         function: u32,
         world: u32,
@@ -254,7 +257,8 @@ impl<'p> Task<'p> {
             Choice::Method(definition) => {
                 let site = with.site(definition);
                 let statics = self.statics_of(ready, site, &types)?;
-                let work = turns::perform(&mut self.now, ready, site, world, statics.as_slice())?;
+                let work =
+                    turns::perform(&mut self.now, ready, ops, site, world, statics.as_slice())?;
                 with.keep(Key { function, types }, world, site, statics);
                 Ok(work)
             }
@@ -404,6 +408,7 @@ impl<'p> Task<'p> {
     fn act<D: Recall>(
         &mut self,
         ready: &'p Ready,
+        ops: &HostOps,
         with: &mut D,
         expr: &'p Expr,
     ) -> Result<Next<'p>, AllocError>
@@ -415,7 +420,7 @@ impl<'p> Task<'p> {
         match expr {
             Expr::Call(function, _) => {
                 let world = self.now.world;
-                Ok(Next::Go(self.call(ready, with, *function, world)?))
+                Ok(Next::Go(self.call(ready, ops, with, *function, world)?))
             }
             Expr::Latest(function, _) => {
                 let world = self.look(with)?;
@@ -439,6 +444,7 @@ impl<'p> Task<'p> {
     fn turn<D: Recall>(
         &mut self,
         ready: &'p Ready,
+        ops: &HostOps,
         with: &mut D,
         work: LentWork<'p>,
     ) -> Result<Next<'p>, AllocError>
@@ -452,9 +458,9 @@ impl<'p> Task<'p> {
             LentWork::Eval(expr) => Ok(Next::Go(turns::begin(&mut self.now, expr)?)),
             LentWork::Give => Ok(Next::Go(turns::give(ready, &mut self.now)?)),
             LentWork::Leave => Ok(Next::Go(turns::leave(&mut self.now))),
-            LentWork::Acting(expr) => self.act(ready, with, expr),
+            LentWork::Acting(expr) => self.act(ready, ops, with, expr),
             LentWork::Calling(function, world) => {
-                Ok(Next::Go(self.call(ready, with, function, world)?))
+                Ok(Next::Go(self.call(ready, ops, with, function, world)?))
             }
             LentWork::Stmts(stmts) => Ok(Next::Go(turns::go_stmts(&mut self.now, stmts)?)),
             LentWork::Items(fresh, items) => Ok(Next::Go(self.go_items(with, fresh, items)?)),
@@ -581,14 +587,21 @@ impl<'p> Machine<'p> {
     }
 
     /// One turn. It keeps that the machine fits its dispatcher, leaves fewer turns, and adds at most one item to the trace, which
-    /// answers what the task asked there. `NeedFetch` comes exactly where the dispatcher answered that a task has not ended yet, and the
-    /// machine is then as it was. After want of memory the machine is lost: it answers so at each later turn.
-    pub fn step<D: Recall>(&mut self, ready: &'p Ready, with: &mut D) -> Result<Turn, AllocError>
+    /// answers what the task asked there. It fetches and waits for tasks alone that it knows: those that its start mentions, that it
+    /// spawned, or that an outcome mentions that it fetched before. `NeedFetch` comes exactly where the dispatcher answered that a task
+    /// has not ended yet, and the machine is then as it was. After want of memory the machine is lost: it answers so at each later turn.
+    pub fn step<D: Recall>(
+        &mut self,
+        ready: &'p Ready,
+        ops: &HostOps,
+        with: &mut D,
+    ) -> Result<Turn, AllocError>
         requires { MachineFits ready.now (fuel_of self.old) (D.knows with.old) self.old }
         ensures fits { MachineFits ready.now (fuel_of self.new) (D.knows with.new) self.new }
         ensures turn { IfOk result (λ turn. TurnSays ready.now self.old self.new turn) }
         ensures fuel { IfOk result (λ _. fuel_of self.new ≡ fuel_of self.old) }
-        ensures tells { IfOk result (λ _. Tells (job_with ready.now (fuel_of self.old) (D.knows with.old)) (D.knows with.old) (trace_of self.old) (trace_of self.new)) }
+        ensures tells { IfOk result (λ _. Tells (job_with ready.now (fuel_of self.old) (D.knows with.old)) (D.knows with.old) (trace_of self.old) (D.knows with.new) (trace_of self.new)) }
+        ensures knows { IfOk result (λ turn. KnowsTasks (D.knows with.old).start (trace_of self.old) (trace_of self.new) turn) }
         ensures follows { IfOk result (λ _. Follows (D.knows with.old) (trace_of self.old) (D.knows with.new) (trace_of self.new)) }
         ensures lost { OnErr result (IsLost self.new) }
         ensures kept { OnOk result (IsLost self.new → ⊥) }
@@ -599,7 +612,7 @@ impl<'p> Machine<'p> {
             LentWork::Ended => Ok(Turn::Done),
             work => {
                 self.work = LentWork::Lost;
-                match self.task.turn(ready, with, work)? {
+                match self.task.turn(ready, ops, with, work)? {
                     Next::Go(next) => {
                         self.work = next;
                         Ok(Turn::Again)

@@ -12,14 +12,17 @@ ghost use Rattle.jl_point.specs.Skip.{leaf, skip_args, skip_begun, skip_given};
 ghost use Rattle.jl_machine.specs.Lent.{now_of, given_value, IsClosed, IsGiven, Reaches};
 ghost use Rattle.jl_machine.specs.Leafed.{Leafed, truth_of};
 ghost use Rattle.jl_machine.specs.Steps.{variables_at};
+ghost use Rattle.jl_machine.specs.Taken.{IsTakenBy, MayPerform};
+ghost use Rattle.jl_program.specs.declared.prelude.TheConstants.{PRELUDE_SITES};
 ghost use Rattle.jl_program.specs.TypeOf.{type_of};
 ghost use Rattle.jl_calculus.specs.Run.{body_of, operates};
 ghost use Rattle.jl_point.specs.Operated.{performed};
 
+use crate::host::operate;
 use crate::now::{LentNow, LentWork};
-use crate::operations::operate;
 use jl_calculus::history::Outcome;
 use jl_frames::{Flat, Frames};
+use jl_host::HostOps;
 use jl_model::ty::Ty;
 use jl_program::fault::Fault;
 use jl_program::prelude::PRELUDE_SITES;
@@ -382,11 +385,17 @@ pub(crate) fn answer<'p>(
 }
 
 /// An operation of the prelude, whose arguments are the open values.
-fn operation<'p>(now: &mut LentNow<'p>, site: u32) -> Result<LentWork<'p>, AllocError>
-    requires { now.old.frames.open_text ≡ [] }
+fn operation<'p>(
+    now: &mut LentNow<'p>,
+    ops: &HostOps,
+    site: u32,
+) -> Result<LentWork<'p>, AllocError>
+    requires text { now.old.frames.open_text ≡ [] }
+    requires there { site < PRELUDE_SITES }
+    requires taken { IsTakenBy site now.old.frames.open_values }
     ensures { IfOk result (λ work. Reaches work now.new (answered (operates site now.old.frames.open_values), now_of now.old)) }
 {
-    let outcome = operate(site, now.frames.open_values());
+    let outcome = operate(ops, site, now.frames.open_values());
     now.frames.clear();
     answer(now, outcome)
 }
@@ -412,6 +421,7 @@ fn enter<'p>(
 pub(crate) fn perform<'p>(
     now: &mut LentNow<'p>,
     ready: &'p Ready,
+    ops: &HostOps,
     site: u32,
     world: u32,
     statics: &[Ty],
@@ -419,11 +429,12 @@ pub(crate) fn perform<'p>(
     requires room { 0 < now.old.room }
     requires text { now.old.frames.open_text ≡ [] }
     requires there { site < length ready.now.sites }
+    requires taken { MayPerform site now.old.frames.open_values }
     requires statics { variables_at ready.now (map type_of now.old.frames.open_values) (slice_get ready.now.sites site) ≡ statics.now }
     ensures { IfOk result (λ work. Reaches work now.new (performed ready.now (body_of ready.now site) world now.old.frames.open_values (now_of now.old))) }
 {
     if site < PRELUDE_SITES {
-        return operation(now, site);
+        return operation(now, ops, site);
     }
     let body = &ready.program().sites.as_slice()[site as usize].body;
     enter(now, world, statics, body)

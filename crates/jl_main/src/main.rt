@@ -1,12 +1,16 @@
-//! The program: the standard streams and the words of the command line, handed to the top call.
+//! The program: the standard streams, the words of the command line and the operations of the prelude, handed to the top call.
 #![tactic(auto)]
 
 use jl_cli::run;
+use jl_host::{HostOp, HostOps, operations};
 use jl_io::{StdSink, StdSource};
-use std::alloc::AllocError;
+use jl_queue::OpenGate;
+use std::alloc::{AllocError, Global};
 use std::env::args;
-use std::io::ErrorKind;
+use std::io::{ErrorKind, Stdin, Stdout};
 use std::process::ExitCode;
+use std::sync::Wait;
+use std::thread::Threads;
 
 /// The status where memory is refused.
 const NO_MEMORY: u8 = 6;
@@ -30,19 +34,56 @@ fn words(rt: &HostRuntime) -> Result<Vec<String>, AllocError> {
     Ok(words)
 }
 
-/// Runs the script on standard input, and answers its status.
-fn status(rt: &HostRuntime) -> Result<u8, AllocError> {
-    let alloc = rt.alloc();
-    let owned = words(rt)?;
+/// Does what the words ask for, over these streams, and answers the status. The operations of the prelude are made here, in the
+/// order of their codes, since a function that hands out what it made of a function has no proof that the gate takes.
+fn ended<R: Threads + Wait + Sync>(
+    rt: &R,
+    alloc: Global,
+    words: &[&str],
+    input: Stdin,
+    output: Stdout,
+) -> Result<u8, AllocError> {
+    let mut list = Vec::new(alloc);
+    list.push(HostOp::new(0, operations::add))?;
+    list.push(HostOp::new(1, operations::subtract))?;
+    list.push(HostOp::new(2, operations::multiply))?;
+    list.push(HostOp::new(3, operations::divide))?;
+    list.push(HostOp::new(4, operations::remainder))?;
+    list.push(HostOp::new(5, operations::negate))?;
+    list.push(HostOp::new(6, operations::equal))?;
+    list.push(HostOp::new(7, operations::not_equal))?;
+    list.push(HostOp::new(8, operations::less))?;
+    list.push(HostOp::new(9, operations::less_equal))?;
+    list.push(HostOp::new(10, operations::greater))?;
+    list.push(HostOp::new(11, operations::greater_equal))?;
+    list.push(HostOp::new(12, operations::not))?;
+    list.push(HostOp::new(13, operations::equal_truths))?;
+    let ops = HostOps::new(list);
+    let mut source = StdSource::new(input);
+    let mut sink = StdSink::new(output);
+    let ended = run(rt, alloc, words, &mut source, &mut sink, &OpenGate, ops);
+    Ok(ended.status)
+}
+
+/// Does what the words ask for, and answers the status.
+fn status<R: Threads + Wait + Sync>(
+    rt: &R,
+    alloc: Global,
+    owned: &[String],
+    input: Stdin,
+    output: Stdout,
+) -> Result<u8, AllocError> {
     let mut words = Vec::new(alloc);
-    for word in owned.as_slice() {
+    for word in owned {
         words.push(word.as_str())?;
     }
-    let mut source = StdSource::new(rt.stdin());
-    let mut sink = StdSink::new(rt.stdout());
-    Ok(run(alloc, words.as_slice(), &mut source, &mut sink).status)
+    ended(rt, alloc, words.as_slice(), input, output)
 }
 
 fn main(rt: HostRuntime) -> ExitCode {
-    ExitCode::from(status(&rt).unwrap_or(NO_MEMORY))
+    let Ok(words) = words(&rt) else {
+        return ExitCode::from(NO_MEMORY);
+    };
+    let status = status(&rt, rt.alloc(), words.as_slice(), rt.stdin(), rt.stdout());
+    ExitCode::from(status.unwrap_or(NO_MEMORY))
 }

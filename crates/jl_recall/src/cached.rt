@@ -38,7 +38,7 @@ impl<D: Dispatcher + Drop> Model for Cached<D> {
 fn empty_table(alloc: Global) -> Result<Vec<Option<Kept>>, AllocError>
     ensures { IfOk result (λ table. NoneKept table.items) }
 {
-    let mut table = Vec::new(alloc);
+    let mut table = Vec::with_capacity(alloc, PLACES)?;
     for _ in 0..PLACES {
         table.push(None)?;
     }
@@ -59,6 +59,14 @@ impl<D: Dispatcher + Drop> Cached<D> {
         ensures { result.now ≡ self.now }
     {
         &self.inner
+    }
+
+    /// The dispatcher that was asked. What was remembered goes.
+    pub fn into_inner(self) -> D
+        ensures { result ≡ self }
+    {
+        let Cached { inner, .. } = self;
+        inner
     }
 }
 

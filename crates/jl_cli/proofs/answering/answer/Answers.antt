@@ -1,5 +1,52 @@
-use Rattle.jl_cli.proofs.Running.{refused_under}
+use Rattle.std.proofs.Common.{ap, ◌∙◌, refl}
+use Rattle.jl_command.specs.declared.commands.Command.TheVariants as C
+use Rattle.jl_queue.specs.declared.setup.Setup.{Setup}
+use Rattle.jl_cli.specs.declared.work.Work.TheVariants as W
+use Rattle.jl_cli.specs.declared.work.Telling.TheVariants as T
+use Rattle.jl_cli.specs.Work.{whole_setup}
+use Rattle.jl_cli.proofs.Running.{all_owed, setup_is, not_yet_read_so, not_yet_read_is}
 use Rattle.jl_cli.proofs.answering.answer.Goals as goal
 
-pub returns-in-Err : goal.returns-in-Err
-returns-in-Err c = refused_under c.refused.result c.args.command c.args.bytes.now c.in-Err.line (rw c.in-Err.is at c.in_ok-script.ensures) c.refused.ensures
+pub with_whole_cache-requires-clause-threads : goal.with_whole_cache-requires-clause-threads
+with_whole_cache-requires-clause-threads g c = let r = rw c.in-Run.is at c.requires.ranges in record { some = r.0; few = r.1 }
+
+pub with_whole_cache-requires-clause-fuel : goal.with_whole_cache-requires-clause-fuel
+with_whole_cache-requires-clause-fuel g c = (rw c.in-Run.is at c.requires.ranges).2
+
+pub with_whole_cache-requires-in-Trace-clause-threads : goal.with_whole_cache-requires-in-Trace-clause-threads
+with_whole_cache-requires-in-Trace-clause-threads g c = let r = rw c.in-Trace.is at c.requires.ranges in record { some = r.0; few = r.1 }
+
+pub with_whole_cache-requires-in-Trace-clause-fuel : goal.with_whole_cache-requires-in-Trace-clause-fuel
+with_whole_cache-requires-in-Trace-clause-fuel g c = (rw c.in-Trace.is at c.requires.ranges).2
+
+pub with_whole_cache-setup-requires-clause-threads : goal.with_whole_cache-setup-requires-clause-threads
+with_whole_cache-setup-requires-clause-threads g c = let r = rw c.in-Gen.is at c.requires.ranges in record { some = r.1; few = r.2 }
+
+pub with_whole_cache-setup-requires-clause-fuel : goal.with_whole_cache-setup-requires-clause-fuel
+with_whole_cache-setup-requires-clause-fuel g c = (rw c.in-Gen.is at c.requires.ranges).3
+
+pub generated-requires-clause-number : goal.generated-requires-clause-number
+generated-requires-clause-number g c = λ κs bounds. (rw c.in-Gen.is at c.requires.ranges).0
+
+pub returns-in-Run : goal.returns-in-Run
+returns-in-Run g c =
+    all_owed c.owed.result c.args.command (C.Run c.in-Run.threads c.in-Run.fuel) (W.Run (whole_setup c.in-Run.threads c.in-Run.fuel) T.Text) (W.Run c.with_whole_cache.result T.Text) c.args.bytes.now c.in-Run.is
+    (ap (λ (s : Setup). W.Run s T.Text) (setup_is c.with_whole_cache.result c.in-Run.threads c.in-Run.fuel c.with_whole_cache.ensures.given c.with_whole_cache.ensures.cache)) refl c.owed.ensures
+
+pub returns-in-Trace : goal.returns-in-Trace
+returns-in-Trace g c =
+    all_owed c.owed-in-Trace.result c.args.command (C.Trace c.in-Trace.threads c.in-Trace.fuel) (W.Run (whole_setup c.in-Trace.threads c.in-Trace.fuel) T.Trace) (W.Run c.with_whole_cache-in-Trace.result T.Trace) c.args.bytes.now c.in-Trace.is
+    (ap (λ (s : Setup). W.Run s T.Trace) (setup_is c.with_whole_cache-in-Trace.result c.in-Trace.threads c.in-Trace.fuel c.with_whole_cache-in-Trace.ensures.given c.with_whole_cache-in-Trace.ensures.cache)) refl c.owed-in-Trace.ensures
+
+pub returns-in-Check : goal.returns-in-Check
+returns-in-Check g c = all_owed c.owed-in-Check.result c.args.command C.Check W.Check W.Check c.args.bytes.now c.in-Check.is refl refl c.owed-in-Check.ensures
+
+pub returns-in_ok-line-in-Replay : goal.returns-in_ok-line-in-Replay
+returns-in_ok-line-in-Replay g c =
+    not_yet_read_so c.refused.result c.args.command c.args.bytes.now c.in_ok-line-in-Replay.line c.in-Replay.is c.requires.limited
+    (c.in_ok-line-in-Replay.ensures ∙ c.as_bytes.ensures.value ∙ not_yet_read_is) c.refused.ensures
+
+pub returns-in-Gen : goal.returns-in-Gen
+returns-in-Gen g c =
+    all_owed c.generated.result c.args.command (C.Gen c.in-Gen.n c.in-Gen.threads c.in-Gen.fuel) (W.Run (whole_setup c.in-Gen.threads c.in-Gen.fuel) (T.Summary c.in-Gen.n)) (W.Run c.with_whole_cache-setup.result (T.Summary c.in-Gen.n)) c.args.bytes.now c.in-Gen.is
+    (ap (λ (s : Setup). W.Run s (T.Summary c.in-Gen.n)) (setup_is c.with_whole_cache-setup.result c.in-Gen.threads c.in-Gen.fuel c.with_whole_cache-setup.ensures.given c.with_whole_cache-setup.ensures.cache)) refl c.generated.ensures

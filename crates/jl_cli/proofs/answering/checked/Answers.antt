@@ -1,5 +1,7 @@
+use Rattle.std.proofs.Common.{ap, ◌∙◌}
+use Rattle.jl_cli.specs.Due.{ok_line}
 use Rattle.jl_cli.proofs.Running.{checked_so}
 use Rattle.jl_cli.proofs.answering.checked.Goals as goal
 
 pub returns : goal.returns
-returns c = λ bytes are. checked_so bytes c.in_ok-text.text c.args.program.now c.in_ok-text.ensures are
+returns c = checked_so c.args.ready.now c.in_ok-text.text (c.in_ok-text.ensures ∙ ap ok_line c.program.ensures)

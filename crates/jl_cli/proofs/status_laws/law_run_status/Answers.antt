@@ -1,5 +1,8 @@
-use Rattle.jl_cli.proofs.StatusLemmas.{run_law}
+use Rattle.jl_cli.proofs.StatusLemmas.{run_history_law, outcome_law}
 use Rattle.jl_cli.proofs.status_laws.law_run_status.Goals as goal
 
-pub returns : goal.returns
-returns c = run_law
+pub returns-clause-history : goal.returns-clause-history
+returns-clause-history c = run_history_law
+
+pub returns-clause-outcome : goal.returns-clause-outcome
+returns-clause-outcome c = outcome_law

@@ -1,5 +1,7 @@
-use Rattle.std.proofs.Common.{sym}
-use Rattle.jl_machine.proofs.Whole.{working, fitting, program_is, settled_is, step_fits, step_fuel, step_turns, step_tells, step_kept}
+use Rattle.std.proofs.Common.{sym, ap, subst, inl}
+use Rattle.jl_machine.specs.declared.task.Task.{Task}
+use Rattle.jl_fit.specs.Asks.{Follows}
+use Rattle.jl_machine.proofs.Whole.{working, fitting, program_is, settled_is, step_fits, step_fuel, step_turns, step_tells, step_knows, step_kept, waits_fit, waits_known}
 use Rattle.jl_machine.proofs.task.Machine.step.Goals as goal
 
 pub turn-requires : goal.turn-requires
@@ -21,8 +23,25 @@ returns-in-Go g c =
       turn = step_turns c.args.ready.now _ c.args.self.now.work c.args.self.now.task w c.requires _ c.in-Go.next c.turn.new.self s;
       fuel = step_fuel c.args.ready.now _ c.args.self.now.work c.args.self.now.task w c.requires _ c.in-Go.next c.turn.new.self s;
       tells = step_tells c.args.ready.now _ c.args.self.now.work c.args.self.now.task w c.requires _ c.in-Go.next c.turn.new.self s;
+      knows = step_knows c.args.ready.now _ c.args.self.now.work c.args.self.now.task w c.requires _ c.in-Go.next c.turn.new.self s;
       follows = s.steps.follows;
       lost = tt;
       kept = step_kept c.args.ready.now _ c.args.self.now.work c.args.self.now.task w c.requires _ c.in-Go.next c.turn.new.self s;
+      still = λ lost. absurd (c.in_default.not-Lost lost);
+    }
+
+pub returns-in-Wait : goal.returns-in-Wait
+returns-in-Wait g c =
+    let w = working c.args.self.now.work c.in_default.not-Ended c.in_default.not-Lost in
+    let s = rw c.in-Wait.is at c.in_ok-next-in_default.ensures in
+    record {
+      fits = waits_fit c.args.ready.now _ c.args.self.now.work c.args.self.now.task w c.requires _ c.in-Wait.task c.turn.new.self s;
+      turn = λ i. record { task = s.same i; work = c.args.self.now.work };
+      fuel = ap (λ (t : Task). t.fuel) s.same;
+      tells = inl (ap (λ (t : Task). t.trace) s.same);
+      knows = waits_known c.args.ready.now _ c.args.self.now.work c.args.self.now.task w c.requires _ c.in-Wait.task c.turn.new.self s;
+      follows = subst (λ (t : Task). Follows (g.D.Dispatcher.knows c.args.with.now) c.args.self.now.task.trace (g.D.Dispatcher.knows c.turn.new.with) t.trace) (sym s.same) s.waits.follows;
+      lost = tt;
+      kept = c.in_default.not-Lost;
       still = λ lost. absurd (c.in_default.not-Lost lost);
     }

@@ -1,9 +1,14 @@
 use Rattle.std.proofs.Common.{◌<◌, arith}
 use Rattle.jl_machine.proofs.Stepping.{lent_spent, lent_deep, lent_recalled, recalled_below}
+use Rattle.jl_machine.proofs.TakenLemmas.{recalled_taken}
 use Rattle.jl_machine.proofs.task.Task.call.Goals as goal
 
 pub perform-requires-clause-there : goal.perform-requires-clause-there
 perform-requires-clause-there g c = recalled_below _ c.args.ready.now c.args.function c.args.world c.in-Some.found.site _ _ c.requires.program c.in-Some.ensures
+
+pub perform-requires-clause-taken : goal.perform-requires-clause-taken
+perform-requires-clause-taken g c =
+    recalled_taken _ _ c.args.function c.args.world c.in-Some.found.site _ c.open_values.result.now _ c.open_values.ensures c.requires.fits c.in-Some.ensures
 
 pub returns-then-self : goal.returns-then-self
 returns-then-self g c = lent_spent _ c.args.self.now c.args.function c.args.world c.requires.fits c.end.result c.end.new.now c.end.ensures c.if-self.true

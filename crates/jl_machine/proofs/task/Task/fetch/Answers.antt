@@ -17,4 +17,4 @@ returns-in_ok-answer-in-Ok g c =
 
 pub returns-in-Err-NotYet : goal.returns-in-Err-NotYet
 returns-in-Err-NotYet g c =
-    let (a, form) = c.requires.form in lent_waits _ _ c.args.self.now _ a form c.requires.fits c.in-Err-NotYet.ensures.refused
+    let (a, form) = c.requires.form in lent_waits _ _ c.args.self.now _ a form c.requires.fits c.in-Some.task (ap (λ vs. task_of (first_value vs)) (sym c.open_values.ensures) ∙ sym c.in-Some.ensures) c.in-Err-NotYet.ensures.refused

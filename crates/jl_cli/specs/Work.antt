@@ -1,0 +1,67 @@
+-- What each command asks for: how much is read, which script it is about, what is done with it, and what is told of a run.
+use Rattle.std.specs.Prelude.{ℕ, ◌+◌, ◌-◌, ◌==◌, if◌then◌else◌, codes, List, [], ◌++◌, length, slice_get, Option, None, Some}
+use Rattle.jl_model.specs.declared.limits.TheConstants.{MOST_SOURCE_BYTES, MOST_CACHE_KEYS, MOST_CACHE_ROWS}
+use Rattle.jl_program.specs.declared.tree.Program.{Program}
+use Rattle.jl_calculus.specs.declared.history.Event.{Event}
+use Rattle.jl_calculus.specs.Legal.{text_of}
+use Rattle.jl_queue.specs.declared.setup.Setup.{Setup}
+use Rattle.jl_queue.specs.Setups.{IsSetup}
+use Rattle.jl_gen.specs.Script.{script_text}
+use Rattle.jl_report.specs.HistoryText.{history_text}
+use Rattle.jl_report.specs.Summary.{summary_text}
+use Rattle.jl_command.specs.declared.commands.Command.{Command}
+use Rattle.jl_command.specs.declared.commands.Command.TheVariants as C
+use Rattle.jl_cli.specs.declared.work.Work.{Work}
+use Rattle.jl_cli.specs.declared.work.Work.TheVariants as W
+use Rattle.jl_cli.specs.declared.work.Telling.{Telling}
+use Rattle.jl_cli.specs.declared.work.Telling.TheVariants as T
+
+-- how many bytes are read at most: one past the limit of a source where a script is read, and none of anything else
+abbrev pub most_read : Option Command → ℕ
+most_read None = 0
+most_read (Some (C.Run threads fuel)) = MOST_SOURCE_BYTES + 1
+most_read (Some (C.Trace threads fuel)) = MOST_SOURCE_BYTES + 1
+most_read (Some C.Check) = MOST_SOURCE_BYTES + 1
+most_read (Some C.Replay) = 0
+most_read (Some (C.Gen n threads fuel)) = 0
+
+-- the script of a command, where these bytes were read: these, or the generated script of a number
+abbrev pub script_of : Command → List ℕ → List ℕ
+script_of (C.Run threads fuel) bytes = bytes
+script_of (C.Trace threads fuel) bytes = bytes
+script_of C.Check bytes = bytes
+script_of C.Replay bytes = bytes
+script_of (C.Gen n threads fuel) bytes = script_text n
+
+-- the setup of a run with so many threads and so much fuel: its cache is as large as a cache may be
+abbrev pub whole_setup : ℕ → ℕ → Setup
+whole_setup threads fuel = record { threads = threads; fuel = fuel; keys = MOST_CACHE_KEYS; rows = MOST_CACHE_ROWS }
+
+-- what a command does with its script: it runs it, or only checks it; what `replay` does is not built yet
+abbrev pub work_of : Command → Option Work
+work_of (C.Run threads fuel) = Some (W.Run (whole_setup threads fuel) T.Text)
+work_of (C.Trace threads fuel) = Some (W.Run (whole_setup threads fuel) T.Trace)
+work_of C.Check = Some W.Check
+work_of C.Replay = None
+work_of (C.Gen n threads fuel) = Some (W.Run (whole_setup threads fuel) (T.Summary n))
+
+-- the newline that goes behind a text which ends in this byte, if it ends in one
+abbrev pub newline_behind : Option ℕ → List ℕ
+newline_behind None = []
+newline_behind (Some byte) = if byte == 10 then [] else codes "\n"
+
+-- the newline that a text lacks: none where it is empty or ends in one
+abbrev pub missing_newline : List ℕ → List ℕ
+missing_newline text = newline_behind (slice_get text (length text - 1))
+
+-- what is told of a run: the text of its result; that text as lines, and then the text of its history; or the summary of the
+-- run of a generated script
+abbrev pub told : Telling → Program → List Event → List ℕ
+told T.Text P es = text_of P es
+told T.Trace P es = text_of P es ++ (missing_newline (text_of P es) ++ history_text P es)
+told (T.Summary n) P es = summary_text n P es
+
+-- a run that is asked for has a setup that is allowed
+abbrev pub IsSetUp : Work → Type 0
+IsSetUp W.Check = Unit {0}
+IsSetUp (W.Run setup telling) = IsSetup setup

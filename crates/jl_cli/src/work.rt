@@ -1,0 +1,38 @@
+//! What each command asks for.
+
+ghost use Rattle.std.specs.Prelude.{◌≡◌, Some};
+ghost use Rattle.jl_cli.specs.Work.{most_read};
+
+use jl_command::Command;
+use jl_model::limits::MOST_SOURCE_BYTES;
+use jl_queue::Setup;
+
+/// What is told of a run.
+#[derive(Clone, Copy, PartialEq, Eq, Debug)]
+pub(crate) enum Telling {
+    /// The text of its result.
+    Text,
+    /// The text of its result, and then the text of its history.
+    Trace,
+    /// The summary of the run of the generated script of this number.
+    Summary(u32),
+}
+
+/// What is done with a script.
+#[derive(Clone, Copy, PartialEq, Eq, Debug)]
+pub(crate) enum Work {
+    /// Its types and definitions are counted.
+    Check,
+    /// It is run.
+    Run(Setup, Telling),
+}
+
+/// How many bytes are read at most.
+pub(crate) fn most_read(command: Command) -> usize
+    ensures { result ≡ most_read (Some command) }
+{
+    match command {
+        Command::Run(_, _) | Command::Trace(_, _) | Command::Check => MOST_SOURCE_BYTES + 1,
+        Command::Replay | Command::Gen(_, _, _) => 0,
+    }
+}

@@ -1,0 +1,56 @@
+//! The operations of the prelude, by the functions that were handed in.
+
+ghost use Rattle.std.specs.Prelude.{◌≡◌, ◌<◌, get_or};
+ghost use Rattle.jl_program.specs.declared.prelude.TheConstants.{PRELUDE_SITES};
+ghost use Rattle.jl_program.specs.declared.value.Value.TheVariants.{Nothing};
+ghost use Rattle.jl_calculus.specs.Run.{number_of, operates};
+ghost use Rattle.jl_host.specs.Replies.{outcome_of};
+ghost use Rattle.jl_machine.specs.Taken.{IsTakenBy};
+
+use jl_calculus::history::Outcome;
+use jl_host::{HostOps, OpReply};
+use jl_program::fault::Fault;
+use jl_program::value::Value;
+
+/// A number as an operation sees it: a truth value is 1 or 0.
+fn number_of(value: &Value) -> i64
+    ensures { result ≡ number_of value.now }
+{
+    match value {
+        Value::Int(n) => *n,
+        Value::Bool(true) => 1,
+        _ => 0,
+    }
+}
+
+/// The number at a place; 0 where there is none.
+fn number_at(values: &[Value], place: usize) -> i64
+    ensures { result ≡ number_of (get_or values.now place Nothing) }
+{
+    match values.get(place) {
+        None => 0,
+        Some(value) => number_of(value),
+    }
+}
+
+/// A reply as the outcome of a call.
+fn outcome_of(reply: OpReply) -> Outcome
+    ensures { result ≡ outcome_of reply }
+{
+    match reply {
+        OpReply::Int(n) => Outcome::Value(Value::Int(n)),
+        OpReply::Bool(b) => Outcome::Value(Value::Bool(b)),
+        OpReply::DivideError => Outcome::Error(Fault::DivideError),
+    }
+}
+
+/// What an operation of the prelude gives for the arguments that it takes.
+pub(crate) fn operate(ops: &HostOps, operation: u32, values: &[Value]) -> Outcome
+    requires there { operation < PRELUDE_SITES }
+    requires taken { IsTakenBy operation values.now }
+    ensures { result ≡ operates operation values.now }
+{
+    let first = number_at(values, 0);
+    let second = number_at(values, 1);
+    outcome_of(ops.call(operation as u8, first, second))
+}

@@ -1,0 +1,15 @@
+pub mod KnowingLemmas
+pub mod KeyLemmas
+pub mod FirstLemmas
+pub mod AskLemmas
+pub mod BookLemmas
+pub mod WorkLemmas
+pub mod LiveLemmas
+pub mod CrossSyncs
+pub mod CrossValues
+pub mod CrossReadies
+pub mod CrossMachines
+pub mod CrossBooks
+pub mod CrossOps
+pub mod CrossLent
+pub mod CrossShared

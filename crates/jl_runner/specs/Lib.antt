@@ -1,0 +1,3 @@
+pub mod Keys
+pub mod Knowing
+pub mod Working

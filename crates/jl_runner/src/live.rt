@@ -1,0 +1,168 @@
+//! What a running machine asks: its own task's knowledge first, and the book of the run where that does not do.
+
+ghost use Rattle.std.specs.Prelude.{◌≡◌, ◌≤◌, IfOk, length};
+ghost use Rattle.jl_calculus.specs.Learnt.{IsNamed};
+ghost use Rattle.jl_calculus.specs.Legal.{IsKeyOf};
+ghost use Rattle.jl_calculus.specs.Ranges.{keys_of};
+ghost use Rattle.jl_calculus.specs.World.{world_of};
+ghost use Rattle.jl_dispatcher.specs.Knows.{Asked, IsRight};
+ghost use Rattle.jl_dispatcher.specs.Worlds.{IsWorld};
+ghost use Rattle.jl_runner.specs.Knowing.{knows_of, IsNumberOf};
+
+use crate::job::{Job, New};
+use crate::known::Known;
+use crate::shared::Shared;
+use jl_calculus::history::{DefineFault, FetchFault, Outcome, Seen, SpawnFault};
+use jl_dispatcher::Dispatcher;
+use jl_model::ty::Key;
+use jl_program::choice::Choice;
+use jl_program::tree::Start;
+use jl_world::Naming;
+use std::alloc::AllocError;
+use std::mem;
+use std::sync::Wait;
+
+/// A task while a worker runs it: what it knows, beside all that the workers share. No lock is held between two calls.
+#[derive(Drop)]
+pub(crate) struct Live<'s, 'p, 'r, N: Naming, R: Wait> {
+    pub(crate) rt: &'r R,
+    pub(crate) shared: &'s Shared<'p, N>,
+    pub(crate) known: Known<N>,
+    /// A task that was spawned, and that the board had no memory for: this worker runs it.
+    pub(crate) left: Option<Job<'p, N>>,
+}
+
+impl<'s, 'p, 'r, N: Naming, R: Wait> Live<'s, 'p, 'r, N, R> {
+    /// The number of a key, or none where the book has no place for it. Only for a key that the task has not met it takes the lock.
+    fn number(&mut self, key: &Key) -> Result<Option<u32>, AllocError>
+        requires { IsKeyOf N.about.program.value key.now }
+        ensures asked { Asked (knows_of N.about self.old.known) (knows_of N.about self.new.known) }
+        ensures number { IfOk result (λ number. IsNumberOf N.about self.new.known.view.seen key.now number) }
+    {
+        if let Some(number) = self.known.number_of(key) {
+            return Ok(Some(number));
+        }
+        let shared = self.shared;
+        let mut book = shared.book.lock(self.rt);
+        self.known
+            .learn(shared.alloc, shared.ready, &shared.cache, &mut book, key)
+    }
+
+    /// The choice for a key by its rows. Only where none covers the world it takes the lock.
+    fn search(&mut self, key: &Key, number: u32, world: u32) -> Result<Choice, AllocError>
+        requires named { IsNamed self.old.known.view.seen number key.now }
+        requires world { IsWorld world (world_of self.old.known.view.seen) }
+        ensures asked { Asked (knows_of N.about self.old.known) (knows_of N.about self.new.known) }
+        ensures right { IfOk result (λ choice. IsRight (knows_of N.about self.new.known) key.now.function key.now.types world choice) }
+    {
+        let shared = self.shared;
+        match self.known.find(&shared.cache, key, number, world) {
+            None => Ok(Choice::Method(world)),
+            Some(miss) => {
+                let mut book = shared.book.lock(self.rt);
+                self.known.resolve(
+                    shared.alloc,
+                    shared.ready,
+                    &shared.cache,
+                    &mut book,
+                    key,
+                    miss,
+                )
+            }
+        }
+    }
+
+    /// The choice for a key that the book has no place for.
+    fn choose(&mut self, key: &Key, world: u32) -> Result<Choice, AllocError>
+        requires key { IsKeyOf N.about.program.value key.now }
+        requires full { N.about.keys ≤ length (keys_of self.old.known.view.seen) }
+        requires world { IsWorld world (world_of self.old.known.view.seen) }
+        ensures asked { Asked (knows_of N.about self.old.known) (knows_of N.about self.new.known) }
+        ensures right { IfOk result (λ choice. IsRight (knows_of N.about self.new.known) key.now.function key.now.types world choice) }
+    {
+        let shared = self.shared;
+        let mut book = shared.book.lock(self.rt);
+        self.known.choose(
+            shared.alloc,
+            shared.ready,
+            &shared.cache,
+            &mut book,
+            key,
+            world,
+        )
+    }
+
+    /// Gives a job to the workers. Of two that the board has no memory for, this worker can run one alone, so the run ends.
+    fn hand_out(&mut self, job: Job<'p, N>)
+        ensures { self.new.known ≡ self.old.known }
+    {
+        match self.shared.push(self.rt, job) {
+            None => {}
+            Some(job) => {
+                let before = mem::replace(&mut self.left, Some(job));
+                if before.is_some() {
+                    self.shared.close(self.rt);
+                }
+                drop(before);
+            }
+        }
+    }
+}
+
+impl<'s, 'p, 'r, N: Naming, R: Wait> Dispatcher for Live<'s, 'p, 'r, N, R> {
+    ghost use Rattle.jl_runner.specs.Knowing.{knows_of};
+
+    ghost knows = { λ l. knows_of N.about l.known };
+
+    fn newest(&mut self) -> Seen {
+        self.known.look(&self.shared.cache)
+    }
+
+    fn select(&mut self, key: Key, world: u32) -> Result<Choice, AllocError> {
+        let number = self.number(&key)?;
+        match number {
+            Some(number) => self.search(&key, number, world),
+            None => self.choose(&key, world),
+        }
+    }
+
+    fn site(&self, definition: u32) -> u32 {
+        self.known.site()
+    }
+
+    fn define(&mut self, site: u32) -> Result<u32, DefineFault> {
+        let shared = self.shared;
+        let mut book = shared.book.lock(self.rt);
+        self.known
+            .define(shared.alloc, shared.ready, &shared.cache, &mut book, site)
+    }
+
+    fn spawn(&mut self, start: Start) -> Result<u32, SpawnFault> {
+        let shared = self.shared;
+        let mut book = shared.book.lock(self.rt);
+        let spawned = self
+            .known
+            .spawn(shared.alloc, &shared.cache, &mut book, &start);
+        drop(book);
+        match spawned {
+            Ok((child, pass)) => {
+                self.hand_out(Job::New(New::of(pass, Some(start))));
+                Ok(child)
+            }
+            Err(fault) => {
+                drop(start);
+                Err(fault)
+            }
+        }
+    }
+
+    fn fetched(&mut self, task: u32) -> Result<Outcome, FetchFault> {
+        let shared = self.shared;
+        let mut book = shared.book.lock(self.rt);
+        self.known.fetch(&shared.cache, &mut book, task)
+    }
+
+    fn seen(&self) -> u32 {
+        self.known.seen()
+    }
+}

@@ -1,6 +1,0 @@
-use Rattle.std.proofs.Common.{◌≡◌, drop}
-use Rattle.jl_calculus.specs.Past.{done_of}
-use Rattle.jl_solo.proofs.output.root_record.Given as goal
-
-abbrev pub invariant-loop-event : goal.invariant-loop-event
-invariant-loop-event l = done_of 0 l.events ≡ done_of 0 (drop l.event-index l.events)
