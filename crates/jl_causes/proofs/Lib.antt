@@ -8,3 +8,7 @@ pub mod LegalLemmas
 pub mod PlaceLemmas
 pub mod TaskLemmas
 pub mod TruthLemmas
+pub mod RowLemmas
+pub mod NoteLemmas
+pub mod FirstLemmas
+pub mod JudgeLemmas

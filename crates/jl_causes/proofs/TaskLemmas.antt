@@ -20,7 +20,7 @@ use Rattle.jl_causes.proofs.PlaceLemmas.{end_kept, end_now, running_end}
 -- ---- places of first items
 
 -- an event that does not start the task
-first_kept : (t p : ℕ) (es : List Event) (e : Event) → ((q : ℕ) → first_place t q (e ∷ []) ≡ 1) → first_place t p (es ++ e ∷ []) ≡ first_place t p es
+pub first_kept : (t p : ℕ) (es : List Event) (e : Event) → ((q : ℕ) → first_place t q (e ∷ []) ≡ 1) → first_place t p (es ++ e ∷ []) ≡ first_place t p es
 first_kept t p [] e h = h p
 first_kept t p (Ev.Begin fuel ∷ es) e h = first_kept t (p + 1) es e h
 first_kept t p (Ev.Key key ∷ es) e h = first_kept t (p + 1) es e h
@@ -75,7 +75,7 @@ own_more own row by t p s es e l r one at h = go (nat_eq by t) refl
 
 -- ---- the tables
 
-begun_more : (es : List Event) (e : Event) → IsSome (fuel_of es) → IsSome (fuel_of (es ++ e ∷ []))
+pub begun_more : (es : List Event) (e : Event) → IsSome (fuel_of es) → IsSome (fuel_of (es ++ e ∷ []))
 begun_more es e h = subst IsSome (sym (fuel_append es (e ∷ []) h)) h
 
 pub task_defines : (es : List Event) (t q : Tasks) (by site : ℕ) (row : List Step) → q.firsts.items ≡ t.firsts.items → q.ends.items ≡ t.ends.items → q.own.items ≡ slice_set t.own.items by row

@@ -3,9 +3,16 @@
 
 mod cause;
 mod finished;
+mod first;
+mod judge;
+mod key;
 pub mod laws;
+mod note;
 mod places;
+mod rows;
 mod tasks;
 mod trace;
 
 pub use cause::Cause;
+pub use first::first_cause;
+pub use key::ReadKey;

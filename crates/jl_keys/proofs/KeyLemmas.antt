@@ -1,5 +1,5 @@
 -- Keys with the same texts.
-use Rattle.std.proofs.Common.{◌≡◌, ◌∙◌, sym, refl, ap, ℕ, suc, ◌*◌, ◌≤◌, arith, Bool, true, ◌&&◌, nat_eq, nat_lt, List, [], ◌∷◌, ◌++◌, length, map, get_or, Some}
+use Rattle.std.proofs.Common.{◌≡◌, ◌∙◌, sym, refl, ap, ℕ, suc, ◌≤◌, arith, Bool, true, ◌&&◌, nat_eq, nat_lt, List, [], ◌∷◌, ◌++◌, length, map, get_or, Some}
 use Rattle.std.specs.List.{list_all, flat_map, AllByRecursion}
 use Rattle.std.proofs.lemmas.Option.{same_Some}
 use Rattle.std.proofs.lemmas.List.Elements.{recursion_from_All}
@@ -7,36 +7,22 @@ use Rattle.jl_model.specs.declared.limits.TheConstants.{MOST_ARGUMENTS, MOST_TYP
 use Rattle.jl_model.specs.declared.ty.Decl.{Decl}
 use Rattle.jl_model.specs.declared.ty.Key.{Key}
 use Rattle.jl_model.specs.declared.ty.Ty.{Ty}
-use Rattle.jl_model.specs.declared.ty.Ty.TheOpen as O
 use Rattle.jl_model.specs.declared.ty.Ty.TheViews.{out-Ty, outs-Tuple}
 use Rattle.jl_model.specs.declared.ty.Ty.TheViews as V
 use Rattle.jl_model.specs.Rows.{vars_in}
 use Rattle.jl_model.specs.Valid.{names_in}
-use Rattle.jl_model.proofs.CountLemmas.{nodes_all, nodes-tuple}
-use Rattle.jl_model.proofs.FormLemmas.{vars-tuple}
 use Rattle.jl_program.specs.declared.tree.Program.{Program}
 use Rattle.jl_program.specs.Scope.{all_types}
 use Rattle.jl_program.specs.Text.{type_text, type_names}
 use Rattle.jl_program.specs.Valid.{IsValid}
 use Rattle.jl_program.specs.ValidValue.{IsValueType}
 use Rattle.jl_calculus.specs.Legal.{IsKeyOf}
-use Rattle.jl_keys.specs.Reading.{place_of, type_in}
+use Rattle.jl_keys.specs.Reading.{place_of, tuple_in}
 use Rattle.jl_keys.specs.Laws.{KeysApart, TypesAreRead}
-use Rattle.jl_keys.proofs.TypeLemmas.{and_both, are_of, whole_again, names-tuple}
+use Rattle.jl_keys.proofs.TypeLemmas.{and_both, are_of, AreSmall, tuple_again}
 use Rattle.jl_keys.proofs.NameLemmas.{place_again, table_is}
 
 -- ---- the types of a key
-
-abbrev parts_step : O.Ty-F Ty → List Ty
-parts_step O.Any = []
-parts_step (O.Union ts) = []
-parts_step (O.Tuple ts) = ts
-parts_step (O.Nominal k ts) = []
-parts_step (O.Var v) = []
-
--- tuples of the same types
-same_parts : (ts us : List Ty) → V.Tuple ts ≡ V.Tuple us → ts ≡ us
-same_parts ts us e = ap parts_step (sym (outs-Tuple ts)) ∙ ap (λ t. parts_step (out-Ty t)) e ∙ ap parts_step (outs-Tuple us)
 
 length_map : (ds : List Decl) → length (map (λ (d : Decl). d.name) ds) ≡ length ds
 length_map [] = refl
@@ -59,18 +45,21 @@ module _ (ds : List Decl) where
   closed_all [] h = refl
   closed_all (t ∷ ts) (h, hs) = ap (λ z. z ++ flat_map vars_in ts) (no_vars (vars_in t) h.closed) ∙ closed_all ts hs
 
-  small_all : (ts : List Ty) → AllByRecursion (IsValueType ds) ts → nodes_all ts ≤ length ts * MOST_TYPE_NODES
-  small_all [] h = omega arith
-  small_all (t ∷ ts) (h, hs) = omega (arith, h.small.nodes, small_all ts hs)
+  small_all : (ts : List Ty) → AllByRecursion (IsValueType ds) ts → AreSmall MOST_TYPE_NODES ts
+  small_all [] h = tt
+  small_all (t ∷ ts) (h, hs) = (omega (arith, h.small.nodes), small_all ts hs)
+
+-- types that a key may have are read from the text of their tuple
+pub types_again : (P : Program) → IsValid P → (ts : List Ty) → length ts ≤ MOST_ARGUMENTS → AllByRecursion (IsValueType (all_types P)) ts
+    → tuple_in (type_names P) MOST_ARGUMENTS MOST_TYPE_NODES (type_text P (V.Tuple ts)) ≡ Some ts
+types_again P valid ts few each =
+    tuple_again P (table_is P valid) ts MOST_ARGUMENTS MOST_TYPE_NODES
+    (ap (λ n. are_of n (flat_map names_in ts)) (length_map (all_types P)) ∙ known_all (all_types P) ts each)
+    (closed_all (all_types P) ts each) few (small_all (all_types P) ts each)
 
 -- the types of a key of the program are read from their text
-pub key_again : (P : Program) → IsValid P → (key : Key) → IsKeyOf P key → type_in (type_names P) (MOST_ARGUMENTS * MOST_TYPE_NODES) (type_text P (V.Tuple key.types)) ≡ Some (V.Tuple key.types)
-key_again P valid key h =
-    let each : AllByRecursion (IsValueType (all_types P)) key.types = recursion_from_All (IsValueType (all_types P)) key.types h.types in
-    whole_again P (table_is P valid) (V.Tuple key.types) (MOST_ARGUMENTS * MOST_TYPE_NODES)
-    (ap (λ n. are_of n (names_in (V.Tuple key.types))) (length_map (all_types P)) ∙ ap (are_of (length (all_types P))) (names-tuple key.types) ∙ known_all (all_types P) key.types each)
-    (vars-tuple key.types ∙ closed_all (all_types P) key.types each)
-    (omega (arith, nodes-tuple key.types, small_all (all_types P) key.types each, h.few))
+pub key_again : (P : Program) → IsValid P → (key : Key) → IsKeyOf P key → tuple_in (type_names P) MOST_ARGUMENTS MOST_TYPE_NODES (type_text P (V.Tuple key.types)) ≡ Some key.types
+key_again P valid key h = types_again P valid key.types h.few (recursion_from_All (IsValueType (all_types P)) key.types h.types)
 
 pub types_are_read : TypesAreRead
 types_are_read P valid key h = key_again P valid key h
@@ -85,5 +74,5 @@ keys_apart P valid a b ha hb f t =
     let function : a.function ≡ b.function =
     number_is P.functions a.function b.function (place_again P.functions valid.distinct a.function ha.function) (place_again P.functions valid.distinct b.function hb.function) f in
     let types : a.types ≡ b.types =
-    same_parts a.types b.types (same_Some (V.Tuple a.types) (V.Tuple b.types) (sym (key_again P valid a ha) ∙ ap (type_in (type_names P) (MOST_ARGUMENTS * MOST_TYPE_NODES)) t ∙ key_again P valid b hb)) in
+    same_Some a.types b.types (sym (key_again P valid a ha) ∙ ap (tuple_in (type_names P) MOST_ARGUMENTS MOST_TYPE_NODES) t ∙ key_again P valid b hb) in
     (λ i. record { function = function i; types = types i })

@@ -1,3 +1,6 @@
 pub mod TypeLemmas
 pub mod NameLemmas
 pub mod KeyLemmas
+pub mod ReadLemmas
+pub mod KeptLemmas
+pub mod NamedLemmas

@@ -1,5 +1,5 @@
 -- The text of a type is read as this type.
-use Rattle.std.proofs.Common.{◌≡◌, ◌∙◌, sym, refl, ap, ℕ, zero, suc, ◌<◌, ◌≤◌, arith, Bool, true, false, not, ◌&&◌, ◌||◌, cond, nat_eq, nat_lt, codes, List, [], ◌∷◌, ◌++◌, length, map, drop, get_or, bytes_eq, Some, append_assoc, append-nil}
+use Rattle.std.proofs.Common.{◌≡◌, ◌∙◌, sym, refl, ap, ℕ, zero, suc, ◌<◌, ◌≤◌, arith, Bool, true, false, not, ◌&&◌, ◌||◌, cond, nat_eq, nat_lt, codes, List, [], ◌∷◌, ◌++◌, length, map, drop, get_or, bytes_eq, None, Some, append_assoc, append-nil}
 use Rattle.std.specs.List.{list_all, flat_map}
 use Rattle.jl_model.specs.declared.ty.Ty.{Ty}
 use Rattle.jl_model.specs.declared.ty.Ty.TheOpen as O
@@ -15,7 +15,7 @@ use Rattle.jl_model.proofs.TypeInduction.{Each, by_cases}
 use Rattle.jl_model.proofs.CountLemmas.{nodes-any, nodes-var, nodes-union, nodes-tuple, nodes-nominal, nodes_all}
 use Rattle.jl_program.specs.declared.tree.Program.{Program}
 use Rattle.jl_program.specs.Text.{joined, joined_more, in_braces, arguments, type_step, type_text, type_name, type_names}
-use Rattle.jl_keys.specs.Reading.{◌>>=◌, opening, closing, comma, is_mark, begins, word_at, place_of, bare, given, made, braced, type_by, type_at, more, types_at, whole, type_in}
+use Rattle.jl_keys.specs.Reading.{◌>>=◌, opening, closing, comma, is_mark, begins, word_at, place_of, bare, given, made, braced, type_by, type_at, more, types_at, parts_at, ended, closed_in, braces_in, tuple_in}
 
 -- ---- names
 
@@ -164,6 +164,11 @@ number_of k m b h = let p = and_both (nat_lt k m) b h in (below k m p.0, p.1)
     below : (k m : ℕ) → nat_lt k m ≡ true → k < m
     below k m e = grind (arith, e)
 
+-- each has at most so many nodes
+abbrev pub AreSmall : ℕ → List Ty → Type 0
+AreSmall n [] = Unit {0}
+AreSmall n (t ∷ ts) = (nodes t ≤ suc n) × AreSmall n ts
+
 module _ (P : Program) (table : IsTable (type_names P)) where
   -- no type begins with a closing brace
   opens : (t : Ty) → are_of (length (type_names P)) (names_in t) ≡ true → vars_in t ≡ [] → (rest : List ℕ) → begins closing (type_text P t ++ rest) ≡ false
@@ -256,8 +261,40 @@ module _ (P : Program) (table : IsTable (type_names P)) where
     var = λ w k v. absurd (never_nil w [] (sym (vars-var w) ∙ v));
   })
 
-  -- the whole text of a type
-  pub whole_again : (t : Ty) (n : ℕ) → are_of (length (type_names P)) (names_in t) ≡ true → vars_in t ≡ [] → nodes t ≤ suc n → type_in (type_names P) n (type_text P t) ≡ Some t
-  whole_again t n k v l =
-      ap (λ z. type_in (type_names P) n z) (sym (append-nil (type_text P t)))
-      ∙ ap (λ o. o >>= λ p. whole p.0 p.1) (type_again t k v n [] l refl)
+  -- ---- the types of a tuple
+
+  parts_again : (t : Ty) (ts : List Ty) → are_of (length (type_names P)) (flat_map names_in (t ∷ ts)) ≡ true → flat_map vars_in (t ∷ ts) ≡ []
+      → (many n : ℕ) (rest : List ℕ) → length (t ∷ ts) ≤ many → AreSmall n (t ∷ ts) → parts_at (type_names P) many n (listed P (t ∷ ts) rest) ≡ Some (t ∷ ts, rest)
+  parts_again t ts known closed zero n rest l s = absurd (omega (arith, l))
+  parts_again t [] known closed (suc many) n rest l s =
+      let k = all_parts (λ k. nat_lt k (length (type_names P))) (names_in t) [] known in
+      let v = nil_parts (vars_in t) [] closed in
+      ap (λ z. type_at (type_names P) (types_at (type_names P) n) (z ++ closing ∷ rest) >>= λ p. more (parts_at (type_names P) many n) p) (append-nil (type_text P t))
+      ∙ ap (λ o. o >>= λ p. more (parts_at (type_names P) many n) p) (type_again t k.0 v.0 n (closing ∷ rest) s.0 refl)
+  parts_again t (u ∷ us) known closed (suc many) n rest l s =
+      let k = all_parts (λ k. nat_lt k (length (type_names P))) (names_in t) (flat_map names_in (u ∷ us)) known in
+      let v = nil_parts (vars_in t) (flat_map vars_in (u ∷ us)) closed in
+      ap (λ z. type_at (type_names P) (types_at (type_names P) n) z >>= λ p. more (parts_at (type_names P) many n) p)
+      (append_assoc (type_text P t) (codes ", " ++ joined (map (type_text P) (u ∷ us))) (closing ∷ rest))
+      ∙ ap (λ o. o >>= λ p. more (parts_at (type_names P) many n) p) (type_again t k.0 v.0 n (codes ", " ++ listed P (u ∷ us) rest) s.0 refl)
+      ∙ ap (λ o. o >>= λ z. Some (t ∷ z.0, z.1)) (parts_again u us k.1 v.1 many n rest (omega (arith, l)) s.1)
+
+  closed_again : (ts : List Ty) → are_of (length (type_names P)) (flat_map names_in ts) ≡ true → flat_map vars_in ts ≡ [] → (many n : ℕ) → length ts ≤ many → AreSmall n ts
+      → closed_in (type_names P) many n (listed P ts []) ≡ Some ts
+  closed_again [] known closed many n l s = refl
+  closed_again (u ∷ us) known closed many n l s =
+      let k = all_parts (λ k. nat_lt k (length (type_names P))) (names_in u) (flat_map names_in us) known in
+      let v = nil_parts (vars_in u) (flat_map vars_in us) closed in
+      let open_is : begins closing (listed P (u ∷ us) []) ≡ false =
+      ap (begins closing) (append_assoc (type_text P u) (joined_more (map (type_text P) us)) (closing ∷ [])) ∙ opens u k.0 v.0 (joined_more (map (type_text P) us) ++ closing ∷ []) in
+      ap (λ b. cond b (ended [] (drop 1 (listed P (u ∷ us) []))) (parts_at (type_names P) many n (listed P (u ∷ us) []) >>= λ q. ended q.0 q.1)) open_is
+      ∙ ap (λ o. o >>= λ q. ended q.0 q.1) (parts_again u us known closed many n [] l s)
+
+  -- the whole text of a tuple
+  pub tuple_again : (ts : List Ty) (many n : ℕ) → are_of (length (type_names P)) (flat_map names_in ts) ≡ true → flat_map vars_in ts ≡ [] → length ts ≤ many → AreSmall n ts
+      → tuple_in (type_names P) many n (type_text P (V.Tuple ts)) ≡ Some ts
+  tuple_again ts many n k v l s =
+      let braces : in_braces (map (type_text P) ts) ≡ opening ∷ listed P ts [] = sym (append-nil (in_braces (map (type_text P) ts))) ∙ braces_are (map (type_text P) ts) [] in
+      ap (tuple_in (type_names P) many n) (text-tuple P ts ∙ ap (λ z. codes "Tuple" ++ z) braces)
+      ∙ ap (λ (w : List ℕ × List ℕ). cond (bytes_eq w.0 (codes "Tuple")) (braces_in (type_names P) many n w.1) None) (word_again (codes "Tuple") (opening ∷ listed P ts []) refl refl)
+      ∙ closed_again ts k v many n l s

@@ -1,5 +1,5 @@
 -- Laws of the texts of keys.
-use Rattle.std.specs.Prelude.{◌≡◌, ◌*◌, Some}
+use Rattle.std.specs.Prelude.{◌≡◌, Some}
 use Rattle.jl_model.specs.declared.limits.TheConstants.{MOST_ARGUMENTS, MOST_TYPE_NODES}
 use Rattle.jl_model.specs.declared.ty.Key.{Key}
 use Rattle.jl_model.specs.declared.ty.Ty.TheViews.{Tuple}
@@ -7,7 +7,7 @@ use Rattle.jl_program.specs.declared.tree.Program.{Program}
 use Rattle.jl_program.specs.Text.{function_name, type_text, type_names}
 use Rattle.jl_program.specs.Valid.{IsValid}
 use Rattle.jl_calculus.specs.Legal.{IsKeyOf}
-use Rattle.jl_keys.specs.Reading.{type_in}
+use Rattle.jl_keys.specs.Reading.{tuple_in}
 
 -- keys of a valid program with the same texts are the same
 abbrev pub KeysApart : Type 0
@@ -19,4 +19,4 @@ KeysApart =
 abbrev pub TypesAreRead : Type 0
 TypesAreRead =
     (P : Program) → IsValid P → (key : Key) → IsKeyOf P key
-    → type_in (type_names P) (MOST_ARGUMENTS * MOST_TYPE_NODES) (type_text P (Tuple key.types)) ≡ Some (Tuple key.types)
+    → tuple_in (type_names P) MOST_ARGUMENTS MOST_TYPE_NODES (type_text P (Tuple key.types)) ≡ Some key.types

@@ -1,5 +1,7 @@
 -- How the text of a type is read, with the names of the types of a table.
-use Rattle.std.specs.Prelude.{ℕ, zero, suc, ◌&&◌, ◌||◌, Bool, false, cond, nat_eq, codes, List, [], ◌∷◌, drop, bytes_eq, Option, None, Some}
+use Rattle.std.specs.Prelude.{ℕ, zero, suc, ◌≡◌, ◌++◌, ◌&&◌, ◌||◌, Bool, false, cond, nat_eq, codes, List, [], ◌∷◌, map, drop, bytes_eq, Option, None, Some}
+use Rattle.std.specs.Borrow.{Bor}
+use Rattle.jl_model.specs.declared.ty.Decl.{Decl}
 use Rattle.jl_model.specs.declared.ty.Ty.{Ty}
 use Rattle.jl_model.specs.declared.ty.Ty.TheViews as V
 use Rattle.jl_model.specs.declared.ty.Ty.TheVariants as W
@@ -35,6 +37,10 @@ begins b (c ∷ cs) = nat_eq c b
 abbrev pub word_at : List ℕ → List ℕ × List ℕ
 word_at [] = ([], [])
 word_at (c ∷ cs) = cond (is_mark c) ([], c ∷ cs) (c ∷ (word_at cs).0, (word_at cs).1)
+
+-- the names of the types of a table
+abbrev pub names_of : List Decl → List (List ℕ)
+names_of ds = map (λ (d : Decl). d.name) ds
 
 -- one place further
 abbrev pub after : Option ℕ → Option ℕ
@@ -87,11 +93,40 @@ abbrev pub types_at : List (List ℕ) → ℕ → List ℕ → Option (List Ty �
 types_at names zero text = None
 types_at names (suc n) text = type_at names (types_at names n) text >>= λ p. more (types_at names n) p
 
--- a type after which nothing follows
-abbrev pub whole : Ty → List ℕ → Option Ty
-whole t [] = Some t
-whole t (c ∷ cs) = None
+-- types in braces, as many at most and each of at most so many nodes, up to the closing brace, and what follows it
+abbrev pub parts_at : List (List ℕ) → ℕ → ℕ → List ℕ → Option (List Ty × List ℕ)
+parts_at names zero n text = None
+parts_at names (suc many) n text = type_at names (types_at names n) text >>= λ p. more (parts_at names many n) p
 
--- the type of at most so many nodes that a whole text is that of
-abbrev pub type_in : List (List ℕ) → ℕ → List ℕ → Option Ty
-type_in names n text = type_at names (types_at names n) text >>= λ p. whole p.0 p.1
+-- types after which nothing follows
+abbrev pub ended : List Ty → List ℕ → Option (List Ty)
+ended ts [] = Some ts
+ended ts (c ∷ cs) = None
+
+-- the types before the closing brace with which a text ends
+abbrev pub closed_in : List (List ℕ) → ℕ → ℕ → List ℕ → Option (List Ty)
+closed_in names many n text = cond (begins closing text) (ended [] (drop 1 text)) (parts_at names many n text >>= λ q. ended q.0 q.1)
+
+-- the types in braces that a text is
+abbrev pub braces_in : List (List ℕ) → ℕ → ℕ → List ℕ → Option (List Ty)
+braces_in names many n text = cond (begins opening text) (closed_in names many n (drop 1 text)) None
+
+-- the types of the tuple that a whole text is that of, as many at most and each of at most so many nodes
+abbrev pub tuple_in : List (List ℕ) → ℕ → ℕ → List ℕ → Option (List Ty)
+tuple_in names many n text = cond (bytes_eq (word_at text).0 (codes "Tuple")) (braces_in names many n (word_at text).1) None
+
+-- ---- what the code answers
+
+-- a type with what follows it
+abbrev pub followed : Option Ty → List ℕ → Option (Ty × List ℕ)
+followed found rest = found >>= λ t. Some (t, rest)
+
+-- this type is read and this follows it, or none is
+abbrev pub IsReadTo : Option (Ty × List ℕ) → Option (Ty × Bor (List ℕ)) → Type 0
+IsReadTo o None = o ≡ None
+IsReadTo o (Some x) = o ≡ Some (x.0, x.1.now)
+
+-- these types are read, behind others, and this follows them, or none are
+abbrev pub AreReadTo : Option (List Ty × List ℕ) → List Ty → List Ty → Option (Bor (List ℕ)) → Type 0
+AreReadTo o before now None = o ≡ None
+AreReadTo o before now (Some rest) = (ts : List Ty) × (now ≡ before ++ ts) × (o ≡ Some (ts, rest.now))

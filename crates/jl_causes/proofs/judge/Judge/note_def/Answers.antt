@@ -1,0 +1,22 @@
+use Rattle.std.proofs.Common.{refl, arith}
+use Rattle.jl_calculus.specs.declared.history.Event.TheVariants as Ev
+use Rattle.jl_causes.proofs.NoteLemmas.{counts_def, judge_more}
+use Rattle.jl_causes.proofs.judge.Judge.note_def.Goals as goal
+
+pub note_def-requires : goal.note_def-requires
+note_def-requires c = let (all, es, h, m) = c.requires in (es, h.rows, m)
+
+pub define-requires : goal.define-requires
+define-requires c = let (all, es, h, m) = c.requires in (es, h.tasks, m.running.started)
+
+pub returns : goal.returns
+returns c = λ all es h m at.
+    let e = Ev.Def c.args.task c.args.site in
+    judge_more c.args.ready.now all es e c.args.self.now _ refl h (c.in_ok-note_def.ensures es h.rows m) (c.in_ok-define.ensures es h.tasks at)
+    (c.in_ok-note.ensures es e h.places (counts_def es c.args.task c.args.site c.newest-old.result _ refl refl (c.newest-old.ensures es h.places)))
+
+pub overflow_add-old : goal.overflow_add-old
+overflow_add-old c =
+    let (all, es, h, m) = c.requires in
+    let now = c.newest-old.ensures es h.places in
+    omega (arith, now.world, m.room)
