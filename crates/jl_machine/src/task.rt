@@ -257,8 +257,14 @@ impl<'p> Task<'p> {
             Choice::Method(definition) => {
                 let site = with.site(definition);
                 let statics = self.statics_of(ready, site, &types)?;
-                let work =
-                    turns::perform(&mut self.now, ready, ops, site, world, statics.as_slice())?;
+                let work = turns::perform(
+                    &mut self.now,
+                    ready,
+                    ops,
+                    site,
+                    world,
+                    statics.as_slice(),
+                )?;
                 with.keep(Key { function, types }, world, site, statics);
                 Ok(work)
             }

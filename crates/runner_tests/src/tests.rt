@@ -69,7 +69,16 @@ fn worlds_tasks_and_places_come_to_their_limits(rt: HostRuntime) -> Result<(), F
     let (history, written) = run(&rt, rt.alloc(), MORE, &whole(4), &OpenGate)?;
     assert!(rt; written.as_slice() == b"0\nERROR: WorldLimit: 65535 worlds\n".as_slice());
     assert_eq!(rt; definitions(&history), 65_521);
-    assert!(rt; writes(&rt, rt.alloc(), MANY, &whole(4), &OpenGate, "0\nERROR: TaskLimit: 4096 tasks\n")?);
+    assert!(rt;
+        writes(
+            &rt,
+            rt.alloc(),
+            MANY,
+            &whole(4),
+            &OpenGate,
+            "0\nERROR: TaskLimit: 4096 tasks\n"
+        )?
+    );
     let (history, written) = run(&rt, rt.alloc(), CALL, &setup(2, 1, 1), &OpenGate)?;
     assert!(rt; written.as_slice() == b"3\n".as_slice());
     assert!(rt; letters(rt.alloc(), &history)?.as_slice() == b"bdkfe".as_slice());
