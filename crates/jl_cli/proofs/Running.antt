@@ -7,8 +7,6 @@ use Rattle.jl_calculus.specs.Legal.{status_of}
 use Rattle.jl_queue.specs.declared.setup.Setup.{Setup}
 use Rattle.jl_command.specs.declared.commands.Command.{Command}
 use Rattle.jl_command.specs.declared.commands.Command.TheVariants as C
-use Rattle.jl_command.specs.declared.read.WordsFault.{WordsFault}
-use Rattle.jl_command.specs.declared.read.WordsFault.TheVariants as N
 use Rattle.jl_cli.specs.declared.answering.Due.{Due}
 use Rattle.jl_cli.specs.declared.work.Work.{Work}
 use Rattle.jl_cli.specs.declared.work.Work.TheVariants as W
@@ -75,11 +73,7 @@ ended_along asked left left' held held' source_rose sink_rose st status history 
     (subst (λ (h : Option History). HasRun asked left left' held held' source_rose sink_rose st h) (sym e.1) run)
 
 -- words that are a command, or of which memory was refused to tell, are none that are refused for certain
-pub command_apart : (c : Command) → ◌≡◌ {A = Result Command WordsFault} (Ok c) (Err N.NoCommand) → ⊥
-command_apart c e = cc
 
-pub memory_apart : (f : WordsFault) → f ≡ N.Memory → ◌≡◌ {A = Result Command WordsFault} (Err f) (Err N.NoCommand) → ⊥
-memory_apart f m e = cc
 
 -- the words are no command, and the usage line was delivered
 pub used : (left held held' : Option (List ℕ)) (source_rose sink_rose : Type 0) (text : List ℕ) (status : ℕ) (history : Option History)
@@ -87,11 +81,6 @@ pub used : (left held held' : Option (List ℕ)) (source_rose sink_rose : Type 0
 used left held held' source_rose sink_rose text status history e d =
     delivered None left left held held' source_rose sink_rose [] (Gives-none left) (omega arith) 2 None text status history (λ lt. absurd (omega (arith, lt)))
     (subst (λ (line : List ℕ). IsDue None [] 2 None line) (sym e) usage) d
-
--- a text that was delivered is the same text
-pub delivered_along : (held held' : Option (List ℕ)) (sink_rose : Type 0) (st : ℕ) (h : Option History) (text text' : List ℕ) (status : ℕ) (history : Option History) → text ≡ text'
-    → IsDelivered held held' sink_rose st h text status history → IsDelivered held held' sink_rose st h text' status history
-delivered_along held held' sink_rose st h text text' status history e d = subst (λ (t : List ℕ). IsDelivered held held' sink_rose st h t status history) e d
 
 -- the line that is due for too many bytes, which only a command that reads has
 pub too_long_due : (c : Command) (bytes text : List ℕ) → 1048576 < length bytes → length bytes ≤ most_read (Some c) → text ≡ codes "ERROR: SourceTooLong\n" → IsDue (Some c) bytes 3 None text

@@ -1,10 +1,10 @@
 //! The top call.
 
-ghost use Rattle.std.specs.Prelude.{◌≡◌, ◌≤◌, None, Some};
+ghost use Rattle.std.specs.Prelude.{◌≡◌, ◌≤◌, Some};
 ghost use Rattle.jl_io.specs.Faults.{Rose};
 ghost use Rattle.jl_command.specs.Texts.{texts};
-ghost use Rattle.jl_command.specs.Rule.{command_of, opening, IsInRange};
-ghost use Rattle.jl_cli.specs.Due.{HasRun, usage_line};
+ghost use Rattle.jl_command.specs.Rule.{command_of, IsInRange};
+ghost use Rattle.jl_cli.specs.Due.{HasRun};
 ghost use Rattle.jl_cli.specs.Delivered.{IsDelivered};
 
 use crate::answering::{Due, answer};
@@ -102,8 +102,6 @@ fn obey<R: Threads + Wait + Sync, S: Source, K: Sink, G: Gate>(
 /// Status 0: the run ended with a value, or the script that was checked is a program. 1: the run ended with a fault. 2: the words
 /// are no command. 3: the script is no program, or the command is not built yet. 4: the source failed. 5: the sink failed. 6:
 /// memory was refused. Each fault of the source ends in status 4, and each of the sink in status 5.
-///
-/// Words of which the first asks for no command, or a later one is no option and no value, take no memory.
 pub fn run<R: Threads + Wait + Sync, S: Source, K: Sink, G: Gate>(
     rt: &R,
     alloc: Global,
@@ -118,7 +116,6 @@ pub fn run<R: Threads + Wait + Sync, S: Source, K: Sink, G: Gate>(
     ensures reads_quiet { (result.status ≡ 4 → ⊥) → S.faults source.new ≡ S.faults source.old }
     ensures writes_quiet { (result.status ≡ 5 → ⊥) → K.faults sink.new ≡ K.faults sink.old }
     ensures ran { HasRun (command_of (texts words.now)) (S.left source.old) (S.left source.new) (K.written sink.old) (K.written sink.new) (Rose (S.faults source.old) (S.faults source.new)) (Rose (K.faults sink.old) (K.faults sink.new)) result.status result.history }
-    ensures refused { opening (texts words.now) ≡ None → IsDelivered (K.written sink.old) (K.written sink.new) (Rose (K.faults sink.old) (K.faults sink.new)) 2 None usage_line result.status result.history }
 {
     match command(alloc, words) {
         Ok(command) => obey(rt, alloc, command, source, sink, gate, &ops),
