@@ -72,8 +72,6 @@ ended_along asked left left' held held' source_rose sink_rose st status history 
     subst (λ (n : ℕ). HasRun asked left left' held held' source_rose sink_rose n history) (sym e.0)
     (subst (λ (h : Option History). HasRun asked left left' held held' source_rose sink_rose st h) (sym e.1) run)
 
--- words that are a command, or of which memory was refused to tell, are none that are refused for certain
-
 -- the words are no command, and the usage line was delivered
 pub used : (left held held' : Option (List ℕ)) (source_rose sink_rose : Type 0) (text : List ℕ) (status : ℕ) (history : Option History)
     → text ≡ usage_line → IsDelivered held held' sink_rose 2 None text status history → HasRun None left left held held' source_rose sink_rose status history
