@@ -53,6 +53,3 @@ pub(crate) const MANY: &str =
 /// Two tasks define one method.
 pub(crate) const RACE: &str =
     "f() = 0\nfunction one()\n@eval f() = 1\n0\nend\nfunction two()\n@eval f() = 2\n0\nend\na = Threads.@spawn one()\nb = Threads.@spawn two()\nfetch(a)\nfetch(b)\nprintln(f())\n";
-
-/// A function and a call of it.
-pub(crate) const CALL: &str = "f(x) = x + 1\nprintln(f(2))\n";
