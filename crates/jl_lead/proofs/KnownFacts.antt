@@ -26,7 +26,8 @@ use Rattle.jl_lead.specs.ByFunction.{AreLatest}
 use Rattle.jl_lead.proofs.ChoiceOf.{of_world}
 use Rattle.jl_lead.proofs.FunctionLemmas.{defs_sites}
 use Rattle.jl_lead.proofs.PickLemmas.{latest_chooses}
-use Rattle.jl_lead.specs.Known.{IsStartAmong, AreSound, IsKnownSo, IsPlain, IsSpawnOf}
+use Rattle.jl_lead.specs.Known.{IsNoted, IsStartAmong, AreSound, IsKnownSo, IsPlain, IsSpawnOf}
+use Rattle.jl_lead.proofs.EndLemmas.{ends_none, ends_same, ends_kept, ends_done}
 use Rattle.jl_lead.proofs.EventFacts.{self_eq, tasks_append, done_stays, done_later}
 
 some_is : {X : Type 0} (o : Option X) → (o ≡ None → ⊥) → (x : X) × (o ≡ Some x)
@@ -58,54 +59,54 @@ sound_more P es e h outcomes starts = record {
     by_start p task child s (inl q) = start_more P es (e ∷ []) s (h.starts p task child s q)
     by_start p task child s (inr q) = start_more P es (e ∷ []) s (starts task child s q)
 
-pub known_new : (P : Program) → IsKnownSo P prelude_numbers [] 1
+pub known_new : (P : Program) → IsKnownSo P prelude_numbers [] 1 []
 known_new P = record {
   sites_are = sym (append-nil prelude_numbers);
   worlds = omega arith;
   tasks_are = refl;
   few = omega arith;
   short = omega arith;
+  ends_are = ends_none;
   sound = record { outcomes = λ task r q. absurd (none-some _ q); starts = λ p task child s q. absurd (none-some _ q) };
 }
 
-pub new_known : (P : Program) (v : Program × List ℕ) (es : List Event) → v ≡ (P, prelude_numbers) → es ≡ [] → IsKnownSo v.0 v.1 es 1
-new_known P v es e n = subst (λ (z : (Program × List ℕ) × List Event). IsKnownSo z.0.0 z.0.1 z.1 1) (λ i. (sym e i, sym n i)) (known_new P)
+pub new_known : (P : Program) (v : Program × List ℕ) (es : List Event) (ends : List (Option ℕ)) → v ≡ (P, prelude_numbers) → es ≡ [] → ends ≡ [] → IsKnownSo v.0 v.1 es 1 ends
+new_known P v es ends e n m = subst (λ xs. IsKnownSo v.0 v.1 es 1 xs) (sym m) (subst (λ (z : (Program × List ℕ) × List Event). IsKnownSo z.0.0 z.0.1 z.1 1 []) (λ i. (sym e i, sym n i)) (known_new P))
 
--- the same after the code has added an event
-pub moved : (P Q : Program) (sites sites2 : List ℕ) (es es2 : List Event) (tasks : ℕ) → P ≡ Q → sites ≡ sites2 → es ≡ es2 → IsKnownSo P sites es tasks → IsKnownSo Q sites2 es2 tasks
-moved P Q sites sites2 es es2 tasks p q r h = subst (λ (z : (Program × List ℕ) × List Event). IsKnownSo z.0.0 z.0.1 z.1 tasks) (λ i. ((p i, q i), r i)) h
-
-module _ (P : Program) (sites : List ℕ) (es : List Event) (tasks : ℕ) (h : IsKnownSo P sites es tasks) (short : length es < 4294967294) where
+module _ (P : Program) (sites : List ℕ) (es : List Event) (tasks : ℕ) (ends : List (Option ℕ)) (h : IsKnownSo P sites es tasks ends) (short : length es < 4294967294) where
   one_longer : (e : Event) → length (es ++ e ∷ []) < 2 ^ 32 - 1
   one_longer e = let n = length-append es (e ∷ []) in omega (arith, n, short)
 
-  pub known_def : (task site : ℕ) → world_of es < 65535 → IsKnownSo P (sites ++ site ∷ []) (es ++ Ev.Def task site ∷ []) tasks
+  pub known_def : (task site : ℕ) → world_of es < 65535 → IsKnownSo P (sites ++ site ∷ []) (es ++ Ev.Def task site ∷ []) tasks ends
   known_def task site room = record {
     sites_are = ap (λ xs. xs ++ site ∷ []) h.sites_are ∙ sym (definitions_append es (Ev.Def task site ∷ []));
     worlds = let n = ap length (defined_append es (Ev.Def task site ∷ [])) in let m = length-append (defined es) (site ∷ []) in omega (arith, n, m, room);
     tasks_are = let n = tasks_append es (Ev.Def task site ∷ []) in let t = h.tasks_are in omega (arith, n, t);
     few = let n = tasks_append es (Ev.Def task site ∷ []) in let f = h.few in omega (arith, n, f);
     short = one_longer (Ev.Def task site);
+    ends_are = ends_kept es (Ev.Def task site) ends (λ t. refl) h.ends_are;
     sound = sound_more P es (Ev.Def task site) h.sound (λ t r q. absurd (none-some _ q)) (λ t c s q. absurd (cc (q)));
   }
 
-  pub known_spawn : (task : ℕ) (start : Start) → IsStartAmong P es start → tasks_of es < 4096 → IsKnownSo P sites (es ++ Ev.Spawn task (tasks_of es) start ∷ []) (tasks + 1)
+  pub known_spawn : (task : ℕ) (start : Start) → IsStartAmong P es start → tasks_of es < 4096 → IsKnownSo P sites (es ++ Ev.Spawn task (tasks_of es) start ∷ []) (tasks + 1) ends
   known_spawn task start among room = record {
     sites_are = h.sites_are ∙ sym (append-nil (definitions es)) ∙ sym (definitions_append es (Ev.Spawn task (tasks_of es) start ∷ []));
     worlds = let n = ap length (defined_append es (Ev.Spawn task (tasks_of es) start ∷ [])) in let m = length-append (defined es) [] in let w = h.worlds in omega (arith, n, m, w);
     tasks_are = let n = tasks_append es (Ev.Spawn task (tasks_of es) start ∷ []) in let t = h.tasks_are in omega (arith, n, t);
     few = let n = tasks_append es (Ev.Spawn task (tasks_of es) start ∷ []) in omega (arith, n, room);
     short = one_longer (Ev.Spawn task (tasks_of es) start);
+    ends_are = ends_kept es (Ev.Spawn task (tasks_of es) start) ends (λ t. refl) h.ends_are;
     sound = sound_more P es (Ev.Spawn task (tasks_of es) start) h.sound (λ t r q. absurd (none-some _ q)) (λ t c s q. (let same : start ≡ s = cc (q) in subst (IsStartAmong P es) same among));
   }
 
-  pub known_done : (task : ℕ) (ended : Record) → IsValidOutcome P ended.outcome → IsKnownSo P sites (es ++ Ev.Done task ended ∷ []) tasks
-  known_done task ended valid = record {
+  pub known_done : (task : ℕ) (ended : Record) (new : List (Option ℕ)) → IsNoted task (length es) ends new → IsValidOutcome P ended.outcome → IsKnownSo P sites (es ++ Ev.Done task ended ∷ []) tasks new
+  known_done task ended new noted valid = record {
     sites_are = h.sites_are ∙ sym (append-nil (definitions es)) ∙ sym (definitions_append es (Ev.Done task ended ∷ []));
     worlds = let n = ap length (defined_append es (Ev.Done task ended ∷ [])) in let m = length-append (defined es) [] in let w = h.worlds in omega (arith, n, m, w);
     tasks_are = let n = tasks_append es (Ev.Done task ended ∷ []) in let t = h.tasks_are in omega (arith, n, t);
     few = let n = tasks_append es (Ev.Done task ended ∷ []) in let f = h.few in omega (arith, n, f);
     short = one_longer (Ev.Done task ended);
+    ends_are = ends_done es task ended ends new noted h.ends_are;
     sound = sound_more P es (Ev.Done task ended) h.sound (λ t r q. same t r (nat_eq task t) q) (λ t c s q. absurd (cc (q)));
   }
     where
@@ -113,20 +114,21 @@ module _ (P : Program) (sites : List ℕ) (es : List Event) (tasks : ℕ) (h : I
       same t r true q = subst (λ (z : Record). IsValidOutcome P z.outcome) (same_Some _ _ q) valid
       same t r false q = absurd (none-some _ q)
 
-  pub known_plain : (e : Event) → IsPlain e → IsKnownSo P sites (es ++ e ∷ []) tasks
+  pub known_plain : (e : Event) → IsPlain e → IsKnownSo P sites (es ++ e ∷ []) tasks ends
   known_plain e plain = at e plain
     where
-      more : (x : Event) → defined (x ∷ []) ≡ [] → tasks_of (x ∷ []) ≡ 1 → ((t : ℕ) → done_of t (x ∷ []) ≡ None) → ((t c : ℕ) (s : Start) → x ≡ Ev.Spawn t c s → ⊥) → IsKnownSo P sites (es ++ x ∷ []) tasks
+      more : (x : Event) → defined (x ∷ []) ≡ [] → tasks_of (x ∷ []) ≡ 1 → ((t : ℕ) → done_of t (x ∷ []) ≡ None) → ((t c : ℕ) (s : Start) → x ≡ Ev.Spawn t c s → ⊥) → IsKnownSo P sites (es ++ x ∷ []) tasks ends
       more x no_def no_task no_done no_start = record {
         sites_are = h.sites_are ∙ sym (append-nil (definitions es)) ∙ ap (λ ds. definitions es ++ ds) (sym no_def) ∙ sym (definitions_append es (x ∷ []));
         worlds = let n = ap length (defined_append es (x ∷ [])) in let m = length-append (defined es) (defined (x ∷ [])) in let z = ap length no_def in let w = h.worlds in omega (arith, n, m, z, w);
         tasks_are = let n = tasks_append es (x ∷ []) in let t = h.tasks_are in omega (arith, n, t, no_task);
         few = let n = tasks_append es (x ∷ []) in let f = h.few in omega (arith, n, f, no_task);
         short = one_longer x;
+        ends_are = ends_kept es x ends no_done h.ends_are;
         sound = sound_more P es x h.sound (λ t r q. absurd (none-some _ (sym (no_done t) ∙ q))) (λ t c s q. absurd (no_start t c s q));
       }
 
-      at : (x : Event) → IsPlain x → IsKnownSo P sites (es ++ x ∷ []) tasks
+      at : (x : Event) → IsPlain x → IsKnownSo P sites (es ++ x ∷ []) tasks ends
       at (Ev.Begin fuel) p = more (Ev.Begin fuel) refl refl (λ t. refl) (λ t c s q. cc (q))
       at (Ev.Key key) p = more (Ev.Key key) refl refl (λ t. refl) (λ t c s q. cc (q))
       at (Ev.Fill key site first) p = more (Ev.Fill key site first) refl refl (λ t. refl) (λ t c s q. cc (q))
@@ -136,18 +138,31 @@ module _ (P : Program) (sites : List ℕ) (es : List Event) (tasks : ℕ) (h : I
 
   -- ---- the same, by what the code has then
 
-  pub spawn_to : (task : ℕ) (start : Start) (new : List Event) → IsStartAmong P es start → tasks_of es < 4096 → new ≡ es ++ Ev.Spawn task tasks start ∷ [] → IsKnownSo P sites new (tasks + 1)
+  pub spawn_to : (task : ℕ) (start : Start) (new : List Event) → IsStartAmong P es start → tasks_of es < 4096 → new ≡ es ++ Ev.Spawn task tasks start ∷ [] → IsKnownSo P sites new (tasks + 1) ends
   spawn_to task start new among room e =
-      subst (λ xs. IsKnownSo P sites xs (tasks + 1)) (sym (e ∙ ap (λ n. es ++ Ev.Spawn task n start ∷ []) h.tasks_are)) (known_spawn task start among room)
+      subst (λ xs. IsKnownSo P sites xs (tasks + 1) ends) (sym (e ∙ ap (λ n. es ++ Ev.Spawn task n start ∷ []) h.tasks_are)) (known_spawn task start among room)
 
-  pub def_to : (task site : ℕ) (v : Program × List ℕ) (new : List Event) → world_of es < 65535 → v ≡ (P, sites ++ site ∷ []) → new ≡ es ++ Ev.Def task site ∷ [] → IsKnownSo v.0 v.1 new tasks
-  def_to task site v new room e n = subst (λ (z : (Program × List ℕ) × List Event). IsKnownSo z.0.0 z.0.1 z.1 tasks) (λ i. (sym e i, sym n i)) (known_def task site room)
+  pub def_to : (task site : ℕ) (v : Program × List ℕ) (new : List Event) → world_of es < 65535 → v ≡ (P, sites ++ site ∷ []) → new ≡ es ++ Ev.Def task site ∷ [] → IsKnownSo v.0 v.1 new tasks ends
+  def_to task site v new room e n = subst (λ (z : (Program × List ℕ) × List Event). IsKnownSo z.0.0 z.0.1 z.1 tasks ends) (λ i. (sym e i, sym n i)) (known_def task site room)
 
-  pub done_to : (task : ℕ) (ended : Record) (new : List Event) → IsValidOutcome P ended.outcome → new ≡ es ++ Ev.Done task ended ∷ [] → IsKnownSo P sites new tasks
-  done_to task ended new valid e = subst (λ xs. IsKnownSo P sites xs tasks) (sym e) (known_done task ended valid)
+  pub done_to : (task place : ℕ) (ended : Record) (new : List Event) (places : List (Option ℕ)) → IsValidOutcome P ended.outcome → new ≡ es ++ Ev.Done task ended ∷ [] → place ≡ length es → IsNoted task place ends places
+      → IsKnownSo P sites new tasks places
+  done_to task place ended new places valid e at noted = subst (λ xs. IsKnownSo P sites xs tasks places) (sym e) (known_done task ended places (subst (λ (p : ℕ). IsNoted task p ends places) at noted) valid)
 
-  pub plain_to : (event : Event) (new : List Event) → IsPlain event → new ≡ es ++ event ∷ [] → IsKnownSo P sites new tasks
-  plain_to event new plain e = subst (λ xs. IsKnownSo P sites xs tasks) (sym e) (known_plain event plain)
+  -- an end that was not added
+  pub done_back : (new : List Event) (places : List (Option ℕ)) → new ≡ es → ((t : ℕ) → get_or places t None ≡ get_or ends t None) → IsKnownSo P sites new tasks places
+  done_back new places e same = subst (λ xs. IsKnownSo P sites xs tasks places) (sym e) (record {
+    sites_are = h.sites_are;
+    worlds = h.worlds;
+    tasks_are = h.tasks_are;
+    few = h.few;
+    short = h.short;
+    ends_are = ends_same es ends places same h.ends_are;
+    sound = h.sound;
+  })
+
+  pub plain_to : (event : Event) (new : List Event) → IsPlain event → new ≡ es ++ event ∷ [] → IsKnownSo P sites new tasks ends
+  plain_to event new plain e = subst (λ xs. IsKnownSo P sites xs tasks ends) (sym e) (known_plain event plain)
 
 -- what is seen of one more event
 pub event_added : (u w v : Program × List Event) (E : Program × List Event → Event) → w.0 ≡ u.0 → u ≡ v → w.1 ≡ u.1 ++ E u ∷ [] → w ≡ (v.0, v.1 ++ E v ∷ [])
@@ -185,17 +200,17 @@ ended_valid P es h of p outcome e = at (done_of of (take p es)) refl e
 
 -- ---- choices
 
-pub sites_length : (P : Program) (sites : List ℕ) (es : List Event) (tasks : ℕ) → IsKnownSo P sites es tasks → length sites ≡ world_of es
-sites_length P sites es tasks h = ap length h.sites_are ∙ definitions_length es
+pub sites_length : (P : Program) (sites : List ℕ) (es : List Event) (tasks : ℕ) (ends : List (Option ℕ)) → IsKnownSo P sites es tasks ends → length sites ≡ world_of es
+sites_length P sites es tasks ends h = ap length h.sites_are ∙ definitions_length es
 
 -- the choice among the latest definitions of their sites is the choice of the rules
-pub chosen : {E : Type 0} (P : Program) (sites : List ℕ) (es : List Event) (tasks : ℕ) (h : IsKnownSo P sites es tasks) (Q : Program) (f w : ℕ) (ts types : List Ty) (defs : List Def) → Q ≡ P → IsValid Q
+pub chosen : {E : Type 0} (P : Program) (sites : List ℕ) (es : List Event) (tasks : ℕ) (ends : List (Option ℕ)) (h : IsKnownSo P sites es tasks ends) (Q : Program) (f w : ℕ) (ts types : List Ty) (defs : List Def) → Q ≡ P → IsValid Q
     → AreLatest (defs_from P f 1 (take w sites)) defs → types ≡ ts → (r : Result Choice E) → IfOk r (λ c. Chooses (types_of Q) (methods_of Q defs) types c) → IfOk r (λ c. Selects P es f ts w c)
-chosen P sites es tasks h Q f w ts types defs p v e q (Ok c) k =
+chosen P sites es tasks ends h Q f w ts types defs p v e q (Ok c) k =
     let among : Chooses (types_of P) (methods_of P defs) ts c = subst (λ xs. Chooses (types_of P) (methods_of P defs) xs c) q (subst (λ R. Chooses (types_of R) (methods_of R defs) types c) p k) in
     selects_from_chooses P f es w ts c (defs_from P f 1 (take w sites)) (ap (λ xs. defs_from P f 1 (take w xs)) h.sites_are)
     (latest_chooses P (subst IsValid p v) ts (defs_from P f 1 (take w sites)) defs (defs_sites P f 1 (take w sites)) e c among)
-chosen P sites es tasks h Q f w ts types defs p v e q (Err x) k = tt
+chosen P sites es tasks ends h Q f w ts types defs p v e q (Err x) k = tt
 
 -- what is chosen is a definition of the world
 pub chosen_of_world : (P : Program) (es : List Event) (f w : ℕ) (ts : List Ty) (c : Choice) → w ≤ world_of es → Selects P es f ts w c → IsOfWorld c w

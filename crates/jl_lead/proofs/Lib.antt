@@ -5,6 +5,7 @@ pub mod PickLemmas
 pub mod ChoiceOf
 pub mod KeyTypes
 pub mod EventFacts
+pub mod EndLemmas
 pub mod ItemFacts
 pub mod Answering
 pub mod Whole

@@ -1,5 +1,5 @@
 -- What is kept of the events of a run so far.
-use Rattle.std.specs.Prelude.{◌≡◌, ℕ, ◌<◌, ◌≤◌, ◌-◌, ◌^◌, List, length, slice_get, Option, Some}
+use Rattle.std.specs.Prelude.{◌≡◌, ℕ, ◌<◌, ◌≤◌, ◌-◌, ◌^◌, Bool, true, false, nat_eq, List, length, slice_get, get_or, Option, None, Some}
 use Rattle.jl_model.specs.declared.limits.TheConstants.{MOST_WORLDS, MOST_TASKS}
 use Rattle.jl_program.specs.declared.tree.Program.{Program}
 use Rattle.jl_program.specs.declared.tree.Start.{Start}
@@ -22,13 +22,33 @@ pub record AreSound (P : Program) (es : List Event) : Type 0 where
   pub outcomes : (task : ℕ) (ended : Record) → done_of task es ≡ Some ended → IsValidOutcome P ended.outcome
   pub starts : (place task child : ℕ) (start : Start) → slice_get es place ≡ Some (Ev.Spawn task child start) → IsStartAmong P es start
 
--- there are not too many, and the sites of all definitions and the number of the tasks are kept beside them
-pub record IsKnownSo (P : Program) (sites : List ℕ) (es : List Event) (tasks : ℕ) : Type 0 where
+-- where the first end of a task stands among the events, if it has ended
+abbrev pub IsEndAt : List Event → ℕ → Option ℕ → Type 0
+IsEndAt es t None = done_of t es ≡ None
+IsEndAt es t (Some p) = (ended : Record) × (slice_get es p ≡ Some (Ev.Done t ended)) × (done_of t es ≡ Some ended)
+
+-- where each task has ended, by its number; a task beyond the list has not
+abbrev pub AreEnds : List Event → List (Option ℕ) → Type 0
+AreEnds es ends = (t : ℕ) → IsEndAt es t (get_or ends t None)
+
+-- the end that is noted: the first one
+abbrev pub first_end : Bool → ℕ → Option ℕ → Option ℕ
+first_end true place None = Some place
+first_end true place (Some first) = Some first
+first_end false place end = end
+
+-- a task's end at a place is noted, unless it has ended before
+abbrev pub IsNoted : ℕ → ℕ → List (Option ℕ) → List (Option ℕ) → Type 0
+IsNoted task place old new = (t : ℕ) → get_or new t None ≡ first_end (nat_eq task t) place (get_or old t None)
+
+-- there are not too many, and the sites of all definitions, the number of the tasks and the places of their ends are kept beside them
+pub record IsKnownSo (P : Program) (sites : List ℕ) (es : List Event) (tasks : ℕ) (ends : List (Option ℕ)) : Type 0 where
   pub sites_are : sites ≡ definitions es
   pub worlds : world_of es ≤ MOST_WORLDS
   pub tasks_are : tasks ≡ tasks_of es
   pub few : tasks_of es ≤ MOST_TASKS
   pub short : length es < 2 ^ 32 - 1
+  pub ends_are : AreEnds es ends
   pub sound : AreSound P es
 
 -- an event that makes nothing that another task may ask for

@@ -1,13 +1,13 @@
 //! The events of a run so far, and what a task asks of them.
 
-ghost use Rattle.std.specs.Prelude.{◌≡◌, ◌<◌, ◌≤◌, ◌++◌, [], ◌∷◌, IfOk, OnOk, OnErr, MatchOption, None, length, slice_get};
+ghost use Rattle.std.specs.Prelude.{ℕ, ◌≡◌, ◌<◌, ◌≤◌, ◌++◌, [], ◌∷◌, IfOk, OnOk, OnErr, MatchOption, None, get_or, length, slice_get};
 ghost use Rattle.jl_model.specs.declared.limits.TheConstants.{MOST_WORLDS, MOST_TASKS};
 ghost use Rattle.jl_calculus.specs.Legal.{IsKeyOf};
 ghost use Rattle.jl_calculus.specs.Past.{EndedSo, done_of, tasks_of};
 ghost use Rattle.jl_calculus.specs.ValidHistory.{IsValidOutcome};
 ghost use Rattle.jl_calculus.specs.World.{Selects, site_of, world_of};
 ghost use Rattle.jl_program.specs.Valid.{IsValid};
-ghost use Rattle.jl_lead.specs.Known.{AreSound, IsStartAmong, IsPlain, IsSpawnOf};
+ghost use Rattle.jl_lead.specs.Known.{AreEnds, AreSound, IsNoted, IsStartAmong, IsPlain, IsSpawnOf};
 
 use crate::choosing::choose_for;
 use crate::definitions::{Definitions, prelude_definitions};
@@ -22,14 +22,15 @@ use std::marker::Model;
 /// No list of so many events is kept.
 const MOST_EVENTS: usize = 4_294_967_294;
 
-/// The events of a run so far, with the definitions found by their functions, so that no choice walks over the events. Contracts
-/// see the program and the events.
+/// The events of a run so far, with the definitions found by their functions and the ends by their tasks, so that neither a choice
+/// nor a fetch walks over the events. Contracts see the program and the events.
 #[derive(Drop)]
 pub struct Past<'p> {
     alloc: Global,
     definitions: Definitions<'p>,
     events: Vec<Event>,
     tasks: u32,
+    ends: Vec<Option<u32>>,
 }
 
 impl<'p> Model for Past<'p> {
@@ -47,21 +48,53 @@ impl<'p> Model for Past<'p> {
 
     ghost view = { λ d. (d.definitions.0, d.events.items) };
 
-    ghost invariant = { λ d. IsKnownSo d.definitions.0 d.definitions.1 d.events.items d.tasks };
+    ghost invariant = { λ d. IsKnownSo d.definitions.0 d.definitions.1 d.events.items d.tasks d.ends.items };
 }
 
-/// The first end of a task.
-fn find_done(events: &[Event], task: u32) -> Option<&Record>
-    ensures { MatchOption result (done_of task events.now ≡ None) (λ ended. done_of task events.now ≡ Some ended.now) }
+/// Keeps a place for the end of a task.
+fn keep_place(ends: &mut Vec<Option<u32>>, task: u32) -> Result<(), AllocError>
+    ensures place { OnOk result (task < length ends.new.items) }
+    ensures same { (t : ℕ) → get_or ends.new.items t None ≡ get_or ends.old.items t None }
 {
-    for event in events {
-        if let Event::Done { task: by, ended } = event {
-            if *by == task {
-                return Some(ended);
-            }
+    let at = task as usize;
+    if at < ends.len() {
+        return Ok(());
+    }
+    ends.resize(at + 1, None)?;
+    Ok(())
+}
+
+/// The end of a task stands at this place, unless it has ended before.
+fn note_end(ends: &mut Vec<Option<u32>>, task: u32, place: u32) -> Result<(), AllocError>
+    ensures noted { OnOk result (IsNoted task place ends.old.items ends.new.items) }
+    ensures refused { OnErr result ((t : ℕ) → get_or ends.new.items t None ≡ get_or ends.old.items t None) }
+{
+    keep_place(ends, task)?;
+    let at = task as usize;
+    match ends[at] {
+        Some(_) => Ok(()),
+        None => {
+            ends[at] = Some(place);
+            Ok(())
         }
     }
-    None
+}
+
+/// What a task did, where it has ended.
+fn record_of<'a>(events: &'a [Event], ends: &[Option<u32>], task: u32) -> Option<&'a Record>
+    requires { AreEnds events.now ends.now }
+    ensures { MatchOption result (done_of task events.now ≡ None) (λ ended. done_of task events.now ≡ Some ended.now) }
+{
+    if task as usize >= ends.len() {
+        return None;
+    }
+    let Some(place) = ends[task as usize] else {
+        return None;
+    };
+    match &events[place as usize] {
+        Event::Done { ended, .. } => Some(ended),
+        _ => unreachable!(),
+    }
 }
 
 impl<'p> Past<'p> {
@@ -75,6 +108,7 @@ impl<'p> Past<'p> {
             definitions,
             events: Vec::new(alloc),
             tasks: 1,
+            ends: Vec::new(alloc),
         })
     }
 
@@ -151,7 +185,9 @@ impl<'p> Past<'p> {
         ensures ended { IfOk result (λ found. MatchOption found (done_of task self.now.1 ≡ None) (EndedSo (done_of task self.now.1))) }
         ensures valid { IfOk result (λ found. MatchOption found (Unit {0}) (IsValidOutcome self.now.0)) }
     {
-        match find_done(self.events.as_slice(), task) {
+        let events = self.events.as_slice();
+        let ends = self.ends.as_slice();
+        match record_of(events, ends, task) {
             Some(ended) => {
                 let outcome = ended.outcome.copy()?;
                 Ok(Some(outcome))
@@ -203,8 +239,15 @@ impl<'p> Past<'p> {
             drop(ended);
             return Err(AllocError);
         }
+        let before = self.events.len();
         self.events.push(Event::Done { task, ended })?;
-        Ok(())
+        match note_end(&mut self.ends, task, before as u32) {
+            Ok(()) => Ok(()),
+            Err(error) => {
+                self.events.truncate(before);
+                Err(error)
+            }
+        }
     }
 
     /// An event that makes nothing.

@@ -15,7 +15,7 @@ pub of-defs-requires : goal.of-defs-requires
 of-defs-requires c =
     let d = c.self.inside in
     let w = subst (λ v. c.args.world ≤ world_of v.1) (sym c.self.view_is) c.requires.world in
-    omega (arith, w, sites_length d.definitions.0 d.definitions.1 d.events.items d.tasks c.self.invariant)
+    omega (arith, w, sites_length d.definitions.0 d.definitions.1 d.events.items d.tasks d.ends.items c.self.invariant)
 
 pub choose_for-requires-clause-sites : goal.choose_for-requires-clause-sites
 choose_for-requires-clause-sites c =
@@ -38,5 +38,5 @@ pub returns : goal.returns
 returns c =
     let d = c.self.inside in
     subst (λ v. IfOk c.choose_for.result (λ choice. Selects v.0 v.1 c.args.key.now.function c.args.key.now.types c.args.world choice)) c.self.view_is
-    (chosen d.definitions.0 d.definitions.1 d.events.items d.tasks c.self.invariant c.ready-ready.result.now c.args.key.now.function c.args.world c.args.key.now.types c.as_slice.result.now c.of-defs.result.now
+    (chosen d.definitions.0 d.definitions.1 d.events.items d.tasks d.ends.items c.self.invariant c.ready-ready.result.now c.args.key.now.function c.args.world c.args.key.now.types c.as_slice.result.now c.of-defs.result.now
     c.ready-ready.ensures c.valid.ensures c.of-defs.ensures c.as_slice.ensures c.choose_for.result c.choose_for.ensures)

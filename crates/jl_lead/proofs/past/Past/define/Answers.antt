@@ -12,18 +12,18 @@ pub push-requires-clause-room : goal.push-requires-clause-room
 push-requires-clause-room c =
     let d = c.self.inside in
     let room = subst (λ v. world_of v.1 < 65535) (sym c.self.view_is) c.requires.room in
-    omega (arith, room, sites_length d.definitions.0 d.definitions.1 d.events.items d.tasks c.self.invariant)
+    omega (arith, room, sites_length d.definitions.0 d.definitions.1 d.events.items d.tasks d.ends.items c.self.invariant)
 
 pub invariant_of-self : goal.invariant_of-self
 invariant_of-self c =
     let d = c.self.inside in
-    subst (λ xs. IsKnownSo d.definitions.0 d.definitions.1 xs d.tasks) (sym c.reserve.ensures.items) c.self.invariant
+    subst (λ xs. IsKnownSo d.definitions.0 d.definitions.1 xs d.tasks d.ends.items) (sym c.reserve.ensures.items) c.self.invariant
 
 pub invariant_of-self-2 : goal.invariant_of-self-2
 invariant_of-self-2 c =
     let d = c.self.inside in
     let room = subst (λ v. world_of v.1 < 65535) (sym c.self.view_is) c.requires.room in
-    def_to d.definitions.0 d.definitions.1 d.events.items d.tasks c.self.invariant (let e = c.len.ensures ∙ d.events.ok.0 in omega (arith, e, c.if-len-ge-MOST_EVENTS.false))
+    def_to d.definitions.0 d.definitions.1 d.events.items d.tasks d.ends.items c.self.invariant (let e = c.len.ensures ∙ d.events.ok.0 in omega (arith, e, c.if-len-ge-MOST_EVENTS.false))
     c.args.task c.args.site c.push.new.self c.push_reserved.new.self.items room c.in_ok-push.ensures.added
     (c.push_reserved.ensures.items ∙ ap (λ es. es ++ Ev.Def c.args.task c.args.site ∷ []) c.reserve.ensures.items)
 

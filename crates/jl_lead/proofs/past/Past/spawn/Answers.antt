@@ -8,14 +8,14 @@ use Rattle.jl_lead.proofs.past.Past.spawn.Goals as goal
 pub invariant_of-self : goal.invariant_of-self
 invariant_of-self c =
     let d = c.self.inside in
-    subst (λ xs. IsKnownSo d.definitions.0 d.definitions.1 xs d.tasks) (sym c.in_err-push.ensures.items) c.self.invariant
+    subst (λ xs. IsKnownSo d.definitions.0 d.definitions.1 xs d.tasks d.ends.items) (sym c.in_err-push.ensures.items) c.self.invariant
 
 pub invariant_of-self-2 : goal.invariant_of-self-2
 invariant_of-self-2 c =
     let d = c.self.inside in
     let among = subst (λ v. IsStartAmong v.0 v.1 c.args.start) (sym c.self.view_is) c.requires.start in
     let room = subst (λ v. tasks_of v.1 < 4096) (sym c.self.view_is) c.requires.room in
-    spawn_to d.definitions.0 d.definitions.1 d.events.items d.tasks c.self.invariant (let e = c.len.ensures ∙ d.events.ok.0 in omega (arith, e, c.if-len-ge-MOST_EVENTS.false))
+    spawn_to d.definitions.0 d.definitions.1 d.events.items d.tasks d.ends.items c.self.invariant (let e = c.len.ensures ∙ d.events.ok.0 in omega (arith, e, c.if-len-ge-MOST_EVENTS.false))
     c.args.task c.args.start c.push.new.self.items among room c.in_ok-push.ensures.items
 
 pub returns-clause-added : goal.returns-clause-added
