@@ -399,9 +399,9 @@ module _ (P : Program) (m0 : Machine) (d0 : Led) (m : Machine) (d : Led) (a : Is
   away_spawn place answer room none told xs g = (
     λ y. (let w = spawn_there place (told.0 y) in (w.0, w.2, comes_there none xs g (a_spawn w.0) (spawn_question w.0 w.1))),
     λ (s, at_place, comes).
-    let same = (comes_only xs g (a_spawn s) comes).1 in
-    let w = spawn_made s room same in
-    told.1 (spawn_at place w.0 w.1 (ap (λ z. z.spawn) (sym (spawn_only s w.0 w.1 same)) ∙ at_place)),
+        let same = (comes_only xs g (a_spawn s) comes).1 in
+        let w = spawn_made s room same in
+        told.1 (spawn_at place w.0 w.1 (ap (λ z. z.spawn) (sym (spawn_only s w.0 w.1 same)) ∙ at_place)),
   )
 
   pub away_spawned : (place : ℕ) → left_of d ≡ [] → IsSpawnAt place (slice_get d.past.1 (length es)) → HasSpawned P m0 d0 place m d
@@ -501,11 +501,11 @@ module _ (P : Program) (m0 : Machine) (d0 : Led) (m : Machine) (d : Led) (t : Is
           trace_is = told;
           exactly = λ xs g o out made starts. (
             λ run.
-            let w = ran.only xs (goes_then xs g) [] o out made starts (subst (λ ts. RunsSo P over_es d0.task xs (fuel_of m0) ts o out made starts) (sym (append-nil r.trace ∙ told)) run) in
-            (w.1, w.2, w.3, w.4 ∙ starts_then),
+                let w = ran.only xs (goes_then xs g) [] o out made starts (subst (λ ts. RunsSo P over_es d0.task xs (fuel_of m0) ts o out made starts) (sym (append-nil r.trace ∙ told)) run) in
+                (w.1, w.2, w.3, w.4 ∙ starts_then),
             λ (a, b, c, e).
-            subst (λ (z : ((List TraceItem × Outcome) × List ℕ) × (ℕ × List Start)). RunsSo P over_es d0.task xs (fuel_of m0) z.0.0.0 z.0.0.1 z.0.1 z.1.0 z.1.1)
-            (λ i. (((told i, sym a i), sym b i), (sym c i, (starts_then ∙ sym e) i))) (ran.runs xs (goes_then xs g)),
+                subst (λ (z : ((List TraceItem × Outcome) × List ℕ) × (ℕ × List Start)). RunsSo P over_es d0.task xs (fuel_of m0) z.0.0.0 z.0.0.1 z.0.1 z.1.0 z.1.1)
+                (λ i. (((told i, sym a i), sym b i), (sym c i, (starts_then ∙ sym e) i))) (ran.runs xs (goes_then xs g)),
           );
         }
 

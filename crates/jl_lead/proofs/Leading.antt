@@ -54,10 +54,9 @@ begins_there P m d fits going here =
     }
 
 module _ (P : Program) (m0 : Machine) (d0 : Led) (m : Machine) (d : Led) (t : IsThere P m0 d0 m d) (m' : Machine) (d' : Led)
-  (fits' : MachineFits P (fuel_of m') (knows_of d') m') (fuel' : fuel_of m' ≡ fuel_of m)
-  (tells : Tells (job_with P (fuel_of m) (knows_of d)) (knows_of d) (trace_of m) (knows_of d') (trace_of m'))
-  (follows : Follows (knows_of d) (trace_of m) (knows_of d') (trace_of m')) (kept : IsLost m' → ⊥) where
-
+    (fits' : MachineFits P (fuel_of m') (knows_of d') m') (fuel' : fuel_of m' ≡ fuel_of m)
+    (tells : Tells (job_with P (fuel_of m) (knows_of d)) (knows_of d) (trace_of m) (knows_of d') (trace_of m'))
+    (follows : Follows (knows_of d) (trace_of m) (knows_of d') (trace_of m')) (kept : IsLost m' → ⊥) where
   abbrev claim : Claim
   claim = record { events = d.past.1; task = d.task; trace = whole_trace m d }
 

@@ -24,6 +24,6 @@ turns-preserved c =
 pub returns-in-Done : goal.returns-in-Done
 returns-in-Done c = (
   next_there c.args.ready.now c.args.machine.now c.args.led.now c.turns.machine c.turns.led c.turns.invariant c.step-turn.new.self c.step-turn.new.with
-  c.in_ok-turn.ensures.fits c.in_ok-turn.ensures.fuel c.in_ok-turn.ensures.tells c.in_ok-turn.ensures.follows c.in_ok-turn.ensures.kept c.if-led.false,
+      c.in_ok-turn.ensures.fits c.in_ok-turn.ensures.fuel c.in_ok-turn.ensures.tells c.in_ok-turn.ensures.follows c.in_ok-turn.ensures.kept c.if-led.false,
   rw c.in-Done.is at c.in_ok-turn.ensures.turn,
 )
