@@ -16,7 +16,6 @@ use jl_sig::Ready;
 use std::alloc::AllocError;
 
 /// Leads a task until it ends, or goes on alone: whether it has ended. No task waits here: what it fetches is told.
-#[tactic(none)]
 fn lead<'p>(
     ready: &'p Ready,
     ops: &HostOps,
@@ -63,7 +62,6 @@ fn is_spawn(events: &[Event], place: u32, spawn: u32) -> bool
 
 /// Leads a task up to the definition of a site: whether its run comes to it, led by what it was told before and the items that stand next.
 /// Where it does, the definition is made.
-#[tactic(none)]
 pub fn lead_to_definition<'p>(
     ready: &'p Ready,
     ops: &HostOps,
@@ -93,7 +91,6 @@ pub fn lead_to_definition<'p>(
 
 /// Leads a task up to a spawn at a place of the program: whether its run comes to it, led by what it was told before and the items that
 /// stand next. Where it does, the next task is started.
-#[tactic(none)]
 pub fn lead_to_spawn<'p>(
     ready: &'p Ready,
     ops: &HostOps,
@@ -122,7 +119,6 @@ pub fn lead_to_spawn<'p>(
 }
 
 /// Leads a task to its end: what it did, where that is a run of the whole trace, and nothing where there is no such run.
-#[tactic(none)]
 pub fn lead_to_end<'p>(
     ready: &'p Ready,
     ops: &HostOps,

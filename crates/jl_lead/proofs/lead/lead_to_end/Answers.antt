@@ -2,22 +2,22 @@ use Rattle.jl_lead.proofs.Arriving.{none_left, some_left, away_no_run, ended_no_
 use Rattle.jl_lead.proofs.lead.lead_to_end.Goals as goal
 
 pub returns-then-more : goal.returns-then-more
-returns-then-more c =
+returns-then-more g c =
     let d = c.lead.new.led in
     let h = rw c.if-ended.true at c.in-Ok.ensures in
     ended_no_run c.args.ready.now c.args.machine c.args.led.now c.lead.new.machine d h.0 h.1 (some_left c.has_items-more.result d.told d.items.items c.if-more.true c.has_items-more.ensures)
 
-pub record-record-requires : goal.record-record-requires
-record-record-requires c = let h = rw c.if-ended.true at c.in-Ok.ensures in h.1
+pub record-requires : goal.record-requires
+record-requires g c = let h = rw c.if-ended.true at c.in-Ok.ensures in h.1
 
 pub returns-in_ok-record : goal.returns-in_ok-record
-returns-in_ok-record c =
+returns-in_ok-record g c =
     let d = c.lead.new.led in
     let h = rw c.if-ended.true at c.in-Ok.ensures in
     ended_run c.args.ready.now c.args.machine c.args.led.now c.lead.new.machine d h.0 h.1 c.in_ok-record.record c.in_ok-record.ensures
     (none_left c.has_items-more.result d.told d.items.items c.if-more.false c.has_items-more.ensures)
 
 pub returns-in-Ok : goal.returns-in-Ok
-returns-in-Ok c =
+returns-in-Ok g c =
     let h = rw c.if-ended.false at c.in-Ok.ensures in
     away_no_run c.args.ready.now c.args.machine c.args.led.now c.lead.new.machine c.lead.new.led h
