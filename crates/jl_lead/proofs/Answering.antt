@@ -1,6 +1,5 @@
 -- The answers of a dispatcher that leads a task, by what the code found next in the trace.
-use Rattle.std.proofs.Common.{◌≡◌, ◌∙◌, ap, sym, subst, refl, ℕ, zero, suc, ◌+◌, ◌-◌, ◌<◌, ◌≤◌, arith, Bool, true, false, nat_eq, cond, List, [], ◌∷◌, ◌++◌, append_assoc, append-nil, length-append, drop, take, length, slice_get, Option, Some, None, MatchOption}
-use Rattle.std.proofs.lemmas.Option.{none-some}
+use Rattle.std.proofs.Common.{◌≡◌, ◌∙◌, ap, sym, subst, refl, ℕ, zero, suc, ◌+◌, ◌-◌, ◌<◌, ◌≤◌, arith, Bool, true, false, nat_eq, cond, List, [], ◌∷◌, ◌++◌, append_assoc, append-nil, length-append, drop, take, length, slice_get, Some, None}
 use Rattle.jl_model.specs.declared.ty.Ty.{Ty}
 use Rattle.jl_program.specs.declared.choice.Choice.{Choice}
 use Rattle.jl_program.specs.declared.choice.Choice.TheVariants as C
@@ -15,13 +14,13 @@ use Rattle.jl_calculus.specs.declared.history.TraceItem.{TraceItem}
 use Rattle.jl_calculus.specs.declared.history.TraceItem.TheVariants.{Look, Def, Spawn, Fetch, WorldFull, TaskFull}
 use Rattle.jl_calculus.specs.Legal.{start_of, first_place}
 use Rattle.jl_calculus.specs.Past.{IsTrueOf, EndedSo, done_of, tasks_of, own_events, own_starts}
-use Rattle.jl_calculus.specs.World.{Selects, defined, definitions, site_of, world_of}
-use Rattle.jl_calculus.proofs.GrowthLemmas.{defined_append, world_more, first_at_most, selects_on, site_more, get_same}
+use Rattle.jl_calculus.specs.World.{Selects, site_of, world_of}
+use Rattle.jl_calculus.proofs.GrowthLemmas.{world_more, first_at_most, selects_on, site_more}
 use Rattle.jl_dispatcher.specs.Knows.{Knows, Claim, Grew, Told, Looked, Asked, Refused, IsOfWorld, SelectsBySite, IsRight, Defined, IsMade, WorldsFull, IsFull, Spawned, TasksFull, AreTasksFull, Fetched}
-use Rattle.jl_lead.specs.Items.{Begins, Departs, next_item, look_of, world_full_of, task_full_of, IsNoFetch}
-use Rattle.jl_lead.specs.Leads.{GoesOn, HasMade, IsMadeBy, AreMadeBy, IsOn, led_knows, IsPlaced}
+use Rattle.jl_lead.specs.Items.{Begins, next_item, look_of, world_full_of, task_full_of, IsNoFetch}
+use Rattle.jl_lead.specs.Leads.{GoesOn, HasMade, IsMadeBy, IsOn, led_knows}
 use Rattle.jl_lead.specs.Stretch.{IsStretch, IsLeft}
-use Rattle.jl_lead.proofs.EventFacts.{self_eq, other_eq, goes_self, goes_less, true_goes, tasks_append, done_later, start_before, first_before, own_later, starts_append}
+use Rattle.jl_lead.proofs.EventFacts.{self_eq, other_eq, goes_self, goes_less, true_goes, done_later, start_before, first_before, own_later, starts_append}
 use Rattle.jl_lead.proofs.ItemFacts.{next_is, next_on, is_look, is_world_full, is_task_full, no_look, no_def, no_world_full, no_spawn, no_task_full, no_fetch, one_more, departs_at}
 
 -- what a task that goes on alone has made, where it makes nothing now

@@ -1,6 +1,5 @@
 -- What is told of runs from how far a task has come.
-use Rattle.std.proofs.Common.{◌≡◌, ◌∙◌, ◌⊎◌, inl, inr, ◌↔◌, ap, sym, subst, refl, ℕ, zero, suc, ◌+◌, ◌<◌, ◌≤◌, arith, Bool, true, false, nat_eq, cond, IsTrue, List, [], ◌∷◌, ◌++◌, append_assoc, append-nil, length-append, drop, take, length, slice_get, Option, Some, None}
-use Rattle.std.proofs.lemmas.Option.{same_Some, none-some}
+use Rattle.std.proofs.Common.{◌≡◌, ◌∙◌, ◌⊎◌, inl, inr, ◌↔◌, ap, sym, subst, refl, ℕ, zero, suc, ◌<◌, ◌≤◌, arith, Bool, true, false, cond, IsTrue, List, [], ◌∷◌, ◌++◌, append-nil, length-append, drop, take, length, slice_get, Option, Some, None}
 use Rattle.std.proofs.lemmas.List.{length-drop}
 use Rattle.jl_program.specs.declared.tree.Program.{Program}
 use Rattle.jl_program.specs.declared.tree.Start.{Start}
@@ -13,28 +12,26 @@ use Rattle.jl_calculus.specs.declared.history.Record.{Record}
 use Rattle.jl_calculus.specs.declared.history.TraceItem.{TraceItem}
 use Rattle.jl_calculus.specs.declared.history.TraceItem.TheVariants.{Look, Def, Spawn, Fetch, WorldFull, TaskFull}
 use Rattle.jl_calculus.specs.Legal.{start_of}
-use Rattle.jl_calculus.specs.Past.{IsTrueOf, own_items, own_events, own_starts, tasks_of}
-use Rattle.jl_calculus.specs.Run.{Question, a_look, a_definition, a_spawn, a_fetch, halts, Comes, Run, setting_of}
+use Rattle.jl_calculus.specs.Past.{own_items, own_events, own_starts, tasks_of}
+use Rattle.jl_calculus.specs.Run.{Question, a_look, a_definition, a_spawn, a_fetch, halts}
 use Rattle.jl_calculus.specs.World.{defined, world_of}
 use Rattle.jl_calculus.proofs.GrowthLemmas.{defined_append, first_at_most}
-use Rattle.jl_point.specs.declared.point.Work.{Work}
 use Rattle.jl_point.specs.declared.point.Work.TheVariants as W
 use Rattle.jl_point.specs.Questions.{IsAnswerTo, GoesOnFrom}
 use Rattle.jl_dispatcher.specs.Knows.{Knows}
-use Rattle.jl_fit.specs.Asks.{Job, Over, Ending, RunsTo, Asks, StartsJoin}
-use Rattle.jl_fit.specs.Fits.{AllLearnt, FitsWith, IsRunOf, Progress}
+use Rattle.jl_fit.specs.Asks.{Over, Ending, RunsTo, StartsJoin}
+use Rattle.jl_fit.specs.Fits.{AllLearnt, FitsWith, IsRunOf}
 use Rattle.jl_fit.proofs.Traces.{own_more}
-use Rattle.jl_machine.specs.declared.now.LentWork.TheVariants.{Ended, Lost}
 use Rattle.jl_machine.specs.declared.task.Machine.{Machine}
 use Rattle.jl_machine.specs.Lent.{work_of}
-use Rattle.jl_machine.specs.Steps.{IsAt, MachineFits, IsLost, IsEnded, HasEnded, job_with, fuel_of, trace_of, progress_of}
+use Rattle.jl_machine.specs.Steps.{IsAt, IsEnded, HasEnded, job_with, fuel_of, progress_of}
 use Rattle.jl_machine.proofs.Whole.{ended_law}
 use Rattle.jl_lead.specs.declared.led.Led.{Led}
 use Rattle.jl_lead.specs.Items.{IsSameQuestion, Begins}
-use Rattle.jl_lead.specs.Leads.{GoesOn, IsMadeBy, AreMadeBy, HasMade}
+use Rattle.jl_lead.specs.Leads.{GoesOn, AreMadeBy}
 use Rattle.jl_lead.specs.Led.{knows_of}
-use Rattle.jl_lead.specs.Coming.{ComesTo, TellsDefinition, TellsSpawn, RunsSo, IsNoRun, IsTheRun, left_of, whole_trace, Stays, IsThere, IsAway, HasDefined, HasSpawned, IsDefAt, IsSpawnAt}
-use Rattle.jl_lead.proofs.EventFacts.{self_eq, goes_self, goes_less, tasks_append, own_later, starts_append}
+use Rattle.jl_lead.specs.Coming.{ComesTo, TellsDefinition, TellsSpawn, RunsSo, IsNoRun, IsTheRun, left_of, whole_trace, IsThere, IsAway, HasDefined, HasSpawned, IsDefAt, IsSpawnAt}
+use Rattle.jl_lead.proofs.EventFacts.{self_eq, goes_self, tasks_append, own_later, starts_append}
 use Rattle.jl_lead.proofs.Leading.{machine_at}
 
 -- ---- what was made

@@ -1,13 +1,9 @@
 -- A machine that waits while others go on fits its dispatcher then.
-use Rattle.std.proofs.Common.{◌≡◌, ◌∙◌, ap, refl, ℕ, ◌≤◌, Bool, List, [], ◌∷◌, ◌++◌, append-nil, length}
-use Rattle.jl_program.specs.declared.tree.Program.{Program}
-use Rattle.jl_calculus.specs.declared.history.Event.{Event}
-use Rattle.jl_calculus.specs.declared.history.TraceItem.{TraceItem}
+use Rattle.std.proofs.Common.{◌∙◌, ap, refl, ◌++◌, append-nil, length}
 use Rattle.jl_calculus.specs.Past.{own_events, own_starts}
 use Rattle.jl_calculus.proofs.GrowthLemmas.{world_more}
-use Rattle.jl_dispatcher.specs.Knows.{Refused}
 use Rattle.jl_machine.proofs.Whole.{grown_law}
-use Rattle.jl_lead.specs.Carried.{AreOthers, MachineStays}
+use Rattle.jl_lead.specs.Carried.{MachineStays}
 use Rattle.jl_lead.specs.Leads.{led_knows}
 use Rattle.jl_lead.proofs.EventFacts.{goes_less, start_before, first_before, own_later, starts_append}
 

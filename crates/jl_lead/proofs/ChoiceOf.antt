@@ -1,20 +1,17 @@
 -- What is chosen in a world is a definition of the world.
-use Rattle.std.proofs.Common.{◌≡◌, ◌∙◌, ap, sym, subst, refl, ℕ, zero, suc, ◌+◌, ◌-◌, ◌<◌, ◌≤◌, arith, Bool, true, false, cond, nat_eq, List, [], ◌∷◌, ◌++◌, length, take, get_or, slice_get, append_assoc, Option, None, Some}
+use Rattle.std.proofs.Common.{◌≡◌, ap, subst, refl, ℕ, zero, suc, ◌+◌, ◌<◌, ◌≤◌, arith, Bool, true, false, cond, nat_eq, List, [], ◌∷◌, length, slice_get, Option, None, Some}
 use Rattle.std.specs.List.{Contains}
-use Rattle.std.proofs.lemmas.List.{take-append-le, get_or_append_left}
 use Rattle.jl_model.specs.declared.ty.Ty.{Ty}
 use Rattle.jl_model.specs.Choice.{Method}
 use Rattle.jl_program.specs.declared.choice.Choice.{Choice}
 use Rattle.jl_program.specs.declared.choice.Choice.TheVariants as C
-use Rattle.jl_calculus.specs.declared.history.Event.{Event}
 use Rattle.jl_program.specs.declared.tree.Site.{Site}
 use Rattle.jl_program.specs.declared.tree.Program.{Program}
-use Rattle.jl_program.specs.Prelude.{prelude_numbers}
 use Rattle.jl_program.specs.Scope.{types_of}
 use Rattle.jl_program.specs.Chooses.{Chooses}
-use Rattle.jl_calculus.specs.World.{defined, definitions, method_at, methods_from, site_of, Selects}
+use Rattle.jl_calculus.specs.World.{method_at, methods_from}
 use Rattle.jl_calculus.specs.Definitions.{methods_of, defs_from}
-use Rattle.jl_calculus.proofs.MethodLemmas.{methods_of_defs, selects_from_chooses}
+use Rattle.jl_calculus.proofs.MethodLemmas.{methods_of_defs}
 use Rattle.jl_dispatcher.specs.Knows.{IsOfWorld}
 
 -- ---- the numbers of methods

@@ -1,5 +1,5 @@
 -- What one more event leaves of what the events tell.
-use Rattle.std.proofs.Common.{◌≡◌, ◌∙◌, ap, sym, subst, refl, ℕ, zero, suc, ◌+◌, ◌<◌, ◌≤◌, arith, Bool, true, false, cond, nat_eq, List, [], ◌∷◌, ◌++◌, length, take, append_assoc, append-nil, length-append, Option, Some, None}
+use Rattle.std.proofs.Common.{◌≡◌, ◌∙◌, ap, sym, subst, refl, ℕ, suc, ◌+◌, ◌<◌, arith, Bool, true, false, cond, nat_eq, List, [], ◌∷◌, ◌++◌, length, append_assoc, append-nil, Some, None}
 use Rattle.jl_program.specs.declared.tree.Start.{Start}
 use Rattle.jl_calculus.specs.declared.history.Event.{Event}
 use Rattle.jl_calculus.specs.declared.history.Event.TheVariants as Ev
@@ -8,7 +8,6 @@ use Rattle.jl_calculus.specs.declared.history.TraceItem.TheVariants.{Def, Spawn}
 use Rattle.jl_calculus.specs.declared.history.Record.{Record}
 use Rattle.jl_calculus.specs.Legal.{start_of, first_place}
 use Rattle.jl_calculus.specs.Past.{IsTrueOf, tasks_of, done_of, own_events, own_starts}
-use Rattle.jl_calculus.specs.World.{defined, definitions, world_of}
 use Rattle.jl_calculus.proofs.GrowthLemmas.{true_on}
 use Rattle.jl_lead.specs.Leads.{GoesOn}
 

@@ -1,5 +1,5 @@
 -- What stands next in a trace, and a trace that departs.
-use Rattle.std.proofs.Common.{◌≡◌, ◌∙◌, ◌⊎◌, inl, inr, ap, sym, subst, refl, ℕ, zero, suc, ◌+◌, ◌<◌, ◌≤◌, arith, Bool, true, false, List, [], ◌∷◌, ◌++◌, append_assoc, append-nil, length-append, drop, length, slice_get, Option, Some, None}
+use Rattle.std.proofs.Common.{◌≡◌, ◌∙◌, ◌⊎◌, inl, inr, ap, sym, subst, refl, ℕ, zero, suc, ◌+◌, arith, Bool, true, false, List, [], ◌∷◌, ◌++◌, append_assoc, length-append, drop, length, slice_get, Option, Some, None}
 use Rattle.std.proofs.lemmas.Option.{same_Some, none-some}
 use Rattle.jl_calculus.specs.declared.history.Event.{Event}
 use Rattle.jl_calculus.specs.declared.history.Outcome.{Outcome}
@@ -8,7 +8,7 @@ use Rattle.jl_calculus.specs.declared.history.TraceItem.{TraceItem}
 use Rattle.jl_calculus.specs.declared.history.TraceItem.TheVariants.{Look, Def, Spawn, Fetch, WorldFull, TaskFull}
 use Rattle.jl_lead.specs.Items.{IsSameQuestion, Begins, Departs, next_item, look_of, world_full_of, task_full_of, IsNoFetch}
 use Rattle.jl_lead.specs.Leads.{IsOn}
-use Rattle.jl_lead.specs.Stretch.{IsStretch, IsLeft}
+use Rattle.jl_lead.specs.Stretch.{IsStretch}
 
 -- ---- the item that stands next
 

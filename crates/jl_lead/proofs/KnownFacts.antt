@@ -1,5 +1,5 @@
 -- What is kept of the events, and one more event.
-use Rattle.std.proofs.Common.{◌≡◌, ◌∙◌, ap, sym, subst, refl, ℕ, zero, suc, ◌⊎◌, inl, inr, get_or, slice_get, ◌+◌, ◌-◌, ◌<◌, ◌≤◌, ◌^◌, arith, Bool, true, false, cond, nat_eq, List, [], ◌∷◌, ◌++◌, length, take, drop, take-append-drop, append_assoc, append-nil, length-append, Option, Some, None, Result, Ok, Err, IfOk}
+use Rattle.std.proofs.Common.{◌≡◌, ◌∙◌, ap, sym, subst, refl, ℕ, zero, suc, ◌⊎◌, inl, inr, get_or, slice_get, ◌+◌, ◌-◌, ◌<◌, ◌≤◌, ◌^◌, arith, Bool, true, false, cond, nat_eq, List, [], ◌∷◌, ◌++◌, length, take, drop, take-append-drop, append-nil, length-append, Option, Some, None, Result, Ok, Err, IfOk}
 use Rattle.std.proofs.lemmas.Option.{same_Some, none-some, slice_get-get_or}
 use Rattle.std.proofs.lemmas.List.{length-take-le}
 use Rattle.jl_model.specs.declared.ty.Ty.{Ty}
@@ -28,11 +28,7 @@ use Rattle.jl_lead.proofs.FunctionLemmas.{defs_sites}
 use Rattle.jl_lead.proofs.PickLemmas.{latest_chooses}
 use Rattle.jl_lead.specs.Known.{IsNoted, IsStartAmong, AreSound, IsKnownSo, IsPlain, IsSpawnOf}
 use Rattle.jl_lead.proofs.EndLemmas.{ends_none, ends_same, ends_kept, ends_done}
-use Rattle.jl_lead.proofs.EventFacts.{self_eq, tasks_append, done_stays, done_later}
-
-some_is : {X : Type 0} (o : Option X) → (o ≡ None → ⊥) → (x : X) × (o ≡ Some x)
-some_is None h = absurd (h refl)
-some_is (Some x) h = (x, refl)
+use Rattle.jl_lead.proofs.EventFacts.{tasks_append, done_stays, done_later}
 
 -- a start stays among the worlds
 start_more : (P : Program) (es more : List Event) (s : Start) → IsStartAmong P es s → IsStartAmong P (es ++ more) s

@@ -121,13 +121,6 @@ renewed_in_place def old pushed new i p l s n =
 
 -- ---- what is kept of the definitions of a function
 
-pub kept_first : (all latest : List Def) → all ≡ [] → latest ≡ [] → IsKeptSo all latest
-kept_first all latest e f =
-    subst (λ xs. IsKeptSo xs latest) (sym e) (subst (IsKeptSo []) (sym f) (record {
-      rising = tt;
-      latest_ones = record { there = λ d c. c; covered = λ d c. absurd (omega (arith, c.1)); rising = tt };
-    }))
-
 pub kept_push : (def : Def) (all latest more new : List Def) → IsKeptSo all latest → AreBefore def.world all → more ≡ all ++ def ∷ [] → IsRenewed def latest new → IsKeptSo more new
 kept_push def all latest more new h b e r =
     subst (λ xs. IsKeptSo xs new) (sym e) (record {

@@ -1,13 +1,11 @@
 -- How far a task has come that is led, step by step.
-use Rattle.std.proofs.Common.{◌≡◌, ◌∙◌, ◌⊎◌, inl, inr, ap, sym, subst, refl, ℕ, Bool, true, false, List, [], ◌∷◌, ◌++◌, drop, None}
+use Rattle.std.proofs.Common.{◌≡◌, ◌∙◌, inl, inr, ap, sym, subst, refl, ℕ, true, false, List, ◌++◌, None}
 use Rattle.jl_program.specs.declared.tree.Program.{Program}
-use Rattle.jl_program.specs.declared.tree.Start.{Start}
 use Rattle.jl_calculus.specs.declared.history.Event.{Event}
 use Rattle.jl_calculus.specs.declared.history.TraceItem.{TraceItem}
 use Rattle.jl_calculus.specs.Legal.{start_of}
-use Rattle.jl_calculus.specs.Past.{own_items, own_events, own_starts}
+use Rattle.jl_calculus.specs.Past.{own_events, own_starts}
 use Rattle.jl_calculus.specs.Run.{Question}
-use Rattle.jl_point.specs.Questions.{IsAnswerTo}
 use Rattle.jl_dispatcher.specs.Knows.{Knows, Claim}
 use Rattle.jl_fit.specs.Asks.{Job, Asks, Tells, Follows, StartsJoin}
 use Rattle.jl_machine.specs.declared.now.LentWork.{LentWork}

@@ -1,4 +1,3 @@
-use Rattle.std.proofs.Common.{ℕ, ◌∙◌, subst}
 use Rattle.jl_lead.proofs.Leading.{begins_there, next_there, next_away}
 use Rattle.jl_lead.proofs.lead.lead.Goals as goal
 

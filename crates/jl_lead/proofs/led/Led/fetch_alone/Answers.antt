@@ -1,4 +1,4 @@
-use Rattle.std.proofs.Common.{◌≡◌, ap, sym, subst, arith, refl, MatchOption, None}
+use Rattle.std.proofs.Common.{◌≡◌, subst, arith, refl, MatchOption, None}
 use Rattle.jl_calculus.specs.Past.{EndedSo, done_of}
 use Rattle.jl_calculus.specs.ValidHistory.{IsValidOutcome}
 use Rattle.jl_lead.proofs.Whole.{placed_on, fetch_ended, fetch_lost}

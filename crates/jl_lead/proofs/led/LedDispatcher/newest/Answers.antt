@@ -1,4 +1,4 @@
-use Rattle.std.proofs.Common.{◌∙◌, ap, sym, arith, length}
+use Rattle.std.proofs.Common.{◌∙◌, ap, sym, arith}
 use Rattle.jl_lead.specs.Items.{next_item, look_of}
 use Rattle.jl_lead.proofs.Answering.{looked_on, looked_off, left_look, seen_look}
 use Rattle.jl_lead.proofs.led.LedDispatcher.newest.Goals as goal

@@ -1,4 +1,4 @@
-use Rattle.std.proofs.Common.{◌≤◌, ◌∙◌, ap, sym, subst, arith, take, IfOk}
+use Rattle.std.proofs.Common.{◌≤◌, sym, subst, arith, take, IfOk}
 use Rattle.jl_program.specs.Scope.{all_types}
 use Rattle.jl_calculus.specs.Definitions.{HasSite, defs_from}
 use Rattle.jl_calculus.specs.Legal.{IsKeyOf}
