@@ -1,0 +1,215 @@
+-- What is kept of the events, and one more event.
+use Rattle.std.proofs.Common.{◌≡◌, ◌∙◌, ap, sym, subst, refl, ℕ, zero, suc, ◌⊎◌, inl, inr, get_or, slice_get, ◌+◌, ◌-◌, ◌<◌, ◌≤◌, ◌^◌, arith, Bool, true, false, cond, nat_eq, List, [], ◌∷◌, ◌++◌, length, take, drop, take-append-drop, append-nil, length-append, Option, Some, None, Result, Ok, Err, IfOk}
+use Rattle.std.proofs.lemmas.Option.{same_Some, none-some, slice_get-get_or}
+use Rattle.std.proofs.lemmas.List.{length-take-le}
+use Rattle.jl_model.specs.declared.ty.Ty.{Ty}
+use Rattle.jl_program.specs.declared.choice.Choice.{Choice}
+use Rattle.jl_program.specs.declared.tree.Program.{Program}
+use Rattle.jl_program.specs.declared.tree.Start.{Start}
+use Rattle.jl_program.specs.Chooses.{Chooses}
+use Rattle.jl_program.specs.Prelude.{prelude_numbers}
+use Rattle.jl_program.specs.Scope.{types_of}
+use Rattle.jl_program.specs.Valid.{IsValid}
+use Rattle.jl_calculus.specs.declared.history.Def.{Def}
+use Rattle.jl_calculus.specs.declared.history.Event.{Event}
+use Rattle.jl_calculus.specs.declared.history.Event.TheVariants as Ev
+use Rattle.jl_calculus.specs.declared.history.Outcome.{Outcome}
+use Rattle.jl_calculus.specs.declared.history.Record.{Record}
+use Rattle.jl_calculus.specs.Definitions.{methods_of, defs_from}
+use Rattle.jl_calculus.specs.Past.{EndedSo, done_of, tasks_of}
+use Rattle.jl_calculus.specs.ValidHistory.{IsValidOutcome}
+use Rattle.jl_calculus.specs.World.{Selects, defined, definitions, world_of}
+use Rattle.jl_calculus.proofs.GrowthLemmas.{defined_append, definitions_append, definitions_length, world_more}
+use Rattle.jl_calculus.proofs.MethodLemmas.{methods_of_defs, selects_from_chooses}
+use Rattle.jl_dispatcher.specs.Knows.{IsOfWorld}
+use Rattle.jl_lead.specs.ByFunction.{AreLatest}
+use Rattle.jl_lead.proofs.ChoiceOf.{of_world}
+use Rattle.jl_lead.proofs.FunctionLemmas.{defs_sites}
+use Rattle.jl_lead.proofs.PickLemmas.{latest_chooses}
+use Rattle.jl_lead.specs.Known.{IsNoted, IsStartAmong, AreSound, IsKnownSo, IsPlain, IsSpawnOf}
+use Rattle.jl_lead.proofs.EndLemmas.{ends_none, ends_same, ends_kept, ends_done}
+use Rattle.jl_lead.proofs.EventFacts.{tasks_append, done_stays, done_later}
+
+-- a start stays among the worlds
+start_more : (P : Program) (es more : List Event) (s : Start) → IsStartAmong P es s → IsStartAmong P (es ++ more) s
+start_more P es more s h = record { valid = h.valid; world = (h.world.0, let w = h.world.1 in omega (arith, w, world_more es more)) }
+
+get_last : (xs : List Event) (e x : Event) (p : ℕ) → slice_get (xs ++ e ∷ []) p ≡ Some x → (slice_get xs p ≡ Some x) ⊎ (e ≡ x)
+get_last [] e x zero h = inr (same_Some _ _ h)
+get_last [] e x (suc p) h = absurd (none-some _ h)
+get_last (y ∷ xs) e x zero h = inl h
+get_last (y ∷ xs) e x (suc p) h = get_last xs e x p h
+
+sound_more : (P : Program) (es : List Event) (e : Event) → AreSound P es → ((task : ℕ) (r : Record) → done_of task (e ∷ []) ≡ Some r → IsValidOutcome P r.outcome)
+    → ((task child : ℕ) (s : Start) → e ≡ Ev.Spawn task child s → IsStartAmong P es s) → AreSound P (es ++ e ∷ [])
+sound_more P es e h outcomes starts = record {
+  outcomes = λ task r q. by_done task r q (done_of task es) refl;
+  starts = λ p task child s q. by_start p task child s (get_last es e (Ev.Spawn task child s) p q);
+}
+  where
+    by_done : (task : ℕ) (r : Record) → done_of task (es ++ e ∷ []) ≡ Some r → (o : Option Record) → done_of task es ≡ o → IsValidOutcome P r.outcome
+    by_done task r q None n = outcomes task r (sym (done_later task es (e ∷ []) n) ∙ q)
+    by_done task r q (Some t) n = let same : t ≡ r = same_Some _ _ (sym (done_stays task es (e ∷ []) t n) ∙ q) in subst (λ (z : Record). IsValidOutcome P z.outcome) same (h.outcomes task t n)
+
+    by_start : (p task child : ℕ) (s : Start) → (slice_get es p ≡ Some (Ev.Spawn task child s)) ⊎ (e ≡ Ev.Spawn task child s) → IsStartAmong P (es ++ e ∷ []) s
+    by_start p task child s (inl q) = start_more P es (e ∷ []) s (h.starts p task child s q)
+    by_start p task child s (inr q) = start_more P es (e ∷ []) s (starts task child s q)
+
+pub known_new : (P : Program) → IsKnownSo P prelude_numbers [] 1 []
+known_new P = record {
+  sites_are = sym (append-nil prelude_numbers);
+  worlds = omega arith;
+  tasks_are = refl;
+  few = omega arith;
+  short = omega arith;
+  ends_are = ends_none;
+  sound = record { outcomes = λ task r q. absurd (none-some _ q); starts = λ p task child s q. absurd (none-some _ q) };
+}
+
+pub new_known : (P : Program) (v : Program × List ℕ) (es : List Event) (ends : List (Option ℕ)) → v ≡ (P, prelude_numbers) → es ≡ [] → ends ≡ [] → IsKnownSo v.0 v.1 es 1 ends
+new_known P v es ends e n m = subst (λ xs. IsKnownSo v.0 v.1 es 1 xs) (sym m) (subst (λ (z : (Program × List ℕ) × List Event). IsKnownSo z.0.0 z.0.1 z.1 1 []) (λ i. (sym e i, sym n i)) (known_new P))
+
+module _ (P : Program) (sites : List ℕ) (es : List Event) (tasks : ℕ) (ends : List (Option ℕ)) (h : IsKnownSo P sites es tasks ends) (short : length es < 4294967294) where
+  one_longer : (e : Event) → length (es ++ e ∷ []) < 2 ^ 32 - 1
+  one_longer e = let n = length-append es (e ∷ []) in omega (arith, n, short)
+
+  pub known_def : (task site : ℕ) → world_of es < 65535 → IsKnownSo P (sites ++ site ∷ []) (es ++ Ev.Def task site ∷ []) tasks ends
+  known_def task site room = record {
+    sites_are = ap (λ xs. xs ++ site ∷ []) h.sites_are ∙ sym (definitions_append es (Ev.Def task site ∷ []));
+    worlds = let n = ap length (defined_append es (Ev.Def task site ∷ [])) in let m = length-append (defined es) (site ∷ []) in omega (arith, n, m, room);
+    tasks_are = let n = tasks_append es (Ev.Def task site ∷ []) in let t = h.tasks_are in omega (arith, n, t);
+    few = let n = tasks_append es (Ev.Def task site ∷ []) in let f = h.few in omega (arith, n, f);
+    short = one_longer (Ev.Def task site);
+    ends_are = ends_kept es (Ev.Def task site) ends (λ t. refl) h.ends_are;
+    sound = sound_more P es (Ev.Def task site) h.sound (λ t r q. absurd (none-some _ q)) (λ t c s q. absurd (cc (q)));
+  }
+
+  pub known_spawn : (task : ℕ) (start : Start) → IsStartAmong P es start → tasks_of es < 4096 → IsKnownSo P sites (es ++ Ev.Spawn task (tasks_of es) start ∷ []) (tasks + 1) ends
+  known_spawn task start among room = record {
+    sites_are = h.sites_are ∙ sym (append-nil (definitions es)) ∙ sym (definitions_append es (Ev.Spawn task (tasks_of es) start ∷ []));
+    worlds = let n = ap length (defined_append es (Ev.Spawn task (tasks_of es) start ∷ [])) in let m = length-append (defined es) [] in let w = h.worlds in omega (arith, n, m, w);
+    tasks_are = let n = tasks_append es (Ev.Spawn task (tasks_of es) start ∷ []) in let t = h.tasks_are in omega (arith, n, t);
+    few = let n = tasks_append es (Ev.Spawn task (tasks_of es) start ∷ []) in omega (arith, n, room);
+    short = one_longer (Ev.Spawn task (tasks_of es) start);
+    ends_are = ends_kept es (Ev.Spawn task (tasks_of es) start) ends (λ t. refl) h.ends_are;
+    sound = sound_more P es (Ev.Spawn task (tasks_of es) start) h.sound (λ t r q. absurd (none-some _ q)) (λ t c s q. (let same : start ≡ s = cc (q) in subst (IsStartAmong P es) same among));
+  }
+
+  pub known_done : (task : ℕ) (ended : Record) (new : List (Option ℕ)) → IsNoted task (length es) ends new → IsValidOutcome P ended.outcome → IsKnownSo P sites (es ++ Ev.Done task ended ∷ []) tasks new
+  known_done task ended new noted valid = record {
+    sites_are = h.sites_are ∙ sym (append-nil (definitions es)) ∙ sym (definitions_append es (Ev.Done task ended ∷ []));
+    worlds = let n = ap length (defined_append es (Ev.Done task ended ∷ [])) in let m = length-append (defined es) [] in let w = h.worlds in omega (arith, n, m, w);
+    tasks_are = let n = tasks_append es (Ev.Done task ended ∷ []) in let t = h.tasks_are in omega (arith, n, t);
+    few = let n = tasks_append es (Ev.Done task ended ∷ []) in let f = h.few in omega (arith, n, f);
+    short = one_longer (Ev.Done task ended);
+    ends_are = ends_done es task ended ends new noted h.ends_are;
+    sound = sound_more P es (Ev.Done task ended) h.sound (λ t r q. same t r (nat_eq task t) q) (λ t c s q. absurd (cc (q)));
+  }
+    where
+      same : (t : ℕ) (r : Record) (b : Bool) → cond b (Some ended) None ≡ Some r → IsValidOutcome P r.outcome
+      same t r true q = subst (λ (z : Record). IsValidOutcome P z.outcome) (same_Some _ _ q) valid
+      same t r false q = absurd (none-some _ q)
+
+  pub known_plain : (e : Event) → IsPlain e → IsKnownSo P sites (es ++ e ∷ []) tasks ends
+  known_plain e plain = at e plain
+    where
+      more : (x : Event) → defined (x ∷ []) ≡ [] → tasks_of (x ∷ []) ≡ 1 → ((t : ℕ) → done_of t (x ∷ []) ≡ None) → ((t c : ℕ) (s : Start) → x ≡ Ev.Spawn t c s → ⊥) → IsKnownSo P sites (es ++ x ∷ []) tasks ends
+      more x no_def no_task no_done no_start = record {
+        sites_are = h.sites_are ∙ sym (append-nil (definitions es)) ∙ ap (λ ds. definitions es ++ ds) (sym no_def) ∙ sym (definitions_append es (x ∷ []));
+        worlds = let n = ap length (defined_append es (x ∷ [])) in let m = length-append (defined es) (defined (x ∷ [])) in let z = ap length no_def in let w = h.worlds in omega (arith, n, m, z, w);
+        tasks_are = let n = tasks_append es (x ∷ []) in let t = h.tasks_are in omega (arith, n, t, no_task);
+        few = let n = tasks_append es (x ∷ []) in let f = h.few in omega (arith, n, f, no_task);
+        short = one_longer x;
+        ends_are = ends_kept es x ends no_done h.ends_are;
+        sound = sound_more P es x h.sound (λ t r q. absurd (none-some _ (sym (no_done t) ∙ q))) (λ t c s q. absurd (no_start t c s q));
+      }
+
+      at : (x : Event) → IsPlain x → IsKnownSo P sites (es ++ x ∷ []) tasks ends
+      at (Ev.Begin fuel) p = more (Ev.Begin fuel) refl refl (λ t. refl) (λ t c s q. cc (q))
+      at (Ev.Key key) p = more (Ev.Key key) refl refl (λ t. refl) (λ t c s q. cc (q))
+      at (Ev.Fill key site first) p = more (Ev.Fill key site first) refl refl (λ t. refl) (λ t c s q. cc (q))
+      at (Ev.Def task site) p = absurd p
+      at (Ev.Spawn task child start) p = absurd p
+      at (Ev.Done task ended) p = absurd p
+
+  -- ---- the same, by what the code has then
+
+  pub spawn_to : (task : ℕ) (start : Start) (new : List Event) → IsStartAmong P es start → tasks_of es < 4096 → new ≡ es ++ Ev.Spawn task tasks start ∷ [] → IsKnownSo P sites new (tasks + 1) ends
+  spawn_to task start new among room e =
+      subst (λ xs. IsKnownSo P sites xs (tasks + 1) ends) (sym (e ∙ ap (λ n. es ++ Ev.Spawn task n start ∷ []) h.tasks_are)) (known_spawn task start among room)
+
+  pub def_to : (task site : ℕ) (v : Program × List ℕ) (new : List Event) → world_of es < 65535 → v ≡ (P, sites ++ site ∷ []) → new ≡ es ++ Ev.Def task site ∷ [] → IsKnownSo v.0 v.1 new tasks ends
+  def_to task site v new room e n = subst (λ (z : (Program × List ℕ) × List Event). IsKnownSo z.0.0 z.0.1 z.1 tasks ends) (λ i. (sym e i, sym n i)) (known_def task site room)
+
+  pub done_to : (task place : ℕ) (ended : Record) (new : List Event) (places : List (Option ℕ)) → IsValidOutcome P ended.outcome → new ≡ es ++ Ev.Done task ended ∷ [] → place ≡ length es → IsNoted task place ends places
+      → IsKnownSo P sites new tasks places
+  done_to task place ended new places valid e at noted = subst (λ xs. IsKnownSo P sites xs tasks places) (sym e) (known_done task ended places (subst (λ (p : ℕ). IsNoted task p ends places) at noted) valid)
+
+  -- an end that was not added
+  pub done_back : (new : List Event) (places : List (Option ℕ)) → new ≡ es → ((t : ℕ) → get_or places t None ≡ get_or ends t None) → IsKnownSo P sites new tasks places
+  done_back new places e same = subst (λ xs. IsKnownSo P sites xs tasks places) (sym e) (record {
+    sites_are = h.sites_are;
+    worlds = h.worlds;
+    tasks_are = h.tasks_are;
+    few = h.few;
+    short = h.short;
+    ends_are = ends_same es ends places same h.ends_are;
+    sound = h.sound;
+  })
+
+  pub plain_to : (event : Event) (new : List Event) → IsPlain event → new ≡ es ++ event ∷ [] → IsKnownSo P sites new tasks ends
+  plain_to event new plain e = subst (λ xs. IsKnownSo P sites xs tasks ends) (sym e) (known_plain event plain)
+
+-- what is seen of one more event
+pub event_added : (u w v : Program × List Event) (E : Program × List Event → Event) → w.0 ≡ u.0 → u ≡ v → w.1 ≡ u.1 ++ E u ∷ [] → w ≡ (v.0, v.1 ++ E v ∷ [])
+event_added u w v E q e n =
+    let F : Program × List Event → Program × List Event = λ z. (z.0, z.1 ++ E z ∷ []) in
+    let a : w ≡ F u = λ i. (q i, n i) in
+    a ∙ ap F e
+
+-- ---- what stands at a place
+
+got : (xs es : List Event) (i : ℕ) (x : Event) → xs ≡ es → i < length xs → x ≡ get_or xs i x → slice_get es i ≡ Some x
+got xs es i x e l g = ap (λ ys. slice_get ys i) (sym e) ∙ slice_get-get_or xs i x l ∙ ap (λ z. Some z) (sym g)
+
+pub spawn_got : (xs es : List Event) (i : ℕ) (x : Event) (task child : ℕ) (start : Start) → xs ≡ es → i < length xs → x ≡ get_or xs i x → x ≡ Ev.Spawn task child start → slice_get es i ≡ Some (Ev.Spawn task child start)
+spawn_got xs es i x task child start e l g q = got xs es i x e l g ∙ ap (λ z. Some z) q
+
+pub is_spawn_of : (es : List Event) (i task child : ℕ) (start : Start) → slice_get es i ≡ Some (Ev.Spawn task child start) → IsSpawnOf start (slice_get es i)
+is_spawn_of es i task child start e = subst (IsSpawnOf start) (sym e) refl
+
+-- ---- outcomes
+
+pub done_told : (es xs : List Event) (task : ℕ) (r : Record) (outcome : Outcome) → xs ≡ es → done_of task xs ≡ Some r → outcome ≡ r.outcome → EndedSo (done_of task es) outcome
+done_told es xs task r outcome e h o = subst (λ z. EndedSo z outcome) (sym (ap (done_of task) (sym e) ∙ h)) (sym o)
+
+pub done_valid : (P : Program) (es xs : List Event) (task : ℕ) (r : Record) (outcome : Outcome) → AreSound P es → xs ≡ es → done_of task xs ≡ Some r → outcome ≡ r.outcome → IsValidOutcome P outcome
+done_valid P es xs task r outcome h e d o = subst (IsValidOutcome P) (sym o) (h.outcomes task r (ap (done_of task) (sym e) ∙ d))
+
+-- what a fetch tells is valid
+pub ended_valid : (P : Program) (es : List Event) → AreSound P es → (of p : ℕ) (outcome : Outcome) → EndedSo (done_of of (take p es)) outcome → IsValidOutcome P outcome
+ended_valid P es h of p outcome e = at (done_of of (take p es)) refl e
+  where
+    at : (r : Option Record) → done_of of (take p es) ≡ r → EndedSo r outcome → IsValidOutcome P outcome
+    at None q k = absurd k
+    at (Some r) q k = subst (IsValidOutcome P) k (h.outcomes of r (subst (λ xs. done_of of xs ≡ Some r) (take-append-drop p es) (done_stays of (take p es) (drop p es) r q)))
+
+-- ---- choices
+
+pub sites_length : (P : Program) (sites : List ℕ) (es : List Event) (tasks : ℕ) (ends : List (Option ℕ)) → IsKnownSo P sites es tasks ends → length sites ≡ world_of es
+sites_length P sites es tasks ends h = ap length h.sites_are ∙ definitions_length es
+
+-- the choice among the latest definitions of their sites is the choice of the rules
+pub chosen : {E : Type 0} (P : Program) (sites : List ℕ) (es : List Event) (tasks : ℕ) (ends : List (Option ℕ)) (h : IsKnownSo P sites es tasks ends) (Q : Program) (f w : ℕ) (ts types : List Ty) (defs : List Def) → Q ≡ P → IsValid Q
+    → AreLatest (defs_from P f 1 (take w sites)) defs → types ≡ ts → (r : Result Choice E) → IfOk r (λ c. Chooses (types_of Q) (methods_of Q defs) types c) → IfOk r (λ c. Selects P es f ts w c)
+chosen P sites es tasks ends h Q f w ts types defs p v e q (Ok c) k =
+    let among : Chooses (types_of P) (methods_of P defs) ts c = subst (λ xs. Chooses (types_of P) (methods_of P defs) xs c) q (subst (λ R. Chooses (types_of R) (methods_of R defs) types c) p k) in
+    selects_from_chooses P f es w ts c (defs_from P f 1 (take w sites)) (ap (λ xs. defs_from P f 1 (take w xs)) h.sites_are)
+    (latest_chooses P (subst IsValid p v) ts (defs_from P f 1 (take w sites)) defs (defs_sites P f 1 (take w sites)) e c among)
+chosen P sites es tasks ends h Q f w ts types defs p v e q (Err x) k = tt
+
+-- what is chosen is a definition of the world
+pub chosen_of_world : (P : Program) (es : List Event) (f w : ℕ) (ts : List Ty) (c : Choice) → w ≤ world_of es → Selects P es f ts w c → IsOfWorld c w
+chosen_of_world P es f w ts c le s =
+    of_world P f w (take w (definitions es)) ts c (omega (arith, length-take-le w (definitions es) (omega (arith, le, definitions_length es))))
+    (subst (λ ms. Chooses (types_of P) ms ts c) (sym (methods_of_defs P f 1 (take w (definitions es)))) s)

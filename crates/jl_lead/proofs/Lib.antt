@@ -1,0 +1,16 @@
+pub mod Slices
+pub mod LatestLemmas
+pub mod FunctionLemmas
+pub mod PickLemmas
+pub mod ChoiceOf
+pub mod KeyTypes
+pub mod EventFacts
+pub mod EndLemmas
+pub mod ItemFacts
+pub mod Answering
+pub mod Whole
+pub mod KnownFacts
+pub mod Chosen
+pub mod Leading
+pub mod Arriving
+pub mod Carrying

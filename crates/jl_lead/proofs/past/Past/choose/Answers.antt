@@ -1,0 +1,42 @@
+use Rattle.std.proofs.Common.{◌≤◌, sym, subst, arith, take, IfOk}
+use Rattle.jl_program.specs.Scope.{all_types}
+use Rattle.jl_calculus.specs.Definitions.{HasSite, defs_from}
+use Rattle.jl_calculus.specs.Legal.{IsKeyOf}
+use Rattle.jl_calculus.specs.World.{Selects, world_of}
+use Rattle.jl_match.specs.KeptRow.{AreConcrete}
+use Rattle.jl_subsig.specs.Side.{Every}
+use Rattle.jl_lead.proofs.FunctionLemmas.{defs_sites}
+use Rattle.jl_lead.proofs.PickLemmas.{latest_sites}
+use Rattle.jl_lead.proofs.KeyTypes.{concrete_types}
+use Rattle.jl_lead.proofs.KnownFacts.{sites_length, chosen}
+use Rattle.jl_lead.proofs.past.Past.choose.Goals as goal
+
+pub of-defs-requires : goal.of-defs-requires
+of-defs-requires c =
+    let d = c.self.inside in
+    let w = subst (λ v. c.args.world ≤ world_of v.1) (sym c.self.view_is) c.requires.world in
+    omega (arith, w, sites_length d.definitions.0 d.definitions.1 d.events.items d.tasks d.ends.items c.self.invariant)
+
+pub choose_for-requires-clause-sites : goal.choose_for-requires-clause-sites
+choose_for-requires-clause-sites c =
+    let d = c.self.inside in
+    subst (λ P. Every (HasSite P) c.of-defs.result.now) (sym c.ready-ready.ensures)
+    (latest_sites d.definitions.0 (defs_from d.definitions.0 c.args.key.now.function 1 (take c.args.world d.definitions.1)) c.of-defs.result.now
+    (defs_sites d.definitions.0 c.args.key.now.function 1 (take c.args.world d.definitions.1)) c.of-defs.ensures)
+
+pub choose_for-requires-clause-ordered : goal.choose_for-requires-clause-ordered
+choose_for-requires-clause-ordered c = let h = c.of-defs.ensures in h.rising
+
+pub choose_for-requires-clause-types : goal.choose_for-requires-clause-types
+choose_for-requires-clause-types c =
+    let d = c.self.inside in
+    let key = subst (λ v. IsKeyOf v.0 c.args.key.now) (sym c.self.view_is) c.requires.key in
+    subst (λ P. AreConcrete (all_types P) c.as_slice.result.now) (sym c.ready-ready.ensures)
+    (subst (AreConcrete (all_types d.definitions.0)) (sym c.as_slice.ensures) (concrete_types (all_types d.definitions.0) c.args.key.now.types key.types))
+
+pub returns : goal.returns
+returns c =
+    let d = c.self.inside in
+    subst (λ v. IfOk c.choose_for.result (λ choice. Selects v.0 v.1 c.args.key.now.function c.args.key.now.types c.args.world choice)) c.self.view_is
+    (chosen d.definitions.0 d.definitions.1 d.events.items d.tasks d.ends.items c.self.invariant c.ready-ready.result.now c.args.key.now.function c.args.world c.args.key.now.types c.as_slice.result.now c.of-defs.result.now
+    c.ready-ready.ensures c.valid.ensures c.of-defs.ensures c.as_slice.ensures c.choose_for.result c.choose_for.ensures)

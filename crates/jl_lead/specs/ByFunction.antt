@@ -1,0 +1,54 @@
+-- Definitions by their functions.
+use Rattle.std.specs.Prelude.{ℕ, ◌+◌, ◌≡◌, ◌<◌, ◌≤◌, ◌⊎◌, cond, nat_le, List, [], ◌∷◌, ◌++◌, length, get_or, set}
+use Rattle.std.specs.List.{Contains}
+use Rattle.jl_calculus.specs.declared.history.Def.{Def}
+use Rattle.jl_program.specs.declared.tree.Program.{Program}
+use Rattle.jl_calculus.specs.Definitions.{defs_from}
+
+-- those of a list of definitions, in order, that a world has
+abbrev pub in_world : ℕ → List Def → List Def
+in_world w [] = []
+in_world w (d ∷ ds) = cond (nat_le d.world w) (d ∷ in_world w ds) []
+
+-- their worlds rise, from a number on
+abbrev pub Rising : ℕ → List Def → Type 0
+Rising low [] = Unit {0}
+Rising low (d ∷ ds) = (low ≤ d.world) × Rising (d.world + 1) ds
+
+-- their worlds are below another
+abbrev pub AreBefore : ℕ → List Def → Type 0
+AreBefore w ds = (d : Def) → Contains ds d → d.world < w
+
+-- of the same site one is there that is no earlier
+pub record HasLater (some : List Def) (d : Def) : Type 0 where
+  pub by : Def
+  pub contained : Contains some by
+  pub site : by.site ≡ d.site
+  pub later : d.world ≤ by.world
+
+-- some of these definitions, in order, with the latest one of each site
+pub record AreLatest (all some : List Def) : Type 0 where
+  pub there : (d : Def) → Contains some d → Contains all d
+  pub covered : (d : Def) → Contains all d → HasLater some d
+  pub rising : Rising 0 some
+
+-- what is kept of the definitions of a function
+pub record IsKeptSo (all latest : List Def) : Type 0 where
+  pub rising : Rising 0 all
+  pub latest_ones : AreLatest all latest
+
+-- one definition came, and at most one of its site went
+pub record IsRenewed (def : Def) (old new : List Def) : Type 0 where
+  pub there : (d : Def) → Contains new d → Contains old d ⊎ (d ≡ def)
+  pub own : Contains new def
+  pub stay : (d : Def) → Contains old d → (d.site ≡ def.site) ⊎ Contains new d
+  pub rising : Rising 0 old → AreBefore def.world old → Rising 0 new
+
+-- one more definition of a function
+abbrev pub with_def : ℕ → Def → List (List Def) → List (List Def)
+with_def f d rows = set rows f (get_or rows f [] ++ d ∷ [])
+
+-- each row has the definitions of one function of the program among those of these sites
+pub record AreByFunction (P : Program) (sites : List ℕ) (rows : List (List Def)) : Type 0 where
+  pub count : length rows ≡ length P.functions
+  pub each : (f : ℕ) → get_or rows f [] ≡ defs_from P f 1 sites
