@@ -14,6 +14,7 @@ use Rattle.jl_calculus.specs.declared.history.TraceItem.TheVariants.{Look, Def, 
 use Rattle.jl_calculus.specs.Legal.{start_of}
 use Rattle.jl_calculus.specs.Past.{own_items, own_events, own_starts, tasks_of}
 use Rattle.jl_calculus.specs.Run.{Question, a_look, a_definition, a_spawn, a_fetch, halts}
+use Rattle.jl_calculus.specs.ValidHistory.{IsValidOutcome}
 use Rattle.jl_calculus.specs.World.{defined, world_of}
 use Rattle.jl_calculus.proofs.GrowthLemmas.{defined_append, first_at_most}
 use Rattle.jl_point.specs.declared.point.Work.TheVariants as W
@@ -505,6 +506,13 @@ module _ (P : Program) (m0 : Machine) (d0 : Led) (m : Machine) (d : Led) (t : Is
                 (λ i. (((told i, sym a i), sym b i), (sym c i, (starts_then ∙ sym e) i))) (ran.runs xs (goes_then xs g)),
           );
         }
+
+    -- its outcome is valid
+    pub ended_valid : IsValidOutcome P r.outcome
+    ended_valid = subst (IsValidOutcome P) (same (ap (λ w. work_of w m.task.now) (sym ended) ∙ h.work)) ended_fits.good.1.work
+      where
+        same : W.Ended m.task.now.outcome ≡ W.Ended r.outcome → m.task.now.outcome ≡ r.outcome
+        same e = cc
 
   -- some of the trace is left: no run has it whole
   pub ended_no_run : (left_of d ≡ [] → ⊥) → IsNoRun P over_es d0.task (fuel_of m0) (whole_trace m0 d0)

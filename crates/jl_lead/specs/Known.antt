@@ -64,3 +64,8 @@ IsPlain (Ev.Done task ended) = ⊥
 abbrev pub IsSpawnOf : Start → Option Event → Type 0
 IsSpawnOf start (Some (Ev.Spawn task child from)) = from ≡ start
 IsSpawnOf start _ = ⊥
+
+-- and no spawn at all
+abbrev pub IsNoSpawn : Option Event → Type 0
+IsNoSpawn (Some (Ev.Spawn task child from)) = ⊥
+IsNoSpawn _ = Unit {0}

@@ -3,6 +3,7 @@
 ghost use Rattle.std.specs.Prelude.{◌≡◌, ◌<◌, ◌↔◌, IfOk, IsTrue, MatchOption, false, slice_get};
 ghost use Rattle.jl_model.specs.declared.limits.TheConstants.{MOST_WORLDS, MOST_TASKS};
 ghost use Rattle.jl_calculus.specs.Past.{tasks_of};
+ghost use Rattle.jl_calculus.specs.ValidHistory.{IsValidOutcome};
 ghost use Rattle.jl_calculus.specs.World.{world_of};
 ghost use Rattle.jl_machine.specs.Steps.{MachineFits, fuel_of, IsLost};
 ghost use Rattle.jl_lead.specs.Led.{knows_of};
@@ -128,7 +129,9 @@ pub fn lead_to_end<'p>(
     requires fits { MachineFits ready.now (fuel_of machine) (knows_of led.old) machine }
     requires going { IsLost machine → ⊥ }
     requires here { led.old.alone ≡ false }
-    ensures { IfOk result (λ found. MatchOption found (IsNoRun ready.now led.old.past.1 led.old.task (fuel_of machine.entry) (whole_trace machine.entry led.old)) (IsTheRun ready.now led.old.past.1 led.old.task (fuel_of machine.entry) (whole_trace machine.entry led.old))) }
+    ensures run { IfOk result (λ found. MatchOption found (IsNoRun ready.now led.old.past.1 led.old.task (fuel_of machine.entry) (whole_trace machine.entry led.old)) (IsTheRun ready.now led.old.past.1 led.old.task (fuel_of machine.entry) (whole_trace machine.entry led.old))) }
+    ensures valid { IfOk result (λ found. MatchOption found (Unit {0}) (λ ended. IsValidOutcome ready.now ended.outcome)) }
+    ensures kept { IfOk result (λ found. MatchOption found (Unit {0}) (λ ended. (led.new.past.0 ≡ ready.now) × (led.new.past.1 ≡ led.old.past.1))) }
 {
     let mut machine = machine;
     match lead(ready, ops, &mut machine, led) {

@@ -7,7 +7,7 @@ ghost use Rattle.jl_calculus.specs.Past.{EndedSo, done_of, tasks_of};
 ghost use Rattle.jl_calculus.specs.ValidHistory.{IsValidOutcome};
 ghost use Rattle.jl_calculus.specs.World.{Selects, site_of, world_of};
 ghost use Rattle.jl_program.specs.Valid.{IsValid};
-ghost use Rattle.jl_lead.specs.Known.{AreEnds, AreSound, IsNoted, IsStartAmong, IsPlain, IsSpawnOf};
+ghost use Rattle.jl_lead.specs.Known.{AreEnds, AreSound, IsNoted, IsStartAmong, IsPlain, IsSpawnOf, IsNoSpawn};
 
 use crate::choosing::choose_for;
 use crate::definitions::{Definitions, prelude_definitions};
@@ -151,7 +151,7 @@ impl<'p> Past<'p> {
 
     /// The start of the task that is spawned at a place.
     pub fn spawned(&self, place: u32) -> Option<&Start>
-        ensures there { MatchOption result (Unit {0}) (λ start. IsSpawnOf start.now (slice_get self.now.1 place)) }
+        ensures there { MatchOption result (IsNoSpawn (slice_get self.now.1 place)) (λ start. IsSpawnOf start.now (slice_get self.now.1 place)) }
         ensures among { MatchOption result (Unit {0}) (λ start. IsStartAmong self.now.0 self.now.1 start.now) }
     {
         match self.events.get(place as usize) {
