@@ -1,0 +1,67 @@
+//! The judgement of a text.
+
+ghost use Rattle.std.specs.Prelude.{◌≡◌, ◌≤◌, ℕ, List, length, IfOk};
+ghost use Rattle.jl_calculus.specs.declared.history.Event.{Event};
+ghost use Rattle.jl_calculus.specs.Legal.{IsLegal};
+ghost use Rattle.jl_report.specs.HistoryText.{entries_of, history_text};
+ghost use Rattle.jl_history.specs.declared.history.TheConstants.{MOST_HISTORY_BYTES};
+ghost use Rattle.jl_history.specs.Form.{AreEntries};
+ghost use Rattle.jl_replay.specs.declared.verdict.Verdict.TheVariants.{Legal};
+ghost use Rattle.jl_replay.specs.Verdict.{IsVerdict, AreJudgedSo};
+
+use crate::difference::first_difference;
+use crate::verdict::Verdict;
+use jl_causes::{Cause, first_cause};
+use jl_history::{HistoryFault, read_history};
+use jl_host::HostOps;
+use jl_keys::{KeyReader, law_keys_apart};
+use jl_report::Entry;
+use jl_sig::Ready;
+use std::alloc::{AllocError, Global};
+
+/// The verdict on entries.
+fn judge(
+    alloc: Global,
+    ready: &Ready,
+    ops: &HostOps,
+    entries: &[Entry],
+) -> Result<Verdict, AllocError>
+    requires { AreEntries entries.now }
+    ensures { IfOk result (λ verdict. AreJudgedSo ready.now entries.now verdict) }
+{
+    law_keys_apart();
+    ready.valid();
+    if let Some((n, cause)) = first_cause(alloc, ready, &KeyReader, entries)? {
+        return Ok(Verdict::Illegal(n, cause));
+    }
+    match first_difference(alloc, ready, ops, entries)? {
+        Some(n) => Ok(Verdict::Illegal(n, Cause::RunDiffers)),
+        None => Ok(Verdict::Legal(entries.len() as u32)),
+    }
+}
+
+/// Judges the text of a history of a program, of at most 67,108,864 bytes: whether it is that of a legal history, and else why not.
+/// `BadText` has the first line that is not of the form. `Illegal` has the least event with a cause, and the first of its causes; the
+/// runs of the tasks are asked only where no other cause holds anywhere. The only error is want of memory. `ops` has the
+/// operations of the prelude.
+pub fn replay(
+    alloc: Global,
+    ready: &Ready,
+    text: &[u8],
+    ops: &HostOps,
+) -> Result<Verdict, AllocError>
+    requires short { length text.now ≤ MOST_HISTORY_BYTES }
+    ensures verdict { IfOk result (λ verdict. IsVerdict ready.now text.now verdict) }
+    ensures legal { (es : List Event) → IsLegal ready.now es → AreEntries (entries_of ready.now es) → text.now ≡ history_text ready.now es → IfOk result (λ verdict. verdict ≡ Legal (length es)) }
+{
+    match read_history(alloc, text) {
+        Ok(entries) => {
+            let verdict = judge(alloc, ready, ops, entries.as_slice());
+            drop(entries);
+            let verdict = verdict?;
+            Ok(verdict)
+        }
+        Err(HistoryFault::BadText(line)) => Ok(Verdict::BadText(line)),
+        Err(HistoryFault::Memory) => Err(AllocError),
+    }
+}
