@@ -76,7 +76,7 @@ def is_right(words, status, out):
     if name == "check":
         return status == 0 and out == b"ok: 0 types, 0 definitions\n"
     if name == "replay":
-        return status == 3 and out == b"ERROR: NotYetRead\n"
+        return status == 3 and out == b"ERROR: NoHistory\n"
     return status in (0, 1) and out.startswith(b"generated " + str(operand).encode() + b"\n")
 
 

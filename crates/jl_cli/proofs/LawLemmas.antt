@@ -1,5 +1,5 @@
 -- What is due, and what is answered, told by the status.
-use Rattle.std.proofs.Common.{◌≡◌, ◌↔◌, inl, inr, ℕ, suc, List, Option, None, Some, refl, sym, subst, arith}
+use Rattle.std.proofs.Common.{◌≡◌, ◌↔◌, ◌⊎◌, ◌<◌, inl, inr, ℕ, suc, List, Option, None, Some, refl, sym, subst, arith}
 use Rattle.jl_calculus.specs.declared.history.History.{History}
 use Rattle.jl_calculus.specs.declared.history.Outcome.{Outcome}
 use Rattle.jl_calculus.specs.declared.history.Outcome.TheVariants as O
@@ -10,12 +10,16 @@ use Rattle.jl_calculus.specs.Past.{done_of}
 use Rattle.jl_queue.specs.declared.setup.Setup.{Setup}
 use Rattle.jl_command.specs.declared.commands.Command.{Command}
 use Rattle.jl_command.specs.declared.commands.Command.TheVariants as C
+use Rattle.jl_replay.specs.declared.verdict.Verdict.{Verdict}
+use Rattle.jl_replay.specs.declared.verdict.Verdict.TheVariants as V
 use Rattle.jl_cli.specs.declared.work.Work.{Work}
 use Rattle.jl_cli.specs.declared.work.Work.TheVariants as W
 use Rattle.jl_cli.specs.declared.work.Telling.{Telling}
+use Rattle.jl_cli.specs.Split.{history_in}
+use Rattle.jl_cli.specs.Verdicts.{verdict_status}
 use Rattle.jl_cli.specs.Work.{script_of, work_of}
-use Rattle.jl_cli.specs.Due.{usage_line, ok_line, AreProgram, IsFaultLine, IsHistoryIn, IsResult, counted, ran, IsOwed, refused, worked, IsDue, usage, not_yet_read, owed, IsAnswer, whole, not_read, not_written, no_memory, no_memory_written}
-use Rattle.jl_cli.specs.Laws.{ChecksTo, IsHistoryOf, IsRefusalLine}
+use Rattle.jl_cli.specs.Due.{usage_line, ok_line, AreProgram, IsFaultLine, IsHistoryIn, IsResult, counted, ran, IsOwed, refused, worked, IsVerdictTold, IsJudged, unjudged, judged, IsReplayed, too_long, no_history, parted, IsDue, usage, replayed, owed, IsAnswer, whole, not_read, not_written, no_memory, no_memory_written}
+use Rattle.jl_cli.specs.Laws.{ChecksTo, HasParts, IsHistoryOf, IsRefusalLine}
 
 outcome_small : (x : Outcome) (n : ℕ) → outcome_status x ≡ suc (suc n) → ⊥
 outcome_small (O.Value v) n e = absurd (omega (arith, e))
@@ -30,7 +34,33 @@ pub result_small : (work : Work) (P : Program) (status : ℕ) (h : Option Histor
 result_small _ _ _ _ _ n (counted P) e = absurd (omega (arith, e))
 result_small _ _ _ _ _ n (ran setup telling P h is) e = root_small (done_of 0 h.events) n e
 
+-- a verdict has status 0 or 7
+verdict_status_is : (v : Verdict) → (verdict_status v ≡ 0) ⊎ (verdict_status v ≡ 7)
+verdict_status_is (V.Legal n) = inl refl
+verdict_status_is (V.BadText line) = inr refl
+verdict_status_is (V.Illegal n cause) = inr refl
+
+pub told_status : (P : Program) (history : List ℕ) (status : ℕ) (text : List ℕ) → IsVerdictTold P history status text → (status ≡ 0) ⊎ (status ≡ 7)
+told_status P history status text told = subst (λ (n : ℕ). (n ≡ 0) ⊎ (n ≡ 7)) (sym told.2) (verdict_status_is told.0)
+
+-- so it is none of the others
+pub told_other : (P : Program) (history : List ℕ) (status : ℕ) (text : List ℕ) (n : ℕ) → IsVerdictTold P history status text → status ≡ suc (suc n) → n < 5 → ⊥
+told_other P history status text n told e few = other status (told_status P history status text told) e
+  where
+    other : (status : ℕ) → (status ≡ 0) ⊎ (status ≡ 7) → status ≡ suc (suc n) → ⊥
+    other status (inl z) e = absurd (omega (arith, z, e))
+    other status (inr z) e = absurd (omega (arith, z, e, few))
+
 -- ---- status 2
+
+judged_other : (script history : List ℕ) (status : ℕ) (text : List ℕ) → IsJudged script history status text → status ≡ 2 → ⊥
+judged_other _ _ _ _ (unjudged script history line fault) e = absurd (omega (arith, e))
+judged_other _ _ _ _ (judged script history P status text are told) e = told_other P history status text 0 told e (omega arith)
+
+replayed_other : (bytes : List ℕ) (status : ℕ) (text : List ℕ) → IsReplayed bytes status text → status ≡ 2 → ⊥
+replayed_other _ _ _ (too_long bytes long) e = absurd (omega (arith, e))
+replayed_other _ _ _ (no_history bytes short none_) e = absurd (omega (arith, e))
+replayed_other _ _ _ (parted bytes status text has j) e = judged_other (script_of C.Replay bytes) (history_in bytes) status text j e
 
 owed_other : (work : Work) (script : List ℕ) (status : ℕ) (h : Option History) (text : List ℕ) → IsOwed work script status h text → status ≡ 2 → ⊥
 owed_other _ _ _ _ _ (refused work script line fault) e = absurd (omega (arith, e))
@@ -38,7 +68,7 @@ owed_other _ _ _ _ _ (worked work script P status h text are result) e = result_
 
 pub usage_law : (asked : Option Command) (bytes : List ℕ) (status : ℕ) (h : Option History) (text : List ℕ) → IsDue asked bytes status h text → (status ≡ 2) ↔ (asked ≡ None)
 usage_law _ _ _ _ _ usage = (λ e. refl, λ e. refl)
-usage_law _ _ _ _ _ not_yet_read = (λ e. absurd (omega (arith, e)), λ e. cc)
+usage_law _ _ _ _ _ (replayed bytes status text r) = (λ e. absurd (replayed_other bytes status text r e), λ e. cc)
 usage_law _ _ _ _ _ (owed c work bytes status h text works o) = (λ e. absurd (owed_other work (script_of c bytes) status h text o e), λ e. cc)
 
 -- ---- what `check` owes
@@ -54,7 +84,7 @@ owed_checked _ _ _ _ _ (worked work script P status h text are result) e =
 
 check_to : (asked : Option Command) (bytes : List ℕ) (status : ℕ) (h : Option History) (text : List ℕ) → IsDue asked bytes status h text → asked ≡ Some C.Check → ChecksTo bytes status h text
 check_to _ _ _ _ _ usage e = cc
-check_to _ _ _ _ _ not_yet_read e = cc
+check_to _ _ _ _ _ (replayed bytes status text r) e = cc
 check_to _ _ _ _ _ (owed c work bytes status h text works o) e =
     let is : c ≡ C.Check = cc in
     let same : Some W.Check ≡ Some work = subst (λ (x : Command). work_of x ≡ Some work) is works in
@@ -103,8 +133,25 @@ history_of_run c bytes work h works run =
 
 due_history : (asked : Option Command) (bytes : List ℕ) (status : ℕ) (o : Option History) (text : List ℕ) (h : History) → IsDue asked bytes status o text → o ≡ Some h → (c : Command) × (asked ≡ Some c) × IsHistoryOf c bytes h
 due_history _ _ _ _ _ h usage e = cc
-due_history _ _ _ _ _ h not_yet_read e = cc
+due_history _ _ _ _ _ h (replayed bytes status text r) e = cc
 due_history _ _ _ _ _ h (owed c work bytes status o text works owes) e = (c, refl, history_of_run c bytes work h works (owed_run work (script_of c bytes) status o text h owes e))
+
+-- a command that does something with a script alone wants no other part
+pub has_parts : (c : Command) (work : Work) (bytes : List ℕ) → work_of c ≡ Some work → HasParts c bytes
+has_parts (C.Run threads fuel) work bytes e = tt
+has_parts (C.Trace threads fuel) work bytes e = tt
+has_parts C.Check work bytes e = tt
+has_parts C.Replay work bytes e = cc
+has_parts (C.Gen n threads fuel) work bytes e = tt
+
+judged_line : (script history : List ℕ) (status : ℕ) (text : List ℕ) → IsJudged script history status text → status ≡ 3 → IsFaultLine script text
+judged_line _ _ _ _ (unjudged script history line fault) e = fault
+judged_line _ _ _ _ (judged script history P status text are told) e = absurd (told_other P history status text 1 told e (omega arith))
+
+replayed_line : (bytes : List ℕ) (status : ℕ) (text : List ℕ) → IsReplayed bytes status text → status ≡ 3 → IsRefusalLine C.Replay bytes text
+replayed_line _ _ _ (too_long bytes long) e = inr (refl, inl (long, refl))
+replayed_line _ _ _ (no_history bytes short none_) e = inr (refl, inr (short, none_, refl))
+replayed_line _ _ _ (parted bytes status text has j) e = inl (has, judged_line (script_of C.Replay bytes) (history_in bytes) status text j e)
 
 module _ (asked : Option Command) (bytes written : List ℕ) (source_rose sink_rose : Type 0) where
   abbrev Answer : ℕ → Option History → Type 0
@@ -124,7 +171,7 @@ module _ (asked : Option Command) (bytes written : List ℕ) (source_rose sink_r
 
   due_usage : (asked : Option Command) (bytes : List ℕ) (status : ℕ) (h : Option History) (text : List ℕ) → IsDue asked bytes status h text → status ≡ 2 → (asked ≡ None) × (text ≡ usage_line) × (h ≡ None)
   due_usage _ _ _ _ _ usage e = (refl, refl, refl)
-  due_usage _ _ _ _ _ not_yet_read e = absurd (omega (arith, e))
+  due_usage _ _ _ _ _ (replayed bytes status text r) e = absurd (replayed_other bytes status text r e)
   due_usage _ _ _ _ _ (owed c work bytes status h text works o) e = absurd (owed_other work (script_of c bytes) status h text o e)
 
   answer_usage : (status : ℕ) (h : Option History) → Answer status h → status ≡ 2 → (asked ≡ None) × (written ≡ usage_line) × (h ≡ None)
@@ -140,8 +187,8 @@ module _ (asked : Option Command) (bytes written : List ℕ) (source_rose sink_r
 
   due_line : (asked : Option Command) (bytes : List ℕ) (status : ℕ) (h : Option History) (text : List ℕ) → IsDue asked bytes status h text → status ≡ 3 → (c : Command) × (asked ≡ Some c) × IsRefusalLine c bytes text × (h ≡ None)
   due_line _ _ _ _ _ usage e = absurd (omega (arith, e))
-  due_line _ _ _ _ _ not_yet_read e = (C.Replay, refl, inr (refl, refl), refl)
-  due_line _ _ _ _ _ (owed c work bytes status h text works o) e = let l = owed_line work (script_of c bytes) status h text o e in (c, refl, inl l.0, l.1)
+  due_line _ _ _ _ _ (replayed bytes status text r) e = (C.Replay, refl, replayed_line bytes status text r e, refl)
+  due_line _ _ _ _ _ (owed c work bytes status h text works o) e = let l = owed_line work (script_of c bytes) status h text o e in (c, refl, inl (has_parts c work bytes works, l.0), l.1)
 
   answer_line : (status : ℕ) (h : Option History) → Answer status h → status ≡ 3 → (c : Command) × (asked ≡ Some c) × IsRefusalLine c bytes written × (h ≡ None)
   answer_line _ _ (whole status h due) e = due_line asked bytes status h written due e

@@ -1,4 +1,6 @@
+pub mod SplitLemmas
 pub mod PlaceLemmas
 pub mod Running
 pub mod LawLemmas
 pub mod StatusLemmas
+pub mod ReplayLemmas

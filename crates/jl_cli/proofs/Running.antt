@@ -1,5 +1,6 @@
 -- What a call did, from what its parts answer.
-use Rattle.std.proofs.Common.{◌≡◌, ℕ, ◌<◌, ◌≤◌, List, [], ◌∷◌, take, length, refl, sym, ◌∙◌, subst, Option, None, Some, inl, arith, codes, Result, IfOk, Ok, Err}
+use Rattle.std.proofs.Common.{◌≡◌, ℕ, suc, ◌<◌, ◌≤◌, List, [], take, drop, length, refl, sym, ap, ◌∙◌, subst, Option, None, Some, inl, arith, codes, Result, IfOk, Ok, Err}
+use Rattle.std.specs.Prelude.{IsSome}
 use Rattle.std.specs.declared.alloc.AllocError.{AllocError}
 use Rattle.jl_calculus.specs.declared.history.History.{History}
 use Rattle.jl_program.specs.declared.tree.Program.{Program}
@@ -28,8 +29,9 @@ use Rattle.jl_resolve.specs.declared.fault.StaticFault.{StaticFault}
 use Rattle.jl_resolve.specs.declared.fault.StaticFault.TheVariants as F
 use Rattle.jl_resolve.specs.Program.{IsRefused}
 use Rattle.jl_cli.specs.Place.{token_line, syntax_line, static_line}
-use Rattle.jl_cli.specs.Work.{most_read, script_of, work_of, told, whole_setup}
-use Rattle.jl_cli.specs.Due.{usage_line, not_yet_read_line, ok_line, AreScript, IsFaultLine, no_tokens, no_script, no_program, IsHistoryIn, IsResult, counted, ran, IsOwed, refused, IsDue, usage, not_yet_read, owed, whole, not_read, not_written, no_memory, no_memory_written, HasRun}
+use Rattle.jl_cli.specs.Split.{separator_at, part_before, part_from, script_in, history_in}
+use Rattle.jl_cli.specs.Work.{most_taken, most_read, script_of, work_of, told, whole_setup}
+use Rattle.jl_cli.specs.Due.{usage_line, no_history_line, ok_line, AreScript, IsFaultLine, no_tokens, no_script, no_program, IsHistoryIn, IsResult, counted, ran, IsOwed, refused, IsJudged, unjudged, IsReplayed, too_long, no_history, parted, IsDue, usage, replayed, owed, whole, not_read, not_written, no_memory, no_memory_written, HasRun}
 use Rattle.jl_cli.specs.Delivered.{IsDelivered, all, failed, no_memory as no_memory_left}
 
 -- what was due was delivered
@@ -47,13 +49,13 @@ module _ (asked : Option Command) (left left' held held' : Option (List ℕ)) (s
       subst (λ (o : Option (List ℕ)). HasRun asked left left' held o source_rose sink_rose 4 None) (sym e)
       (record { bytes = bytes; written = []; read = read; wrote = Takes-none held; limited = limited; all_read = λ four six lt. absurd (four refl); answer = not_read some refl rose })
 
-  pub refused_memory : length bytes ≤ 1048576 → held' ≡ held → HasRun asked left left' held held' source_rose sink_rose 6 None
+  pub refused_memory : length bytes ≤ most_taken asked → held' ≡ held → HasRun asked left left' held held' source_rose sink_rose 6 None
   refused_memory few e =
       subst (λ (o : Option (List ℕ)). HasRun asked left left' held o source_rose sink_rose 6 None) (sym e)
       (record { bytes = bytes; written = []; read = read; wrote = Takes-none held; limited = limited; all_read = λ four six lt. absurd (six refl refl refl); answer = no_memory few refl })
 
--- a command reads no more than one byte past the limit of a source
-pub most_small : (c : Command) → most_read (Some c) ≤ 1048577
+-- a command reads no more than one byte past what it takes
+pub most_small : (c : Command) → most_read (Some c) ≤ suc (most_taken (Some c))
 most_small (C.Run threads fuel) = omega arith
 most_small (C.Trace threads fuel) = omega arith
 most_small C.Check = omega arith
@@ -80,18 +82,18 @@ used left held held' source_rose sink_rose text status history e d =
     (subst (λ (line : List ℕ). IsDue None [] 2 None line) (sym e) usage) d
 
 -- the line that is due for too many bytes, which only a command that reads has
-pub too_long_due : (c : Command) (bytes text : List ℕ) → 1048576 < length bytes → length bytes ≤ most_read (Some c) → text ≡ codes "ERROR: SourceTooLong\n" → IsDue (Some c) bytes 3 None text
-too_long_due c bytes text long within e = subst (λ (line : List ℕ). IsDue (Some c) bytes 3 None line) (sym e) (line_due c within)
+pub too_long_due : (c : Command) (bytes text : List ℕ) → most_taken (Some c) < length bytes → length bytes ≤ most_read (Some c) → text ≡ codes "ERROR: SourceTooLong\n" → IsDue (Some c) bytes 3 None text
+too_long_due c bytes text long within e = subst (λ (line : List ℕ). IsDue (Some c) bytes 3 None line) (sym e) (line_due c long within)
   where
-    too_long : (work : Work) → IsOwed work bytes 3 None (codes "ERROR: SourceTooLong\n")
-    too_long work = refused work bytes _ (no_tokens bytes T.SourceTooLong (inl (long, refl)))
+    source : (work : Work) → 1048576 < length bytes → IsOwed work bytes 3 None (codes "ERROR: SourceTooLong\n")
+    source work long = refused work bytes _ (no_tokens bytes T.SourceTooLong (inl (long, refl)))
 
-    line_due : (c : Command) → length bytes ≤ most_read (Some c) → IsDue (Some c) bytes 3 None (codes "ERROR: SourceTooLong\n")
-    line_due (C.Run threads fuel) within = owed (C.Run threads fuel) _ bytes 3 None _ refl (too_long _)
-    line_due (C.Trace threads fuel) within = owed (C.Trace threads fuel) _ bytes 3 None _ refl (too_long _)
-    line_due C.Check within = owed C.Check W.Check bytes 3 None _ refl (too_long W.Check)
-    line_due C.Replay within = absurd (omega (arith, long, within))
-    line_due (C.Gen n threads fuel) within = absurd (omega (arith, long, within))
+    line_due : (c : Command) → most_taken (Some c) < length bytes → length bytes ≤ most_read (Some c) → IsDue (Some c) bytes 3 None (codes "ERROR: SourceTooLong\n")
+    line_due (C.Run threads fuel) long within = owed (C.Run threads fuel) _ bytes 3 None _ refl (source _ long)
+    line_due (C.Trace threads fuel) long within = owed (C.Trace threads fuel) _ bytes 3 None _ refl (source _ long)
+    line_due C.Check long within = owed C.Check W.Check bytes 3 None _ refl (source W.Check long)
+    line_due C.Replay long within = replayed bytes 3 _ (too_long bytes long)
+    line_due (C.Gen n threads fuel) long within = absurd (omega (arith, long, within))
 
 -- an answer with a line
 pub refused_so : (d : Due) (work : Work) (script line : List ℕ) → IsFaultLine script line → (d.status ≡ 3) × (d.history ≡ None) × (d.text ≡ line) → IsOwed work script d.status d.history d.text
@@ -100,18 +102,32 @@ refused_so d work script line fault h =
     (subst (λ (o : Option History). IsOwed work script 3 o d.text) (sym h.1)
     (subst (λ (t : List ℕ). IsOwed work script 3 None t) (sym h.2) (refused work script line fault)))
 
-pub not_yet_read_so : (d : Due) (c : Command) (bytes line : List ℕ) → c ≡ C.Replay → length bytes ≤ most_read (Some c) → line ≡ not_yet_read_line → (d.status ≡ 3) × (d.history ≡ None) × (d.text ≡ line)
-    → IsDue (Some c) bytes d.status d.history d.text
-not_yet_read_so d c bytes line is within e h =
-    subst (λ (n : ℕ). IsDue (Some c) bytes n d.history d.text) (sym h.0)
-    (subst (λ (o : Option History). IsDue (Some c) bytes 3 o d.text) (sym h.1)
-    (subst (λ (t : List ℕ). IsDue (Some c) bytes 3 None t) (sym (h.2 ∙ e))
-    (subst (λ (x : Command). IsDue (Some x) bytes 3 None not_yet_read_line) (sym is)
-    (nothing bytes (subst (λ (x : Command). length bytes ≤ most_read (Some x)) is within)))))
-  where
-    nothing : (bytes : List ℕ) → length bytes ≤ 0 → IsDue (Some C.Replay) bytes 3 None not_yet_read_line
-    nothing [] few = not_yet_read
-    nothing (b ∷ bs) few = absurd (omega (arith, few))
+-- the same of `replay`
+pub unjudged_so : (d : Due) (script history line : List ℕ) → IsFaultLine script line → (d.status ≡ 3) × (d.history ≡ None) × (d.text ≡ line) → IsJudged script history d.status d.text × (d.history ≡ None)
+unjudged_so d script history line fault h =
+    (subst (λ (n : ℕ). IsJudged script history n d.text) (sym h.0) (subst (λ (t : List ℕ). IsJudged script history 3 t) (sym h.2) (unjudged script history line fault)), h.1)
+
+pub no_history_so : (d : Due) (bytes line : List ℕ) → length bytes ≤ 67108864 → separator_at bytes ≡ None → line ≡ no_history_line → (d.status ≡ 3) × (d.history ≡ None) × (d.text ≡ line) → IsReplayed bytes d.status d.text × (d.history ≡ None)
+no_history_so d bytes line short none_ e h =
+    (subst (λ (n : ℕ). IsReplayed bytes n d.text) (sym h.0) (subst (λ (t : List ℕ). IsReplayed bytes 3 t) (sym (h.2 ∙ e)) (no_history bytes short none_)), h.1)
+
+-- where the history begins
+pub parted_so : (r : Result Due AllocError) (bytes script history : List ℕ) (place : ℕ) → length bytes ≤ 67108864 → separator_at bytes ≡ Some place → script ≡ take place bytes → history ≡ drop place bytes
+    → IfOk r (λ d. IsJudged script history d.status d.text × (d.history ≡ None)) → IfOk r (λ d. IsReplayed bytes d.status d.text × (d.history ≡ None))
+parted_so (Err e) bytes script history place short at before after j = j
+parted_so (Ok d) bytes script history place short at before after j =
+    let there : IsSome (separator_at bytes) = subst (λ (o : Option ℕ). IsSome o) (sym at) refl in
+    let front : script ≡ script_in bytes = before ∙ ap (λ (o : Option ℕ). part_before o bytes) (sym at) in
+    let rest : history ≡ history_in bytes = after ∙ ap (λ (o : Option ℕ). part_from o bytes) (sym at) in (
+      parted bytes d.status d.text (record { short = short; there = there })
+          (subst (λ (h : List ℕ). IsJudged (script_in bytes) h d.status d.text) rest (subst (λ (s : List ℕ). IsJudged s history d.status d.text) front j.0)),
+      j.1,
+    )
+
+pub all_replayed : (r : Result Due AllocError) (c : Command) (bytes : List ℕ) → c ≡ C.Replay → IfOk r (λ d. IsReplayed bytes d.status d.text × (d.history ≡ None)) → IfOk r (λ d. IsDue (Some c) bytes d.status d.history d.text)
+all_replayed (Err e) c bytes is o = o
+all_replayed (Ok d) c bytes is o =
+    subst (λ (x : Command). IsDue (Some x) bytes d.status d.history d.text) (sym is) (subst (λ (h : Option History). IsDue (Some C.Replay) bytes d.status h d.text) (sym o.1) (replayed bytes d.status d.text o.0))
 
 -- a command owes what its work on its script owes
 pub owed_so : (d : Due) (c like : Command) (work given : Work) (bytes : List ℕ) → c ≡ like → given ≡ work → work_of like ≡ Some work → IsOwed given (script_of like bytes) d.status d.history d.text
@@ -166,11 +182,7 @@ ran_so setup telling P h status text is st tx =
 pub checked_so : (P : Program) (text : List ℕ) → text ≡ ok_line P → IsResult W.Check P 0 None text
 checked_so P text e = subst (λ (t : List ℕ). IsResult W.Check P 0 None t) (sym e) (counted P)
 
--- the lines as the code writes them
-pub not_yet_read_is : codes "ERROR: NotYetRead\n" ≡ not_yet_read_line
-unfolding not_yet_read_line
-not_yet_read_is = refl
-
+-- the line as the code writes it
 pub usage_is : codes "usage: jl run|trace [--threads N] [--fuel N] | jl check|replay | jl gen N [--threads N] [--fuel N]\n" ≡ usage_line
 unfolding usage_line
 usage_is = refl

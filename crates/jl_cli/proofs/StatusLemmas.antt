@@ -20,16 +20,17 @@ use Rattle.jl_command.specs.declared.commands.Command.TheVariants as C
 use Rattle.jl_cli.specs.declared.work.Work.{Work}
 use Rattle.jl_cli.specs.declared.work.Work.TheVariants as W
 use Rattle.jl_cli.specs.declared.work.Telling.{Telling}
+use Rattle.jl_cli.specs.Split.{separator_at, history_in}
 use Rattle.jl_cli.specs.Work.{script_of, work_of}
-use Rattle.jl_cli.specs.Due.{AreScript, IsFaultLine, no_tokens, no_script, no_program, IsResult, counted, ran, IsOwed, refused, worked, IsDue, usage, not_yet_read, owed}
-use Rattle.jl_cli.specs.Laws.{IsProgram}
-use Rattle.jl_cli.proofs.LawLemmas.{result_small}
+use Rattle.jl_cli.specs.Due.{AreScript, IsFaultLine, no_tokens, no_script, no_program, IsResult, counted, ran, IsOwed, refused, worked, IsJudged, unjudged, judged, HasHistory, IsReplayed, too_long, no_history, parted, IsDue, usage, replayed, owed}
+use Rattle.jl_cli.specs.Laws.{IsProgram, HasProgram}
+use Rattle.jl_cli.proofs.LawLemmas.{result_small, told_other, has_parts}
 
 -- the tokens, and the script, are the same
 same_tokens : (bytes : List ℕ) (ts us : List Token) → ReadsSource bytes (Ok ts) → ReadsSource bytes (Ok us) → ts ≡ us
 same_tokens bytes ts us h k = let e = one-source bytes (Ok ts) (Ok us) h k in cc
 
-same_script : (bytes : List ℕ) (s t : Script) → AreScript bytes s → AreScript bytes t → s ≡ t
+pub same_script : (bytes : List ℕ) (s t : Script) → AreScript bytes s → AreScript bytes t → s ≡ t
 same_script bytes s t h k =
     let r : Reads h.0 (Ok t) = subst (λ (ts : List Token). Reads ts (Ok t)) (sym (same_tokens bytes h.0 k.0 h.1 k.1)) k.2 in
     let e = reads_once h.0 (Ok s) (Ok t) h.2 r in cc
@@ -43,7 +44,7 @@ script_apart bytes s ts f h k r =
     let e = reads_once h.0 (Ok s) (Err f) h.2 q in cc
 
 -- a program has no line of a fault
-fault_apart : (bytes line : List ℕ) → IsFaultLine bytes line → IsProgram bytes → ⊥
+pub fault_apart : (bytes line : List ℕ) → IsFaultLine bytes line → IsProgram bytes → ⊥
 fault_apart _ _ (no_tokens bytes f reads) (P, are) = tokens_apart bytes are.1.0 f are.1.1 reads
 fault_apart _ _ (no_script bytes ts f tokens reads) (P, are) = script_apart bytes are.0 ts f are.1 tokens reads
 fault_apart _ _ (no_program bytes s at kind script fault) (P, are) =
@@ -55,19 +56,34 @@ owed_none : (work : Work) (script : List ℕ) (status : ℕ) (h : Option History
 owed_none _ _ _ _ _ (refused work script line fault) = (λ z p. fault_apart script line fault p, λ no_. refl)
 owed_none _ _ _ _ _ (worked work script P status h text are result) = (λ z. absurd (result_small work P status h text 1 result z), λ no_. absurd (no_ (P, are)))
 
-due_none : (asked : Option Command) (bytes : List ℕ) (status : ℕ) (h : Option History) (text : List ℕ) (c : Command) (work : Work) → work_of c ≡ Some work → IsDue asked bytes status h text → asked ≡ Some c
-    → (status ≡ 3) ↔ (IsProgram (script_of c bytes) → ⊥)
-due_none _ _ _ _ _ c work works usage e = cc
-due_none _ _ _ _ _ c work works not_yet_read e =
-    let is : c ≡ C.Replay = cc in
-    let none_ : None ≡ Some work = subst (λ (x : Command). work_of x ≡ Some work) is works in
-    cc
-due_none _ _ _ _ _ c work works (owed d done bytes status h text worked_ o) e =
-    let is : d ≡ c = cc in
-    subst (λ (x : Command). (status ≡ 3) ↔ (IsProgram (script_of x bytes) → ⊥)) is (owed_none done (script_of d bytes) status h text o)
+judged_none : (Has : Type 0) (script history : List ℕ) (status : ℕ) (text : List ℕ) → Has → IsJudged script history status text → (status ≡ 3) ↔ (Has × IsProgram script → ⊥)
+judged_none Has _ _ _ _ has (unjudged script history line fault) = (λ z p. fault_apart script line fault p.1, λ no_. refl)
+judged_none Has _ _ _ _ has (judged script history P status text are told) =
+    (λ z. absurd (told_other P history status text 1 told z (omega arith)), λ no_. absurd (no_ (has, (P, are))))
 
-pub none_law : (c : Command) (work : Work) (bytes : List ℕ) (status : ℕ) (h : Option History) (text : List ℕ) → work_of c ≡ Some work → IsDue (Some c) bytes status h text → (status ≡ 3) ↔ (IsProgram (script_of c bytes) → ⊥)
-none_law c work bytes status h text works due = due_none (Some c) bytes status h text c work works due refl
+-- bytes that have a history have a line that begins it
+pub there_is : (bytes : List ℕ) → HasHistory bytes → separator_at bytes ≡ None → ⊥
+there_is bytes has e = let there : IsSome {T = ℕ} None = subst (λ (o : Option ℕ). IsSome o) e has.there in cc
+
+replayed_none : (bytes : List ℕ) (status : ℕ) (text : List ℕ) → IsReplayed bytes status text → (status ≡ 3) ↔ (HasProgram C.Replay bytes → ⊥)
+replayed_none _ _ _ (too_long bytes long) = (λ z p. absurd (omega (arith, long, p.0.short)), λ no_. refl)
+replayed_none _ _ _ (no_history bytes short e) = (λ z p. there_is bytes p.0 e, λ no_. refl)
+replayed_none _ _ _ (parted bytes status text has j) = judged_none (HasHistory bytes) (script_of C.Replay bytes) (history_in bytes) status text has j
+
+with_parts : (c : Command) (work : Work) (bytes : List ℕ) (status : ℕ) → work_of c ≡ Some work → (status ≡ 3) ↔ (IsProgram (script_of c bytes) → ⊥) → (status ≡ 3) ↔ (HasProgram c bytes → ⊥)
+with_parts c work bytes status works both = (λ z p. both.0 z p.1, λ no_. both.1 (λ p. no_ (has_parts c work bytes works, p)))
+
+due_none : (asked : Option Command) (bytes : List ℕ) (status : ℕ) (h : Option History) (text : List ℕ) (c : Command) → IsDue asked bytes status h text → asked ≡ Some c → (status ≡ 3) ↔ (HasProgram c bytes → ⊥)
+due_none _ _ _ _ _ c usage e = cc
+due_none _ _ _ _ _ c (replayed bytes status text r) e =
+    let is : C.Replay ≡ c = cc in
+    subst (λ (x : Command). (status ≡ 3) ↔ (HasProgram x bytes → ⊥)) is (replayed_none bytes status text r)
+due_none _ _ _ _ _ c (owed d work bytes status h text works o) e =
+    let is : d ≡ c = cc in
+    subst (λ (x : Command). (status ≡ 3) ↔ (HasProgram x bytes → ⊥)) is (with_parts d work bytes status works (owed_none work (script_of d bytes) status h text o))
+
+pub none_law : (c : Command) (bytes : List ℕ) (status : ℕ) (h : Option History) (text : List ℕ) → IsDue (Some c) bytes status h text → (status ≡ 3) ↔ (HasProgram c bytes → ⊥)
+none_law c bytes status h text due = due_none (Some c) bytes status h text c due refl
 
 -- ---- status 0 of a check
 
@@ -81,7 +97,7 @@ owed_checked _ _ _ _ _ (worked work script P status h text are result) e = (λ z
 
 due_checked : (asked : Option Command) (bytes : List ℕ) (status : ℕ) (h : Option History) (text : List ℕ) → IsDue asked bytes status h text → asked ≡ Some C.Check → (status ≡ 0) ↔ IsProgram bytes
 due_checked _ _ _ _ _ usage e = cc
-due_checked _ _ _ _ _ not_yet_read e = cc
+due_checked _ _ _ _ _ (replayed bytes status text r) e = cc
 due_checked _ _ _ _ _ (owed c work bytes status h text works o) e =
     let is : c ≡ C.Check = cc in
     let same : Some W.Check ≡ Some work = subst (λ (x : Command). work_of x ≡ Some work) is works in
@@ -107,7 +123,7 @@ owed_some _ _ _ _ _ setup telling (worked work script P status h text are result
 due_some : (asked : Option Command) (bytes : List ℕ) (status : ℕ) (h : Option History) (text : List ℕ) (c : Command) (setup : Setup) (telling : Telling) → work_of c ≡ Some (W.Run setup telling) → IsDue asked bytes status h text
     → asked ≡ Some c → IsSome h ↔ IsProgram (script_of c bytes)
 due_some _ _ _ _ _ c setup telling works usage e = cc
-due_some _ _ _ _ _ c setup telling works not_yet_read e =
+due_some _ _ _ _ _ c setup telling works (replayed bytes status text r) e =
     let is : c ≡ C.Replay = cc in
     let none_ : None ≡ Some (W.Run setup telling) = subst (λ (x : Command). work_of x ≡ Some (W.Run setup telling)) is works in
     cc
@@ -131,7 +147,7 @@ owed_outcome _ _ _ _ _ h (worked work script P status o text are result) e = res
 
 due_outcome : (asked : Option Command) (bytes : List ℕ) (status : ℕ) (o : Option History) (text : List ℕ) (h : History) → IsDue asked bytes status o text → o ≡ Some h → status ≡ status_of h.events
 due_outcome _ _ _ _ _ h usage e = cc
-due_outcome _ _ _ _ _ h not_yet_read e = cc
+due_outcome _ _ _ _ _ h (replayed bytes status text r) e = cc
 due_outcome _ _ _ _ _ h (owed c work bytes status o text works owes) e = owed_outcome work (script_of c bytes) status o text h owes e
 
 pub outcome_law : (c : Command) (bytes : List ℕ) (status : ℕ) (h : History) (text : List ℕ) → IsDue (Some c) bytes status (Some h) text → status ≡ status_of h.events

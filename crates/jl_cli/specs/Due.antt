@@ -1,6 +1,5 @@
 -- What a call of the program owes for its words and for the bytes that it read.
-use Rattle.std.specs.Prelude.{ℕ, ◌+◌, ◌≡◌, ◌<◌, ◌≤◌, codes, decimal, List, [], ◌++◌, length, take, drop, Option, None, Some, Ok, Err}
-use Rattle.jl_model.specs.declared.limits.TheConstants.{MOST_SOURCE_BYTES}
+use Rattle.std.specs.Prelude.{ℕ, ◌≡◌, ◌<◌, ◌≤◌, codes, decimal, List, [], ◌++◌, length, take, drop, Option, None, Some, IsSome, Ok, Err}
 use Rattle.jl_calculus.specs.declared.history.History.{History}
 use Rattle.jl_program.specs.declared.tree.Program.{Program}
 use Rattle.jl_calculus.specs.Legal.{IsLegal, IsCached, fuel_of, status_of}
@@ -15,21 +14,26 @@ use Rattle.jl_token.specs.declared.token.Token.{Token}
 use Rattle.jl_token.specs.declared.token.TokenFault.{TokenFault}
 use Rattle.jl_token.specs.Grammar.{ReadsSource}
 use Rattle.jl_queue.specs.declared.setup.Setup.{Setup}
+use Rattle.jl_history.specs.declared.history.TheConstants.{MOST_HISTORY_BYTES}
+use Rattle.jl_replay.specs.declared.verdict.Verdict.{Verdict}
+use Rattle.jl_replay.specs.Verdict.{IsVerdict}
 use Rattle.jl_command.specs.declared.commands.Command.{Command}
 use Rattle.jl_command.specs.declared.commands.Command.TheVariants.{Replay}
 use Rattle.jl_cli.specs.declared.work.Work.{Work}
 use Rattle.jl_cli.specs.declared.work.Work.TheVariants as W
 use Rattle.jl_cli.specs.declared.work.Telling.{Telling}
-use Rattle.jl_cli.specs.Place.{token_line, syntax_line, fault_line, kind_name}
-use Rattle.jl_cli.specs.Work.{most_read, script_of, work_of, told}
+use Rattle.jl_cli.specs.Place.{too_long_line, token_line, syntax_line, fault_line, kind_name}
+use Rattle.jl_cli.specs.Split.{separator_at, history_in}
+use Rattle.jl_cli.specs.Verdicts.{verdict_line, verdict_status}
+use Rattle.jl_cli.specs.Work.{most_taken, most_read, script_of, work_of, told}
 
 -- the line that tells the commands
 unfoldable pub usage_line : List ℕ
 usage_line = codes "usage: jl run|trace [--threads N] [--fuel N] | jl check|replay | jl gen N [--threads N] [--fuel N]\n"
 
--- the line that tells that a command is not built yet
-unfoldable pub not_yet_read_line : List ℕ
-not_yet_read_line = codes "ERROR: NotYetRead\n"
+-- the line of an input without a history
+abbrev pub no_history_line : List ℕ
+no_history_line = codes "ERROR: NoHistory\n"
 
 -- how many types a program declares, and how many definition sites it has beyond those of the prelude
 abbrev pub ok_line : Program → List ℕ
@@ -72,13 +76,38 @@ pub data IsOwed : Work → List ℕ → ℕ → Option History → List ℕ → 
   -- it is one
   worked : (work : Work) (script : List ℕ) (P : Program) (status : ℕ) (history : Option History) (text : List ℕ) → AreProgram script P → IsResult work P status history text → IsOwed work script status history text
 
+-- the status and the text of a verdict on the text of a history
+abbrev pub IsVerdictTold : Program → List ℕ → ℕ → List ℕ → Type 0
+IsVerdictTold P history status text = (verdict : Verdict) × IsVerdict P history verdict × (status ≡ verdict_status verdict) × (text ≡ verdict_line verdict)
+
+-- the status and the text that the judgement of a history of a script comes to
+pub data IsJudged : List ℕ → List ℕ → ℕ → List ℕ → Type 0 where
+  -- the script is no program
+  unjudged : (script history line : List ℕ) → IsFaultLine script line → IsJudged script history 3 line
+  -- it is one
+  judged : (script history : List ℕ) (P : Program) (status : ℕ) (text : List ℕ) → AreProgram script P → IsVerdictTold P history status text → IsJudged script history status text
+
+-- the input of `replay` is not too long, and has a history
+pub record HasHistory (bytes : List ℕ) : Type 0 where
+  pub short : length bytes ≤ MOST_HISTORY_BYTES
+  pub there : IsSome (separator_at bytes)
+
+-- the status and the text of `replay`, for the bytes that were read
+pub data IsReplayed : List ℕ → ℕ → List ℕ → Type 0 where
+  -- they are too many
+  too_long : (bytes : List ℕ) → MOST_HISTORY_BYTES < length bytes → IsReplayed bytes 3 too_long_line
+  -- no line of them begins a history
+  no_history : (bytes : List ℕ) → length bytes ≤ MOST_HISTORY_BYTES → separator_at bytes ≡ None → IsReplayed bytes 3 no_history_line
+  -- they are a script and, from the first such line on, a history
+  parted : (bytes : List ℕ) (status : ℕ) (text : List ℕ) → HasHistory bytes → IsJudged (script_of Replay bytes) (history_in bytes) status text → IsReplayed bytes status text
+
 -- the same for what the words ask for, a command or none, and for the bytes that were read
 pub data IsDue : Option Command → List ℕ → ℕ → Option History → List ℕ → Type 0 where
   -- the words are no command: nothing is read
   usage : IsDue None [] 2 None usage_line
-  -- `replay` is not built yet: nothing is read
-  not_yet_read : IsDue (Some Replay) [] 3 None not_yet_read_line
-  -- a command that does something with a script
+  -- `replay`, which hands out no history
+  replayed : (bytes : List ℕ) (status : ℕ) (text : List ℕ) → IsReplayed bytes status text → IsDue (Some Replay) bytes status None text
+  -- a command that does something with a script alone
   owed : (c : Command) (work : Work) (bytes : List ℕ) (status : ℕ) (history : Option History) (text : List ℕ) → work_of c ≡ Some work → IsOwed work (script_of c bytes) status history text
       → IsDue (Some c) bytes status history text
 
@@ -94,7 +123,7 @@ module _ (asked : Option Command) (bytes written : List ℕ) (source_rose sink_r
     -- the sink failed: a first part of the text due was written
     not_written : (status : ℕ) (history : Option History) (text : List ℕ) (count : ℕ) → IsDue asked bytes status history text → written ≡ take count text → sink_rose → IsAnswer 5 history
     -- memory was refused before anything was written; to find that a source is too long, and to tell it, takes none
-    no_memory : length bytes ≤ MOST_SOURCE_BYTES → written ≡ [] → IsAnswer 6 None
+    no_memory : length bytes ≤ most_taken asked → written ≡ [] → IsAnswer 6 None
     -- the sink wanted memory: a first part of the text due was written
     no_memory_written : (status : ℕ) (history : Option History) (text : List ℕ) (count : ℕ) → IsDue asked bytes status history text → written ≡ take count text → IsAnswer 6 history
 

@@ -1,13 +1,25 @@
 -- What is due, told by its status.
-use Rattle.std.specs.Prelude.{ℕ, ◌≡◌, ◌⊎◌, List, Option, None, Some}
+use Rattle.std.specs.Prelude.{ℕ, ◌≡◌, ◌≤◌, ◌<◌, ◌⊎◌, List, length, Option, None, Some}
 use Rattle.jl_calculus.specs.declared.history.History.{History}
 use Rattle.jl_program.specs.declared.tree.Program.{Program}
 use Rattle.jl_queue.specs.declared.setup.Setup.{Setup}
 use Rattle.jl_command.specs.declared.commands.Command.{Command}
+use Rattle.jl_command.specs.declared.commands.Command.TheVariants as C
 use Rattle.jl_cli.specs.declared.work.Work.TheVariants as W
 use Rattle.jl_cli.specs.declared.work.Telling.{Telling}
+use Rattle.jl_calculus.specs.declared.history.Event.{Event}
+use Rattle.jl_calculus.specs.Legal.{IsLegal}
+use Rattle.jl_history.specs.declared.history.TheConstants.{MOST_HISTORY_BYTES}
+use Rattle.jl_history.specs.Form.{AreEntries}
+use Rattle.jl_report.specs.HistoryText.{entries_of, history_text}
+use Rattle.jl_replay.specs.declared.verdict.Verdict.{Verdict}
+use Rattle.jl_replay.specs.declared.verdict.Verdict.TheVariants as V
+use Rattle.jl_replay.specs.Verdict.{IsVerdict, IsLegalText}
+use Rattle.jl_cli.specs.Place.{too_long_line}
+use Rattle.jl_cli.specs.Split.{separator_at}
+use Rattle.jl_cli.specs.Verdicts.{verdict_line}
 use Rattle.jl_cli.specs.Work.{script_of, work_of}
-use Rattle.jl_cli.specs.Due.{AreProgram, IsFaultLine, IsHistoryIn, ok_line, not_yet_read_line}
+use Rattle.jl_cli.specs.Due.{AreProgram, IsFaultLine, IsHistoryIn, HasHistory, ok_line, no_history_line}
 
 -- the bytes are a script that is a program
 abbrev pub IsProgram : List ℕ → Type 0
@@ -26,6 +38,50 @@ pub record IsHistoryOf (c : Command) (bytes : List ℕ) (h : History) : Type 0 w
   pub are : AreProgram (script_of c bytes) program
   pub is : IsHistoryIn program setup h
 
--- the line tells why there is nothing to do: a command's script is no program, or the command is not built yet
+-- the input of a command has the parts that it wants: a script alone, or a script with a history that are not too long
+abbrev pub HasParts : Command → List ℕ → Type 0
+HasParts (C.Run threads fuel) bytes = Unit {0}
+HasParts (C.Trace threads fuel) bytes = Unit {0}
+HasParts C.Check bytes = Unit {0}
+HasParts C.Replay bytes = HasHistory bytes
+HasParts (C.Gen n threads fuel) bytes = Unit {0}
+
+-- it has them, and the script is a program
+abbrev pub HasProgram : Command → List ℕ → Type 0
+HasProgram c bytes = HasParts c bytes × IsProgram (script_of c bytes)
+
+-- the line tells why the input of `replay` has no parts: it is too long, or has no history
+abbrev pub TellsNoParts : List ℕ → List ℕ → Type 0
+TellsNoParts bytes line = ((MOST_HISTORY_BYTES < length bytes) × (line ≡ too_long_line)) ⊎ ((length bytes ≤ MOST_HISTORY_BYTES) × (separator_at bytes ≡ None) × (line ≡ no_history_line))
+
+-- the line tells why there is nothing to do: a command's script is no program, or the input of `replay` has no parts
 abbrev pub IsRefusalLine : Command → List ℕ → List ℕ → Type 0
-IsRefusalLine c bytes line = IsFaultLine (script_of c bytes) line ⊎ ((work_of c ≡ None) × (line ≡ not_yet_read_line))
+IsRefusalLine c bytes line = (HasParts c bytes × IsFaultLine (script_of c bytes) line) ⊎ ((c ≡ C.Replay) × TellsNoParts bytes line)
+
+-- ---- what `replay` judges
+
+-- the input of `replay` is a program with a history
+pub record IsJudgedOver (bytes : List ℕ) (P : Program) : Type 0 where
+  pub has : HasHistory bytes
+  pub are : AreProgram (script_of C.Replay bytes) P
+
+-- the text is that of a legal history, of so many events, whose entries may stand in a text
+pub record IsLegalHistory (P : Program) (text : List ℕ) (n : ℕ) : Type 0 where
+  pub events : List Event
+  pub legal : IsLegal P events
+  pub form : AreEntries (entries_of P events)
+  pub is_text : text ≡ history_text P events
+  pub many : length events ≡ n
+
+-- what was judged illegal: the line has the verdict, which is not that it is legal, and the history is none that is legal
+pub record IsToldIllegal (P : Program) (history line : List ℕ) : Type 0 where
+  pub verdict : Verdict
+  pub is : IsVerdict P history verdict
+  pub told : line ≡ verdict_line verdict
+  pub illegal : (n : ℕ) → IsLegalHistory P history n → ⊥
+
+-- what was judged legal: the line has how many events there are, and the history is one that is legal
+pub record IsToldLegal (P : Program) (history line : List ℕ) : Type 0 where
+  pub many : ℕ
+  pub is : IsLegalText P history many
+  pub told : line ≡ verdict_line (V.Legal many)

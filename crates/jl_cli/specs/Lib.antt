@@ -3,3 +3,5 @@ pub mod Due
 pub mod Laws
 pub mod Delivered
 pub mod Place
+pub mod Split
+pub mod Verdicts

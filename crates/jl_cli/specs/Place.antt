@@ -44,9 +44,13 @@ abbrev pub fault_line : List ℕ → ℕ → List ℕ → List ℕ
 fault_line bytes at name =
     codes "ERROR: line " ++ (decimal (line_at bytes at) ++ (codes ", column " ++ (decimal (column_at bytes at) ++ (codes ": " ++ (name ++ codes "\n")))))
 
+-- the line of a source that is too long
+abbrev pub too_long_line : List ℕ
+too_long_line = codes "ERROR: SourceTooLong\n"
+
 -- the line that tells why a source has no tokens
 abbrev pub token_line : List ℕ → TokenFault → List ℕ
-token_line bytes T.SourceTooLong = codes "ERROR: SourceTooLong\n"
+token_line bytes T.SourceTooLong = too_long_line
 token_line bytes (T.BadUtf8 at) = fault_line bytes at (codes "BadUtf8")
 token_line bytes (T.BadCharacter at) = fault_line bytes at (codes "BadCharacter")
 token_line bytes (T.NumberTooLarge at) = fault_line bytes at (codes "NumberTooLarge")

@@ -1,6 +1,7 @@
 -- What each command asks for: how much is read, which script it is about, what is done with it, and what is told of a run.
 use Rattle.std.specs.Prelude.{ℕ, ◌+◌, ◌-◌, ◌==◌, if◌then◌else◌, codes, List, [], ◌++◌, length, slice_get, Option, None, Some}
 use Rattle.jl_model.specs.declared.limits.TheConstants.{MOST_SOURCE_BYTES, MOST_CACHE_KEYS, MOST_CACHE_ROWS}
+use Rattle.jl_history.specs.declared.history.TheConstants.{MOST_HISTORY_BYTES}
 use Rattle.jl_program.specs.declared.tree.Program.{Program}
 use Rattle.jl_calculus.specs.declared.history.Event.{Event}
 use Rattle.jl_calculus.specs.Legal.{text_of}
@@ -15,29 +16,40 @@ use Rattle.jl_cli.specs.declared.work.Work.{Work}
 use Rattle.jl_cli.specs.declared.work.Work.TheVariants as W
 use Rattle.jl_cli.specs.declared.work.Telling.{Telling}
 use Rattle.jl_cli.specs.declared.work.Telling.TheVariants as T
+use Rattle.jl_cli.specs.Split.{script_in}
 
--- how many bytes are read at most: one past the limit of a source where a script is read, and none of anything else
+-- how many bytes are taken at most: a source, where it is a script; as many as a history may have, where it is a script with a history;
+-- and none of anything else
+abbrev pub most_taken : Option Command → ℕ
+most_taken None = 0
+most_taken (Some (C.Run threads fuel)) = MOST_SOURCE_BYTES
+most_taken (Some (C.Trace threads fuel)) = MOST_SOURCE_BYTES
+most_taken (Some C.Check) = MOST_SOURCE_BYTES
+most_taken (Some C.Replay) = MOST_HISTORY_BYTES
+most_taken (Some (C.Gen n threads fuel)) = 0
+
+-- how many bytes are read at most: one more, where anything is read
 abbrev pub most_read : Option Command → ℕ
 most_read None = 0
 most_read (Some (C.Run threads fuel)) = MOST_SOURCE_BYTES + 1
 most_read (Some (C.Trace threads fuel)) = MOST_SOURCE_BYTES + 1
 most_read (Some C.Check) = MOST_SOURCE_BYTES + 1
-most_read (Some C.Replay) = 0
+most_read (Some C.Replay) = MOST_HISTORY_BYTES + 1
 most_read (Some (C.Gen n threads fuel)) = 0
 
--- the script of a command, where these bytes were read: these, or the generated script of a number
+-- the script of a command, where these bytes were read: these, those before the history, or the generated script of a number
 abbrev pub script_of : Command → List ℕ → List ℕ
 script_of (C.Run threads fuel) bytes = bytes
 script_of (C.Trace threads fuel) bytes = bytes
 script_of C.Check bytes = bytes
-script_of C.Replay bytes = bytes
+script_of C.Replay bytes = script_in bytes
 script_of (C.Gen n threads fuel) bytes = script_text n
 
 -- the setup of a run with so many threads and so much fuel: its cache is as large as a cache may be
 abbrev pub whole_setup : ℕ → ℕ → Setup
 whole_setup threads fuel = record { threads = threads; fuel = fuel; keys = MOST_CACHE_KEYS; rows = MOST_CACHE_ROWS }
 
--- what a command does with its script: it runs it, or only checks it; what `replay` does is not built yet
+-- what a command does with its script alone: it runs it, or only checks it; `replay` judges a history by it
 abbrev pub work_of : Command → Option Work
 work_of (C.Run threads fuel) = Some (W.Run (whole_setup threads fuel) T.Text)
 work_of (C.Trace threads fuel) = Some (W.Run (whole_setup threads fuel) T.Trace)

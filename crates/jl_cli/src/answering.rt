@@ -1,4 +1,4 @@
-//! What is due for a script's bytes.
+//! What is due for the bytes of a source.
 
 ghost use Rattle.std.specs.Prelude.{◌≡◌, ◌≤◌, None, Some, IfOk, MatchResult, drop, length};
 ghost use Rattle.jl_program.specs.Prelude.{prelude_count};
@@ -9,9 +9,10 @@ ghost use Rattle.jl_cli.specs.declared.work.Telling.TheVariants as T;
 ghost use Rattle.jl_cli.specs.declared.work.Work.TheVariants as W;
 ghost use Rattle.jl_cli.specs.Due.{IsDue, IsOwed, IsResult, IsFaultLine, AreScript, ok_line};
 ghost use Rattle.jl_command.specs.Rule.{IsInRange};
-ghost use Rattle.jl_cli.specs.Work.{IsSetUp, most_read};
+ghost use Rattle.jl_cli.specs.Work.{IsSetUp, most_taken};
 
-use crate::faults::{NOT_YET_READ, line, static_line, syntax_line, token_line};
+use crate::faults::{static_line, syntax_line, token_line};
+use crate::judging::replayed;
 use crate::place::append_number;
 use crate::telling::told;
 use crate::work::{Telling, Work};
@@ -44,7 +45,7 @@ pub(crate) struct Due {
 }
 
 /// The answer where nothing is done, with its line.
-fn refused(text: Bytes) -> Due
+pub(crate) fn refused(text: Bytes) -> Due
     ensures { (result.status ≡ 3) × (result.history ≡ None) × (result.text ≡ text) }
 {
     Due {
@@ -55,7 +56,7 @@ fn refused(text: Bytes) -> Due
 }
 
 /// The script that a source is, or the line of its first fault.
-fn script(alloc: Global, bytes: &[u8]) -> Result<Result<Script, Bytes>, AllocError>
+pub(crate) fn script(alloc: Global, bytes: &[u8]) -> Result<Result<Script, Bytes>, AllocError>
     ensures { IfOk result (λ r. MatchResult r (AreScript bytes.now) (IsFaultLine bytes.now)) }
 {
     let tokens = match tokens(alloc, bytes) {
@@ -215,7 +216,7 @@ fn generated<R: Threads + Wait + Sync, G: Gate>(
     )
 }
 
-/// What a command owes, where these bytes were read, of which there may be one past the limit of a source.
+/// What a command owes, where these bytes were read.
 pub(crate) fn answer<R: Threads + Wait + Sync, G: Gate>(
     rt: &R,
     alloc: Global,
@@ -225,7 +226,7 @@ pub(crate) fn answer<R: Threads + Wait + Sync, G: Gate>(
     ops: &HostOps,
 ) -> Result<Due, AllocError>
     requires ranges { IsInRange command }
-    requires limited { length bytes.now ≤ most_read (Some command) }
+    requires limited { length bytes.now ≤ most_taken (Some command) }
     ensures { IfOk result (λ due. IsDue (Some command) bytes.now due.status due.history due.text) }
 {
     match command {
@@ -238,10 +239,7 @@ pub(crate) fn answer<R: Threads + Wait + Sync, G: Gate>(
             owed(rt, alloc, work, bytes, gate, ops)
         }
         Command::Check => owed(rt, alloc, Work::Check, bytes, gate, ops),
-        Command::Replay => {
-            let line = line(alloc, NOT_YET_READ.as_bytes())?;
-            Ok(refused(line))
-        }
+        Command::Replay => replayed(alloc, bytes, ops),
         Command::Gen(n, threads, fuel) => {
             let setup = Setup::with_whole_cache(threads, fuel);
             generated(rt, alloc, n, setup, gate, ops)

@@ -18,8 +18,8 @@ use std::alloc::{AllocError, Global};
 /// The line of a source that is too long, which takes no memory.
 pub(crate) const TOO_LONG: &str = "ERROR: SourceTooLong\n";
 
-/// The line of a command that is not built yet.
-pub(crate) const NOT_YET_READ: &str = "ERROR: NotYetRead\n";
+/// The line of an input without a history.
+pub(crate) const NO_HISTORY: &str = "ERROR: NoHistory\n";
 
 /// A line as a text.
 pub(crate) fn line(alloc: Global, bytes: &[u8]) -> Result<Bytes, AllocError>

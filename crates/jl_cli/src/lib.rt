@@ -1,13 +1,16 @@
-//! The top call: from a command line's words and a script's bytes to what the command writes.
+//! The top call: from a command line's words and the bytes of a source to what the command writes.
 #![tactic(auto)]
 
 mod answering;
 mod faults;
+mod judging;
 pub mod laws;
 mod place;
+mod split;
 pub mod status_laws;
 mod telling;
 mod top;
+mod verdicts;
 mod work;
 
 pub use top::{Ended, run};

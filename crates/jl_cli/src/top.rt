@@ -9,12 +9,11 @@ ghost use Rattle.jl_cli.specs.Delivered.{IsDelivered};
 
 use crate::answering::{Due, answer};
 use crate::faults::TOO_LONG;
-use crate::work::most_read;
+use crate::work::{most_read, most_taken};
 use jl_calculus::history::History;
 use jl_command::{Command, WordsFault, command};
 use jl_host::HostOps;
 use jl_io::{ReadFault, Sink, SinkFault, Source, read_up_to, write_all};
-use jl_model::limits::MOST_SOURCE_BYTES;
 use jl_queue::Gate;
 use std::alloc::Global;
 use std::sync::Wait;
@@ -76,7 +75,7 @@ fn obey<R: Threads + Wait + Sync, S: Source, K: Sink, G: Gate>(
         Err(ReadFault::Failed) => return without_history(4),
         Err(ReadFault::Memory) => return without_history(6),
     };
-    if bytes.len() > MOST_SOURCE_BYTES {
+    if bytes.len() > most_taken(command) {
         return deliver(sink, 3, None, TOO_LONG.as_bytes());
     }
     match answer(rt, alloc, command, bytes.as_slice(), gate, ops) {
@@ -92,16 +91,18 @@ fn obey<R: Threads + Wait + Sync, S: Source, K: Sink, G: Gate>(
     }
 }
 
-/// Does what the words ask for, with the script that a source gives, and writes the answer to a sink. `run` runs the script and
+/// Does what the words ask for, with what a source gives, and writes the answer to a sink. `run` runs the script and
 /// writes the text of its result. `trace` writes the text of its history too. `check` writes how many types and definitions
-/// the script has. `gen N` runs the generated script of number N, and writes a summary. `replay` is not built yet.
+/// the script has. `gen N` runs the generated script of number N, and writes a summary. `replay` reads a script and, from the
+/// first line that is exactly `%%history 1` on, a history, and writes whether the history is a legal one of the script.
 ///
 /// The words are those of the command line after the program's name. A run has as many workers as they say, which start and end
 /// in this call. The gate is told of its tasks. `ops` has the operations of the prelude.
 ///
-/// Status 0: the run ended with a value, or the script that was checked is a program. 1: the run ended with a fault. 2: the words
-/// are no command. 3: the script is no program, or the command is not built yet. 4: the source failed. 5: the sink failed. 6:
-/// memory was refused. Each fault of the source ends in status 4, and each of the sink in status 5.
+/// Status 0: the run ended with a value, the script that was checked is a program, or the history is legal. 1: the run ended with
+/// a fault. 2: the words are no command. 3: the script is no program, or there is no history. 4: the source failed. 5: the sink
+/// failed. 6: memory was refused. 7: the history is not legal. Each fault of the source ends in status 4, and each of the sink
+/// in status 5.
 pub fn run<R: Threads + Wait + Sync, S: Source, K: Sink, G: Gate>(
     rt: &R,
     alloc: Global,

@@ -1,9 +1,10 @@
 //! What each command asks for.
 
 ghost use Rattle.std.specs.Prelude.{◌≡◌, Some};
-ghost use Rattle.jl_cli.specs.Work.{most_read};
+ghost use Rattle.jl_cli.specs.Work.{most_taken, most_read};
 
 use jl_command::Command;
+use jl_history::MOST_HISTORY_BYTES;
 use jl_model::limits::MOST_SOURCE_BYTES;
 use jl_queue::Setup;
 
@@ -18,7 +19,7 @@ pub(crate) enum Telling {
     Summary(u32),
 }
 
-/// What is done with a script.
+/// What is done with a script alone.
 #[derive(Clone, Copy, PartialEq, Eq, Debug)]
 pub(crate) enum Work {
     /// Its types and definitions are counted.
@@ -27,12 +28,24 @@ pub(crate) enum Work {
     Run(Setup, Telling),
 }
 
+/// How many bytes a command takes at most.
+pub(crate) fn most_taken(command: Command) -> usize
+    ensures { result ≡ most_taken (Some command) }
+{
+    match command {
+        Command::Run(_, _) | Command::Trace(_, _) | Command::Check => MOST_SOURCE_BYTES,
+        Command::Replay => MOST_HISTORY_BYTES,
+        Command::Gen(_, _, _) => 0,
+    }
+}
+
 /// How many bytes are read at most.
 pub(crate) fn most_read(command: Command) -> usize
     ensures { result ≡ most_read (Some command) }
 {
     match command {
         Command::Run(_, _) | Command::Trace(_, _) | Command::Check => MOST_SOURCE_BYTES + 1,
-        Command::Replay | Command::Gen(_, _, _) => 0,
+        Command::Replay => MOST_HISTORY_BYTES + 1,
+        Command::Gen(_, _, _) => 0,
     }
 }

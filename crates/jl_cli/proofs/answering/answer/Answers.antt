@@ -1,10 +1,10 @@
-use Rattle.std.proofs.Common.{ap, ◌∙◌, refl}
+use Rattle.std.proofs.Common.{ap, refl}
 use Rattle.jl_command.specs.declared.commands.Command.TheVariants as C
 use Rattle.jl_queue.specs.declared.setup.Setup.{Setup}
 use Rattle.jl_cli.specs.declared.work.Work.TheVariants as W
 use Rattle.jl_cli.specs.declared.work.Telling.TheVariants as T
 use Rattle.jl_cli.specs.Work.{whole_setup}
-use Rattle.jl_cli.proofs.Running.{all_owed, setup_is, not_yet_read_so, not_yet_read_is}
+use Rattle.jl_cli.proofs.Running.{all_owed, all_replayed, setup_is}
 use Rattle.jl_cli.proofs.answering.answer.Goals as goal
 
 pub with_whole_cache-requires-clause-threads : goal.with_whole_cache-requires-clause-threads
@@ -41,10 +41,11 @@ returns-in-Trace g c =
 pub returns-in-Check : goal.returns-in-Check
 returns-in-Check g c = all_owed c.owed-in-Check.result c.args.command C.Check W.Check W.Check c.args.bytes.now c.in-Check.is refl refl c.owed-in-Check.ensures
 
-pub returns-in_ok-line-in-Replay : goal.returns-in_ok-line-in-Replay
-returns-in_ok-line-in-Replay g c =
-    not_yet_read_so c.refused.result c.args.command c.args.bytes.now c.in_ok-line-in-Replay.line c.in-Replay.is c.requires.limited
-    (c.in_ok-line-in-Replay.ensures ∙ c.as_bytes.ensures.value ∙ not_yet_read_is) c.refused.ensures
+pub replayed-requires : goal.replayed-requires
+replayed-requires g c = rw c.in-Replay.is at c.requires.limited
+
+pub returns-in-Replay : goal.returns-in-Replay
+returns-in-Replay g c = all_replayed c.replayed.result c.args.command c.args.bytes.now c.in-Replay.is c.replayed.ensures
 
 pub returns-in-Gen : goal.returns-in-Gen
 returns-in-Gen g c =

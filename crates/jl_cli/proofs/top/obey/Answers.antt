@@ -1,5 +1,5 @@
 use Rattle.std.proofs.Common.{◌≡◌, ◌<◌, ◌≤◌, ℕ, length, sym, subst, ap, refl, None, Some, arith}
-use Rattle.jl_cli.specs.Work.{most_read}
+use Rattle.jl_cli.specs.Work.{most_taken, most_read}
 use Rattle.jl_cli.proofs.Running.{most_small, delivered, unread, refused_memory, ended_along, too_long_due, due_along}
 use Rattle.jl_cli.proofs.top.obey.Goals as goal
 
@@ -18,18 +18,20 @@ returns-in-Err-Memory-clause-ran g c =
     ended_along (Some c.args.command) _ _ _ _ _ _ 6 c.without_history-in-Err-Memory.result.status c.without_history-in-Err-Memory.result.history c.without_history-in-Err-Memory.ensures
     (refused_memory (Some c.args.command) _ _ _ _ _ _ taken.0 taken.2 (subst (λ (n : ℕ). length taken.0 ≤ n) most taken.1) (omega (arith, taken.3, most, most_small c.args.command)) refl)
 
-pub returns-then-len-gt-MOST_SOURCE_BYTES-clause-ran : goal.returns-then-len-gt-MOST_SOURCE_BYTES-clause-ran
-returns-then-len-gt-MOST_SOURCE_BYTES-clause-ran g c =
+pub returns-then-len-most_taken-clause-ran : goal.returns-then-len-most_taken-clause-ran
+returns-then-len-most_taken-clause-ran g c =
     let most : c.most_read.result ≡ most_read (Some c.args.command) = c.most_read.ensures in
     let within : length c.in-Ok.bytes.items ≤ most_read (Some c.args.command) = subst (λ (n : ℕ). length c.in-Ok.bytes.items ≤ n) most c.in-Ok.ensures.within in
-    let long : 1048576 < length c.in-Ok.bytes.items = omega (arith, c.if-len-gt-MOST_SOURCE_BYTES.true, c.len.ensures, c.in-Ok.bytes.ok.0) in
+    let long : most_taken (Some c.args.command) < length c.in-Ok.bytes.items = omega (arith, c.if-len-most_taken.true, c.len.ensures, c.in-Ok.bytes.ok.0, c.most_taken.ensures) in
     delivered (Some c.args.command) _ _ _ _ _ _ c.in-Ok.bytes.items c.in-Ok.ensures.gives within 3 None c.as_bytes.result.now _ _
     (λ lt. c.in-Ok.ensures.ended (subst (λ (n : ℕ). length c.in-Ok.bytes.items < n) (sym most) lt))
     (too_long_due c.args.command c.in-Ok.bytes.items c.as_bytes.result.now long within c.as_bytes.ensures.value)
     c.deliver.ensures.delivered
 
 pub answer-requires-clause-limited : goal.answer-requires-clause-limited
-answer-requires-clause-limited g c = λ κs bounds. subst (λ (n : ℕ). n ≤ most_read (Some c.args.command)) (ap length (sym c.as_slice.ensures.value)) (subst (λ (n : ℕ). length c.in-Ok.bytes.items ≤ n) c.most_read.ensures c.in-Ok.ensures.within)
+answer-requires-clause-limited g c =
+    let few : length c.in-Ok.bytes.items ≤ most_taken (Some c.args.command) = omega (arith, c.if-len-most_taken.false, c.len.ensures, c.in-Ok.bytes.ok.0, c.most_taken.ensures) in
+    λ κs bounds. subst (λ (n : ℕ). n ≤ most_taken (Some c.args.command)) (ap length (sym c.as_slice.ensures.value)) few
 
 pub returns-in-Ok-answer-clause-ran : goal.returns-in-Ok-answer-clause-ran
 returns-in-Ok-answer-clause-ran g c =
@@ -45,4 +47,4 @@ returns-clause-ran g c =
     let most : c.most_read.result ≡ most_read (Some c.args.command) = c.most_read.ensures in
     ended_along (Some c.args.command) _ _ _ _ _ _ 6 c.without_history-in-Err.result.status c.without_history-in-Err.result.history c.without_history-in-Err.ensures
     (refused_memory (Some c.args.command) _ _ _ _ _ _ c.in-Ok.bytes.items c.in-Ok.ensures.gives (subst (λ (n : ℕ). length c.in-Ok.bytes.items ≤ n) most c.in-Ok.ensures.within)
-    (omega (arith, c.if-len-gt-MOST_SOURCE_BYTES.false, c.len.ensures, c.in-Ok.bytes.ok.0)) refl)
+    (omega (arith, c.if-len-most_taken.false, c.len.ensures, c.in-Ok.bytes.ok.0, c.most_taken.ensures)) refl)
