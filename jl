@@ -26,15 +26,26 @@ is_stale() {
 if [ -x "$binary" ] && ! is_stale; then
     exec "$binary" "$@"
 fi
-echo "jl: no proved binary of these sources (./build makes it): builds a minute or two, then runs unproved, at most 60 seconds and 1 MiB of output, shown at its end" >&2
+cat >&2 << 'END'
+jl: There is no proved binary of these sources; ./build makes it, once, in an hour or so. Until then each run builds the program
+jl: unproved, in some 100 seconds of processor time: a minute where two processors are free. It then runs for at most 60 seconds,
+jl: and its output, at most 1 MiB, is shown at its end.
+END
 told=$(mktemp) || exit "$failed"
 trap 'rm -f "$told"' EXIT
 cd "$crates/jl_main" || exit "$failed"
 (exec 3<&0) 2>/dev/null || { echo "jl: standard input is closed" >&2; exit "$failed"; }
 exec 3<&0
 rt try -- "$@" <&3 2> "$told" &
-trap 'kill "$!"' HUP INT TERM
-wait "$!"
+task=$!
+trap 'kill "$task"' HUP INT TERM
+waited=0
+while kill -0 "$task" 2>/dev/null; do
+    sleep 1
+    waited=$((waited + 1))
+    [ $((waited % 15)) -ne 0 ] || echo "jl: builds and runs, $waited seconds so far" >&2
+done
+wait "$task"
 status=$?
 cat "$told" >&2
 if ! grep -q '^run=ended ' "$told"; then
