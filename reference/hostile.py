@@ -5,6 +5,7 @@
     reference/hostile.py open deep rows devices these parts
     reference/hostile.py random 5000 7          5,000 inputs made by chance, from the seed 7
     reference/hostile.py changed 5000 7         5,000 scripts with changes
+    SECONDS=600 reference/hostile.py random     as many as there is time for
     JL=FILE reference/hostile.py                with another program than crates/jl_main/out/jl_main
 
 A run must end by itself, with a status that its command has and a text of the form that README.md and docs/LANGUAGE.md specify, and it
@@ -22,6 +23,7 @@ import resource
 import signal
 import sys
 import tempfile
+import time
 
 import explains
 import random_scripts
@@ -503,17 +505,20 @@ def work(job):
 def test_many(part, name, count, seed):
     """Inputs that are made by chance, in pieces, by as many workers as there are processors."""
     pieces = [(name, seed, first, min(250, count - first)) for first in range(0, count, 250)]
-    all_statuses = {}
+    all_statuses, done, end = {}, 0, time.monotonic() + float(os.environ.get("SECONDS", "inf"))
     with multiprocessing.Pool(int(os.environ.get("JOBS", os.cpu_count()))) as pool:
-        for wrongs, statuses, slowest, largest, runs in pool.imap(work, pieces):
+        for piece, (wrongs, statuses, slowest, largest, runs) in zip(pieces, pool.imap(work, pieces)):
             part.runs, part.differ = part.runs + runs, part.differ + len(wrongs)
             part.slowest, part.largest = max(part.slowest, slowest), max(part.largest, largest)
             for words, text, wrong in wrongs:
                 print(f"{name}: {' '.join(words)} over {text!r}: {wrong}", flush=True)
             for key, number in statuses.items():
                 all_statuses[key] = all_statuses.get(key, 0) + number
+            done += piece[3]
+            if time.monotonic() > end:
+                break
     told = ", ".join(f"{command} {status}: {number}" for (command, status), number in sorted(all_statuses.items()))
-    return f"; {count} inputs from the seed {seed}; runs by command and status: {told}"
+    return f"; {done} inputs from the seed {seed}; runs by command and status: {told}"
 
 
 PARTS = {"open": test_open, "deep": test_deep, "rows": test_rows, "devices": test_devices, "replay": test_replay}
