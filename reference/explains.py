@@ -14,7 +14,7 @@ world that the task was started in. What is true of a history is tested by the w
 it, that definitions, tasks and fetches are the events that they say, that a row of the cache begins where a definition touched its key
 and holds the method of that world, and that the text is that of the tasks in their order.
 
-The last line counts runs, lines and differences, and says how often a line of a task told another definition than its last line of that
+The last line counts runs, lines and differences, and says how often a line of a task has another definition than its last line of that
 kind, which shows how much the tasks ran side by side. The status is 0 only where there is no difference.
 """
 
@@ -74,13 +74,13 @@ class Fault(Exception):
     """What is wrong with a history, or with a line of the text."""
 
 
-def ask(true, told):
-    if not true:
-        raise Fault(told)
+def ask(holds, message):
+    if not holds:
+        raise Fault(message)
 
 
 def unquoted(text):
-    """The output that stands in quotes."""
+    """The output that is in quotes."""
     ask(len(text) >= 2 and text[0] == text[-1] == '"', "an output is not in quotes")
     plain = {"n": "\n", "r": "\r", '"': '"', "\\": "\\"}
     return re.sub(r"\\(.)", lambda it: plain[it[1]], text[1:-1])
@@ -187,8 +187,8 @@ def test_items(history, number, task):
         ask(is_true(history, number, item), f"task {number}: {item} is not true")
     ask(before <= task.done, f"task {number} ends before its last item")
     own = [(kind, rest[1]) for kind, *rest in history.events if kind in ("def", "spawn") and rest[0] == number]
-    told = [(item[0], int(item[1])) for item in task.items if item[0] in ("def", "spawn")]
-    ask(own == told, f"task {number}: its events are not those of its record")
+    recorded = [(item[0], int(item[1])) for item in task.items if item[0] in ("def", "spawn")]
+    ask(own == recorded, f"task {number}: its events are not those of its record")
 
 
 class Newest:
@@ -240,24 +240,24 @@ def world_of_start(history, task):
 
 
 def test_lines(history, number, task, newest):
-    """Each line of a task tells the newest definition in the world of its call. Returns how many lines there are, and how many tell
+    """Each line of a task shows the newest definition in the world of its call. Returns how many lines there are, and how many show
     another one than the last line of that kind."""
     own = FIRST_WORLD if task.parent is None else world_of_start(history, task)
     looks = iter([int(item[1]) for item in task.items if item[0] == "look"])
     count = changes = 0
     before = {}
     for line in task.output.splitlines():
-        kind, told = line.split(" ")
+        kind, shown = line.split(" ")
         # Of the root each line is a statement of its own, which looks.
         if number == 0:
             continue
         world = own if kind == "own" else next(looks, None)
         ask(world is not None, f"task {number}: a line has no look")
         due = newest.value(world)
-        ask(told == due, f"task {number}: `{line}` in world {world}, and {due} is due")
+        ask(shown == due, f"task {number}: `{line}` in world {world}, and {due} is due")
         count += 1
-        changes += before.get(kind, told) != told
-        before[kind] = told
+        changes += before.get(kind, shown) != shown
+        before[kind] = shown
     if task.output and number:
         ask(next(looks, None) is None, f"task {number} looks more often than it prints")
     return count, changes
@@ -277,7 +277,7 @@ def test_root(history, newest):
 
 
 def explain(values, out, status):
-    """Tests what a run wrote. Returns how many lines were explained, and how many told another definition than the line before."""
+    """Tests what a run wrote. Returns how many lines were explained, and how many show another definition than the line before."""
     ask(status == 0, f"status {status}")
     text, found, rest = out.decode().rpartition("%%history 1\n")
     ask(found, "no history")

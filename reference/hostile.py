@@ -87,7 +87,7 @@ def ask_over(words, given, out, err, stack=None):
 
 
 def content(file):
-    """What stands in a file from its beginning; nothing of what is none."""
+    """The content of a file from its beginning; nothing of what is none."""
     try:
         return os.pread(file, os.fstat(file).st_size, 0)
     except (OSError, TypeError):
@@ -100,17 +100,17 @@ def fault_in(line, text):
         return None if len(text) > MOST_BYTES else "a short source is too long"
     if len(text) > MOST_BYTES:
         return "a source that is too long is read"
-    told = re.fullmatch(rb"ERROR: line (\d+), column (\d+): (\w+)\n", line)
-    if not told or told[3].decode() not in FAULTS:
+    parts = re.fullmatch(rb"ERROR: line (\d+), column (\d+): (\w+)\n", line)
+    if not parts or parts[3].decode() not in FAULTS:
         return "no fault line"
-    at = (int(told[1]), int(told[2]))
+    at = (int(parts[1]), int(parts[2]))
     try:
         lines = text.decode().split("\n")
     except UnicodeDecodeError as wrong:
         before = text[: wrong.start].decode().split("\n")
         due = (len(before), len(before[-1]) + 1)
-        return None if told[3] == b"BadUtf8" and at == due else f"BadUtf8 at {due} is due"
-    if told[3] == b"BadUtf8":
+        return None if parts[3] == b"BadUtf8" and at == due else f"BadUtf8 at {due} is due"
+    if parts[3] == b"BadUtf8":
         return "good text is called BadUtf8"
     if not (1 <= at[0] <= len(lines) and 1 <= at[1] <= len(lines[at[0] - 1]) + 1):
         return "a place outside the text"
@@ -167,13 +167,13 @@ class Part:
     def __init__(self, name):
         self.name, self.runs, self.differ, self.slowest, self.largest = name, 0, 0, 0.0, 0
 
-    def tell(self, told, wrong, ran=None):
+    def count(self, case, wrong, ran=None):
         self.runs += 1
         if ran:
             self.slowest, self.largest = max(self.slowest, ran.seconds), max(self.largest, ran.megabytes)
         if wrong:
             self.differ += 1
-            print(f"{self.name}: {told}: {wrong}", flush=True)
+            print(f"{self.name}: {case}: {wrong}", flush=True)
 
     def end(self, more=""):
         print(
@@ -184,7 +184,7 @@ class Part:
         return self.differ
 
 
-def compare(part, told, words, text, due, stack=None):
+def compare(part, case, words, text, due, stack=None):
     """Compares an answer with the one that is due: a text and a status."""
     ran = ask(words, text, stack)
     wrong = None
@@ -192,7 +192,7 @@ def compare(part, told, words, text, due, stack=None):
         wrong = f"it wrote to standard error: {ran.err[:300]!r}"
     elif (ran.out.decode(errors="replace"), ran.status) != due:
         wrong = f"status {ran.status} and {ran.out[:100]!r}, and {due[1]} and {due[0][:100]!r} is due"
-    part.tell(told, wrong, ran)
+    part.count(case, wrong, ran)
 
 
 def fault(line, column, name):
@@ -206,7 +206,7 @@ def filling(form, first="", last="", most=1_000_000):
     return first + form * count + last, count
 
 
-# Forms that are opened and never closed: the fault stands at the end of the text.
+# Forms that are opened and never closed: the fault is at the end of the text.
 OPEN = {
     "parentheses": ("(", "", "Syntax"),
     "not": ("!", "", "Syntax"),
@@ -237,7 +237,7 @@ OPEN = {
     "either": ("x || ", "", "Syntax"),
     "bounds": ("A{<:", "f(x) where T<:", "BadType"),
 }
-# Texts whose fault stands elsewhere, or that have none: the form, what comes before and after, and the answer by how often it comes.
+# Texts whose fault is elsewhere, or that have none: the form, what comes before and after, and the answer by how often it comes.
 FULL = {
     "comments": ("#=", "", "", lambda n: fault(1, 1, "OpenComment")),
     "comments that end": ("#==#", "", "", lambda n: ("ok: 0 types, 0 definitions\n", 0)),
@@ -349,18 +349,18 @@ def test_deep(part):
         for name, (body, due) in DEEP_CASES.items():
             body = body.replace("{n}", str(DEPTH - 1))
             status = 1 if due.startswith("ERROR") else 0
-            told = f"{name}, a stack of {stack >> 10} KB"
-            compare(part, told, ["run"], (DEEP + body).encode(), (due, status), stack)
+            case = f"{name}, a stack of {stack >> 10} KB"
+            compare(part, case, ["run"], (DEEP + body).encode(), (due, status), stack)
             # The same by a task, whose text has no error line.
             lines = "".join(f"    {line}\n" for line in body.splitlines() if not line.startswith("f(x"))
             methods = "".join(f"{line}\n" for line in body.splitlines() if line.startswith("f(x"))
             task = f"{methods}function work()\n{lines}    0\nend\nt = Threads.@spawn work()\n"
             if not status:
                 task += "println(fetch(t))\n"
-                compare(part, told + ", in a task", ["run", "--threads", "8"], (DEEP + task).encode(), ("0\n" + due, 0), stack)
+                compare(part, case + ", in a task", ["run", "--threads", "8"], (DEEP + task).encode(), ("0\n" + due, 0), stack)
             else:
                 task += "fetch(t)\n"
-                compare(part, told + ", in a task", ["run", "--threads", "8"], (DEEP + task).encode(), ("ERROR: TaskFailedException: task 1\n", 1), stack)
+                compare(part, case + ", in a task", ["run", "--threads", "8"], (DEEP + task).encode(), ("ERROR: TaskFailedException: task 1\n", 1), stack)
     text = DEEP + f"x = d({DEPTH - 1}, 1)\n" + "".join(f"t{i} = Threads.@spawn d({DEPTH - 1}, x.a)\n" for i in range(8))
     compare(part, "given to tasks", ["run", "--threads", "8"], text.encode(), ("", 0), 1 << 20)
     text = DEEP + f"t = Threads.@spawn d({DEPTH - 1}, 1)\nprintln(fetch(t) === d({DEPTH - 1}, 1))\n"
@@ -419,7 +419,7 @@ def test_replay(part):
     for length in range(len("%%history 1\n"), len(HISTORY)):
         ran = ask(["replay"], (FIRST + HISTORY[:length]).encode())
         good = ran.status == 7 and re.fullmatch(rb"illegal: line \d+: BadText\n", ran.out)
-        part.tell(f"replay of the first {length} bytes", None if good else f"status {ran.status} and {ran.out!r}", ran)
+        part.count(f"replay of the first {length} bytes", None if good else f"status {ran.status} and {ran.out!r}", ran)
 
 
 def test_devices(part):
@@ -428,31 +428,31 @@ def test_devices(part):
     with tempfile.TemporaryFile() as given, tempfile.TemporaryFile() as out, tempfile.TemporaryFile() as err:
         given.write(text)
 
-        def case(told, words, source, sink, due):
+        def over(case, words, source, sink, due):
             given.seek(0)
             for file in (out, err):
                 file.seek(0)
                 file.truncate()
             ran = ask_over(words, source, sink, err.fileno())
             wrong = None if (ran.status, content(out.fileno())) == due and not ran.err else f"status {ran.status}, {ran.out!r}, {ran.err!r}"
-            part.tell(told, wrong, ran)
+            part.count(case, wrong, ran)
 
         folder = os.open("/", os.O_RDONLY)
         full = os.open("/dev/full", os.O_WRONLY)
         zero = os.open("/dev/zero", os.O_RDONLY)
         for words in (["run"], ["trace"], ["check"]):
-            case(f"{words[0]}, closed input", words, None, out.fileno(), (4, b""))
-            case(f"{words[0]}, a folder as input", words, folder, out.fileno(), (4, b""))
-            case(f"{words[0]}, an input without an end", words, zero, out.fileno(), (3, b"ERROR: SourceTooLong\n"))
-            case(f"{words[0]}, closed output", words, given.fileno(), None, (5, b""))
-            case(f"{words[0]}, a full output", words, given.fileno(), full, (5, b""))
+            over(f"{words[0]}, closed input", words, None, out.fileno(), (4, b""))
+            over(f"{words[0]}, a folder as input", words, folder, out.fileno(), (4, b""))
+            over(f"{words[0]}, an input without an end", words, zero, out.fileno(), (3, b"ERROR: SourceTooLong\n"))
+            over(f"{words[0]}, closed output", words, given.fileno(), None, (5, b""))
+            over(f"{words[0]}, a full output", words, given.fileno(), full, (5, b""))
             reading, writing = os.pipe()
             os.close(reading)
-            case(f"{words[0]}, a pipe that nobody reads", words, given.fileno(), writing, (5, b""))
+            over(f"{words[0]}, a pipe that nobody reads", words, given.fileno(), writing, (5, b""))
             os.close(writing)
-        case("run of nothing, closed output", ["run"], os.open("/dev/null", os.O_RDONLY), None, (0, b""))
-        case("the usage line, a full output", [], given.fileno(), full, (5, b""))
-        case("gen, closed input", ["gen", "0"], None, full, (5, b""))
+        over("run of nothing, closed output", ["run"], os.open("/dev/null", os.O_RDONLY), None, (0, b""))
+        over("the usage line, a full output", [], given.fileno(), full, (5, b""))
+        over("gen, closed input", ["gen", "0"], None, full, (5, b""))
         # Of a pipe each read may give a part.
         reading, writing = os.pipe()
         if os.fork() == 0:
@@ -462,7 +462,7 @@ def test_devices(part):
                 os.sched_yield()
             os._exit(0)
         os.close(writing)
-        case("a pipe that gives a byte at a time", ["run"], reading, out.fileno(), (0, b"34\n"))
+        over("a pipe that gives a byte at a time", ["run"], reading, out.fileno(), (0, b"34\n"))
         os.wait()
 
 
@@ -517,8 +517,8 @@ def test_many(part, name, count, seed):
             done += piece[3]
             if time.monotonic() > end:
                 break
-    told = ", ".join(f"{command} {status}: {number}" for (command, status), number in sorted(all_statuses.items()))
-    return f"; {done} inputs from the seed {seed}; runs by command and status: {told}"
+    by_status = ", ".join(f"{command} {status}: {number}" for (command, status), number in sorted(all_statuses.items()))
+    return f"; {done} inputs from the seed {seed}; runs by command and status: {by_status}"
 
 
 PARTS = {"open": test_open, "deep": test_deep, "rows": test_rows, "devices": test_devices, "replay": test_replay}

@@ -10,7 +10,7 @@ WORDS = (
     "f g h x y n T S P A Box é 0 1 2 9223372036854775807 9223372036854775808 1_0 @eval @spawn @x === !== :: <: >: == != <= >= && || = < > "
     "+ - * ÷ % ! ? : . , ; ( ) [ ] { } # #= =# \" \\ $ \"a\" \"\\n\" -1 -9223372036854775808 \n \t \r \0"
 ).split(" ") + ["\n", "\n", ";", " "]
-# What may stand in a form of a script, so that a good part of what is made is one.
+# Parts of scripts, so that a good part of what is made is one.
 PHRASES = (
     "f(x)", "f(x, y)", "f(x::T) where T", "f(x::Int64)", "f(x::Box{T}) where T<:Integer", "Threads.@spawn f(1)", "fetch(t)", "t", "x", "@eval f(x) = 1",
     "Base.invokelatest(f, 1)", "println(x)", 'println("a", 1)', "(1, 2)", "(1,)", "()", "x.a", "x[1]", "Box{Int64}(1)", "Box(1)", "1 isa Int64",

@@ -74,8 +74,8 @@ class Shim:
         except subprocess.TimeoutExpired:
             return "no end", b"", b"", {}
         with open(self.plan, "rb") as file, mmap.mmap(file.fileno(), 0, access=mmap.ACCESS_READ) as plan:
-            told = PLAN.unpack(plan[: PLAN.size])
-        return run.returncode, run.stdout, run.stderr, dict(zip((*KINDS, "from", "piece", "started", "joined"), told[4:]))
+            counts = PLAN.unpack(plan[: PLAN.size])
+        return run.returncode, run.stdout, run.stderr, dict(zip((*KINDS, "from", "piece", "started", "joined"), counts[4:]))
 
 
 class Part:
@@ -84,16 +84,16 @@ class Part:
     def __init__(self, name):
         self.name, self.statuses, self.differ = name, {}, 0
 
-    def tell(self, told, answer, good):
+    def count(self, case, answer, good):
         status, out, err, counts = answer
         self.statuses[status] = self.statuses.get(status, 0) + 1
         if not good or err or status == "no end" or counts["started"] != counts["joined"]:
             self.differ += 1
-            print(f"{self.name}: {told}: status {status}, {out[:100]!r}, {err[:300]!r}, {counts}", flush=True)
+            print(f"{self.name}: {case}: status {status}, {out[:100]!r}, {err[:300]!r}, {counts}", flush=True)
 
     def end(self):
-        told = ", ".join(f"status {status}: {number}" for status, number in sorted(self.statuses.items(), key=str))
-        print(f"{self.name}: {sum(self.statuses.values())} runs ({told}), {self.differ} differences", flush=True)
+        by_status = ", ".join(f"status {status}: {number}" for status, number in sorted(self.statuses.items(), key=str))
+        print(f"{self.name}: {sum(self.statuses.values())} runs ({by_status}), {self.differ} differences", flush=True)
         return self.differ
 
 
@@ -105,7 +105,7 @@ def refuse_memory(shim, part, name, words, text, step, keeps_on):
         answer = shim.ask(words, text, "alloc", number, keeps_on)
         status, out = answer[:2]
         is_short = status == 6 and written.startswith(out)
-        part.tell(f"{name}, allocation {number}", answer, is_short or (status == due and out == written))
+        part.count(f"{name}, allocation {number}", answer, is_short or (status == due and out == written))
     print(f"{part.name}: {name}: some {most} allocations with ample memory", flush=True)
 
 
@@ -133,7 +133,7 @@ def test_threads(shim, part, _):
             for number in range(1, threads + 2):
                 for keeps_on in (False, True):
                     answer = shim.ask(words, text, "thread", number, keeps_on)
-                    part.tell(f"{name}, {threads} threads, thread {number}", answer, answer[:2] == (due, written))
+                    part.count(f"{name}, {threads} threads, thread {number}", answer, answer[:2] == (due, written))
 
 
 def test_devices(shim, part, _):
@@ -142,15 +142,15 @@ def test_devices(shim, part, _):
     for number in range(1, len(first) + 3):
         answer = shim.ask(["run"], first, "read", number, piece=1)
         due = (4, b"") if number <= len(first) + 1 else (0, b"3\n")
-        part.tell(f"read {number}", answer, answer[:2] == due)
+        part.count(f"read {number}", answer, answer[:2] == due)
     written = shim.ask(["run"], shapes)[1]
     for number in range(1, len(written) + 2):
         answer = shim.ask(["run", "--threads", "4"], shapes, "write", number, piece=1)
         due = (5, written[: number - 1]) if number <= len(written) else (0, written)
-        part.tell(f"write {number}", answer, answer[:2] == due)
+        part.count(f"write {number}", answer, answer[:2] == due)
     for piece in (1, 2, 3, 7):
         answer = shim.ask(["run"], shapes, piece=piece)
-        part.tell(f"pieces of {piece}", answer, answer[:2] == (0, written))
+        part.count(f"pieces of {piece}", answer, answer[:2] == (0, written))
 
 
 PARTS = {"memory": test_memory, "threads": test_threads, "devices": test_devices}

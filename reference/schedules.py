@@ -6,7 +6,7 @@
     reference/schedules.py 10 late make  these scripts alone
     JL=FILE reference/schedules.py       with another program than crates/jl_main/out/jl_main
 
-What a script is to write and its status stand beside it. They follow from the rules of the language (docs/LANGUAGE.md), and not from a
+What a script is to write and its status are given beside it. They follow from the rules of the language (docs/LANGUAGE.md), and not from a
 run; the one script whose text depends on the schedule is judged by its history. The last line counts the runs and the differences; the
 status is 0 only where there is no difference.
 """
