@@ -5,6 +5,7 @@
     reference/hostile.py open deep rows devices these parts
     reference/hostile.py random 5000 7          5,000 inputs made by chance, from the seed 7
     reference/hostile.py changed 5000 7         5,000 scripts with changes
+    reference/hostile.py replay histories 5000  histories for `replay`: known ones, and those of runs with changes
     SECONDS=600 reference/hostile.py random     as many as there is time for
     JL=FILE reference/hostile.py                with another program than crates/jl_main/out/jl_main
 
@@ -485,15 +486,39 @@ def ask_all(text, number):
     return text, found
 
 
+def ask_history(chance, text, number):
+    """The answer of `replay` to a script with the history of its run, changed but for every fourth one, which must be legal."""
+    script = text if text.endswith(b"\n") else text + b"\n"
+    trace = ask(["trace", "--fuel", "300", "--threads", ("1", "2", "4", "8", "64")[number % 5]], script)
+    _, found, history = trace.out.rpartition(b"%%history 1\n")
+    if found and number % 4:
+        for _ in range(chance.randrange(1, 4)):
+            history = random_scripts.change(chance, history, [history])
+    given = script + found + history if found else script
+    ran = ask(["replay"], given)
+    wrong = wrong_with(["replay"], given, ran)
+    if not wrong and (ran.status == 3) == bool(found):
+        wrong = f"status {ran.status}"
+    if found and number % 4 == 0 and ran.out != b"legal: " + history.rstrip(b"\n").rpartition(b"end ")[2] + b" events\n":
+        wrong = "a history that was written by the program is not legal"
+    if not wrong and (ran.seconds > MOST_SECONDS or ran.megabytes > MOST_MEGABYTES):
+        wrong = f"{ran.seconds:.2f} seconds and {ran.megabytes} MB"
+    return given, [(["replay"], wrong, ran)]
+
+
 def work(job):
     """A piece of the inputs of a part, from a seed of its own."""
     name, seed, first, count = job
     chance = random.Random(f"{name} {seed} {first}")
-    scripts = random_scripts.corpus() if name == "changed" else []
-    made = random_scripts.random_input if name == "random" else lambda chance: random_scripts.changed_input(chance, scripts)
+    scripts = random_scripts.corpus()
     wrongs, statuses, slowest, largest, runs = [], {}, 0.0, 0, 0
     for number in range(first, first + count):
-        text, found = ask_all(made(chance), number)
+        if name == "histories":
+            made = chance.choice((chance.choice(scripts), random_scripts.random_script(chance)))
+            text, found = ask_history(chance, made, number)
+        else:
+            made = random_scripts.random_input(chance) if name == "random" else random_scripts.changed_input(chance, scripts)
+            text, found = ask_all(made, number)
         for words, wrong, ran in found:
             runs, slowest, largest = runs + 1, max(slowest, ran.seconds), max(largest, ran.megabytes)
             statuses[words[0], ran.status] = statuses.get((words[0], ran.status), 0) + 1
@@ -528,7 +553,7 @@ def main(words):
     numbers = [int(word) for word in words if word.isdigit()]
     count, seed = [*numbers, *(100_000, 1)[len(numbers) :]][:2]
     names = [word for word in words if not word.isdigit()] or ["open", "deep", "rows", "devices", "random", "changed"]
-    unknown = [name for name in names if name not in (*PARTS, "random", "changed")]
+    unknown = [name for name in names if name not in (*PARTS, "random", "changed", "histories")]
     if unknown:
         sys.exit(f"hostile: there is no part '{unknown[0]}'")
     if not os.path.exists(PROGRAM):
