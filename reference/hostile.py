@@ -467,6 +467,15 @@ def test_devices(part):
         os.wait()
 
 
+def too_much(words, text, ran):
+    """Whether a run took too much. What took too long is run again: a machine that pauses charges that to whoever runs."""
+    if ran.seconds > MOST_SECONDS:
+        ran.seconds = min(ran.seconds, ask(words, text).seconds)
+    if ran.seconds > MOST_SECONDS or ran.megabytes > MOST_MEGABYTES:
+        return f"{ran.seconds:.2f} seconds and {ran.megabytes} MB"
+    return None
+
+
 def ask_all(text, number):
     """What is wrong with the answers to a text of some commands, and how long and how large they were."""
     threads = ("1", "2", "4", "8", "64")[number % 5]
@@ -476,9 +485,7 @@ def ask_all(text, number):
     answers, found = {}, []
     for command in words:
         ran = answers[command[0]] = ask(command, text)
-        wrong = wrong_with(command, text, ran)
-        if not wrong and (ran.seconds > MOST_SECONDS or ran.megabytes > MOST_MEGABYTES):
-            wrong = f"{ran.seconds:.2f} seconds and {ran.megabytes} MB"
+        wrong = wrong_with(command, text, ran) or too_much(command, text, ran)
         found.append((command, wrong, ran))
     check, run = answers["check"], answers["run"]
     if (check.status == 3) != (run.status == 3) or (check.status == 3 and check.out != run.out):
@@ -501,9 +508,7 @@ def ask_history(chance, text, number):
         wrong = f"status {ran.status}"
     if found and number % 4 == 0 and ran.out != b"legal: " + history.rstrip(b"\n").rpartition(b"end ")[2] + b" events\n":
         wrong = "a history that was written by the program is not legal"
-    if not wrong and (ran.seconds > MOST_SECONDS or ran.megabytes > MOST_MEGABYTES):
-        wrong = f"{ran.seconds:.2f} seconds and {ran.megabytes} MB"
-    return given, [(["replay"], wrong, ran)]
+    return given, [(["replay"], wrong or too_much(["replay"], given, ran), ran)]
 
 
 def work(job):
