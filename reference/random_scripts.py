@@ -187,7 +187,7 @@ def change(chance, text, scripts):
     """A text with one change."""
     at = chance.randrange(len(text) + 1)
     to = min(len(text), at + chance.randrange(1, 12))
-    kind = chance.randrange(9)
+    kind = chance.randrange(13)
     if kind == 0:
         return text[:at] + text[to:]
     if kind == 1:
@@ -205,18 +205,22 @@ def change(chance, text, scripts):
     if kind == 5:
         lines[first], lines[second] = lines[second], lines[first]
         return b"\n".join(lines)
-    if kind == 6:
+    if kind in (6, 7):
         return b"\n".join(lines[:first] + [lines[second]] + lines[first:])
+    if kind == 8:
+        return b"\n".join(lines[:first] + lines[first + 1 :])
+    if kind == 9:
+        return b"\n".join(lines + [lines[first]] + chance.choice(scripts).split(b"\n")[-2:])
     words = lines[first].split(b" ")
     word = chance.randrange(len(words))
-    words[word] = chance.choice(NUMBERS) if kind == 7 else chance.choice(WORDS).encode()
+    words[word] = chance.choice(NUMBERS) if kind < 12 else chance.choice(WORDS).encode()
     lines[first] = b" ".join(words)
     return b"\n".join(lines)
 
 
 def changed_input(chance, scripts):
-    """A script of the corpus with one to four changes."""
+    """A script of the corpus with one to four changes, mostly one."""
     text = chance.choice(scripts)
-    for _ in range(chance.randrange(1, 5)):
+    for _ in range(chance.choice((1, 1, 1, 2, 4))):
         text = change(chance, text, scripts)
     return text
