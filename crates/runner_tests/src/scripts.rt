@@ -4,20 +4,20 @@ use jl_calculus::history::{Event, History};
 use jl_cli::run;
 use jl_host::{HostOp, HostOps, operations};
 use jl_io::{CleanSink, CleanSource};
-use jl_queue::{Gate, OpenGate};
+use jl_queue::Gate;
 use std::alloc::{AllocError, Global};
 use std::sync::Wait;
 use std::thread::Threads;
 
-/// What a command writes for an input, and the history of its run.
-fn call<R: Threads + Wait + Sync, G: Gate>(
+/// What `run` writes for a script, and its history. The last word of the command says on how many threads, as `--threads=4`.
+pub(crate) fn answer<R: Threads + Wait + Sync, G: Gate>(
     rt: &R,
     alloc: Global,
-    words: &[&str],
-    input: &[u8],
+    text: &str,
+    threads: &str,
     gate: &G,
 ) -> Result<(Vec<u8>, Option<History>), AllocError> {
-    let mut source = CleanSource::new(Vec::from_slice(alloc, input)?);
+    let mut source = CleanSource::new(Vec::from_slice(alloc, text.as_bytes())?);
     let mut sink = CleanSink::new(alloc);
     let mut list = Vec::new(alloc);
     list.push(HostOp::new(0, operations::add))?;
@@ -35,7 +35,16 @@ fn call<R: Threads + Wait + Sync, G: Gate>(
     list.push(HostOp::new(12, operations::not))?;
     list.push(HostOp::new(13, operations::equal_truths))?;
     let ops = HostOps::new(list);
-    let ended = run(rt, alloc, words, &mut source, &mut sink, gate, ops);
+    let words = ["run", threads];
+    let ended = run(
+        rt,
+        alloc,
+        words.as_slice(),
+        &mut source,
+        &mut sink,
+        gate,
+        ops,
+    );
     let history = ended.history;
     match Vec::from_slice(alloc, sink.bytes()) {
         Ok(written) => Ok((written, history)),
@@ -44,18 +53,6 @@ fn call<R: Threads + Wait + Sync, G: Gate>(
             Err(error)
         }
     }
-}
-
-/// What `run` writes for a script, and its history. The last word of the command says on how many threads, as `--threads=4`.
-pub(crate) fn answer<R: Threads + Wait + Sync, G: Gate>(
-    rt: &R,
-    alloc: Global,
-    text: &str,
-    threads: &str,
-    gate: &G,
-) -> Result<(Vec<u8>, Option<History>), AllocError> {
-    let words = ["run", threads];
-    call(rt, alloc, words.as_slice(), text.as_bytes(), gate)
 }
 
 /// Whether a run of a script writes this text.
@@ -81,35 +78,4 @@ pub(crate) fn last_site(history: &History) -> u32 {
         }
     }
     last
-}
-
-/// The history that stands at the end of what `trace` wrote: it begins with the last line that is exactly its first.
-fn history_in(traced: &[u8]) -> &[u8] {
-    let mut at = 0;
-    let mut begins_line = true;
-    for (place, byte) in traced.iter().enumerate() {
-        if begins_line && traced[place..].starts_with(b"%%history 1\n") {
-            at = place;
-        }
-        begins_line = *byte == b'\n';
-    }
-    traced.get(at..).unwrap_or(b"")
-}
-
-/// What `replay` says of the history that `trace` writes of a script.
-pub(crate) fn verdict<R: Threads + Wait + Sync>(
-    rt: &R,
-    alloc: Global,
-    text: &str,
-    threads: &str,
-) -> Result<Vec<u8>, AllocError> {
-    let words = ["trace", threads];
-    let (traced, history) = call(rt, alloc, words.as_slice(), text.as_bytes(), &OpenGate)?;
-    drop(history);
-    let mut input = Vec::from_slice(alloc, text.as_bytes())?;
-    input.extend_from_slice(history_in(traced.as_slice()))?;
-    let words = ["replay"];
-    let (told, history) = call(rt, alloc, words.as_slice(), input.as_slice(), &OpenGate)?;
-    drop(history);
-    Ok(told)
 }

@@ -1,4 +1,4 @@
-use crate::scripts::{answer, last_site, verdict, writes};
+use crate::scripts::{answer, last_site, writes};
 use crate::texts::{MANY, MORE, PAIR, RACE, SCRIPTS};
 use jl_queue::{OpenGate, PairGate};
 use std::alloc::{AllocError, Global};
@@ -79,29 +79,5 @@ fn worlds_and_tasks_come_to_their_limits(rt: HostRuntime) -> Result<(), Fail> {
     assert!(rt; writes(&rt, rt.alloc(), MORE, "--threads=4", &OpenGate, worlds)?);
     let tasks = "0\nERROR: TaskLimit: 4096 tasks\n";
     assert!(rt; writes(&rt, rt.alloc(), MANY, "--threads=4", &OpenGate, tasks)?);
-    Ok(())
-}
-
-/// Whether the histories of all scripts are judged legal.
-fn all_are_legal<R: Threads + Wait + Sync>(
-    rt: &R,
-    alloc: Global,
-    threads: &str,
-) -> Result<bool, AllocError> {
-    let scripts: [(&str, &str); 8] = SCRIPTS;
-    for (text, _) in scripts.as_slice() {
-        if !verdict(rt, alloc, text, threads)?.starts_with(b"legal: ") {
-            return Ok(false);
-        }
-    }
-    Ok(verdict(rt, alloc, RACE, threads)?.starts_with(b"legal: "))
-}
-
-#[test]
-fn what_trace_writes_is_judged_legal(rt: HostRuntime) -> Result<(), Fail> {
-    let numbers: [&str; 5] = THREADS;
-    for threads in numbers.as_slice() {
-        assert!(rt; all_are_legal(&rt, rt.alloc(), threads)?, "with {threads}");
-    }
     Ok(())
 }
