@@ -504,9 +504,11 @@ def ask_history(chance, text, number):
     given = script + found + history if found else script
     ran = ask(["replay"], given)
     wrong = wrong_with(["replay"], given, ran)
-    if not wrong and (ran.status == 3) == bool(found):
+    # A line of the script itself may be the first of a history.
+    parted = b"%%history 1" in script.split(b"\n")
+    if not wrong and not parted and (ran.status == 3) == bool(found):
         wrong = f"status {ran.status}"
-    if found and number % 4 == 0 and ran.out != b"legal: " + history.rstrip(b"\n").rpartition(b"end ")[2] + b" events\n":
+    if found and not parted and number % 4 == 0 and ran.out != b"legal: " + history.rstrip(b"\n").rpartition(b"end ")[2] + b" events\n":
         wrong = "a history that was written by the program is not legal"
     return given, [(["replay"], wrong or too_much(["replay"], given, ran), ran)]
 
