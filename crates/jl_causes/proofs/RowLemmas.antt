@@ -2,35 +2,27 @@
 use Rattle.std.proofs.Common.{◌≡◌, ◌∙◌, ap, sym, subst, refl, ℕ, zero, suc, ◌+◌, ◌<◌, ◌≤◌, inl, inr, arith, Bool, true, false, IsTrue, nat_eq, List, [], ◌∷◌, ◌++◌, map, length, get_or, slice_get, append-nil, Some, IsSome, Result, Ok, OnOk}
 use Rattle.std.specs.Prelude.{◌↔◌}
 use Rattle.std.specs.Bool.{Decides}
-use Rattle.std.specs.List.{Contains, All}
+use Rattle.std.specs.List.{Contains}
 use Rattle.std.proofs.lemmas.List.{length_push}
-use Rattle.std.proofs.lemmas.List.Elements.{All-head, All-tail, Contains-get_or}
+use Rattle.std.proofs.lemmas.List.Elements.{Contains-get_or}
 use Rattle.std.proofs.lemmas.Option.{slice_get-get_or, slice_get_within}
 use Rattle.jl_model.specs.declared.limits.TheConstants.{MOST_CACHE_ROWS}
 use Rattle.jl_model.specs.declared.ty.Key.{Key}
-use Rattle.jl_model.specs.declared.ty.Ty.{Ty}
 use Rattle.jl_program.specs.declared.choice.Choice.{Choice}
 use Rattle.jl_program.specs.declared.choice.Choice.TheVariants as Ch
 use Rattle.jl_program.specs.declared.tree.Program.{Program}
-use Rattle.jl_program.specs.Chooses.{Chooses}
 use Rattle.jl_program.specs.Prelude.{prelude_count}
 use Rattle.jl_program.specs.Scope.{types_of}
-use Rattle.jl_calculus.specs.declared.history.Def.{Def}
 use Rattle.jl_calculus.specs.declared.history.Event.{Event}
 use Rattle.jl_calculus.specs.declared.history.Event.TheVariants as Ev
-use Rattle.jl_calculus.specs.ChoiceLaws.{AreThoseThatApply}
-use Rattle.jl_calculus.specs.Definitions.{methods_of, AppliesTo}
 use Rattle.jl_calculus.specs.Ranges.{CacheRow, keys_of, rows_of, Touches, MayBegin, SelectsSite}
 use Rattle.jl_calculus.specs.World.{world_of, site_of, Selects}
 use Rattle.jl_calculus.proofs.BetweenLemmas.{of_world}
 use Rattle.jl_calculus.proofs.ChoiceLaws.{determined}
-use Rattle.jl_calculus.proofs.MethodLemmas.{those_select}
 use Rattle.jl_calculus.proofs.GrowthLemmas.{keys_append, rows_append, touches_known}
 use Rattle.jl_methods.specs.Filters.{is_row_of, row_numbers}
 use Rattle.jl_methods.specs.Indexed.{IsIndexOf, noted_in}
-use Rattle.jl_methods.proofs.FilterLemmas.{here, there}
 use Rattle.jl_methods.proofs.TouchLemmas.{number_of, number_there}
-use Rattle.jl_subsig.specs.Side.{Every}
 use Rattle.jl_causes.specs.declared.rows.Rows.{Rows}
 use Rattle.jl_causes.specs.Causes.{IsNextFill}
 use Rattle.jl_causes.specs.State.{HasRow, AreRows}
@@ -182,21 +174,6 @@ key_next es n other key at differs none j l got = by (nat_eq j n) refl
 
 -- ---- the choice
 
-pub every_of_all : {X : Type 0} (P : X → Type 0) (xs : List X) → All P xs → Every P xs
-every_of_all P [] h = tt
-every_of_all P (x ∷ xs) h = (All-head P x xs h, every_of_all P xs (All-tail P x xs h))
-
-pub every_member : {X : Type 0} (P : X → Type 0) (xs : List X) → ((x : X) → Contains xs x → P x) → Every P xs
-every_member P [] h = tt
-every_member P (x ∷ xs) h = (h x (here x x xs refl), every_member P xs (λ y c. h y (there x y xs c)))
-
-module _ (P : Program) (es : List Event) (k : Key) (first : ℕ) (ds : List Def) (those : AreThoseThatApply P es k.function k.types first ds) where
-  pub they_apply : Every (AppliesTo P k.types) ds
-  they_apply = every_member (AppliesTo P k.types) ds (λ d c. ((those d).0 c).1)
-
-  pub selected : (c : Choice) → ((ts : List Ty) → Every (AppliesTo P ts) ds → Chooses (types_of P) (methods_of P ds) ts c) → Selects P es k.function k.types first c
-  selected c chosen = (those_select P es k.function k.types first ds those c).0 (chosen k.types they_apply)
-
 pub no_site : (P : Program) (es : List Event) (k : Key) (site first : ℕ) (c : Choice) → Selects P es k.function k.types first c → ((d : ℕ) → c ≡ Ch.Method d → ⊥) → Decides false (SelectsSite P es k first site)
 no_site P es k site first c s none = ((λ yes. absurd (cc yes)), (λ (d, t, e). absurd (none d (determined (types_of P) _ k.types c (Ch.Method d) s t))))
 
@@ -225,10 +202,6 @@ row_next firsts ns i first begins at differs none j l got = by (nat_eq j i) refl
     by false q =
         let before : j < i = grind (arith, q, l) in
         none j before got
-
-pub selected_by : (P : Program) (es : List Event) (k : Key) (first : ℕ) (ds slice : List Def) (c : Choice) → AreThoseThatApply P es k.function k.types first ds → slice ≡ ds → ((ts : List Ty) → Every (AppliesTo P ts) slice → Chooses (types_of P) (methods_of P slice) ts c)
-    → Selects P es k.function k.types first c
-selected_by P es k first ds slice c those is chosen = selected P es k first slice (subst (AreThoseThatApply P es k.function k.types first) (sym is) those) c chosen
 
 pub known_key : (P : Program) (es : List Event) (r : Rows) (key : ℕ) (k : Key) → AreRows P es r → slice_get (keys_of es) key ≡ Some k → key < length (noted_in r.index).keys
 known_key P es r key k h at = omega (arith, slice_get_within (keys_of es) key k at, ap length h.indexed.known_keys)

@@ -20,8 +20,8 @@ use jl_model::limits::MOST_CACHE_ROWS;
 use jl_model::ty::Key;
 use jl_program::choice::Choice;
 use jl_program::prelude::FIRST_WORLD;
+use jl_rows::choose_for_key;
 use jl_sig::Ready;
-use jl_subsig::choose;
 use jl_types::same::same_all;
 use std::alloc::{AllocError, Global};
 
@@ -144,7 +144,7 @@ impl Rows {
     }
 
     /// Whether the method that is chosen for a key in this world is of this site. The cost is in the number of definitions that touch
-    /// the key.
+    /// the key; one that is made again and again counts once in the choice.
     pub(crate) fn chooses_right(
         &self,
         alloc: Global,
@@ -156,8 +156,7 @@ impl Rows {
         requires { (es : List Event) × (k : Key) × AreRows ready.now es self.now × (slice_get (keys_of es) key ≡ Some k) × MayBegin ready.now es k first }
         ensures { IfOk result (λ yes. (es : List Event) (k : Key) → AreRows ready.now es self.now → slice_get (keys_of es) key ≡ Some k → MayBegin ready.now es k first → Decides yes (SelectsSite ready.now es k first site)) }
     {
-        let defs = self.index.find_applicable(alloc, key, first)?;
-        let choice = choose(alloc, ready, defs.as_slice())?;
+        let choice = choose_for_key(alloc, ready, &self.index, key, first)?;
         let Choice::Method(method) = choice else {
             return Ok(false);
         };

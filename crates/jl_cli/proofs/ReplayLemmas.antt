@@ -17,7 +17,7 @@ use Rattle.jl_cli.specs.Split.{history_in}
 use Rattle.jl_cli.specs.Verdicts.{verdict_line, verdict_status}
 use Rattle.jl_cli.specs.Work.{script_of, work_of}
 use Rattle.jl_cli.specs.Due.{AreProgram, IsOwed, refused, worked, IsJudged, unjudged, judged, IsReplayed, too_long, no_history, parted, IsDue, usage, replayed, owed}
-use Rattle.jl_cli.specs.Laws.{IsJudgedOver, IsLegalHistory, IsToldIllegal, IsToldLegal}
+use Rattle.jl_cli.specs.Laws.{IsJudgedOver, IsToldIllegal, IsToldLegal}
 use Rattle.jl_cli.proofs.LawLemmas.{result_small}
 use Rattle.jl_cli.proofs.StatusLemmas.{same_script, fault_apart, there_is}
 
@@ -40,7 +40,7 @@ verdict_legal P history text (V.Legal n) is e told = record { many = n; is = is;
 verdict_legal P history text (V.BadText line) is e told = absurd (omega (arith, e))
 verdict_legal P history text (V.Illegal event cause) is e told = absurd (omega (arith, e))
 
-verdict_found : (P : Program) (history : List ℕ) (n : ℕ) (v : Verdict) → IsVerdict P history v → IsLegalHistory P history n → verdict_status v ≡ 0
+verdict_found : (P : Program) (history : List ℕ) (n : ℕ) (v : Verdict) → IsVerdict P history v → IsLegalText P history n → verdict_status v ≡ 0
 verdict_found P history n (V.Legal m) is l = refl
 verdict_found P history n (V.BadText line) is l = absurd (is.other (entries_of P l.events) l.form l.is_text)
 verdict_found P history n (V.Illegal event cause) is l =
@@ -64,7 +64,7 @@ judged_legal : (script history : List ℕ) (status : ℕ) (text : List ℕ) → 
 judged_legal _ _ _ _ (unjudged script history line fault) e = absurd (omega (arith, e))
 judged_legal _ _ _ _ (judged script history P status text are told) e = (P, are, verdict_legal P history text told.0 told.1 (sym told.2 ∙ e) told.3)
 
-judged_found : (script history : List ℕ) (status : ℕ) (text : List ℕ) (Q : Program) (n : ℕ) → IsJudged script history status text → AreProgram script Q → IsLegalHistory Q history n → status ≡ 0
+judged_found : (script history : List ℕ) (status : ℕ) (text : List ℕ) (Q : Program) (n : ℕ) → IsJudged script history status text → AreProgram script Q → IsLegalText Q history n → status ≡ 0
 judged_found _ _ _ _ Q n (unjudged script history line fault) is l = absurd (fault_apart script line fault (Q, is))
 judged_found _ _ _ _ Q n (judged script history P status text are told) is l =
     told.2 ∙ verdict_found Q history n told.0 (subst (λ (R : Program). IsVerdict R history told.0) (same_program script P Q are is) told.1) l
@@ -89,7 +89,7 @@ replayed_legal _ _ _ (no_history bytes short none_) e = absurd (omega (arith, e)
 replayed_legal _ _ _ (parted bytes status text has j) e =
     let i = judged_legal (script_of C.Replay bytes) (history_in bytes) status text j e in (i.0, record { has = has; are = i.1 }, i.2)
 
-replayed_found : (bytes : List ℕ) (status : ℕ) (text : List ℕ) (P : Program) (n : ℕ) → IsReplayed bytes status text → IsJudgedOver bytes P → IsLegalHistory P (history_in bytes) n → status ≡ 0
+replayed_found : (bytes : List ℕ) (status : ℕ) (text : List ℕ) (P : Program) (n : ℕ) → IsReplayed bytes status text → IsJudgedOver bytes P → IsLegalText P (history_in bytes) n → status ≡ 0
 replayed_found _ _ _ P n (too_long bytes long) over l = absurd (omega (arith, long, over.has.short))
 replayed_found _ _ _ P n (no_history bytes short none_) over l = absurd (there_is bytes over.has none_)
 replayed_found _ _ _ P n (parted bytes status text has j) over l = judged_found (script_of C.Replay bytes) (history_in bytes) status text P n j over.are l
@@ -115,7 +115,7 @@ module _ (bytes : List ℕ) where
   pub legal_law : (h : Option History) (text : List ℕ) → IsDue (Some C.Replay) bytes 0 h text → (P : Program) × IsJudgedOver bytes P × IsToldLegal P (history_in bytes) text
   legal_law h text due = replayed_legal bytes 0 text (due_replayed (Some C.Replay) bytes 0 h text due refl) refl
 
-  pub found_law : (P : Program) (n : ℕ) → IsJudgedOver bytes P → IsLegalHistory P (history_in bytes) n → (status : ℕ) (h : Option History) (text : List ℕ) → IsDue (Some C.Replay) bytes status h text → status ≡ 0
+  pub found_law : (P : Program) (n : ℕ) → IsJudgedOver bytes P → IsLegalText P (history_in bytes) n → (status : ℕ) (h : Option History) (text : List ℕ) → IsDue (Some C.Replay) bytes status h text → status ≡ 0
   found_law P n over l status h text due = replayed_found bytes status text P n (due_replayed (Some C.Replay) bytes status h text due refl) over l
 
   pub refuted_law : (P : Program) → IsJudgedOver bytes P → ((n : ℕ) → IsLegalText P (history_in bytes) n → ⊥) → (status : ℕ) (h : Option History) (text : List ℕ) → IsDue (Some C.Replay) bytes status h text → status ≡ 7

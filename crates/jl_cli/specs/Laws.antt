@@ -65,20 +65,12 @@ pub record IsJudgedOver (bytes : List ℕ) (P : Program) : Type 0 where
   pub has : HasHistory bytes
   pub are : AreProgram (script_of C.Replay bytes) P
 
--- the text is that of a legal history, of so many events, whose entries may stand in a text
-pub record IsLegalHistory (P : Program) (text : List ℕ) (n : ℕ) : Type 0 where
-  pub events : List Event
-  pub legal : IsLegal P events
-  pub form : AreEntries (entries_of P events)
-  pub is_text : text ≡ history_text P events
-  pub many : length events ≡ n
-
 -- what was judged illegal: the line has the verdict, which is not that it is legal, and the history is none that is legal
 pub record IsToldIllegal (P : Program) (history line : List ℕ) : Type 0 where
   pub verdict : Verdict
   pub is : IsVerdict P history verdict
   pub told : line ≡ verdict_line verdict
-  pub illegal : (n : ℕ) → IsLegalHistory P history n → ⊥
+  pub illegal : (n : ℕ) → IsLegalText P history n → ⊥
 
 -- what was judged legal: the line has how many events there are, and the history is one that is legal
 pub record IsToldLegal (P : Program) (history line : List ℕ) : Type 0 where

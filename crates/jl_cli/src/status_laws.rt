@@ -13,7 +13,7 @@ ghost use Rattle.jl_cli.specs.declared.work.Telling.{Telling as AnyTelling};
 ghost use Rattle.jl_cli.specs.Split.{history_in};
 ghost use Rattle.jl_cli.specs.Work.{script_of, work_of};
 ghost use Rattle.jl_cli.specs.Due.{IsDue};
-ghost use Rattle.jl_cli.specs.Laws.{IsProgram, HasProgram, IsJudgedOver, IsLegalHistory, IsToldIllegal, IsToldLegal};
+ghost use Rattle.jl_cli.specs.Laws.{IsProgram, HasProgram, IsJudgedOver, IsToldIllegal, IsToldLegal};
 
 /// Status 3 is due exactly where there is no program: the script is none, or the input of `replay` is too long or has no history.
 /// For `check`, status 0 is due exactly where it is one.
@@ -38,7 +38,7 @@ pub fn law_replay_status()
     ensures alone { (asked : Option AnyCommand) (bytes : List ℕ) (h : Option AnyHistory) (text : List ℕ) → IsDue asked bytes 7 h text → (asked ≡ Some Replay) × (h ≡ None) }
     ensures illegal { (bytes : List ℕ) (h : Option AnyHistory) (text : List ℕ) → IsDue (Some Replay) bytes 7 h text → (P : Program) × IsJudgedOver bytes P × IsToldIllegal P (history_in bytes) text }
     ensures legal { (bytes : List ℕ) (h : Option AnyHistory) (text : List ℕ) → IsDue (Some Replay) bytes 0 h text → (P : Program) × IsJudgedOver bytes P × IsToldLegal P (history_in bytes) text }
-    ensures found { (bytes : List ℕ) (P : Program) (n : ℕ) → IsJudgedOver bytes P → IsLegalHistory P (history_in bytes) n
+    ensures found { (bytes : List ℕ) (P : Program) (n : ℕ) → IsJudgedOver bytes P → IsLegalText P (history_in bytes) n
         → (status : ℕ) (h : Option AnyHistory) (text : List ℕ) → IsDue (Some Replay) bytes status h text → status ≡ 0 }
     ensures refuted { (bytes : List ℕ) (P : Program) → IsJudgedOver bytes P → ((n : ℕ) → IsLegalText P (history_in bytes) n → ⊥)
         → (status : ℕ) (h : Option AnyHistory) (text : List ℕ) → IsDue (Some Replay) bytes status h text → status ≡ 7 }

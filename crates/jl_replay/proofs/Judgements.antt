@@ -89,7 +89,7 @@ judged_difference P all n clean d = (inr (refl, clean, d.first), d.illegal)
 module _ (P : Program) (text : List ℕ) (all : List Entry) (form : AreEntries all) (is_text : text ≡ entries_text all) where
   pub verdict_is : (verdict : Verdict) → AreJudgedSo P all verdict → IsVerdict P text verdict
   verdict_is (V.Legal n) ((es, legal, told), many) =
-      record { events = es; legal = legal; is_text = is_text ∙ ap entries_text (sym told); many = sym (entries_length P 0 es) ∙ ap length told ∙ many }
+      record { events = es; legal = legal; form = subst AreEntries (sym told) form; is_text = is_text ∙ ap entries_text (sym told); many = sym (entries_length P 0 es) ∙ ap length told ∙ many }
   verdict_is (V.BadText line) h = absurd h
   verdict_is (V.Illegal n cause) h = record { all = all; form = form; is_text = is_text; holds = h.0; illegal = h.1 }
 

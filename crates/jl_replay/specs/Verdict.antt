@@ -4,7 +4,7 @@ use Rattle.jl_program.specs.declared.tree.Program.{Program}
 use Rattle.jl_calculus.specs.declared.history.Event.{Event}
 use Rattle.jl_calculus.specs.Legal.{IsLegal}
 use Rattle.jl_report.specs.declared.entry.Entry.{Entry}
-use Rattle.jl_report.specs.HistoryText.{entries_text, history_text}
+use Rattle.jl_report.specs.HistoryText.{entries_of, entries_text, history_text}
 use Rattle.jl_history.specs.Form.{AreEntries, IsFirstBad}
 use Rattle.jl_causes.specs.declared.cause.Cause.{Cause}
 use Rattle.jl_causes.specs.declared.cause.Cause.TheVariants.{RunDiffers}
@@ -13,10 +13,11 @@ use Rattle.jl_replay.specs.declared.verdict.Verdict.{Verdict}
 use Rattle.jl_replay.specs.declared.verdict.Verdict.TheVariants as V
 use Rattle.jl_replay.specs.Differs.{IsFirstDifference, AreLegalEntries}
 
--- a legal history of so many events, with this text
+-- a legal history of so many events, whose entries may stand in a text, with this text
 pub record IsLegalText (P : Program) (text : List ℕ) (n : ℕ) : Type 0 where
   pub events : List Event
   pub legal : IsLegal P events
+  pub form : AreEntries (entries_of P events)
   pub is_text : text ≡ history_text P events
   pub many : length events ≡ n
 

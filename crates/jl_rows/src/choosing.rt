@@ -152,7 +152,7 @@ fn find_applicable(
 }
 
 /// The choice for a key of the history in a world. The cost is in the definitions that touch the key.
-pub(crate) fn choose_for_key(
+pub fn choose_for_key(
     alloc: Global,
     ready: &Ready,
     index: &Index,

@@ -8,6 +8,6 @@ mod plan;
 mod rows;
 mod span;
 
-pub use choosing::select;
+pub use choosing::{choose_for_key, select};
 pub use cutting::cut_rows;
 pub use plan::{NewRow, Plan, RowPlan, plan_for_key};
