@@ -391,17 +391,68 @@ ROWS = [
     ("check", "f() = 1\n" * 4_096, ("ok: 0 types, 4096 definitions\n", 0)),
     ("check", "f() = 1\n" * 4_097, fault(4_097, 1, "TooManySites")),
 ]
+
+
+def bad(line):
+    """A history whose first line that is not of the form is this one."""
+    return f"illegal: line {line}: BadText\n", 7
+
+
+def illegal(event, cause):
+    return f"illegal: event {event}: {cause}\n", 7
+
+
 # Histories of the first script, for `replay`.
 REPLAY_ROWS = [
     ("", "", ("legal: 7 events\n", 0)),
-    ("fill 0 14 15", "fill 0 14 14", ("illegal: event 3: FillChoice\n", 7)),
-    ('output "3\\n"', 'output "4\\n"', ("illegal: event 6: RunDiffers\n", 7)),
-    ("end 7", "end 8", ("illegal: line 14: BadText\n", 7)),
-    ("key 0 f Tuple{Int64}", "key 0 q Tuple{Int64}", ("illegal: event 2: KeyUnknown\n", 7)),
-    ("fill 0 14 15", "fill 0 14 16", ("illegal: event 3: FillWorld\n", 7)),
-    ("def 0 14", "def 1 14", ("illegal: event 1: NotRunning\n", 7)),
-    ("look 14 1", "look 15 1", ("illegal: event 6: ItemFalse\n", 7)),
-    ("done 0 2 3", "done 0 3 3", ("illegal: event 6: RunDiffers\n", 7)),
+    ("fill 0 14 15", "fill 0 14 14", illegal(3, "FillChoice")),
+    ('output "3\\n"', 'output "4\\n"', illegal(6, "RunDiffers")),
+    ("end 7", "end 8", bad(14)),
+    ("key 0 f Tuple{Int64}", "key 0 q Tuple{Int64}", illegal(2, "KeyUnknown")),
+    ("fill 0 14 15", "fill 0 14 16", illegal(3, "FillWorld")),
+    ("def 0 14", "def 1 14", illegal(1, "NotRunning")),
+    ("look 14 1", "look 15 1", illegal(6, "ItemFalse")),
+    ("done 0 2 3", "done 0 3 3", illegal(6, "RunDiffers")),
+    ("done 0 2 3", "done 0 2 18446744073709551615", bad(12)),
+    ("done 0 2 3", "done 0 2 18446744073709551616", bad(8)),
+    ("done 0 2 3", "done 0 4294967295 3", illegal(6, "RunDiffers")),
+    ("done 0 2 3", "done 0 4294967296 3", bad(8)),
+    ("def 0 14", "def 0 014", bad(3)),
+    ("def 0 14", "def +0 14", bad(3)),
+    ("def 0 14", "def  0 14", bad(3)),
+    ("def 0 14", "def 0 14 ", bad(3)),
+    ("def 0 14", "def 0 14\r", bad(3)),
+    ("def 0 14", "def 0 15", illegal(1, "Site")),
+    ("def 0 14", "def 0 3", illegal(1, "Site")),
+    ("def 0 14", "def 4294967295 14", illegal(1, "NotRunning")),
+    ("begin 10000000", "begin 2", ("legal: 7 events\n", 0)),
+    ("begin 10000000", "begin 1", illegal(6, "RunDiffers")),
+    ("begin 10000000", "begin 1000000001", bad(2)),
+    ("key 0 f Tuple{Int64}", "key 0 f ", bad(4)),
+    ("key 0 f Tuple{Int64}", "key 0 f", bad(4)),
+    ("key 0 f Tuple{Int64}", "key 0 f Tuple{Int}", illegal(2, "KeyUnknown")),
+    ("key 0 f Tuple{Int64}", "key 0 f Tuple{Int64} ", illegal(2, "KeyUnknown")),
+    ("key 0 f Tuple{Int64}", "key 0 f Tuple{Int64}\r", illegal(2, "KeyUnknown")),
+    ("key 0 f", "key 1 f", illegal(2, "KeyOrder")),
+    ("key 1 + Tuple{Int64, Int64}", "key 1 f Tuple{Int64}", illegal(4, "KeyOrder")),
+    ("fill 0 14 15", "fill 7 14 15", illegal(3, "FillKey")),
+    ("fill 0 14 15", "fill 0 14 0", illegal(3, "FillWorld")),
+    ("fill 0 14 15", "fill 0 14 4294967295", illegal(3, "FillWorld")),
+    ("fill 0 14 15", "fill 0 4294967295 15", illegal(3, "FillChoice")),
+    ("look 15 2", "look 15 6", ("legal: 7 events\n", 0)),
+    ("look 15 2", "look 15 7", illegal(6, "ItemFalse")),
+    ("look 15 2", "look 14 1", illegal(6, "ItemFalse")),
+    ("def 14 1\n", "", bad(11)),
+    ('output "3\\n"', 'output "3\r"', bad(12)),
+    ('output "3\\n"', 'output "3\\r"', illegal(6, "RunDiffers")),
+    ('output "3\\n"', 'output "3\\t"', bad(12)),
+    ('output "3\\n"', 'output "3\\n', bad(12)),
+    ('output "3\\n"', 'output "3\\n\0"', illegal(6, "RunDiffers")),
+    ("outcome value nothing", "outcome value ", bad(13)),
+    ("outcome value nothing", "outcome error nothing", illegal(6, "RunDiffers")),
+    ("end 7", "end 7\nend 7", bad(15)),
+    ("end 7\n", "end 7", bad(14)),
+    ("end 7", "end 4294967303", bad(14)),
 ]
 
 
@@ -416,7 +467,10 @@ def test_replay(part):
     """Histories that are not legal, and all cuts of one that is."""
     for old, new, due in REPLAY_ROWS:
         compare(part, f"replay with {new!r}", ["replay"], (FIRST + HISTORY.replace(old, new, 1) if old else FIRST + HISTORY).encode(), due)
-    compare(part, "replay without a history", ["replay"], FIRST.encode(), ("ERROR: NoHistory\n", 3))
+    for first in ("", "%%history 1\r\n", "%%history 2\n", " %%history 1\n"):
+        compare(part, f"replay without a history, with {first!r}", ["replay"], (FIRST + first).encode(), ("ERROR: NoHistory\n", 3))
+    compare(part, "replay of a history of another script", ["replay"], HISTORY.encode(), illegal(1, "Site"))
+    compare(part, "replay of two histories", ["replay"], (FIRST + "%%history 1\n" + HISTORY).encode(), bad(2))
     for length in range(len("%%history 1\n"), len(HISTORY)):
         ran = ask(["replay"], (FIRST + HISTORY[:length]).encode())
         good = ran.status == 7 and re.fullmatch(rb"illegal: line \d+: BadText\n", ran.out)
