@@ -27,7 +27,7 @@ if [ -x "$binary" ] && ! is_stale; then
     exec "$binary" "$@"
 fi
 cat >&2 << 'END'
-jl: There is no proved binary of these sources; ./build makes it, once, in an hour or so. Until then each run builds the program
+jl: There is no proved binary of these sources; ./build makes it, once, in an hour or two. Until then each run builds the program
 jl: unproved, in some 100 seconds of processor time: a minute where two processors are free. It then runs for at most 60 seconds,
 jl: and its output, at most 1 MiB, is shown at its end.
 END
