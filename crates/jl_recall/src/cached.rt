@@ -1,9 +1,8 @@
 //! A dispatcher over another one.
 
 ghost use Rattle.std.specs.Prelude.{◌≡◌, IfOk};
-ghost use Rattle.jl_recall.specs.Kept.{NoneKept};
 
-use crate::table::{Kept, PLACES, find_by_values, keep};
+use crate::table::{FIRST_PLACES, Kept, empty_table, find_by_values, keep};
 use jl_calculus::history::{DefineFault, FetchFault, Outcome, Seen, SpawnFault};
 use jl_dispatcher::{Dispatcher, Recall, Recalled};
 use jl_model::ty::{Key, Tys};
@@ -15,9 +14,11 @@ use std::marker::Model;
 
 /// A dispatcher over another one, which is told what to remember: methods that were chosen, each for the world in which it was
 /// asked. A call that was answered before in its world is found again in a table, by the numbers of its types, and compared in
-/// place; so it takes no memory. The table has its places from the start. Contracts see the other dispatcher.
+/// place; so it takes no memory. The table has few places at first, and grows as calls come to the places of others. Contracts
+/// see the other dispatcher.
 #[derive(Drop)]
 pub struct Cached<D: Dispatcher + Drop> {
+    alloc: Global,
     inner: D,
     table: Vec<Option<Kept>>,
 }
@@ -34,24 +35,17 @@ impl<D: Dispatcher + Drop> Model for Cached<D> {
     ghost invariant = { λ a. AreKept (D.knows a.inner) a.table.items };
 }
 
-/// A table that keeps nothing.
-fn empty_table(alloc: Global) -> Result<Vec<Option<Kept>>, AllocError>
-    ensures { IfOk result (λ table. NoneKept table.items) }
-{
-    let mut table = Vec::with_capacity(alloc, PLACES)?;
-    for _ in 0..PLACES {
-        table.push(None)?;
-    }
-    Ok(table)
-}
-
 impl<D: Dispatcher + Drop> Cached<D> {
     /// A dispatcher over this one, which remembers nothing yet.
     pub fn new(alloc: Global, inner: D) -> Result<Cached<D>, AllocError>
         ensures { IfOk result (λ cached. cached ≡ inner) }
     {
-        let table = empty_table(alloc)?;
-        Ok(Cached { inner, table })
+        let table = empty_table(alloc, FIRST_PLACES)?;
+        Ok(Cached {
+            alloc,
+            inner,
+            table,
+        })
     }
 
     /// The dispatcher that is asked.
@@ -103,6 +97,7 @@ impl<D: Dispatcher + Drop> Dispatcher for Cached<D> {
 }
 
 impl<D: Dispatcher + Drop> Recall for Cached<D> {
+    #[inline(always)]
     fn recall(&self, function: u32, values: &[Value], world: u32) -> Option<Recalled<'_>> {
         match find_by_values(&self.table, function, values, world) {
             Some(kept) => Some(Recalled {
@@ -120,6 +115,6 @@ impl<D: Dispatcher + Drop> Recall for Cached<D> {
             site,
             statics,
         };
-        keep(&mut self.table, kept);
+        keep(self.alloc, &mut self.table, kept);
     }
 }

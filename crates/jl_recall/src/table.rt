@@ -1,18 +1,23 @@
 //! A table of what was chosen, found by a number that is made of a call.
 
-ghost use Rattle.std.specs.Prelude.{◌≡◌, IsTrue, MatchOption, map};
+ghost use Rattle.std.specs.Prelude.{◌≡◌, ◌⊎◌, IfOk, IsTrue, MatchOption, map};
 ghost use Rattle.jl_model.specs.Ancestors.{named};
 ghost use Rattle.jl_program.specs.TypeOf.{type_of};
-ghost use Rattle.jl_recall.specs.Kept.{IsFound, IsOf, IsPut};
+ghost use Rattle.jl_recall.specs.Kept.{IsFound, IsOf, IsPut, NoneKept};
 
 use jl_model::builtin::{BOOL, INT64, NOTHING, TASK};
 use jl_model::ty::{Key, Ty, Tys};
 use jl_program::value::Value;
 use jl_types::same::same;
+use std::alloc::{AllocError, Global};
 use std::mem;
 
-/// How many calls are remembered. One that comes to the place of another takes it.
-pub(crate) const PLACES: usize = 1_024;
+/// How many places a table has at first: few, since most tasks are short. Each number of places is a power of 2.
+pub(crate) const FIRST_PLACES: usize = 16;
+/// How many places it has after two calls of one world came to one place.
+const MORE_PLACES: usize = 128;
+/// How many places it has after that happened once more. From then on a call that comes to the place of another takes it.
+const MOST_PLACES: usize = 1_024;
 /// The number of bits of a hash that are no place.
 const OTHER_BITS: u32 = 22;
 /// An odd number near 2^32 divided by the golden ratio, which spreads small numbers (Knuth, multiplicative hashing).
@@ -54,22 +59,28 @@ fn mixed(hash: u32, number: u32) -> u32 {
     (hash ^ number).wrapping_mul(SPREAD)
 }
 
-/// The place of a call with these arguments.
-fn place_of_values(function: u32, values: &[Value]) -> usize {
+/// The place of a hash among so many.
+fn place_in(hash: u32, places: usize) -> usize {
+    (hash >> OTHER_BITS) as usize & places.wrapping_sub(1)
+}
+
+/// The place among so many of a call with these arguments.
+#[inline(always)]
+fn place_of_values(places: usize, function: u32, values: &[Value]) -> usize {
     let mut hash = mixed(0, function);
     for value in values {
         hash = mixed(hash, number_of_value(value));
     }
-    (hash >> OTHER_BITS) as usize
+    place_in(hash, places)
 }
 
-/// The place of a call by its key, which is that by its arguments.
-fn place_of(key: &Key) -> usize {
+/// The place among so many of a call by its key, which is that by its arguments.
+fn place_of(places: usize, key: &Key) -> usize {
     let mut hash = mixed(0, key.function);
     for ty in key.types.as_slice() {
         hash = mixed(hash, number_of(ty));
     }
-    (hash >> OTHER_BITS) as usize
+    place_in(hash, places)
 }
 
 /// Whether a type is the nominal one of this number without arguments.
@@ -83,6 +94,7 @@ fn is_named(ty: &Ty, number: u32) -> bool
 }
 
 /// Whether a type is that of a value.
+#[inline(always)]
 fn is_type_of(ty: &Ty, value: &Value) -> bool
     ensures { IsTrue result → type_of value.now ≡ ty.now }
 {
@@ -96,6 +108,7 @@ fn is_type_of(ty: &Ty, value: &Value) -> bool
 }
 
 /// Whether these are the types of these values.
+#[inline(always)]
 fn are_types_of(types: &[Ty], values: &[Value]) -> bool
     ensures { IsTrue result → map type_of values.now ≡ types.now }
 {
@@ -111,6 +124,7 @@ fn are_types_of(types: &[Ty], values: &[Value]) -> bool
 }
 
 /// Whether what is kept is of a call with these arguments in this world.
+#[inline(always)]
 fn is_of_values(kept: &Kept, function: u32, values: &[Value], world: u32) -> bool
     ensures { IsTrue result → IsOf kept.now function (map type_of values.now) world }
 {
@@ -120,6 +134,7 @@ fn is_of_values(kept: &Kept, function: u32, values: &[Value], world: u32) -> boo
 }
 
 /// What is kept for a call with these arguments in a world.
+#[inline(always)]
 pub(crate) fn find_by_values<'t>(
     table: &'t [Option<Kept>],
     function: u32,
@@ -128,7 +143,7 @@ pub(crate) fn find_by_values<'t>(
 ) -> Option<&'t Kept>
     ensures { MatchOption result (Unit {0}) (λ kept. IsFound table.now function (map type_of values.now) world kept.now) }
 {
-    match table.get(place_of_values(function, values)) {
+    match table.get(place_of_values(table.len(), function, values)) {
         Some(Some(kept)) => {
             if is_of_values(kept, function, values, world) {
                 return Some(kept);
@@ -139,14 +154,63 @@ pub(crate) fn find_by_values<'t>(
     }
 }
 
-/// Keeps a call in place of the one that has its place.
-pub(crate) fn keep(table: &mut Vec<Option<Kept>>, kept: Kept)
+/// A table of so many places that keeps nothing.
+pub(crate) fn empty_table(alloc: Global, places: usize) -> Result<Vec<Option<Kept>>, AllocError>
+    ensures { IfOk result (λ table. NoneKept table.items) }
+{
+    let mut table = Vec::with_capacity(alloc, places)?;
+    for _ in 0..places {
+        table.push(None)?;
+    }
+    Ok(table)
+}
+
+/// Whether another call of the same world has the place of this one.
+fn is_taken(table: &[Option<Kept>], kept: &Kept) -> bool {
+    match table.get(place_of(table.len(), &kept.key)) {
+        Some(Some(other)) => other.world == kept.world,
+        _ => false,
+    }
+}
+
+/// Gives a table more places. What it kept goes, since to be asked for once more costs less than to be moved. Where there is no
+/// memory for more, or the table has the most, it stays.
+#[inline(never)]
+fn grow(alloc: Global, table: &mut Vec<Option<Kept>>)
+    ensures { (table.new.items ≡ table.old.items) ⊎ NoneKept table.new.items }
+{
+    if table.len() >= MOST_PLACES {
+        return;
+    }
+    let places = if table.len() < MORE_PLACES {
+        MORE_PLACES
+    } else {
+        MOST_PLACES
+    };
+    match empty_table(alloc, places) {
+        Ok(larger) => drop(mem::replace(table, larger)),
+        Err(_) => {}
+    }
+}
+
+/// Puts a call in place of the one that has its place.
+fn put(table: &mut Vec<Option<Kept>>, kept: Kept)
     ensures { IsPut kept table.old.items table.new.items }
 {
-    let place = place_of(&kept.key);
+    let place = place_of(table.len(), &kept.key);
     if place >= table.len() {
         drop(kept);
         return;
     }
     drop(mem::replace(&mut table[place], Some(kept)));
+}
+
+/// Keeps a call in place of the one that has its place. The table grows first where that one is of the same world.
+pub(crate) fn keep(alloc: Global, table: &mut Vec<Option<Kept>>, kept: Kept)
+    ensures { IsPut kept table.old.items table.new.items }
+{
+    if is_taken(table, &kept) {
+        grow(alloc, table);
+    }
+    put(table, kept);
 }
