@@ -65,6 +65,7 @@ impl<'p> Frames<'p> {
     }
 
     /// The values so far of an expression whose parts are evaluated, or the one value that is given.
+    #[inline(always)]
     pub fn open_values(&self) -> &[Value]
         ensures { result.now ≡ self.now.open_values }
     {
@@ -72,6 +73,7 @@ impl<'p> Frames<'p> {
     }
 
     /// The slots of the body that runs.
+    #[inline(always)]
     pub fn env(&self) -> &[Value]
         ensures { result.now ≡ self.now.env }
     {
@@ -86,6 +88,7 @@ impl<'p> Frames<'p> {
     }
 
     /// A value is open above those that are.
+    #[inline(always)]
     pub fn push(&mut self, value: Value) -> Result<(), AllocError>
         ensures { OnOk result (self.new ≡ opens self.old value) }
     {
@@ -94,6 +97,7 @@ impl<'p> Frames<'p> {
     }
 
     /// The value of a slot.
+    #[inline(always)]
     fn local(&self, slot: u32) -> Result<Value, AllocError>
         ensures { IfOk result (λ v. v ≡ get_or self.now.env slot Nothing) }
     {
@@ -104,6 +108,7 @@ impl<'p> Frames<'p> {
     }
 
     /// The value of a slot is open above those that are.
+    #[inline(always)]
     pub fn push_local(&mut self, slot: u32) -> Result<(), AllocError>
         ensures { OnOk result (self.new ≡ opens self.old (get_or self.old.env slot Nothing)) }
     {
@@ -112,6 +117,7 @@ impl<'p> Frames<'p> {
     }
 
     /// The open values are dropped.
+    #[inline(always)]
     pub fn clear(&mut self)
         ensures { self.new ≡ with_open self.old [] }
     {
@@ -119,6 +125,7 @@ impl<'p> Frames<'p> {
     }
 
     /// The one open value is taken.
+    #[inline(always)]
     pub fn take_one(&mut self) -> Value
         requires one { IsOne self.old }
         ensures value { self.old.open_values ≡ result ∷ [] }

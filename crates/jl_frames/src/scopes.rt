@@ -12,6 +12,7 @@ use jl_program::value::Value;
 use std::alloc::AllocError;
 
 /// The last value of one stack becomes the last of another.
+#[inline(always)]
 fn move_last(values: &mut Vec<Value>, slots: &mut Vec<Value>) -> Result<(), AllocError>
     requires some { 0 < length values.old.items }
     ensures moved { OnOk result ((v : Value) × (values.old.items ≡ values.new.items ++ v ∷ []) × (slots.new.items ≡ slots.old.items ++ v ∷ [])) }
@@ -36,6 +37,7 @@ fn reverse_above(slots: &mut Vec<Value>, place: usize)
 }
 
 /// Values are moved from above a place of one stack to the top of another. Each is popped, which writes nothing where it was.
+#[inline(always)]
 fn move_values(
     values: &mut Vec<Value>,
     from: usize,
@@ -69,6 +71,7 @@ fn push_copies(slots: &mut Vec<Value>, base: usize, count: usize) -> Result<(), 
 }
 
 /// Types are put on top of a stack.
+#[inline(always)]
 fn push_types(types: &mut Vec<Ty>, statics: &[Ty]) -> Result<(), AllocError>
     ensures pushed { OnOk result (types.new.items ≡ types.old.items ++ statics.now) }
     ensures grown { length types.old.items ≤ length types.new.items }
@@ -80,6 +83,7 @@ fn push_types(types: &mut Vec<Ty>, statics: &[Ty]) -> Result<(), AllocError>
 }
 
 /// The slots and the types that no frame keeps are dropped.
+#[inline(always)]
 pub(crate) fn drop_own(slots: &mut Vec<Value>, types: &mut Vec<Ty>, scope: Scope)
     ensures slots { slots.new.items ≡ take scope.kept slots.old.items }
     ensures types { types.new.items ≡ take scope.types_kept types.old.items }
@@ -90,6 +94,7 @@ pub(crate) fn drop_own(slots: &mut Vec<Value>, types: &mut Vec<Ty>, scope: Scope
 
 impl<'p> Frames<'p> {
     /// A body is entered, with the open values in its slots and these types for its static parameters. The frame keeps the scope around it.
+    #[inline(always)]
     pub fn enter(&mut self, world: u32, room: u32, statics: &[Ty]) -> Result<(), AllocError>
         ensures { OnOk result (self.new ≡ enters self.old world room statics.now) }
     {

@@ -20,6 +20,7 @@ fn remove_between(values: &mut Vec<Value>, from: u32, to: u32)
 impl<'p> Frames<'p> {
     /// The topmost frame takes back what was kept for it: an expression its values, below those that are open, a `print` its text, a block its
     /// slots, and an evaluated block and a body the static parameters too.
+    #[inline(always)]
     pub fn take(&mut self) -> Option<Flat<'p>>
         ensures { Popped result self.old self.new }
     {
@@ -63,6 +64,7 @@ impl<'p> Frames<'p> {
     }
 
     /// The topmost frame lets a `return` pass. What was kept for it is dropped, except the scope that a body puts back.
+    #[inline(always)]
     pub fn pass(&mut self) -> Option<Flat<'p>>
         ensures { Passed result self.old self.new }
     {

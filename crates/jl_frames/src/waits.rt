@@ -12,6 +12,7 @@ use std::alloc::AllocError;
 
 impl<'p> Frames<'p> {
     /// An expression waits for a part, and keeps the values that are open.
+    #[inline(always)]
     pub fn wait_args(&mut self, expr: &'p Expr, rest: &'p [Expr]) -> Result<(), AllocError>
         ensures { OnOk result (self.new ≡ waits_args self.old expr.now rest.now) }
     {
@@ -22,6 +23,7 @@ impl<'p> Frames<'p> {
     }
 
     /// A comparison waits for its left side, after which its right side is left.
+    #[inline(always)]
     pub fn wait_second(&mut self, expr: &'p Expr, second: &'p Expr) -> Result<(), AllocError>
         ensures { OnOk result (self.new ≡ waits_args self.old expr.now (second.now ∷ [])) }
     {
@@ -32,6 +34,7 @@ impl<'p> Frames<'p> {
     }
 
     /// An `if`, an `&&` or an `||` waits for its condition.
+    #[inline(always)]
     pub fn wait_test(&mut self, expr: &'p Expr) -> Result<(), AllocError>
         ensures { OnOk result (self.new ≡ waits self.old (Fr.Testing expr.now)) }
     {
@@ -40,6 +43,7 @@ impl<'p> Frames<'p> {
     }
 
     /// A statement of a block waits.
+    #[inline(always)]
     pub fn wait_stmt(&mut self, stmt: &'p Stmt, rest: &'p [Stmt]) -> Result<(), AllocError>
         ensures { OnOk result (self.new ≡ waits self.old (Fr.AfterStmt stmt.now rest.now)) }
     {
@@ -48,6 +52,7 @@ impl<'p> Frames<'p> {
     }
 
     /// A block waits, and keeps the slots around it, which it sees too.
+    #[inline(always)]
     pub fn wait_block(&mut self) -> Result<(), AllocError>
         ensures { OnOk result (self.new ≡ waits self.old (Fr.Block self.old.env)) }
     {
@@ -59,6 +64,7 @@ impl<'p> Frames<'p> {
     }
 
     /// A statement at the top or of an evaluated block waits.
+    #[inline(always)]
     pub fn wait_item(
         &mut self,
         item: &'p Item,

@@ -20,8 +20,9 @@ const MORE_PLACES: usize = 128;
 const MOST_PLACES: usize = 1_024;
 /// The number of bits of a hash that are no place.
 const OTHER_BITS: u32 = 22;
-/// An odd number near 2^32 divided by the golden ratio, which spreads small numbers (Knuth, multiplicative hashing).
-const SPREAD: u32 = 0x9E37_79B1;
+/// An odd number that spreads small numbers (Appleby, MurmurHash3). With the usual 0.618 times 2^32 two arguments would nearly count
+/// by the difference of their numbers alone, since the square of 0.618 is 1 less 0.618.
+const SPREAD: u32 = 0x85EB_CA6B;
 /// What stands for the number of a type that has none.
 const NO_NUMBER: u32 = 0;
 
