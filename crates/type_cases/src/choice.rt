@@ -1,163 +1,177 @@
 //! Which of a few methods a call runs. The methods are numbered from 15 on, and all apply to some list of types.
 
+ghost use Rattle.jl_sig.specs.Prepared.{IsSigOf};
+
 use crate::halt::Halt;
 use crate::signatures::signature;
 use jl_program::choice::Choice;
+use jl_sig::Sig;
 use jl_subsig::{Method, choose_method};
 use jl_types::Table;
 use std::alloc::Global;
 
-/// The choice where this method alone applies.
-fn of_one(alloc: Global, table: &Table, text: &str) -> Result<Choice, Halt> {
-    let first = signature(alloc, table, text)?;
+/// Which of four methods runs. Each signature is read by a function of its own, which alone has it and lets it go by a call: a drop that
+/// is left to the compiler is unrolled into the proof at each way out.
+fn among_four(
+    alloc: Global,
+    table: &Table,
+    first: &Sig,
+    second: &Sig,
+    third: &Sig,
+    fourth: &Sig,
+) -> Result<Choice, Halt>
+    requires first { IsSigOf table.now first.now }
+    requires second { IsSigOf table.now second.now }
+    requires third { IsSigOf table.now third.now }
+    requires fourth { IsSigOf table.now fourth.now }
+{
+    let methods = [
+        Method {
+            number: 15,
+            sig: first,
+        },
+        Method {
+            number: 16,
+            sig: second,
+        },
+        Method {
+            number: 17,
+            sig: third,
+        },
+        Method {
+            number: 18,
+            sig: fourth,
+        },
+    ];
+    Ok(choose_method(alloc, table, &methods)?)
+}
+
+fn among_three(
+    alloc: Global,
+    table: &Table,
+    first: &Sig,
+    second: &Sig,
+    third: &Sig,
+) -> Result<Choice, Halt>
+    requires first { IsSigOf table.now first.now }
+    requires second { IsSigOf table.now second.now }
+    requires third { IsSigOf table.now third.now }
+{
+    let methods = [
+        Method {
+            number: 15,
+            sig: first,
+        },
+        Method {
+            number: 16,
+            sig: second,
+        },
+        Method {
+            number: 17,
+            sig: third,
+        },
+    ];
+    Ok(choose_method(alloc, table, &methods)?)
+}
+
+fn among_two(alloc: Global, table: &Table, first: &Sig, second: &Sig) -> Result<Choice, Halt>
+    requires first { IsSigOf table.now first.now }
+    requires second { IsSigOf table.now second.now }
+{
+    let methods = [
+        Method {
+            number: 15,
+            sig: first,
+        },
+        Method {
+            number: 16,
+            sig: second,
+        },
+    ];
+    Ok(choose_method(alloc, table, &methods)?)
+}
+
+fn among_one(alloc: Global, table: &Table, first: &Sig) -> Result<Choice, Halt>
+    requires first { IsSigOf table.now first.now }
+{
     let methods = [Method {
         number: 15,
-        sig: &first,
+        sig: first,
     }];
     Ok(choose_method(alloc, table, &methods)?)
 }
 
-/// The choice between two methods. Each signature is let go by a call: a drop that is left to the compiler is unrolled into this
-/// function's proof at each way out.
-fn of_two(alloc: Global, table: &Table, first: &str, second: &str) -> Result<Choice, Halt> {
-    let first = signature(alloc, table, first)?;
-    let second = match signature(alloc, table, second) {
-        Ok(second) => second,
-        Err(halt) => {
-            drop(first);
-            return Err(halt);
-        }
-    };
-    let methods = [
-        Method {
-            number: 15,
-            sig: &first,
-        },
-        Method {
-            number: 16,
-            sig: &second,
-        },
-    ];
-    let choice = choose_method(alloc, table, &methods);
-    drop(first);
-    drop(second);
-    Ok(choice?)
-}
-
-/// The choice among three methods.
-fn of_three(
+/// Which of these methods and at most one that is read runs.
+fn after_three(
     alloc: Global,
     table: &Table,
-    first: &str,
-    second: &str,
-    third: &str,
-) -> Result<Choice, Halt> {
-    let first = signature(alloc, table, first)?;
-    let second = match signature(alloc, table, second) {
-        Ok(second) => second,
-        Err(halt) => {
-            drop(first);
-            return Err(halt);
+    first: &Sig,
+    second: &Sig,
+    third: &Sig,
+    texts: &[&str],
+) -> Result<Choice, Halt>
+    requires first { IsSigOf table.now first.now }
+    requires second { IsSigOf table.now second.now }
+    requires third { IsSigOf table.now third.now }
+{
+    match texts {
+        [] => among_three(alloc, table, first, second, third),
+        [text] => {
+            let fourth = signature(alloc, table, text)?;
+            let choice = among_four(alloc, table, first, second, third, &fourth);
+            drop(fourth);
+            choice
         }
-    };
-    let third = match signature(alloc, table, third) {
-        Ok(third) => third,
-        Err(halt) => {
-            drop(first);
-            drop(second);
-            return Err(halt);
-        }
-    };
-    let methods = [
-        Method {
-            number: 15,
-            sig: &first,
-        },
-        Method {
-            number: 16,
-            sig: &second,
-        },
-        Method {
-            number: 17,
-            sig: &third,
-        },
-    ];
-    let choice = choose_method(alloc, table, &methods);
-    drop(first);
-    drop(second);
-    drop(third);
-    Ok(choice?)
+        _ => Err(Halt::Unread),
+    }
 }
 
-/// The choice among four methods.
-fn of_four(
+/// Which of these methods and those that are read runs.
+fn after_two(
     alloc: Global,
     table: &Table,
-    first: &str,
-    second: &str,
-    third: &str,
-    fourth: &str,
-) -> Result<Choice, Halt> {
-    let first = signature(alloc, table, first)?;
-    let second = match signature(alloc, table, second) {
-        Ok(second) => second,
-        Err(halt) => {
-            drop(first);
-            return Err(halt);
-        }
-    };
-    let third = match signature(alloc, table, third) {
-        Ok(third) => third,
-        Err(halt) => {
-            drop(first);
-            drop(second);
-            return Err(halt);
-        }
-    };
-    let fourth = match signature(alloc, table, fourth) {
-        Ok(fourth) => fourth,
-        Err(halt) => {
-            drop(first);
-            drop(second);
+    first: &Sig,
+    second: &Sig,
+    texts: &[&str],
+) -> Result<Choice, Halt>
+    requires first { IsSigOf table.now first.now }
+    requires second { IsSigOf table.now second.now }
+{
+    match texts {
+        [] => among_two(alloc, table, first, second),
+        [text, rest @ ..] => {
+            let third = signature(alloc, table, text)?;
+            let choice = after_three(alloc, table, first, second, &third, rest);
             drop(third);
-            return Err(halt);
+            choice
         }
-    };
-    let methods = [
-        Method {
-            number: 15,
-            sig: &first,
-        },
-        Method {
-            number: 16,
-            sig: &second,
-        },
-        Method {
-            number: 17,
-            sig: &third,
-        },
-        Method {
-            number: 18,
-            sig: &fourth,
-        },
-    ];
-    let choice = choose_method(alloc, table, &methods);
-    drop(first);
-    drop(second);
-    drop(third);
-    drop(fourth);
-    Ok(choice?)
+    }
+}
+
+fn after_one(alloc: Global, table: &Table, first: &Sig, texts: &[&str]) -> Result<Choice, Halt>
+    requires first { IsSigOf table.now first.now }
+{
+    match texts {
+        [] => among_one(alloc, table, first),
+        [text, rest @ ..] => {
+            let second = signature(alloc, table, text)?;
+            let choice = after_two(alloc, table, first, &second, rest);
+            drop(second);
+            choice
+        }
+    }
 }
 
 /// The choice among at most four methods.
 fn of_all(alloc: Global, table: &Table, texts: &[&str]) -> Result<Choice, Halt> {
     match texts {
         [] | [""] => Ok(choose_method(alloc, table, &[])?),
-        [first] => of_one(alloc, table, first),
-        [first, second] => of_two(alloc, table, first, second),
-        [first, second, third] => of_three(alloc, table, first, second, third),
-        [first, second, third, fourth] => of_four(alloc, table, first, second, third, fourth),
-        _ => Err(Halt::Unread),
+        [text, rest @ ..] => {
+            let first = signature(alloc, table, text)?;
+            let choice = after_one(alloc, table, &first, rest);
+            drop(first);
+            choice
+        }
     }
 }
 

@@ -59,13 +59,23 @@ pub fn variables_of<'a>(alloc: Global, text: &'a str) -> Result<Vec<VarText<'a>>
     Ok(variables)
 }
 
+/// The bounds of a variable.
+fn read_bound(alloc: Global, scope: Scope, variable: &VarText) -> Result<Bound, AllocError> {
+    let low = read_type(alloc, scope, variable.low)?;
+    match read_type(alloc, scope, variable.high) {
+        Ok(high) => Ok(Bound { low, high }),
+        Err(error) => {
+            drop(low);
+            Err(error)
+        }
+    }
+}
+
 /// The bounds of the variables of a scope.
 fn read_bounds(alloc: Global, scope: Scope) -> Result<Bounds, AllocError> {
     let mut bounds = Vec::new(alloc);
     for variable in scope.vars {
-        let low = read_type(alloc, scope, variable.low)?;
-        let high = read_type(alloc, scope, variable.high)?;
-        bounds.push(Bound { low, high })?;
+        bounds.push(read_bound(alloc, scope, variable)?)?;
     }
     Bounds::from_vec(alloc, bounds)
 }
@@ -133,11 +143,14 @@ pub fn read_declaration(
         own: name,
         vars: vars.as_slice(),
     };
+    let name = Bytes::from_vec(alloc, Vec::from_slice(alloc, name.as_bytes())?)?;
+    let params = read_bounds(alloc, scope)?;
+    let fields = read_fields(alloc, scope, fields)?;
     Ok(Decl {
-        name: Bytes::from_vec(alloc, Vec::from_slice(alloc, name.as_bytes())?)?,
+        name,
         kind,
-        params: read_bounds(alloc, scope)?,
+        params,
         parent: read_type(alloc, scope, parent)?,
-        fields: read_fields(alloc, scope, fields)?,
+        fields,
     })
 }

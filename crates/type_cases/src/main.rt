@@ -32,6 +32,7 @@ mod writing;
 use crate::cases::Cases;
 use crate::halt::Halt;
 use std::io::{self, BufRead, BufReader};
+use std::mem;
 
 /// Writes the answer to a line: behind it, or below it where it has lines of its own.
 fn show(rt: &HostRuntime, line: &str, word: &str, answer: Result<String, Halt>) -> io::Result<()> {
@@ -50,7 +51,7 @@ fn take(rt: &HostRuntime, cases: &mut Cases, line: &str) -> io::Result<()> {
     match word {
         "" | "#" => println!(rt; "{line}"),
         "table" => {
-            *cases = Cases::new(rt.alloc())?;
+            drop(mem::replace(cases, Cases::new(rt.alloc())?));
             println!(rt; "{line}")
         }
         _ => {
@@ -60,11 +61,18 @@ fn take(rt: &HostRuntime, cases: &mut Cases, line: &str) -> io::Result<()> {
     }
 }
 
-fn main(rt: HostRuntime) -> io::Result<()> {
+/// Takes all lines.
+fn take_all(rt: &HostRuntime, cases: &mut Cases) -> io::Result<()> {
     let alloc = rt.alloc();
-    let mut cases = Cases::new(alloc)?;
     for line in BufReader::new(alloc, rt.reader())?.lines(alloc) {
-        take(&rt, &mut cases, line?.as_str())?;
+        take(rt, cases, line?.as_str())?;
     }
     Ok(())
+}
+
+fn main(rt: HostRuntime) -> io::Result<()> {
+    let mut cases = Cases::new(rt.alloc())?;
+    let taken = take_all(&rt, &mut cases);
+    drop(cases);
+    taken
 }

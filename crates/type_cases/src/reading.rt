@@ -89,15 +89,22 @@ struct Reader<'a> {
 }
 
 impl<'a> Reader<'a> {
+    /// Adds so many copies of a type.
+    fn push_copies(&mut self, ty: &Ty, count: u32) -> Result<(), AllocError> {
+        for _ in 0..count {
+            self.types.push(ty.copy()?)?;
+        }
+        Ok(())
+    }
+
     /// Adds a type as often as its name says.
     fn push(&mut self, word: &[u8], parts: Tys) -> Result<(), AllocError> {
         let text = str::from_utf8(word).unwrap_or("");
         let (count, name) = text.split_once('*').unwrap_or(("1", text));
         let ty = self.scope.named(name, parts);
-        for _ in 0..count.parse::<u32>().unwrap_or(1).min(MOST) {
-            self.types.push(ty.copy()?)?;
-        }
-        Ok(())
+        let pushed = self.push_copies(&ty, count.parse::<u32>().unwrap_or(1).min(MOST));
+        drop(ty);
+        pushed
     }
 
     /// Takes the name that was read.
@@ -133,6 +140,14 @@ impl<'a> Reader<'a> {
         self.push(open.name.as_slice(), parts)
     }
 
+    /// Takes a text to its end.
+    fn take_all(&mut self, alloc: Global, text: &str) -> Result<(), AllocError> {
+        for byte in text.as_bytes() {
+            self.take(alloc, *byte)?;
+        }
+        self.end_word(alloc)
+    }
+
     /// Takes a character.
     fn take(&mut self, alloc: Global, byte: u8) -> Result<(), AllocError> {
         match byte {
@@ -155,11 +170,13 @@ pub fn read_types(alloc: Global, scope: Scope, text: &str) -> Result<Vec<Ty>, Al
         open: Vec::new(alloc),
         word: Vec::new(alloc),
     };
-    for byte in text.as_bytes() {
-        reader.take(alloc, *byte)?;
+    match reader.take_all(alloc, text) {
+        Ok(()) => Ok(reader.types),
+        Err(error) => {
+            drop(reader);
+            Err(error)
+        }
     }
-    reader.end_word(alloc)?;
-    Ok(reader.types)
 }
 
 /// The last type that is written so; `Any` where there is none.

@@ -1,5 +1,9 @@
 //! The answers about types and their declarations.
 
+ghost use Rattle.std.specs.Prelude.{IsTrue, length};
+ghost use Rattle.jl_model.specs.Valid.{is_known};
+ghost use Rattle.jl_types.specs.Ground.{IsGround};
+
 use crate::halt::Halt;
 use crate::heads::read_declaration;
 use crate::reading::{Scope, read_type, read_types};
@@ -66,14 +70,19 @@ pub fn names(alloc: Global, table: &Table) -> Result<String, Halt> {
 /// The normal form of a type.
 pub fn normal_form(alloc: Global, table: &Table, ty: &Ty) -> Result<String, Halt> {
     let form = form_of(alloc, table, ty)?;
-    Ok(type_text(alloc, plain_scope(table), &form)?)
+    let text = type_text(alloc, plain_scope(table), &form);
+    drop(form);
+    Ok(text?)
 }
 
 /// How many nodes the normal form of a type has.
 pub fn node_count(alloc: Global, table: &Table, text: &str) -> Result<String, Halt> {
     let ty = read_type(alloc, plain_scope(table), text)?;
-    let form = form_of(alloc, table, &ty)?;
+    let form = form_of(alloc, table, &ty);
+    drop(ty);
+    let form = form?;
     let count = nodes_within(&form, MOST_NODES);
+    drop(form);
     Ok(format!(in alloc; "{count}")?)
 }
 
@@ -84,6 +93,20 @@ pub struct Pair {
     pub is_same: bool,
 }
 
+/// How a normal form stands to a type.
+fn pair_with(alloc: Global, table: &Table, form: &Ty, ty: &Ty) -> Result<Pair, Halt>
+    requires form { IsGround table.now form.now }
+    requires ty { IsTrue (is_known (length table.now) ty.now) }
+{
+    let other = norm(alloc, table, ty)?;
+    let pair = Pair {
+        is_below: ground_sub(table, form, &other),
+        is_same: same(form, &other),
+    };
+    drop(other);
+    Ok(pair)
+}
+
 /// How a type stands to another.
 pub fn pair_of(alloc: Global, table: &Table, a: &Ty, b: &Ty) -> Result<Pair, Halt> {
     let count = u64::from(table.count());
@@ -91,11 +114,9 @@ pub fn pair_of(alloc: Global, table: &Table, a: &Ty, b: &Ty) -> Result<Pair, Hal
         return Err(Halt::Unknown);
     }
     let a = norm(alloc, table, a)?;
-    let b = norm(alloc, table, b)?;
-    Ok(Pair {
-        is_below: ground_sub(table, &a, &b),
-        is_same: same(&a, &b),
-    })
+    let pair = pair_with(alloc, table, &a, b);
+    drop(a);
+    pair
 }
 
 /// The word for two that are below one another or not.
@@ -108,22 +129,42 @@ pub fn standing(is_below: bool, is_above: bool) -> &'static str {
     }
 }
 
+fn compare(alloc: Global, table: &Table, left: &Ty, right: &Ty) -> Result<&'static str, Halt> {
+    let below = pair_of(alloc, table, left, right)?;
+    let above = pair_of(alloc, table, right, left)?;
+    Ok(standing(below.is_below, above.is_below))
+}
+
+/// How a type stands to one that is read.
+fn standing_to(alloc: Global, table: &Table, left: &Ty, right: &str) -> Result<&'static str, Halt> {
+    let right = read_type(alloc, plain_scope(table), right)?;
+    let answer = compare(alloc, table, left, &right);
+    drop(right);
+    answer
+}
+
 /// How two types stand to one another.
 pub fn type_standing(alloc: Global, table: &Table, text: &str) -> Result<&'static str, Halt> {
     let (left, right) = text.split_once(" | ").unwrap_or((text, ""));
     let left = read_type(alloc, plain_scope(table), left)?;
-    let right = read_type(alloc, plain_scope(table), right)?;
-    let below = pair_of(alloc, table, &left, &right)?;
-    let above = pair_of(alloc, table, &right, &left)?;
-    Ok(standing(below.is_below, above.is_below))
+    let answer = standing_to(alloc, table, &left, right);
+    drop(left);
+    answer
 }
 
 /// The arguments of a type or of its ancestor, or none.
 pub fn above(alloc: Global, table: &Table, text: &str) -> Result<String, Halt> {
     let (left, name) = text.split_once(" | ").unwrap_or((text, ""));
+    let ty = read_type(alloc, plain_scope(table), left)?;
+    let answer = above_type(alloc, table, &ty, name);
+    drop(ty);
+    answer
+}
+
+/// The arguments of a type or of its ancestor of this name, or none.
+fn above_type(alloc: Global, table: &Table, ty: &Ty, name: &str) -> Result<String, Halt> {
     let scope = plain_scope(table);
-    let ty = read_type(alloc, scope, left)?;
-    let Ty::Nominal(number, arguments) = &ty else {
+    let Ty::Nominal(number, arguments) = ty else {
         return Err(Halt::Unknown);
     };
     if *number >= table.count() {
@@ -144,7 +185,11 @@ pub fn found(alloc: Global, table: &Table, text: &str) -> Result<String, Halt> {
     let types = read_types(alloc, scope, types)?;
     let variable = number.parse::<usize>().unwrap_or(0);
     match first_argument(variable, patterns.as_slice(), types.as_slice())? {
-        Some(ty) => Ok(type_text(alloc, scope, &ty)?),
+        Some(ty) => {
+            let text = type_text(alloc, scope, &ty);
+            drop(ty);
+            Ok(text?)
+        }
         None => Ok(format!(in alloc; "none")?),
     }
 }
