@@ -1,6 +1,7 @@
 -- What is asked of a state where a step is to be made.
-use Rattle.std.specs.Prelude.{ℕ, ◌≡◌, ◌↔◌, ◌&&◌, ◌||◌, Bool, true, false, nat_eq, nat_lt, nat_le, List, [], ◌∷◌, length, take, slice_get, Option, None, Some}
+use Rattle.std.specs.Prelude.{ℕ, ◌≡◌, ◌≤◌, ◌&&◌, ◌||◌, Bool, true, false, nat_eq, nat_lt, nat_le, List, [], ◌∷◌, length, take, slice_get, Option, None, Some}
 use Rattle.jl_model.specs.declared.ty.Key.{Key}
+use Rattle.jl_program.specs.declared.choice.Choice.{Choice}
 use Rattle.jl_program.specs.declared.choice.Choice.TheVariants as Ch
 use Rattle.jl_program.specs.declared.tree.Program.{Program}
 use Rattle.jl_program.specs.Prelude.{prelude_count}
@@ -34,6 +35,18 @@ pub record HasMethod (P : Program) (es : List Event) (number w : ℕ) : Type 0 w
   pub key : Key
   pub named : slice_get (keys_of es) number ≡ Some key
   pub choice : (d : ℕ) × Selects P es key.function key.types w (Ch.Method d)
+
+-- a choice is that for the key of a number in a world, which is there
+pub record IsChoice (P : Program) (es : List Event) (number w : ℕ) (choice : Choice) : Type 0 where
+  pub key : Key
+  pub named : slice_get (keys_of es) number ≡ Some key
+  pub known : w ≤ world_of es
+  pub selects : Selects P es key.function key.types w choice
+
+-- or there is no such key or no such world
+abbrev pub IsChoiceOrNone : Program → List Event → ℕ → ℕ → Option Choice → Type 0
+IsChoiceOrNone P es number w None = (key : Key) → slice_get (keys_of es) number ≡ Some key → w ≤ world_of es → ⊥
+IsChoiceOrNone P es number w (Some choice) = IsChoice P es number w choice
 
 -- ---- the definitions and spawns of a task
 

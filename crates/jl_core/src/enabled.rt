@@ -6,14 +6,14 @@ ghost use Rattle.jl_program.specs.declared.prelude.TheConstants.{FIRST_WORLD};
 ghost use Rattle.jl_calculus.specs.Core.{IsFree, Knows, CanName, CanSearch, CanRead, CanFill, CanOpen, CanCut, CanPublish, CanSpawn, CanEnd, CanFetch};
 ghost use Rattle.jl_calculus.specs.Legal.{IsRunning};
 ghost use Rattle.jl_calculus.specs.World.{world_of};
-ghost use Rattle.jl_core.specs.Asked.{HasMethod};
+ghost use Rattle.jl_core.specs.Asked.{HasMethod, IsChoiceOrNone};
 ghost use Rattle.jl_core.specs.Reached.{KnowsOne};
 ghost use Rattle.jl_core.specs.State.{MayMake};
 
 use crate::events::{count_keys, done_of, has_key, key_at, world_of};
 use crate::keys::is_key_of;
 use crate::mention::{in_outcome, in_start};
-use crate::range::{range_of, touches};
+use crate::range::{range_of, select, touches};
 use crate::state::Core;
 use crate::task::last_search;
 use crate::trace::{has_own_events, has_true_trace};
@@ -22,6 +22,7 @@ use jl_calculus::history::Record;
 use jl_calculus::step::Step;
 use jl_model::limits::{MOST_TASKS, MOST_WORLDS};
 use jl_model::ty::Key;
+use jl_program::choice::Choice;
 use jl_program::prelude::PRELUDE_SITES;
 use jl_program::tree::Start;
 use jl_sig::Ready;
@@ -52,6 +53,29 @@ fn are_among(numbers: &[u32], sought: &[u32]) -> bool
 }
 
 impl Core {
+    /// The choice for the key of a number in a world, by all definitions up to it; none exactly where there is no such key or no
+    /// such world yet.
+    pub fn choice(
+        &self,
+        alloc: Global,
+        ready: &Ready,
+        key: u32,
+        world: u32,
+    ) -> Result<Option<Choice>, AllocError>
+        requires { ready.now ≡ self.now.program }
+        ensures { IfOk result (IsChoiceOrNone self.now.program self.now.core.events key world) }
+    {
+        let events = self.events.as_slice();
+        let Some(named) = key_at(events, key) else {
+            return Ok(None);
+        };
+        if world as usize > world_of(events) {
+            return Ok(None);
+        }
+        let choice = select(alloc, ready, events, named, world)?;
+        Ok(Some(choice))
+    }
+
     /// Whether a task was started and has not ended.
     fn is_running(&self, task: u32) -> bool
         ensures { IsTrue result ↔ IsRunning self.now.core.events task }
