@@ -32,7 +32,7 @@ pub fn words_of(alloc: Global, text: &str) -> Result<Vec<&str>, AllocError> {
 /// The number at a place; the greatest where there is none.
 pub fn number_at(words: &[&str], place: usize) -> u32 {
     match words.get(place) {
-        Some(word) => number(word),
+        Some(word) => number(*word),
         None => u32::MAX,
     }
 }
@@ -84,7 +84,7 @@ fn take_type(
 fn read_types(alloc: Global, table: &Table, words: &[&str]) -> Result<Tys, AllocError> {
     let mut stack = Vec::new(alloc);
     for word in words {
-        take_type(alloc, table, &mut stack, word)?;
+        take_type(alloc, table, &mut stack, *word)?;
     }
     Tys::from_vec(alloc, stack)
 }
@@ -102,7 +102,7 @@ fn find_function(program: &Program, name: &str) -> u32 {
 /// The key of words: a function, and types.
 pub fn read_key(alloc: Global, ready: &Ready, words: &[&str]) -> Result<Key, AllocError> {
     let name = match words.first() {
-        Some(word) => word,
+        Some(word) => *word,
         None => "",
     };
     Ok(Key {
@@ -120,7 +120,7 @@ fn read_start(
 ) -> Result<Start, AllocError> {
     let mut env = Vec::new(alloc);
     for task in tasks {
-        env.push(Value::Task(number(task)))?;
+        env.push(Value::Task(number(*task)))?;
     }
     Ok(Start {
         spawn: place,

@@ -1,6 +1,8 @@
 -- What is asked of a state where a step is to be made, put together.
 use Rattle.std.proofs.Common.{◌≡◌, ◌∙◌, ap, sym, subst, refl, ℕ, zero, suc, ◌+◌, ◌<◌, ◌≤◌, ◌⊎◌, ◌↔◌, inl, inr, arith, Bool, true, false, ◌&&◌, ◌||◌, nat_eq, nat_lt, nat_le, IsTrue, List, [], ◌∷◌, map, length, take, get_or, slice_get, slice_index_or, Option, None, Some}
+use Rattle.std.specs.Bool.{Decides}
 use Rattle.std.specs.List.{Contains}
+use Rattle.jl_model.specs.declared.limits.TheConstants.{MOST_WORLDS, MOST_TASKS}
 use Rattle.jl_model.specs.declared.ty.Key.{Key}
 use Rattle.jl_program.specs.Prelude.{prelude_count}
 use Rattle.jl_program.specs.declared.choice.Choice.TheVariants as Ch
@@ -12,7 +14,7 @@ use Rattle.jl_calculus.specs.declared.history.Record.{Record}
 use Rattle.jl_calculus.specs.Core as C
 use Rattle.jl_calculus.specs.Kept.{Places}
 use Rattle.jl_calculus.specs.Legal.{IsKeyOf, AreTrueOf, first_place}
-use Rattle.jl_calculus.specs.Past.{IsInOrder, own_events, own_items}
+use Rattle.jl_calculus.specs.Past.{tasks_of, IsInOrder, own_events, own_items}
 use Rattle.jl_calculus.specs.Ranges.{CacheRow, keys_of, rows_of, Covers, IsCovered, IsCoveredBy}
 use Rattle.jl_calculus.specs.Words.{IsLastWorld, IsLastWith, IsRowWords}
 use Rattle.jl_calculus.specs.World.{world_of, Selects}
@@ -336,3 +338,16 @@ module _ (P : Program) (room : Places) (s : C.Core) (task : ℕ) where
 
   pub no_search : search_by (slice_get s.tasks task) ≡ None → C.CanRead P room s task → ⊥
   no_search e (t, search, r, at) = some_or_none (search_by (slice_get s.tasks task)) search e (search_is t search at.at at.searching)
+
+-- ---- keys, sites and spawns
+
+pub name_where : (P : Program) (room : Places) (s : C.Core) (task : ℕ) (key : Key) (b : Bool) → C.IsFree P room s task → length (keys_of s.events) < room.keys → (Contains (keys_of s.events) key → ⊥)
+    → Decides b (IsKeyOf P key) → IsTrue b ↔ C.CanName P room s task key
+name_where P room s task key b free place new h = (λ t. record { free = free; proper = h.0 t; new = new; place = place }, λ k. h.1 k.proper)
+
+pub open_where : (P : Program) (room : Places) (s : C.Core) (task site : ℕ) (b : Bool) → prelude_count ≤ site → site < length P.sites → world_of s.events < MOST_WORLDS → IsTrue b ↔ C.IsFree P room s task → IsTrue b ↔ C.CanOpen P room s task site
+open_where P room s task site b low high place h = (λ t. record { free = h.0 t; past_prelude = low; of_program = high; place = place }, λ k. h.1 k.free)
+
+pub spawn_where : (P : Program) (room : Places) (s : C.Core) (task : ℕ) (start : Start) (b : Bool) → C.IsFree P room s task → tasks_of s.events < MOST_TASKS → start.spawn < length P.spawns → C.HasSeenWorld P room s task start.world
+    → IsTrue b ↔ C.Knows P room s task (C.in_start start) → IsTrue b ↔ C.CanSpawn P room s task start
+spawn_where P room s task start b free place of world h = (λ t. record { free = free; place = place; of_program = of; world = world; known = h.0 t }, λ k. h.1 k.known)
