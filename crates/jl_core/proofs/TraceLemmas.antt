@@ -49,9 +49,9 @@ first_same : (a b : TraceItem) (xs ys : List TraceItem) → a ∷ xs ≡ b ∷ y
 first_same a b xs ys h = cc
 
 pub other_follows : (p : ℕ) (e : Event) (trace rest behind : List TraceItem) (item : TraceItem) → IsNextOwn trace item behind → (item_of p e ≡ Some item → ⊥) → FollowsEvent p e trace rest → ⊥
-other_follows p e trace rest behind item next no (other, is, also) =
+other_follows p e trace rest behind item next differs (other, is, also) =
     let k : other ≡ item = first_same other item (own_items rest) (own_items behind) (sym also ∙ next) in
-    no (is ∙ ap (λ x. Some x) k)
+    differs (is ∙ ap (λ x. Some x) k)
 
 -- what follows the first definition or spawn
 behind_of : (xs : List TraceItem) (x : TraceItem) (ys : List TraceItem) → own_items xs ≡ x ∷ ys → (zs : List TraceItem) × IsNextOwn xs x zs
@@ -116,11 +116,11 @@ module _ (es : List Event) (task : ℕ) (trace rest : List TraceItem) (i : ℕ) 
 
   -- one of this task that does not follow
   pub miss_event : is_by task e ≡ true → ((behind : List TraceItem) → FollowsEvent i e rest behind → ⊥) → own_events task 0 es ≡ own_items trace → ⊥
-  miss_event h no q =
+  miss_event h misses q =
       let (item, is) = item_some task i e h in
       let k : own_items rest ≡ item ∷ own_events task (i + 1) (drop (i + 1) es) = sym (so_far.1 q) ∙ ap (own_events task i) cut ∙ item_there task i e (drop (i + 1) es) h item is in
       let (zs, next) = behind_of rest item (own_events task (i + 1) (drop (i + 1) es)) k in
-      no zs (item, is, next)
+      misses zs (item, is, next)
 
 -- behind the last event
 pub own_ends : (es : List Event) (task : ℕ) (trace rest : List TraceItem) (i : ℕ) → length es ≤ i → AreOwnFrom es task trace rest i → (own_items rest ≡ []) ↔ (own_events task 0 es ≡ own_items trace)

@@ -335,15 +335,33 @@ impl Core {
     {
         match step {
             Step::Look { task } => Ok(self.is_running(*task)),
-            Step::Key { task, key } => self.may_name(alloc, ready, *task, key),
+            Step::Key { task, key } => {
+                let yes = self.may_name(alloc, ready, *task, key)?;
+                Ok(yes)
+            }
             Step::Head { task, key, world } => Ok(self.may_search(*task, *key, *world)),
             Step::Row { task } => Ok(self.may_read(*task)),
-            Step::Fill { task, key, world } => self.may_fill(alloc, ready, *task, *key, *world),
+            Step::Fill { task, key, world } => {
+                let yes = self.may_fill(alloc, ready, *task, *key, *world)?;
+                Ok(yes)
+            }
             Step::Open { task, site } => Ok(self.may_open(*task, *site)),
-            Step::Cut { row } => self.may_cut(alloc, ready, *row),
-            Step::Publish => self.may_publish(alloc, ready),
-            Step::Spawn { task, start } => self.may_spawn(alloc, *task, start),
-            Step::Done { task, ended } => self.may_end(alloc, *task, ended),
+            Step::Cut { row } => {
+                let yes = self.may_cut(alloc, ready, *row)?;
+                Ok(yes)
+            }
+            Step::Publish => {
+                let yes = self.may_publish(alloc, ready)?;
+                Ok(yes)
+            }
+            Step::Spawn { task, start } => {
+                let yes = self.may_spawn(alloc, *task, start)?;
+                Ok(yes)
+            }
+            Step::Done { task, ended } => {
+                let yes = self.may_end(alloc, *task, ended)?;
+                Ok(yes)
+            }
             Step::Fetch { task, of } => Ok(self.may_fetch(*task, *of)),
         }
     }

@@ -11,32 +11,20 @@ use Rattle.jl_core.proofs.AskLemmas.{no_name, method_there, no_method, few_known
 use Rattle.jl_core.proofs.EnabledLemmas.{yes_where, no_where, none_told, key_proper}
 use Rattle.jl_core.proofs.state.Core.has_method.Goals as goal
 
-pub returns-in_default : goal.returns-in_default
-returns-in_default c =
-    let a = c.self.inside in
-    let told =
-    none_told c.key_at.result (slice_get (keys_of c.as_slice-events.result.now) c.args.key ≡ None) (λ (key : Bor Key). slice_get (keys_of c.as_slice-events.result.now) c.args.key ≡ Some key.now) c.in_default.is c.key_at.ensures in
-    subst (λ s. IsTrue false ↔ HasMethod s.program s.core.events c.args.key c.args.world) c.self.view_is
-    (no_where (no_name _ a.events.items c.args.key c.args.world (ap (λ es. slice_get (keys_of es) c.args.key) (sym c.as_slice-events.ensures.value) ∙ told)))
-
-pub range_of-found-requires-clause-key : goal.range_of-found-requires-clause-key
-range_of-found-requires-clause-key c =
+pub range_of-requires-clause-key : goal.range_of-requires-clause-key
+range_of-requires-clause-key c =
     let a = c.self.inside in
     let named = ap (λ es. slice_get (keys_of es) c.args.key) (sym c.as_slice-events.ensures.value) ∙ c.in-Some.ensures in
     let same : c.args.ready.now ≡ a.program = c.requires.program ∙ sym (ap (λ (s : State). s.program) c.self.view_is) in
     subst (λ P. IsKeyOf P c.in-Some.named.now) (sym same) (key_proper _ _ (core_of a) _ c.self.invariant c.args.key c.in-Some.named.now named)
 
-pub range_of-found-requires-clause-high : goal.range_of-found-requires-clause-high
-range_of-found-requires-clause-high c =
-    omega (arith, c.requires.high, ap (λ (s : State). world_of s.core.events) c.self.view_is, ap world_of c.as_slice-events.ensures.value)
-
-pub range_of-found-requires-clause-few : goal.range_of-found-requires-clause-few
-range_of-found-requires-clause-few c =
+pub range_of-requires-clause-few : goal.range_of-requires-clause-few
+range_of-requires-clause-few c =
     let a = c.self.inside in
     omega (arith, few_known _ _ (core_of a) _ c.self.invariant, ap world_of c.as_slice-events.ensures.value)
 
-pub returns-in-Some : goal.returns-in-Some
-returns-in-Some c =
+pub returns-in-Some-found : goal.returns-in-Some-found
+returns-in-Some-found c =
     let a = c.self.inside in
     let named = ap (λ es. slice_get (keys_of es) c.args.key) (sym c.as_slice-events.ensures.value) ∙ c.in-Some.ensures in
     let same : c.args.ready.now ≡ a.program = c.requires.program ∙ sym (ap (λ (s : State). s.program) c.self.view_is) in

@@ -8,18 +8,6 @@ use Rattle.jl_core.proofs.AskLemmas.{refuted, no_place, is_there, fill_where}
 use Rattle.jl_core.proofs.EnabledLemmas.{no_where}
 use Rattle.jl_core.proofs.state.Core.may_fill.Goals as goal
 
-pub returns-then-not-is_free : goal.returns-then-not-is_free
-returns-then-not-is_free c = refuted c.is_free.result c.is_free.ensures c.if-not-is_free.true (λ k. k.free)
-
-pub returns-then-not-has_seen : goal.returns-then-not-has_seen
-returns-then-not-has_seen c = refuted c.has_seen.result c.has_seen.ensures c.if-not-has_seen.true (λ k. k.seen)
-
-pub returns-then-len-rows : goal.returns-then-len-rows
-returns-then-len-rows c =
-    let a = c.self.inside in
-    subst (λ s. IsTrue false ↔ CanFill s.program s.room s.core c.args.task c.args.key c.args.world) c.self.view_is
-    (no_where (no_place _ _ (core_of a) _ c.self.invariant c.args.task c.args.key c.args.world (omega (arith, c.if-len-rows.true, c.len.ensures, a.words.ok.0))))
-
 pub returns-then-is_covered : goal.returns-then-is_covered
 returns-then-is_covered c =
     let a = c.self.inside in
@@ -27,11 +15,8 @@ returns-then-is_covered c =
     subst (λ s. IsTrue false ↔ CanFill s.program s.room s.core c.args.task c.args.key c.args.world) c.self.view_is
     (no_where (is_there _ _ (core_of a) _ c.self.invariant c.args.task c.args.key c.args.world any))
 
-pub has_method-chosen-requires-clause-low : goal.has_method-chosen-requires-clause-low
-has_method-chosen-requires-clause-low c = (c.has_seen.ensures.0 c.if-not-has_seen.false).low
-
-pub has_method-chosen-requires-clause-high : goal.has_method-chosen-requires-clause-high
-has_method-chosen-requires-clause-high c =
+pub has_method-requires-clause-high : goal.has_method-requires-clause-high
+has_method-requires-clause-high c =
     let k = c.has_seen.ensures.0 c.if-not-has_seen.false in
     omega (arith, k.high, first_at_most c.args.self.now.core.events k.state.seen)
 

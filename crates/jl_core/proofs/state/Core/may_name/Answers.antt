@@ -11,15 +11,6 @@ use Rattle.jl_core.proofs.AskLemmas.{refuted, named_key, key_named, name_where}
 use Rattle.jl_core.proofs.EnabledLemmas.{no_where, not_both}
 use Rattle.jl_core.proofs.state.Core.may_name.Goals as goal
 
-pub returns-then-not-is_free : goal.returns-then-not-is_free
-returns-then-not-is_free c = refuted c.is_free.result c.is_free.ensures c.if-not-is_free.true (λ k. k.free)
-
-pub returns-then-count_keys-keys : goal.returns-then-count_keys-keys
-returns-then-count_keys-keys c =
-    let a = c.self.inside in
-    subst (λ s. IsTrue false ↔ CanName s.program s.room s.core c.args.task c.args.key.now) c.self.view_is
-    (no_where (λ k. absurd (omega (arith, k.place, c.if-count_keys-keys.true, c.count_keys.ensures, ap (λ es. length (keys_of es)) c.as_slice.ensures.value))))
-
 pub returns-then-has_key : goal.returns-then-has_key
 returns-then-has_key c =
     let a = c.self.inside in

@@ -7,23 +7,11 @@ use Rattle.jl_core.proofs.EnabledLemmas.{no_where}
 use Rattle.jl_core.proofs.KeepLemmas.{count_of}
 use Rattle.jl_core.proofs.state.Core.may_spawn.Goals as goal
 
-pub returns-then-not-is_free : goal.returns-then-not-is_free
-returns-then-not-is_free c = refuted c.is_free.result c.is_free.ensures c.if-not-is_free.true (λ k. k.free)
-
-pub returns-then-len-MOST_TASKS : goal.returns-then-len-MOST_TASKS
-returns-then-len-MOST_TASKS c =
+pub returns-then-len-ge-MOST_TASKS : goal.returns-then-len-ge-MOST_TASKS
+returns-then-len-ge-MOST_TASKS c =
     let a = c.self.inside in
     subst (λ s. IsTrue false ↔ CanSpawn s.program s.room s.core c.args.task c.args.start.now) c.self.view_is
-    (no_where (λ k. absurd (omega (arith, k.place, c.if-len-MOST_TASKS.true, c.len.ensures, a.tasks.ok.0, count_of _ _ (core_of a) _ c.self.invariant a.tasks.items refl))))
-
-pub returns-then-spawn-len : goal.returns-then-spawn-len
-returns-then-spawn-len c =
-    let a = c.self.inside in
-    subst (λ s. IsTrue false ↔ CanSpawn s.program s.room s.core c.args.task c.args.start.now) c.self.view_is
-    (no_where (λ k. absurd (omega (arith, k.of_program, c.if-spawn-len.true, c.len-2.ensures))))
-
-pub returns-then-not-has_seen_world : goal.returns-then-not-has_seen_world
-returns-then-not-has_seen_world c = refuted c.has_seen_world.result c.has_seen_world.ensures c.if-not-has_seen_world.true (λ k. k.world)
+    (no_where (λ k. absurd (omega (arith, k.place, c.if-len-ge-MOST_TASKS.true, c.len.ensures, a.tasks.ok.0, count_of _ _ (core_of a) _ c.self.invariant a.tasks.items refl))))
 
 pub returns : goal.returns
 returns c =
@@ -33,6 +21,6 @@ returns c =
     let known = subst (λ s. IsTrue c.knows_all.result ↔ Knows s.program s.room s.core c.args.task c.as_slice.result.now) (sym c.self.view_is) c.knows_all.ensures in
     subst (λ s. IsTrue c.knows_all.result ↔ CanSpawn s.program s.room s.core c.args.task c.args.start.now) c.self.view_is
     (spawn_where _ _ (core_of a) c.args.task c.args.start.now c.knows_all.result free
-    (omega (arith, c.if-len-MOST_TASKS.false, c.len.ensures, a.tasks.ok.0, count_of _ _ (core_of a) _ c.self.invariant a.tasks.items refl))
+    (omega (arith, c.if-len-ge-MOST_TASKS.false, c.len.ensures, a.tasks.ok.0, count_of _ _ (core_of a) _ c.self.invariant a.tasks.items refl))
     (omega (arith, c.if-spawn-len.false, c.len-2.ensures)) world
     (subst (λ others. IsTrue c.knows_all.result ↔ Knows a.program _ (core_of a) c.args.task others) (c.as_slice.ensures.value ∙ c.in_ok-others.ensures) known))
