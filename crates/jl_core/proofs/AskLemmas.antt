@@ -5,6 +5,7 @@ use Rattle.std.specs.List.{Contains}
 use Rattle.jl_model.specs.declared.limits.TheConstants.{MOST_WORLDS, MOST_TASKS}
 use Rattle.jl_model.specs.declared.ty.Key.{Key}
 use Rattle.jl_program.specs.Prelude.{prelude_count}
+use Rattle.jl_program.specs.declared.choice.Choice.{Choice}
 use Rattle.jl_program.specs.declared.choice.Choice.TheVariants as Ch
 use Rattle.jl_program.specs.declared.tree.Program.{Program}
 use Rattle.jl_program.specs.declared.tree.Start.{Start}
@@ -22,7 +23,7 @@ use Rattle.jl_calculus.proofs.BetweenLemmas.{row_tells}
 use Rattle.jl_core.specs.declared.range.Range.{Range}
 use Rattle.jl_core.specs.declared.task.Task.{Task}
 use Rattle.jl_core.specs.declared.words.Words.{Words}
-use Rattle.jl_core.specs.Asked.{HasSeenThese, HasMethod, has_both, any_reached}
+use Rattle.jl_core.specs.Asked.{HasSeenThese, HasMethod, IsChoice, has_both, any_reached}
 use Rattle.jl_core.specs.Flags.{IsRangeOrNone}
 use Rattle.jl_core.specs.Kept.{Keeps}
 use Rattle.jl_core.specs.Reached.{search_by}
@@ -48,7 +49,34 @@ and_parts false b h = cc
 both : (a b : Bool) → a ≡ true → b ≡ true → a && b ≡ true
 both a b h k = ap (λ z. z && b) h ∙ k
 
+-- ---- numbers among others
+
+in_range : (xs : List ℕ) (k d e : ℕ) → k < length xs → slice_index_or xs k d ≡ get_or xs k e
+in_range [] k d e l = absurd (omega (arith, l))
+in_range (x ∷ xs) zero d e l = refl
+in_range (x ∷ xs) (suc k) d e l = in_range xs k d e (omega (arith, l))
+
+-- one more is among them
+pub among_more : (numbers sought : List ℕ) (i e : ℕ) → i < length sought → Contains numbers (get_or sought i e) → ((k d : ℕ) → k < i → Contains numbers (slice_index_or sought k d)) → (k d : ℕ) → k < i + 1
+    → Contains numbers (slice_index_or sought k d)
+among_more numbers sought i e l c so_far k d m = by (nat_eq k i) refl
+  where
+    by : (b : Bool) → nat_eq k i ≡ b → Contains numbers (slice_index_or sought k d)
+    by true q = (let same : k ≡ i = grind (arith, q) in subst (Contains numbers) (sym (ap (λ n. slice_index_or sought n d) same ∙ in_range sought i d e l)) c)
+    by false q = (let less : k < i = grind (arith, q, m) in so_far k d less)
+
+pub all_among : (numbers sought : List ℕ) (i : ℕ) → length sought ≤ i → ((k d : ℕ) → k < i → Contains numbers (slice_index_or sought k d)) → (other : ℕ) → Contains sought other → Contains numbers other
+all_among numbers sought i l so_far other (k, m, e) = subst (Contains numbers) e (so_far k other (omega (arith, l, m)))
+
 -- ---- what was seen
+
+-- the first so many events of a task that is there
+pub seen_these : (s : C.Core) (ts xs : List Task) (es : List Event) (task : ℕ) (t : Task) → s.tasks ≡ map task_of ts → xs ≡ ts → es ≡ s.events → task < length xs → t ≡ get_or xs task t → HasSeenThese s task (take t.seen es)
+seen_these s ts xs es task t m e q l is = record {
+  state = task_of t;
+  at = ap (λ (us : List C.TaskState). slice_get us task) (m ∙ ap (map task_of) (sym e)) ∙ task_at xs task t l is;
+  these = ap (take t.seen) q;
+}
 
 both_parts : (es : List Event) (number w : ℕ) → has_both es number w ≡ true → (number < length (keys_of es)) × (prelude_count ≤ w) × (w ≤ world_of es)
 both_parts es number w h =
@@ -276,10 +304,22 @@ module _ (P : Program) (room : Places) (s : C.Core) (ws : List Words) (h : Keeps
 
   -- ---- a spawn and an end
 
-  pub seen_within : (task : ℕ) (t : C.TaskState) → slice_get s.tasks task ≡ Some t → t.seen ≤ length s.events
-  seen_within task t at = ((reached_sound P room s h.reached).tasks task t at).seen
+  pub seen_long : (ts xs : List Task) (es : List Event) (task : ℕ) (t : Task) → s.tasks ≡ map task_of ts → xs ≡ ts → es ≡ s.events → task < length xs → t ≡ get_or xs task t → t.seen ≤ length es
+  seen_long ts xs es task t m e q l is =
+      let at : slice_get s.tasks task ≡ Some (task_of t) = ap (λ (us : List C.TaskState). slice_get us task) (m ∙ ap (map task_of) (sym e)) ∙ task_at xs task t l is in
+      let k : t.seen ≤ length s.events = ((reached_sound P room s h.reached).tasks task (task_of t) at).seen in
+      omega (arith, k, ap length q)
 
 -- ---- a method
+
+pub choice_there : (P Q : Program) (es xs : List Event) (number w : ℕ) (key : Key) (choice : Choice) → Q ≡ P → xs ≡ es → slice_get (keys_of xs) number ≡ Some key → w ≤ world_of xs → Selects Q xs key.function key.types w choice
+    → IsChoice P es number w choice
+choice_there P Q es xs number w key choice p e named l k = record {
+  key = key;
+  named = ap (λ ys. slice_get (keys_of ys) number) (sym e) ∙ named;
+  known = omega (arith, l, ap world_of e);
+  selects = subst (λ ys. Selects P ys key.function key.types w choice) e (subst (λ R. Selects R xs key.function key.types w choice) p k);
+}
 
 pub no_name : (P : Program) (es : List Event) (number w : ℕ) → slice_get (keys_of es) number ≡ None → HasMethod P es number w → ⊥
 no_name P es number w e k = some_or_none (slice_get (keys_of es) number) k.key e k.named

@@ -200,11 +200,7 @@ fn is_item_of(item: &TraceItem, event: &Event, place: usize) -> bool
 }
 
 /// What follows a definition or a spawn in the trace of its task, where it is the first there.
-fn after_event<'a>(
-    trace: &'a [TraceItem],
-    event: &Event,
-    place: usize,
-) -> Option<&'a [TraceItem]>
+fn after_event<'a>(trace: &'a [TraceItem], event: &Event, place: usize) -> Option<&'a [TraceItem]>
     ensures { MatchOption result ((rest : List TraceItem) → FollowsEvent place event.now trace.now rest → ⊥) (λ rest. FollowsEvent place event.now trace.now rest.now) }
 {
     let Some((item, rest)) = next_own(trace) else {

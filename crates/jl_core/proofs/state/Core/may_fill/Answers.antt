@@ -28,4 +28,4 @@ returns c =
     let seen = subst (λ s. HasSeen s.program s.room s.core c.args.task c.args.key c.args.world) (sym c.self.view_is) (c.has_seen.ensures.0 c.if-not-has_seen.false) in
     let chosen = subst (λ s. IsTrue c.in_ok-chosen.chosen ↔ HasMethod s.program s.core.events c.args.key c.args.world) (sym c.self.view_is) c.in_ok-chosen.ensures in
     subst (λ s. IsTrue c.in_ok-chosen.chosen ↔ CanFill s.program s.room s.core c.args.task c.args.key c.args.world) c.self.view_is
-    (fill_where _ _ (core_of a) _ c.self.invariant c.args.task c.args.key c.args.world c.in_ok-chosen.chosen free seen (omega (arith, c.if-len-rows.false, c.len.ensures, a.words.ok.0)) none chosen)
+    (fill_where _ _ (core_of a) _ c.self.invariant c.args.task c.args.key c.args.world c.in_ok-chosen.chosen free seen (omega (arith, c.if-len-self.false, c.len.ensures, a.words.ok.0)) none chosen)

@@ -25,6 +25,6 @@ returns c =
     let free = c.is_free.ensures.0 c.if-not-is_free.false in
     subst (λ s. IsTrue c.in_ok-proper.proper ↔ CanName s.program s.room s.core c.args.task c.args.key.now) c.self.view_is
     (name_where _ _ (core_of a) c.args.task c.args.key.now c.in_ok-proper.proper (subst (λ s. IsFree s.program s.room s.core c.args.task) (sym c.self.view_is) free)
-    (omega (arith, c.if-count_keys-keys.false, c.count_keys.ensures, ap (λ es. length (keys_of es)) c.as_slice.ensures.value))
+    (omega (arith, c.if-count_keys-self.false, c.count_keys.ensures, ap (λ es. length (keys_of es)) c.as_slice.ensures.value))
     (λ k. not_both c.has_key.result (c.has_key.ensures.1 (subst (λ es. Contains es (Ev.Key c.args.key.now)) (sym c.as_slice-2.ensures.value) (key_named a.events.items c.args.key.now k))) c.if-has_key.false)
     (subst (λ P. Decides c.in_ok-proper.proper (IsKeyOf P c.args.key.now)) same c.in_ok-proper.ensures))

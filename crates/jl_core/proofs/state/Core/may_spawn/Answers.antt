@@ -22,5 +22,5 @@ returns c =
     subst (λ s. IsTrue c.knows_all.result ↔ CanSpawn s.program s.room s.core c.args.task c.args.start.now) c.self.view_is
     (spawn_where _ _ (core_of a) c.args.task c.args.start.now c.knows_all.result free
     (omega (arith, c.if-len-ge-MOST_TASKS.false, c.len.ensures, a.tasks.ok.0, count_of _ _ (core_of a) _ c.self.invariant a.tasks.items refl))
-    (omega (arith, c.if-spawn-len.false, c.len-2.ensures)) world
-    (subst (λ others. IsTrue c.knows_all.result ↔ Knows a.program _ (core_of a) c.args.task others) (c.as_slice.ensures.value ∙ c.in_ok-others.ensures) known))
+    (omega (arith, c.if-start-len.false, c.len-2.ensures)) world
+    (subst (λ others. IsTrue c.knows_all.result ↔ Knows a.program (record { keys = a.keys; rows = a.rows }) (core_of a) c.args.task others) (c.as_slice.ensures.value ∙ c.in_ok-others.ensures) known))
