@@ -27,16 +27,16 @@ yes_where a = (λ t. a, λ b. refl)
 pub no_where : {A : Type 0} → (A → ⊥) → IsTrue false ↔ A
 no_where n = (λ t. cc, λ a. absurd (n a))
 
-same_key : (o : Option Key) (a b : Key) → o ≡ Some a → o ≡ Some b → a ≡ b
+pub same_key : (o : Option Key) (a b : Key) → o ≡ Some a → o ≡ Some b → a ≡ b
 same_key o a b h k = cc
 
-same_row : (o : Option CacheRow) (a b : CacheRow) → o ≡ Some a → o ≡ Some b → a ≡ b
+pub same_row : (o : Option CacheRow) (a b : CacheRow) → o ≡ Some a → o ≡ Some b → a ≡ b
 same_row o a b h k = cc
 
 same_opened : (o : Option C.Opened) (a b : C.Opened) → o ≡ Some a → o ≡ Some b → a ≡ b
 same_opened o a b h k = cc
 
-some_or_none : {X A : Type 0} (o : Option X) (x : X) → o ≡ None → o ≡ Some x → A
+pub some_or_none : {X A : Type 0} (o : Option X) (x : X) → o ≡ None → o ≡ Some x → A
 some_or_none None x p q = cc
 some_or_none (Some y) x p q = cc
 
@@ -55,7 +55,7 @@ below_one Q n f g r l q = by (nat_eq r n) refl
 pub not_both : (b : Bool) → b ≡ true → b ≡ false → ⊥
 not_both b p q = cc
 
-length_rows : (ws : List Words) → length (map row_of ws) ≡ length ws
+pub length_rows : (ws : List Words) → length (map row_of ws) ≡ length ws
 length_rows [] = refl
 length_rows (w ∷ ws) = ap suc (length_rows ws)
 
@@ -92,7 +92,7 @@ module _ (P : Program) (room : Places) (s : C.Core) (ws : List Words) (h : Keeps
   first_low key first (inl e) = omega (arith, e)
   first_low key first (inr (low, t)) = omega (arith, low)
 
-  row_low : (r : ℕ) (row : CacheRow) → slice_get (rows_of s.events) r ≡ Some row → prelude_count ≤ row.first
+  pub row_low : (r : ℕ) (row : CacheRow) → slice_get (rows_of s.events) r ≡ Some row → prelude_count ≤ row.first
   row_low r row e = (let k = sound.events.rows row (contains_at (rows_of s.events) r row e) in first_low k.key row.first k.right.begun)
 
   -- its last world is 0 exactly where it was not cut and has no end
@@ -122,7 +122,7 @@ module _ (P : Program) (room : Places) (s : C.Core) (ws : List Words) (h : Keeps
       last_some r k.key k.row.first w.last k.last_word z open_end (subst (λ (x : Option C.Opened). Contains (C.cut_for x) r → ⊥) (sym q) left.not_cut)
 
   -- the key of a row is there
-  row_key : (r : ℕ) (w : Words) (row : CacheRow) → slice_get ws r ≡ Some w → slice_get (rows_of s.events) r ≡ Some row → row.key ≡ w.key
+  pub row_key : (r : ℕ) (w : Words) (row : CacheRow) → slice_get ws r ≡ Some w → slice_get (rows_of s.events) r ≡ Some row → row.key ≡ w.key
   row_key r w row at e = by ws r at (ap (λ (xs : List CacheRow). slice_get xs r) h.words_told.rows ∙ e)
     where
       by : (vs : List Words) (n : ℕ) → slice_get vs n ≡ Some w → slice_get (map row_of vs) n ≡ Some row → row.key ≡ w.key
@@ -176,15 +176,15 @@ module _ (P : Program) (room : Places) (s : C.Core) (ws : List Words) (h : Keeps
 
 -- ---- what a task knows
 
-task_at : (ts : List Task) (i : ℕ) (t : Task) → i < length ts → t ≡ get_or ts i t → slice_get (map task_of ts) i ≡ Some (task_of t)
+pub task_at : (ts : List Task) (i : ℕ) (t : Task) → i < length ts → t ≡ get_or ts i t → slice_get (map task_of ts) i ≡ Some (task_of t)
 task_at [] i t l e = absurd (omega (arith, l))
 task_at (x ∷ ts) zero t l e = ap (λ (y : Task). Some (task_of y)) (sym e)
 task_at (x ∷ ts) (suc i) t l e = task_at ts i t (omega (arith, l)) e
 
-same_state : (o : Option C.TaskState) (a b : C.TaskState) → o ≡ Some a → o ≡ Some b → a ≡ b
+pub same_state : (o : Option C.TaskState) (a b : C.TaskState) → o ≡ Some a → o ≡ Some b → a ≡ b
 same_state o a b h k = cc
 
-length_states : (ts : List Task) → length (map task_of ts) ≡ length ts
+pub length_states : (ts : List Task) → length (map task_of ts) ≡ length ts
 length_states [] = refl
 length_states (t ∷ ts) = ap suc (length_states ts)
 

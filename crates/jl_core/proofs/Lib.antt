@@ -16,3 +16,6 @@ mod WordLemmas
 mod StateLemmas
 mod MentionLemmas
 mod EnabledLemmas
+mod KeyLemmas
+mod TraceLemmas
+mod AskLemmas

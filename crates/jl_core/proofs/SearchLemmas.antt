@@ -63,7 +63,7 @@ module _ (P : Program) (es : List Event) where
   first_low key first (inl e) = omega (arith, e)
   first_low key first (inr (low, t)) = omega (arith, low)
 
-  reached_parts : (first last w : ℕ) → is_reached first last w ≡ true → (first ≤ w) × ((last ≡ 0) ⊎ (w ≤ last))
+  pub reached_parts : (first last w : ℕ) → is_reached first last w ≡ true → (first ≤ w) × ((last ≡ 0) ⊎ (w ≤ last))
   reached_parts first last w h = by (nat_le first w) refl (nat_eq last 0) refl (nat_le w last) refl h
     where
       by : (a : Bool) → nat_le first w ≡ a → (b : Bool) → nat_eq last 0 ≡ b → (c : Bool) → nat_le w last ≡ c → (a && (b || c)) ≡ true → (first ≤ w) × ((last ≡ 0) ⊎ (w ≤ last))
@@ -78,7 +78,7 @@ module _ (P : Program) (es : List Event) where
   endless : (key : Key) (first w : ℕ) → HasNoEnd P es key first → first ≤ w → Covers P es key first w
   endless key first w h l = record { begun = l; going = λ d a b. h d a }
 
-  covers_by : (key : Key) (first last w : ℕ) → prelude_count ≤ first → first ≤ w → (last ≡ 0) ⊎ (w ≤ last) → IsLastWorld P es key first last → Covers P es key first w
+  pub covers_by : (key : Key) (first last w : ℕ) → prelude_count ≤ first → first ≤ w → (last ≡ 0) ⊎ (w ≤ last) → IsLastWorld P es key first last → Covers P es key first w
   covers_by key first last w low l k (inl (e, n)) = endless key first w n l
   covers_by key first last w low l (inl e) (inr h) = absurd (omega (arith, low, h.covers.begun, e))
   covers_by key first last w low l (inr m) (inr h) = shorter key first last w h.covers l m

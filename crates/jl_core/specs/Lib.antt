@@ -4,3 +4,5 @@ pub mod View
 pub mod State
 pub mod Kept
 pub mod Flags
+pub mod KeyTypes
+pub mod Asked

@@ -1,12 +1,15 @@
 //! What a list of events tells. Each question walks the list once.
 
-ghost use Rattle.std.specs.Prelude.{◌≡◌, ◌≤◌, length, slice_get, IfOk, MatchOption, None, Some};
-ghost use Rattle.jl_calculus.specs.Past.{done_of};
+ghost use Rattle.std.specs.Prelude.{◌≡◌, ◌≤◌, ◌↔◌, IsTrue, length, slice_get, IfOk, MatchOption, None, Some};
+ghost use Rattle.std.specs.List.{Contains};
+ghost use Rattle.jl_calculus.specs.declared.history.Event.TheVariants as Ev;
+ghost use Rattle.jl_calculus.specs.Past.{tasks_of, done_of};
 ghost use Rattle.jl_calculus.specs.Ranges.{keys_of};
 ghost use Rattle.jl_calculus.specs.Words.{is_worldly, is_fill_of, world_length, fill_length};
 ghost use Rattle.jl_calculus.specs.World.{definitions, world_of};
 
 use jl_calculus::history::{Event, Record};
+use jl_calculus::same::Same;
 use jl_model::ty::Key;
 use jl_program::prelude::FIRST_WORLD;
 use std::alloc::{AllocError, Global};
@@ -75,6 +78,54 @@ pub(crate) fn world_of(events: &[Event]) -> usize
         }
     }
     world
+}
+
+/// How many tasks were started, the root among them.
+pub(crate) fn tasks_of(events: &[Event]) -> usize
+    ensures { result ≡ tasks_of events.now }
+{
+    let mut count = 1;
+    for event in events {
+        if let Event::Spawn { .. } = event {
+            count += 1;
+        }
+    }
+    count
+}
+
+/// How many keys there are.
+pub(crate) fn count_keys(events: &[Event]) -> usize
+    ensures { result ≡ length (keys_of events.now) }
+{
+    let mut count = 0;
+    for event in events {
+        if let Event::Key(_) = event {
+            count += 1;
+        }
+    }
+    count
+}
+
+/// Whether an event names this key.
+fn is_key(event: &Event, sought: &Key) -> bool
+    ensures { IsTrue result ↔ (event.now ≡ Ev.Key sought.now) }
+{
+    match event {
+        Event::Key(key) => key.same(sought),
+        _ => false,
+    }
+}
+
+/// Whether a key was named.
+pub(crate) fn has_key(events: &[Event], sought: &Key) -> bool
+    ensures { IsTrue result ↔ Contains events.now (Ev.Key sought.now) }
+{
+    for event in events {
+        if is_key(event, sought) {
+            return true;
+        }
+    }
+    false
 }
 
 /// The key of a number.

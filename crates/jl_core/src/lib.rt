@@ -4,12 +4,15 @@
 
 mod enabled;
 mod events;
+mod keys;
 pub mod laws;
 mod mention;
 mod range;
+mod seen;
 mod state;
 mod step;
 mod task;
+mod trace;
 mod words;
 
 pub use state::Core;

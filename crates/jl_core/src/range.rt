@@ -128,6 +128,26 @@ fn choice_of(
     Ok(choice)
 }
 
+/// The choice for a key in a world.
+pub(crate) fn select(
+    alloc: Global,
+    ready: &Ready,
+    events: &[Event],
+    key: &Key,
+    world: u32,
+) -> Result<Choice, AllocError>
+    requires key { IsKeyOf ready.now key.now }
+    requires high { world ≤ world_of events.now }
+    requires few { world_of events.now ≤ MOST_WORLDS }
+    ensures { IfOk result (Selects ready.now events.now key.now.function key.now.types world) }
+{
+    let sites = definitions(alloc, events)?;
+    let known = sites.as_slice();
+    let flags = flags_of(alloc, ready, known, key)?;
+    let choice = choice_of(alloc, ready, known, flags.as_slice(), key, world)?;
+    Ok(choice)
+}
+
 /// The row of a key that covers a world, by all definitions that are there; none where no method is chosen in that world.
 pub(crate) fn range_of(
     alloc: Global,
