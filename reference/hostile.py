@@ -7,6 +7,7 @@
     reference/hostile.py changed 5000 7         5,000 scripts with changes
     reference/hostile.py replay histories 5000  histories for `replay`: known ones, and those of runs with changes
     SECONDS=600 reference/hostile.py random     as many as there is time for
+    COMMANDS=replay reference/hostile.py random changed    inputs that are made for these commands alone
     JL=FILE reference/hostile.py                with another program than crates/jl_main/out/jl_main
 
 A run must end by itself, with a status that its command has and a text of the form that README.md and docs/LANGUAGE.md specify, and it
@@ -31,6 +32,8 @@ import random_scripts
 
 HERE = os.path.dirname(os.path.abspath(__file__))
 PROGRAM = os.environ.get("JL") or os.path.join(HERE, "..", "crates", "jl_main", "out", "jl_main")
+# The commands that take the inputs which are made by chance.
+COMMANDS = os.environ.get("COMMANDS", "check run trace replay").split()
 MOST_BYTES = 1_048_576
 # A run of a script that is made by chance.
 MOST_SECONDS, MOST_MEGABYTES = 1.0, 500
@@ -118,6 +121,12 @@ def fault_in(line, text):
     return None
 
 
+def script_before(text):
+    """What is in front of the first line that begins a history: the script that `replay` reads."""
+    found = re.search(rb"^%%history 1(\n|\Z)", text, re.M)
+    return text[: found.start()] if found else text
+
+
 def wrong_with(words, text, ran):
     """What is wrong with an answer, or None."""
     if ran.status < 0:
@@ -128,7 +137,7 @@ def wrong_with(words, text, ran):
     if ran.status == 3:
         if command == "replay" and ran.out in (b"ERROR: NoHistory\n", b"ERROR: SourceTooLong\n"):
             return None
-        return fault_in(ran.out, text)
+        return fault_in(ran.out, script_before(text) if command == "replay" else text)
     if command == "check":
         good = ran.status == 0 and re.fullmatch(rb"ok: \d+ types, \d+ definitions\n", ran.out)
         return None if good else "no answer of check"
@@ -530,19 +539,26 @@ def too_much(words, text, ran):
     return None
 
 
+def asked_of(text, number):
+    """The commands that a text is given to, each with what it reads. `replay` reads it without a history, before that of another script,
+    or as the history of the first script."""
+    limits = ["--fuel", "300", "--threads", ("1", "2", "4", "8", "64")[number % 5]]
+    judged = (text, text + b"\n" + HISTORY.encode(), FIRST.encode() + b"%%history 1\n" + text)[number % 3]
+    asked = [(["check"], text), (["run", *limits], text), (["replay"], judged)]
+    if number % 4 == 0:
+        asked.append((["trace", *limits], text))
+    return [(words, given) for words, given in asked if words[0] in COMMANDS]
+
+
 def ask_all(text, number):
     """What is wrong with the answers to a text of some commands, and how long and how large they were."""
-    threads = ("1", "2", "4", "8", "64")[number % 5]
-    words = [["check"], ["run", "--fuel", "300", "--threads", threads]]
-    if number % 4 == 0:
-        words.append(["trace", "--fuel", "300", "--threads", threads])
     answers, found = {}, []
-    for command in words:
-        ran = answers[command[0]] = ask(command, text)
-        wrong = wrong_with(command, text, ran) or too_much(command, text, ran)
+    for command, given in asked_of(text, number):
+        ran = answers[command[0]] = ask(command, given)
+        wrong = wrong_with(command, given, ran) or too_much(command, given, ran)
         found.append((command, wrong, ran))
-    check, run = answers["check"], answers["run"]
-    if (check.status == 3) != (run.status == 3) or (check.status == 3 and check.out != run.out):
+    check, run = answers.get("check"), answers.get("run")
+    if check and run and ((check.status == 3) != (run.status == 3) or (check.status == 3 and check.out != run.out)):
         found.append((["check", "and", "run"], "they do not agree", run))
     return text, found
 
