@@ -160,6 +160,7 @@ fn fetched_outcome(task: u32, outcome: Outcome) -> Outcome
 
 impl<'p> Task<'p> {
     /// A look, which the trace keeps.
+    #[inline(always)]
     fn look<D: Dispatcher>(&mut self, with: &mut D) -> Result<u32, AllocError>
         requires { looks_of self.old.trace ≡ (D.knows with.old).looks }
         ensures { IfOk result (λ w. HasLooked (D.knows with.old) (D.knows with.new) w self.old self.new) }
@@ -177,6 +178,7 @@ impl<'p> Task<'p> {
     }
 
     /// A call whose arguments are the open values: the fuel, then the open calls, then the choice of a method.
+    #[inline(always)]
     fn call<D: Recall>(
         &mut self,
         ready: &'p Ready,
@@ -191,11 +193,11 @@ impl<'p> Task<'p> {
         ensures { IfOk result (λ work. LentSteps (D.knows with.old) (W.Calling function world self.old.now.frames.open_values) self.old (D.knows with.new) work self.new) }
     {
         if self.calls >= self.fuel {
-            return Ok(turns::end(&mut self.now, Outcome::Error(Fault::FuelSpent(self.fuel))));
+            return Ok(turns::end_spent(&mut self.now, self.fuel));
         }
         if self.now.room == 0 {
             self.calls += 1;
-            return Ok(turns::end(&mut self.now, Outcome::Error(Fault::StackLimit)));
+            return Ok(turns::end_deep(&mut self.now));
         }
         match with.recall(function, self.now.frames.open_values(), world) {
             Some(found) => {
@@ -224,6 +226,7 @@ impl<'p> Task<'p> {
     }
 
     /// A call that is not recalled: a key is made, and a method chosen and remembered.
+    #[inline(never)]
     fn choose<D: Recall>(
         &mut self,
         ready: &'p Ready,
@@ -272,6 +275,7 @@ impl<'p> Task<'p> {
     }
 
     /// The next statement at the top or of an evaluated block, which looks first. The value of the one before is open.
+    #[inline(always)]
     fn go_items<D: Dispatcher>(
         &mut self,
         with: &mut D,
@@ -292,6 +296,7 @@ impl<'p> Task<'p> {
     }
 
     /// A definition that has looked is made.
+    #[inline(always)]
     fn define<D: Dispatcher>(
         &mut self,
         with: &mut D,
@@ -319,6 +324,7 @@ impl<'p> Task<'p> {
     }
 
     /// A task is spawned at a place.
+    #[inline(always)]
     fn spawn<D: Dispatcher>(
         &mut self,
         with: &mut D,
@@ -353,6 +359,7 @@ impl<'p> Task<'p> {
     }
 
     /// A value that is no task is fetched. It is the one open value.
+    #[inline(always)]
     fn refuse_fetch(&mut self, ready: &Ready) -> Result<LentWork<'p>, AllocError>
         requires { IsOne self.old.now.frames }
         ensures reaches { IfOk result (λ work. Reaches work self.new.now (W.Ended (Outcome.Error (Fault.NotTask (type_of (given_value self.old.now)))), now_of self.old.now)) }
@@ -365,6 +372,7 @@ impl<'p> Task<'p> {
     }
 
     /// A task is fetched: the value that is fetched is the one open value.
+    #[inline(always)]
     fn fetch<D: Dispatcher>(
         &mut self,
         ready: &Ready,
@@ -393,6 +401,7 @@ impl<'p> Task<'p> {
     }
 
     /// A form that asks nobody has its answer.
+    #[inline(never)]
     fn operate<D: Recall>(
         &mut self,
         ready: &Ready,
@@ -411,6 +420,7 @@ impl<'p> Task<'p> {
     }
 
     /// An expression acts, whose parts are the open values.
+    #[inline(always)]
     fn act<D: Recall>(
         &mut self,
         ready: &'p Ready,
@@ -447,6 +457,7 @@ impl<'p> Task<'p> {
     }
 
     /// One turn: what comes next, and what comes after it.
+    #[inline(always)]
     fn turn<D: Recall>(
         &mut self,
         ready: &'p Ready,
@@ -596,6 +607,7 @@ impl<'p> Machine<'p> {
     /// answers what the task asked there. It fetches and waits for tasks alone that it knows: those that its start mentions, that it
     /// spawned, or that an outcome mentions that it fetched before. `NeedFetch` comes exactly where the dispatcher answered that a task
     /// has not ended yet, and the machine is then as it was. After want of memory the machine is lost: it answers so at each later turn.
+    #[inline(always)]
     pub fn step<D: Recall>(
         &mut self,
         ready: &'p Ready,
