@@ -24,7 +24,7 @@ ghost use Rattle.jl_machine.specs.Acting.{IsOperation};
 ghost use Rattle.jl_machine.specs.Fetched.{task_of};
 ghost use Rattle.jl_fit.specs.Fits.{fetched_outcome};
 ghost use Rattle.jl_point.specs.Size.{program_size};
-ghost use Rattle.jl_machine.specs.Steps.{fuel_of, trace_of, turns_of, job_with, MachineFits, TurnSays, KnowsTasks, IsLost, IsEnded, IsNewRoot, IsNewTask, HasEnded, IsRecordOf, IsFirst, progress_of, LentSteps, LentWaits, Goes, HasLooked, IsWorking, variables_at, AppliesAt};
+ghost use Rattle.jl_machine.specs.Steps.{fuel_of, trace_of, turns_of, job_with, MachineFits, TurnSays, WaitsRightly, KnowsTasks, IsLost, IsEnded, IsNewRoot, IsNewTask, HasEnded, IsRecordOf, IsFirst, progress_of, LentSteps, LentWaits, Goes, HasLooked, IsWorking, variables_at, AppliesAt};
 
 use crate::now::{LentNow, LentWork};
 use crate::{acts, turns};
@@ -606,7 +606,8 @@ impl<'p> Machine<'p> {
     /// One turn. It keeps that the machine fits its dispatcher, leaves fewer turns, and adds at most one item to the trace, which
     /// answers what the task asked there. It fetches and waits for tasks alone that it knows: those that its start mentions, that it
     /// spawned, or that an outcome mentions that it fetched before. `NeedFetch` comes exactly where the dispatcher answered that a task
-    /// has not ended yet, and the machine is then as it was. After want of memory the machine is lost: it answers so at each later turn.
+    /// has not ended yet (`waits`), and the machine is then as it was. After out of memory the machine is lost: it answers so at each
+    /// later turn.
     #[inline(always)]
     pub fn step<D: Recall>(
         &mut self,
@@ -617,6 +618,7 @@ impl<'p> Machine<'p> {
         requires { MachineFits ready.now (fuel_of self.old) (D.knows with.old) self.old }
         ensures fits { MachineFits ready.now (fuel_of self.new) (D.knows with.new) self.new }
         ensures turn { IfOk result (λ turn. TurnSays ready.now self.old self.new turn) }
+        ensures waits { IfOk result (λ turn. WaitsRightly (D.knows with.new) turn) }
         ensures fuel { IfOk result (λ _. fuel_of self.new ≡ fuel_of self.old) }
         ensures tells { IfOk result (λ _. Tells (job_with ready.now (fuel_of self.old) (D.knows with.old)) (D.knows with.old) (trace_of self.old) (D.knows with.new) (trace_of self.new)) }
         ensures knows { IfOk result (λ turn. KnowsTasks (D.knows with.old).start (trace_of self.old) (trace_of self.new) turn) }
