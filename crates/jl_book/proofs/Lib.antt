@@ -7,6 +7,7 @@ pub mod Shares
 pub mod PartLemmas
 pub mod Valid
 pub mod Seating
+pub mod KeyTests
 pub mod Finding
 pub mod Selecting
 pub mod Fills

@@ -1,5 +1,6 @@
 -- The parts of a book with one event more.
-use Rattle.std.proofs.Common.{◌≡◌, ◌∙◌, ap, sym, subst, refl, ℕ, zero, suc, ◌+◌, arith, List, [], ◌∷◌, ◌++◌, length, get_or, set, length-append, Option, Some, None}
+use Rattle.std.proofs.Common.{◌≡◌, ◌∙◌, ap, sym, subst, refl, ℕ, zero, suc, ◌+◌, arith, List, [], ◌∷◌, ◌++◌, length, get_or, set, append-nil, Option, Some, None}
+use Rattle.jl_model.specs.declared.ty.Key.{Key}
 use Rattle.jl_program.specs.declared.tree.Program.{Program}
 use Rattle.jl_program.specs.declared.tree.Start.{Start}
 use Rattle.jl_calculus.specs.declared.history.Event.{Event}
@@ -25,10 +26,11 @@ use Rattle.jl_book.proofs.Ends.{ends_kept, ends_spawned, ends_ended}
 use Rattle.jl_book.proofs.Pushing.{IsEnd, book_push, first_book, history_push, last_may}
 use Rattle.jl_book.proofs.Stays.{index_kept}
 
-keys_more : (es : List Event) (e : Event) → length (keys_of (es ++ e ∷ [])) ≡ length (keys_of es) + length (keys_of (e ∷ []))
-keys_more es e = ap length (keys_append es (e ∷ [])) ∙ length-append (keys_of es) (keys_of (e ∷ []))
+-- an event that names no key leaves the keys as they are
+keys_stay : (es : List Event) (e : Event) → keys_of (e ∷ []) ≡ [] → keys_of es ≡ keys_of (es ++ e ∷ [])
+keys_stay es e none = sym (keys_append es (e ∷ []) ∙ ap (λ ks. keys_of es ++ ks) none ∙ append-nil (keys_of es))
 
-module _ (about : About) (es : List Event) (seat : BookView) (kept : List Event) (index : Index) (keys : ℕ) (ends : List (Option ℕ)) (n : ℕ) (h : HasParts about es seat kept index keys ends n) where
+module _ (about : About) (es : List Event) (seat : BookView) (kept : List Event) (index : Index) (keys : List Key) (ends : List (Option ℕ)) (n : ℕ) (h : HasParts about es seat kept index keys ends n) where
   abbrev P : Program
   P = about.program.value
 
@@ -38,9 +40,9 @@ module _ (about : About) (es : List Event) (seat : BookView) (kept : List Event)
       (record { knows = refl; keeps = h.keeps; book = h.book; filters = h.filters; named = h.named; ended = h.ended; counted = h.counted })
 
   -- an event that starts and ends no task, for which the index had room
-  pub parts_added : (Q : Program) → Q ≡ P → (e : Event) (now : BookView) (then : List Event) (before next : Index) (many : ℕ)
+  pub parts_added : (Q : Program) → Q ≡ P → (e : Event) (now : BookView) (then : List Event) (before next : Index) (many : List Key)
       → now ≡ at_rest (es ++ e ∷ []) → then ≡ kept ++ e ∷ [] → IsHistory about (es ++ e ∷ []) → IsValidEvent P e → OnDone (IsEnd about es) e
-      → ((t : ℕ) → done_of t (e ∷ []) ≡ None) → tasks_of (e ∷ []) ≡ 1 → many ≡ keys + length (keys_of (e ∷ []))
+      → ((t : ℕ) → done_of t (e ∷ []) ≡ None) → tasks_of (e ∷ []) ≡ 1 → many ≡ keys ++ keys_of (e ∷ [])
       → noted_in before ≡ noted_in index → ComesWith Q es e (awaited_in before)
       → ((xs : List Event) → IsIndexOf Q xs before → MayCome Q xs e → ComesWith Q xs e (awaited_in before) → IsIndexOf Q (xs ++ e ∷ []) next)
       → HasParts about now.events now then next many ends n
@@ -54,7 +56,7 @@ module _ (about : About) (es : List Event) (seat : BookView) (kept : List Event)
         keeps = then_is ∙ ap (λ xs. xs ++ e ∷ []) h.keeps;
         book = book_push about es e h.book history valid ends_so;
         filters = filters;
-        named = omega (arith, count, h.named, keys_more es e);
+        named = count ∙ ap (λ ks. ks ++ keys_of (e ∷ [])) h.named ∙ sym (keys_append es (e ∷ []));
         ended = ends_kept es e ends none one h.ended;
         counted = h.counted ∙ sym (count_kept es e none one);
       })
@@ -72,7 +74,7 @@ module _ (about : About) (es : List Event) (seat : BookView) (kept : List Event)
         keeps = then_is ∙ ap (λ xs. xs ++ e ∷ []) h.keeps;
         book = book_push about es e h.book (history_push about es e h.book.history may tt tt) valid tt;
         filters = index_kept P index es e refl refl refl h.filters;
-        named = omega (arith, h.named, keys_more es e);
+        named = h.named ∙ keys_stay es e refl;
         ended = subst (λ xs. HasEnds (es ++ e ∷ []) xs) (sym places_are) (ends_spawned es e ends (λ t. refl) refl h.ended);
         counted = m_is ∙ ap (λ k. k + 1) h.counted ∙ sym (count_spawned P es task child start h.book.legal.stand);
       })
@@ -91,23 +93,23 @@ module _ (about : About) (es : List Event) (seat : BookView) (kept : List Event)
         keeps = then_is ∙ ap (λ xs. xs ++ e ∷ []) h.keeps;
         book = book_push about es e h.book (history_push about es e h.book.history run tt tt) valid end;
         filters = index_kept P index es e refl refl refl h.filters;
-        named = omega (arith, h.named, keys_more es e);
+        named = h.named ∙ keys_stay es e refl;
         ended = subst (λ xs. HasEnds (es ++ e ∷ []) xs) (sym set_is) (ends_ended es task r ends run.started run.going h.ended);
         counted = omega (arith, m_is, h.counted, count_ended es task r run);
       })
 
 -- a book that only has its Begin
-pub first_parts : (about : About) (now : BookView) (kept : List Event) (index : Index) (ends : List (Option ℕ)) (Q : Program) → Q ≡ about.program.value
-    → now ≡ at_rest (first_events about) → kept ≡ first_events about → IsHistory about (first_events about) → IsIndexOf Q [] index → ends ≡ None ∷ []
-    → HasParts about now.events now kept index 0 ends 1
-first_parts about now kept index ends Q same seat_is kept_is history filters ends_are =
-    subst (λ (s : BookView). HasParts about s.events s kept index 0 ends 1) (sym seat_is)
+pub first_parts : (about : About) (now : BookView) (kept : List Event) (index : Index) (keys : List Key) (ends : List (Option ℕ)) (Q : Program) → Q ≡ about.program.value
+    → now ≡ at_rest (first_events about) → kept ≡ first_events about → IsHistory about (first_events about) → IsIndexOf Q [] index → keys ≡ [] → ends ≡ None ∷ []
+    → HasParts about now.events now kept index keys ends 1
+first_parts about now kept index keys ends Q same seat_is kept_is history filters keys_are ends_are =
+    subst (λ (s : BookView). HasParts about s.events s kept index keys ends 1) (sym seat_is)
     (record {
       knows = refl;
       keeps = kept_is;
       book = first_book about history;
       filters = subst (λ p. IsIndexOf p (first_events about) index) same filters;
-      named = refl;
+      named = keys_are;
       ended = subst (HasEnds (first_events about)) (sym ends_are) (record { all = refl; each = each });
       counted = refl;
     })

@@ -1,5 +1,6 @@
 -- What holds of the history of a run after every call.
-use Rattle.std.specs.Prelude.{ℕ, ◌≡◌, List, [], Option, length}
+use Rattle.std.specs.Prelude.{ℕ, ◌≡◌, List, [], Option}
+use Rattle.jl_model.specs.declared.ty.Key.{Key}
 use Rattle.jl_calculus.specs.declared.history.Event.{Event}
 use Rattle.jl_calculus.specs.Legal.{IsLegalSoFar, IsCached}
 use Rattle.jl_calculus.specs.ValidHistory.{AreValidEvents}
@@ -23,12 +24,12 @@ pub record IsBook (about : About) (es : List Event) : Type 0 where
 abbrev pub at_rest : List Event → BookView
 at_rest es = record { events = es; held = []; cut = []; stored = [] }
 
--- the parts of a book are those of its events: its seat, the events that it keeps, its index, how many keys there are, where each task ended, and how many have not
-pub record HasParts (about : About) (es : List Event) (seat : BookView) (kept : List Event) (index : Index) (keys : ℕ) (ends : List (Option ℕ)) (unfinished : ℕ) : Type 0 where
+-- the parts of a book are those of its events: its seat, the events that it keeps, its index, its keys, where each task ended, and how many have not
+pub record HasParts (about : About) (es : List Event) (seat : BookView) (kept : List Event) (index : Index) (keys : List Key) (ends : List (Option ℕ)) (unfinished : ℕ) : Type 0 where
   pub knows : seat ≡ at_rest es
   pub keeps : kept ≡ es
   pub book : IsBook about es
   pub filters : IsIndexOf about.program.value es index
-  pub named : keys ≡ length (keys_of es)
+  pub named : keys ≡ keys_of es
   pub ended : HasEnds es ends
   pub counted : unfinished ≡ unfinished_of es

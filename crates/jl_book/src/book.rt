@@ -12,23 +12,25 @@ ghost use Rattle.jl_rows.specs.Plans.{places_of};
 ghost use Rattle.jl_book.specs.Tasks.{unfinished_of};
 
 use crate::pass::Pass;
+use indexmap::IndexSet;
 use jl_cache::Cache;
 use jl_calculus::history::{Event, History};
 use jl_methods::Index;
 use jl_model::shared::SharedList;
+use jl_model::ty::Key;
 use jl_sig::Ready;
 use jl_world::{Blank, BookSeat, Naming, World};
 use std::alloc::{AllocError, Global};
 use std::marker::Model;
 
-/// The history of a run, with all that its questions need: the events, their index, and for each task where it ended. Contracts see it
-/// as the events.
+/// The history of a run, with all that its questions need: the events, their index, the keys in the order of their numbers, and for each
+/// task where it ended. Contracts see it as the events.
 #[derive(Drop)]
 pub struct Book<N: Naming> {
     pub(crate) seat: BookSeat<N>,
     pub(crate) events: Vec<Event>,
     pub(crate) index: Index,
-    pub(crate) keys: u32,
+    pub(crate) keys: IndexSet<Key>,
     pub(crate) ends: Vec<Option<u32>>,
     pub(crate) unfinished: u32,
 }
@@ -46,7 +48,7 @@ impl<N: Naming> Model for Book<N> {
 
     ghost view = { λ b. b.seat.events };
 
-    ghost invariant = { λ b. HasParts N.about b.seat.events b.seat b.events.items b.index b.keys b.ends.items b.unfinished };
+    ghost invariant = { λ b. HasParts N.about b.seat.events b.seat b.events.items b.index b.keys.keys b.ends.items b.unfinished };
 }
 
 impl<N: Naming> Book<N> {
@@ -68,11 +70,12 @@ impl<N: Naming> Book<N> {
         ends.push(None)?;
         let (world, mut seat, mut root) = World::<N>::open(blank);
         world.meet(&mut seat, &mut root);
+        let keys = IndexSet::new(alloc);
         let book = Book {
             seat,
             events,
             index,
-            keys: 0,
+            keys,
             ends,
             unfinished: 1,
         };

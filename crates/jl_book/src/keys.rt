@@ -1,6 +1,7 @@
 //! The number of a key.
 
-ghost use Rattle.std.specs.Prelude.{◌≡◌, ◌↔◌, ◌++◌, ◌∷◌, [], ℕ, List, IfOk, OnErr, Err};
+ghost use Rattle.std.specs.Prelude.{◌≡◌, ◌<◌, ◌↔◌, ◌++◌, ◌∷◌, [], ℕ, List, IfOk, OnErr, Err};
+ghost use Rattle.indexmap.specs.IndexSet.{spare};
 ghost use Rattle.jl_calculus.specs.declared.history.Event.{Event};
 ghost use Rattle.jl_calculus.specs.declared.history.Event.TheVariants as E;
 ghost use Rattle.jl_calculus.specs.Learnt.{IsNamed};
@@ -16,6 +17,8 @@ use crate::book::Book;
 use crate::faults::KeyFault;
 use crate::parts;
 use crate::pass::Pass;
+use crate::table::{add_key, find_key};
+use indexmap::IndexSet;
 use jl_cache::Cache;
 use jl_calculus::history::Event;
 use jl_methods::Index;
@@ -24,26 +27,32 @@ use jl_sig::Ready;
 use jl_world::Naming;
 use std::alloc::{AllocError, Global};
 
-/// Takes all the memory that a new key needs, and gives its event.
+/// Takes all the memory that a new key needs, and gives its event and a copy of it.
 fn reserve_key(
     alloc: Global,
     ready: &Ready,
+    keys: &mut IndexSet<Key>,
     index: &mut Index,
     events: &mut Vec<Event>,
     key: &Key,
-) -> Result<Event, AllocError>
+) -> Result<(Event, Key), AllocError>
     requires { (es : List Event) × IsIndexOf ready.now es index.old × MayCome ready.now es (E.Key key.now) }
-    ensures event { IfOk result (λ event. event ≡ E.Key key.now) }
-    ensures room { IfOk result (λ event. HasRoomFor ready.now (E.Key key.now) index.new) }
-    ensures awaited { IfOk result (λ event. (es : List Event) → IsIndexOf ready.now es index.old → ComesWith ready.now es (E.Key key.now) (awaited_in index.new)) }
-    ensures place { IfOk result (λ event. IsRoomy events.new) }
+    ensures event { IfOk result (λ made. made.0 ≡ E.Key key.now) }
+    ensures key { IfOk result (λ made. made.1 ≡ key.now) }
+    ensures free { IfOk result (λ made. 0 < spare keys.new) }
+    ensures keys { keys.new.keys ≡ keys.old.keys }
+    ensures room { IfOk result (λ made. HasRoomFor ready.now (E.Key key.now) index.new) }
+    ensures awaited { IfOk result (λ made. (es : List Event) → IsIndexOf ready.now es index.old → ComesWith ready.now es (E.Key key.now) (awaited_in index.new)) }
+    ensures place { IfOk result (λ made. IsRoomy events.new) }
     ensures noted { noted_in index.new ≡ noted_in index.old }
     ensures events { events.new.items ≡ events.old.items }
 {
     let touching = index.find_touching(alloc, ready, key)?;
+    let copy = key.copy()?;
     let event = Event::Key(key.copy()?);
+    keys.reserve(1)?;
     parts::reserve(ready, index, events, &event, touching.as_slice())?;
-    Ok(event)
+    Ok((event, copy))
 }
 
 impl<N: Naming> Book<N> {
@@ -67,19 +76,28 @@ impl<N: Naming> Book<N> {
         ensures seen { Begins pass.old.seen self.old }
     {
         cache.world().meet(&mut self.seat, &mut pass.seat);
-        if let Some(number) = parts::find_key(&self.index, key) {
-            return Ok(number);
+        let most = cache.world().keys();
+        if let Some(number) = find_key(&self.keys, key) {
+            return Ok(number as u32);
         }
-        if self.keys == cache.world().keys() {
+        let number = self.keys.len();
+        if number >= most as usize {
             return Err(KeyFault::KeysFull);
         }
-        let Ok(event) = reserve_key(alloc, ready, &mut self.index, &mut self.events, key) else {
+        let Ok((event, copy)) = reserve_key(
+            alloc,
+            ready,
+            &mut self.keys,
+            &mut self.index,
+            &mut self.events,
+            key,
+        ) else {
             return Err(KeyFault::Memory);
         };
         cache.world().note(&mut self.seat, &event);
         parts::add(ready, &mut self.index, &mut self.events, event);
+        add_key(&mut self.keys, copy);
         cache.world().meet(&mut self.seat, &mut pass.seat);
-        self.keys += 1;
-        Ok(self.keys - 1)
+        Ok(number as u32)
     }
 }

@@ -13,6 +13,7 @@ mod parts;
 mod pass;
 mod resolved;
 mod seats;
+mod table;
 
 pub use book::Book;
 pub use faults::KeyFault;

@@ -1,22 +1,16 @@
 //! The parts of a book that grow with an event, and what they answer.
 
-ghost use Rattle.std.specs.Prelude.{◌≡◌, ◌<◌, ◌++◌, ◌∷◌, [], ℕ, List, OnOk, IfOk, MatchOption, None, Some, length, slice_get};
-ghost use Rattle.std.specs.List.{Contains};
-ghost use Rattle.jl_model.specs.declared.ty.Key.{Key};
-ghost use Rattle.jl_program.specs.declared.tree.Program.{Program};
+ghost use Rattle.std.specs.Prelude.{◌≡◌, ◌++◌, ◌∷◌, [], List, OnOk, MatchOption, None, Some};
 ghost use Rattle.jl_calculus.specs.declared.history.Event.{Event};
 ghost use Rattle.jl_calculus.specs.Legal.{MayCome};
 ghost use Rattle.jl_calculus.specs.Past.{done_of};
-ghost use Rattle.jl_calculus.specs.Ranges.{keys_of};
 ghost use Rattle.jl_methods.specs.Filters.{ComesWith};
-ghost use Rattle.jl_methods.specs.Indexed.{noted_in, awaited_in, IsIndexOf, IsIndex, MayBeNoted, HasRoomFor};
+ghost use Rattle.jl_methods.specs.Indexed.{noted_in, awaited_in, IsIndexOf, MayBeNoted, HasRoomFor};
 ghost use Rattle.jl_methods.specs.Room.{IsRoomy};
 ghost use Rattle.jl_book.specs.Tasks.{HasEnds};
 
 use jl_calculus::history::{Event, Record};
-use jl_calculus::same::Same;
 use jl_methods::Index;
-use jl_model::ty::Key;
 use jl_sig::Ready;
 use std::alloc::AllocError;
 
@@ -48,20 +42,6 @@ pub(crate) fn add(ready: &Ready, index: &mut Index, events: &mut Vec<Event>, eve
 {
     index.note(ready, &event);
     events.push_reserved(event);
-}
-
-/// The number of a key, if the history has it. It takes no memory.
-pub(crate) fn find_key(index: &Index, key: &Key) -> Option<u32>
-    requires { (P : Program) × IsIndex P index.now }
-    ensures { (P : Program) (es : List Event) → IsIndexOf P es index.now → MatchOption result (Contains (keys_of es) key.now → ⊥) (λ number. slice_get (keys_of es) number ≡ Some key.now) }
-{
-    let numbers = index.keys_of(key.function);
-    for number in numbers {
-        if index.key(*number).same(key) {
-            return Some(*number);
-        }
-    }
-    None
 }
 
 /// What a task did, where it has ended.

@@ -13,6 +13,7 @@ use Rattle.std.proofs.hash.FoldHasher.TheSendSync as hasher
 use Rattle.std.specs.contracts.hash.FoldHasher as fold
 use Rattle.std.specs.contracts.option.Option as option_type
 use Rattle.indexmap.proofs.map.IndexMap.TheSendSync as indexmap
+use Rattle.indexmap.proofs.set.IndexSet.TheSendSync as indexset
 use Rattle.jl_model.specs.contracts.ty.Key as key
 use Rattle.jl_program.specs.contracts.tree.Start as start
 use Rattle.jl_calculus.specs.contracts.history.Def as def
@@ -52,8 +53,19 @@ numbers_send = view_send numbers_inside.the_row _ _ _ _ (recorded_send numbers_i
 
 module _ (N : RattleType) (g : naming.Ghosts N.Denot) where
   pub book_send : IsSend (book.the_row N g)
-  book_send = view_send (book_inside.the_row N g) _ _ _ _ (declared_send (book_inside.the_type N g)
-      (as_row_send (seat.the_field N g) (seats.the_send N g), (vec_send event.the_row event_send, (index_send, (number_send, (vec_send (option_type.the_row u32) (option.the_send u32 word_send), (number_send, tt)))))))
+  book_send = view_send (book_inside.the_row N g) _ _ _ _ (declared_send (book_inside.the_type N g) (
+    as_row_send (seat.the_field N g) (seats.the_send N g),
+    (
+      vec_send event.the_row event_send,
+      (
+        index_send,
+        (
+          indexset.the_send _ _ _ fold.the_row _ _ _ _ _ key_send (builder.the_send fold.the_row hasher.the_send) heap.the_send frees,
+          (vec_send (option_type.the_row u32) (option.the_send u32 word_send), (number_send, tt)),
+        ),
+      ),
+    ),
+  ))
 
   known_send : IsSend (known.the_row N g)
   known_send = view_send (known_inside.the_row N g) _ _ _ _ (declared_send (known_inside.the_type N g)

@@ -1,9 +1,11 @@
 -- The keys that a task has met keep their numbers.
-use Rattle.std.proofs.Common.{◌≡◌, ◌∙◌, ap, sym, subst, ℕ, zero, suc, ◌⊎◌, inl, inr, List, [], ◌∷◌, ◌++◌, Option, None, Some, slice_get, refl, is_some, false}
+use Rattle.std.proofs.Common.{◌≡◌, ◌∙◌, ap, sym, subst, ℕ, zero, suc, ◌⊎◌, inl, inr, Bool, true, false, cond, List, [], ◌∷◌, ◌++◌, Option, None, Some, slice_get, refl, is_some}
+use Rattle.std.specs.Map.{lookup_key}
 use Rattle.jl_model.specs.declared.ty.Key.{Key}
 use Rattle.jl_calculus.specs.declared.history.Event.{Event}
 use Rattle.jl_calculus.specs.Learnt.{IsNamed}
 use Rattle.jl_world.specs.Views.{Begins}
+use Rattle.jl_book.proofs.KeyTests.{key_test, keys_same}
 use Rattle.jl_runner.specs.Keys.{AreNamed}
 use Rattle.jl_runner.proofs.KnowingLemmas.{named_so}
 
@@ -37,3 +39,12 @@ named_kept es old new key number (inr e) h all = subst (AreNamed es) (sym e) wit
 pub none_is : {X : Type 0} (o : Option X) → is_some o ≡ false → o ≡ None
 none_is None e = refl
 none_is (Some x) e = absurd cc
+
+-- the key that a table finds is the one that was asked for
+pub found_key : (key : Key) (es : List (Key × ℕ)) (x : Key) → lookup_key (key_test key) es ≡ Some x → x ≡ key
+found_key key [] x h = absurd cc
+found_key key (e ∷ es) x h = by (key_test key e.0) (λ i. keys_same key e.0 i) h (found_key key es x)
+  where
+    by : (b : Bool) → (b ≡ true → key ≡ e.0) → cond b (Some e.0) (lookup_key (key_test key) es) ≡ Some x → (lookup_key (key_test key) es ≡ Some x → x ≡ key) → x ≡ key
+    by true i f rest = let at : key ≡ e.0 = i cc in let is : e.0 ≡ x = cc in cc
+    by false i f rest = rest f

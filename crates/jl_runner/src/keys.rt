@@ -1,11 +1,10 @@
 //! The numbers of the keys that a task has met.
 
-ghost use Rattle.std.specs.Prelude.{◌≡◌, ◌⊎◌, ◌++◌, ◌∷◌, [], IsTrue, MatchOption, OnOk, OnErr};
+ghost use Rattle.std.specs.Prelude.{◌≡◌, ◌⊎◌, ◌++◌, ◌∷◌, [], MatchOption, OnOk, OnErr};
 ghost use Rattle.jl_runner.specs.Keys.{IsNumbered};
 
 use indexmap::IndexMap;
 use jl_model::ty::Key;
-use jl_types::same::same_all;
 use std::alloc::{AllocError, Global};
 use std::marker::Model;
 
@@ -28,13 +27,6 @@ impl Model for KeyNumbers {
     ghost view = { λ t. t.numbers.entries };
 }
 
-/// Whether two keys are the same.
-fn is_same(a: &Key, b: &Key) -> bool
-    ensures { IsTrue result → a.now ≡ b.now }
-{
-    a.function == b.function && same_all(a.types.as_slice(), b.types.as_slice())
-}
-
 impl KeyNumbers {
     /// No key yet.
     pub(crate) fn new(alloc: Global) -> KeyNumbers
@@ -45,17 +37,12 @@ impl KeyNumbers {
         }
     }
 
-    /// The number of a key. That the table's own test finds the key says nothing of it to a proof, so it is compared once more.
+    /// The number of a key.
     pub(crate) fn find(&self, key: &Key) -> Option<u32>
         ensures { MatchOption result (Unit {0}) (λ number. IsNumbered self.now key.now number) }
     {
         match self.numbers.get_full(key) {
-            Some((_, found, number)) => {
-                if is_same(found, key) {
-                    return Some(*number);
-                }
-                None
-            }
+            Some((_, _, number)) => Some(*number),
             None => None,
         }
     }

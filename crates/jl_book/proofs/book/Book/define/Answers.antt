@@ -1,4 +1,4 @@
-use Rattle.std.proofs.Common.{◌≡◌, ◌∙◌, ap, sym, subst, arith, refl, ◌<◌, ◌++◌, ◌∷◌, [], List}
+use Rattle.std.proofs.Common.{◌≡◌, ◌∙◌, append-nil, ap, sym, subst, arith, refl, ◌<◌, ◌++◌, ◌∷◌, [], List}
 use Rattle.jl_calculus.specs.declared.history.Event.{Event}
 use Rattle.jl_calculus.specs.declared.history.Event.TheVariants as Ev
 use Rattle.jl_calculus.specs.Legal.{IsDefinition, MayCome}
@@ -48,13 +48,13 @@ overflow_cast-result g c =
     let room : world_of es < 65535 = omega (arith, c.worlds.ensures P es h.filters, c.if-worlds-ge-MOST_WORLDS.false) in
     let may : IsDefinition P es t c.args.site = record { running = run; past_prelude = c.requires.site.0; of_program = c.requires.site.1; room = room } in
     let here = subst (λ p. IsIndexOf p es i.index) (sym c.requires.ready) h.filters in
-    let now : HasParts about c.publish.new.book.events c.publish.new.book c.add.new.events.items c.add.new.index i.keys i.ends.items i.unfinished =
-    parts_added about es i.seat i.events.items i.index i.keys i.ends.items i.unfinished h Q c.requires.ready e
-    c.publish.new.book c.add.new.events.items c.reserve_def.new.index c.add.new.index i.keys
+    let now : HasParts about c.publish.new.book.events c.publish.new.book c.add.new.events.items c.add.new.index i.keys.keys i.ends.items i.unfinished =
+    parts_added about es i.seat i.events.items i.index i.keys.keys i.ends.items i.unfinished h Q c.requires.ready e
+    c.publish.new.book c.add.new.events.items c.reserve_def.new.index c.add.new.index i.keys.keys
     (c.publish.ensures.book ∙ ap (λ xs. at_rest (xs ++ e ∷ [])) same)
     (c.add.ensures.events ∙ (λ k. c.in-Ok.ensures.events k ++ c.in-Ok.ensures.event k ∷ []))
     (history_push about es e h.book.history may tt tt)
-    c.requires.site.1 tt (λ u. refl) refl (omega arith)
+    c.requires.site.1 tt (λ u. refl) refl (sym (append-nil i.keys.keys))
     c.in-Ok.ensures.noted
     (subst (AreTouched Q (keys_of es) c.args.site) (sym c.in-Ok.ensures.awaited) (c.in-Ok.ensures.touched es here))
     (subst (λ (x : Event). (xs : List Event) → IsIndexOf Q xs c.reserve_def.new.index → MayCome Q xs x → ComesWith Q xs x (awaited_in c.reserve_def.new.index) → IsIndexOf Q (xs ++ x ∷ []) c.add.new.index) c.in-Ok.ensures.event c.add.ensures.index)
@@ -76,12 +76,12 @@ invariant_of-self-2 g c =
     let room : world_of es < 65535 = omega (arith, c.worlds.ensures P es h.filters, c.if-worlds-ge-MOST_WORLDS.false) in
     let may : IsDefinition P es t c.args.site = record { running = run; past_prelude = c.requires.site.0; of_program = c.requires.site.1; room = room } in
     let here = subst (λ p. IsIndexOf p es i.index) (sym c.requires.ready) h.filters in
-    parts_added about es i.seat i.events.items i.index i.keys i.ends.items i.unfinished h Q c.requires.ready e
-    c.publish.new.book c.add.new.events.items c.reserve_def.new.index c.add.new.index i.keys
+    parts_added about es i.seat i.events.items i.index i.keys.keys i.ends.items i.unfinished h Q c.requires.ready e
+    c.publish.new.book c.add.new.events.items c.reserve_def.new.index c.add.new.index i.keys.keys
     (c.publish.ensures.book ∙ ap (λ xs. at_rest (xs ++ e ∷ [])) same)
     (c.add.ensures.events ∙ (λ k. c.in-Ok.ensures.events k ++ c.in-Ok.ensures.event k ∷ []))
     (history_push about es e h.book.history may tt tt)
-    c.requires.site.1 tt (λ u. refl) refl (omega arith)
+    c.requires.site.1 tt (λ u. refl) refl (sym (append-nil i.keys.keys))
     c.in-Ok.ensures.noted
     (subst (AreTouched Q (keys_of es) c.args.site) (sym c.in-Ok.ensures.awaited) (c.in-Ok.ensures.touched es here))
     (subst (λ (x : Event). (xs : List Event) → IsIndexOf Q xs c.reserve_def.new.index → MayCome Q xs x → ComesWith Q xs x (awaited_in c.reserve_def.new.index) → IsIndexOf Q (xs ++ x ∷ []) c.add.new.index) c.in-Ok.ensures.event c.add.ensures.index)

@@ -20,7 +20,7 @@ invariant_of-self-2 g c =
     let fits = c.end-event.ensures.fits in
     let run = (view_is about.program.value es t v c.pass.invariant.task fits).running in
     let over = subst (λ x. IsRunOver about x c.args.ended) (sym c.pass.view_is) c.requires.run in
-    parts_ended about es c.self.inside.seat c.self.inside.events.items c.self.inside.index c.self.inside.keys c.self.inside.ends.items c.self.inside.unfinished c.self.invariant t c.args.ended
+    parts_ended about es c.self.inside.seat c.self.inside.events.items c.self.inside.index c.self.inside.keys.keys c.self.inside.ends.items c.self.inside.unfinished c.self.invariant t c.args.ended
     c.end-event.new.book c.push_reserved.new.self.items _ _
     c.end-event.ensures.book
     (c.push_reserved.ensures.items ∙ (λ i. c.in-Ok.ensures.items i ++ c.end-event.ensures.event i ∷ []))

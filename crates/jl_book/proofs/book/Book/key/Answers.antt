@@ -1,4 +1,4 @@
-use Rattle.std.proofs.Common.{◌≡◌, ◌∙◌, ap, sym, subst, arith, refl, ◌++◌, ◌+◌, ◌∷◌, [], List, inl}
+use Rattle.std.proofs.Common.{◌≡◌, ◌∙◌, ap, sym, subst, refl, ◌++◌, ◌∷◌, [], List, inl, length, slice_get, Some}
 use Rattle.std.specs.List.{Contains}
 use Rattle.jl_calculus.specs.declared.history.Event.{Event}
 use Rattle.jl_calculus.specs.declared.history.Event.TheVariants as Ev
@@ -20,18 +20,18 @@ pub returns-in-Some-clause-added : goal.returns-in-Some-clause-added
 returns-in-Some-clause-added g c =
     let es = c.self.inside.seat.events in
     let k = c.args.key.now in
-    let at = c.in-Some.ensures g.N.Naming.about.program.value es c.self.invariant.filters in
+    let at : slice_get (keys_of es) c.in-Some.number ≡ Some k = ap (λ ks. slice_get ks c.in-Some.number) (sym c.self.invariant.named) ∙ c.in-Some.ensures in
     inl (subst (λ xs. Contains (keys_of xs) k) c.self.view_is (contains_at (keys_of es) c.in-Some.number k at), ap (λ (b : BookView). b.events) c.meet.ensures.book ∙ c.self.view_is)
 
 pub returns-in-Some-clause-full : goal.returns-in-Some-clause-full
 returns-in-Some-clause-full g c =
     let es = c.self.inside.seat.events in
     let k = c.args.key.now in
-    let at = c.in-Some.ensures g.N.Naming.about.program.value es c.self.invariant.filters in
+    let at : slice_get (keys_of es) c.in-Some.number ≡ Some k = ap (λ ks. slice_get ks c.in-Some.number) (sym c.self.invariant.named) ∙ c.in-Some.ensures in
     (λ e. cc, λ full. absurd (full.new (subst (λ xs. Contains (keys_of xs) k) c.self.view_is (contains_at (keys_of es) c.in-Some.number k at))))
 
-pub invariant_of-pass-then-self-keys : goal.invariant_of-pass-then-self-keys
-invariant_of-pass-then-self-keys g c =
+pub invariant_of-pass-then-number-most : goal.invariant_of-pass-then-number-most
+invariant_of-pass-then-number-most g c =
     met_pass g.N.Naming.about c.self.inside.seat.events c.pass.inside.task c.pass.inside.seat c.meet.new.seat c.pass.invariant c.meet.ensures.fits.prefix c.meet.ensures.seat
 
 pub invariant_of-pass-in_default-reserve_key : goal.invariant_of-pass-in_default-reserve_key
@@ -48,12 +48,13 @@ invariant_of-self-2 g c =
     let e : Event = Ev.Key c.args.key.now in
     let noted : c.note.new.book ≡ at_rest (es ++ e ∷ []) = c.note.ensures ∙ (λ k. grown (c.in-Ok.ensures.event k) (c.meet.ensures.book k)) ∙ ap (grown e) h.knows in
     let here = subst (λ p. IsIndexOf p es i.index) (sym c.requires.ready) h.filters in
-    parts_added about es i.seat i.events.items i.index i.keys i.ends.items i.unfinished h Q c.requires.ready e
-    c.meet-2.new.book c.add.new.events.items c.reserve_key.new.index c.add.new.index (i.keys + 1)
+    parts_added about es i.seat i.events.items i.index i.keys.keys i.ends.items i.unfinished h Q c.requires.ready e
+    c.meet-2.new.book c.add.new.events.items c.reserve_key.new.index c.add.new.index c.add_key.new.keys.keys
     (c.meet-2.ensures.book ∙ noted)
     (c.add.ensures.events ∙ (λ k. c.in-Ok.ensures.events k ++ c.in-Ok.ensures.event k ∷ []))
     (subst (λ (b : BookView). IsHistory about b.events) noted c.meet-2.ensures.history)
-    c.requires.key tt (λ t. refl) refl (omega arith)
+    c.requires.key tt (λ t. refl) refl
+    (c.add_key.ensures ∙ (λ k. c.in-Ok.ensures.keys k ++ c.in-Ok.ensures.key k ∷ []))
     c.in-Ok.ensures.noted
     (c.in-Ok.ensures.awaited es here)
     (subst (λ (x : Event). (xs : List Event) → IsIndexOf Q xs c.reserve_key.new.index → MayCome Q xs x → ComesWith Q xs x (awaited_in c.reserve_key.new.index) → IsIndexOf Q (xs ++ x ∷ []) c.add.new.index) c.in-Ok.ensures.event c.add.ensures.index)
@@ -70,4 +71,4 @@ returns-clause-named g c =
     let es = c.self.inside.seat.events in
     let e : Event = Ev.Key c.args.key.now in
     let noted : c.note.new.book ≡ at_rest (es ++ e ∷ []) = c.note.ensures ∙ (λ k. grown (c.in-Ok.ensures.event k) (c.meet.ensures.book k)) ∙ ap (grown e) c.self.invariant.knows in
-    named_last es c.meet-2.new.book.events c.args.key.now c.self.inside.keys (ap (λ (b : BookView). b.events) (c.meet-2.ensures.book ∙ noted)) c.self.invariant.named
+    named_last es c.meet-2.new.book.events c.args.key.now c.len-number.result (ap (λ (b : BookView). b.events) (c.meet-2.ensures.book ∙ noted)) (c.len-number.ensures.len ∙ ap length c.self.invariant.named)

@@ -57,7 +57,7 @@ invariant_of-self-2 g c =
     let room : tasks_of es < 4096 = omega (arith, c.len.ensures ∙ i.ends.ok.0 ∙ h.ended.all, c.if-len-ge-MOST_TASKS.false) in
     let run = (view_is about.program.value es t c.pass.inside.seat c.pass.invariant.task c.meet.ensures.fits).running in
     let may : IsSpawn about.program.value es t child start = record { running = run; of_program = c.requires.valid.place; next = next; room = room } in
-    parts_spawned about es i.seat i.events.items i.index i.keys i.ends.items i.unfinished h t child start
+    parts_spawned about es i.seat i.events.items i.index i.keys.keys i.ends.items i.unfinished h t child start
     c.spawn-event.new.book c.push_reserved.new.self.items c.push_reserved-2.new.self.items (i.unfinished + 1)
     (c.spawn-event.ensures.book ∙ (λ k. at_rest ((c.meet.ensures.book k).events ++ Ev.Spawn t child (c.in-Ok.ensures.start k) ∷ [])))
     (c.push_reserved.ensures.items ∙ (λ k. c.in-Ok.ensures.events k ++ (c.spawn-event.ensures.event ∙ ap (Ev.Spawn t child) c.in-Ok.ensures.start) k ∷ []))
