@@ -35,7 +35,7 @@ use Rattle.jl_calculus.specs.Core.{in_outcome}
 use Rattle.jl_point.proofs.AskedLemmas.{task_failed_valid, world_limit_valid, task_limit_valid, not_task_valid, ended_good, acted_good, acting_values, latest_good}
 use Rattle.jl_point.proofs.ValueTypes.{task_valid, nothing_valid}
 use Rattle.jl_point.proofs.ItemsKept.{item_bind_good, item_do_good, item_define_good, items_end, define_good}
-use Rattle.jl_dispatcher.specs.Knows.{Knows, Grew, Asked, Defined, WorldsFull, Spawned, TasksFull, Fetched}
+use Rattle.jl_dispatcher.specs.Knows.{Knows, Grew, Asked, Defined, WorldsFull, Spawned, TasksFull, Fetched, IsNotDone}
 use Rattle.jl_fit.specs.Fits.{Fitting, IsKnowing, Steps, fetched_outcome}
 use Rattle.jl_fit.specs.Known.{IsKnown, IsFetchOf, known_tasks, Mentions, AllMention, StackMentions, PointMentions}
 use Rattle.jl_fit.proofs.KnowingSteps.{knows_on, knows_item, spawned_mentions}
@@ -290,10 +290,11 @@ module _ (k k' : Knows) (t : Task) (e a : Expr) (is : out-Expr e ≡ F.Fetch a) 
       lent_refused (Ok work) n first
       (not_task_valid k.program (first_value xs) h.valid (first_valid k.program xs (acting_values k.program h.valid.views e xs (now_of t.now) h.good))) reach
 
-  pub lent_waits : (task : ℕ) → task_of (first_value xs) ≡ Some task → Asked k k' → LentWaits k (W.Acting e xs) t k' task t
-  lent_waits task first asked = record {
+  pub lent_waits : (task : ℕ) → task_of (first_value xs) ≡ Some task → Asked k k' → IsNotDone k' task → LentWaits k (W.Acting e xs) t k' task t
+  lent_waits task first asked running = record {
     waits = waits k k' (progress_of t) (W.Acting e xs) asked h;
     knows = knows_on k k' asked.grew.start (W.Acting e xs) (W.Acting e xs) (progress_of t) (progress_of t) asked.starts refl (λ K m. m);
     known = known_first task first;
+    running = running;
     same = refl;
   }

@@ -29,7 +29,7 @@ use Rattle.jl_point.specs.declared.point.Work.TheVariants as W
 use Rattle.jl_point.specs.declared.point.Now.{Now}
 use Rattle.jl_point.specs.ValidPoint.{IsGoodPoint}
 use Rattle.jl_point.specs.Weight.{turns_left}
-use Rattle.jl_dispatcher.specs.Knows.{Knows, Looked, Refused}
+use Rattle.jl_dispatcher.specs.Knows.{Knows, Looked, Refused, IsNotDone}
 use Rattle.jl_dispatcher.specs.Worlds.{IsWorld}
 use Rattle.jl_fit.specs.Asks.{Job}
 use Rattle.jl_fit.specs.Fits.{Progress, FitsWith, IsKnowing, Steps, Waits, IsFresh, IsRunOf}
@@ -58,11 +58,12 @@ pub record LentSteps (k : Knows) (w : Work) (t : Task) (k' : Knows) (work : Lent
   pub knows : KnowsOn k w t k' (work_of work t'.now) t'
   pub settled : IsSettled work t'.now
 
--- a task that waits for another, which it knows, is as it was
+-- a task that waits for another, which it knows and which has not ended, is as it was
 pub record LentWaits (k : Knows) (w : Work) (t : Task) (k' : Knows) (task : ℕ) (t' : Task) : Type 0 where
   pub waits : Waits k w (progress_of t) k'
   pub knows : KnowsOn k w t k' w t
   pub known : IsKnowing k w (progress_of t) → IsKnown k.start t.trace task
+  pub running : IsNotDone k' task
   pub same : t' ≡ t
 
 -- what a turn leads to
@@ -157,6 +158,12 @@ abbrev pub TurnSays : Program → Machine → Machine → Turn → Type 0
 TurnSays P before now T.Again = turns_of P now < turns_of P before
 TurnSays P before now (T.NeedFetch task) = now ≡ before
 TurnSays P before now T.Done = IsEnded now
+
+-- a task for which a machine waits has not ended among the events that were then seen
+abbrev pub WaitsRightly : Knows → Turn → Type 0
+WaitsRightly k T.Again = Unit {0}
+WaitsRightly k (T.NeedFetch task) = IsNotDone k task
+WaitsRightly k T.Done = Unit {0}
 
 -- a machine that goes on to wait for a task knows it, and each task that it fetched so far
 pub record KnowsTasks (start : Option Start) (before now : List TraceItem) (turn : Turn) : Type 0 where

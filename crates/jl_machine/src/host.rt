@@ -13,6 +13,7 @@ use jl_program::fault::Fault;
 use jl_program::value::Value;
 
 /// A number as an operation sees it: a truth value is 1 or 0.
+#[inline(always)]
 fn number_of(value: &Value) -> i64
     ensures { result ≡ number_of value.now }
 {
@@ -24,6 +25,7 @@ fn number_of(value: &Value) -> i64
 }
 
 /// The number at a place; 0 where there is none.
+#[inline(always)]
 fn number_at(values: &[Value], place: usize) -> i64
     ensures { result ≡ number_of (get_or values.now place Nothing) }
 {
@@ -34,6 +36,7 @@ fn number_at(values: &[Value], place: usize) -> i64
 }
 
 /// A reply as the outcome of a call.
+#[inline(always)]
 fn outcome_of(reply: OpReply) -> Outcome
     ensures { result ≡ outcome_of reply }
 {
@@ -45,6 +48,7 @@ fn outcome_of(reply: OpReply) -> Outcome
 }
 
 /// What an operation of the prelude gives for the arguments that it takes.
+#[inline(always)]
 pub(crate) fn operate(ops: &HostOps, operation: u32, values: &[Value]) -> Outcome
     requires there { operation < PRELUDE_SITES }
     requires taken { IsTakenBy operation values.now }

@@ -24,7 +24,7 @@ ghost use Rattle.jl_machine.specs.Acting.{IsOperation};
 ghost use Rattle.jl_machine.specs.Fetched.{task_of};
 ghost use Rattle.jl_fit.specs.Fits.{fetched_outcome};
 ghost use Rattle.jl_point.specs.Size.{program_size};
-ghost use Rattle.jl_machine.specs.Steps.{fuel_of, trace_of, turns_of, job_with, MachineFits, TurnSays, KnowsTasks, IsLost, IsEnded, IsNewRoot, IsNewTask, HasEnded, IsRecordOf, IsFirst, progress_of, LentSteps, LentWaits, Goes, HasLooked, IsWorking, variables_at, AppliesAt};
+ghost use Rattle.jl_machine.specs.Steps.{fuel_of, trace_of, turns_of, job_with, MachineFits, TurnSays, WaitsRightly, KnowsTasks, IsLost, IsEnded, IsNewRoot, IsNewTask, HasEnded, IsRecordOf, IsFirst, progress_of, LentSteps, LentWaits, Goes, HasLooked, IsWorking, variables_at, AppliesAt};
 
 use crate::now::{LentNow, LentWork};
 use crate::{acts, turns};
@@ -160,6 +160,7 @@ fn fetched_outcome(task: u32, outcome: Outcome) -> Outcome
 
 impl<'p> Task<'p> {
     /// A look, which the trace keeps.
+    #[inline(always)]
     fn look<D: Dispatcher>(&mut self, with: &mut D) -> Result<u32, AllocError>
         requires { looks_of self.old.trace ≡ (D.knows with.old).looks }
         ensures { IfOk result (λ w. HasLooked (D.knows with.old) (D.knows with.new) w self.old self.new) }
@@ -177,6 +178,7 @@ impl<'p> Task<'p> {
     }
 
     /// A call whose arguments are the open values: the fuel, then the open calls, then the choice of a method.
+    #[inline(always)]
     fn call<D: Recall>(
         &mut self,
         ready: &'p Ready,
@@ -191,11 +193,11 @@ impl<'p> Task<'p> {
         ensures { IfOk result (λ work. LentSteps (D.knows with.old) (W.Calling function world self.old.now.frames.open_values) self.old (D.knows with.new) work self.new) }
     {
         if self.calls >= self.fuel {
-            return Ok(turns::end(&mut self.now, Outcome::Error(Fault::FuelSpent(self.fuel))));
+            return Ok(turns::end_spent(&mut self.now, self.fuel));
         }
         if self.now.room == 0 {
             self.calls += 1;
-            return Ok(turns::end(&mut self.now, Outcome::Error(Fault::StackLimit)));
+            return Ok(turns::end_deep(&mut self.now));
         }
         match with.recall(function, self.now.frames.open_values(), world) {
             Some(found) => {
@@ -224,6 +226,7 @@ impl<'p> Task<'p> {
     }
 
     /// A call that is not recalled: a key is made, and a method chosen and remembered.
+    #[inline(never)]
     fn choose<D: Recall>(
         &mut self,
         ready: &'p Ready,
@@ -272,6 +275,7 @@ impl<'p> Task<'p> {
     }
 
     /// The next statement at the top or of an evaluated block, which looks first. The value of the one before is open.
+    #[inline(always)]
     fn go_items<D: Dispatcher>(
         &mut self,
         with: &mut D,
@@ -292,6 +296,7 @@ impl<'p> Task<'p> {
     }
 
     /// A definition that has looked is made.
+    #[inline(always)]
     fn define<D: Dispatcher>(
         &mut self,
         with: &mut D,
@@ -319,6 +324,7 @@ impl<'p> Task<'p> {
     }
 
     /// A task is spawned at a place.
+    #[inline(always)]
     fn spawn<D: Dispatcher>(
         &mut self,
         with: &mut D,
@@ -353,6 +359,7 @@ impl<'p> Task<'p> {
     }
 
     /// A value that is no task is fetched. It is the one open value.
+    #[inline(always)]
     fn refuse_fetch(&mut self, ready: &Ready) -> Result<LentWork<'p>, AllocError>
         requires { IsOne self.old.now.frames }
         ensures reaches { IfOk result (λ work. Reaches work self.new.now (W.Ended (Outcome.Error (Fault.NotTask (type_of (given_value self.old.now)))), now_of self.old.now)) }
@@ -365,6 +372,7 @@ impl<'p> Task<'p> {
     }
 
     /// A task is fetched: the value that is fetched is the one open value.
+    #[inline(always)]
     fn fetch<D: Dispatcher>(
         &mut self,
         ready: &Ready,
@@ -393,6 +401,7 @@ impl<'p> Task<'p> {
     }
 
     /// A form that asks nobody has its answer.
+    #[inline(never)]
     fn operate<D: Recall>(
         &mut self,
         ready: &Ready,
@@ -411,6 +420,7 @@ impl<'p> Task<'p> {
     }
 
     /// An expression acts, whose parts are the open values.
+    #[inline(always)]
     fn act<D: Recall>(
         &mut self,
         ready: &'p Ready,
@@ -447,6 +457,7 @@ impl<'p> Task<'p> {
     }
 
     /// One turn: what comes next, and what comes after it.
+    #[inline(always)]
     fn turn<D: Recall>(
         &mut self,
         ready: &'p Ready,
@@ -595,7 +606,9 @@ impl<'p> Machine<'p> {
     /// One turn. It keeps that the machine fits its dispatcher, leaves fewer turns, and adds at most one item to the trace, which
     /// answers what the task asked there. It fetches and waits for tasks alone that it knows: those that its start mentions, that it
     /// spawned, or that an outcome mentions that it fetched before. `NeedFetch` comes exactly where the dispatcher answered that a task
-    /// has not ended yet, and the machine is then as it was. After want of memory the machine is lost: it answers so at each later turn.
+    /// has not ended yet (`waits`), and the machine is then as it was. After out of memory the machine is lost: it answers so at each
+    /// later turn.
+    #[inline(always)]
     pub fn step<D: Recall>(
         &mut self,
         ready: &'p Ready,
@@ -605,6 +618,7 @@ impl<'p> Machine<'p> {
         requires { MachineFits ready.now (fuel_of self.old) (D.knows with.old) self.old }
         ensures fits { MachineFits ready.now (fuel_of self.new) (D.knows with.new) self.new }
         ensures turn { IfOk result (λ turn. TurnSays ready.now self.old self.new turn) }
+        ensures waits { IfOk result (λ turn. WaitsRightly (D.knows with.new) turn) }
         ensures fuel { IfOk result (λ _. fuel_of self.new ≡ fuel_of self.old) }
         ensures tells { IfOk result (λ _. Tells (job_with ready.now (fuel_of self.old) (D.knows with.old)) (D.knows with.old) (trace_of self.old) (D.knows with.new) (trace_of self.new)) }
         ensures knows { IfOk result (λ turn. KnowsTasks (D.knows with.old).start (trace_of self.old) (trace_of self.new) turn) }

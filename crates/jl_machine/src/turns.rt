@@ -1,10 +1,13 @@
-//! What the machine does by itself. Each of these answers what comes next.
+//! What the machine does by itself. Each of these answers what comes next. They are inlined into the loop of a run: at a call the place
+//! of a result is cleared first, and the result is copied.
 
 ghost use Rattle.std.specs.Prelude.{◌≡◌, ◌<◌, [], ◌∷◌, IfOk, length, map, slice_get};
 ghost use Rattle.jl_program.specs.declared.tree.Expr.{out-Expr};
 ghost use Rattle.jl_program.specs.declared.tree.Stmt.{out-Stmt};
 ghost use Rattle.jl_program.specs.declared.tree.Item.{out-Item};
 ghost use Rattle.jl_program.specs.declared.value.Value.TheVariants as V;
+ghost use Rattle.jl_program.specs.declared.fault.Fault.TheVariants as E;
+ghost use Rattle.jl_calculus.specs.declared.history.Outcome.TheVariants as O;
 ghost use Rattle.jl_frames.specs.Held.{IsOne, first_value};
 ghost use Rattle.jl_point.specs.declared.point.Work.TheVariants as W;
 ghost use Rattle.jl_point.specs.Turns.{go_pieces, go_stmts, tested, after_stmt, after_item, left, answered, entered, looked_item};
@@ -40,6 +43,7 @@ fn int_value(number: &i64) -> Value
 }
 
 /// Opens the value of a leaf, and tells whether it was one.
+#[inline(always)]
 fn push_leaf(frames: &mut Frames<'_>, expr: &Expr) -> Result<bool, AllocError>
     ensures { IfOk result (λ is. Leafed is (leaf frames.old.env (out-Expr expr.now)) frames.old frames.new) }
 {
@@ -65,6 +69,7 @@ fn push_leaf(frames: &mut Frames<'_>, expr: &Expr) -> Result<bool, AllocError>
 }
 
 /// The parts of an expression that are leaves, up to the first that is none, or the expression acts.
+#[inline(always)]
 fn go_args<'p>(
     now: &mut LentNow<'p>,
     expr: &'p Expr,
@@ -83,6 +88,7 @@ fn go_args<'p>(
 }
 
 /// The one part of an expression, or its last one.
+#[inline(always)]
 fn go_last<'p>(
     now: &mut LentNow<'p>,
     expr: &'p Expr,
@@ -99,6 +105,7 @@ fn go_last<'p>(
 }
 
 /// The two sides of a comparison.
+#[inline(always)]
 fn go_both<'p>(
     now: &mut LentNow<'p>,
     expr: &'p Expr,
@@ -116,6 +123,7 @@ fn go_both<'p>(
 }
 
 /// The task ends.
+#[inline(never)]
 pub(crate) fn end<'p>(now: &mut LentNow<'p>, outcome: Outcome) -> LentWork<'p>
     ensures { Reaches result now.new (W.Ended outcome, now_of now.old) }
 {
@@ -123,7 +131,24 @@ pub(crate) fn end<'p>(now: &mut LentNow<'p>, outcome: Outcome) -> LentWork<'p>
     LentWork::Ended
 }
 
+/// The task ends, since it has made as many calls as it may.
+#[inline(never)]
+pub(crate) fn end_spent<'p>(now: &mut LentNow<'p>, fuel: u64) -> LentWork<'p>
+    ensures { Reaches result now.new (W.Ended (O.Error (E.FuelSpent fuel)), now_of now.old) }
+{
+    end(now, Outcome::Error(Fault::FuelSpent(fuel)))
+}
+
+/// The task ends, since as many calls are open as may be.
+#[inline(never)]
+pub(crate) fn end_deep<'p>(now: &mut LentNow<'p>) -> LentWork<'p>
+    ensures { Reaches result now.new (W.Ended (O.Error E.StackLimit), now_of now.old) }
+{
+    end(now, Outcome::Error(Fault::StackLimit))
+}
+
 /// An expression is begun.
+#[inline(always)]
 pub(crate) fn begin<'p>(now: &mut LentNow<'p>, expr: &'p Expr) -> Result<LentWork<'p>, AllocError>
     requires { IsClosed now.old.frames }
     ensures { IfOk result (λ work. Reaches work now.new (skip_begun expr.now (now_of now.old))) }
@@ -171,6 +196,7 @@ fn truth_of(values: &[Value]) -> Option<bool>
 }
 
 /// The branch that a condition takes: the condition's value is open.
+#[inline(always)]
 fn branch<'p>(
     ready: &'p Ready,
     now: &mut LentNow<'p>,
@@ -214,6 +240,7 @@ fn branch<'p>(
 }
 
 /// A statement of a block has its value, which is open.
+#[inline(always)]
 fn after_stmt<'p>(
     now: &mut LentNow<'p>,
     stmt: &'p Stmt,
@@ -233,6 +260,7 @@ fn after_stmt<'p>(
 }
 
 /// A statement at the top or of an evaluated block has its value, which is open.
+#[inline(always)]
 fn after_item<'p>(
     now: &mut LentNow<'p>,
     item: &'p Item,
@@ -253,6 +281,7 @@ fn after_item<'p>(
 }
 
 /// The one open value is given to the topmost frame.
+#[inline(always)]
 pub(crate) fn give<'p>(ready: &'p Ready, now: &mut LentNow<'p>) -> Result<LentWork<'p>, AllocError>
     requires { IsGiven now.old.frames }
     ensures { IfOk result (λ work. Reaches work now.new (skip_given ready.now now.old.frames.stack (given_value now.old) (now_of now.old))) }
@@ -287,6 +316,7 @@ pub(crate) fn give<'p>(ready: &'p Ready, now: &mut LentNow<'p>) -> Result<LentWo
 }
 
 /// A `return` passes the topmost frame.
+#[inline(always)]
 pub(crate) fn leave<'p>(now: &mut LentNow<'p>) -> LentWork<'p>
     requires { IsGiven now.old.frames }
     ensures { Reaches result now.new (left now.old.frames.stack (given_value now.old) (now_of now.old)) }
@@ -318,6 +348,7 @@ pub(crate) fn leave<'p>(now: &mut LentNow<'p>) -> LentWork<'p>
 }
 
 /// The next piece of a `print`, or its end: the text is written when all of it is there.
+#[inline(always)]
 pub(crate) fn go_pieces<'p>(
     now: &mut LentNow<'p>,
     pieces: &'p [Piece],
@@ -346,6 +377,7 @@ pub(crate) fn go_pieces<'p>(
 }
 
 /// The next statement of a block, or its end: the value of the one before is open.
+#[inline(always)]
 pub(crate) fn go_stmts<'p>(
     now: &mut LentNow<'p>,
     stmts: &'p [Stmt],
@@ -368,6 +400,7 @@ pub(crate) fn go_stmts<'p>(
 }
 
 /// What an operation answers: nothing is open.
+#[inline(always)]
 pub(crate) fn answer<'p>(
     now: &mut LentNow<'p>,
     outcome: Outcome,
@@ -385,6 +418,7 @@ pub(crate) fn answer<'p>(
 }
 
 /// An operation of the prelude, whose arguments are the open values.
+#[inline(always)]
 fn operation<'p>(
     now: &mut LentNow<'p>,
     ops: &HostOps,
@@ -401,6 +435,7 @@ fn operation<'p>(
 }
 
 /// A method's body is begun, in a world and with these types for its static parameters. Its arguments are the open values.
+#[inline(always)]
 fn enter<'p>(
     now: &mut LentNow<'p>,
     world: u32,
@@ -418,6 +453,7 @@ fn enter<'p>(
 }
 
 /// A site does what it does, in a world and with these types for its static parameters.
+#[inline(always)]
 pub(crate) fn perform<'p>(
     now: &mut LentNow<'p>,
     ready: &'p Ready,
@@ -441,6 +477,7 @@ pub(crate) fn perform<'p>(
 }
 
 /// A statement at the top or of an evaluated block is begun, in the world that it saw. The value of the one before is open.
+#[inline(always)]
 pub(crate) fn begin_item<'p>(
     now: &mut LentNow<'p>,
     item: &'p Item,

@@ -21,6 +21,7 @@ returns-in-Go g c =
     record {
       fits = step_fits c.args.ready.now _ c.args.self.now.work c.args.self.now.task w c.requires _ c.in-Go.next c.turn.new.self s;
       turn = step_turns c.args.ready.now _ c.args.self.now.work c.args.self.now.task w c.requires _ c.in-Go.next c.turn.new.self s;
+      waits = tt;
       fuel = step_fuel c.args.ready.now _ c.args.self.now.work c.args.self.now.task w c.requires _ c.in-Go.next c.turn.new.self s;
       tells = step_tells c.args.ready.now _ c.args.self.now.work c.args.self.now.task w c.requires _ c.in-Go.next c.turn.new.self s;
       knows = step_knows c.args.ready.now _ c.args.self.now.work c.args.self.now.task w c.requires _ c.in-Go.next c.turn.new.self s;
@@ -37,6 +38,7 @@ returns-in-Wait g c =
     record {
       fits = waits_fit c.args.ready.now _ c.args.self.now.work c.args.self.now.task w c.requires _ c.in-Wait.task c.turn.new.self s;
       turn = λ i. record { task = s.same i; work = c.args.self.now.work };
+      waits = s.running;
       fuel = ap (λ (t : Task). t.fuel) s.same;
       tells = inl (ap (λ (t : Task). t.trace) s.same);
       knows = waits_known c.args.ready.now _ c.args.self.now.work c.args.self.now.task w c.requires _ c.in-Wait.task c.turn.new.self s;

@@ -11,11 +11,11 @@ perform-requires-clause-taken g c =
     recalled_taken _ _ c.args.function c.args.world c.in-Some.found.site _ c.open_values.result.now _ c.open_values.ensures c.requires.fits c.in-Some.ensures
 
 pub returns-then-self : goal.returns-then-self
-returns-then-self g c = lent_spent _ c.args.self.now c.args.function c.args.world c.requires.fits c.end.result c.end.new.now c.end.ensures c.if-self.true
+returns-then-self g c = lent_spent _ c.args.self.now c.args.function c.args.world c.requires.fits c.end_spent.result c.end_spent.new.now c.end_spent.ensures c.if-self.true
 
 pub returns-then-self-eq0 : goal.returns-then-self-eq0
 returns-then-self-eq0 g c =
-    lent_deep _ c.args.self.now c.args.function c.args.world c.requires.fits c.end-then-self-eq0.result c.end-then-self-eq0.new.now c.end-then-self-eq0.ensures c.if-self.false c.if-self-eq0.true
+    lent_deep _ c.args.self.now c.args.function c.args.world c.requires.fits c.end_deep.result c.end_deep.new.now c.end_deep.ensures c.if-self.false c.if-self-eq0.true
 
 pub returns-in-Some : goal.returns-in-Some
 returns-in-Some g c =

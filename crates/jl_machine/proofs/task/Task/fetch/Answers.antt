@@ -1,4 +1,4 @@
-use Rattle.std.proofs.Common.{◌≡◌, ◌∙◌, sym, ap}
+use Rattle.std.proofs.Common.{◌≡◌, ◌∙◌, sym, ap, Err}
 use Rattle.jl_frames.specs.Held.{first_value}
 use Rattle.jl_machine.specs.Fetched.{task_of}
 use Rattle.jl_machine.proofs.Asking.{lent_fetched_is, lent_refused_is, lent_waits}
@@ -17,4 +17,4 @@ returns-in_ok-answer-in-Ok g c =
 
 pub returns-in-Err-NotYet : goal.returns-in-Err-NotYet
 returns-in-Err-NotYet g c =
-    let (a, form) = c.requires.form in lent_waits _ _ c.args.self.now _ a form c.requires.fits c.in-Some.task (ap (λ vs. task_of (first_value vs)) (sym c.open_values.ensures) ∙ sym c.in-Some.ensures) c.in-Err-NotYet.ensures.refused
+    let (a, form) = c.requires.form in lent_waits _ _ c.args.self.now _ a form c.requires.fits c.in-Some.task (ap (λ vs. task_of (first_value vs)) (sym c.open_values.ensures) ∙ sym c.in-Some.ensures) c.in-Err-NotYet.ensures.refused (c.in-Err-NotYet.ensures.not_yet (ap Err c.in-Err-NotYet.field-0-is))
