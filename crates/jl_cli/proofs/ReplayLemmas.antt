@@ -2,8 +2,6 @@
 use Rattle.std.proofs.Common.{◌≡◌, ℕ, List, Option, None, Some, refl, sym, ◌∙◌, subst, arith}
 use Rattle.jl_calculus.specs.declared.history.History.{History}
 use Rattle.jl_program.specs.declared.tree.Program.{Program}
-use Rattle.jl_report.specs.HistoryText.{entries_of}
-use Rattle.jl_history.proofs.WholeLemmas.{one_text}
 use Rattle.jl_grammar.specs.declared.tree.Script.{Script}
 use Rattle.jl_resolve.specs.Program.{IsProgramOf}
 use Rattle.jl_resolve.proofs.OneMeaning.{one_program}
@@ -26,14 +24,9 @@ use Rattle.jl_cli.proofs.StatusLemmas.{same_script, fault_apart, there_is}
 verdict_illegal : (P : Program) (history text : List ℕ) (v : Verdict) → IsVerdict P history v → verdict_status v ≡ 7 → text ≡ verdict_line v → IsToldIllegal P history text
 verdict_illegal P history text (V.Legal n) is e told = absurd (omega (arith, e))
 verdict_illegal P history text (V.BadText line) is e told =
-    record { verdict = V.BadText line; is = is; told = told; illegal = λ n l. is.other (entries_of P l.events) l.form l.is_text }
+    record { verdict = V.BadText line; is = is; told = told; illegal = is.illegal }
 verdict_illegal P history text (V.Illegal event cause) is e told =
-    record {
-      verdict = V.Illegal event cause;
-      is = is;
-      told = told;
-      illegal = λ n l. is.illegal (l.events, l.legal, one_text (entries_of P l.events) is.all l.form is.form (sym l.is_text ∙ is.is_text));
-    }
+    record { verdict = V.Illegal event cause; is = is; told = told; illegal = is.illegal }
 
 verdict_legal : (P : Program) (history text : List ℕ) (v : Verdict) → IsVerdict P history v → verdict_status v ≡ 0 → text ≡ verdict_line v → IsToldLegal P history text
 verdict_legal P history text (V.Legal n) is e told = record { many = n; is = is; told = told }
@@ -42,9 +35,8 @@ verdict_legal P history text (V.Illegal event cause) is e told = absurd (omega (
 
 verdict_found : (P : Program) (history : List ℕ) (n : ℕ) (v : Verdict) → IsVerdict P history v → IsLegalText P history n → verdict_status v ≡ 0
 verdict_found P history n (V.Legal m) is l = refl
-verdict_found P history n (V.BadText line) is l = absurd (is.other (entries_of P l.events) l.form l.is_text)
-verdict_found P history n (V.Illegal event cause) is l =
-    absurd (is.illegal (l.events, l.legal, one_text (entries_of P l.events) is.all l.form is.form (sym l.is_text ∙ is.is_text)))
+verdict_found P history n (V.BadText line) is l = absurd (is.illegal n l)
+verdict_found P history n (V.Illegal event cause) is l = absurd (is.illegal n l)
 
 verdict_refuted : (P : Program) (history : List ℕ) (v : Verdict) → IsVerdict P history v → ((n : ℕ) → IsLegalText P history n → ⊥) → verdict_status v ≡ 7
 verdict_refuted P history (V.Legal n) is no_ = absurd (no_ n is)

@@ -32,8 +32,6 @@ pub fn law_run_status()
 
 /// Status 7 is due only for `replay`, and exactly where its input is a program with a history that is not legal; with it the line of
 /// the verdict is. Status 0 is due of `replay` exactly where its input is a program with a history that is legal.
-///
-/// That a history is legal means for `found`, besides, that its names and values may stand in a text.
 pub fn law_replay_status()
     ensures alone { (asked : Option AnyCommand) (bytes : List ℕ) (h : Option AnyHistory) (text : List ℕ) → IsDue asked bytes 7 h text → (asked ≡ Some Replay) × (h ≡ None) }
     ensures illegal { (bytes : List ℕ) (h : Option AnyHistory) (text : List ℕ) → IsDue (Some Replay) bytes 7 h text → (P : Program) × IsJudgedOver bytes P × IsToldIllegal P (history_in bytes) text }

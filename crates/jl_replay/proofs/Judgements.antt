@@ -1,5 +1,5 @@
 -- From what is judged of entries to what is judged of a text.
-use Rattle.std.proofs.Common.{◌≡◌, ◌∙◌, ap, sym, subst, refl, ℕ, ◌≤◌, arith, false, List, [], ◌∷◌, length, take, inl, inr, Ok}
+use Rattle.std.proofs.Common.{◌≡◌, ◌∙◌, ap, sym, subst, refl, ℕ, ◌≤◌, arith, false, List, [], ◌∷◌, length, take, inl, inr, Ok, Err}
 use Rattle.std.specs.List.{list_any}
 use Rattle.jl_program.specs.declared.tree.Program.{Program}
 use Rattle.jl_program.specs.Valid.{IsValid}
@@ -8,8 +8,13 @@ use Rattle.jl_calculus.specs.declared.history.Event.TheVariants as Ev
 use Rattle.jl_calculus.specs.Legal.{IsLegal}
 use Rattle.jl_report.specs.declared.entry.Entry.{Entry}
 use Rattle.jl_report.specs.declared.entry.Entry.TheVariants as E
-use Rattle.jl_report.specs.HistoryText.{entries_of, entries_text}
-use Rattle.jl_history.specs.Form.{AreLater, AreFirst, AreEntries, UnlessMemory}
+use Rattle.jl_report.specs.HistoryText.{entries_of, entries_text, history_text}
+use Rattle.jl_history.specs.declared.fault.HistoryFault.TheVariants.{BadText}
+use Rattle.jl_history.specs.declared.history.TheConstants.{MOST_HISTORY_BYTES}
+use Rattle.jl_history.specs.Form.{AreLater, AreFirst, AreEntries, IsFirstBad, UnlessMemory}
+use Rattle.jl_history.proofs.WholeLemmas.{one_text}
+use Rattle.jl_legible.specs.Numbered.{IsNumbered}
+use Rattle.jl_legible.proofs.EntryTexts.{legal_entries}
 use Rattle.jl_causes.specs.declared.cause.Cause.{Cause}
 use Rattle.jl_causes.specs.declared.cause.Cause.TheVariants.{RunDiffers}
 use Rattle.jl_causes.specs.Sketch.{Tells, AllTell}
@@ -22,7 +27,7 @@ use Rattle.jl_replay.specs.declared.verdict.Verdict.{Verdict}
 use Rattle.jl_replay.specs.declared.verdict.Verdict.TheVariants as V
 use Rattle.jl_replay.specs.Differs.{AreLegalEntries}
 use Rattle.jl_replay.specs.Following.{IsDifference}
-use Rattle.jl_replay.specs.Verdict.{IsVerdict, AreJudgedSo}
+use Rattle.jl_replay.specs.Verdict.{IsBadText, IsVerdict, AreRead, AreJudgedSo}
 use Rattle.jl_replay.proofs.Lists.{entries_length}
 
 pub apart_of : KeysApart → (P : Program) → IsValid P → AreApart P
@@ -86,16 +91,34 @@ module _ (P : Program) (apart : AreApart P) where
 pub judged_difference : (P : Program) (all : List Entry) (n : ℕ) → HasNoCause P all → IsDifference P all n → AreJudgedSo P all (V.Illegal n RunDiffers)
 judged_difference P all n clean d = (inr (refl, clean, d.first), d.illegal)
 
-module _ (P : Program) (text : List ℕ) (all : List Entry) (form : AreEntries all) (is_text : text ≡ entries_text all) where
+pub are_read : (P : Program) (text : List ℕ) → IsValid P → IsNumbered P → length text ≤ MOST_HISTORY_BYTES → AreRead P text
+are_read P text v n short es legal is = legal_entries P v n es legal (subst (λ t. length t ≤ MOST_HISTORY_BYTES) is short)
+
+pub bad_is : (P : Program) (text : List ℕ) (line other : ℕ) → line ≡ other → AreRead P text → IsFirstBad line text → IsBadText P text other
+bad_is P text line other same read first =
+    subst (IsBadText P text) same (record { first = first; illegal = λ n l. first.other (entries_of P l.events) (read l.events l.legal l.is_text) l.is_text })
+
+module _ (P : Program) (text : List ℕ) (all : List Entry) (form : AreEntries all) (is_text : text ≡ entries_text all) (read : AreRead P text) where
   pub verdict_is : (verdict : Verdict) → AreJudgedSo P all verdict → IsVerdict P text verdict
   verdict_is (V.Legal n) ((es, legal, told), many) =
-      record { events = es; legal = legal; form = subst AreEntries (sym told) form; is_text = is_text ∙ ap entries_text (sym told); many = sym (entries_length P 0 es) ∙ ap length told ∙ many }
+      record { events = es; legal = legal; is_text = is_text ∙ ap entries_text (sym told); many = sym (entries_length P 0 es) ∙ ap length told ∙ many }
   verdict_is (V.BadText line) h = absurd h
-  verdict_is (V.Illegal n cause) h = record { all = all; form = form; is_text = is_text; holds = h.0; illegal = h.1 }
+  verdict_is (V.Illegal n cause) h =
+      record {
+        all = all;
+        form = form;
+        is_text = is_text;
+        holds = h.0;
+        illegal = λ m l. h.1 (l.events, l.legal, one_text (entries_of P l.events) all (read l.events l.legal l.is_text) form (sym l.is_text ∙ is_text));
+      }
 
 -- what was read is what it is the text of
 pub one_list : (xs ys : List Entry) → UnlessMemory (Ok xs) (Ok ys) → ys ≡ xs
 one_list xs ys h = let z : Ok xs ≡ Ok ys = h in cc
+
+-- what was read as entries has no bad line
+pub not_bad : (line : ℕ) (xs : List Entry) → UnlessMemory (Err (BadText line)) (Ok xs) → ⊥
+not_bad line xs h = let z : Err (BadText line) ≡ Ok xs = h in cc
 
 -- a legal history is judged so
 pub legal_judged : (P : Program) (all : List Entry) (es : List Event) (verdict : Verdict) → IsLegal P es → entries_of P es ≡ all → AreJudgedSo P all verdict → verdict ≡ V.Legal (length es)
