@@ -1,6 +1,5 @@
-//! Tests of public calls that no text can show: faults of devices in mid-stream, tables of names, the numbers of slots and
-//! variables, what is asked of a table of declarations, a list that threads share, and what is kept of a
-//! program. All else is told by the lines of script_cases and check_cases.
+//! Tests of public calls that no text can show: runs over devices that fail in mid-stream, tables of names, the numbers of slots
+//! and variables, what is asked of a table of declarations, and what is kept of a program. All else is told by the lines of script_cases and check_cases.
 #![tactic(auto)]
 
 #[cfg(test)]
@@ -8,11 +7,7 @@ mod cli_tests;
 #[cfg(test)]
 mod declare_tests;
 #[cfg(test)]
-mod history_tests;
-#[cfg(test)]
 mod host_tests;
-#[cfg(test)]
-mod io_tests;
 #[cfg(test)]
 mod judge_tests;
 #[cfg(test)]
@@ -21,8 +16,6 @@ mod names_tests;
 mod ready_tests;
 #[cfg(test)]
 mod resolve_tests;
-#[cfg(test)]
-mod shared_tests;
 #[cfg(test)]
 mod walk_tests;
 #[cfg(test)]

@@ -29,24 +29,26 @@ fn reading_stops_at_the_limit(rt: HostRuntime) -> Result<(), Fail> {
     Ok(())
 }
 
+/// What reads of two bytes at most answer, where the second, the third and the fifth fail.
+static READS: [Result<usize, Failed>; 7] = [
+    Ok(2),
+    Err(Failed),
+    Err(Failed),
+    Ok(2),
+    Err(Failed),
+    Ok(1),
+    Ok(0),
+];
+
 #[test]
 fn failed_reads_lose_nothing(rt: HostRuntime) -> Result<(), Fail> {
     let fail_at = [2, 3, 5].to_vec(rt.alloc())?;
     let mut source = MemSource::new(b"hello".to_vec(rt.alloc())?, 2, fail_at);
-    let want = [
-        Ok(2),
-        Err(Failed),
-        Err(Failed),
-        Ok(2),
-        Err(Failed),
-        Ok(1),
-        Ok(0),
-    ];
     let mut all = Vec::new(rt.alloc());
-    for answer in want {
+    for answer in &READS {
         let mut into = [0u8; 4];
         let got = source.read(&mut into);
-        assert!(rt; got == answer);
+        assert!(rt; got == *answer);
         if let Ok(count) = got {
             all.extend_from_slice(&into[..count])?;
         }
@@ -71,33 +73,37 @@ fn each_failing_read_is_answered(rt: HostRuntime) -> Result<(), Fail> {
     Ok(())
 }
 
+static PARTS: [&str; 4] = ["hello", "", " ", "world"];
+
 #[test]
 fn clean_sink_holds_all_that_was_written(rt: HostRuntime) -> Result<(), Fail> {
     let mut sink = CleanSink::new(rt.alloc());
-    for part in ["hello", "", " ", "world"] {
+    for part in &PARTS {
         assert!(rt; write_all(&mut sink, part.as_bytes()).is_ok());
     }
     assert!(rt; sink.bytes() == b"hello world".as_slice());
     Ok(())
 }
 
+/// What writes of two bytes at most answer, where the first and the third fail.
+static WRITES: [Result<usize, SinkFault>; 5] = [
+    Err(SinkFault::Failed),
+    Ok(2),
+    Err(SinkFault::Failed),
+    Ok(2),
+    Ok(1),
+];
+
 #[test]
 fn refused_writes_take_nothing(rt: HostRuntime) -> Result<(), Fail> {
     let fail_at = [1, 3].to_vec(rt.alloc())?;
     let mut sink = MemSink::new(rt.alloc(), 2, fail_at);
-    let want = [
-        Err(SinkFault::Failed),
-        Ok(2),
-        Err(SinkFault::Failed),
-        Ok(2),
-        Ok(1),
-    ];
     let mut done = 0;
-    for answer in want {
+    for answer in &WRITES {
         let text = b"hello";
         assert!(rt; done < text.len());
         let got = sink.write(&text[done..]);
-        assert!(rt; got == answer);
+        assert!(rt; got == *answer);
         if let Ok(count) = got {
             done += count;
         }
