@@ -1,10 +1,10 @@
 -- The first of several faults, and those of them that have a row here.
-use Rattle.std.proofs.Common.{ℕ, Bool, true, false, true≢false, cond, ◌||◌, ◌&&◌, nat_lt, nat_eq, List, [], ◌∷◌, ◌++◌, ◌≡◌, ◌⊎◌, inl, inr, Option, Some, None, refl, sym, ap, subst, ◌∙◌}
+use Rattle.std.proofs.Common.{ℕ, Bool, true, false, true≢false, cond, List, [], ◌∷◌, ◌++◌, ◌≡◌, ◌⊎◌, inl, inr, Option, Some, None, refl, sym, ap, subst, ◌∙◌}
 use Rattle.jl_written.specs.declared.fault.Fault.{Fault}
 use Rattle.jl_written.specs.declared.fault.StaticKind.{StaticKind}
 use Rattle.jl_written.specs.Answered.{comes_before, first_of}
 use Rattle.jl_resolve_forms.specs.declared.state.State.{State}
-use Rattle.jl_resolve_forms.specs.Scopes.{note, noted, merged}
+use Rattle.jl_resolve_forms.specs.Scopes.{noted, merged}
 use Rattle.jl_fault_laws.specs.Uses.{In}
 use Rattle.jl_fault_laws.specs.Rows.{has_row, IsOther, IsOtherKind}
 
@@ -67,7 +67,6 @@ merged_other (Some f) s h = no_row f s.fault h
 
 -- ---- what the first of all tells
 
-
 abbrev fault_or : Fault → Option Fault → Fault
 fault_or d None = d
 fault_or d (Some f) = f
@@ -88,6 +87,7 @@ firsts_among o (f ∷ fs) g e = by (firsts_among (first_of o f) fs g e)
     head : (o ≡ Some g) ⊎ (g ≡ f) → (o ≡ Some g) ⊎ In g (f ∷ fs)
     head (inl p) = inl p
     head (inr p) = inr (inl p)
+
     by : (first_of o f ≡ Some g) ⊎ In g fs → (o ≡ Some g) ⊎ In g (f ∷ fs)
     by (inl p) = head (first_either o f g p)
     by (inr i) = inr (inr i)

@@ -1,5 +1,5 @@
 -- What is visible, and what a name is there, by slots and by names.
-use Rattle.std.proofs.Common.{ℕ, ◌+◌, Bool, true, false, cond, not, ◌||◌, ◌&&◌, List, [], ◌∷◌, ◌++◌, map, ◌≡◌, Option, Some, None, is_some, refl, sym, ap, subst, ◌∙◌}
+use Rattle.std.proofs.Common.{ℕ, ◌+◌, Bool, true, false, cond, not, ◌||◌, ◌&&◌, List, [], ◌∷◌, ◌++◌, map, ◌≡◌, Option, Some, None, is_some, refl, sym, ap, ◌∙◌}
 use Rattle.jl_model.specs.declared.ty.Decl.{Decl}
 use Rattle.jl_program.specs.Names.{same_text, is_among, builtin_names}
 use Rattle.jl_program.specs.Prelude.{prelude_functions}

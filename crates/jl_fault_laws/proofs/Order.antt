@@ -1,12 +1,12 @@
 -- The order in which faults are reported: by their places, and at one place by their numbers.
-use Rattle.std.proofs.Common.{ℕ, ◌<◌, ◌≤◌, arith, Bool, true, false, true≢false, cond, ◌||◌, ◌&&◌, nat_lt, nat_eq, List, [], ◌∷◌, ◌≡◌, ◌⊎◌, inl, inr, Option, Some, None, refl, sym, ap, subst, ◌∙◌, ltb-true, ltb-false, le-ltb, eqb-true, ne_eqb}
+use Rattle.std.proofs.Common.{ℕ, ◌<◌, ◌≤◌, arith, Bool, true, false, true≢false, cond, ◌||◌, ◌&&◌, nat_lt, nat_eq, List, [], ◌∷◌, ◌≡◌, ◌⊎◌, inl, inr, Option, Some, None, refl, sym, subst, ◌∙◌, ltb-true, ltb-false, le-ltb, eqb-true, ne_eqb}
 use Rattle.std.proofs.lemmas.Bool.{eqb-false, or_from, and_left, and_right}
 use Rattle.std.proofs.Math.Nat.{lt_irrefl}
 use Rattle.jl_written.specs.declared.fault.Fault.{Fault}
 use Rattle.jl_written.specs.Answered.{comes_before, first_of, number_of}
 use Rattle.jl_fault_laws.specs.Uses.{In}
 use Rattle.jl_fault_laws.specs.Rows.{IsReportedBy}
-use Rattle.jl_fault_laws.proofs.Firsts.{firsts, with_row, row_among, Tells}
+use Rattle.jl_fault_laws.proofs.Firsts.{firsts, row_among, Tells}
 
 -- a pair of numbers before another
 abbrev lex : ℕ → ℕ → ℕ → ℕ → Bool
@@ -19,6 +19,7 @@ lex_true a b c d e = by (nat_lt a b) refl e
     last true true h g f = inr (eqb-true a b h, ltb-true c d g)
     last true false h g f = absurd (true≢false (sym f))
     last false q h g f = absurd (true≢false (sym f))
+
     by : (p : Bool) → nat_lt a b ≡ p → (p || (nat_eq a b && nat_lt c d)) ≡ true → (a < b) ⊎ ((a ≡ b) × (c < d))
     by true h f = inl (ltb-true a b h)
     by false h f = last (nat_eq a b) (nat_lt c d) refl refl f
@@ -37,6 +38,7 @@ lex_false a b c d e = by (nat_lt a b) refl e
     last true true h g l f = absurd (true≢false f)
     last true false h g l f = inr (eqb-true a b h, ltb-false c d g)
     last false q h g l f = inl (lower a b h l)
+
     by : (p : Bool) → nat_lt a b ≡ p → (p || (nat_eq a b && nat_lt c d)) ≡ false → (b < a) ⊎ ((a ≡ b) × (d ≤ c))
     by true h f = absurd (true≢false f)
     by false h f = last (nat_eq a b) (nat_lt c d) refl refl (ltb-false a b h) f

@@ -1,5 +1,5 @@
 -- The rows of the table: what is told of a script, and where each row holds.
-use Rattle.std.proofs.Common.{ℕ, Bool, true, false, true≢false, List, [], ◌∷◌, ◌++◌, ◌≡◌, ◌⊎◌, inl, inr, Option, Some, None, refl, sym, ap, subst, ◌∙◌}
+use Rattle.std.proofs.Common.{ℕ, Bool, true, false, true≢false, List, [], ◌∷◌, ◌++◌, ◌≡◌, ◌⊎◌, inl, inr, Option, Some, refl, sym, ap, subst, ◌∙◌}
 use Rattle.jl_grammar.specs.declared.tree.Item.{Item}
 use Rattle.jl_formed.specs.Formed.{FormedItems}
 use Rattle.jl_written.specs.declared.fault.Fault.{Fault}
@@ -8,9 +8,9 @@ use Rattle.jl_written.specs.declared.fault.StaticKind.TheVariants as kind
 use Rattle.jl_resolve_forms.specs.declared.known.Known.{Known}
 use Rattle.jl_resolve_forms.specs.Top.{resolved}
 use Rattle.jl_resolve_forms.specs.TypesIn.{Tests}
-use Rattle.jl_fault_laws.specs.Uses.{How, Visible, Use, In, uses_of}
+use Rattle.jl_fault_laws.specs.Uses.{Use, In, uses_of}
 use Rattle.jl_fault_laws.specs.Rows.{unknown_name, unknown_function, too_many_arguments, holds, has_row, HoldsAt, IsReportedBy, TellTypes}
-use Rattle.jl_fault_laws.proofs.Firsts.{Tells, only_rows}
+use Rattle.jl_fault_laws.proofs.Firsts.{only_rows}
 use Rattle.jl_fault_laws.proofs.Order.{least_rows}
 use Rattle.jl_fault_laws.proofs.Told.{one, faults_of, all_faults}
 use Rattle.jl_fault_laws.proofs.Texts.{are_other}
@@ -61,6 +61,7 @@ use_of k u f i = by (in_either f (one (unknown_name u.how u.visible) kind.Unknow
     last : In f (one (unknown_function k u.how u.visible) kind.UnknownFunction u.at) ⊎ In f (one (too_many_arguments k u.how u.visible) kind.TooManyArguments u.at) → IsOf k u f
     last (inl j) = one_of k u f kind.UnknownFunction (unknown_function k u.how u.visible) refl j
     last (inr j) = one_of k u f kind.TooManyArguments (too_many_arguments k u.how u.visible) refl j
+
     by : In f (one (unknown_name u.how u.visible) kind.UnknownName u.at) ⊎ In f (one (unknown_function k u.how u.visible) kind.UnknownFunction u.at ++ one (too_many_arguments k u.how u.visible) kind.TooManyArguments u.at) → IsOf k u f
     by (inl j) = one_of k u f kind.UnknownName (unknown_name u.how u.visible) refl j
     by (inr j) = last (in_either f (one (unknown_function k u.how u.visible) kind.UnknownFunction u.at) (one (too_many_arguments k u.how u.visible) kind.TooManyArguments u.at) j)

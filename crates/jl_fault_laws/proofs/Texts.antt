@@ -1,5 +1,5 @@
 -- What is told of a written type has no row here: it is a fault of types.
-use Rattle.std.proofs.Common.{ℕ, Bool, true, false, cond, not, ◌||◌, nat_eq, List, [], ◌∷◌, map, drop, length, ◌≡◌, Option, Some, None, refl, sym, ap, subst, slice_get}
+use Rattle.std.proofs.Common.{ℕ, Bool, true, false, cond, not, ◌||◌, nat_eq, List, [], ◌∷◌, map, drop, length, ◌≡◌, Option, Some, None, refl, sym, subst, slice_get}
 use Rattle.jl_model.specs.declared.ty.Ty.{Ty, out-Ty}
 use Rattle.jl_model.specs.declared.ty.Ty.TheOpen.{Ty-F}
 use Rattle.jl_model.specs.declared.ty.Ty.TheOpen as L
@@ -189,6 +189,7 @@ refusal_other test h r w = by r.misplaced
     last : (b : Bool) → IsOtherKind (cond b None (test w))
     last true = tt
     last false = h w
+
     by : (b : Bool) → IsOtherKind (cond b (Some kind.VariablePlace) (cond r.unclear None (test w)))
     by true = refl
     by false = last r.unclear
@@ -199,9 +200,11 @@ made_refusal_other test h c r w = by r.misplaced
     last : (b : Bool) → IsOtherKind (cond b None (test w))
     last true = tt
     last false = h w
+
     next : (b : Bool) → IsOtherKind (cond b (Some kind.WrongParameterCount) (cond r.unclear None (test w)))
     next true = refl
     next false = last r.unclear
+
     by : (b : Bool) → IsOtherKind (cond b (Some kind.VariablePlace) (cond (not (nat_eq (length r.vars) 0) || not c) (Some kind.WrongParameterCount) (cond r.unclear None (test w))))
     by true = refl
     by false = next (not (nat_eq (length r.vars) 0) || not c)
@@ -235,9 +238,9 @@ signed_other t k q types h =
     let ds = declared_at k types in
     let s = all_bound ds h.vars [] unread in
     let g = signature ds (map type_of h.params) h.vars in (
-  all_other ds (map type_of h.params) s.vars s.after (bound_other ds h.vars [] unread tt),
-  refusal_other t.signature q.signature g.types.after (written_of t.below g.types),
-)
+      all_other ds (map type_of h.params) s.vars s.after (bound_other ds h.vars [] unread tt),
+      refusal_other t.signature q.signature g.types.after (written_of t.below g.types),
+    )
 
 pub are_other : (t : Tests) (k : Known) → TellTypes t → AreOther t k
 are_other t k q = record { body = body_written_other t k q; made_of = made_at_other t k q; of_head = signed_other t k q }

@@ -1,7 +1,6 @@
 -- What is told of a part are the faults of the uses of names in it, as far as these have a row: form by form.
-use Rattle.std.proofs.Common.{ℕ, suc, Bool, true, false, cond, not, ◌&&◌, nat_lt, nat_le, nat_eq, List, [], ◌∷◌, ◌++◌, map, length, ◌≡◌, Option, Some, None, is_some, refl, sym, ap, subst, ◌∙◌, append-nil, append_assoc, slice_get}
+use Rattle.std.proofs.Common.{ℕ, suc, Bool, true, false, cond, not, ◌&&◌, nat_lt, nat_le, nat_eq, List, [], ◌∷◌, ◌++◌, length, ◌≡◌, Option, Some, None, is_some, refl, sym, ap, subst, ◌∙◌, append-nil, append_assoc, slice_get}
 use Rattle.jl_model.specs.declared.limits.TheConstants.{MOST_ARGUMENTS}
-use Rattle.jl_model.specs.declared.ty.Decl.{Decl}
 use Rattle.jl_model.specs.Valid.{params_of as parameters_of}
 use Rattle.jl_program.specs.Names.{is_among, builtin_names}
 use Rattle.jl_program.specs.declared.tree.Expr.TheVariants as W
@@ -11,7 +10,6 @@ use Rattle.jl_typeread.specs.declared.tree.ArgText.TheViews.{out-TypeText}
 use Rattle.jl_grammar.specs.declared.tree.Callee.{Callee}
 use Rattle.jl_grammar.specs.declared.tree.Callee.TheVariants as C
 use Rattle.jl_grammar.specs.declared.tree.Head.{Head}
-use Rattle.jl_grammar.specs.declared.tree.Name.{Name}
 use Rattle.jl_written.specs.declared.fault.Fault.{Fault}
 use Rattle.jl_written.specs.declared.fault.StaticKind.{StaticKind}
 use Rattle.jl_written.specs.declared.fault.StaticKind.TheVariants as kind
@@ -24,12 +22,11 @@ use Rattle.jl_resolve_forms.specs.Scopes.{slot_of, note, noted, merged, bind}
 use Rattle.jl_resolve_forms.specs.Functions.{place_of_callee, function_of, struct_of, called, called_from, constructor}
 use Rattle.jl_resolve_forms.specs.Parameters.{finds_parameters}
 use Rattle.jl_resolve_forms.specs.TypesIn.{Tests, body_written, made_at, begins}
-use Rattle.jl_resolve_forms.specs.Expressions as E
-use Rattle.jl_resolve_forms.specs.Expressions.{Reads, Defines, Says, binds, returns, does, Evaluates, defines, evaluates, Shows, writes, shows, Tries, Codes, all_coded, one_said, all_said, block_of, one_shown, all_shown, bare_scope, one_evaluated, all_evaluated, one_tried, all_tried, local, latest, counted, spawned, made_struct, made_args, call, made, is_a, is_below, signed, opened, opened_with, named, may_define, if_unknown, too_many, site_limit, names_in, method, reserved, closed, inferred_refusal, parameters, static_parameters}
+use Rattle.jl_resolve_forms.specs.Expressions.{Reads, Defines, Says, binds, returns, does, Evaluates, defines, evaluates, Shows, writes, shows, Tries, Codes, all_coded, one_said, all_said, block_of, one_shown, all_shown, bare_scope, one_evaluated, all_evaluated, one_tried, all_tried, local, latest, counted, spawned, made_struct, made_args, call, made, is_a, is_below, signed, opened, named, may_define, if_unknown, too_many, site_limit, names_in, method, reserved, closed, inferred_refusal, parameters, static_parameters}
 use Rattle.jl_fault_laws.specs.Uses.{Visible, How, value, Use, used, In, Uses, Stated, each, with_names, block, apart, params_of}
 use Rattle.jl_fault_laws.specs.Uses as U
-use Rattle.jl_fault_laws.specs.Rows.{unknown_name, unknown_function, too_many_arguments, is_struct, makes, has_function, IsOther, IsOtherKind}
-use Rattle.jl_fault_laws.proofs.Firsts.{Tells, nothing, two, same, one_row, no_row, noted_other, merged_other}
+use Rattle.jl_fault_laws.specs.Rows.{unknown_name, unknown_function, too_many_arguments, IsOther, IsOtherKind}
+use Rattle.jl_fault_laws.proofs.Firsts.{Tells, nothing, two, same, one_row, noted_other, merged_other}
 use Rattle.jl_fault_laws.proofs.Names.{Agrees, bind_agrees, bind_other, params_agree, params_other, function_is, struct_is, makes_is}
 
 -- a fault where a row holds
@@ -116,9 +113,9 @@ module _ (t : Tests) (k : Known) where
       Tells (all_faults k (u.uses vs)) s.fault (one_said x c s).after.fault × Agrees (one_said x c s).scope (with_names u.names vs)
   one_said_told u (binds n x) h c vs s a =
       let y = x c s in (
-    then_other (all_faults k (u.uses vs)) s.fault y.after.fault (bind n c y.after).after.fault (h.1 c vs s a) (bind_other n c y.after),
-    subst (λ ns. Agrees (bind n c y.after).scope (with_names ns vs)) (sym h.0) (bind_agrees n c y.after vs a),
-  )
+        then_other (all_faults k (u.uses vs)) s.fault y.after.fault (bind n c y.after).after.fault (h.1 c vs s a) (bind_other n c y.after),
+        subst (λ ns. Agrees (bind n c y.after).scope (with_names ns vs)) (sym h.0) (bind_agrees n c y.after vs a),
+      )
   one_said_told u (returns x) h c vs s a = (h.1 c vs s a, subst (λ ns. Agrees c (with_names ns vs)) (sym h.0) a)
   one_said_told u (does x) h c vs s a = (h.1 c vs s a, subst (λ ns. Agrees c (with_names ns vs)) (sym h.0) a)
 
@@ -203,6 +200,7 @@ module _ (t : Tests) (k : Known) where
       last : (b : Bool) → IsOtherKind (cond b (Some kind.TypeLimit) None)
       last true = refl
       last false = tt
+
       by : (b : Bool) → IsOtherKind (cond b (cond (t.wide p) (Some kind.TypeLimit) None) (Some kind.StaticParameterUse))
       by true = last (t.wide p)
       by false = refl
@@ -292,6 +290,7 @@ module _ (t : Tests) (k : Known) where
         last : (b : Bool) → IsOtherKind (cond b (Some kind.NameClash) None)
         last true = refl
         last false = tt
+
         by : (b : Bool) → IsOtherKind (cond b (Some kind.NameClash) (cond (is_among n.bytes (names_in k.types)) (Some kind.NameClash) None))
         by true = refl
         by false = last (is_among n.bytes (names_in k.types))
@@ -336,10 +335,10 @@ module _ (t : Tests) (k : Known) where
         let s1 = named k at h.callee f g s in
         let c : Scope = record { slots = []; statics = static_parameters g.sig g.vars; types = types } in
         let q = other.of_head types h in (
-      same _ _ s.fault (parameters h.params c s1).after.fault (ap (λ b. one (not b) kind.UnknownFunction at ++ []) (function_is k h.callee (bare_scope types) [] (λ name. refl)))
-      (then_other _ s.fault s1.fault (parameters h.params c s1).after.fault (named_told at h.callee f g q.0 q.1 s) (params_other h.params c s1)),
-      params_agree h.params c s1 [] (λ name. refl),
-    )
+          same _ _ s.fault (parameters h.params c s1).after.fault (ap (λ b. one (not b) kind.UnknownFunction at ++ []) (function_is k h.callee (bare_scope types) [] (λ name. refl)))
+              (then_other _ s.fault s1.fault (parameters h.params c s1).after.fault (named_told at h.callee f g q.0 q.1 s) (params_other h.params c s1)),
+          params_agree h.params c s1 [] (λ name. refl),
+        )
 
     pub method_told : (h : Head) (u : Uses) (x : Reads) → IsTold u x → IsToldMethod (used (place_of_callee h.callee) (U.defined h.callee) [] ∷ u (with_names (params_of h.params) [])) (method t k h x)
     unfolding reserved closed

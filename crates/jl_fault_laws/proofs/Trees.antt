@@ -1,5 +1,5 @@
 -- What is told of a well-formed tree are the faults of the uses of names in it: one line a form.
-use Rattle.std.proofs.Common.{◌≡◌, sym, refl, subst, ap, ◌∙◌, ℕ, ◌+◌, max, Bool, true, false, List, [], ◌∷◌, ◌++◌, map, length, Option, Some, None}
+use Rattle.std.proofs.Common.{◌≡◌, sym, refl, subst, ap, ℕ, ◌+◌, max, Bool, true, false, List, [], ◌∷◌, ◌++◌, map, Option, Some, None}
 use Rattle.jl_grammar.specs.declared.tree.Branch.{Branch}
 use Rattle.jl_grammar.specs.declared.tree.Eval.{Eval}
 use Rattle.jl_grammar.specs.declared.tree.Eval.TheFolds.{map-Eval, map-Expr, map-Method, map-Piece, map-Stmt, fold-roll-Branch, fold-roll-Eval, fold-roll-Expr, fold-roll-Method, fold-roll-Piece, fold-roll-Stmt}
@@ -11,7 +11,6 @@ use Rattle.jl_grammar.specs.declared.tree.Eval.TheViews.{roll-Eval, roll-Expr, r
 use Rattle.jl_grammar.specs.declared.tree.Expr.{Expr}
 use Rattle.jl_grammar.specs.declared.tree.Expr.TheVariants as XV
 use Rattle.jl_grammar.specs.declared.tree.Item.{Item}
-use Rattle.jl_grammar.specs.declared.tree.Item.TheVariants as N
 use Rattle.jl_grammar.specs.declared.tree.Method.{Method}
 use Rattle.jl_grammar.specs.declared.tree.Name.{Name}
 use Rattle.jl_grammar.specs.declared.tree.Piece.{Piece}
@@ -26,8 +25,8 @@ use Rattle.jl_written.specs.declared.fault.StaticKind.TheVariants as kind
 use Rattle.jl_resolve_forms.specs.declared.known.Known.{Known}
 use Rattle.jl_resolve_forms.specs.declared.state.Scope.{Scope}
 use Rattle.jl_resolve_forms.specs.declared.state.State.{State}
-use Rattle.jl_resolve_forms.specs.Scopes.{bind, note}
-use Rattle.jl_resolve_forms.specs.Top.{first_at, clash, clashes, top_bind, one_top, all_top, beginning, resolved}
+use Rattle.jl_resolve_forms.specs.Scopes.{bind}
+use Rattle.jl_resolve_forms.specs.Top.{first_at, clash, top_bind, all_top, beginning, resolved}
 use Rattle.jl_resolve_forms.specs.TypesIn.{Tests}
 use Rattle.jl_resolve_forms.specs.Expressions as R
 use Rattle.jl_resolve_forms.specs.Expressions.{Reads, Defines, Says, Evaluates, Shows, Tries, bare_scope, expr_reads, method_reads, stmt_reads, eval_reads, piece_reads, branch_reads, all_coded}
