@@ -1,0 +1,7 @@
+pub mod Firsts
+pub mod Order
+pub mod Names
+pub mod Told
+pub mod Trees
+pub mod Texts
+pub mod RowLaws

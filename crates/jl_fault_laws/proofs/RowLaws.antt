@@ -1,0 +1,121 @@
+-- The rows of the table: what is told of a script, and where each row holds.
+use Rattle.std.proofs.Common.{ℕ, Bool, true, false, true≢false, List, [], ◌∷◌, ◌++◌, ◌≡◌, ◌⊎◌, inl, inr, Option, Some, refl, sym, ap, subst, ◌∙◌}
+use Rattle.jl_grammar.specs.declared.tree.Item.{Item}
+use Rattle.jl_formed.specs.Formed.{FormedItems}
+use Rattle.jl_written.specs.declared.fault.Fault.{Fault}
+use Rattle.jl_written.specs.declared.fault.StaticKind.{StaticKind}
+use Rattle.jl_written.specs.declared.fault.StaticKind.TheVariants as kind
+use Rattle.jl_resolve_forms.specs.declared.known.Known.{Known}
+use Rattle.jl_resolve_forms.specs.Top.{resolved}
+use Rattle.jl_resolve_forms.specs.TypesIn.{Tests}
+use Rattle.jl_fault_laws.specs.Uses.{Use, In, uses_of}
+use Rattle.jl_fault_laws.specs.Rows.{unknown_name, unknown_function, too_many_arguments, holds, has_row, HoldsAt, IsReportedBy, TellTypes}
+use Rattle.jl_fault_laws.proofs.Firsts.{only_rows}
+use Rattle.jl_fault_laws.proofs.Order.{least_rows}
+use Rattle.jl_fault_laws.proofs.Told.{one, faults_of, all_faults}
+use Rattle.jl_fault_laws.proofs.Texts.{are_other}
+use Rattle.jl_fault_laws.proofs.Trees.{script_told}
+
+in_left : {A : Type 0} (x : A) (xs ys : List A) → In x xs → In x (xs ++ ys)
+in_left x [] ys i = absurd i
+in_left x (z ∷ xs) ys (inl e) = inl e
+in_left x (z ∷ xs) ys (inr i) = inr (in_left x xs ys i)
+
+in_right : {A : Type 0} (x : A) (xs ys : List A) → In x ys → In x (xs ++ ys)
+in_right x [] ys i = i
+in_right x (z ∷ xs) ys i = inr (in_right x xs ys i)
+
+in_either : {A : Type 0} (x : A) (xs ys : List A) → In x (xs ++ ys) → In x xs ⊎ In x ys
+in_either x [] ys i = inr i
+in_either x (z ∷ xs) ys (inl e) = inl (inl e)
+in_either x (z ∷ xs) ys (inr i) = by (in_either x xs ys i)
+  where
+    by : In x xs ⊎ In x ys → In x (z ∷ xs) ⊎ In x ys
+    by (inl j) = inl (inr j)
+    by (inr j) = inr j
+
+-- ---- a fault of a use, and the row that holds of it
+
+in_one : (b : Bool) (k : StaticKind) (at : ℕ) → b ≡ true → In (record { at = at; kind = k }) (one b k at)
+in_one true k at e = inl refl
+in_one false k at e = absurd (true≢false (sym e))
+
+one_is : (b : Bool) (k : StaticKind) (at : ℕ) (f : Fault) → In f (one b k at) → (b ≡ true) × (f ≡ record { at = at; kind = k })
+one_is true k at f (inl e) = (refl, e)
+one_is true k at f (inr i) = absurd i
+one_is false k at f i = absurd i
+
+-- the row of a fault holds of a use, and the fault is there
+abbrev IsOf : Known → Use → Fault → Type 0
+IsOf k u f = (u.at ≡ f.at) × (holds k f.kind u.how u.visible ≡ true)
+
+one_of : (k : Known) (u : Use) (f : Fault) (x : StaticKind) (b : Bool) → holds k x u.how u.visible ≡ b → In f (one b x u.at) → IsOf k u f
+one_of k u f x b h i =
+    let r = one_is b x u.at f i in
+    (ap (λ (y : Fault). y.at) (sym r.1), subst (λ (y : Fault). holds k y.kind u.how u.visible ≡ true) (sym r.1) (h ∙ r.0))
+
+use_of : (k : Known) (u : Use) (f : Fault) → In f (faults_of k u) → IsOf k u f
+use_of k u f i = by (in_either f (one (unknown_name u.how u.visible) kind.UnknownName u.at)
+    (one (unknown_function k u.how u.visible) kind.UnknownFunction u.at ++ one (too_many_arguments k u.how u.visible) kind.TooManyArguments u.at) i)
+  where
+    last : In f (one (unknown_function k u.how u.visible) kind.UnknownFunction u.at) ⊎ In f (one (too_many_arguments k u.how u.visible) kind.TooManyArguments u.at) → IsOf k u f
+    last (inl j) = one_of k u f kind.UnknownFunction (unknown_function k u.how u.visible) refl j
+    last (inr j) = one_of k u f kind.TooManyArguments (too_many_arguments k u.how u.visible) refl j
+
+    by : In f (one (unknown_name u.how u.visible) kind.UnknownName u.at) ⊎ In f (one (unknown_function k u.how u.visible) kind.UnknownFunction u.at ++ one (too_many_arguments k u.how u.visible) kind.TooManyArguments u.at) → IsOf k u f
+    by (inl j) = one_of k u f kind.UnknownName (unknown_name u.how u.visible) refl j
+    by (inr j) = last (in_either f (one (unknown_function k u.how u.visible) kind.UnknownFunction u.at) (one (too_many_arguments k u.how u.visible) kind.TooManyArguments u.at) j)
+
+some_use : (k : Known) (us : List Use) (f : Fault) → In f (all_faults k us) → (u : Use) × In u us × IsOf k u f
+some_use k [] f i = absurd i
+some_use k (u ∷ us) f i = by (λ j. some_use k us f j) (in_either f (faults_of k u) (all_faults k us) i)
+  where
+    by : (In f (all_faults k us) → (v : Use) × In v us × IsOf k v f) → In f (faults_of k u) ⊎ In f (all_faults k us) → (v : Use) × In v (u ∷ us) × IsOf k v f
+    by later (inl j) = (u, inl refl, use_of k u f j)
+    by later (inr j) = let r = later j in (r.0, inr r.1, r.2)
+
+-- where a row holds its fault is among those of the use
+fault_by : (k : Known) (u : Use) (x : StaticKind) → holds k x u.how u.visible ≡ true → In (record { at = u.at; kind = x }) (faults_of k u)
+fault_by k u kind.UnknownName h = in_left (record { at = u.at; kind = kind.UnknownName }) (one (unknown_name u.how u.visible) kind.UnknownName u.at) _ (in_one (unknown_name u.how u.visible) kind.UnknownName u.at h)
+fault_by k u kind.UnknownFunction h = in_right _ (one (unknown_name u.how u.visible) kind.UnknownName u.at) _
+    (in_left _ (one (unknown_function k u.how u.visible) kind.UnknownFunction u.at) _ (in_one (unknown_function k u.how u.visible) kind.UnknownFunction u.at h))
+fault_by k u kind.TooManyArguments h = in_right _ (one (unknown_name u.how u.visible) kind.UnknownName u.at) _
+    (in_right _ (one (unknown_function k u.how u.visible) kind.UnknownFunction u.at) _ (in_one (too_many_arguments k u.how u.visible) kind.TooManyArguments u.at h))
+fault_by k u kind.UnknownType h = absurd (true≢false (sym h))
+fault_by k u kind.Rebound h = absurd (true≢false (sym h))
+fault_by k u kind.DuplicateType h = absurd (true≢false (sym h))
+fault_by k u kind.WrongParameterCount h = absurd (true≢false (sym h))
+fault_by k u kind.SuperNotAbstract h = absurd (true≢false (sym h))
+fault_by k u kind.VariablePlace h = absurd (true≢false (sym h))
+fault_by k u kind.TypeLimit h = absurd (true≢false (sym h))
+fault_by k u kind.BoundsCrossed h = absurd (true≢false (sym h))
+fault_by k u kind.BoundBroken h = absurd (true≢false (sym h))
+fault_by k u kind.TooMany h = absurd (true≢false (sym h))
+fault_by k u kind.DuplicateField h = absurd (true≢false (sym h))
+fault_by k u kind.UnusedVariable h = absurd (true≢false (sym h))
+fault_by k u kind.TooManyParameters h = absurd (true≢false (sym h))
+fault_by k u kind.TooManySites h = absurd (true≢false (sym h))
+fault_by k u kind.StaticParameterUse h = absurd (true≢false (sym h))
+fault_by k u kind.NameClash h = absurd (true≢false (sym h))
+
+fault_of : (k : Known) (u : Use) (f : Fault) → u.at ≡ f.at → holds k f.kind u.how u.visible ≡ true → In f (faults_of k u)
+fault_of k u f e h = subst (λ a. In (record { at = a; kind = f.kind }) (faults_of k u)) e (fault_by k u f.kind h)
+
+among : (k : Known) (us : List Use) (u : Use) (f : Fault) → In u us → u.at ≡ f.at → holds k f.kind u.how u.visible ≡ true → In f (all_faults k us)
+among k [] u f i e h = absurd i
+among k (v ∷ us) u f (inl p) e h = in_left f (faults_of k v) (all_faults k us) (subst (λ x. In f (faults_of k x)) p (fault_of k u f e h))
+among k (v ∷ us) u f (inr i) e h = in_right f (faults_of k v) (all_faults k us) (among k us u f i e h)
+
+-- ---- of a script
+
+pub rows_only : (t : Tests) → TellTypes t → (k : Known) (items : List Item) (o : Option Fault) → FormedItems items → (f : Fault) → has_row f.kind ≡ true →
+    (resolved t k items o).fault ≡ Some f → (o ≡ Some f) ⊎ HoldsAt k items f
+rows_only t q k items o fs f r e = by (only_rows (all_faults k (uses_of items)) o (resolved t k items o).fault (script_told t k (are_other t k q) items fs o) f r e)
+  where
+    by : (o ≡ Some f) ⊎ In f (all_faults k (uses_of items)) → (o ≡ Some f) ⊎ HoldsAt k items f
+    by (inl p) = inl p
+    by (inr i) = let u = some_use k (uses_of items) f i in inr (record { use_ = u.0; among = u.1; place = u.2.0; row = u.2.1 })
+
+pub rows_least : (t : Tests) → TellTypes t → (k : Known) (items : List Item) (o : Option Fault) → FormedItems items → (f : Fault) → HoldsAt k items f → IsReportedBy (resolved t k items o).fault f
+rows_least t q k items o fs f h =
+    least_rows (all_faults k (uses_of items)) o (resolved t k items o).fault (script_told t k (are_other t k q) items fs o) f (among k (uses_of items) h.use_ f h.among h.place h.row)

@@ -1,0 +1,22 @@
+//! Three rows of the table of static faults, in both directions. They are about definitions alone: the function does nothing, and
+//! its contract is the law.
+
+ghost use Rattle.std.specs.Prelude.{◌≡◌, ◌⊎◌, List, Option, Some, true};
+ghost use Rattle.jl_grammar.specs.declared.tree.Item.{Item};
+ghost use Rattle.jl_formed.specs.Formed.{FormedItems};
+ghost use Rattle.jl_written.specs.declared.fault.Fault.{Fault};
+ghost use Rattle.jl_resolve_forms.specs.declared.known.Known.{Known};
+ghost use Rattle.jl_resolve_forms.specs.Top.{resolved};
+ghost use Rattle.jl_resolve_forms.specs.TypesIn.{Tests};
+ghost use Rattle.jl_fault_laws.specs.Rows.{has_row, HoldsAt, IsReportedBy, TellTypes};
+
+/// UnknownName, UnknownFunction and TooManyArguments of well-formed items: such a fault is reported only where its row holds of a
+/// use of a name at its place, or where the declarations had it; and where a row holds of a use, its fault is reported, or one that
+/// it does not come before.
+#[tactic(none)]
+pub fn law_rows()
+    ensures only { (t : Tests) → TellTypes t → (k : Known) (items : List Item) (o : Option Fault) → FormedItems items → (f : Fault) → has_row f.kind ≡ true
+        → (resolved t k items o).fault ≡ Some f → (o ≡ Some f) ⊎ HoldsAt k items f }
+    ensures least { (t : Tests) → TellTypes t → (k : Known) (items : List Item) (o : Option Fault) → FormedItems items → (f : Fault) → HoldsAt k items f
+        → IsReportedBy (resolved t k items o).fault f }
+{}

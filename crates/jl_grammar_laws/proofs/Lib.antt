@@ -1,0 +1,3 @@
+pub mod SettledTypes
+pub mod Settled
+pub mod Must
