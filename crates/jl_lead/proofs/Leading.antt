@@ -35,7 +35,7 @@ at_work P fuel k (Defining fresh site xs) t g f = f
 at_work P fuel k (Pieces line xs) t g f = f
 
 pub machine_at : (P : Program) (fuel : ℕ) (k : Knows) (m : Machine) → (IsLost m → ⊥) → MachineFits P fuel k m → IsAt P fuel k m.work m.task
-machine_at P fuel k m g f = at_work P fuel k m.work m.task g f
+machine_at P fuel k m g f = at_work P fuel k m.work m.task g f.task
 
 -- what a task asks, it asks whoever tells the same
 asks_moved : (j j' : Job) (k k' : Knows) (t : List TraceItem) (q : Question) → j ≡ j' → ((xs : List Event) → k'.agrees xs → k.agrees xs) → Asks j k t q → Asks j' k' t q

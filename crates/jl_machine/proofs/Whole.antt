@@ -1,6 +1,8 @@
 -- A machine's step, its beginning and its end.
 use Rattle.std.proofs.Common.{◌≡◌, refl, sym, ap, ◌∙◌, subst, ℕ, zero, suc, ◌<◌, ◌≤◌, ◌+◌, ◌*◌, get_or, List, [], ◌∷◌, ◌++◌, map, length, Option, None, Some, Result, Ok, Err, IfOk, slice_get, false, arith}
 use Rattle.jl_model.specs.declared.ty.Ty.{Ty}
+use Rattle.jl_model.specs.declared.ty.Decl.{Decl}
+use Rattle.jl_program.specs.Scope.{all_types}
 use Rattle.jl_program.specs.declared.tree.Expr.{Expr}
 use Rattle.jl_program.specs.declared.tree.Program.{Program}
 use Rattle.jl_program.specs.declared.tree.Start.{Start}
@@ -44,7 +46,7 @@ use Rattle.jl_machine.specs.declared.task.Task.{Task}
 use Rattle.jl_machine.specs.declared.task.Machine.{Machine}
 use Rattle.jl_machine.specs.declared.task.Turn.TheVariants as T
 use Rattle.jl_machine.specs.Lent.{now_of, work_of, IsSettled}
-use Rattle.jl_machine.specs.Steps.{progress_of, LentSteps, LentWaits, IsWorking, job_with, IsAt, FitsAt, MachineFits, fuel_of, turns_of, KnowsTasks, IsLost, IsNewAt, first_now, IsNewRoot, IsNewTask, IsFirst, HasEnded, RootFits, TaskFits, LostFits, EndedRuns, GrownFits}
+use Rattle.jl_machine.specs.Steps.{progress_of, LentSteps, LentWaits, IsWorking, job_with, IsAt, FitsAt, TypesAt, MachineFits, fuel_of, turns_of, KnowsTasks, IsLost, IsNewAt, first_now, IsNewRoot, IsNewTask, IsFirst, HasEnded, RootFits, TaskFits, LostFits, EndedRuns, GrownFits}
 
 -- ---- by what comes next
 
@@ -88,6 +90,33 @@ at_fits P fuel k (Stmts xs) t f = f
 at_fits P fuel k (Items fresh xs) t f = f
 at_fits P fuel k (Defining fresh site xs) t f = f
 at_fits P fuel k (Pieces line xs) t f = f
+
+-- what is prepared is of the program's types
+pub types_at : (P : Program) (work : LentWork) (ds : List Decl) → ds ≡ all_types P → TypesAt P work ds
+types_at P Ended ds e = e
+types_at P Lost ds e = tt
+types_at P (Eval x) ds e = e
+types_at P Give ds e = e
+types_at P Leave ds e = e
+types_at P (Acting x) ds e = e
+types_at P (Calling g u) ds e = e
+types_at P (Stmts xs) ds e = e
+types_at P (Items fresh xs) ds e = e
+types_at P (Defining fresh site xs) ds e = e
+types_at P (Pieces line xs) ds e = e
+
+pub types_are : (P : Program) (work : LentWork) (ds : List Decl) → IsWorking work → TypesAt P work ds → ds ≡ all_types P
+types_are P Ended ds w h = absurd w
+types_are P Lost ds w h = absurd w
+types_are P (Eval x) ds w h = h
+types_are P Give ds w h = h
+types_are P Leave ds w h = h
+types_are P (Acting x) ds w h = h
+types_are P (Calling g u) ds w h = h
+types_are P (Stmts xs) ds w h = h
+types_are P (Items fresh xs) ds w h = h
+types_are P (Defining fresh site xs) ds w h = h
+types_are P (Pieces line xs) ds w h = h
 
 -- a lost machine fits each dispatcher
 lost_at : (P : Program) (fuel : ℕ) (k : Knows) (work : LentWork) (t : Task) → work ≡ Lost → FitsAt P fuel k work t
@@ -191,18 +220,20 @@ module _ (j : Job) (k : Knows) (w : Work) (n : Now) where
   }
 
 -- the same, of a machine
-new_at : (P : Program) (fuel : ℕ) (k : Knows) (w : Work) (n : Now) (m : Machine) → IsNewAt w n fuel m → ((t : Progress) → t.fuel ≡ fuel → t.trace ≡ [] → t.calls ≡ 0 → t.now ≡ n → FitsWith (job_with P fuel k) k w t)
+new_at : (P : Program) (fuel : ℕ) (k : Knows) (w : Work) (n : Now) (m : Machine) → IsNewAt (all_types P) w n fuel m → ((t : Progress) → t.fuel ≡ fuel → t.trace ≡ [] → t.calls ≡ 0 → t.now ≡ n → FitsWith (job_with P fuel k) k w t)
     → IsFresh k → PointMentions (IsKnown k.start []) (w, n) → MachineFits P fuel k m
-new_at P fuel k w n m new fits f mentions =
-    at_fits P fuel k m.work m.task (record {
-      fits = subst (λ u. FitsWith (job_with P fuel k) k u (progress_of m.task)) (sym new.work) (fits (progress_of m.task) new.fuel new.trace new.calls new.now);
-      knows = record {
-        fetches = rw new.trace tt;
-        spawns = rw f.starts tt;
-        point = rw new.trace (subst (PointMentions (IsKnown k.start [])) (λ i. (sym new.work i, sym new.now i)) mentions);
-      };
-      settled = new.settled;
-    })
+new_at P fuel k w n m new fits f mentions = record {
+  task = at_fits P fuel k m.work m.task (record {
+    fits = subst (λ u. FitsWith (job_with P fuel k) k u (progress_of m.task)) (sym new.work) (fits (progress_of m.task) new.fuel new.trace new.calls new.now);
+    knows = record {
+      fetches = rw new.trace tt;
+      spawns = rw f.starts tt;
+      point = rw new.trace (subst (PointMentions (IsKnown k.start [])) (λ i. (sym new.work i, sym new.now i)) mentions);
+    };
+    settled = new.settled;
+  });
+  types = types_at P m.work m.memo new.types;
+}
 
 pub root_law : (k : Knows) → RootFits k
 root_law k P fuel m valid program start f new =
@@ -235,7 +266,7 @@ task_law k P start fuel m valid sv program is world f new =
         (task_good P valid start new.expr (first_now start.world (map value_of start.env) start.bindings) sv new.there refl refl refl))
 
 -- the turns that a new machine has left
-new_turns : (P : Program) (w : Work) (n : Now) (fuel : ℕ) (m : Machine) → IsNewAt w n fuel m → turns_of P m ≡ turns_left P fuel 0 w n
+new_turns : (P : Program) (w : Work) (n : Now) (fuel : ℕ) (m : Machine) → IsNewAt (all_types P) w n fuel m → turns_of P m ≡ turns_left P fuel 0 w n
 new_turns P w n fuel m new = λ i. turns_left P (new.fuel i) (new.calls i) (new.work i) (new.now i)
 
 pub root_turns : (P : Program) (fuel : ℕ) (m : Machine) → IsNewRoot P fuel m → turns_of P m ≤ 4 * (fuel + 1) * (program_size P + 1)
@@ -251,7 +282,7 @@ task_turns P start fuel m new =
 -- ---- the other laws
 
 pub lost_law : (k : Knows) → LostFits k
-lost_law k P fuel m lost = lost_at P fuel k m.work m.task lost
+lost_law k P fuel m lost = record { task = lost_at P fuel k m.work m.task lost; types = subst (λ w. TypesAt P w m.memo) (sym lost) tt }
 
 -- the job of one dispatcher is that of another that knows more
 grown_job : (P : Program) (fuel : ℕ) (k k' : Knows) → Refused k k' → job_with P fuel k ≡ job_with P fuel k'
@@ -278,7 +309,7 @@ grown_fits P fuel k k' (Defining fresh site xs) t r f = grown_at P fuel k k' (De
 grown_fits P fuel k k' (Pieces line xs) t r f = grown_at P fuel k k' (Pieces line xs) t r f
 
 pub grown_law : (k k' : Knows) → GrownFits k k'
-grown_law k k' r P fuel m f = grown_fits P fuel k k' m.work m.task r f
+grown_law k k' r P fuel m f = record { task = grown_fits P fuel k k' m.work m.task r f.task; types = f.types }
 
 -- ---- the end
 
@@ -324,7 +355,7 @@ ended_work P fuel k (Pieces line xs) t o e f = absurd (cc)
 
 pub ended_law : (k : Knows) → EndedRuns k
 ended_law k P fuel m r f h =
-    let (fits, knows) = ended_work P fuel k m.work m.task r.outcome h.work f in
+    let (fits, knows) = ended_work P fuel k m.work m.task r.outcome h.work f.task in
     ran_task (job_with P fuel k) k (progress_of m.task) r.outcome fits knows r h.trace refl h.out h.calls
 
 pub record_ok : (r : Result Record AllocError) (P : Program) (fuel : ℕ) (k : Knows) (m : Machine) → MachineFits P fuel k m → IfOk r (λ x. HasEnded x m) → IfOk r (λ x. IsRunOf (job_with P fuel k) k x)
@@ -337,8 +368,8 @@ values_back [] = refl
 values_back (v ∷ vs) = λ i. value_back v i ∷ values_back vs i
 
 pub new_task_is : (P : Program) (start : Start) (fuel : ℕ) (vs : List Value) (frames : Held) (work : LentWork) (t : Task) (e : Expr) → slice_get P.spawns start.spawn ≡ Some e → map datum vs ≡ start.env → frames ≡ starts (with_open nothing_held vs) start.bindings
-    → IsFirst fuel start.world frames t → work_of work t.now ≡ W.Eval e → IsSettled work t.now → IsNewTask P start fuel (record { task = t; work = work })
-new_task_is P start fuel vs frames work t e there values held first is settled =
+    → IsFirst fuel start.world frames t → work_of work t.now ≡ W.Eval e → IsSettled work t.now → (ds : List Decl) → ds ≡ all_types P → IsNewTask P start fuel (record { task = t; work = work; memo = ds })
+new_task_is P start fuel vs frames work t e there values held first is settled ds types =
     let env : map value_of start.env ≡ vs = ap (map value_of) (sym values) ∙ values_back vs in
     let fr : t.now.frames ≡ starts (with_open nothing_held vs) start.bindings = first.frames_are ∙ held in
     record {
@@ -351,6 +382,7 @@ new_task_is P start fuel vs frames work t e there values held first is settled =
         trace = first.trace;
         calls = first.calls;
         settled = settled;
+        types = types;
       };
     }
 

@@ -1,6 +1,7 @@
 -- A step of a machine over a lent program is a step of the task that it stands for.
 use Rattle.std.specs.Prelude.{◌≡◌, ◌<◌, ℕ, [], ◌∷◌, ◌++◌, List, map, Option, None, Some, slice_get, false}
 use Rattle.jl_model.specs.declared.ty.Ty.{Ty}
+use Rattle.jl_model.specs.declared.ty.Decl.{Decl}
 use Rattle.jl_model.specs.Bindings.{bindings}
 use Rattle.jl_model.specs.Signature.{Applicable}
 use Rattle.jl_program.specs.declared.prelude.TheConstants.{FIRST_WORLD}
@@ -131,9 +132,15 @@ FitsAt P fuel k (Defining fresh site xs) t = IsAt P fuel k (Defining fresh site 
 FitsAt P fuel k (Pieces line xs) t = IsAt P fuel k (Pieces line xs) t
 FitsAt P fuel k Ended t = IsAt P fuel k Ended t
 
+-- what a machine has prepared is of the program's types, if it is not lost
+abbrev pub TypesAt : Program → LentWork → List Decl → Type 0
+TypesAt P Lost ds = Unit {0}
+TypesAt P _ ds = ds ≡ all_types P
+
 -- a machine fits a dispatcher, for this program and this fuel
-abbrev pub MachineFits : Program → ℕ → Knows → Machine → Type 0
-MachineFits P fuel k m = FitsAt P fuel k m.work m.task
+pub record MachineFits (P : Program) (fuel : ℕ) (k : Knows) (m : Machine) : Type 0 where
+  pub task : FitsAt P fuel k m.work m.task
+  pub types : TypesAt P m.work m.memo
 
 abbrev pub fuel_of : Machine → ℕ
 fuel_of m = m.task.fuel
@@ -170,14 +177,15 @@ pub record KnowsTasks (start : Option Start) (before now : List TraceItem) (turn
   pub waits : (task : ℕ) → turn ≡ T.NeedFetch task → IsKnown start before task
   pub fetches : AreFetchesKnown start now
 
--- a machine that has done nothing yet, at this point
-pub record IsNewAt (w : Work) (n : Now) (most : ℕ) (m : Machine) : Type 0 where
+-- a machine that has done nothing yet, at this point, for these types
+pub record IsNewAt (ds : List Decl) (w : Work) (n : Now) (most : ℕ) (m : Machine) : Type 0 where
   pub work : work_of m.work m.task.now ≡ w
   pub now : now_of m.task.now ≡ n
   pub fuel : m.task.fuel ≡ most
   pub trace : m.task.trace ≡ []
   pub calls : m.task.calls ≡ 0
   pub settled : IsSettled m.work m.task.now
+  pub types : m.memo ≡ ds
 
 -- nothing is there but a world and what is visible
 abbrev pub first_now : ℕ → List Value → List Ty → Now
@@ -185,13 +193,13 @@ first_now w env bindings = record { world = w; room = open_calls; env = env; bin
 
 -- the root of a program
 abbrev pub IsNewRoot : Program → ℕ → Machine → Type 0
-IsNewRoot P fuel m = IsNewAt (W.Items false P.top V.Nothing) (first_now FIRST_WORLD [] []) fuel m
+IsNewRoot P fuel m = IsNewAt (all_types P) (W.Items false P.top V.Nothing) (first_now FIRST_WORLD [] []) fuel m
 
 -- a task from a start, at the expression of its place
 pub record IsNewTask (P : Program) (start : Start) (fuel : ℕ) (m : Machine) : Type 0 where
   pub expr : Expr
   pub there : slice_get P.spawns start.spawn ≡ Some expr
-  pub new : IsNewAt (W.Eval expr) (first_now start.world (map value_of start.env) start.bindings) fuel m
+  pub new : IsNewAt (all_types P) (W.Eval expr) (first_now start.world (map value_of start.env) start.bindings) fuel m
 
 -- a record is of a machine that ended
 pub record HasEnded (r : Record) (m : Machine) : Type 0 where

@@ -10,9 +10,7 @@ ghost use Rattle.jl_machine.specs.Acting.{MayAct, IsOperation};
 
 use jl_calculus::history::Outcome;
 use jl_frames::Frames;
-use jl_operations::{
-    get_field, get_part, make_inferred, make_tuple, make_written, test_order, test_same, test_type,
-};
+use jl_operations::{Memo, get_field, get_part, make_inferred, make_tuple, test_same};
 use jl_program::tree::Expr;
 use jl_program::value::Value;
 use jl_sig::Ready;
@@ -30,17 +28,22 @@ fn value_at(values: &[Value], place: usize) -> &Value
 pub(crate) fn operate(
     alloc: Global,
     ready: &Ready,
+    memo: &mut Memo,
     frames: &Frames<'_>,
     expr: &Expr,
 ) -> Result<Outcome, AllocError>
+    requires types { memo.old ≡ all_types ready.now }
     requires good { MayAct ready.now frames.now.bindings expr.now frames.now.open_values }
     requires form { IsOperation (out-Expr expr.now) }
     ensures answer { IfOk result (λ o. operation_of (all_types ready.now) frames.now.bindings (out-Expr expr.now) frames.now.open_values o) }
     ensures valid { IfOk result (λ o. IsValidOutcome ready.now o) }
+    ensures types { memo.new ≡ memo.old }
 {
     let values = frames.open_values();
     match expr {
-        Expr::Make(written, _) => { make_written(alloc, ready, frames.bindings(), written, values) }
+        Expr::Make(written, _) => {
+            memo.make_written(alloc, ready, frames.bindings(), written, values)
+        }
         Expr::Infer(name, _) => make_inferred(alloc, ready, *name, values),
         Expr::Parts(_) => make_tuple(alloc, ready, values),
         Expr::Field(_, name) => get_field(ready, value_at(values, 0), name),
@@ -48,14 +51,14 @@ pub(crate) fn operate(
         Expr::Egal(_, _, negated) => {
             Ok(test_same(*negated, value_at(values, 0), value_at(values, 1)))
         }
-        Expr::Isa(_, written) => test_type(
+        Expr::Isa(_, written) => memo.test_type(
             alloc,
             ready,
             frames.bindings(),
             value_at(values, 0),
             written,
         ),
-        Expr::Sub(left, right) => test_order(alloc, ready, frames.bindings(), left, right),
+        Expr::Sub(left, right) => memo.test_order(alloc, ready, frames.bindings(), left, right),
         Expr::Int(_) | Expr::Bool(_) | Expr::Nothing | Expr::Local(_) => unreachable!(),
         Expr::Call(_, _) | Expr::Latest(_, _) | Expr::Spawn(_) | Expr::Fetch(_) => unreachable!(),
         Expr::If(_, _, _) | Expr::And(_, _) | Expr::Or(_, _) => unreachable!(),

@@ -37,6 +37,7 @@ use jl_model::limits::MOST_OPEN_CALLS;
 use jl_model::rows::Row;
 use jl_model::shared::SharedList;
 use jl_model::ty::{Key, Ty, Tys};
+use jl_operations::Memo;
 use jl_program::choice::Choice;
 use jl_program::fault::Fault;
 use jl_program::prelude::FIRST_WORLD;
@@ -56,11 +57,12 @@ pub struct Task<'p> {
     now: LentNow<'p>,
 }
 
-/// One task, as far as it has come: what it does next, and all else.
+/// One task, as far as it has come: what it does next, what it has prepared of written types, and all else.
 #[derive(Drop)]
 pub struct Machine<'p> {
     task: Task<'p>,
     work: LentWork<'p>,
+    memo: Memo,
 }
 
 /// What a turn leads to.
@@ -405,16 +407,19 @@ impl<'p> Task<'p> {
     fn operate<D: Recall>(
         &mut self,
         ready: &Ready,
+        memo: &mut Memo,
         with: &D,
         expr: &'p Expr,
     ) -> Result<LentWork<'p>, AllocError>
+        requires types { memo.old ≡ all_types ready.now }
         requires fits { Fitting (D.knows with.now) (W.Acting expr.now self.old.now.frames.open_values) (progress_of self.old) }
         requires program { ready.now ≡ (D.knows with.now).program }
         requires form { IsOperation (out-Expr expr.now) }
         requires settled { self.old.now.frames.open_text ≡ [] }
-        ensures { IfOk result (λ work. LentSteps (D.knows with.now) (W.Acting expr.now self.old.now.frames.open_values) self.old (D.knows with.now) work self.new) }
+        ensures steps { IfOk result (λ work. LentSteps (D.knows with.now) (W.Acting expr.now self.old.now.frames.open_values) self.old (D.knows with.now) work self.new) }
+        ensures types { memo.new ≡ memo.old }
     {
-        let outcome = acts::operate(self.alloc, ready, &self.now.frames, expr)?;
+        let outcome = acts::operate(self.alloc, ready, memo, &self.now.frames, expr)?;
         self.now.frames.clear();
         turns::answer(&mut self.now, outcome)
     }
@@ -424,14 +429,17 @@ impl<'p> Task<'p> {
     fn act<D: Recall>(
         &mut self,
         ready: &'p Ready,
+        memo: &mut Memo,
         ops: &HostOps,
         with: &mut D,
         expr: &'p Expr,
     ) -> Result<Next<'p>, AllocError>
+        requires types { memo.old ≡ all_types ready.now }
         requires fits { Fitting (D.knows with.old) (W.Acting expr.now self.old.now.frames.open_values) (progress_of self.old) }
         requires program { ready.now ≡ (D.knows with.old).program }
         requires settled { self.old.now.frames.open_text ≡ [] }
-        ensures { IfOk result (λ next. Goes (D.knows with.old) (W.Acting expr.now self.old.now.frames.open_values) self.old (D.knows with.new) next self.new) }
+        ensures goes { IfOk result (λ next. Goes (D.knows with.old) (W.Acting expr.now self.old.now.frames.open_values) self.old (D.knows with.new) next self.new) }
+        ensures types { memo.new ≡ memo.old }
     {
         match expr {
             Expr::Call(function, _) => {
@@ -445,10 +453,10 @@ impl<'p> Task<'p> {
             Expr::Spawn(place) => Ok(Next::Go(self.spawn(with, expr, *place)?)),
             Expr::Fetch(_) => self.fetch(ready, with, expr),
             Expr::Make(_, _) | Expr::Infer(_, _) | Expr::Parts(_) | Expr::Field(_, _) => {
-                Ok(Next::Go(self.operate(ready, with, expr)?))
+                Ok(Next::Go(self.operate(ready, memo, with, expr)?))
             }
             Expr::Part(_, _) | Expr::Egal(_, _, _) | Expr::Isa(_, _) | Expr::Sub(_, _) => {
-                Ok(Next::Go(self.operate(ready, with, expr)?))
+                Ok(Next::Go(self.operate(ready, memo, with, expr)?))
             }
             Expr::Int(_) | Expr::Bool(_) | Expr::Nothing | Expr::Local(_) => unreachable!(),
             Expr::If(_, _, _) | Expr::And(_, _) | Expr::Or(_, _) => unreachable!(),
@@ -461,6 +469,7 @@ impl<'p> Task<'p> {
     fn turn<D: Recall>(
         &mut self,
         ready: &'p Ready,
+        memo: &mut Memo,
         ops: &HostOps,
         with: &mut D,
         work: LentWork<'p>,
@@ -469,13 +478,15 @@ impl<'p> Task<'p> {
         requires settled { IsSettled work self.old.now }
         requires program { ready.now ≡ (D.knows with.old).program }
         requires working { IsWorking work }
-        ensures { IfOk result (λ next. Goes (D.knows with.old) (work_of work.entry self.old.now) self.old (D.knows with.new) next self.new) }
+        requires types { memo.old ≡ all_types ready.now }
+        ensures goes { IfOk result (λ next. Goes (D.knows with.old) (work_of work.entry self.old.now) self.old (D.knows with.new) next self.new) }
+        ensures types { memo.new ≡ memo.old }
     {
         match work {
             LentWork::Eval(expr) => Ok(Next::Go(turns::begin(&mut self.now, expr)?)),
             LentWork::Give => Ok(Next::Go(turns::give(ready, &mut self.now)?)),
             LentWork::Leave => Ok(Next::Go(turns::leave(&mut self.now))),
-            LentWork::Acting(expr) => self.act(ready, ops, with, expr),
+            LentWork::Acting(expr) => self.act(ready, memo, ops, with, expr),
             LentWork::Calling(function, world) => {
                 Ok(Next::Go(self.call(ready, ops, with, function, world)?))
             }
@@ -555,7 +566,8 @@ fn new_root<'p>(alloc: Global, ready: &'p Ready, fuel: u64) -> Result<Machine<'p
     frames.push(Value::Nothing)?;
     let task = first_task(alloc, fuel, FIRST_WORLD, frames);
     let work = LentWork::Items(false, ready.program().top.as_slice());
-    Ok(Machine { task, work })
+    let memo = Memo::new(alloc, ready.table());
+    Ok(Machine { task, work, memo })
 }
 
 /// A task from a start, which has done nothing yet.
@@ -574,7 +586,8 @@ fn new_task<'p>(
     let task = first_task(alloc, fuel, start.world, frames);
     let expr = &ready.program().spawns.as_slice()[start.spawn as usize];
     let work = LentWork::Eval(expr);
-    Ok(Machine { task, work })
+    let memo = Memo::new(alloc, ready.table());
+    Ok(Machine { task, work, memo })
 }
 
 impl<'p> Machine<'p> {
@@ -632,7 +645,7 @@ impl<'p> Machine<'p> {
             LentWork::Ended => Ok(Turn::Done),
             work => {
                 self.work = LentWork::Lost;
-                match self.task.turn(ready, ops, with, work)? {
+                match self.task.turn(ready, &mut self.memo, ops, with, work)? {
                     Next::Go(next) => {
                         self.work = next;
                         Ok(Turn::Again)

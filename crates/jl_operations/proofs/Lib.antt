@@ -16,3 +16,4 @@ pub mod FitLemmas
 pub mod InferLemmas
 pub mod ConditionLemmas
 pub mod PreparedLemmas
+pub mod MemoLemmas

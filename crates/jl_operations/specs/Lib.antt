@@ -5,3 +5,4 @@ pub mod Questions
 pub mod Constructed
 pub mod Inferred
 pub mod Prepared
+pub mod Memo

@@ -4,16 +4,13 @@ ghost use Rattle.std.specs.Prelude.{IfOk, map};
 ghost use Rattle.jl_program.specs.Meaning.{datum};
 ghost use Rattle.jl_program.specs.Scope.{all_types};
 ghost use Rattle.jl_program.specs.ValidValue.{AllValid};
-ghost use Rattle.jl_calculus.specs.Operations.{make_written};
 ghost use Rattle.jl_calculus.specs.ValidHistory.{IsValidOutcome};
 ghost use Rattle.jl_operations.specs.Bodies.{IsBodySig, IsKeptAs};
-ghost use Rattle.jl_operations.specs.Conditions.{IsMadeIn};
 ghost use Rattle.jl_operations.specs.Constructed.{IsConstructed, IsOneConstructed, form_of, made_of};
 
 use crate::questions::broken_type;
-use crate::statics::with_statics;
 use crate::structs::make_struct;
-use crate::written::{Kept, keep};
+use crate::written::Kept;
 use jl_calculus::history::Outcome;
 use jl_model::ty::{Ty, Written};
 use jl_norm::{NormFault, norm};
@@ -38,7 +35,7 @@ fn make_form(alloc: Global, ready: &Ready, ty: &Ty, values: &[Value]) -> Result<
 }
 
 /// A struct of a written type with its static parameters put in, of which this was kept.
-fn make_kept(
+pub(crate) fn make_kept(
     alloc: Global,
     ready: &Ready,
     written: &Written,
@@ -62,24 +59,4 @@ fn make_kept(
             Ok(Outcome::Error(fault))
         }
     }
-}
-
-/// `written(values..)`, an explicit constructor, with these types for the static parameters. The struct's type is the normal form of the
-/// written type. It answers `TypeLimit` where the type with these is too large, else `BadParameter` where it breaks a declared
-/// bound, else `TypeLimit` where it has no normal form within the limits, and else what `make_struct` does.
-pub fn make_written(
-    alloc: Global,
-    ready: &Ready,
-    statics: &[Ty],
-    written: &Written,
-    values: &[Value],
-) -> Result<Outcome, AllocError>
-    requires written { IsMadeIn ready.now statics.now written.now }
-    requires values { AllValid (all_types ready.now) (map datum values.now) }
-    ensures answer { IfOk result (λ o. make_written (all_types ready.now) statics.now written.now values.now o) }
-    ensures valid { IfOk result (λ o. IsValidOutcome ready.now o) }
-{
-    let put = with_statics(alloc, statics, written)?;
-    let kept = keep(alloc, ready.table(), &put)?;
-    make_kept(alloc, ready, &put, &kept, values)
 }

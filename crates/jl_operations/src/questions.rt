@@ -6,18 +6,15 @@ ghost use Rattle.jl_model.specs.SigRefusals.{TypeLimit, BoundBroken};
 ghost use Rattle.jl_program.specs.Scope.{all_types};
 ghost use Rattle.jl_sig.specs.SigParts.{written_of};
 ghost use Rattle.jl_match.specs.SigRefused.{IsMade};
-ghost use Rattle.jl_calculus.specs.Operations.{test_type, test_order};
 ghost use Rattle.jl_calculus.specs.Statics.{nominals_of, is_bad_parameter};
 ghost use Rattle.jl_calculus.specs.ValidHistory.{IsValidValue, IsValidOutcome};
 ghost use Rattle.jl_operations.specs.Bodies.{IsBodySig, IsKeptAs};
 ghost use Rattle.jl_operations.specs.Broken.{IsNamed};
-ghost use Rattle.jl_operations.specs.Conditions.{IsWrittenIn};
 ghost use Rattle.jl_operations.specs.Questions.{isa_of, order_of};
 
 use crate::broken::bad_parameter;
 use crate::outcomes::truth;
-use crate::statics::with_statics;
-use crate::written::{Kept, keep};
+use crate::written::Kept;
 use jl_calculus::history::Outcome;
 use jl_match::{Sig, applies};
 use jl_model::ty::{Bound, Ty, Written};
@@ -99,7 +96,7 @@ fn broken_pair(
 
 /// `value isa t`, where the signature is that of the type `t` with its static parameters put in. A type without static parameters has
 /// one signature at all times, which can be kept.
-pub fn test_type_by(
+fn test_type_by(
     alloc: Global,
     ready: &Ready,
     sig: &Sig,
@@ -118,7 +115,7 @@ pub fn test_type_by(
 }
 
 /// `value isa written`, with the static parameters put in, of which this was kept.
-fn type_kept(
+pub(crate) fn type_kept(
     alloc: Global,
     ready: &Ready,
     value: &Value,
@@ -143,27 +140,8 @@ fn type_kept(
     }
 }
 
-/// `value isa written`, with these types for the static parameters. It answers `TypeLimit` where the type with these is too large, and
-/// else `BadParameter` where it breaks a declared bound.
-pub fn test_type(
-    alloc: Global,
-    ready: &Ready,
-    statics: &[Ty],
-    value: &Value,
-    written: &Written,
-) -> Result<Outcome, AllocError>
-    requires written { IsWrittenIn ready.now statics.now written.now }
-    requires value { IsValidValue ready.now value.now }
-    ensures answer { IfOk result (λ o. test_type (all_types ready.now) statics.now value.now written.now o) }
-    ensures valid { IfOk result (λ o. IsValidOutcome ready.now o) }
-{
-    let put = with_statics(alloc, statics, written)?;
-    let kept = keep(alloc, ready.table(), &put)?;
-    type_kept(alloc, ready, value, &put, &kept)
-}
-
 /// `t <: u`, where the signatures are those of the types with their static parameters put in.
-pub fn test_order_by(
+fn test_order_by(
     alloc: Global,
     ready: &Ready,
     left: &Sig,
@@ -198,7 +176,7 @@ fn order_broken(
 }
 
 /// `left <: right`, with the static parameters put in, of which this was kept.
-fn order_kept(
+pub(crate) fn order_kept(
     alloc: Global,
     ready: &Ready,
     left: &Written,
@@ -226,42 +204,4 @@ fn order_kept(
         },
         None => order_broken(alloc, ready, left, right),
     }
-}
-
-/// `left <: right`, with the static parameters put in, of the left one of which this was kept.
-fn order_after(
-    alloc: Global,
-    ready: &Ready,
-    left: &Written,
-    left_kept: &Kept,
-    right: &Written,
-) -> Result<Outcome, AllocError>
-    requires left { IsBodySig (all_types ready.now) left.now }
-    requires left_kept { IsKeptAs (all_types ready.now) left.now left_kept.now }
-    requires right { IsBodySig (all_types ready.now) right.now }
-    ensures answer { IfOk result (λ o. order_of (all_types ready.now) left.now right.now o) }
-    ensures valid { IfOk result (λ o. IsValidOutcome ready.now o) }
-{
-    let right_kept = keep(alloc, ready.table(), right)?;
-    order_kept(alloc, ready, left, left_kept, right, &right_kept)
-}
-
-/// `left <: right`, with these types for the static parameters. It answers `TypeLimit` where one of the types with these is too large,
-/// and else `BadParameter` where one breaks a declared bound, the left one first.
-pub fn test_order(
-    alloc: Global,
-    ready: &Ready,
-    statics: &[Ty],
-    left: &Written,
-    right: &Written,
-) -> Result<Outcome, AllocError>
-    requires left { IsWrittenIn ready.now statics.now left.now }
-    requires right { IsWrittenIn ready.now statics.now right.now }
-    ensures answer { IfOk result (λ o. test_order (all_types ready.now) statics.now left.now right.now o) }
-    ensures valid { IfOk result (λ o. IsValidOutcome ready.now o) }
-{
-    let left = with_statics(alloc, statics, left)?;
-    let right = with_statics(alloc, statics, right)?;
-    let left_kept = keep(alloc, ready.table(), &left)?;
-    order_after(alloc, ready, &left, &left_kept, &right)
 }

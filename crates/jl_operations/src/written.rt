@@ -40,6 +40,17 @@ pub fn keep(alloc: Global, table: &Table, written: &Written) -> Result<Kept, All
 }
 
 impl Kept {
+    /// The same, whose signature is shared.
+    pub(crate) fn copy(&self) -> Result<Kept, AllocError>
+        ensures { IfOk result (λ copy. copy ≡ self.now) }
+    {
+        match self {
+            Kept::Sig(sig) => Ok(Kept::Sig(sig.copy()?)),
+            Kept::TooLarge => Ok(Kept::TooLarge),
+            Kept::Broken => Ok(Kept::Broken),
+        }
+    }
+
     /// Whether the type is too large.
     pub fn is_too_large(&self) -> bool
         ensures large { IsTrue result → self.now ≡ K.TooLarge }

@@ -52,7 +52,7 @@ valid_work P fuel k (Defining fresh site xs) t o e f = absurd (cc)
 valid_work P fuel k (Pieces line xs) t o e f = absurd (cc)
 
 pub valid_end : (P : Program) (fuel : ℕ) (k : Knows) (m : Machine) (r : Record) → MachineFits P fuel k m → HasEnded r m → IsValidOutcome P r.outcome
-valid_end P fuel k m r f h = valid_work P fuel k m.work m.task r.outcome h.work f
+valid_end P fuel k m r f h = valid_work P fuel k m.work m.task r.outcome h.work f.task
 
 -- what it has learnt is true of what it has seen
 true_of : (about : About) (v : TaskView) (f s : ℕ) (is : List TraceItem) → AllLearnt (knows_at about v f s) is → AreTrueOf v.seen (task_in v) is

@@ -11,4 +11,4 @@ returns c =
     let pushed = c.in_ok-push_all.ensures ∙ ap (λ (h : Held). with_open h (h.open_values ++ c.as_slice.result.now)) c.new-frames.ensures in
     let started = c.in_ok-start.ensures ∙ (λ i. starts (pushed i) (c.as_slice-2.ensures i)) in
     new_task_is c.args.ready.now c.args.start.now c.args.fuel c.as_slice.result.now _ _ c.first_task-task.result c.index-as_slice-start.result (rw spawns at there) c.as_slice.ensures started c.first_task-task.ensures refl
-    (record { values = ap (λ (h : Held). h.open_values) (c.first_task-task.ensures.frames_are ∙ started); text = ap (λ (h : Held). h.open_text) (c.first_task-task.ensures.frames_are ∙ started) })
+    (record { values = ap (λ (h : Held). h.open_values) (c.first_task-task.ensures.frames_are ∙ started); text = ap (λ (h : Held). h.open_text) (c.first_task-task.ensures.frames_are ∙ started) }) _ (c.new-memo.ensures ∙ c.table.ensures)
