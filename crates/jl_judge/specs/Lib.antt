@@ -7,3 +7,4 @@ pub mod Decision
 pub mod BelowDecided
 pub mod SigDecided
 pub mod Tests
+pub mod Kept

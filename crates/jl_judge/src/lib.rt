@@ -3,9 +3,11 @@
 #![tactic(auto)]
 
 mod judge;
+mod kept;
 mod known;
 pub mod laws;
 mod order;
 mod refusals;
 
 pub use judge::{TableJudge, over, right};
+pub use kept::Kept;

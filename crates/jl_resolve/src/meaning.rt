@@ -14,7 +14,7 @@ use jl_declare::declarations::declarations;
 use jl_declare::known::known;
 use jl_declare::state::Declarations;
 use jl_grammar::tree::{Item, Script};
-use jl_judge::{over, right};
+use jl_judge::{Kept, over, right};
 use jl_resolve_forms::known::Known;
 use jl_resolve_walk::program::Resolved;
 use jl_resolve_walk::top::resolved;
@@ -35,7 +35,10 @@ fn resolved_over(
 {
     let judge = over(table);
     right(&judge);
-    let resolved = resolved(alloc, &judge, known, items, fault)?;
+    let kept = Kept::ask(alloc, &judge, table.count())?;
+    let resolved = resolved(alloc, &kept, known, items, fault);
+    drop(kept);
+    let resolved = resolved?;
     Ok(resolved)
 }
 
