@@ -202,11 +202,11 @@ fn random_step(
     }
 }
 
-/// What a walk keeps: its dice, the last search of each task, how many steps of each kind were made, and the hits.
+/// What a walk keeps: its dice, the last search that each task has begun in it, how many steps of each kind were made, and the hits.
 #[derive(Drop)]
 struct Walk {
     dice: Dice,
-    searches: Vec<Search>,
+    searches: Vec<Option<Search>>,
     made: Vec<u32>,
     hits: Hits,
 }
@@ -222,10 +222,10 @@ impl Walk {
     /// A task has begun this search.
     fn note(&mut self, task: u32, search: Search) -> Result<(), AllocError> {
         for _ in self.searches.len()..(task as usize).saturating_add(1) {
-            self.searches.push(Search { key: 0, world: 0 })?;
+            self.searches.push(None)?;
         }
         if let Some(last) = self.searches.as_mut_slice().get_mut(task as usize) {
-            *last = search;
+            *last = Some(search);
         }
         Ok(())
     }
@@ -235,8 +235,10 @@ impl Walk {
         requires { ready.now ≡ core.now.program }
     {
         for (task, search) in self.searches.as_slice().iter().enumerate() {
-            let task = u32::try_from(task).unwrap_or(u32::MAX);
-            compare(alloc, ready, core, task, *search, &mut self.hits)?;
+            if let Some(search) = search {
+                let task = u32::try_from(task).unwrap_or(u32::MAX);
+                compare(alloc, ready, core, task, *search, &mut self.hits)?;
+            }
         }
         Ok(())
     }
