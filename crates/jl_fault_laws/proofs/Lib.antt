@@ -1,4 +1,5 @@
 pub mod Firsts
+pub mod Faults
 pub mod Order
 pub mod Names
 pub mod Told

@@ -12,7 +12,7 @@ use Rattle.jl_declare.specs.Declarations.{Declaring}
 use Rattle.jl_declare.specs.Script.{known_of}
 use Rattle.jl_declare.proofs.OneResult.{one_result}
 use Rattle.jl_resolve.specs.Program.{ComesTo, IsProgramOf, IsFaultOf}
-use Rattle.jl_fault_laws.specs.Rows.{has_row, HoldsAt, IsOther, IsReportedBy, TellTypes}
+use Rattle.jl_fault_laws.specs.Rows.{has_whole_row, HoldsAt, IsOther, IsReportedBy, TellTypes}
 use Rattle.jl_fault_laws.proofs.RowLaws.{rows_only, rows_least}
 use Rattle.jl_row_laws.specs.Script.{HoldsOf}
 use Rattle.jl_row_laws.proofs.Declared.{declares_other}
@@ -21,7 +21,7 @@ use Rattle.jl_row_laws.proofs.RightTests.{tell_types}
 tells : (s : Script) (P : Program) (o : Option Fault) (c : ComesTo s P o) → TellTypes c.tests
 tells s P o c = tell_types (take c.declaring.allowed c.declaring.decls) c.tests c.right
 
-only : (s : Script) → FormedScript s → (P : Program) (f : Fault) → has_row f.kind ≡ true → ComesTo s P (Some f) → HoldsOf s f
+only : (s : Script) → FormedScript s → (P : Program) (f : Fault) → has_whole_row f.kind ≡ true → ComesTo s P (Some f) → HoldsOf s f
 only s fs P f r c = by (rows_only c.tests (tells s P (Some f) c) (known_of s.items d.decls) s.items d.fault fs f r (ap (λ (x : Resolved). x.fault) c.is))
   where
     d : Declaring
@@ -38,7 +38,7 @@ least s fs P o f c h =
     subst (λ x. IsReportedBy x f) (ap (λ (x : Resolved). x.fault) c.is)
     (rows_least c.tests (tells s P o c) (known_of s.items d.decls) s.items d.fault fs f (subst (λ (x : Declaring). HoldsAt (known_of s.items x.decls) s.items f) same h.holds))
 
-pub rows_only_of : (s : Script) → FormedScript s → (at : ℕ) (kind : StaticKind) → has_row kind ≡ true → IsFaultOf s at kind → HoldsOf s (record { at = at; kind = kind })
+pub rows_only_of : (s : Script) → FormedScript s → (at : ℕ) (kind : StaticKind) → has_whole_row kind ≡ true → IsFaultOf s at kind → HoldsOf s (record { at = at; kind = kind })
 rows_only_of s fs at kind r c = only s fs c.0 (record { at = at; kind = kind }) r c.1
 
 pub rows_first_of : (s : Script) → FormedScript s → (at : ℕ) (kind : StaticKind) → IsFaultOf s at kind → (f : Fault) → HoldsOf s f → comes_before f (record { at = at; kind = kind }) ≡ false
