@@ -6,3 +6,4 @@ pub mod Told
 pub mod Trees
 pub mod Texts
 pub mod RowLaws
+pub mod ExampleRows

@@ -122,6 +122,12 @@ among k [] u f i e h = absurd i
 among k (v ∷ us) u f (inl p) e h = in_left f (faults_of k v) (all_faults k us) (subst (λ x. In f (faults_of k x)) p (fault_of k u f e h))
 among k (v ∷ us) u f (inr i) e h = in_right f (faults_of k v) (all_faults k us) (among k us u f i e h)
 
+pub among_holds : (k : Known) (items : List Item) (f : Fault) → In f (all_faults k (uses_of items)) → HoldsAt k items f
+among_holds k items f i = let u = some_use k (uses_of items) f i in record { use_ = u.0; among = u.1; place = u.2.0; row = u.2.1 }
+
+pub holds_among : (k : Known) (items : List Item) (f : Fault) → HoldsAt k items f → In f (all_faults k (uses_of items))
+holds_among k items f h = among k (uses_of items) h.use_ f h.among h.place h.row
+
 -- ---- of a script
 
 pub rows_only : (t : Tests) → TellTypes t → (k : Known) (items : List Item) (o : Option Fault) → FormedItems items → (f : Fault) → has_whole_row f.kind ≡ true →
@@ -130,8 +136,8 @@ rows_only t q k items o fs f r e = by (only_rows (all_faults k (uses_of items)) 
   where
     by : (o ≡ Some f) ⊎ In f (all_faults k (uses_of items)) → (o ≡ Some f) ⊎ HoldsAt k items f
     by (inl p) = inl p
-    by (inr i) = let u = some_use k (uses_of items) f i in inr (record { use_ = u.0; among = u.1; place = u.2.0; row = u.2.1 })
+    by (inr i) = inr (among_holds k items f i)
 
 pub rows_least : (t : Tests) → TellTypes t → (k : Known) (items : List Item) (o : Option Fault) → FormedItems items → (f : Fault) → HoldsAt k items f → IsReportedBy (resolved t k items o).fault f
 rows_least t q k items o fs f h =
-    least_rows (all_faults k (uses_of items)) o (resolved t k items o).fault (script_told t k (are_other t k q) items fs o) f (among k (uses_of items) h.use_ f h.among h.place h.row)
+    least_rows (all_faults k (uses_of items)) o (resolved t k items o).fault (script_told t k (are_other t k q) items fs o) f (holds_among k items f h)

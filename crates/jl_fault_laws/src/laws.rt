@@ -7,6 +7,8 @@ ghost use Rattle.jl_written.specs.declared.fault.Fault.{Fault};
 ghost use Rattle.jl_resolve_forms.specs.declared.known.Known.{Known};
 ghost use Rattle.jl_resolve_forms.specs.Top.{resolved};
 ghost use Rattle.jl_resolve_forms.specs.TypesIn.{Tests};
+ghost use Rattle.jl_written.specs.declared.fault.StaticKind.TheVariants.{UnknownName, UnknownFunction, TooManyArguments, Rebound, NameClash};
+ghost use Rattle.jl_fault_laws.specs.Examples.{known, good, with_unknown_name, with_unknown_function, with_many_arguments, with_two_bindings, with_built_in, fault};
 ghost use Rattle.jl_fault_laws.specs.Rows.{has_whole_row, HoldsAt, IsReportedBy, TellTypes};
 
 /// Rows of uses of names in well-formed items. `only`: a fault UnknownName, UnknownFunction or TooManyArguments is reported only
@@ -18,4 +20,15 @@ pub fn law_rows()
         → (resolved t k items o).fault ≡ Some f → (o ≡ Some f) ⊎ HoldsAt k items f }
     ensures least { (t : Tests) → TellTypes t → (k : Known) (items : List Item) (o : Option Fault) → FormedItems items → (f : Fault) → HoldsAt k items f
         → IsReportedBy (resolved t k items o).fault f }
+{}
+
+/// The rows are computed on small scripts: none holds of a program, and each holds where its fault stands.
+#[tactic(none)]
+pub fn law_examples()
+    ensures none { (f : Fault) → HoldsAt known good f → ⊥ }
+    ensures name { HoldsAt known with_unknown_name (fault 15 UnknownName) }
+    ensures function { HoldsAt known with_unknown_function (fault 13 UnknownFunction) }
+    ensures arguments { HoldsAt known with_many_arguments (fault 13 TooManyArguments) }
+    ensures binding { HoldsAt known with_two_bindings (fault 18 Rebound) }
+    ensures built_in { HoldsAt known with_built_in (fault 18 NameClash) }
 {}
