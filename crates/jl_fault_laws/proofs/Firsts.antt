@@ -6,54 +6,83 @@ use Rattle.jl_written.specs.Answered.{comes_before, first_of}
 use Rattle.jl_resolve_forms.specs.declared.state.State.{State}
 use Rattle.jl_resolve_forms.specs.Scopes.{noted, merged}
 use Rattle.jl_fault_laws.specs.Uses.{In}
-use Rattle.jl_fault_laws.specs.Rows.{has_row, IsOther, IsOtherKind}
+use Rattle.jl_fault_laws.specs.Rows.{has_whole_row, IsOther, IsOtherKind}
 
 -- the first of a fault and others
 abbrev pub firsts : Option Fault → List Fault → Option Fault
 firsts o [] = o
 firsts o (f ∷ fs) = firsts (first_of o f) fs
 
--- those with a row
-abbrev pub with_row : List Fault → List Fault
-with_row [] = []
-with_row (f ∷ fs) = cond (has_row f.kind) (f ∷ with_row fs) (with_row fs)
-
 firsts_append : (o : Option Fault) (fs gs : List Fault) → firsts o (fs ++ gs) ≡ firsts (firsts o fs) gs
 firsts_append o [] gs = refl
 firsts_append o (f ∷ fs) gs = firsts_append (first_of o f) fs gs
 
-row_append : (fs gs : List Fault) → with_row (fs ++ gs) ≡ with_row fs ++ with_row gs
-row_append [] gs = refl
-row_append (f ∷ fs) gs = by (has_row f.kind) (row_append fs gs)
-  where
-    by : (b : Bool) → with_row (fs ++ gs) ≡ with_row fs ++ with_row gs → cond b (f ∷ with_row (fs ++ gs)) (with_row (fs ++ gs)) ≡ cond b (f ∷ with_row fs) (with_row fs) ++ with_row gs
-    by true e = ap (λ xs. f ∷ xs) e
-    by false e = e
+pub in_left : {A : Type 0} (x : A) (xs ys : List A) → In x xs → In x (xs ++ ys)
+in_left x [] ys i = absurd i
+in_left x (z ∷ xs) ys (inl e) = inl e
+in_left x (z ∷ xs) ys (inr i) = inr (in_left x xs ys i)
 
--- From one first fault to the next some faults are found, and these are those with a row.
+pub in_right : {A : Type 0} (x : A) (xs ys : List A) → In x ys → In x (xs ++ ys)
+in_right x [] ys i = i
+in_right x (z ∷ xs) ys i = inr (in_right x xs ys i)
+
+pub in_either : {A : Type 0} (x : A) (xs ys : List A) → In x (xs ++ ys) → In x xs ⊎ In x ys
+in_either x [] ys i = inr i
+in_either x (z ∷ xs) ys (inl e) = inl (inl e)
+in_either x (z ∷ xs) ys (inr i) = by (in_either x xs ys i)
+  where
+    by : In x xs ⊎ In x ys → In x (z ∷ xs) ⊎ In x ys
+    by (inl j) = inl (inr j)
+    by (inr j) = inr j
+
+in_swapped : {A : Type 0} (x : A) (xs ys : List A) → In x (xs ++ ys) → In x (ys ++ xs)
+in_swapped x xs ys i = by (in_either x xs ys i)
+  where
+    by : In x xs ⊎ In x ys → In x (ys ++ xs)
+    by (inl j) = in_right x ys xs j
+    by (inr j) = in_left x ys xs j
+
+in_both : {A : Type 0} (x : A) (xs ys us vs : List A) → (In x xs → In x us) → (In x ys → In x vs) → In x (xs ++ ys) → In x (us ++ vs)
+in_both x xs ys us vs f g i = by (in_either x xs ys i)
+  where
+    by : In x xs ⊎ In x ys → In x (us ++ vs)
+    by (inl j) = in_left x us vs (f j)
+    by (inr j) = in_right x us vs (g j)
+
+-- From one first fault to the next some faults are found: all of these, and no other one that has its whole row here.
 pub record Tells (fs : List Fault) (o r : Option Fault) : Type 0 where
   pub found : List Fault
   pub is : r ≡ firsts o found
-  pub rows : with_row found ≡ fs
+  pub only : (g : Fault) → has_whole_row g.kind ≡ true → In g found → In g fs
+  pub all : (g : Fault) → In g fs → In g found
 
 pub nothing : (o : Option Fault) → Tells [] o o
-nothing o = record { found = []; is = refl; rows = refl }
+nothing o = record { found = []; is = refl; only = λ g e i. i; all = λ g i. i }
 
 pub two : (fs gs : List Fault) (o r q : Option Fault) → Tells fs o r → Tells gs r q → Tells (fs ++ gs) o q
 two fs gs o r q a b = record {
   found = a.found ++ b.found;
   is = b.is ∙ ap (λ x. firsts x b.found) a.is ∙ sym (firsts_append o a.found b.found);
-  rows = row_append a.found b.found ∙ (λ i. a.rows i ++ b.rows i);
+  only = λ g e i. in_both g a.found b.found fs gs (λ j. a.only g e j) (λ j. b.only g e j) i;
+  all = λ g i. in_both g fs gs a.found b.found (λ j. a.all g j) (λ j. b.all g j) i;
 }
 
 pub same : (fs gs : List Fault) (o r : Option Fault) → fs ≡ gs → Tells fs o r → Tells gs o r
 same fs gs o r e h = subst (λ x. Tells x o r) e h
 
-pub one_row : (f : Fault) (o : Option Fault) → has_row f.kind ≡ true → Tells (f ∷ []) o (first_of o f)
-one_row f o e = record { found = f ∷ []; is = refl; rows = ap (λ b. cond b (f ∷ []) []) e }
+-- in any order
+pub swapped : (fs gs : List Fault) (o r : Option Fault) → Tells (fs ++ gs) o r → Tells (gs ++ fs) o r
+swapped fs gs o r h = record { found = h.found; is = h.is; only = λ g e i. in_swapped g fs gs (h.only g e i); all = λ g i. h.all g (in_swapped g gs fs i) }
 
-pub no_row : (f : Fault) (o : Option Fault) → has_row f.kind ≡ false → Tells [] o (first_of o f)
-no_row f o e = record { found = f ∷ []; is = refl; rows = ap (λ b. cond b (f ∷ []) []) e }
+pub one_fault : (f : Fault) (o : Option Fault) → Tells (f ∷ []) o (first_of o f)
+one_fault f o = record { found = f ∷ []; is = refl; only = λ g e i. i; all = λ g i. i }
+
+not_whole : (f g : Fault) → has_whole_row f.kind ≡ false → has_whole_row g.kind ≡ true → In g (f ∷ []) → In g []
+not_whole f g e r (inl p) = absurd (true≢false (sym r ∙ ap (λ (x : Fault). has_whole_row x.kind) p ∙ e))
+not_whole f g e r (inr i) = i
+
+pub no_row : (f : Fault) (o : Option Fault) → has_whole_row f.kind ≡ false → Tells [] o (first_of o f)
+no_row f o e = record { found = f ∷ []; is = refl; only = λ g r i. not_whole f g e r i; all = λ g i. absurd i }
 
 -- ---- faults without a row
 
@@ -92,29 +121,10 @@ firsts_among o (f ∷ fs) g e = by (firsts_among (first_of o f) fs g e)
     by (inl p) = head (first_either o f g p)
     by (inr i) = inr (inr i)
 
-among_row : (fs : List Fault) (g : Fault) → In g fs → has_row g.kind ≡ true → In g (with_row fs)
-among_row [] g i r = absurd i
-among_row (f ∷ fs) g i r = by (has_row f.kind) refl (λ j. among_row fs g j r) i
-  where
-    by : (b : Bool) → has_row f.kind ≡ b → (In g fs → In g (with_row fs)) → In g (f ∷ fs) → In g (cond b (f ∷ with_row fs) (with_row fs))
-    by true e later (inl p) = inl p
-    by true e later (inr j) = inr (later j)
-    by false e later (inl p) = absurd (true≢false (sym r ∙ ap (λ (x : Fault). has_row x.kind) p ∙ e))
-    by false e later (inr j) = later j
-
-pub row_among : (fs : List Fault) (g : Fault) → In g (with_row fs) → In g fs
-row_among [] g i = i
-row_among (f ∷ fs) g i = by (has_row f.kind) (λ j. row_among fs g j) i
-  where
-    by : (b : Bool) → (In g (with_row fs) → In g fs) → In g (cond b (f ∷ with_row fs) (with_row fs)) → In g (f ∷ fs)
-    by true later (inl p) = inl p
-    by true later (inr j) = inr (later j)
-    by false later j = inr (later j)
-
 -- a fault with a row that is reported stood before, or is one of them
-pub only_rows : (fs : List Fault) (o r : Option Fault) → Tells fs o r → (g : Fault) → has_row g.kind ≡ true → r ≡ Some g → (o ≡ Some g) ⊎ In g fs
+pub only_rows : (fs : List Fault) (o r : Option Fault) → Tells fs o r → (g : Fault) → has_whole_row g.kind ≡ true → r ≡ Some g → (o ≡ Some g) ⊎ In g fs
 only_rows fs o r h g k e = by (firsts_among o h.found g (sym h.is ∙ e))
   where
     by : (o ≡ Some g) ⊎ In g h.found → (o ≡ Some g) ⊎ In g fs
     by (inl p) = inl p
-    by (inr i) = inr (subst (In g) h.rows (among_row h.found g i k))
+    by (inr i) = inr (h.only g k i)

@@ -22,12 +22,13 @@ use Rattle.jl_names.proofs.NumberLemmas.{text_is}
 use Rattle.jl_resolve_forms.specs.declared.known.Known.{Known}
 use Rattle.jl_resolve_forms.specs.declared.state.Scope.{Scope}
 use Rattle.jl_resolve_forms.specs.declared.state.State.{State}
-use Rattle.jl_resolve_forms.specs.Scopes.{slot_from, slot_of, note, clashing, with_slot, slotted, bind}
+use Rattle.jl_resolve_forms.specs.Scopes.{Seen, slot_from, slot_of, note, clashing, with_slot, slotted, bind}
 use Rattle.jl_resolve_forms.specs.Functions.{function_of_operator, function_of, unless_slot, if_struct, struct_named, struct_of}
 use Rattle.jl_resolve_forms.specs.Expressions.{parameters, made_struct}
-use Rattle.jl_fault_laws.specs.Uses.{Visible, with_names, params_of}
+use Rattle.jl_fault_laws.specs.Uses.{Visible, bound, used, with_names, params_of, params_uses}
 use Rattle.jl_fault_laws.specs.Rows.{is_struct, makes_layer, has_function}
-use Rattle.jl_fault_laws.proofs.Firsts.{Tells, nothing, two, no_row}
+use Rattle.jl_fault_laws.proofs.Firsts.{Tells, nothing, two, same, one_fault}
+use Rattle.jl_fault_laws.proofs.Faults.{one, all_faults, joined}
 
 -- the slots with a name are those of the visible names
 abbrev pub Agrees : Scope → Visible → Type 0
@@ -77,23 +78,34 @@ pub bind_agrees : (n : Name) (c : Scope) (s : State) (vs : Visible) → Agrees c
 unfolding bind
 bind_agrees n c s vs h = slotted_agrees n c (clashing n.at n.bytes s) vs h (slot_of c.slots n.bytes) refl
 
--- a binding has no row
-clashing_other : (at : ℕ) (name : List ℕ) (s : State) → Tells [] s.fault (clashing at name s).fault
-clashing_other at name s = by (is_among name builtin_names)
+-- what is told of a binding
+clashing_told : (at : ℕ) (name : List ℕ) (s : State) → Tells (one (is_among name builtin_names) kind.NameClash at) s.fault (clashing at name s).fault
+clashing_told at name s = by (is_among name builtin_names)
   where
-    by : (b : Bool) → Tells [] s.fault (cond b (note at kind.NameClash s) s).fault
-    by true = no_row (record { at = at; kind = kind.NameClash }) s.fault refl
+    by : (b : Bool) → Tells (one b kind.NameClash at) s.fault (cond b (note at kind.NameClash s) s).fault
+    by true = one_fault (record { at = at; kind = kind.NameClash }) s.fault
     by false = nothing s.fault
 
-slotted_other : (n : Name) (c : Scope) (s : State) (o : Option ℕ) → Tells [] s.fault (slotted n c s o).after.fault
-slotted_other n c s None = nothing s.fault
-slotted_other n c s (Some i) = no_row (record { at = n.at; kind = kind.Rebound }) s.fault refl
+slotted_told : (n : Name) (c : Scope) (s : State) (o : Option ℕ) → Tells (one (is_some o) kind.Rebound n.at) s.fault (slotted n c s o).after.fault
+slotted_told n c s None = nothing s.fault
+slotted_told n c s (Some i) = one_fault (record { at = n.at; kind = kind.Rebound }) s.fault
 
-pub bind_other : (n : Name) (c : Scope) (s : State) → Tells [] s.fault (bind n c s).after.fault
+-- the two faults of a binding among those of all rows
+two_of : (at : ℕ) (a b : Bool) → one a kind.NameClash at ++ one b kind.Rebound at ≡ (one a kind.NameClash at ++ (one b kind.Rebound at ++ [])) ++ []
+two_of at true true = refl
+two_of at true false = refl
+two_of at false true = refl
+two_of at false false = refl
+
+pub bind_told : (k : Known) (n : Name) (c : Scope) (s : State) (vs : Visible) → Agrees c vs → Tells (all_faults k (used n.at (bound n.bytes) vs ∷ [])) s.fault (bind n c s).after.fault
 unfolding bind
-bind_other n c s =
+bind_told k n c s vs h =
     let z = clashing n.at n.bytes s in
-    two [] [] s.fault z.fault (slotted n c z (slot_of c.slots n.bytes)).after.fault (clashing_other n.at n.bytes s) (slotted_other n c z (slot_of c.slots n.bytes))
+    let o = slot_of c.slots n.bytes in
+    let a = is_among n.bytes builtin_names in
+    let q = slotted n c z o in
+    same _ _ s.fault q.after.fault ((λ i. one a kind.NameClash n.at ++ one (h n.bytes i) kind.Rebound n.at) ∙ two_of n.at a (is_among n.bytes vs))
+    (two (one a kind.NameClash n.at) (one (is_some o) kind.Rebound n.at) s.fault z.fault q.after.fault (clashing_told n.at n.bytes s) (slotted_told n c z o))
 
 -- parameters
 pub params_agree : (ps : List Param) (c : Scope) (s : State) (vs : Visible) → Agrees c vs → Agrees (parameters ps c s).scope (with_names (params_of ps) vs)
@@ -102,11 +114,18 @@ params_agree (A.Name n ∷ ps) c s vs h = let b = bind n c s in params_agree ps 
 params_agree (A.Typed n t ∷ ps) c s vs h = let b = bind n c s in params_agree ps b.scope b.after (n.bytes ∷ vs) (bind_agrees n c s vs h)
 params_agree (A.Unnamed at t ∷ ps) c s vs h = params_agree ps (with_slot None c) s vs (λ name. behind_none 0 c.slots name ∙ h name)
 
-pub params_other : (ps : List Param) (c : Scope) (s : State) → Tells [] s.fault (parameters ps c s).after.fault
-params_other [] c s = nothing s.fault
-params_other (A.Name n ∷ ps) c s = let b = bind n c s in two [] [] s.fault b.after.fault (parameters ps b.scope b.after).after.fault (bind_other n c s) (params_other ps b.scope b.after)
-params_other (A.Typed n t ∷ ps) c s = let b = bind n c s in two [] [] s.fault b.after.fault (parameters ps b.scope b.after).after.fault (bind_other n c s) (params_other ps b.scope b.after)
-params_other (A.Unnamed at t ∷ ps) c s = params_other ps (with_slot None c) s
+named_param : (k : Known) (n : Name) (ps : List Param) (c : Scope) (s : State) (vs : Visible) → Agrees c vs
+    → ((b : Seen) → Agrees b.scope (n.bytes ∷ vs) → Tells (all_faults k (params_uses ps (n.bytes ∷ vs))) b.after.fault (parameters ps b.scope b.after).after.fault)
+    → Tells (all_faults k (used n.at (bound n.bytes) vs ∷ params_uses ps (n.bytes ∷ vs))) s.fault (parameters ps (bind n c s).scope (bind n c s).after).after.fault
+named_param k n ps c s vs h more =
+    let b = bind n c s in
+    joined k (used n.at (bound n.bytes) vs ∷ []) (params_uses ps (n.bytes ∷ vs)) s.fault b.after.fault (parameters ps b.scope b.after).after.fault (bind_told k n c s vs h) (more b (bind_agrees n c s vs h))
+
+pub params_told : (k : Known) (ps : List Param) (c : Scope) (s : State) (vs : Visible) → Agrees c vs → Tells (all_faults k (params_uses ps vs)) s.fault (parameters ps c s).after.fault
+params_told k [] c s vs h = nothing s.fault
+params_told k (A.Name n ∷ ps) c s vs h = named_param k n ps c s vs h (λ b. params_told k ps b.scope b.after (n.bytes ∷ vs))
+params_told k (A.Typed n t ∷ ps) c s vs h = named_param k n ps c s vs h (λ b. params_told k ps b.scope b.after (n.bytes ∷ vs))
+params_told k (A.Unnamed at t ∷ ps) c s vs h = params_told k ps (with_slot None c) s vs (λ name. behind_none 0 c.slots name ∙ h name)
 
 -- ---- what a name is
 

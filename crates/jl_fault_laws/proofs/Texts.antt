@@ -32,11 +32,11 @@ use Rattle.jl_resolve_forms.specs.Scopes.{noted, merged}
 use Rattle.jl_resolve_forms.specs.TypesIn.{Tests, declared_at, refusal, begins, one_type, made_refusal, type_at, made_type, body_written, made_at}
 use Rattle.jl_resolve_forms.specs.Expressions.{type_of, signed}
 use Rattle.jl_type_laws.proofs.TextInduction.{EachText, TextCases, by_type, by_arg, by_var}
-use Rattle.jl_fault_laws.specs.Rows.{has_row, IsOther, IsOtherKind, TellTypes}
+use Rattle.jl_fault_laws.specs.Rows.{has_whole_row, IsOther, IsOtherKind, TellTypes}
 use Rattle.jl_fault_laws.proofs.Firsts.{Tells, two, noted_other, merged_other}
 use Rattle.jl_fault_laws.proofs.Told.{AreOther}
 
-pub first_other : (o : Option Fault) (f : Fault) → has_row f.kind ≡ false → IsOther o → IsOther (first_of o f)
+pub first_other : (o : Option Fault) (f : Fault) → has_whole_row f.kind ≡ false → IsOther o → IsOther (first_of o f)
 first_other None f e h = e
 first_other (Some g) f e h = by (comes_before f g)
   where

@@ -1,5 +1,5 @@
 -- What is told of a part are the faults of the uses of names in it, as far as these have a row: form by form.
-use Rattle.std.proofs.Common.{ℕ, suc, Bool, true, false, cond, not, ◌&&◌, nat_lt, nat_le, nat_eq, List, [], ◌∷◌, ◌++◌, length, ◌≡◌, Option, Some, None, is_some, refl, sym, ap, subst, ◌∙◌, append-nil, append_assoc, slice_get}
+use Rattle.std.proofs.Common.{ℕ, suc, Bool, true, false, cond, not, ◌&&◌, ◌||◌, nat_lt, nat_le, nat_eq, List, [], ◌∷◌, ◌++◌, length, ◌≡◌, Option, Some, None, is_some, refl, sym, ap, subst, ◌∙◌, append-nil, append_assoc, slice_get}
 use Rattle.jl_model.specs.declared.limits.TheConstants.{MOST_ARGUMENTS}
 use Rattle.jl_model.specs.Valid.{params_of as parameters_of}
 use Rattle.jl_program.specs.Names.{is_among, builtin_names}
@@ -23,35 +23,12 @@ use Rattle.jl_resolve_forms.specs.Functions.{place_of_callee, function_of, struc
 use Rattle.jl_resolve_forms.specs.Parameters.{finds_parameters}
 use Rattle.jl_resolve_forms.specs.TypesIn.{Tests, body_written, made_at, begins}
 use Rattle.jl_resolve_forms.specs.Expressions.{Reads, Defines, Says, binds, returns, does, Evaluates, defines, evaluates, Shows, writes, shows, Tries, Codes, all_coded, one_said, all_said, block_of, one_shown, all_shown, bare_scope, one_evaluated, all_evaluated, one_tried, all_tried, local, latest, counted, spawned, made_struct, made_args, call, made, is_a, is_below, signed, opened, named, may_define, if_unknown, too_many, site_limit, names_in, method, reserved, closed, inferred_refusal, parameters, static_parameters}
-use Rattle.jl_fault_laws.specs.Uses.{Visible, How, value, Use, used, In, Uses, Stated, each, with_names, block, apart, params_of}
+use Rattle.jl_fault_laws.specs.Uses.{Visible, How, value, Use, used, In, Uses, Stated, each, with_names, block, apart, params_of, params_uses}
 use Rattle.jl_fault_laws.specs.Uses as U
-use Rattle.jl_fault_laws.specs.Rows.{unknown_name, unknown_function, too_many_arguments, IsOther, IsOtherKind}
-use Rattle.jl_fault_laws.proofs.Firsts.{Tells, nothing, two, same, one_row, noted_other, merged_other}
-use Rattle.jl_fault_laws.proofs.Names.{Agrees, bind_agrees, bind_other, params_agree, params_other, function_is, struct_is, makes_is}
-
--- a fault where a row holds
-abbrev pub one : Bool → StaticKind → ℕ → List Fault
-one true k at = record { at = at; kind = k } ∷ []
-one false k at = []
-
-abbrev pub faults_of : Known → Use → List Fault
-faults_of k u = one (unknown_name u.how u.visible) kind.UnknownName u.at
-    ++ (one (unknown_function k u.how u.visible) kind.UnknownFunction u.at ++ one (too_many_arguments k u.how u.visible) kind.TooManyArguments u.at)
-
-abbrev pub all_faults : Known → List Use → List Fault
-all_faults k [] = []
-all_faults k (u ∷ us) = faults_of k u ++ all_faults k us
-
-faults_append : (k : Known) (us vs : List Use) → all_faults k us ++ all_faults k vs ≡ all_faults k (us ++ vs)
-faults_append k [] vs = refl
-faults_append k (u ∷ us) vs = append_assoc (faults_of k u) (all_faults k us) (all_faults k vs) ∙ ap (λ x. faults_of k u ++ x) (faults_append k us vs)
-
--- something that has no row behind, or before
-pub then_other : (fs : List Fault) (o r q : Option Fault) → Tells fs o r → Tells [] r q → Tells fs o q
-then_other fs o r q a b = same (fs ++ []) fs o q (append-nil fs) (two fs [] o r q a b)
-
-pub joined : (k : Known) (us vs : List Use) (o r q : Option Fault) → Tells (all_faults k us) o r → Tells (all_faults k vs) r q → Tells (all_faults k (us ++ vs)) o q
-joined k us vs o r q a b = same (all_faults k us ++ all_faults k vs) (all_faults k (us ++ vs)) o q (faults_append k us vs) (two (all_faults k us) (all_faults k vs) o r q a b)
+use Rattle.jl_fault_laws.specs.Rows.{is_taken, IsOther, IsOtherKind}
+use Rattle.jl_fault_laws.proofs.Firsts.{Tells, nothing, two, same, swapped, one_fault, noted_other, merged_other}
+use Rattle.jl_fault_laws.proofs.Faults.{one, faults_of, all_faults, faults_append, joined, then_other}
+use Rattle.jl_fault_laws.proofs.Names.{Agrees, bind_agrees, bind_told, params_agree, params_told, function_is, struct_is, makes_is}
 
 -- what is told of types has no row
 pub record AreOther (t : Tests) (k : Known) : Type 0 where
@@ -74,7 +51,7 @@ module _ (t : Tests) (k : Known) where
   IsToldMethod us m = (types : ℕ) (s : State) → Tells (all_faults k us) s.fault (m types s).after.fault
 
   abbrev pub IsToldStmt : Stated → Says → Type 0
-  IsToldStmt u (binds n x) = (u.names ≡ n ∷ []) × IsTold u.uses x
+  IsToldStmt u (binds n x) = (u.names ≡ n ∷ []) × (v : Uses) × ((vs : Visible) → v vs ++ used n.at (U.bound n.bytes) vs ∷ [] ≡ u.uses vs) × IsTold v x
   IsToldStmt u (returns x) = (u.names ≡ []) × IsTold u.uses x
   IsToldStmt u (does x) = (u.names ≡ []) × IsTold u.uses x
 
@@ -113,7 +90,8 @@ module _ (t : Tests) (k : Known) where
       Tells (all_faults k (u.uses vs)) s.fault (one_said x c s).after.fault × Agrees (one_said x c s).scope (with_names u.names vs)
   one_said_told u (binds n x) h c vs s a =
       let y = x c s in (
-        then_other (all_faults k (u.uses vs)) s.fault y.after.fault (bind n c y.after).after.fault (h.1 c vs s a) (bind_other n c y.after),
+        same (all_faults k (h.1 vs ++ used n.at (U.bound n.bytes) vs ∷ [])) (all_faults k (u.uses vs)) s.fault (bind n c y.after).after.fault (ap (all_faults k) (h.2 vs))
+            (joined k (h.1 vs) (used n.at (U.bound n.bytes) vs ∷ []) s.fault y.after.fault (bind n c y.after).after.fault (h.3 c vs s a) (bind_told k n c y.after vs a)),
         subst (λ ns. Agrees (bind n c y.after).scope (with_names ns vs)) (sym h.0) (bind_agrees n c y.after vs a),
       )
   one_said_told u (returns x) h c vs s a = (h.1 c vs s a, subst (λ ns. Agrees c (with_names ns vs)) (sym h.0) a)
@@ -174,7 +152,7 @@ module _ (t : Tests) (k : Known) where
 
   local_told : (at : ℕ) (o : Option ℕ) (s : State) → Tells ((one (not (is_some o)) kind.UnknownName at ++ []) ++ []) s.fault (local at o s).after.fault
   unfolding local
-  local_told at None s = one_row (record { at = at; kind = kind.UnknownName }) s.fault refl
+  local_told at None s = one_fault (record { at = at; kind = kind.UnknownName }) s.fault
   local_told at (Some slot) s = nothing s.fault
 
   pub name_told : (at : ℕ) (n : List ℕ) → IsTold (λ vs. used at (value n) vs ∷ []) (λ c s. local at (slot_of c.slots n) s)
@@ -191,7 +169,7 @@ module _ (t : Tests) (k : Known) where
   counted_told at xs = by (nat_lt MOST_ARGUMENTS (length xs.codes))
     where
       by : (b : Bool) → Tells (one b kind.TooManyArguments at) xs.after.fault (cond b (note at kind.TooManyArguments xs.after) xs.after).fault
-      by true = one_row (record { at = at; kind = kind.TooManyArguments }) xs.after.fault refl
+      by true = one_fault (record { at = at; kind = kind.TooManyArguments }) xs.after.fault
       by false = nothing xs.after.fault
 
   inferred_other : (p : ℕ) → IsOtherKind (inferred_refusal t k p)
@@ -218,7 +196,7 @@ module _ (t : Tests) (k : Known) where
   unfolding call
   called_told at (Some p) f xs = call_other at p xs
   called_told at None (Some f) xs = same (one (nat_lt MOST_ARGUMENTS (length xs.codes)) kind.TooManyArguments at) (one (nat_lt MOST_ARGUMENTS (length xs.codes)) kind.TooManyArguments at ++ []) xs.after.fault (counted at xs).fault (sym (append-nil (one (nat_lt MOST_ARGUMENTS (length xs.codes)) kind.TooManyArguments at))) (counted_told at xs)
-  called_told at None None xs = one_row (record { at = at; kind = kind.UnknownFunction }) xs.after.fault refl
+  called_told at None None xs = one_fault (record { at = at; kind = kind.UnknownFunction }) xs.after.fault
 
   pub call_told : (f : Callee) (us : List Uses) (xs : List Reads) → Pairs IsTold us xs →
       IsTold (λ vs. each us vs ++ used (place_of_callee f) (U.called f (length us)) vs ∷ []) (λ c s. call t k (place_of_callee f) (called k f c) (all_coded xs c s))
@@ -235,7 +213,7 @@ module _ (t : Tests) (k : Known) where
   latest_of : (at : ℕ) (f : Option ℕ) (xs : Codes) → Tells (latest_faults at (is_some f) (nat_lt MOST_ARGUMENTS (length xs.codes))) xs.after.fault (latest at f xs).after.fault
   unfolding latest
   latest_of at (Some f) xs = same (one (nat_lt MOST_ARGUMENTS (length xs.codes)) kind.TooManyArguments at) (one (nat_lt MOST_ARGUMENTS (length xs.codes)) kind.TooManyArguments at ++ []) xs.after.fault (counted at xs).fault (sym (append-nil (one (nat_lt MOST_ARGUMENTS (length xs.codes)) kind.TooManyArguments at))) (counted_told at xs)
-  latest_of at None xs = one_row (record { at = at; kind = kind.UnknownFunction }) xs.after.fault refl
+  latest_of at None xs = one_fault (record { at = at; kind = kind.UnknownFunction }) xs.after.fault
 
   pub latest_told : (f : Callee) (us : List Uses) (xs : List Reads) → Pairs IsTold us xs →
       IsTold (λ vs. each us vs ++ used (place_of_callee f) (U.latest f (length us)) vs ∷ []) (λ c s. latest (place_of_callee f) (function_of k f c) (all_coded xs c s))
@@ -255,7 +233,7 @@ module _ (t : Tests) (k : Known) where
     made_struct_told at None args us xs h c vs s a =
         let ys = all_coded xs c s in
         two (all_faults k (each us vs)) (record { at = at; kind = kind.UnknownFunction } ∷ []) s.fault ys.after.fault (note at kind.UnknownFunction ys.after).fault
-        (all_coded_told us xs h c vs s a) (one_row (record { at = at; kind = kind.UnknownFunction }) ys.after.fault refl)
+        (all_coded_told us xs h c vs s a) (one_fault (record { at = at; kind = kind.UnknownFunction }) ys.after.fault)
     made_struct_told at (Some p) args us xs h c vs s a =
         let w = made_at t k at p args c s in
         let ys = all_coded xs c w.after in
@@ -283,19 +261,15 @@ module _ (t : Tests) (k : Known) where
 
     -- ---- methods
 
-    -- the name of a method may clash, which has no row
-    define_other : (f : Callee) → IsOtherKind (may_define k f)
-    define_other (C.Plain n) = by (is_among n.bytes builtin_names)
+    define_told : (f : Callee) (at : ℕ) (s : State) → Tells (one (is_taken k f) kind.NameClash at) s.fault (noted at (may_define k f) s).fault
+    define_told (C.Plain n) at s = by (is_among n.bytes builtin_names) (is_among n.bytes (names_in k.types))
       where
-        last : (b : Bool) → IsOtherKind (cond b (Some kind.NameClash) None)
-        last true = refl
-        last false = tt
-
-        by : (b : Bool) → IsOtherKind (cond b (Some kind.NameClash) (cond (is_among n.bytes (names_in k.types)) (Some kind.NameClash) None))
-        by true = refl
-        by false = last (is_among n.bytes (names_in k.types))
-    define_other (C.Base at n) = tt
-    define_other (C.Operator at o) = tt
+        by : (a b : Bool) → Tells (one (a || b) kind.NameClash at) s.fault (noted at (cond a (Some kind.NameClash) (cond b (Some kind.NameClash) None)) s).fault
+        by true b = one_fault (record { at = at; kind = kind.NameClash }) s.fault
+        by false true = one_fault (record { at = at; kind = kind.NameClash }) s.fault
+        by false false = nothing s.fault
+    define_told (C.Base x n) at s = nothing s.fault
+    define_told (C.Operator x o) at s = nothing s.fault
 
     many_other : (s : State) → IsOtherKind (too_many s)
     many_other s = by (nat_le site_limit (length s.sites))
@@ -305,13 +279,15 @@ module _ (t : Tests) (k : Known) where
         by false = tt
 
     unknown_told : (at : ℕ) (f : Option ℕ) (s : State) → Tells (one (not (is_some f)) kind.UnknownFunction at ++ []) s.fault (noted at (if_unknown f) s).fault
-    unknown_told at None s = one_row (record { at = at; kind = kind.UnknownFunction }) s.fault refl
+    unknown_told at None s = one_fault (record { at = at; kind = kind.UnknownFunction }) s.fault
     unknown_told at (Some f) s = nothing s.fault
 
     named_told : (at : ℕ) (callee : Callee) (f : Option ℕ) (g : Signed) → IsOther g.fault → IsOtherKind g.refusal → (s : State) →
-        Tells (one (not (is_some f)) kind.UnknownFunction at ++ []) s.fault (named k at callee f g s).fault
+        Tells (one (is_taken k callee) kind.NameClash at ++ (one (not (is_some f)) kind.UnknownFunction at ++ [])) s.fault (named k at callee f g s).fault
     named_told at callee f g x y s =
-        let fs = one (not (is_some f)) kind.UnknownFunction at ++ [] in
+        let us = one (not (is_some f)) kind.UnknownFunction at ++ [] in
+        let cs = one (is_taken k callee) kind.NameClash at in
+        let fs = cs ++ us in
         let s0 = noted at (if_unknown f) s in
         let s1 = noted at (may_define k callee) s0 in
         let s2 = merged g.fault s1 in
@@ -320,13 +296,14 @@ module _ (t : Tests) (k : Known) where
         then_other fs s.fault s3.fault s4.fault
         (then_other fs s.fault s2.fault s3.fault
         (then_other fs s.fault s1.fault s2.fault
-        (then_other fs s.fault s0.fault s1.fault (unknown_told at f s) (noted_other at (may_define k callee) s0 (define_other callee)))
+        (swapped us cs s.fault s1.fault (two us cs s.fault s0.fault s1.fault (unknown_told at f s) (define_told callee at s0)))
         (merged_other g.fault s1 x))
         (noted_other at g.refusal s2 y))
         (noted_other at (too_many s3) s3 (many_other s3))
 
     opened_told : (h : Head) (types : ℕ) (s : State) →
-        Tells (faults_of k (used (place_of_callee h.callee) (U.defined h.callee) [])) s.fault (opened t k h types s).after.fault × Agrees (opened t k h types s).opening.scope (with_names (params_of h.params) [])
+        Tells (all_faults k (used (place_of_callee h.callee) (U.defined h.callee) [] ∷ params_uses h.params [])) s.fault (opened t k h types s).after.fault
+        × Agrees (opened t k h types s).opening.scope (with_names (params_of h.params) [])
     unfolding opened
     opened_told h types s =
         let at = place_of_callee h.callee in
@@ -335,19 +312,21 @@ module _ (t : Tests) (k : Known) where
         let s1 = named k at h.callee f g s in
         let c : Scope = record { slots = []; statics = static_parameters g.sig g.vars; types = types } in
         let q = other.of_head types h in (
-          same _ _ s.fault (parameters h.params c s1).after.fault (ap (λ b. one (not b) kind.UnknownFunction at ++ []) (function_is k h.callee (bare_scope types) [] (λ name. refl)))
-              (then_other _ s.fault s1.fault (parameters h.params c s1).after.fault (named_told at h.callee f g q.0 q.1 s) (params_other h.params c s1)),
+          two (faults_of k (used at (U.defined h.callee) [])) (all_faults k (params_uses h.params [])) s.fault s1.fault (parameters h.params c s1).after.fault
+              (same _ _ s.fault s1.fault (ap (λ b. one (is_taken k h.callee) kind.NameClash at ++ (one (not b) kind.UnknownFunction at ++ [])) (function_is k h.callee (bare_scope types) [] (λ name. refl)))
+              (named_told at h.callee f g q.0 q.1 s))
+              (params_told k h.params c s1 [] (λ name. refl)),
           params_agree h.params c s1 [] (λ name. refl),
         )
 
-    pub method_told : (h : Head) (u : Uses) (x : Reads) → IsTold u x → IsToldMethod (used (place_of_callee h.callee) (U.defined h.callee) [] ∷ u (with_names (params_of h.params) [])) (method t k h x)
+    pub method_told : (h : Head) (u : Uses) (x : Reads) → IsTold u x → IsToldMethod (used (place_of_callee h.callee) (U.defined h.callee) [] ∷ (params_uses h.params [] ++ u (with_names (params_of h.params) []))) (method t k h x)
     unfolding reserved closed
     method_told h u x told types s =
         let o = opened t k h types s in
         let vs = with_names (params_of h.params) [] in
         let r = opened_told h types s in
         let z = reserved o.opening o.after in
-        two (faults_of k (used (place_of_callee h.callee) (U.defined h.callee) [])) (all_faults k (u vs)) s.fault o.after.fault (x o.opening.scope z).after.fault r.0 (told o.opening.scope vs z r.1)
+        joined k (used (place_of_callee h.callee) (U.defined h.callee) [] ∷ params_uses h.params []) (u vs) s.fault o.after.fault (x o.opening.scope z).after.fault r.0 (told o.opening.scope vs z r.1)
 
   pub spawned_told : (u : Uses) (x : Reads) → IsTold u x → IsTold u (spawned x)
   unfolding spawned

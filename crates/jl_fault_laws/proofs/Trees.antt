@@ -31,11 +31,12 @@ use Rattle.jl_resolve_forms.specs.TypesIn.{Tests}
 use Rattle.jl_resolve_forms.specs.Expressions as R
 use Rattle.jl_resolve_forms.specs.Expressions.{Reads, Defines, Says, Evaluates, Shows, Tries, bare_scope, expr_reads, method_reads, stmt_reads, eval_reads, piece_reads, branch_reads, all_coded}
 use Rattle.jl_fault_laws.specs.Uses as U
-use Rattle.jl_fault_laws.specs.Uses.{Visible, Use, Uses, Stated, each, block, expr_uses, method_uses, stmt_uses, eval_uses, piece_uses, branch_uses, items_uses, uses_of}
+use Rattle.jl_fault_laws.specs.Uses.{Visible, Use, Uses, Stated, used, each, block, expr_uses, method_uses, stmt_uses, eval_uses, piece_uses, branch_uses, items_uses, uses_of}
 use Rattle.jl_fault_laws.proofs.Firsts.{Tells, nothing, two, no_row}
-use Rattle.jl_fault_laws.proofs.Names.{Agrees, bind_agrees, bind_other}
+use Rattle.jl_fault_laws.proofs.Faults.{all_faults, joined, then_other}
+use Rattle.jl_fault_laws.proofs.Names.{Agrees, bind_agrees, bind_told}
 use Rattle.jl_fault_laws.proofs.Told as D
-use Rattle.jl_fault_laws.proofs.Told.{all_faults, AreOther, Pairs, IsTold, IsToldMethod, IsToldStmt, IsToldEval, IsToldPiece, IsToldBranch, joined, then_other}
+use Rattle.jl_fault_laws.proofs.Told.{AreOther, Pairs, IsTold, IsToldMethod, IsToldStmt, IsToldEval, IsToldPiece, IsToldBranch}
 
 module _ (t : Tests) (k : Known) (other : AreOther t k) where
   -- ---- a tree tells what its layer does
@@ -169,7 +170,7 @@ module _ (t : Tests) (k : Known) (other : AreOther t k) where
     pieces_told _ _ (G.more_pieces r p ps f fs) = (piece_told r p f, pieces_told r ps fs)
 
     stmt_told : (r : Bool) (s : Stmt) → FormedStmt r s → IsToldStmt t k (stmt_uses s) (stmt_reads t k s)
-    stmt_told _ _ (G.bind_stmt r x e is f) = stmt_at (F.Bind x e) (SV.Bind x e) (E.rolls-Bind x e) (refl, expr_told r e f)
+    stmt_told _ _ (G.bind_stmt r x e is f) = stmt_at (F.Bind x e) (SV.Bind x e) (E.rolls-Bind x e) (refl, expr_uses e, λ vs. refl, expr_told r e f)
     stmt_told _ _ (G.return_stmt a e f) = stmt_at (F.Return a e) (SV.Return a e) (E.rolls-Return a e) (refl, expr_told true e f)
     stmt_told _ _ (G.return_nothing a) = stmt_at (F.ReturnNothing a) (SV.ReturnNothing a) (E.rolls-ReturnNothing a) (refl, λ c vs s g. nothing s.fault)
     stmt_told _ _ (G.do_stmt r e f) = stmt_at (F.Stmt::Do e) (SV.Do e) (E.rolls-Stmt::Do e) (refl, expr_told r e f)
@@ -198,12 +199,13 @@ module _ (t : Tests) (k : Known) (other : AreOther t k) where
   clash_other at None s = nothing s.fault
   clash_other at (Some i) s = no_row (record { at = max at i; kind = kind.Rebound }) s.fault refl
 
-  top_other : (n : Name) (c : Scope) (s : State) → Tells [] s.fault (top_bind k n c s).after.fault
-  top_other n c s =
+  top_told : (n : Name) (c : Scope) (vs : Visible) (s : State) → Agrees c vs → Tells (all_faults k (used n.at (U.bound n.bytes) vs ∷ [])) s.fault (top_bind k n c s).after.fault
+  top_told n c vs s a =
       let b = bind n c s in
       let z = clash n.at (first_at k.methods n.bytes) b.after in
-      two [] [] s.fault z.fault (clash n.at (first_at k.types n.bytes) z).fault
-      (two [] [] s.fault b.after.fault z.fault (bind_other n c s) (clash_other n.at (first_at k.methods n.bytes) b.after))
+      let fs = all_faults k (used n.at (U.bound n.bytes) vs ∷ []) in
+      then_other fs s.fault z.fault (clash n.at (first_at k.types n.bytes) z).fault
+      (then_other fs s.fault b.after.fault z.fault (bind_told k n c s vs a) (clash_other n.at (first_at k.methods n.bytes) b.after))
       (clash_other n.at (first_at k.types n.bytes) z)
 
   pub items_told : (xs : List Item) → FormedItems xs → (c : Scope) (vs : Visible) (s : State) → Agrees c vs → Tells (all_faults k (items_uses xs vs)) s.fault (all_top t k xs c s).after.fault
@@ -216,9 +218,10 @@ module _ (t : Tests) (k : Known) (other : AreOther t k) where
   items_told _ (G.more_items _ xs (G.bind_item n e is f) fs) c vs s a =
       let y = expr_reads t k e c s in
       let b = top_bind k n c y.after in
-      joined k (expr_uses e vs) (items_uses xs (n.bytes ∷ vs)) s.fault b.after.fault (all_top t k xs b.scope b.after).after.fault
-      (then_other (all_faults k (expr_uses e vs)) s.fault y.after.fault b.after.fault (expr_told false e f c vs s a) (top_other n c y.after))
-      (items_told xs fs b.scope (n.bytes ∷ vs) b.after (bind_agrees n c y.after vs a))
+      let us = items_uses xs (n.bytes ∷ vs) in
+      let z = all_top t k xs b.scope b.after in
+      joined k (expr_uses e vs) (used n.at (U.bound n.bytes) vs ∷ us) s.fault y.after.fault z.after.fault (expr_told false e f c vs s a)
+      (joined k (used n.at (U.bound n.bytes) vs ∷ []) us y.after.fault b.after.fault z.after.fault (top_told n c vs y.after a) (items_told xs fs b.scope (n.bytes ∷ vs) b.after (bind_agrees n c y.after vs a)))
   items_told _ (G.more_items _ xs (G.do_item e f) fs) c vs s a =
       let y = expr_reads t k e c s in
       joined k (expr_uses e vs) (items_uses xs vs) s.fault y.after.fault (all_top t k xs c y.after).after.fault (expr_told false e f c vs s a) (items_told xs fs c vs y.after a)

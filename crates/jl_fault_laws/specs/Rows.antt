@@ -1,9 +1,9 @@
--- Three rows of the table of static faults: of which use of a name each holds (docs/LANGUAGE.md, Faults of a script).
-use Rattle.std.specs.Prelude.{ℕ, Bool, true, false, ◌&&◌, not, nat_lt, List, map, Option, Some, None, is_some, ◌≡◌}
+-- Rows of the table of static faults: of which use of a name each holds (docs/LANGUAGE.md, Faults of a script).
+use Rattle.std.specs.Prelude.{ℕ, Bool, true, false, ◌&&◌, ◌||◌, not, nat_lt, List, map, Option, Some, None, is_some, ◌≡◌}
 use Rattle.jl_model.specs.declared.limits.TheConstants.{MOST_ARGUMENTS}
 use Rattle.jl_model.specs.declared.ty.Decl.{Decl}
 use Rattle.jl_model.specs.declared.ty.Written.{Written}
-use Rattle.jl_program.specs.Names.{is_among}
+use Rattle.jl_program.specs.Names.{is_among, builtin_names}
 use Rattle.jl_program.specs.Prelude.{prelude_functions}
 use Rattle.jl_typeread.specs.declared.tree.ArgText.{ArgText}
 use Rattle.jl_typeread.specs.declared.tree.TypeText.{TypeText}
@@ -21,9 +21,10 @@ use Rattle.jl_written.specs.declared.fault.StaticKind.{StaticKind}
 use Rattle.jl_written.specs.declared.fault.StaticKind.TheVariants as kind
 use Rattle.jl_written.specs.Meaning.{place_of}
 use Rattle.jl_resolve_forms.specs.declared.known.Known.{Known}
+use Rattle.jl_resolve_forms.specs.Expressions.{names_in}
 use Rattle.jl_resolve_forms.specs.Functions.{if_struct}
 use Rattle.jl_resolve_forms.specs.TypesIn.{Tests}
-use Rattle.jl_fault_laws.specs.Uses.{Visible, How, value, called, made, latest, defined, Use, In, uses_of}
+use Rattle.jl_fault_laws.specs.Uses.{Visible, How, value, called, made, latest, defined, bound, Use, In, uses_of}
 
 -- the script declares a struct of this name
 abbrev pub declares : Known → List ℕ → Bool
@@ -58,6 +59,7 @@ unknown_name (called f m) vs = false
 unknown_name (made t) vs = false
 unknown_name (latest f m) vs = false
 unknown_name (defined f) vs = false
+unknown_name (bound n) vs = false
 
 -- UnknownFunction: a called name is no struct and no function; one before braces is no struct; and one that
 -- `Base.invokelatest` calls, or that a method is added to, is no function
@@ -67,6 +69,7 @@ unknown_function k (called f m) vs = not (is_struct k f vs) && not (has_function
 unknown_function k (made t) vs = not (makes k t vs)
 unknown_function k (latest f m) vs = not (has_function k f vs)
 unknown_function k (defined f) vs = not (has_function k f vs)
+unknown_function k (bound n) vs = false
 
 -- TooManyArguments: a function is called with more than 8 arguments; a constructor may be
 abbrev pub too_many_arguments : Known → How → Visible → Bool
@@ -75,14 +78,39 @@ too_many_arguments k (called f m) vs = not (is_struct k f vs) && (has_function k
 too_many_arguments k (made t) vs = false
 too_many_arguments k (latest f m) vs = has_function k f vs && nat_lt MOST_ARGUMENTS m
 too_many_arguments k (defined f) vs = false
+too_many_arguments k (bound n) vs = false
 
--- the row of a kind of fault, where it is one of the three
+-- Rebound, of variables: a name is bound where it is visible
+abbrev pub rebound : How → Visible → Bool
+rebound (value n) vs = false
+rebound (called f m) vs = false
+rebound (made t) vs = false
+rebound (latest f m) vs = false
+rebound (defined f) vs = false
+rebound (bound n) vs = is_among n vs
+
+-- a function is defined by a built-in name without `Base.`, or by the name of a type of the script
+abbrev pub is_taken : Known → Callee → Bool
+is_taken k (C.Plain n) = is_among n.bytes builtin_names || is_among n.bytes (names_in k.types)
+is_taken k (C.Base at n) = false
+is_taken k (C.Operator at o) = false
+
+-- NameClash, of variables and functions: a built-in name is bound, or a taken one is defined
+abbrev pub name_clash : Known → How → Bool
+name_clash k (value n) = false
+name_clash k (called f m) = false
+name_clash k (made t) = false
+name_clash k (latest f m) = false
+name_clash k (defined f) = is_taken k f
+name_clash k (bound n) = is_among n builtin_names
+
+-- the row of a kind of fault, where it is one of the five
 abbrev pub holds : Known → StaticKind → How → Visible → Bool
 holds k kind.UnknownName h vs = unknown_name h vs
 holds k kind.UnknownFunction h vs = unknown_function k h vs
 holds k kind.TooManyArguments h vs = too_many_arguments k h vs
 holds k kind.UnknownType h vs = false
-holds k kind.Rebound h vs = false
+holds k kind.Rebound h vs = rebound h vs
 holds k kind.DuplicateType h vs = false
 holds k kind.WrongParameterCount h vs = false
 holds k kind.SuperNotAbstract h vs = false
@@ -96,29 +124,30 @@ holds k kind.UnusedVariable h vs = false
 holds k kind.TooManyParameters h vs = false
 holds k kind.TooManySites h vs = false
 holds k kind.StaticParameterUse h vs = false
-holds k kind.NameClash h vs = false
+holds k kind.NameClash h vs = name_clash k h
 
--- these kinds of faults have a row here
-abbrev pub has_row : StaticKind → Bool
-has_row kind.UnknownName = true
-has_row kind.UnknownFunction = true
-has_row kind.TooManyArguments = true
-has_row kind.UnknownType = false
-has_row kind.Rebound = false
-has_row kind.DuplicateType = false
-has_row kind.WrongParameterCount = false
-has_row kind.SuperNotAbstract = false
-has_row kind.VariablePlace = false
-has_row kind.TypeLimit = false
-has_row kind.BoundsCrossed = false
-has_row kind.BoundBroken = false
-has_row kind.TooMany = false
-has_row kind.DuplicateField = false
-has_row kind.UnusedVariable = false
-has_row kind.TooManyParameters = false
-has_row kind.TooManySites = false
-has_row kind.StaticParameterUse = false
-has_row kind.NameClash = false
+-- These kinds of faults have their whole row here. Type variables are Rebound and clash as well, and declared names, and a
+-- variable at the top is Rebound with the name of a function or a type.
+abbrev pub has_whole_row : StaticKind → Bool
+has_whole_row kind.UnknownName = true
+has_whole_row kind.UnknownFunction = true
+has_whole_row kind.TooManyArguments = true
+has_whole_row kind.UnknownType = false
+has_whole_row kind.Rebound = false
+has_whole_row kind.DuplicateType = false
+has_whole_row kind.WrongParameterCount = false
+has_whole_row kind.SuperNotAbstract = false
+has_whole_row kind.VariablePlace = false
+has_whole_row kind.TypeLimit = false
+has_whole_row kind.BoundsCrossed = false
+has_whole_row kind.BoundBroken = false
+has_whole_row kind.TooMany = false
+has_whole_row kind.DuplicateField = false
+has_whole_row kind.UnusedVariable = false
+has_whole_row kind.TooManyParameters = false
+has_whole_row kind.TooManySites = false
+has_whole_row kind.StaticParameterUse = false
+has_whole_row kind.NameClash = false
 
 -- a row holds of a use of a name in a script, and its fault stands there
 pub record HoldsAt (k : Known) (items : List Item) (f : Fault) : Type 0 where
@@ -135,11 +164,11 @@ IsReportedBy (Some g) f = comes_before f g ≡ false
 -- a fault of another row, or none
 abbrev pub IsOtherKind : Option StaticKind → Type 0
 IsOtherKind None = Unit {0}
-IsOtherKind (Some k) = has_row k ≡ false
+IsOtherKind (Some k) = has_whole_row k ≡ false
 
 abbrev pub IsOther : Option Fault → Type 0
 IsOther None = Unit {0}
-IsOther (Some f) = has_row f.kind ≡ false
+IsOther (Some f) = has_whole_row f.kind ≡ false
 
 -- what is asked of the table of declarations about a signature, or about a type in a body, is answered by faults of other rows
 pub record TellTypes (t : Tests) : Type 0 where

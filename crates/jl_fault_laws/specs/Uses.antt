@@ -1,6 +1,6 @@
 -- The uses of names in a script, each with the variables that are visible there (Julia manual, Scope of Variables): where a
--- name is a value, where a function or a constructor is called, and where a method is added to a function. Neither faults
--- nor slots nor code are named here.
+-- name is a value, where a function or a constructor is called, where a method is added to a function, and where a variable
+-- is bound. Neither faults nor slots nor code are named here.
 use Rattle.std.specs.Prelude.{ℕ, List, [], ◌∷◌, ◌++◌, ◌≡◌, ◌⊎◌, length}
 use Rattle.jl_typeread.specs.declared.tree.TypeText.{TypeText}
 use Rattle.jl_grammar.specs.declared.tree.Branch.{Branch}
@@ -37,6 +37,8 @@ pub data How : Type 0 where
   latest : Callee → ℕ → How
   -- a method is added to it
   defined : Callee → How
+  -- a variable gets it
+  bound : List ℕ → How
 
 -- a use of a name: where it stands, and what is visible there
 pub record Use : Type 0 where
@@ -89,6 +91,13 @@ params_of (P.Name n ∷ ps) = n ∷ params_of ps
 params_of (P.Typed n t ∷ ps) = n ∷ params_of ps
 params_of (P.Unnamed at t ∷ ps) = params_of ps
 
+-- parameters are bound one after another
+abbrev pub params_uses : List Param → Uses
+params_uses [] vs = []
+params_uses (P.Name n ∷ ps) vs = used n.at (bound n.bytes) vs ∷ params_uses ps (n.bytes ∷ vs)
+params_uses (P.Typed n t ∷ ps) vs = used n.at (bound n.bytes) vs ∷ params_uses ps (n.bytes ∷ vs)
+params_uses (P.Unnamed at t ∷ ps) vs = params_uses ps vs
+
 -- ---- one line a form
 
 abbrev pub expr_step : Expr-F (List Use) Uses (List Use) Uses Stated Uses → Uses
@@ -122,11 +131,11 @@ expr_step (F.Print at line ps) vs = each ps vs
 
 -- the body of a method sees its parameters, and no variable of the script
 abbrev pub method_step : Method-F (List Use) Uses (List Use) Uses Stated Uses → List Use
-method_step (F.Long at h ss) = used (place_of_callee h.callee) (defined h.callee) [] ∷ block ss (with_names (params_of h.params) [])
-method_step (F.Short at h x) = used (place_of_callee h.callee) (defined h.callee) [] ∷ x (with_names (params_of h.params) [])
+method_step (F.Long at h ss) = used (place_of_callee h.callee) (defined h.callee) [] ∷ (params_uses h.params [] ++ block ss (with_names (params_of h.params) []))
+method_step (F.Short at h x) = used (place_of_callee h.callee) (defined h.callee) [] ∷ (params_uses h.params [] ++ x (with_names (params_of h.params) []))
 
 abbrev pub stmt_step : Stmt-F (List Use) Uses (List Use) Uses Stated Uses → Stated
-stmt_step (F.Bind n x) = record { uses = x; names = n ∷ [] }
+stmt_step (F.Bind n x) = record { uses = λ vs. x vs ++ used n.at (bound n.bytes) vs ∷ []; names = n ∷ [] }
 stmt_step (F.Return at x) = record { uses = x; names = [] }
 stmt_step (F.ReturnNothing at) = record { uses = λ vs. []; names = [] }
 stmt_step (F.Stmt::Do x) = record { uses = x; names = [] }
@@ -168,7 +177,7 @@ items_uses [] vs = []
 items_uses (N.Abstract a ∷ xs) vs = items_uses xs vs
 items_uses (N.Struct s ∷ xs) vs = items_uses xs vs
 items_uses (N.Method m ∷ xs) vs = method_uses m ++ items_uses xs vs
-items_uses (N.Bind n x ∷ xs) vs = expr_uses x vs ++ items_uses xs (n.bytes ∷ vs)
+items_uses (N.Bind n x ∷ xs) vs = expr_uses x vs ++ (used n.at (bound n.bytes) vs ∷ items_uses xs (n.bytes ∷ vs))
 items_uses (N.Do x ∷ xs) vs = expr_uses x vs ++ items_uses xs vs
 
 -- those of a script

@@ -1,5 +1,4 @@
-//! Three rows of the table of static faults, in both directions. They are about definitions alone: the function does nothing, and
-//! its contract is the law.
+//! Rows of the table of static faults. They are about definitions alone: the function does nothing, and its contract is the law.
 
 ghost use Rattle.std.specs.Prelude.{◌≡◌, ◌⊎◌, List, Option, Some, true};
 ghost use Rattle.jl_grammar.specs.declared.tree.Item.{Item};
@@ -8,15 +7,28 @@ ghost use Rattle.jl_written.specs.declared.fault.Fault.{Fault};
 ghost use Rattle.jl_resolve_forms.specs.declared.known.Known.{Known};
 ghost use Rattle.jl_resolve_forms.specs.Top.{resolved};
 ghost use Rattle.jl_resolve_forms.specs.TypesIn.{Tests};
-ghost use Rattle.jl_fault_laws.specs.Rows.{has_row, HoldsAt, IsReportedBy, TellTypes};
+ghost use Rattle.jl_written.specs.declared.fault.StaticKind.TheVariants.{UnknownName, UnknownFunction, TooManyArguments, Rebound, NameClash};
+ghost use Rattle.jl_fault_laws.specs.Examples.{known, good, with_unknown_name, with_unknown_function, with_many_arguments, with_two_bindings, with_built_in, fault};
+ghost use Rattle.jl_fault_laws.specs.Rows.{has_whole_row, HoldsAt, IsReportedBy, TellTypes};
 
-/// UnknownName, UnknownFunction and TooManyArguments of well-formed items: such a fault is reported only where its row holds of a
-/// use of a name at its place, or where the declarations had it; and where a row holds of a use, its fault is reported, or one that
-/// it does not come before.
+/// Rows of uses of names in well-formed items. `only`: a fault UnknownName, UnknownFunction or TooManyArguments is reported only
+/// where its row holds of a use of a name at its place, or where the declarations had it. `least`: where a row holds of a use, these
+/// three or Rebound or NameClash, its fault is reported, or one that it does not come before.
 #[tactic(none)]
 pub fn law_rows()
-    ensures only { (t : Tests) → TellTypes t → (k : Known) (items : List Item) (o : Option Fault) → FormedItems items → (f : Fault) → has_row f.kind ≡ true
+    ensures only { (t : Tests) → TellTypes t → (k : Known) (items : List Item) (o : Option Fault) → FormedItems items → (f : Fault) → has_whole_row f.kind ≡ true
         → (resolved t k items o).fault ≡ Some f → (o ≡ Some f) ⊎ HoldsAt k items f }
     ensures least { (t : Tests) → TellTypes t → (k : Known) (items : List Item) (o : Option Fault) → FormedItems items → (f : Fault) → HoldsAt k items f
         → IsReportedBy (resolved t k items o).fault f }
+{}
+
+/// The rows are computed on small scripts: none holds of a program, and each holds where its fault stands.
+#[tactic(none)]
+pub fn law_examples()
+    ensures none { (f : Fault) → HoldsAt known good f → ⊥ }
+    ensures name { HoldsAt known with_unknown_name (fault 15 UnknownName) }
+    ensures function { HoldsAt known with_unknown_function (fault 13 UnknownFunction) }
+    ensures arguments { HoldsAt known with_many_arguments (fault 13 TooManyArguments) }
+    ensures binding { HoldsAt known with_two_bindings (fault 18 Rebound) }
+    ensures built_in { HoldsAt known with_built_in (fault 18 NameClash) }
 {}

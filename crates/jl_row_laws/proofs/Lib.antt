@@ -1,1 +1,3 @@
 pub mod RightTests
+pub mod Declared
+pub mod ScriptRows

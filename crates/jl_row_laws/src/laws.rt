@@ -1,13 +1,34 @@
-//! What the tests of the resolver answer. It is about definitions alone: the function does nothing, and its contract is the law.
+//! Three rows of the table of static faults, of whole scripts. They are laws over definitions alone: each function does nothing,
+//! and its contract is the law.
 
-ghost use Rattle.std.specs.Prelude.{List};
+ghost use Rattle.std.specs.Prelude.{◌≡◌, ℕ, List, true, false};
 ghost use Rattle.jl_model.specs.declared.ty.Decl.{Decl};
+ghost use Rattle.jl_program.specs.declared.tree.Program.{Program};
+ghost use Rattle.jl_grammar.specs.declared.tree.Script.{Script};
+ghost use Rattle.jl_formed.specs.Formed.{FormedScript};
+ghost use Rattle.jl_written.specs.declared.fault.Fault.{Fault};
+ghost use Rattle.jl_written.specs.declared.fault.StaticKind.{StaticKind};
+ghost use Rattle.jl_written.specs.Answered.{comes_before};
 ghost use Rattle.jl_resolve_forms.specs.TypesIn.{Tests};
 ghost use Rattle.jl_judge.specs.Right.{IsRight};
-ghost use Rattle.jl_fault_laws.specs.Rows.{TellTypes};
+ghost use Rattle.jl_resolve.specs.Program.{IsProgramOf, IsFaultOf};
+ghost use Rattle.jl_fault_laws.specs.Rows.{has_whole_row, TellTypes};
+ghost use Rattle.jl_row_laws.specs.Script.{HoldsOf};
 
 /// Tests that are right for a table answer a signature, and a type in a body, only by faults that no row of uses of names has.
 #[tactic(none)]
 pub fn law_right_tests_tell_types()
     ensures { (ds : List Decl) (t : Tests) → IsRight ds t → TellTypes t }
+{}
+
+/// What `program` of jl_resolve answers, by the rows of UnknownName, UnknownFunction and TooManyArguments. `only`: a script has
+/// such a fault as its first one only where its row holds of a use of a name at its place. `first`: where a row holds of a use, its
+/// fault does not come before the one that the script has; and of a program, by `none`, no row holds.
+#[tactic(none)]
+pub fn law_program_rows()
+    ensures only { (s : Script) → FormedScript s → (at : ℕ) (kind : StaticKind) → has_whole_row kind ≡ true → IsFaultOf s at kind
+        → HoldsOf s (record { at = at; kind = kind }) }
+    ensures first { (s : Script) → FormedScript s → (at : ℕ) (kind : StaticKind) → IsFaultOf s at kind → (f : Fault) → HoldsOf s f
+        → comes_before f (record { at = at; kind = kind }) ≡ false }
+    ensures none { (s : Script) → FormedScript s → (P : Program) → IsProgramOf s P → (f : Fault) → HoldsOf s f → ⊥ }
 {}

@@ -1,0 +1,20 @@
+use Rattle.jl_fault_laws.proofs.ExampleRows.{good_rows, name_row, function_row, arguments_row, binding_row, built_in_row}
+use Rattle.jl_fault_laws.proofs.laws.law_examples.Goals as goal
+
+pub returns-clause-none : goal.returns-clause-none
+returns-clause-none c = good_rows
+
+pub returns-clause-name : goal.returns-clause-name
+returns-clause-name c = name_row
+
+pub returns-clause-function : goal.returns-clause-function
+returns-clause-function c = function_row
+
+pub returns-clause-arguments : goal.returns-clause-arguments
+returns-clause-arguments c = arguments_row
+
+pub returns-clause-binding : goal.returns-clause-binding
+returns-clause-binding c = binding_row
+
+pub returns-clause-built_in : goal.returns-clause-built_in
+returns-clause-built_in c = built_in_row

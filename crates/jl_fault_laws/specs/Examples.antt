@@ -1,0 +1,72 @@
+-- Small scripts, of which the rows are computed. Each is `f(x) = 1` and a line after it.
+use Rattle.std.specs.Prelude.{ℕ, pos, codes, List, [], ◌∷◌, ◌++◌, map}
+use Rattle.jl_program.specs.Prelude.{prelude_functions}
+use Rattle.jl_grammar.specs.declared.tree.Callee.TheVariants as C
+use Rattle.jl_grammar.specs.declared.tree.Eval.TheViews as E
+use Rattle.jl_grammar.specs.declared.tree.Expr.{Expr}
+use Rattle.jl_grammar.specs.declared.tree.Expr.TheVariants as X
+use Rattle.jl_grammar.specs.declared.tree.Head.{Head}
+use Rattle.jl_grammar.specs.declared.tree.Item.{Item}
+use Rattle.jl_grammar.specs.declared.tree.Item.TheVariants as N
+use Rattle.jl_grammar.specs.declared.tree.Name.{Name}
+use Rattle.jl_grammar.specs.declared.tree.Param.TheVariants as P
+use Rattle.jl_written.specs.declared.fault.Fault.{Fault}
+use Rattle.jl_written.specs.declared.fault.StaticKind.{StaticKind}
+use Rattle.jl_resolve_forms.specs.declared.known.Known.{Known}
+
+-- a name of one letter
+abbrev pub name_at : ℕ → ℕ → Name
+name_at at letter = record { at = at; bytes = letter ∷ [] }
+
+abbrev pub f : ℕ
+f = 102
+
+abbrev pub g : ℕ
+g = 103
+
+abbrev pub x : ℕ
+x = 120
+
+abbrev pub y : ℕ
+y = 121
+
+abbrev pub one_at : ℕ → Expr
+one_at at = X.Number at (pos 1)
+
+-- `f(x) = 1` declares no type, and one function beside those of the prelude
+abbrev pub known : Known
+known = record { decls = []; functions = prelude_functions ++ (f ∷ []) ∷ []; methods = name_at 0 f ∷ []; types = [] }
+
+abbrev pub head : Head
+head = record { callee = C.Plain (name_at 0 f); params = P.Name (name_at 2 x) ∷ []; vars = [] }
+
+-- behind it, `y = ` and an expression at 13
+abbrev pub with_line : Expr → List Item
+with_line e = N.Method (E.Short 0 head (one_at 7)) ∷ N.Bind (name_at 9 y) e ∷ []
+
+-- `y = f(1)`
+abbrev pub good : List Item
+good = with_line (E.Call 13 (C.Plain (name_at 13 f)) (one_at 15 ∷ []))
+
+-- `y = f(x)`: the parameter is not visible there
+abbrev pub with_unknown_name : List Item
+with_unknown_name = with_line (E.Call 13 (C.Plain (name_at 13 f)) (X.Name 15 (x ∷ []) ∷ []))
+
+-- `y = g(1)`
+abbrev pub with_unknown_function : List Item
+with_unknown_function = with_line (E.Call 13 (C.Plain (name_at 13 g)) (one_at 15 ∷ []))
+
+-- `y = f(1,1,1,1,1,1,1,1,1)`
+abbrev pub with_many_arguments : List Item
+with_many_arguments = with_line (E.Call 13 (C.Plain (name_at 13 f)) (map one_at (15 ∷ 17 ∷ 19 ∷ 21 ∷ 23 ∷ 25 ∷ 27 ∷ 29 ∷ 31 ∷ [])))
+
+-- `y = f(1)`, and on a third line `y = 1`
+abbrev pub with_two_bindings : List Item
+with_two_bindings = good ++ N.Bind (name_at 18 y) (one_at 22) ∷ []
+
+-- `y = f(1)`, and on a third line `div = 1`
+abbrev pub with_built_in : List Item
+with_built_in = good ++ N.Bind (record { at = 18; bytes = codes "div" }) (one_at 24) ∷ []
+
+abbrev pub fault : ℕ → StaticKind → Fault
+fault at kind = record { at = at; kind = kind }
