@@ -1,4 +1,5 @@
-//! What a token makes of a reading.
+//! What a token makes of a reading. `step` is inlined into the loop of a reading, with what most tokens call: at a call the place of a
+//! result is cleared first, and the result is copied.
 
 ghost use Rattle.std.specs.Prelude.{◌≡◌, IfOk, Option, Some};
 ghost use Rattle.jl_grammar.specs.Machine.{start, step_by, step, wants_type};
@@ -51,6 +52,7 @@ pub(crate) fn wants_type(point: &Point) -> bool
 }
 
 /// What a token makes of a reading; none where it is wrong.
+#[inline(always)]
 pub(crate) fn step(alloc: Global, token: &Marked, state: State) -> Result<Option<State>, AllocError>
     ensures { IfOk result (λ s. s ≡ step token.now (Some state)) }
 {
