@@ -26,6 +26,7 @@ fn wrong(is_type: bool, at: u32) -> SyntaxFault
 }
 
 /// The reading behind a token, unless an item that is too deep has ended with it.
+#[inline(always)]
 fn within_limit(next: State) -> Result<State, SyntaxFault>
     ensures { WithinLimit next result }
 {
@@ -39,6 +40,7 @@ fn within_limit(next: State) -> Result<State, SyntaxFault>
 }
 
 /// Takes a token, or tells what is wrong with it, or that it ends an item that is too deep.
+#[inline(always)]
 fn take(alloc: Global, token: Marked, state: State) -> Result<State, SyntaxFault>
     ensures { Took token state result }
 {

@@ -1,4 +1,5 @@
-//! What a token makes of a reading.
+//! What a token makes of a reading. `step` is inlined into the loop of a reading, with what most tokens call: at a call the place of a
+//! result is cleared first, and the result is copied.
 
 ghost use Rattle.std.specs.Prelude.{◌≡◌, IfOk, Option, Some};
 ghost use Rattle.jl_grammar.specs.Machine.{start, step_by, step, wants_type};
@@ -51,6 +52,7 @@ pub(crate) fn wants_type(point: &Point) -> bool
 }
 
 /// What a token makes of a reading; none where it is wrong.
+#[inline(always)]
 pub(crate) fn step(alloc: Global, token: &Marked, state: State) -> Result<Option<State>, AllocError>
     ensures { IfOk result (λ s. s ≡ step token.now (Some state)) }
 {
@@ -65,7 +67,7 @@ pub(crate) fn step(alloc: Global, token: &Marked, state: State) -> Result<Option
     let m = token.marks;
     match q {
         Point::Entry => at_entry(alloc, sign, m, at, k, xs),
-        Point::Bound(name) => at_bound(alloc, sign, name, k, xs),
+        Point::Bound(name) => Ok(at_bound(alloc, sign, name, k, xs)),
         Point::Returned(place) => at_returned(alloc, sign, m, at, place, k, xs),
         Point::Want(pending) => begins(alloc, sign, m, at, pending, k, xs),
         Point::First(returns) => at_first(alloc, sign, m, at, returns, k, xs),
@@ -74,17 +76,17 @@ pub(crate) fn step(alloc: Global, token: &Marked, state: State) -> Result<Option
         Point::Texted => at_texted(alloc, sign, k, xs),
         Point::Have(pending, e) => follows(alloc, sign, at, pending, e, k, xs),
         Point::Dot(pending, e) => at_dot(alloc, sign, at, pending, e, k, xs),
-        Point::Index(pending, e) => at_index(sign, pending, e, k, xs),
+        Point::Index(pending, e) => Ok(at_index(sign, pending, e, k, xs)),
         Point::Indexed(pending, e, n) => at_indexed(alloc, sign, pending, e, n, k, xs),
         Point::Due(pending, place, due) => at_due(alloc, sign, pending, place, due, k, xs),
-        Point::Quoted(pending, e) => at_quoted(sign, pending, e, k, xs),
+        Point::Quoted(pending, e) => Ok(at_quoted(sign, pending, e, k, xs)),
         Point::AfterEval(pending, place) => {
             after_eval(alloc, sign, m, at, pending, place, k, xs)
         }
         Point::Function(purpose) => at_function(sign, at, purpose, k, xs),
         Point::Named(purpose, name) => at_named(alloc, sign, purpose, name, k, xs),
         Point::Dotted(purpose, base) => at_dotted(sign, at, purpose, base, k, xs),
-        Point::Colon(purpose, base) => at_colon(sign, purpose, base, k, xs),
+        Point::Colon(purpose, base) => Ok(at_colon(sign, purpose, base, k, xs)),
         Point::Known(purpose, callee) => at_known(alloc, sign, purpose, callee, k, xs),
         Point::FirstParam(heading) => first_param(alloc, sign, at, heading, k, xs),
         Point::NextParam(heading) => next_param(alloc, sign, at, heading, k, xs),
@@ -104,7 +106,7 @@ pub(crate) fn step(alloc: Global, token: &Marked, state: State) -> Result<Option
                 Err(error)
             }
         },
-        Point::AbstractWord(place) => at_abstract(sign, place, k, xs),
+        Point::AbstractWord(place) => Ok(at_abstract(sign, place, k, xs)),
         Point::DeclName(place, is_struct) => at_decl(sign, at, place, is_struct, k, xs),
         Point::Declared(declaring) => at_declared(alloc, sign, declaring, k, xs),
         Point::Params(declaring, state) => {

@@ -19,14 +19,14 @@ use jl_typeread::sign::Word;
 use std::alloc::{AllocError, Global};
 
 /// The reading goes on at this point.
-pub fn at(point: Point, stack: Stack<Frame>, script: ItemsRead) -> Result<Option<State>, AllocError>
-    ensures { IfOk result (λ s. s ≡ at point stack script) }
+pub fn at(point: Point, stack: Stack<Frame>, script: ItemsRead) -> Option<State>
+    ensures { result ≡ at point stack script }
 {
-    Ok(Some(State {
+    Some(State {
         point,
         stack,
         script,
-    }))
+    })
 }
 
 /// The reading goes on inside of one more form.
@@ -39,7 +39,7 @@ pub fn inside(
     ensures { IfOk result (λ s. s ≡ at point (frame ∷ stack) script) }
 {
     match stack.push(frame) {
-        Ok(()) => at(point, stack, script),
+        Ok(()) => Ok(at(point, stack, script)),
         Err(error) => {
             drop(point);
             Err(error)
@@ -158,10 +158,10 @@ fn body_ends(
 {
     let method = long(alloc, head, stmts)?;
     match place {
-        Place::Entry => at(Point::MadeMethod(method), stack, script),
+        Place::Entry => Ok(at(Point::MadeMethod(method), stack, script)),
         Place::Evaluated(pending, place) => {
             let e = eval_method(alloc, place, method)?;
-            at(Point::Have(pending, e), stack, script)
+            Ok(at(Point::Have(pending, e), stack, script))
         }
     }
 }
@@ -179,16 +179,16 @@ pub fn block_ends(
     match kind {
         BlockKind::Begin(pending, place) => {
             let e = begun(alloc, place, stmts)?;
-            at(Point::Have(pending, e), stack, script)
+            Ok(at(Point::Have(pending, e), stack, script))
         }
         BlockKind::Branch(pending, place, branched, word, test) => {
             let branched = with_branch(alloc, branched, word, test, stmts)?;
             let e = iffed(alloc, place, branched)?;
-            at(Point::Have(pending, e), stack, script)
+            Ok(at(Point::Have(pending, e), stack, script))
         }
         BlockKind::Else(pending, place, branched) => {
             let e = iffed_else(alloc, place, branched, stmts)?;
-            at(Point::Have(pending, e), stack, script)
+            Ok(at(Point::Have(pending, e), stack, script))
         }
         BlockKind::Body(place, head) => body_ends(alloc, place, head, stmts, stack, script),
     }
@@ -278,11 +278,11 @@ pub fn evals_end(
     match kind {
         EvalKind::Begin(pending, place) => {
             let e = eval_block(alloc, place, evals)?;
-            at(Point::Have(pending, e), stack, script)
+            Ok(at(Point::Have(pending, e), stack, script))
         }
         EvalKind::Quote(pending, place) => {
             let e = eval_quote(alloc, place, evals)?;
-            at(Point::Quoted(pending, e), stack, script)
+            Ok(at(Point::Quoted(pending, e), stack, script))
         }
     }
 }

@@ -25,30 +25,25 @@ fn abstract_begins(
     place: u32,
     stack: Stack<Frame>,
     script: ItemsRead,
-) -> Result<Option<State>, AllocError>
-    ensures { IfOk result (λ s. s ≡ abstract_begins is_type place stack script) }
+) -> Option<State>
+    ensures { result ≡ abstract_begins is_type place stack script }
 {
     if is_type {
         return at(Point::DeclName(place, false), stack, script);
     }
-    Ok(None)
+    None
 }
 
 /// A token behind `abstract`.
-pub fn at_abstract(
-    sign: &Sign,
-    place: u32,
-    stack: Stack<Frame>,
-    script: ItemsRead,
-) -> Result<Option<State>, AllocError>
-    ensures { IfOk result (λ s. s ≡ at_abstract sign.now place stack script) }
+pub fn at_abstract(sign: &Sign, place: u32, stack: Stack<Frame>, script: ItemsRead) -> Option<State>
+    ensures { result ≡ at_abstract sign.now place stack script }
 {
     match sign {
         Sign::Name(name) => {
             let is_type = name.as_slice() == b"type".as_slice();
             abstract_begins(is_type, place, stack, script)
         }
-        _ => Ok(None),
+        _ => None,
     }
 }
 
@@ -71,7 +66,7 @@ pub fn at_decl(
                 name: placed(next, name.copy()?),
                 params: no_vars(),
             };
-            at(Point::Declared(declaring), stack, script)
+            Ok(at(Point::Declared(declaring), stack, script))
         }
         _ => Ok(None),
     }
@@ -89,13 +84,13 @@ fn struct_ends(
 {
     let fields = none(alloc);
     match sign {
-        Sign::Newline => at(Point::Fields(Fielding { header, fields }), stack, script),
+        Sign::Newline => Ok(at(Point::Fields(Fielding { header, fields }), stack, script)),
         Sign::Operator(Operator::Semicolon) => {
-            at(Point::Fields(Fielding { header, fields }), stack, script)
+            Ok(at(Point::Fields(Fielding { header, fields }), stack, script))
         }
         Sign::Word(Word::End) => {
             let item = structured(alloc, header, fields)?;
-            at(Point::Made(item), stack, script)
+            Ok(at(Point::Made(item), stack, script))
         }
         _ => {
             drop(header);
@@ -117,7 +112,7 @@ fn abstract_ends(
     match sign {
         Sign::Word(Word::End) => {
             let item = abstracted(alloc, header)?;
-            at(Point::Made(item), stack, script)
+            Ok(at(Point::Made(item), stack, script))
         }
         _ => {
             drop(header);
@@ -178,7 +173,7 @@ fn declared(
         Sign::Operator(operator) => match operator {
             Operator::Subtype => {
                 let point = Point::Type(Goal::Parent(declaring), type_start(alloc));
-                at(point, stack, script)
+                Ok(at(point, stack, script))
             }
             _ => header_ends(alloc, sign, declaring, None, stack, script),
         },
@@ -200,7 +195,7 @@ pub fn at_declared(
         Sign::Operator(operator) => match operator {
             Operator::OpenBrace => {
                 let state = header_start(alloc)?;
-                at(Point::Params(declaring, state), stack, script)
+                Ok(at(Point::Params(declaring, state), stack, script))
             }
             _ => declared(alloc, sign, declaring, stack, script),
         },
@@ -232,7 +227,7 @@ pub fn params_turn(
     ensures { IfOk result (λ s. s ≡ params_turn turn sign.now declaring stack script) }
 {
     match turn {
-        Turn::Goes(state) => at(Point::Params(declaring, state), stack, script),
+        Turn::Goes(state) => Ok(at(Point::Params(declaring, state), stack, script)),
         Turn::Variables(variables) => {
             let params = vars_form(alloc, variables)?;
             declared(alloc, sign, with_params(declaring, params), stack, script)
@@ -255,12 +250,12 @@ pub(crate) fn field_ends(
     ensures { IfOk result (λ s. s ≡ field_ends sign.now fielding stack script) }
 {
     match sign {
-        Sign::Newline => at(Point::Fields(fielding), stack, script),
-        Sign::Operator(Operator::Semicolon) => at(Point::Fields(fielding), stack, script),
+        Sign::Newline => Ok(at(Point::Fields(fielding), stack, script)),
+        Sign::Operator(Operator::Semicolon) => Ok(at(Point::Fields(fielding), stack, script)),
         Sign::Word(Word::End) => {
             let Fielding { header, fields } = fielding;
             let item = structured(alloc, header, fields)?;
-            at(Point::Made(item), stack, script)
+            Ok(at(Point::Made(item), stack, script))
         }
         _ => {
             drop(fielding);
@@ -283,7 +278,7 @@ pub fn at_fields(
     match sign {
         Sign::Name(name) => {
             match name.copy() {
-                Ok(name) => at(Point::Field(fielding, placed(place, name)), stack, script),
+                Ok(name) => Ok(at(Point::Field(fielding, placed(place, name)), stack, script)),
                 Err(error) => {
                     drop(fielding);
                     Err(error)
@@ -343,7 +338,7 @@ pub fn at_field(
         Sign::Operator(operator) => match operator {
             Operator::HasType => {
                 let point = Point::Type(Goal::Field(fielding, name), type_start(alloc));
-                at(point, stack, script)
+                Ok(at(point, stack, script))
             }
             _ => name_ends(alloc, sign, fielding, name, stack, script),
         },
@@ -361,7 +356,7 @@ fn item_made(
 {
     if stack.is_empty() {
         let script = with_item(script, item)?;
-        return at(Point::Entry, stack, script);
+        return Ok(at(Point::Entry, stack, script));
     }
     drop(item);
     Ok(None)
@@ -400,7 +395,7 @@ fn method_made(
         None => {
             let item = method_item(alloc, method)?;
             let script = with_item(script, item)?;
-            at(Point::Entry, stack, script)
+            Ok(at(Point::Entry, stack, script))
         }
         Some(Frame::Evals(kind, evals)) => match with_method(evals, method) {
             Ok(evals) => inside(Point::Entry, Frame::Evals(kind, evals), stack, script),
@@ -458,7 +453,7 @@ fn method_finishes(
     if stack.is_empty() {
         let item = method_item(alloc, method)?;
         let script = with_item(script, item)?;
-        return at(Point::Entry, stack, script);
+        return Ok(at(Point::Entry, stack, script));
     }
     drop(method);
     Ok(None)

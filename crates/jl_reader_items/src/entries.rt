@@ -64,7 +64,7 @@ fn head_begins(
         at: place,
     };
     let point = Point::Named(Purpose::Head(start), placed(place, name));
-    at(point, stack, script)
+    Ok(at(point, stack, script))
 }
 
 /// The name that an item begins with.
@@ -84,7 +84,7 @@ fn item_begins(
         return head_begins(name, place, stack, script);
     }
     if is_binding {
-        return at(Point::Bound(placed(place, name)), stack, script);
+        return Ok(at(Point::Bound(placed(place, name)), stack, script));
     }
     let pending = fresh(alloc, false);
     names(alloc, marks, name, place, pending, stack, script)
@@ -104,7 +104,7 @@ fn stmt_begins(
     ensures { IfOk result (λ s. s ≡ stmt_begins is_binding returns marks name place stack script) }
 {
     if is_binding {
-        return at(Point::Bound(placed(place, name)), stack, script);
+        return Ok(at(Point::Bound(placed(place, name)), stack, script));
     }
     let pending = fresh(alloc, returns);
     names(alloc, marks, name, place, pending, stack, script)
@@ -178,7 +178,7 @@ pub(crate) fn long_begins(
         long: true,
         at: place,
     };
-    at(Point::Function(Purpose::Head(start)), stack, script)
+    Ok(at(Point::Function(Purpose::Head(start)), stack, script))
 }
 
 /// The reserved word that an item begins with.
@@ -192,8 +192,8 @@ fn item_word(
     ensures { IfOk result (λ s. s ≡ item_word word place stack script) }
 {
     match word {
-        Word::Abstract => at(Point::AbstractWord(place), stack, script),
-        Word::Struct => at(Point::DeclName(place, true), stack, script),
+        Word::Abstract => Ok(at(Point::AbstractWord(place), stack, script)),
+        Word::Struct => Ok(at(Point::DeclName(place, true), stack, script)),
         Word::Function => long_begins(Place::Entry, place, stack, script),
         word => begins_word(alloc, word, place, fresh(alloc, false), stack, script),
     }
@@ -209,7 +209,7 @@ fn returns(
     ensures { IfOk result (λ s. s ≡ returns allowed place stack script) }
 {
     if allowed {
-        return at(Point::Returned(place), stack, script);
+        return Ok(at(Point::Returned(place), stack, script));
     }
     Ok(None)
 }
@@ -311,7 +311,7 @@ fn entry_end(stack: Stack<Frame>, script: ItemsRead) -> Result<Option<State>, Al
     ensures { IfOk result (λ s. s ≡ entry_end stack script) }
 {
     if stack.is_empty() {
-        return at(Point::Entry, stack, script);
+        return Ok(at(Point::Entry, stack, script));
     }
     Ok(None)
 }
@@ -328,7 +328,7 @@ fn entry_operator(
     ensures { IfOk result (λ s. s ≡ entry_operator operator marks place stack script) }
 {
     match operator {
-        Operator::Semicolon => at(Point::Entry, stack, script),
+        Operator::Semicolon => Ok(at(Point::Entry, stack, script)),
         operator => {
             let pending = fresh(alloc, returns_in(&stack));
             begins_operator(alloc, operator, marks.ahead, place, pending, stack, script)
@@ -363,7 +363,7 @@ pub fn at_entry(
     ensures { IfOk result (λ s. s ≡ at_entry sign.now marks place stack script) }
 {
     match sign {
-        Sign::Newline => at(Point::Entry, stack, script),
+        Sign::Newline => Ok(at(Point::Entry, stack, script)),
         Sign::Operator(operator) => entry_operator(alloc, *operator, marks, place, stack, script),
         Sign::Word(word) => entry_word(alloc, *word, place, stack, script),
         Sign::Name(name) => entry_name(alloc, marks, name.copy()?, place, stack, script),
@@ -381,15 +381,15 @@ pub fn at_bound(
     name: Name,
     stack: Stack<Frame>,
     script: ItemsRead,
-) -> Result<Option<State>, AllocError>
-    ensures { IfOk result (λ s. s ≡ at_bound sign.now name stack script) }
+) -> Option<State>
+    ensures { result ≡ at_bound sign.now name stack script }
 {
     match sign {
         Sign::Operator(Operator::Assign) => {
             let pending = led(alloc, Lead::Bind(name), returns_in(&stack));
             at(Point::Want(pending), stack, script)
         }
-        _ => Ok(None),
+        _ => None,
     }
 }
 

@@ -40,7 +40,7 @@ pub fn at_function(
     match sign {
         Sign::Name(name) => {
             match name.copy() {
-                Ok(name) => at(Point::Named(purpose, placed(place, name)), stack, script),
+                Ok(name) => Ok(at(Point::Named(purpose, placed(place, name)), stack, script)),
                 Err(error) => {
                     drop(purpose);
                     Err(error)
@@ -55,6 +55,7 @@ pub fn at_function(
 }
 
 /// `(` of a call.
+#[inline(always)]
 pub(crate) fn call_opens(
     alloc: Global,
     pending: Pending,
@@ -79,6 +80,7 @@ pub(crate) fn call_opens(
 }
 
 /// `(` behind a function.
+#[inline(always)]
 fn known_opens(
     alloc: Global,
     purpose: Purpose,
@@ -105,7 +107,7 @@ fn known_opens(
                 callee,
                 params: none(alloc),
             };
-            at(Point::FirstParam(heading), stack, script)
+            Ok(at(Point::FirstParam(heading), stack, script))
         }
         Purpose::Latest(pending, _) => {
             drop(pending);
@@ -160,7 +162,7 @@ fn known_closes(
     match purpose {
         Purpose::Latest(pending, place) => {
             match called(alloc, place, Called::Latest(callee), none(alloc)) {
-                Ok(call) => at(Point::Have(pending, call), stack, script),
+                Ok(call) => Ok(at(Point::Have(pending, call), stack, script)),
                 Err(error) => {
                     drop(pending);
                     Err(error)
@@ -176,6 +178,7 @@ fn known_closes(
 }
 
 /// A token behind a function.
+#[inline(always)]
 pub fn at_known(
     alloc: Global,
     sign: &Sign,
@@ -211,13 +214,14 @@ fn dots(
     ensures { IfOk result (λ s. s ≡ dots is_base purpose base stack script) }
 {
     if is_base {
-        return at(Point::Dotted(purpose, base), stack, script);
+        return Ok(at(Point::Dotted(purpose, base), stack, script));
     }
     drop(purpose);
     Ok(None)
 }
 
 /// A token behind the name of a function.
+#[inline(always)]
 pub fn at_named(
     alloc: Global,
     sign: &Sign,
@@ -255,14 +259,14 @@ pub fn at_dotted(
         Sign::Name(name) => match name.copy() {
             Ok(name) => {
                 let callee = Callee::Base(base, placed(place, name));
-                at(Point::Known(purpose, callee), stack, script)
+                Ok(at(Point::Known(purpose, callee), stack, script))
             }
             Err(error) => {
                 drop(purpose);
                 Err(error)
             }
         },
-        Sign::Operator(Operator::Colon) => at(Point::Colon(purpose, base), stack, script),
+        Sign::Operator(Operator::Colon) => Ok(at(Point::Colon(purpose, base), stack, script)),
         _ => {
             drop(purpose);
             Ok(None)
@@ -271,6 +275,7 @@ pub fn at_dotted(
 }
 
 /// An operator behind `Base.:`.
+#[inline(always)]
 fn knows(
     is_function: bool,
     operator: Operator,
@@ -278,15 +283,15 @@ fn knows(
     base: u32,
     stack: Stack<Frame>,
     script: ItemsRead,
-) -> Result<Option<State>, AllocError>
-    ensures { IfOk result (λ s. s ≡ knows is_function operator purpose base stack script) }
+) -> Option<State>
+    ensures { result ≡ knows is_function operator purpose base stack script }
 {
     if is_function {
         let callee = Callee::Operator(base, operator);
         return at(Point::Known(purpose, callee), stack, script);
     }
     drop(purpose);
-    Ok(None)
+    None
 }
 
 /// A token behind `Base.:`.
@@ -296,8 +301,8 @@ pub fn at_colon(
     base: u32,
     stack: Stack<Frame>,
     script: ItemsRead,
-) -> Result<Option<State>, AllocError>
-    ensures { IfOk result (λ s. s ≡ at_colon sign.now purpose base stack script) }
+) -> Option<State>
+    ensures { result ≡ at_colon sign.now purpose base stack script }
 {
     match sign {
         Sign::Operator(operator) => {
@@ -306,7 +311,7 @@ pub fn at_colon(
         }
         _ => {
             drop(purpose);
-            Ok(None)
+            None
         }
     }
 }
@@ -348,7 +353,7 @@ pub fn next_param(
     match sign {
         Sign::Name(name) => {
             match name.copy() {
-                Ok(name) => at(Point::Param(heading, placed(place, name)), stack, script),
+                Ok(name) => Ok(at(Point::Param(heading, placed(place, name)), stack, script)),
                 Err(error) => {
                     drop(heading);
                     Err(error)
@@ -357,7 +362,7 @@ pub fn next_param(
         }
         Sign::Operator(Operator::HasType) => {
             let goal = Goal::Param(heading, None, place);
-            at(Point::Type(goal, type_start(alloc)), stack, script)
+            Ok(at(Point::Type(goal, type_start(alloc)), stack, script))
         }
         _ => {
             drop(heading);
@@ -379,7 +384,7 @@ pub fn first_param(
 {
     match sign {
         Sign::Operator(operator) => match operator {
-            Operator::CloseParen => at(Point::Headed(heading), stack, script),
+            Operator::CloseParen => Ok(at(Point::Headed(heading), stack, script)),
             _ => next_param(alloc, sign, place, heading, stack, script),
         },
         _ => next_param(alloc, sign, place, heading, stack, script),
@@ -396,8 +401,8 @@ pub(crate) fn param_ends(
     ensures { IfOk result (λ s. s ≡ param_ends sign.now heading stack script) }
 {
     match sign {
-        Sign::Operator(Operator::Comma) => at(Point::NextParam(heading), stack, script),
-        Sign::Operator(Operator::CloseParen) => at(Point::Headed(heading), stack, script),
+        Sign::Operator(Operator::Comma) => Ok(at(Point::NextParam(heading), stack, script)),
+        Sign::Operator(Operator::CloseParen) => Ok(at(Point::Headed(heading), stack, script)),
         _ => {
             drop(heading);
             Ok(None)
@@ -435,7 +440,7 @@ pub fn at_param(
         Sign::Operator(operator) => match operator {
             Operator::HasType => {
                 let goal = Goal::Param(heading, Some(name), place);
-                at(Point::Type(goal, type_start(alloc)), stack, script)
+                Ok(at(Point::Type(goal, type_start(alloc)), stack, script))
             }
             _ => name_ends(sign, heading, name, stack, script),
         },
@@ -469,11 +474,11 @@ fn defines(
     match method {
         Place::Entry => {
             let pending = led(alloc, Lead::Short(head), true);
-            at(Point::Want(pending), stack, script)
+            Ok(at(Point::Want(pending), stack, script))
         }
         Place::Evaluated(pending, place) => {
             let pending = defining(alloc, pending, place, head)?;
-            at(Point::Want(pending), stack, script)
+            Ok(at(Point::Want(pending), stack, script))
         }
     }
 }
@@ -573,7 +578,7 @@ pub fn at_headed(
 {
     match sign {
         Sign::Word(word) => match word {
-            Word::Where => at(Point::Where(heading, where_start(alloc)), stack, script),
+            Word::Where => Ok(at(Point::Where(heading, where_start(alloc)), stack, script)),
             _ => headed(alloc, sign, marks, next, heading, no_vars(), stack, script),
         },
         _ => headed(alloc, sign, marks, next, heading, no_vars(), stack, script),
@@ -594,7 +599,7 @@ pub fn where_turn(
     ensures { IfOk result (λ s. s ≡ where_turn turn sign.now marks next heading stack script) }
 {
     match turn {
-        Turn::Goes(state) => at(Point::Where(heading, state), stack, script),
+        Turn::Goes(state) => Ok(at(Point::Where(heading, state), stack, script)),
         Turn::Variables(variables) => {
             match vars_form(alloc, variables) {
                 Ok(vars) => headed(alloc, sign, marks, next, heading, vars, stack, script),

@@ -56,7 +56,7 @@ fn evaluates(
             at: next,
         };
         let point = Point::Named(Purpose::Head(start), placed(next, name));
-        return at(point, stack, script);
+        return Ok(at(point, stack, script));
     }
     let pending = evaluating(alloc, pending, place)?;
     names(alloc, marks, name, next, pending, stack, script)
@@ -132,8 +132,8 @@ fn due_dot(
     ensures { IfOk result (λ s. s ≡ due_dot due pending place stack script) }
 {
     match due {
-        Due::SpawnDot => at(Point::Due(pending, place, Due::SpawnMacro), stack, script),
-        Due::LatestDot => at(Point::Due(pending, place, Due::LatestName), stack, script),
+        Due::SpawnDot => Ok(at(Point::Due(pending, place, Due::SpawnMacro), stack, script)),
+        Due::LatestDot => Ok(at(Point::Due(pending, place, Due::LatestName), stack, script)),
         _ => {
             drop(pending);
             Ok(None)
@@ -153,11 +153,11 @@ fn due_open(
     ensures { IfOk result (λ s. s ≡ due_open due pending place stack script) }
 {
     match due {
-        Due::LatestOpen => at(
+        Due::LatestOpen => Ok(at(
             Point::Function(Purpose::Latest(pending, place)),
             stack,
             script,
-        ),
+        )),
         Due::FetchOpen => {
             let point = Point::Want(fresh(alloc, pending.returns));
             inside(point, Frame::Fetch(pending, place), stack, script)
@@ -167,7 +167,7 @@ fn due_open(
             let frame = Frame::Print(pending, place, line, none(alloc));
             inside(point, frame, stack, script)
         }
-        Due::QuoteOpen => at(Point::Due(pending, place, Due::QuoteWord), stack, script),
+        Due::QuoteOpen => Ok(at(Point::Due(pending, place, Due::QuoteWord), stack, script)),
         _ => {
             drop(pending);
             Ok(None)
@@ -186,7 +186,7 @@ fn due_name(
     ensures { IfOk result (λ s. s ≡ due_name due pending place stack script) }
 {
     match due {
-        Due::LatestName => at(Point::Due(pending, place, Due::LatestOpen), stack, script),
+        Due::LatestName => Ok(at(Point::Due(pending, place, Due::LatestOpen), stack, script)),
         _ => {
             drop(pending);
             Ok(None)
@@ -208,7 +208,7 @@ fn due_macro(
     match due {
         Due::SpawnMacro => {
             let pending = spawning(alloc, pending, place)?;
-            at(Point::Want(pending), stack, script)
+            Ok(at(Point::Want(pending), stack, script))
         }
         _ => {
             drop(pending);

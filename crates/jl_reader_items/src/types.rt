@@ -35,7 +35,7 @@ fn left_ends(
     match sign {
         Sign::Operator(Operator::Subtype) => {
             let goal = Goal::Right(pending, place, ty);
-            at(Point::Type(goal, type_start(alloc)), stack, script)
+            Ok(at(Point::Type(goal, type_start(alloc)), stack, script))
         }
         _ => {
             drop(pending);
@@ -154,7 +154,7 @@ pub fn type_goes(
     ensures { IfOk result (λ s. s ≡ type_goes turn sign.now next goal stack script) }
 {
     match turn {
-        Turn::Goes(state) => at(Point::Type(goal, state), stack, script),
+        Turn::Goes(state) => Ok(at(Point::Type(goal, state), stack, script)),
         Turn::Type(ty) => match type_form(alloc, ty) {
             Ok(ty) => type_ends(alloc, sign, next, goal, ty, stack, script),
             Err(error) => {

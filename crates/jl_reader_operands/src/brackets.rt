@@ -19,6 +19,7 @@ use jl_typeread::sign::Sign;
 use std::alloc::{AllocError, Global};
 
 /// `)` behind a bracket that may be empty.
+#[inline(always)]
 fn first_closes(
     alloc: Global,
     mut stack: Stack<Frame>,
@@ -75,6 +76,7 @@ fn strings(
 }
 
 /// An operand begins between brackets, or behind a comma in them.
+#[inline(always)]
 fn begins_first(
     alloc: Global,
     sign: &Sign,
@@ -91,6 +93,7 @@ fn begins_first(
 }
 
 /// A token directly behind a bracket that may be empty.
+#[inline(always)]
 pub fn at_first(
     alloc: Global,
     sign: &Sign,
@@ -133,6 +136,7 @@ fn again_closes(
 }
 
 /// A token behind the comma after a tuple's only part.
+#[inline(always)]
 pub fn at_again(
     alloc: Global,
     sign: &Sign,
@@ -240,7 +244,7 @@ pub fn at_dot(
     match sign {
         Sign::Name(bytes) => match bytes.copy() {
             Ok(bytes) => match field(alloc, e, placed(place, bytes)) {
-                Ok(e) => at(Point::Have(pending, e), stack, script),
+                Ok(e) => Ok(at(Point::Have(pending, e), stack, script)),
                 Err(error) => {
                     drop(pending);
                     Err(error)
@@ -267,8 +271,8 @@ pub fn at_index(
     e: Form<Expr>,
     stack: Stack<Frame>,
     script: ItemsRead,
-) -> Result<Option<State>, AllocError>
-    ensures { IfOk result (λ s. s ≡ at_index sign.now pending e stack script) }
+) -> Option<State>
+    ensures { result ≡ at_index sign.now pending e stack script }
 {
     match sign {
         Sign::Number(number) if *number >= 1 => {
@@ -277,7 +281,7 @@ pub fn at_index(
         _ => {
             drop(pending);
             drop(e);
-            Ok(None)
+            None
         }
     }
 }
@@ -296,7 +300,7 @@ pub fn at_indexed(
 {
     match sign {
         Sign::Operator(Operator::CloseBracket) => match part(alloc, e, number) {
-            Ok(e) => at(Point::Have(pending, e), stack, script),
+            Ok(e) => Ok(at(Point::Have(pending, e), stack, script)),
             Err(error) => {
                 drop(pending);
                 Err(error)
@@ -317,15 +321,15 @@ pub fn at_quoted(
     e: Form<Expr>,
     stack: Stack<Frame>,
     script: ItemsRead,
-) -> Result<Option<State>, AllocError>
-    ensures { IfOk result (λ s. s ≡ at_quoted sign.now pending e stack script) }
+) -> Option<State>
+    ensures { result ≡ at_quoted sign.now pending e stack script }
 {
     match sign {
         Sign::Operator(Operator::CloseParen) => at(Point::Have(pending, e), stack, script),
         _ => {
             drop(pending);
             drop(e);
-            Ok(None)
+            None
         }
     }
 }

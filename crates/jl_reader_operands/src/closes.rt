@@ -32,7 +32,7 @@ fn item_ends(
         None => Ok(None),
         Some(item) => {
             let script = with_item(script, item)?;
-            at(Point::Entry, Stack::new(alloc), script)
+            Ok(at(Point::Entry, Stack::new(alloc), script))
         }
     }
 }
@@ -220,6 +220,7 @@ pub(crate) fn words(
 }
 
 /// `,` behind the first part of a tuple.
+#[inline(always)]
 fn first_part(
     alloc: Global,
     pending: Pending,
@@ -244,6 +245,7 @@ fn first_part(
 }
 
 /// `,` behind a later part of a tuple.
+#[inline(always)]
 fn next_part(
     alloc: Global,
     pending: Pending,
@@ -269,6 +271,7 @@ fn next_part(
 }
 
 /// `,` behind an argument.
+#[inline(always)]
 fn next_argument(
     alloc: Global,
     pending: Pending,
@@ -320,6 +323,7 @@ fn next_piece(
 }
 
 /// `,` behind an expression.
+#[inline(always)]
 fn comma(
     alloc: Global,
     e: Form<Expr>,
@@ -350,6 +354,7 @@ fn comma(
 }
 
 /// A tuple that ends with this part.
+#[inline(always)]
 fn whole_tuple(
     alloc: Global,
     place: u32,
@@ -363,6 +368,7 @@ fn whole_tuple(
 }
 
 /// Arguments that end with this one, behind what they are given to.
+#[inline(always)]
 fn whole_call(
     alloc: Global,
     place: u32,
@@ -391,6 +397,7 @@ fn whole_print(
 }
 
 /// `)` behind an expression in parentheses.
+#[inline(always)]
 fn end_paren(
     alloc: Global,
     pending: Pending,
@@ -406,6 +413,7 @@ fn end_paren(
 }
 
 /// `)` behind the last part of a tuple.
+#[inline(always)]
 fn last_part(
     alloc: Global,
     pending: Pending,
@@ -422,6 +430,7 @@ fn last_part(
 }
 
 /// `)` behind the last argument.
+#[inline(always)]
 fn last_argument(
     alloc: Global,
     pending: Pending,
@@ -471,6 +480,7 @@ fn last_piece(
 }
 
 /// `)` behind an expression.
+#[inline(always)]
 fn parens(
     alloc: Global,
     e: Form<Expr>,
@@ -515,7 +525,7 @@ fn colon(
                 Ok(then) => {
                     let form = Outer::Otherwise(test, then);
                     let pending = into(alloc, form, returns, pending)?;
-                    at(Point::Want(pending), stack, script)
+                    Ok(at(Point::Want(pending), stack, script))
                 }
                 Err(error) => {
                     drop(pending);

@@ -18,6 +18,7 @@ use jl_reader_forms::levels::at_levels;
 use std::alloc::{AllocError, Global};
 
 /// The reading goes on behind this operand.
+#[inline(always)]
 pub(crate) fn have(
     pending: Pending,
     made: Result<Form<Expr>, AllocError>,
@@ -27,7 +28,7 @@ pub(crate) fn have(
     ensures { (e : FormOf ExprOf) → IfOk made (λ r. r ≡ e) → IfOk result (λ s. s ≡ at (Point.Have pending e) stack script) }
 {
     match made {
-        Ok(e) => at(Point::Have(pending, e), stack, script),
+        Ok(e) => Ok(at(Point::Have(pending, e), stack, script)),
         Err(error) => {
             drop(pending);
             Err(error)
@@ -36,6 +37,7 @@ pub(crate) fn have(
 }
 
 /// The reading goes on before an operand behind these levels.
+#[inline(always)]
 pub(crate) fn want(
     pending: Pending,
     behind: Result<Levels, AllocError>,
@@ -45,7 +47,7 @@ pub(crate) fn want(
     ensures { (ls : LevelsOf) → IfOk behind (λ r. r ≡ ls) → IfOk result (λ s. s ≡ at (Point.Want (at_levels ls pending)) stack script) }
 {
     match behind {
-        Ok(levels) => at(Point::Want(at_levels(levels, pending)), stack, script),
+        Ok(levels) => Ok(at(Point::Want(at_levels(levels, pending)), stack, script)),
         Err(error) => {
             drop(pending);
             Err(error)
@@ -54,6 +56,7 @@ pub(crate) fn want(
 }
 
 /// A tuple has ended.
+#[inline(always)]
 pub(crate) fn end_tuple(
     alloc: Global,
     pending: Pending,
@@ -69,6 +72,7 @@ pub(crate) fn end_tuple(
 }
 
 /// Arguments have ended.
+#[inline(always)]
 pub(crate) fn end_call(
     alloc: Global,
     pending: Pending,

@@ -21,6 +21,7 @@ use jl_typeread::state::{Point as TypePoint, State as TypeState};
 use std::alloc::{AllocError, Global};
 
 /// `&&` behind a comparison.
+#[inline(always)]
 fn ands(
     alloc: Global,
     pending: Pending,
@@ -36,6 +37,7 @@ fn ands(
 }
 
 /// `||` behind a comparison.
+#[inline(always)]
 fn ors(
     alloc: Global,
     pending: Pending,
@@ -51,6 +53,7 @@ fn ors(
 }
 
 /// The `?` of a conditional.
+#[inline(always)]
 fn chooses(
     alloc: Global,
     pending: Pending,
@@ -68,6 +71,7 @@ fn chooses(
 }
 
 /// An operator or another mark behind a comparison.
+#[inline(always)]
 fn compared_operator(
     alloc: Global,
     operator: Operator,
@@ -114,6 +118,7 @@ pub fn compared(
 }
 
 /// `*`, `÷` or `%` behind an operand.
+#[inline(always)]
 fn terms(
     alloc: Global,
     operator: Infix,
@@ -130,6 +135,7 @@ fn terms(
 }
 
 /// `+` or `-` behind an operand.
+#[inline(always)]
 fn sums(
     alloc: Global,
     operator: Infix,
@@ -146,6 +152,7 @@ fn sums(
 }
 
 /// The operator of a comparison behind its left operand.
+#[inline(always)]
 fn comparisons(
     alloc: Global,
     operator: Infix,
@@ -208,10 +215,11 @@ fn isas(
     let (levels, pending) = apart(alloc, pending);
     let (levels, e) = summed(alloc, levels, e)?;
     let goal = Goal::Isa(at_levels(levels, pending), e);
-    at(Point::Type(goal, type_start(alloc)), stack, script)
+    Ok(at(Point::Type(goal, type_start(alloc)), stack, script))
 }
 
 /// An operator or another mark that the comparison does not go on with.
+#[inline(always)]
 fn past(
     alloc: Global,
     operator: Operator,
@@ -228,6 +236,7 @@ fn past(
 }
 
 /// An operator or another mark behind an operand.
+#[inline(always)]
 fn follows_operator(
     alloc: Global,
     operator: Operator,
@@ -240,8 +249,8 @@ fn follows_operator(
     ensures { IfOk result (λ s. s ≡ follows_operator operator place pending e stack script) }
 {
     match operator {
-        Operator::Dot => at(Point::Dot(pending, e), stack, script),
-        Operator::OpenBracket => at(Point::Index(pending, e), stack, script),
+        Operator::Dot => Ok(at(Point::Dot(pending, e), stack, script)),
+        Operator::OpenBracket => Ok(at(Point::Index(pending, e), stack, script)),
         Operator::Times => terms(alloc, Infix::Times, pending, e, stack, script),
         Operator::Divide => terms(alloc, Infix::Divide, pending, e, stack, script),
         Operator::Remainder => terms(alloc, Infix::Remainder, pending, e, stack, script),
@@ -282,6 +291,7 @@ fn follows_word(
 }
 
 /// A token behind an operand.
+#[inline(always)]
 pub fn follows(
     alloc: Global,
     sign: &Sign,

@@ -25,6 +25,7 @@ use jl_typeread::turns::step;
 use std::alloc::{AllocError, Global};
 
 /// A token of a type.
+#[inline(always)]
 pub(crate) fn type_turn(
     turn: Turn,
     goal: Goal,
@@ -34,7 +35,7 @@ pub(crate) fn type_turn(
     ensures { IfOk result (λ s. s ≡ type_turn turn goal stack script) }
 {
     match turn {
-        Turn::Goes(state) => at(Point::Type(goal, state), stack, script),
+        Turn::Goes(state) => Ok(at(Point::Type(goal, state), stack, script)),
         turn => {
             drop(turn);
             drop(goal);
@@ -44,6 +45,7 @@ pub(crate) fn type_turn(
 }
 
 /// The first token of a type.
+#[inline(always)]
 fn type_begins(
     alloc: Global,
     sign: Sign,
@@ -65,6 +67,7 @@ fn type_begins(
 }
 
 /// A form whose fixed tokens follow.
+#[inline(always)]
 fn due(
     pending: Pending,
     place: u32,
@@ -74,10 +77,11 @@ fn due(
 ) -> Result<Option<State>, AllocError>
     ensures { IfOk result (λ s. s ≡ at (Point.Due pending place due) stack script) }
 {
-    at(Point::Due(pending, place, due), stack, script)
+    Ok(at(Point::Due(pending, place, due), stack, script))
 }
 
 /// A name is an operand.
+#[inline(always)]
 fn name_alone(
     alloc: Global,
     bytes: Bytes,
@@ -89,10 +93,11 @@ fn name_alone(
     ensures { IfOk result (λ s. s ≡ at (Point.Have pending (name place bytes)) stack script) }
 {
     let e = name(alloc, place, bytes)?;
-    at(Point::Have(pending, e), stack, script)
+    Ok(at(Point::Have(pending, e), stack, script))
 }
 
 /// A name begins an operand.
+#[inline(always)]
 fn opens(
     alloc: Global,
     opening: Opening,
@@ -109,7 +114,7 @@ fn opens(
         Opening::Binding => name_alone(alloc, bytes, place, pending, stack, script),
         Opening::Call => {
             let purpose = Purpose::Call(pending, place);
-            at(Point::Named(purpose, placed(place, bytes)), stack, script)
+            Ok(at(Point::Named(purpose, placed(place, bytes)), stack, script))
         }
         Opening::Make => {
             let goal = Goal::Make(pending, place);
@@ -138,6 +143,7 @@ fn begins_type(pending: &Pending, ahead: Ahead) -> bool
 }
 
 /// A name begins an operand, or the left type of a comparison.
+#[inline(always)]
 pub fn names(
     alloc: Global,
     marks: Marks,
@@ -157,6 +163,7 @@ pub fn names(
 }
 
 /// `(` begins an operand, or the left type of a comparison.
+#[inline(always)]
 fn brackets(
     alloc: Global,
     ahead: Ahead,
@@ -177,6 +184,7 @@ fn brackets(
 }
 
 /// An operator before its operand.
+#[inline(always)]
 fn prefixes(
     alloc: Global,
     place: u32,
@@ -189,10 +197,11 @@ fn prefixes(
 {
     let (levels, pending) = apart(alloc, pending);
     let levels = behind_prefix(PrefixAt { at: place, prefix }, levels)?;
-    at(Point::Want(at_levels(levels, pending)), stack, script)
+    Ok(at(Point::Want(at_levels(levels, pending)), stack, script))
 }
 
 /// An operator or another mark begins an operand.
+#[inline(always)]
 pub fn begins_operator(
     alloc: Global,
     operator: Operator,
@@ -256,7 +265,7 @@ fn truths(
     ensures { IfOk result (λ s. s ≡ at (Point.Have pending (truth place value)) stack script) }
 {
     let e = truth(alloc, place, value)?;
-    at(Point::Have(pending, e), stack, script)
+    Ok(at(Point::Have(pending, e), stack, script))
 }
 
 /// `nothing` is an operand.
@@ -270,7 +279,7 @@ fn nothings(
     ensures { IfOk result (λ s. s ≡ at (Point.Have pending (nothing place)) stack script) }
 {
     let e = nothing(alloc, place)?;
-    at(Point::Have(pending, e), stack, script)
+    Ok(at(Point::Have(pending, e), stack, script))
 }
 
 /// A reserved word begins an operand.
@@ -298,6 +307,7 @@ pub fn begins_word(
 }
 
 /// A macro word begins an operand.
+#[inline(always)]
 fn macros(
     bytes: &Bytes,
     place: u32,
@@ -308,13 +318,14 @@ fn macros(
     ensures { IfOk result (λ s. s ≡ macros (bytes_eq bytes.now (codes "eval")) place pending stack script) }
 {
     if bytes.as_slice() == b"eval".as_slice() {
-        return at(Point::AfterEval(pending, place), stack, script);
+        return Ok(at(Point::AfterEval(pending, place), stack, script));
     }
     drop(pending);
     Ok(None)
 }
 
 /// A number is an operand.
+#[inline(always)]
 fn numbers(
     alloc: Global,
     value: i64,
@@ -326,7 +337,7 @@ fn numbers(
     ensures { IfOk result (λ s. s ≡ at (Point.Have pending (number place value)) stack script) }
 {
     let e = number(alloc, place, value)?;
-    at(Point::Have(pending, e), stack, script)
+    Ok(at(Point::Have(pending, e), stack, script))
 }
 
 /// An operand begins.
