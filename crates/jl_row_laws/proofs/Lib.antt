@@ -1,3 +1,4 @@
 pub mod RightTests
 pub mod Declared
+pub mod Outlines
 pub mod ScriptRows

@@ -10,12 +10,12 @@ use Rattle.jl_resolve_forms.specs.Top.{Resolved}
 use Rattle.jl_resolve_forms.specs.TypesIn.{Tests}
 use Rattle.jl_declare.specs.Declarations.{Declaring}
 use Rattle.jl_declare.specs.Script.{known_of}
-use Rattle.jl_declare.proofs.OneResult.{one_result}
 use Rattle.jl_resolve.specs.Program.{ComesTo, IsProgramOf, IsFaultOf}
 use Rattle.jl_fault_laws.specs.Rows.{has_whole_row, HoldsAt, IsOther, IsReportedBy, TellTypes}
 use Rattle.jl_fault_laws.proofs.RowLaws.{rows_only, rows_least}
 use Rattle.jl_row_laws.specs.Script.{HoldsOf}
 use Rattle.jl_row_laws.proofs.Declared.{declares_other}
+use Rattle.jl_row_laws.proofs.Outlines.{to_text, from_text}
 use Rattle.jl_row_laws.proofs.RightTests.{tell_types}
 
 tells : (s : Script) (P : Program) (o : Option Fault) (c : ComesTo s P o) → TellTypes c.tests
@@ -29,14 +29,13 @@ only s fs P f r c = by (rows_only c.tests (tells s P (Some f) c) (known_of s.ite
 
     by : (d.fault ≡ Some f) ⊎ HoldsAt (known_of s.items d.decls) s.items f → HoldsOf s f
     by (inl e) = absurd (true≢false (sym r ∙ subst IsOther e (declares_other s.items d c.declares)))
-    by (inr h) = record { declaring = d; declares = c.declares; holds = h }
+    by (inr h) = to_text s.items d c.declares f h
 
 least : (s : Script) → FormedScript s → (P : Program) (o : Option Fault) (f : Fault) → ComesTo s P o → HoldsOf s f → IsReportedBy o f
 least s fs P o f c h =
     let d = c.declaring in
-    let same : h.declaring ≡ d = one_result s.items h.declaring d h.declares c.declares in
     subst (λ x. IsReportedBy x f) (ap (λ (x : Resolved). x.fault) c.is)
-    (rows_least c.tests (tells s P o c) (known_of s.items d.decls) s.items d.fault fs f (subst (λ (x : Declaring). HoldsAt (known_of s.items x.decls) s.items f) same h.holds))
+    (rows_least c.tests (tells s P o c) (known_of s.items d.decls) s.items d.fault fs f (from_text s.items d c.declares f h))
 
 pub rows_only_of : (s : Script) → FormedScript s → (at : ℕ) (kind : StaticKind) → has_whole_row kind ≡ true → IsFaultOf s at kind → HoldsOf s (record { at = at; kind = kind })
 rows_only_of s fs at kind r c = only s fs c.0 (record { at = at; kind = kind }) r c.1

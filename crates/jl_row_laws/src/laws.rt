@@ -1,4 +1,4 @@
-//! Three rows of the table of static faults, of whole scripts. They are laws over definitions alone: each function does nothing,
+//! Rows of the table of static faults, of whole scripts. They are laws over definitions alone: each function does nothing,
 //! and its contract is the law.
 
 ghost use Rattle.std.specs.Prelude.{◌≡◌, ℕ, List, true, false};
@@ -21,9 +21,10 @@ pub fn law_right_tests_tell_types()
     ensures { (ds : List Decl) (t : Tests) → IsRight ds t → TellTypes t }
 {}
 
-/// What `program` of jl_resolve answers, by the rows of UnknownName, UnknownFunction and TooManyArguments. `only`: a script has
-/// such a fault as its first one only where its row holds of a use of a name at its place. `first`: where a row holds of a use, its
-/// fault does not come before the one that the script has; and of a program, by `none`, no row holds.
+/// What `program` of jl_resolve answers, by rows of uses of names. `only`: a script has UnknownName, UnknownFunction or
+/// TooManyArguments as its first fault only where the row of that fault holds of a use of a name at its place. `first`: where a row
+/// holds of a use, one of these three or Rebound or NameClash, its fault does not come before the one that the script has. `none`: of
+/// a program no row holds.
 #[tactic(none)]
 pub fn law_program_rows()
     ensures only { (s : Script) → FormedScript s → (at : ℕ) (kind : StaticKind) → has_whole_row kind ≡ true → IsFaultOf s at kind

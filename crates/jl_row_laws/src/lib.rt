@@ -1,4 +1,4 @@
-//! That the premise of the laws of rows holds of the tests of the resolver.
+//! Laws of the static faults of a whole script, row by row of their table.
 #![tactic(auto)]
 
 pub mod laws;
