@@ -5,10 +5,13 @@
     reference/refuse.py memory devices    these parts
     reference/refuse.py memory 7          every 7th allocation alone
     JL=FILE reference/refuse.py           with another program than crates/jl_main/out/jl_main
+    BOOK=FILE reference/refuse.py book    with another test program than the one that `rt test` leaves in crates/book_tests/out
 
 It needs a C compiler, for refuse.c, which is loaded before the C library. Where memory is refused the run must end with status 6 and a
 first part of its text, or as it does with ample memory. Where a thread is refused it must end as it does with all of them. Where a read
-fails the status is 4 and nothing is written; where a write fails it is 5, and what was written before it stays. In each run the threads
+fails the status is 4 and nothing is written; where a write fails it is 5, and what was written before it stays. In the part of the book a
+test compares all that can be asked before and after a call that was refused, and takes it once more: it must pass whichever allocation was
+refused. In each run the threads
 that were started are joined, none may end by a signal or write to standard error, and none may take longer than 20 seconds. The last line
 of each part counts the runs and the differences; the status is 0 only where there is no difference.
 """
@@ -22,6 +25,7 @@ import tempfile
 
 HERE = os.path.dirname(os.path.abspath(__file__))
 PROGRAM = os.path.abspath(os.environ.get("JL") or os.path.join(HERE, "..", "crates", "jl_main", "out", "jl_main"))
+BOOK = os.path.abspath(os.environ.get("BOOK") or os.path.join(HERE, "..", "crates", "book_tests", "out", "book_tests_tests"))
 # The numbers of `struct Plan` of refuse.c, in its order.
 KINDS = ("alloc", "thread", "read", "write")
 PLAN = struct.Struct("12Q")
@@ -54,10 +58,10 @@ def example(name):
 
 
 class Shim:
-    """The program under refuse.c."""
+    """A program under refuse.c."""
 
-    def __init__(self, folder):
-        self.library, self.plan = f"{folder}/refuse.so", f"{folder}/plan"
+    def __init__(self, folder, program=PROGRAM):
+        self.library, self.plan, self.program = f"{folder}/refuse.so", f"{folder}/plan", program
         subprocess.run(["cc", "-O2", "-shared", "-fPIC", "-o", self.library, f"{HERE}/refuse.c", "-ldl"], check=True)
         with open(self.plan, "wb") as file:
             file.write(bytes(PLAN.size))
@@ -70,7 +74,7 @@ class Shim:
             file.write(PLAN.pack(*numbers, 0, 0, 0, 0, int(keeps_on), piece, 0, 0))
         there = {**os.environ, "LD_PRELOAD": self.library, "REFUSE": self.plan}
         try:
-            run = subprocess.run([PROGRAM, *words], input=text, capture_output=True, env=there, timeout=LONGEST, check=False)
+            run = subprocess.run([self.program, *words], input=text, capture_output=True, env=there, timeout=LONGEST, check=False)
         except subprocess.TimeoutExpired:
             return "no end", b"", b"", {}
         with open(self.plan, "rb") as file, mmap.mmap(file.fileno(), 0, access=mmap.ACCESS_READ) as plan:
@@ -153,7 +157,19 @@ def test_devices(shim, part, _):
         part.count(f"pieces of {piece}", answer, answer[:2] == (0, written))
 
 
-PARTS = {"memory": test_memory, "threads": test_threads, "devices": test_devices}
+def test_book(shim, part, step):
+    """Refuses each allocation in turn of a test on the book, and of one on its index."""
+    for name in ("a_definition_ends_the_row_that_has_no_end", "what_touches_a_key_grows_with_each_definition"):
+        words = [f"tests::{name}"]
+        due, written, err, counts = shim.ask(words, b"")
+        part.count(f"{name}, ample memory", (due, written, err, counts), due == 0)
+        for number in range(1, counts["alloc"] + 20, step):
+            answer = shim.ask(words, b"", "alloc", number)
+            part.count(f"{name}, allocation {number}", answer, answer[:2] == (due, written))
+        print(f"{part.name}: {name}: {counts['alloc']} allocations with ample memory", flush=True)
+
+
+PARTS = {"memory": test_memory, "threads": test_threads, "devices": test_devices, "book": test_book}
 
 
 def main(words):
@@ -162,14 +178,14 @@ def main(words):
     unknown = [name for name in names if name not in PARTS]
     if unknown:
         sys.exit(f"refuse: there is no part '{unknown[0]}'")
-    if not os.path.exists(PROGRAM):
-        sys.exit(f"refuse: there is no {PROGRAM}: run ./build first")
     differ = 0
     with tempfile.TemporaryDirectory() as folder:
-        shim = Shim(folder)
         for name in names:
+            program = BOOK if name == "book" else PROGRAM
+            if not os.path.exists(program):
+                sys.exit(f"refuse: there is no {program}: run ./build first, or `rt test` in crates/book_tests")
             part = Part(name)
-            PARTS[name](shim, part, step)
+            PARTS[name](Shim(folder, program), part, step)
             differ += part.end()
     sys.exit(1 if differ else 0)
 

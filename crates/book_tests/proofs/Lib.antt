@@ -1,0 +1,3 @@
+pub mod ValidLemmas
+pub mod KeyLemmas
+pub mod IndexLemmas

@@ -1,0 +1,221 @@
+-- The programs of the tests are valid.
+use Rattle.std.proofs.Common.{◌≡◌, refl, ap, ℕ, ℤ, pos, codes, Bool, true, IsTrue, All, ◌<◌, ◌≤◌, zero, suc, arith, List, [], ◌∷◌, ◌++◌, length}
+use Rattle.std.specs.List.{list_all}
+use Rattle.jl_model.specs.Refusals.{builtin}
+use Rattle.jl_model.specs.declared.ty.Ty.{Ty}
+use Rattle.jl_model.specs.declared.ty.Ty.TheVariants as T
+use Rattle.jl_program.specs.declared.tree.Expr.{Expr}
+use Rattle.jl_program.specs.declared.tree.Expr.TheOpen as F
+use Rattle.jl_program.specs.declared.tree.Expr.TheVariants as E
+use Rattle.jl_program.specs.declared.tree.Expr.TheViews as X
+use Rattle.jl_program.specs.declared.tree.Item.{Item}
+use Rattle.jl_program.specs.declared.tree.Item.TheVariants as I
+use Rattle.jl_program.specs.declared.tree.Piece.TheVariants as Pi
+use Rattle.jl_program.specs.declared.tree.Program.{Program}
+use Rattle.jl_program.specs.declared.tree.Site.{Site}
+use Rattle.jl_program.specs.BodyTypes.{IsAllowedType, IsSmallStruct}
+use Rattle.jl_program.specs.Gathered.{Layer, in_program, own_place, own_types, own_struct, spawned_places, written_types, inferred_structs, times}
+use Rattle.jl_program.specs.Names.{is_free_name, are_distinct}
+use Rattle.jl_program.specs.Prelude.{prelude_functions, int64}
+use Rattle.jl_program.specs.Scope.{View, nothing_seen, all_types, at_top, are_valid_items, are_valid_tasks}
+use Rattle.jl_program.specs.Valid.{IsValid, IsValidSite}
+use Rattle.jl_program.proofs.Computing.{names}
+use Rattle.jl_program.proofs.PlainSigs.{Plain, AllPlain, any, builtin as one_builtin, plain_valid}
+use Rattle.jl_program.proofs.ValidLayers.{valid-int, valid-local, valid-call, valid-spawn, valid-fetch, valid-print, valid-show, valid-define, valid-top-bind, valid-top-do, in-layer, in-nothing, in-int, in-local, in-call, in-print, in-spawn, in-show, in-define, in-top-bind, in-top-do}
+use Rattle.book_tests.specs.Programs.{program_of, site_of, late, late_sites, late_top, crossed, crossed_sites, crossed_top}
+
+none : {X : Type 0} (Is : X → Type 0) (xs : List X) → xs ≡ [] → All Is xs
+none Is [] e k d l = absurd (omega (arith, l))
+none Is (x ∷ xs) e k d l = cc
+
+cons : {X : Type 0} (Is : X → Type 0) (x : X) (xs : List X) → Is x → All Is xs → All Is (x ∷ xs)
+cons Is x xs h hs zero d l = h
+cons Is x xs h hs (suc k) d l = hs k d (omega (arith, l))
+
+abbrev Each : {X : Type 0} → (X → Type 0) → List X → Type 0
+Each Is [] = Unit {0}
+Each Is (x ∷ xs) = Is x × Each Is xs
+
+every : {X : Type 0} (Is : X → Type 0) (xs : List X) → Each Is xs → All Is xs
+every Is [] h = none Is [] refl
+every Is (x ∷ xs) h = cons Is x xs h.0 (every Is xs h.1)
+
+-- what is asked of the parts of such a program
+record AreParts (names : List (List ℕ)) (sites : List Site) (spawns : List Expr) (top : List Item) (views : List View) : Type 0 where
+  pub free : IsTrue (list_all is_free_name names)
+  pub distinct : IsTrue (are_distinct (prelude_functions ++ names))
+  pub tasks : IsTrue (are_valid_tasks (program_of names sites spawns top) views 0 views spawns)
+  pub once : (place : ℕ) → place < length spawns → times place (spawned_places (program_of names sites spawns top)) ≡ 1
+  pub each : Each (IsValidSite (program_of names sites spawns top) views) sites
+  pub statements : IsTrue (are_valid_items (program_of names sites spawns top) views top at_top)
+  pub written : written_types (program_of names sites spawns top) ≡ []
+  pub inferred : inferred_structs (program_of names sites spawns top) ≡ []
+
+parts_valid : (names : List (List ℕ)) (sites : List Site) (spawns : List Expr) (top : List Item) (views : List View) → AreParts names sites spawns top views → IsValid (program_of names sites spawns top)
+parts_valid names sites spawns top views h = record {
+  decls = builtin;
+  named = refl;
+  prelude_names = refl;
+  names = h.free;
+  distinct = h.distinct;
+  views = views;
+  tasks = h.tasks;
+  once = h.once;
+  prelude = refl;
+  sites = every (IsValidSite (program_of names sites spawns top) views) sites h.each;
+  top = h.statements;
+  written = none (IsAllowedType (all_types (program_of names sites spawns top))) (written_types (program_of names sites spawns top)) h.written;
+  inferred = none (IsSmallStruct (all_types (program_of names sites spawns top))) (inferred_structs (program_of names sites spawns top)) h.inferred;
+}
+
+-- a definition with the body of a number
+module _ (P : Program) (views : List View) where
+  number_valid : (f : ℕ) (n : ℤ) (types : List Ty) → f < length P.functions → P.decls ≡ [] → AllPlain types → length types ≤ 8 → IsValidSite P views (site_of f types (E.Int n))
+  number_valid f n types l e plain_types few = record {
+    function = l;
+    signature = plain_valid P.decls types plain_types few;
+    body = rw (valid-int P views n) refl;
+  }
+
+one_free : IsTrue (list_all is_free_name (codes "f" ∷ []))
+unfolding names
+one_free = refl
+
+both_free : IsTrue (list_all is_free_name (codes "f" ∷ codes "late" ∷ []))
+unfolding names
+both_free = refl
+
+-- ---- no type and no struct is written in them, and each `Spawn` stands once
+
+abbrev pub sum : Expr
+sum = X.Call 12 (E.Int (pos 1) ∷ E.Int (pos 2) ∷ [])
+
+module _ {A : Type 0} (own : Layer A → List A) (nothing : own F.Nothing ≡ []) (int : (n : ℤ) → own (F.Int n) ≡ []) (local : (x : ℕ) → own (F.Local x) ≡ [])
+    (call : (f : ℕ) (xs : List (List A)) → own (F.Call f xs) ≡ []) (fetch : (x : List A) → own (F.Fetch x) ≡ []) (print : (ps : List (List A)) (line : Bool) → own (F.Print ps line) ≡ []) where
+  in_late : in_program own late ≡ own (F.Spawn 0) ++ [] ++ []
+  in_late =
+      rw (
+        in-nothing own,
+        nothing,
+        in-define own 14,
+        in-define own 15,
+        in-define own 16,
+        in-top-bind own 0 (E.Spawn 0),
+        in-spawn own 0,
+        in-top-do own (X.Print (Pi.Show (X.Fetch (E.Local 0)) ∷ []) true),
+        in-print own (Pi.Show (X.Fetch (E.Local 0)) ∷ []) true,
+        in-show own (X.Fetch (E.Local 0)),
+        in-layer own (F.Fetch (E.Local 0)) (X.Fetch (E.Local 0)) (X.rolls-Fetch (E.Local 0)),
+        in-local own 0,
+        local 0,
+        fetch [],
+        in-top-do own (X.Print (Pi.Show (X.Call 12 []) ∷ []) true),
+        in-print own (Pi.Show (X.Call 12 []) ∷ []) true,
+        in-show own (X.Call 12 []),
+        in-int own (pos 1),
+        int (pos 1),
+        in-int own (pos 2),
+        int (pos 2),
+        in-call own 12 [],
+        in-call own 13 [],
+        call 12 [],
+        call 13 [],
+        print ([] ∷ []) true,
+      ) refl
+
+  in_crossed : in_program own crossed ≡ []
+  in_crossed =
+      rw (
+        in-nothing own,
+        nothing,
+        in-define own 14,
+        in-define own 15,
+        in-define own 16,
+        in-top-do own (X.Print (Pi.Show sum ∷ []) true),
+        in-print own (Pi.Show sum ∷ []) true,
+        in-show own sum,
+        in-call own 12 (E.Int (pos 1) ∷ E.Int (pos 2) ∷ []),
+        in-int own (pos 1),
+        int (pos 1),
+        in-int own (pos 2),
+        int (pos 2),
+        in-int own (pos 3),
+        int (pos 3),
+        call 12 ([] ∷ [] ∷ []),
+        print ([] ∷ []) true,
+      ) refl
+
+-- ---- each by itself
+
+once_in : (P : Program) → spawned_places P ≡ 0 ∷ [] → (place : ℕ) → place < 1 → times place (spawned_places P) ≡ 1
+once_in P e zero l = ap (times 0) e
+once_in P e (suc place) l = absurd (omega (arith, l))
+
+abbrev one_view : List View
+one_view = nothing_seen ∷ []
+
+pub late_valid : IsValid late
+late_valid = parts_valid (codes "f" ∷ codes "late" ∷ []) late_sites (X.Call 13 [] ∷ []) late_top one_view (record {
+  free = both_free;
+  distinct = refl;
+  tasks = rw (valid-call late one_view 13 []) refl;
+  once = once_in late (in_late own_place refl (λ n. refl) (λ x. refl) (λ f xs. refl) (λ x. refl) (λ ps line. refl));
+  each = (
+    number_valid late one_view 12 (pos 1) [] (omega arith) refl tt (omega arith),
+    (
+      record { function = omega arith; signature = plain_valid [] [] tt (omega arith); body = rw (valid-call late one_view 12 []) refl },
+      (number_valid late one_view 12 (pos 2) [] (omega arith) refl tt (omega arith), tt),
+    ),
+  );
+  statements =
+      rw (
+        valid-define late one_view 14,
+        valid-define late one_view 15,
+        valid-define late one_view 16,
+        valid-top-bind late one_view 0 (E.Spawn 0),
+        valid-spawn late one_view 0,
+        valid-top-do late one_view (X.Print (Pi.Show (X.Fetch (E.Local 0)) ∷ []) true),
+        valid-print late one_view (Pi.Show (X.Fetch (E.Local 0)) ∷ []) true,
+        valid-show late one_view (X.Fetch (E.Local 0)),
+        valid-fetch late one_view (E.Local 0),
+        valid-local late one_view 0,
+        valid-top-do late one_view (X.Print (Pi.Show (X.Call 12 []) ∷ []) true),
+        valid-print late one_view (Pi.Show (X.Call 12 []) ∷ []) true,
+        valid-show late one_view (X.Call 12 []),
+        valid-call late one_view 12 [],
+      ) refl;
+  written = in_late own_types refl (λ n. refl) (λ x. refl) (λ f xs. refl) (λ x. refl) (λ ps line. refl);
+  inferred = in_late own_struct refl (λ n. refl) (λ x. refl) (λ f xs. refl) (λ x. refl) (λ ps line. refl);
+})
+
+int64_plain : Plain int64
+int64_plain = one_builtin 4 (omega arith)
+
+pub crossed_valid : IsValid crossed
+crossed_valid = parts_valid (codes "f" ∷ []) crossed_sites [] crossed_top [] (record {
+  free = one_free;
+  distinct = refl;
+  tasks = refl;
+  once = λ place l. absurd (omega (arith, l));
+  each = (
+    number_valid crossed [] 12 (pos 1) (int64 ∷ T.Any ∷ []) (omega arith) refl (int64_plain, (any, tt)) (omega arith),
+    (
+      number_valid crossed [] 12 (pos 2) (T.Any ∷ int64 ∷ []) (omega arith) refl (any, (int64_plain, tt)) (omega arith),
+      (number_valid crossed [] 12 (pos 3) (int64 ∷ int64 ∷ []) (omega arith) refl (int64_plain, (int64_plain, tt)) (omega arith), tt),
+    ),
+  );
+  statements =
+      rw (
+        valid-define crossed [] 14,
+        valid-define crossed [] 15,
+        valid-define crossed [] 16,
+        valid-top-do crossed [] (X.Print (Pi.Show sum ∷ []) true),
+        valid-print crossed [] (Pi.Show sum ∷ []) true,
+        valid-show crossed [] sum,
+        valid-call crossed [] 12 (E.Int (pos 1) ∷ E.Int (pos 2) ∷ []),
+        valid-int crossed [] (pos 1),
+        valid-int crossed [] (pos 2),
+      ) refl;
+  written = in_crossed own_types refl (λ n. refl) (λ x. refl) (λ f xs. refl) (λ x. refl) (λ ps line. refl);
+  inferred = in_crossed own_struct refl (λ n. refl) (λ x. refl) (λ f xs. refl) (λ x. refl) (λ ps line. refl);
+})
