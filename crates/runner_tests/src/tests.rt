@@ -1,5 +1,5 @@
-use crate::scripts::{answer, last_site, writes};
-use crate::texts::{MANY, MORE, PAIR, RACE, SCRIPTS};
+use crate::scripts::{answer, last_site, verdict, write_failing, writes};
+use crate::texts::{MANY, MORE, PAIR, RACE, SCRIPTS, SHAPES, SHAPES_TEXT};
 use jl_queue::{OpenGate, PairGate};
 use std::alloc::{AllocError, Global};
 use std::sync::Wait;
@@ -79,5 +79,66 @@ fn worlds_and_tasks_come_to_their_limits(rt: HostRuntime) -> Result<(), Fail> {
     assert!(rt; writes(&rt, rt.alloc(), MORE, "--threads=4", &OpenGate, worlds)?);
     let tasks = "0\nERROR: TaskLimit: 4096 tasks\n";
     assert!(rt; writes(&rt, rt.alloc(), MANY, "--threads=4", &OpenGate, tasks)?);
+    Ok(())
+}
+
+/// Whether the histories of all scripts are judged legal.
+fn all_are_legal<R: Threads + Wait + Sync>(
+    rt: &R,
+    alloc: Global,
+    threads: &str,
+) -> Result<bool, AllocError> {
+    let scripts: [(&str, &str); 8] = SCRIPTS;
+    for (text, _) in scripts.as_slice() {
+        if !verdict(rt, alloc, text, threads)?.starts_with(b"legal: ") {
+            return Ok(false);
+        }
+    }
+    Ok(verdict(rt, alloc, RACE, threads)?.starts_with(b"legal: "))
+}
+
+#[test]
+fn what_trace_writes_is_judged_legal(rt: HostRuntime) -> Result<(), Fail> {
+    let numbers: [&str; 5] = THREADS;
+    for threads in numbers.as_slice() {
+        assert!(rt; all_are_legal(&rt, rt.alloc(), threads)?, "with {threads}");
+    }
+    Ok(())
+}
+
+/// Whether a run whose write of this number fails writes the bytes before it, and all where there is no such write.
+fn leaves_first_part<R: Threads + Wait + Sync>(
+    rt: &R,
+    alloc: Global,
+    call: u64,
+) -> Result<bool, AllocError> {
+    let (status, has_history, written) = write_failing(rt, alloc, SHAPES, "--threads=4", call)?;
+    let due = SHAPES_TEXT.as_bytes();
+    let fails = call <= due.len() as u64;
+    let first = if fails {
+        call.saturating_sub(1)
+    } else {
+        due.len() as u64
+    };
+    let is_due = status == (if fails { 5 } else { 0 });
+    Ok(
+        is_due
+            && has_history
+            && written.len() as u64 == first
+            && due.starts_with(written.as_slice()),
+    )
+}
+
+#[test]
+fn each_failing_write_of_a_script_with_tasks_leaves_the_bytes_before_it(
+    rt: HostRuntime,
+) -> Result<(), Fail> {
+    assert!(rt; SHAPES_TEXT.len() == 67);
+    for call in 1..=68u64 {
+        assert!(rt;
+            leaves_first_part(&rt, rt.alloc(), call)?,
+            "write {call} fails"
+        );
+    }
     Ok(())
 }
