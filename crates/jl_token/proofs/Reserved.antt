@@ -1,9 +1,8 @@
--- A word is looked for only among the reserved words of its own length.
+-- A word is looked for only among those of its own length.
 use Rattle.std.proofs.Common.{◌≡◌, ◌≢◌, ◌∙◌, refl, ap, sym, ℕ, ◌<◌, arith, Bool, true, false, cond, ◌||◌, nat_eq, nat_lt, List, [], ◌∷◌, length}
 use Rattle.std.specs.List.{filter, list_any}
 use Rattle.std.specs.Str.{bytes_eq}
 use Rattle.std.specs.Cmp.Lexicographic.{unequal}
-use Rattle.jl_token.specs.Prefix.{opening_words, opens_operand}
 
 -- the word is in the list
 abbrev pub is_in : List ℕ → List (List ℕ) → Bool
@@ -20,9 +19,9 @@ module _ (w : List ℕ) (p : List ℕ → Bool) (out : (u : List ℕ) → p u �
   kept (u ∷ us) = step u us (p u) refl (kept us)
 
 -- a word of this length
-pub of_length : (w : List ℕ) (n : ℕ) → length w ≡ n → is_in w (filter (λ u. nat_eq (length u) n) opening_words) ≡ opens_operand w
-of_length w n e = kept w (λ u. nat_eq (length u) n) (λ u no same. let m = length u in grind (arith, no, same, e)) opening_words
+pub of_length : (us : List (List ℕ)) (w : List ℕ) (n : ℕ) → length w ≡ n → is_in w (filter (λ u. nat_eq (length u) n) us) ≡ is_in w us
+of_length us w n e = kept w (λ u. nat_eq (length u) n) (λ u no same. grind (arith, no, same, e)) us
 
 -- a longer word
-pub longer : (w : List ℕ) (n : ℕ) → n < length w → is_in w (filter (λ u. nat_lt n (length u)) opening_words) ≡ opens_operand w
-longer w n e = kept w (λ u. nat_lt n (length u)) (λ u no same. grind (arith, no, same, e)) opening_words
+pub longer : (us : List (List ℕ)) (w : List ℕ) (n : ℕ) → n < length w → is_in w (filter (λ u. nat_lt n (length u)) us) ≡ is_in w us
+longer us w n e = kept w (λ u. nat_lt n (length u)) (λ u no same. grind (arith, no, same, e)) us

@@ -7,17 +7,24 @@ use crate::token::{Operator, TokenKind};
 
 // The reserved words but `end`, `true`, `false` and `nothing`. A word is compared with those of its own length alone.
 const WORDS_OF_2: [&[u8]; 2] = [b"if", b"do"];
+
 const WORDS_OF_3: [&[u8]; 4] = [b"isa", b"for", b"try", b"let"];
+
 const WORDS_OF_4: [&[u8]; 1] = [b"else"];
+
 const WORDS_OF_5: [&[u8]; 10] = [
     b"begin", b"quote", b"where", b"while", b"catch", b"using", b"const", b"local", b"macro",
     b"break",
 ];
+
 const WORDS_OF_6: [&[u8]; 7] = [
     b"struct", b"elseif", b"return", b"module", b"import", b"export", b"global",
 ];
+
 const WORDS_OF_7: [&[u8]; 2] = [b"finally", b"mutable"];
+
 const WORDS_OF_8: [&[u8]; 3] = [b"abstract", b"function", b"continue"];
+
 const LONGER_WORDS: [&[u8]; 2] = [b"primitive", b"baremodule"];
 
 /// Whether an operand may follow the word.
