@@ -6,6 +6,7 @@ pub mod DigitText
 pub mod NumeralText
 pub mod StringText
 pub mod WordText
+pub mod Reserved
 pub mod QuotedText
 pub mod CommentText
 pub mod OperatorText

@@ -5,46 +5,43 @@ ghost use Rattle.jl_token.specs.Prefix.{closes_bracket, opens_operand, is_prefix
 
 use crate::token::{Operator, TokenKind};
 
-/// The reserved words but `end`, `true`, `false` and `nothing`.
-const OPENING_WORDS: [&[u8]; 31] = [
-    b"abstract",
-    b"struct",
-    b"function",
-    b"if",
-    b"elseif",
-    b"else",
-    b"begin",
-    b"quote",
-    b"return",
-    b"where",
-    b"isa",
-    b"for",
-    b"while",
-    b"try",
-    b"catch",
-    b"finally",
-    b"let",
-    b"do",
-    b"mutable",
-    b"primitive",
-    b"module",
-    b"baremodule",
-    b"import",
-    b"using",
-    b"export",
-    b"const",
-    b"global",
-    b"local",
-    b"macro",
+// The reserved words but `end`, `true`, `false` and `nothing`. A word is compared with those of its own length alone.
+const WORDS_OF_2: [&[u8]; 2] = [b"if", b"do"];
+
+const WORDS_OF_3: [&[u8]; 4] = [b"isa", b"for", b"try", b"let"];
+
+const WORDS_OF_4: [&[u8]; 1] = [b"else"];
+
+const WORDS_OF_5: [&[u8]; 10] = [
+    b"begin", b"quote", b"where", b"while", b"catch", b"using", b"const", b"local", b"macro",
     b"break",
-    b"continue",
 ];
+
+const WORDS_OF_6: [&[u8]; 7] = [
+    b"struct", b"elseif", b"return", b"module", b"import", b"export", b"global",
+];
+
+const WORDS_OF_7: [&[u8]; 2] = [b"finally", b"mutable"];
+
+const WORDS_OF_8: [&[u8]; 3] = [b"abstract", b"function", b"continue"];
+
+const LONGER_WORDS: [&[u8]; 2] = [b"primitive", b"baremodule"];
 
 /// Whether an operand may follow the word.
 fn opens_operand(word: &[u8]) -> bool
     ensures { result ≡ opens_operand word.now }
 {
-    OPENING_WORDS.contains(&word)
+    match word.len() {
+        0 | 1 => false,
+        2 => WORDS_OF_2.contains(&word),
+        3 => WORDS_OF_3.contains(&word),
+        4 => WORDS_OF_4.contains(&word),
+        5 => WORDS_OF_5.contains(&word),
+        6 => WORDS_OF_6.contains(&word),
+        7 => WORDS_OF_7.contains(&word),
+        8 => WORDS_OF_8.contains(&word),
+        _ => LONGER_WORDS.contains(&word),
+    }
 }
 
 /// Whether the mark is `)`, `]` or `}`.

@@ -62,35 +62,35 @@ impl Drop for Lexeme {
     }
 }
 
-/// The reserved words without a rule.
-const UNRULED_WORDS: [&[u8]; 20] = [
-    b"for",
-    b"while",
-    b"try",
-    b"catch",
-    b"finally",
-    b"let",
-    b"do",
-    b"mutable",
-    b"primitive",
-    b"module",
-    b"baremodule",
-    b"import",
-    b"using",
-    b"export",
-    b"const",
-    b"global",
-    b"local",
-    b"macro",
-    b"break",
-    b"continue",
+// The reserved words without a rule. A word is compared with those of its own length alone.
+const UNRULED_OF_2: [&[u8]; 1] = [b"do"];
+
+const UNRULED_OF_3: [&[u8]; 3] = [b"for", b"try", b"let"];
+
+const UNRULED_OF_5: [&[u8]; 7] = [
+    b"while", b"catch", b"using", b"const", b"local", b"macro", b"break",
 ];
+
+const UNRULED_OF_6: [&[u8]; 4] = [b"module", b"import", b"export", b"global"];
+
+const UNRULED_OF_7: [&[u8]; 2] = [b"finally", b"mutable"];
+
+const LONGER_UNRULED: [&[u8]; 3] = [b"primitive", b"baremodule", b"continue"];
 
 /// Whether the word is reserved and has no rule.
 fn is_unruled(word: &[u8]) -> bool
     ensures { result ≡ is_unruled word.now }
 {
-    UNRULED_WORDS.contains(&word)
+    match word.len() {
+        0 | 1 => false,
+        2 => UNRULED_OF_2.contains(&word),
+        3 => UNRULED_OF_3.contains(&word),
+        4 => false,
+        5 => UNRULED_OF_5.contains(&word),
+        6 => UNRULED_OF_6.contains(&word),
+        7 => UNRULED_OF_7.contains(&word),
+        _ => LONGER_UNRULED.contains(&word),
+    }
 }
 
 /// The reserved words that begin a form.
