@@ -3,6 +3,7 @@
 use crate::holds;
 use jl_calculus::history::{Event, Events, History, Outcome, Record, TraceItem, TraceItems};
 use jl_calculus::same::Same;
+use jl_model::shared::SharedNode;
 use jl_model::ty::{Bytes, Key, Ty, Tys};
 use jl_program::fault::Fault;
 use jl_program::tree::Start;
@@ -34,7 +35,7 @@ fn trace(alloc: Global) -> Result<TraceItems, AllocError> {
     trace.push(TraceItem::Spawn { child: 1, at: 2 })?;
     trace.push(TraceItem::Fetch {
         task: 1,
-        outcome: Outcome::Error(fault(alloc, 14)?),
+        outcome: SharedNode::new(alloc, Outcome::Error(fault(alloc, 14)?))?,
         at: 4,
     })?;
     TraceItems::from_vec(alloc, trace)
@@ -45,7 +46,7 @@ fn record(alloc: Global, calls: u64) -> Result<Record, AllocError> {
     let output = Bytes::from_vec(alloc, Vec::from_slice(alloc, b"3\n")?)?;
     Ok(Record {
         trace,
-        outcome: Outcome::Value(Value::Int(3)),
+        outcome: SharedNode::new(alloc, Outcome::Value(Value::Int(3)))?,
         output,
         calls,
     })

@@ -7,6 +7,7 @@ use crate::reading::{number_at, read_key, words_of};
 use jl_calculus::history::{Event, Outcome, Record, TraceItem, TraceItems};
 use jl_calculus::step::Step;
 use jl_core::Core;
+use jl_model::shared::SharedNode;
 use jl_model::ty::{Bytes, Key, Tys};
 use jl_program::prelude::{FIRST_WORLD, PRELUDE_SITES};
 use jl_program::tree::Start;
@@ -94,19 +95,14 @@ fn random_record(
     sizes: Sizes,
     task: u32,
 ) -> Result<Record, AllocError> {
-    let outcome = Outcome::Value(random_value(dice, sizes.tasks));
-    match own_items(alloc, events, task) {
-        Ok(trace) => Ok(Record {
-            trace,
-            outcome,
-            output: Bytes::empty(),
-            calls: 0,
-        }),
-        Err(error) => {
-            drop(outcome);
-            Err(error)
-        }
-    }
+    let outcome = SharedNode::new(alloc, Outcome::Value(random_value(dice, sizes.tasks)))?;
+    let trace = own_items(alloc, events, task)?;
+    Ok(Record {
+        trace,
+        outcome,
+        output: Bytes::empty(),
+        calls: 0,
+    })
 }
 
 /// One of some keys.

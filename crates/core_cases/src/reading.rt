@@ -7,6 +7,7 @@
 
 use jl_calculus::history::{Outcome, Record, TraceItem, TraceItems};
 use jl_calculus::step::Step;
+use jl_model::shared::SharedNode;
 use jl_model::ty::{Bytes, Key, Ty, Tys};
 use jl_program::fault::Fault;
 use jl_program::tree::{Program, Start};
@@ -140,8 +141,13 @@ fn read_outcome(words: &[&str]) -> Outcome {
     }
 }
 
+/// The outcome of words, in a node.
+fn read_ending(alloc: Global, words: &[&str]) -> Result<SharedNode<Outcome>, AllocError> {
+    SharedNode::new(alloc, read_outcome(words))
+}
+
 /// The item of words.
-fn read_item(words: &[&str]) -> TraceItem {
+fn read_item(alloc: Global, words: &[&str]) -> Result<TraceItem, AllocError> {
     let word = match words.first() {
         Some(word) => *word,
         None => "",
@@ -149,22 +155,22 @@ fn read_item(words: &[&str]) -> TraceItem {
     let one = number_at(words, 1);
     let two = number_at(words, 2);
     match word {
-        "look" => TraceItem::Look {
+        "look" => Ok(TraceItem::Look {
             world: one,
             at: two,
-        },
-        "def" => TraceItem::Def { site: one, at: two },
-        "spawn" => TraceItem::Spawn {
+        }),
+        "def" => Ok(TraceItem::Def { site: one, at: two }),
+        "spawn" => Ok(TraceItem::Spawn {
             child: one,
             at: two,
-        },
-        "fetch" => TraceItem::Fetch {
+        }),
+        "fetch" => Ok(TraceItem::Fetch {
             task: one,
-            outcome: read_outcome(words_from(words, 3)),
+            outcome: read_ending(alloc, words_from(words, 3))?,
             at: two,
-        },
-        "worldfull" => TraceItem::WorldFull { at: one },
-        _ => TraceItem::TaskFull { at: one },
+        }),
+        "worldfull" => Ok(TraceItem::WorldFull { at: one }),
+        _ => Ok(TraceItem::TaskFull { at: one }),
     }
 }
 
@@ -176,7 +182,7 @@ fn read_trace(alloc: Global, text: &str) -> Result<TraceItems, AllocError> {
         if words.is_empty() {
             continue;
         }
-        items.push(read_item(words.as_slice()))?;
+        items.push(read_item(alloc, words.as_slice())?)?;
     }
     TraceItems::from_vec(alloc, items)
 }
@@ -186,7 +192,7 @@ fn read_record(alloc: Global, words: &[&str], items: &str) -> Result<Record, All
     let trace = read_trace(alloc, items)?;
     Ok(Record {
         trace,
-        outcome: read_outcome(words_from(words, 2)),
+        outcome: read_ending(alloc, words_from(words, 2))?,
         output: Bytes::empty(),
         calls: 0,
     })

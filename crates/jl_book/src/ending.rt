@@ -14,6 +14,7 @@ use crate::pass::Pass;
 use crate::{parts, seats};
 use jl_cache::Cache;
 use jl_calculus::history::{FetchFault, Outcome, Record};
+use jl_model::shared::SharedNode;
 use jl_world::Naming;
 
 impl<N: Naming> Book<N> {
@@ -47,7 +48,7 @@ impl<N: Naming> Book<N> {
         cache: &Cache<N>,
         pass: &mut Pass<N>,
         of: u32,
-    ) -> Result<Outcome, FetchFault>
+    ) -> Result<SharedNode<Outcome>, FetchFault>
         ensures item { IfOk result (λ outcome. (task : ℕ) → IsTrueOf self.new task (Fetch of outcome (length self.new))) }
         ensures valid { IfOk result (λ outcome. IsValidOutcome N.about.program.value outcome) }
         ensures not_yet { result ≡ Err F.NotYet ↔ (done_of of self.old ≡ None) }

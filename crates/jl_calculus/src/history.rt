@@ -2,7 +2,7 @@
 
 ghost use Rattle.std.specs.Prelude.{◌≡◌, IfOk};
 
-use jl_model::shared::SharedList;
+use jl_model::shared::{SharedList, SharedNode};
 use jl_model::ty::{Bytes, Key};
 use jl_program::fault::Fault;
 use jl_program::tree::Start;
@@ -41,7 +41,8 @@ pub struct Def {
 }
 
 /// A step of a task that others may see. `at` is the length of the history that the task had seen; for a definition
-/// and a spawn it is the place of the event.
+/// and a spawn it is the place of the event. The outcome of a fetch is that of the record of the task, shared: so a step
+/// takes little room, however large the outcome is.
 #[derive(Drop)]
 pub enum TraceItem {
     Look {
@@ -58,7 +59,7 @@ pub enum TraceItem {
     },
     Fetch {
         task: u32,
-        outcome: Outcome,
+        outcome: SharedNode<Outcome>,
         at: u32,
     },
     WorldFull {
@@ -102,7 +103,7 @@ impl TraceItem {
 #[derive(Drop)]
 pub struct Record {
     pub trace: TraceItems,
-    pub outcome: Outcome,
+    pub outcome: SharedNode<Outcome>,
     pub output: Bytes,
     pub calls: u64,
 }

@@ -3,7 +3,7 @@
 ghost use Rattle.std.specs.Prelude.{◌≡◌, IsTrue, ◌↔◌};
 
 use crate::history::{Event, History, Outcome, Record, TraceItem};
-use jl_model::shared::SharedList;
+use jl_model::shared::{SharedList, SharedNode};
 use jl_model::ty::{Key, Ty};
 use jl_program::fault::Fault;
 use jl_program::tree::Start;
@@ -54,6 +54,12 @@ fn same_all<T: Same>(xs: &[T], ys: &[T]) -> bool
 impl<T: Same> Same for SharedList<T> {
     fn same(&self, other: &SharedList<T>) -> bool {
         same_all(self.as_slice(), other.as_slice())
+    }
+}
+
+impl<T: Same> Same for SharedNode<T> {
+    fn same(&self, other: &SharedNode<T>) -> bool {
+        self.get().same(other.get())
     }
 }
 

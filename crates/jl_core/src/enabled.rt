@@ -311,7 +311,7 @@ impl Core {
         if !has_own_events(events, task, trace) {
             return Ok(false);
         }
-        let others = in_outcome(alloc, &ended.outcome)?;
+        let others = in_outcome(alloc, ended.outcome.get())?;
         Ok(self.knows_all(task, others.as_slice()))
     }
 

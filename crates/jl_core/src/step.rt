@@ -139,7 +139,7 @@ impl Core {
         let Some(ended) = done_of(self.events.as_slice(), of) else {
             return Ok(());
         };
-        let others = in_outcome(alloc, &ended.outcome)?;
+        let others = in_outcome(alloc, ended.outcome.get())?;
         learn(&mut self.tasks, task, others.as_slice())?;
         see(&mut self.tasks, task, self.events.len());
         Ok(())

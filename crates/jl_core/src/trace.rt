@@ -57,7 +57,7 @@ fn has_ended_so(events: &[Event], of: u32, outcome: &Outcome) -> bool
     ensures { IsTrue result ↔ EndedSo (done_of of events.now) outcome.now }
 {
     match done_of(events, of) {
-        Some(ended) => ended.outcome.same(outcome),
+        Some(ended) => ended.outcome.get().same(outcome),
         None => false,
     }
 }
@@ -80,7 +80,7 @@ fn is_true(events: &[Event], by: u32, item: &TraceItem) -> bool
         TraceItem::Look { world, at } => has_world(events, *at, *world as usize),
         TraceItem::Def { site, at } => is_def_at(events, *at, by, *site),
         TraceItem::Spawn { child, at } => is_spawn_at(events, *at, by, *child),
-        TraceItem::Fetch { task, outcome, at } => has_outcome(events, *at, *task, outcome),
+        TraceItem::Fetch { task, outcome, at } => has_outcome(events, *at, *task, outcome.get()),
         TraceItem::WorldFull { at } => has_world(events, *at, MOST_WORLDS),
         TraceItem::TaskFull { at } => has_tasks(events, *at, MOST_TASKS),
     }

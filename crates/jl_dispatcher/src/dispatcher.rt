@@ -13,6 +13,7 @@ ghost use Rattle.jl_dispatcher.specs.Knows.{Knows, Grew, Looked, Asked, Refused,
 ghost use Rattle.jl_dispatcher.specs.Worlds.{IsWorld};
 
 use jl_calculus::history::{DefineFault, FetchFault, Outcome, Seen, SpawnFault};
+use jl_model::shared::SharedNode;
 use jl_model::ty::{Key, Ty, Tys};
 use jl_program::choice::Choice;
 use jl_program::tree::Start;
@@ -69,7 +70,7 @@ pub trait Dispatcher {
         ensures limit { AreTasksFull (knows self.old) → result ≡ Err S.TaskLimit };
 
     /// What became of a task. `NotYet` comes only where the events that the task has then seen have no end of it.
-    fn fetched(&mut self, task: u32) -> Result<Outcome, FetchFault>
+    fn fetched(&mut self, task: u32) -> Result<SharedNode<Outcome>, FetchFault>
         ensures grew { Grew (knows self.old) (knows self.new) }
         ensures fetched { IfOk result (λ outcome. Fetched (knows self.old) (knows self.new) task outcome) }
         ensures valid { IfOk result (λ outcome. IsValidOutcome (knows self.old).program outcome) }

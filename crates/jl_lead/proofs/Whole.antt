@@ -199,11 +199,11 @@ module _ (P : Program) (es : List Event) (task : ℕ) (items : List TraceItem) (
     never = λ q. cc (q);
   })
 
-  pub fetch_made : (of n : ℕ) (ended : Record) (v : Program × List Event) → ended.outcome ≡ O.Value V.Nothing → alone ≡ false → IsNoFetch (next_item alone items told) of → seen ≤ length es → done_of of es ≡ None
-      → v ≡ (P, es ++ Ev.Done of ended ∷ []) → n ≡ length v.1 → AnswersFetch here (led_knows v.0 v.1 task items told n looks true) of (Ok (O.Value V.Nothing))
-  fetch_made of n ended v nothing off h le none e len =
-      moved_to (λ k. AnswersFetch here k of (Ok (O.Value V.Nothing))) (es ++ Ev.Done of ended ∷ []) v n e len
-      (subst (λ o. AnswersFetch here (led_knows P (es ++ Ev.Done of ended ∷ []) task items told (length (es ++ Ev.Done of ended ∷ [])) looks true) of (Ok o)) nothing (record {
+  pub fetch_made : (of n : ℕ) (ended : Record) (outcome : Outcome) (v : Program × List Event) → outcome ≡ ended.outcome → ended.outcome ≡ O.Value V.Nothing → alone ≡ false → IsNoFetch (next_item alone items told) of
+      → seen ≤ length es → done_of of es ≡ None → v ≡ (P, es ++ Ev.Done of ended ∷ []) → n ≡ length v.1 → AnswersFetch here (led_knows v.0 v.1 task items told n looks true) of (Ok outcome)
+  fetch_made of n ended outcome v same nothing off h le none e len =
+      moved_to (λ k. AnswersFetch here k of (Ok outcome)) (es ++ Ev.Done of ended ∷ []) v n e len
+      (subst (λ o. AnswersFetch here (led_knows P (es ++ Ev.Done of ended ∷ []) task items told (length (es ++ Ev.Done of ended ∷ [])) looks true) of (Ok o)) (sym same) (record {
         grew = A.end_grew P es task items told seen looks alone of ended off h le none;
         fetched = A.end_fetched P es task items told seen looks alone of ended off h le none;
         valid = subst (IsValidOutcome P) (sym nothing) (nothing_valid P);

@@ -15,6 +15,7 @@ use jl_calculus::history::{
 };
 use jl_dispatcher::{Dispatcher, Recall, Recalled};
 use jl_model::limits::{MOST_TASKS, MOST_WORLDS};
+use jl_model::shared::SharedNode;
 use jl_model::ty::{Key, Tys};
 use jl_program::choice::Choice;
 use jl_program::tree::Start;
@@ -187,7 +188,7 @@ impl Led<'_> {
     }
 
     /// A fetch of a task that has not ended and does not stand next: the task ends with `nothing`, unless another event was made.
-    fn make_end(&mut self, task: u32) -> Result<Outcome, FetchFault>
+    fn make_end(&mut self, task: u32) -> Result<SharedNode<Outcome>, FetchFault>
         requires running { done_of task self.old.past.1 ≡ None }
         requires next { IsNoFetch (next_item self.old.alone self.old.items.items self.old.told) task }
         ensures { AnswersFetch (knows_of self.old) (knows_of self.new) task result }
@@ -195,18 +196,21 @@ impl Led<'_> {
         if self.alone {
             return Err(FetchFault::Memory);
         }
-        match self.past.end(task, nothing_done()) {
+        let Ok((ended, outcome)) = nothing_done(self.past.alloc()) else {
+            return Err(FetchFault::Memory);
+        };
+        match self.past.end(task, ended) {
             Ok(()) => {
                 self.alone = true;
                 self.seen = self.past.len();
-                Ok(Outcome::Value(Value::Nothing))
+                Ok(outcome)
             }
             Err(_) => Err(FetchFault::Memory),
         }
     }
 
     /// A fetch that does not stand next.
-    fn fetch_alone(&mut self, task: u32) -> Result<Outcome, FetchFault>
+    fn fetch_alone(&mut self, task: u32) -> Result<SharedNode<Outcome>, FetchFault>
         requires { IsNoFetch (next_item self.old.alone self.old.items.items self.old.told) task }
         ensures { AnswersFetch (knows_of self.old) (knows_of self.new) task result }
     {
@@ -224,7 +228,7 @@ impl Led<'_> {
     }
 
     /// A fetch: it stands next, or not.
-    fn answer_fetch(&mut self, task: u32) -> Result<Outcome, FetchFault>
+    fn answer_fetch(&mut self, task: u32) -> Result<SharedNode<Outcome>, FetchFault>
         ensures { AnswersFetch (knows_of self.old) (knows_of self.new) task result }
     {
         self.past.sound();
@@ -283,7 +287,7 @@ impl Dispatcher for Led<'_> {
     }
 
     /// Where it goes on alone and the task has not ended, it is told that the task ends then, with `nothing`.
-    fn fetched(&mut self, task: u32) -> Result<Outcome, FetchFault> {
+    fn fetched(&mut self, task: u32) -> Result<SharedNode<Outcome>, FetchFault> {
         self.answer_fetch(task)
     }
 

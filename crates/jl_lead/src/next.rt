@@ -7,9 +7,9 @@ ghost use Rattle.jl_calculus.specs.declared.history.TraceItem.TheVariants.{Fetch
 ghost use Rattle.jl_lead.specs.Items.{next_item, look_of, world_full_of, task_full_of, IsNoFetch};
 
 use jl_calculus::history::{Outcome, Record, Seen, TraceItem};
-use jl_model::shared::SharedList;
+use jl_model::shared::{SharedList, SharedNode};
 use jl_program::value::Value;
-use std::alloc::AllocError;
+use std::alloc::{AllocError, Global};
 
 /// The look that stands next. Nothing stands next for a task that goes on alone.
 pub(crate) fn next_look(alone: bool, items: &[TraceItem], told: usize) -> Option<Seen>
@@ -59,7 +59,7 @@ pub(crate) fn next_task_full(alone: bool, items: &[TraceItem], told: usize) -> O
 /// A fetch that stands next: the outcome of the task and the place.
 #[derive(Drop)]
 pub(crate) struct Fetched {
-    pub(crate) outcome: Outcome,
+    pub(crate) outcome: SharedNode<Outcome>,
     pub(crate) at: u32,
 }
 
@@ -88,14 +88,18 @@ pub(crate) fn next_fetch(
     }
 }
 
-/// What a task did that did nothing.
-pub(crate) fn nothing_done() -> Record
-    ensures { result.outcome ≡ O.Value Nothing }
+/// What a task did that did nothing, and its outcome.
+pub(crate) fn nothing_done(alloc: Global) -> Result<(Record, SharedNode<Outcome>), AllocError>
+    ensures nothing { IfOk result (λ made. made.0.outcome ≡ O.Value Nothing) }
+    ensures same { IfOk result (λ made. made.1 ≡ made.0.outcome) }
 {
-    Record {
+    let outcome = SharedNode::new(alloc, Outcome::Value(Value::Nothing))?;
+    let kept = outcome.copy()?;
+    let ended = Record {
         trace: SharedList::empty(),
-        outcome: Outcome::Value(Value::Nothing),
+        outcome: kept,
         output: SharedList::empty(),
         calls: 0,
-    }
+    };
+    Ok((ended, outcome))
 }

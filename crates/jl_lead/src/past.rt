@@ -12,6 +12,7 @@ ghost use Rattle.jl_lead.specs.Known.{AreEnds, AreSound, IsNoted, IsStartAmong, 
 use crate::choosing::choose_for;
 use crate::definitions::{Definitions, prelude_definitions};
 use jl_calculus::history::{Event, Outcome, Record};
+use jl_model::shared::SharedNode;
 use jl_model::ty::Key;
 use jl_program::choice::Choice;
 use jl_program::tree::Start;
@@ -112,6 +113,11 @@ impl<'p> Past<'p> {
         })
     }
 
+    /// Where it takes its memory.
+    pub(crate) fn alloc(&self) -> Global {
+        self.alloc
+    }
+
     /// How many events there are.
     pub fn len(&self) -> u32
         ensures { result ≡ length self.now.1 }
@@ -181,7 +187,7 @@ impl<'p> Past<'p> {
     }
 
     /// How a task ended, if it has.
-    pub fn outcome(&self, task: u32) -> Result<Option<Outcome>, AllocError>
+    pub fn outcome(&self, task: u32) -> Result<Option<SharedNode<Outcome>>, AllocError>
         ensures ended { IfOk result (λ found. MatchOption found (done_of task self.now.1 ≡ None) (EndedSo (done_of task self.now.1))) }
         ensures valid { IfOk result (λ found. MatchOption found (Unit {0}) (IsValidOutcome self.now.0)) }
     {

@@ -35,7 +35,7 @@ use jl_host::HostOps;
 use jl_match::applies;
 use jl_model::limits::MOST_OPEN_CALLS;
 use jl_model::rows::Row;
-use jl_model::shared::SharedList;
+use jl_model::shared::{SharedList, SharedNode};
 use jl_model::ty::{Key, Ty, Tys};
 use jl_operations::Memo;
 use jl_program::choice::Choice;
@@ -390,7 +390,7 @@ impl<'p> Task<'p> {
             None => Ok(Next::Go(self.refuse_fetch(ready)?)),
             Some(task) => match with.fetched(task) {
                 Ok(outcome) => {
-                    let answer = fetched_outcome(task, outcome.copy()?);
+                    let answer = fetched_outcome(task, outcome.get().copy()?);
                     let at = with.seen();
                     self.trace.push(TraceItem::Fetch { task, outcome, at })?;
                     self.now.frames.clear();
@@ -517,6 +517,7 @@ impl<'p> Task<'p> {
             ..
         } = self;
         let LentNow { out, outcome, .. } = now;
+        let outcome = SharedNode::new(alloc, outcome)?;
         let output = out.into_shared(alloc)?;
         let trace = trace.into_shared(alloc)?;
         Ok(Record {

@@ -5,6 +5,7 @@ ghost use Rattle.std.specs.Prelude.{◌≡◌, IfOk};
 use crate::table::{FIRST_PLACES, Kept, empty_table, find_by_values, keep};
 use jl_calculus::history::{DefineFault, FetchFault, Outcome, Seen, SpawnFault};
 use jl_dispatcher::{Dispatcher, Recall, Recalled};
+use jl_model::shared::SharedNode;
 use jl_model::ty::{Key, Tys};
 use jl_program::choice::Choice;
 use jl_program::tree::Start;
@@ -87,7 +88,7 @@ impl<D: Dispatcher + Drop> Dispatcher for Cached<D> {
         self.inner.spawn(start)
     }
 
-    fn fetched(&mut self, task: u32) -> Result<Outcome, FetchFault> {
+    fn fetched(&mut self, task: u32) -> Result<SharedNode<Outcome>, FetchFault> {
         self.inner.fetched(task)
     }
 

@@ -6,22 +6,27 @@ ghost use Rattle.jl_calculus.specs.Past.{done_of};
 
 use jl_calculus::history::{Outcome, TraceItem};
 use jl_lead::past::Past;
+use jl_model::shared::SharedNode;
 use jl_program::value::Value;
 use jl_report::Step;
 use std::alloc::{AllocError, Global};
 
 /// The outcome of a task that has ended; `nothing` where it has not.
-fn outcome_of(past: &Past<'_>, task: u32) -> Result<Outcome, AllocError>
+fn outcome_of(
+    alloc: Global,
+    past: &Past<'_>,
+    task: u32,
+) -> Result<SharedNode<Outcome>, AllocError>
     ensures { IfOk result (λ outcome. outcome ≡ outcome_or_nothing (done_of task past.now.1)) }
 {
     match past.outcome(task)? {
         Some(outcome) => Ok(outcome),
-        None => Ok(Outcome::Value(Value::Nothing)),
+        None => SharedNode::new(alloc, Outcome::Value(Value::Nothing)),
     }
 }
 
 /// The item that a step is. A fetch has the outcome of the task that it fetches, which the text leaves out.
-fn item_of(past: &Past<'_>, step: &Step) -> Result<TraceItem, AllocError>
+fn item_of(alloc: Global, past: &Past<'_>, step: &Step) -> Result<TraceItem, AllocError>
     ensures { IfOk result (λ item. item ≡ item_told past.now.1 step.now) }
 {
     match step {
@@ -38,7 +43,7 @@ fn item_of(past: &Past<'_>, step: &Step) -> Result<TraceItem, AllocError>
             at: *at,
         }),
         Step::Fetch { task, at } => {
-            let outcome = outcome_of(past, *task)?;
+            let outcome = outcome_of(alloc, past, *task)?;
             Ok(TraceItem::Fetch {
                 task: *task,
                 outcome,
@@ -76,7 +81,7 @@ pub(crate) fn read_stretch(
         if is_own(step) {
             return Ok(items);
         }
-        let item = item_of(past, step)?;
+        let item = item_of(alloc, past, step)?;
         items.push(item)?;
     }
     Ok(items)

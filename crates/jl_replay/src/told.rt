@@ -54,6 +54,6 @@ pub(crate) fn is_told(
     if ended.output.as_slice() != output {
         return Ok(false);
     }
-    let same = ends_so(alloc, program, &ended.outcome, ending)?;
+    let same = ends_so(alloc, program, ended.outcome.get(), ending)?;
     Ok(same)
 }

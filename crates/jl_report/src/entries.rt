@@ -103,7 +103,7 @@ fn append_done(
     append_done_line(out, task, ended)?;
     append_steps(out, ended.trace.as_slice())?;
     append_quoted_line(out, b"output ", ended.output.as_slice())?;
-    append_ending(out, program, &ended.outcome)
+    append_ending(out, program, ended.outcome.get())
 }
 
 /// The lines of an event, with so many keys before it.

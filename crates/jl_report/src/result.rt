@@ -45,7 +45,7 @@ fn append_root_line(
     ensures { OnOk result (out.new ≡ out.old ++ root_line program.now (done_of 0 events.now)) }
 {
     match root_record(events) {
-        Some(ended) => append_outcome(out, program, &ended.outcome),
+        Some(ended) => append_outcome(out, program, ended.outcome.get()),
         None => Ok(()),
     }
 }
@@ -94,7 +94,7 @@ pub fn status(history: &History) -> u8
     ensures { result ≡ status_of history.now.events }
 {
     match root_record(history.events.as_slice()) {
-        Some(ended) => match &ended.outcome {
+        Some(ended) => match ended.outcome.get() {
             Outcome::Value(_) => 0,
             Outcome::Error(_) => 1,
         },

@@ -6,6 +6,7 @@ use denote.Hole.{as_row}
 use denote.Struct.Field.{u32-field, u64-field}
 use Rattle.jl_model.specs.contracts.ty.Key as key
 use Rattle.jl_model.specs.contracts.shared.list.SharedList as list_type
+use Rattle.jl_model.specs.contracts.shared.node.SharedNode as node_type
 use Rattle.std.proofs.Crossing.{crosses}
 use Rattle.jl_model.proofs.ty.Ty.TheLaws.TheKnot as types
 use Rattle.jl_program.proofs.value.Values.TheLaws.TheKnot as values
@@ -47,6 +48,12 @@ outcome_send = variants_send outcome.enum ((value_send, tt), ((fault_send, tt), 
 pub outcome_sync : IsSync outcome.the_row
 outcome_sync = variants_sync outcome.enum ((value_sync, tt), ((fault_sync, tt), tt))
 
+pub ending_send : IsSend (as_row (node_type.the_field outcome.the_row))
+ending_send = as_row_send (node_type.the_field outcome.the_row) (node.the_send outcome.the_row outcome_send outcome_sync)
+
+pub ending_sync : IsSync (as_row (node_type.the_field outcome.the_row))
+ending_sync = as_row_sync (node_type.the_field outcome.the_row) (node.the_sync outcome.the_row outcome_send outcome_sync)
+
 pub number_send : IsSend (as_row u32-field)
 number_send = search sendable
 
@@ -60,10 +67,10 @@ pub long_sync : IsSync (as_row u64-field)
 long_sync = search sendable
 
 pub trace_item_send : IsSend trace_item.the_row
-trace_item_send = variants_send trace_item.enum ((number_send, (number_send, tt)), ((number_send, (number_send, tt)), ((number_send, (number_send, tt)), ((number_send, (outcome_send, (number_send, tt))), ((number_send, tt), ((number_send, tt), tt))))))
+trace_item_send = variants_send trace_item.enum ((number_send, (number_send, tt)), ((number_send, (number_send, tt)), ((number_send, (number_send, tt)), ((number_send, (ending_send, (number_send, tt))), ((number_send, tt), ((number_send, tt), tt))))))
 
 pub trace_item_sync : IsSync trace_item.the_row
-trace_item_sync = variants_sync trace_item.enum ((number_sync, (number_sync, tt)), ((number_sync, (number_sync, tt)), ((number_sync, (number_sync, tt)), ((number_sync, (outcome_sync, (number_sync, tt))), ((number_sync, tt), ((number_sync, tt), tt))))))
+trace_item_sync = variants_sync trace_item.enum ((number_sync, (number_sync, tt)), ((number_sync, (number_sync, tt)), ((number_sync, (number_sync, tt)), ((number_sync, (ending_sync, (number_sync, tt))), ((number_sync, tt), ((number_sync, tt), tt))))))
 
 pub list_send : (R : RattleType) → IsSend R → IsSync R → IsSend (as_row (list_type.the_field R))
 list_send R s t = as_row_send (list_type.the_field R) (list.the_send R s t)
@@ -78,10 +85,10 @@ pub byte_sync : IsSync u8
 byte_sync = search sendable
 
 pub record_send : IsSend record_type.the_row
-record_send = declared_send record_type.the_type (list_send trace_item.the_row trace_item_send trace_item_sync, (outcome_send, (list_send u8 byte_send byte_sync, (long_send, tt))))
+record_send = declared_send record_type.the_type (list_send trace_item.the_row trace_item_send trace_item_sync, (ending_send, (list_send u8 byte_send byte_sync, (long_send, tt))))
 
 pub record_sync : IsSync record_type.the_row
-record_sync = declared_sync record_type.the_type (list_sync trace_item.the_row trace_item_send trace_item_sync, (outcome_sync, (list_sync u8 byte_send byte_sync, (long_sync, tt))))
+record_sync = declared_sync record_type.the_type (list_sync trace_item.the_row trace_item_send trace_item_sync, (ending_sync, (list_sync u8 byte_send byte_sync, (long_sync, tt))))
 
 pub key_send : IsSend key.the_row
 key_send = search (list.the_send, list.the_sync, crosses, types.crosses_both, sendable) depth 60 fits 20000

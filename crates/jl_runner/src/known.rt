@@ -20,6 +20,7 @@ use crate::keys::KeyNumbers;
 use jl_book::{Book, KeyFault, Pass};
 use jl_cache::{Cache, Found, Miss};
 use jl_calculus::history::{DefineFault, FetchFault, Outcome, Seen, SpawnFault};
+use jl_model::shared::SharedNode;
 use jl_model::ty::Key;
 use jl_program::choice::Choice;
 use jl_program::tree::Start;
@@ -265,7 +266,7 @@ impl<N: Naming> Known<N> {
         cache: &Cache<N>,
         book: &mut Book<N>,
         task: u32,
-    ) -> Result<Outcome, FetchFault>
+    ) -> Result<SharedNode<Outcome>, FetchFault>
         ensures grew { Grew (knows_of N.about self.old) (knows_of N.about self.new) }
         ensures fetched { IfOk result (λ outcome. Fetched (knows_of N.about self.old) (knows_of N.about self.new) task outcome) }
         ensures valid { IfOk result (λ outcome. IsValidOutcome N.about.program.value outcome) }

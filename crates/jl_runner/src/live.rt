@@ -14,6 +14,7 @@ use crate::known::Known;
 use crate::shared::Shared;
 use jl_calculus::history::{DefineFault, FetchFault, Outcome, Seen, SpawnFault};
 use jl_dispatcher::Dispatcher;
+use jl_model::shared::SharedNode;
 use jl_model::ty::Key;
 use jl_program::choice::Choice;
 use jl_program::tree::Start;
@@ -156,7 +157,7 @@ impl<'s, 'p, 'r, N: Naming, R: Wait> Dispatcher for Live<'s, 'p, 'r, N, R> {
         }
     }
 
-    fn fetched(&mut self, task: u32) -> Result<Outcome, FetchFault> {
+    fn fetched(&mut self, task: u32) -> Result<SharedNode<Outcome>, FetchFault> {
         let shared = self.shared;
         let mut book = shared.book.lock(self.rt);
         self.known.fetch(&shared.cache, &mut book, task)

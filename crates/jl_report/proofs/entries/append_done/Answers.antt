@@ -12,4 +12,4 @@ returns c =
     (ending_line (ending_of c.args.program.now c.args.ended.now.outcome))
     c.in_ok-append_done_line.ensures (c.in_ok-append_steps.ensures ∙ ap (λ items. c.append_done_line.new.out ++ step_lines (steps_of items)) c.as_slice.ensures)
     (c.in_ok-append_quoted_line.ensures ∙ ap (λ bytes. c.append_steps.new.out ++ text_line (codes "output ") (quoted bytes)) c.as_slice-2.ensures)
-    c.append_ending.ensures
+    (rw c.get.ensures at c.append_ending.ensures)

@@ -10,23 +10,29 @@ returns-then-self c =
     let s = c.args.self.now in
     fetch_lost s.past.0 s.past.1 s.task s.items.items s.told s.seen s.looks s.alone c.args.task s.past refl
 
+pub returns-in_default : goal.returns-in_default
+returns-in_default c =
+    let s = c.args.self.now in
+    fetch_lost s.past.0 s.past.1 s.task s.items.items s.told s.seen s.looks s.alone c.args.task s.past refl
+
 pub end-requires : goal.end-requires
 end-requires c =
     let s = c.args.self.now in
-    subst (IsValidOutcome s.past.0) (sym c.nothing_done.ensures) (nothing_valid s.past.0)
+    subst (IsValidOutcome s.past.0) (sym c.in-Ok.ensures.nothing) (nothing_valid s.past.0)
 
-pub invariant_of-self : goal.invariant_of-self
-invariant_of-self c =
+pub invariant_of-self-in-Ok-2 : goal.invariant_of-self-in-Ok-2
+invariant_of-self-in-Ok-2 c =
     let s = c.args.self.now in
     record {
-      placed = placed_more s.past.0 s.past.1 (Ev.Done c.args.task c.nothing_done.result) s.task s.seen c.len-self.result c.end.new.self s.placed c.in-Ok.ensures.added c.len-self.ensures;
+      placed = placed_more s.past.0 s.past.1 (Ev.Done c.args.task c.in-Ok.ended) s.task s.seen c.len-self.result c.end.new.self s.placed c.in-Ok-2.ensures.added c.len-self.ensures;
       left = tt;
     }
 
-pub returns-in-Ok : goal.returns-in-Ok
-returns-in-Ok c =
+pub returns-in-Ok-2 : goal.returns-in-Ok-2
+returns-in-Ok-2 c =
     let s = c.args.self.now in
-    fetch_made s.past.0 s.past.1 s.task s.items.items s.told s.seen s.looks s.alone c.args.task c.len-self.result c.nothing_done.result c.end.new.self c.nothing_done.ensures c.if-self.false c.requires.next s.placed.seen_some c.requires.running c.in-Ok.ensures.added c.len-self.ensures
+    fetch_made s.past.0 s.past.1 s.task s.items.items s.told s.seen s.looks s.alone c.args.task c.len-self.result c.in-Ok.ended c.in-Ok.outcome c.end.new.self c.in-Ok.ensures.same c.in-Ok.ensures.nothing c.if-self.false
+    c.requires.next s.placed.seen_some c.requires.running c.in-Ok-2.ensures.added c.len-self.ensures
 
 pub invariant_of-self-in-Err : goal.invariant_of-self-in-Err
 invariant_of-self-in-Err c =

@@ -13,7 +13,7 @@ pub returns-in_ok-answer-in-Ok : goal.returns-in_ok-answer-in-Ok
 returns-in_ok-answer-in-Ok g c =
     let (a, form) = c.requires.form in
     lent_fetched_is _ _ c.args.self.now _ a form c.requires.fits c.in_ok-answer-in-Ok.field-0 c.in-Some.task c.in-Ok.outcome c.push.new.self _ c.in-Ok.ensures.grew (ap (λ vs. task_of (first_value vs)) (sym c.open_values.ensures) ∙ sym c.in-Some.ensures) c.in-Ok.ensures.fetched c.in-Ok.ensures.valid
-    (rw c.seen-at.ensures at c.in_ok-push-in-Ok.ensures) (rw (c.fetched_outcome-answer.ensures, c.in_ok-copy-in-Ok.ensures, c.clear.ensures) at c.in_ok-answer-in-Ok.ensures)
+    (rw c.seen-at.ensures at c.in_ok-push-in-Ok.ensures) (rw (c.fetched_outcome-answer.ensures, c.in_ok-copy-in-Ok.ensures, c.get.ensures, c.clear.ensures) at c.in_ok-answer-in-Ok.ensures)
 
 pub returns-in-Err-NotYet : goal.returns-in-Err-NotYet
 returns-in-Err-NotYet g c =
