@@ -1,14 +1,17 @@
 //! How many declarations are kept of a script, and how many of them are in its table.
 
+use crate::holds;
 use jl_declare::declarations::declarations;
 use jl_declare::known::known;
+use jl_declare::state::Declarations;
 use jl_grammar::tree::{Item, Script};
 use jl_model::shared::SharedList;
+use jl_model::ty::Decl;
 use jl_reader::read;
+use jl_resolve_forms::known::Known;
 use jl_token::tokens;
 use jl_written::fault::StaticKind;
 use std::alloc::{AllocError, Global};
-use std::test::Fail;
 
 /// The script that a text is; one without items where it is none.
 #[tactic(auto, using(jl_typeread::proofs::Ends::ends_alone))]
@@ -33,17 +36,19 @@ fn found(alloc: Global, items: &[Item]) -> Result<Found, AllocError> {
     let found = declarations(alloc, items)?;
     let table = found.table.count();
     let all = found.decls.len();
-    let fault = match found.fault {
-        Some(fault) => Some((fault.at, fault.kind)),
-        None => None,
-    };
+    let fault = found.fault;
     drop(found);
-    Ok((table, all, fault))
+    match fault {
+        Some(fault) => Ok((table, all, Some((fault.at, fault.kind)))),
+        None => Ok((table, all, None)),
+    }
 }
 
 fn found_of(alloc: Global, source: &str) -> Result<Found, AllocError> {
     let script = script_of(alloc, source.as_bytes());
-    found(alloc, script.items.as_slice())
+    let found = found(alloc, script.items.as_slice());
+    drop(script);
+    found
 }
 
 /// A script, and what is found of it; the eight built-in types are counted.
@@ -79,40 +84,69 @@ static SCRIPTS: [(&str, Found); 8] = [
     ),
 ];
 
-#[test]
-fn declarations_are_kept_and_told(rt: HostRuntime) -> Result<(), Fail> {
+fn scripts_are_right(alloc: Global) -> Result<bool, AllocError> {
     for (source, due) in &SCRIPTS {
-        assert!(rt; found_of(rt.alloc(), source)? == *due, "of {source:?}");
+        if found_of(alloc, source)? != *due {
+            return Ok(false);
+        }
     }
-    Ok(())
+    Ok(true)
+}
+
+#[test]
+fn declarations_are_kept_and_told(rt: HostRuntime) {
+    assert!(rt; holds(scripts_are_right(rt.alloc())));
+}
+
+/// How many parameters and fields a declaration has.
+fn sizes(decl: Option<&Decl>) -> (usize, usize) {
+    match decl {
+        Some(decl) => (decl.params.len(), decl.fields.len()),
+        None => (0, 0),
+    }
 }
 
 /// How many parameters and fields the first declared type has.
-fn outline(alloc: Global, items: &[Item]) -> Result<Option<(usize, usize)>, AllocError> {
+fn outline(alloc: Global, items: &[Item]) -> Result<(usize, usize), AllocError> {
     let found = declarations(alloc, items)?;
-    match found.decls.as_slice().get(8) {
-        None => Ok(None),
-        Some(decl) => Ok(Some((decl.params.len(), decl.fields.len()))),
-    }
+    let sizes = sizes(found.decls.as_slice().get(8));
+    drop(found);
+    Ok(sizes)
+}
+
+fn an_outline_has_two_of_each(alloc: Global) -> Result<bool, AllocError> {
+    let script = script_of(alloc, b"struct P{T, T} <: Foo end");
+    let sizes = outline(alloc, script.items.as_slice());
+    drop(script);
+    Ok(sizes? == (2, 2))
 }
 
 #[test]
-fn an_outline_has_its_parameters_and_a_field_of_each(rt: HostRuntime) -> Result<(), Fail> {
-    let script = script_of(rt.alloc(), b"struct P{T, T} <: Foo end");
-    assert!(rt; outline(rt.alloc(), script.items.as_slice())? == Some((2, 2)));
-    Ok(())
+fn an_outline_has_its_parameters_and_a_field_of_each(rt: HostRuntime) {
+    assert!(rt; holds(an_outline_has_two_of_each(rt.alloc())));
+}
+
+/// How many functions are known, the built-in ones among them, and how many types are named. What is known is let go by a call: a drop
+/// that is left to the compiler is unrolled into the proof.
+fn sizes_known(known: Known) -> (usize, usize) {
+    let sizes = (known.functions.len(), known.types.as_slice().len());
+    drop(known);
+    sizes
 }
 
 /// How many functions are known of a script, the built-in ones among them, and how many types it names.
 fn counts(alloc: Global, items: &[Item]) -> Result<(usize, usize), AllocError> {
-    let found = declarations(alloc, items)?;
-    let known = known(alloc, items, found.decls)?;
-    Ok((known.functions.len(), known.types.as_slice().len()))
+    let Declarations { table, decls, .. } = declarations(alloc, items)?;
+    drop(table);
+    let known = known(alloc, items, decls)?;
+    Ok(sizes_known(known))
 }
 
 fn counts_of(alloc: Global, source: &str) -> Result<(usize, usize), AllocError> {
     let script = script_of(alloc, source.as_bytes());
-    counts(alloc, script.items.as_slice())
+    let counts = counts(alloc, script.items.as_slice());
+    drop(script);
+    counts
 }
 
 /// A script, and the counts.
@@ -121,10 +155,16 @@ static KNOWN: [(&str, (usize, usize)); 2] = [
     ("f() = nothing", (13, 0)),
 ];
 
-#[test]
-fn the_types_and_functions_of_a_script_are_known(rt: HostRuntime) -> Result<(), Fail> {
+fn counts_are_right(alloc: Global) -> Result<bool, AllocError> {
     for (source, due) in &KNOWN {
-        assert!(rt; counts_of(rt.alloc(), source)? == *due, "of {source:?}");
+        if counts_of(alloc, source)? != *due {
+            return Ok(false);
+        }
     }
-    Ok(())
+    Ok(true)
+}
+
+#[test]
+fn the_types_and_functions_of_a_script_are_known(rt: HostRuntime) {
+    assert!(rt; holds(counts_are_right(rt.alloc())));
 }

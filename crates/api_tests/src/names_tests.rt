@@ -1,5 +1,6 @@
 //! The tables of names, each on its happy path.
 
+use crate::holds;
 use jl_grammar::tree::Name;
 use jl_model::shared::SharedList;
 use jl_model::ty::{Bounds, Bytes, Decl, DeclKind, Fields, Ty};
@@ -9,74 +10,108 @@ use jl_names::marked::MarkedNames;
 use jl_names::slots::Slots;
 use jl_names::stack::NameStack;
 use std::alloc::{AllocError, Global};
-use std::test::Fail;
 
 fn text(alloc: Global, bytes: &[u8]) -> Result<Bytes, AllocError> {
     SharedList::from_vec(alloc, bytes.to_vec(alloc)?)
 }
 
-#[test]
-fn the_first_of_several_is_found(rt: HostRuntime) -> Result<(), Fail> {
-    let alloc = rt.alloc();
+fn push_names(alloc: Global, names: &mut NameList, texts: &[&str]) -> Result<(), AllocError> {
+    for name in texts {
+        names.push(text(alloc, name.as_bytes())?)?;
+    }
+    Ok(())
+}
+
+/// Whether `f` and `g` are where they were first pushed. The tables are let go by their owners alone, by a call: a drop that is left to
+/// the compiler is unrolled into the proof at each way out.
+fn first_is_found(alloc: Global, names: &mut NameList) -> Result<bool, AllocError> {
+    push_names(alloc, names, &["f", "g", "f"])?;
+    let shared = names.shared(alloc)?;
+    Ok(
+        names.find(b"f") == Some(0)
+            && names.find(b"g") == Some(1)
+            && names.find(b"h") == None
+            && names.len() == 3
+            && shared.as_slice() == names.as_slice(),
+    )
+}
+
+fn the_list_finds_the_first(alloc: Global) -> Result<bool, AllocError> {
     let mut names = NameList::new(alloc);
-    names.push(text(alloc, b"f")?)?;
-    names.push(text(alloc, b"g")?)?;
-    names.push(text(alloc, b"f")?)?;
-    assert!(rt; names.find(b"f") == Some(0) && names.find(b"g") == Some(1));
-    assert!(rt; names.find(b"h") == None && names.len() == 3);
-    assert!(rt; names.shared(alloc)?.as_slice() == names.as_slice());
-    Ok(())
+    let answer = first_is_found(alloc, &mut names);
+    drop(names);
+    answer
 }
 
 #[test]
-fn a_marked_name_is_found_where_it_stands_first(rt: HostRuntime) -> Result<(), Fail> {
-    let alloc = rt.alloc();
+fn the_first_of_several_is_found(rt: HostRuntime) {
+    assert!(rt; holds(the_list_finds_the_first(rt.alloc())));
+}
+
+/// `f`, where it stands at this place.
+fn marked(alloc: Global, at: u32) -> Result<Name, AllocError> {
+    Ok(Name {
+        at,
+        bytes: text(alloc, b"f")?,
+    })
+}
+
+fn place_is_found(alloc: Global, names: &mut MarkedNames) -> Result<bool, AllocError> {
+    names.push(marked(alloc, 7)?)?;
+    names.push(marked(alloc, 9)?)?;
+    Ok(names.find(b"f") == Some(7) && names.find(b"g") == None && names.as_slice().len() == 2)
+}
+
+fn the_marked_list_finds_the_place(alloc: Global) -> Result<bool, AllocError> {
     let mut names = MarkedNames::new(alloc);
-    names.push(Name {
-        at: 7,
-        bytes: text(alloc, b"f")?,
-    })?;
-    names.push(Name {
-        at: 9,
-        bytes: text(alloc, b"f")?,
-    })?;
-    assert!(rt; names.find(b"f") == Some(7) && names.find(b"g") == None);
-    assert!(rt; names.as_slice().len() == 2);
-    Ok(())
+    let answer = place_is_found(alloc, &mut names);
+    drop(names);
+    answer
 }
 
 #[test]
-fn the_last_of_several_hides_the_others(rt: HostRuntime) -> Result<(), Fail> {
-    let alloc = rt.alloc();
-    let mut names = NameStack::new(alloc);
-    names.push(text(alloc, b"T")?)?;
-    names.push(text(alloc, b"S")?)?;
-    names.push(text(alloc, b"T")?)?;
-    assert!(rt;
-        names.find(b"T") == Some(2) && names.find(b"S") == Some(1) && names.find(b"U") == None
-    );
+fn a_marked_name_is_found_where_it_stands_first(rt: HostRuntime) {
+    assert!(rt; holds(the_marked_list_finds_the_place(rt.alloc())));
+}
+
+fn stack_names(alloc: Global, names: &mut NameStack, texts: &[&str]) -> Result<(), AllocError> {
+    for name in texts {
+        names.push(text(alloc, name.as_bytes())?)?;
+    }
+    Ok(())
+}
+
+fn last_hides(names: &NameStack) -> bool {
+    names.find(b"T") == Some(2) && names.find(b"S") == Some(1) && names.find(b"U") == None
+}
+
+fn hidden_is_back(names: &mut NameStack) -> bool {
     names.truncate(2);
-    assert!(rt; names.find(b"T") == Some(0) && names.find(b"S") == Some(1) && names.len() == 2);
+    names.find(b"T") == Some(0) && names.find(b"S") == Some(1) && names.len() == 2
+}
+
+fn another_takes_its_place(alloc: Global, names: &mut NameStack) -> Result<bool, AllocError> {
     names.truncate(1);
-    assert!(rt; names.find(b"S") == None);
-    names.push(text(alloc, b"U")?)?;
-    assert!(rt; names.find(b"S") == None && names.find(b"U") == Some(1));
-    Ok(())
+    let is_gone = names.find(b"S") == None;
+    stack_names(alloc, names, &["U"])?;
+    Ok(is_gone && names.find(b"S") == None && names.find(b"U") == Some(1))
+}
+
+fn stack_is_right(alloc: Global, names: &mut NameStack) -> Result<bool, AllocError> {
+    stack_names(alloc, names, &["T", "S", "T"])?;
+    Ok(last_hides(names) && hidden_is_back(names) && another_takes_its_place(alloc, names)?)
+}
+
+fn the_stack_finds_the_last(alloc: Global) -> Result<bool, AllocError> {
+    let mut names = NameStack::new(alloc);
+    let answer = stack_is_right(alloc, &mut names);
+    drop(names);
+    answer
 }
 
 #[test]
-fn slots_end_with_their_block(rt: HostRuntime) -> Result<(), Fail> {
-    let alloc = rt.alloc();
-    let mut slots = Slots::new(alloc);
-    visible(&mut slots, text(alloc, b"a")?)?;
-    slots.push_unnamed()?;
-    visible(&mut slots, text(alloc, b"b")?)?;
-    assert!(rt; slots.find(b"a") == Some(0) && slots.find(b"b") == Some(2));
-    slots.truncate(2);
-    assert!(rt; slots.find(b"a") == Some(0) && slots.find(b"b") == None && slots.len() == 2);
-    visible(&mut slots, text(alloc, b"b")?)?;
-    assert!(rt; slots.find(b"b") == Some(2));
-    Ok(())
+fn the_last_of_several_hides_the_others(rt: HostRuntime) {
+    assert!(rt; holds(the_stack_finds_the_last(rt.alloc())));
 }
 
 /// The name's variable gets a slot, where it has none.
@@ -85,6 +120,30 @@ fn visible(slots: &mut Slots, name: Bytes) -> Result<(), AllocError> {
         Some(_) => Ok(()),
         None => slots.push(name),
     }
+}
+
+/// The variable `b` has slot 2, also where it comes once more behind the block in which it was.
+fn slots_are_right(alloc: Global, slots: &mut Slots) -> Result<bool, AllocError> {
+    visible(slots, text(alloc, b"a")?)?;
+    slots.push_unnamed()?;
+    visible(slots, text(alloc, b"b")?)?;
+    let are_first = slots.find(b"a") == Some(0) && slots.find(b"b") == Some(2);
+    slots.truncate(2);
+    let is_gone = slots.find(b"a") == Some(0) && slots.find(b"b") == None && slots.len() == 2;
+    visible(slots, text(alloc, b"b")?)?;
+    Ok(are_first && is_gone && slots.find(b"b") == Some(2))
+}
+
+fn the_slots_end_with_their_block(alloc: Global) -> Result<bool, AllocError> {
+    let mut slots = Slots::new(alloc);
+    let answer = slots_are_right(alloc, &mut slots);
+    drop(slots);
+    answer
+}
+
+#[test]
+fn slots_end_with_their_block(rt: HostRuntime) {
+    assert!(rt; holds(the_slots_end_with_their_block(rt.alloc())));
 }
 
 fn plain(alloc: Global, name: &[u8]) -> Result<Decl, AllocError> {
@@ -97,33 +156,65 @@ fn plain(alloc: Global, name: &[u8]) -> Result<Decl, AllocError> {
     })
 }
 
-#[test]
-fn the_first_declaration_of_a_name_is_found(rt: HostRuntime) -> Result<(), Fail> {
-    let alloc = rt.alloc();
-    let mut decls = DeclList::new(alloc);
+/// Declares `A`, `B` and `A`.
+fn push_decls(alloc: Global, decls: &mut DeclList) -> Result<(), AllocError> {
     decls.push(plain(alloc, b"A")?)?;
     decls.push(plain(alloc, b"B")?)?;
     decls.push(plain(alloc, b"A")?)?;
-    assert!(rt; decls.find(b"A") == Some(0) && decls.find(b"B") == Some(1));
-    assert!(rt; decls.first(1).find(b"A") == Some(0) && decls.first(1).find(b"B") == None);
-    assert!(rt; decls.first(9).find(b"B") == Some(1) && decls.all().find(b"C") == None);
-    assert!(rt; decls.first(1).get(0).is_some() && decls.first(1).get(1).is_none());
     Ok(())
 }
 
-#[test]
-fn the_last_declaration_goes_with_its_name(rt: HostRuntime) -> Result<(), Fail> {
-    let alloc = rt.alloc();
+/// Whether the list finds the first of a name, and so do the lists of its first one and of all.
+fn first_declaration_is_found(decls: &DeclList) -> bool {
+    decls.find(b"A") == Some(0)
+        && decls.find(b"B") == Some(1)
+        && decls.first(9).find(b"B") == Some(1)
+        && decls.all().find(b"C") == None
+}
+
+/// Whether the list of the first declaration has that one alone.
+fn first_is_alone(decls: &DeclList) -> bool {
+    decls.first(1).find(b"A") == Some(0)
+        && decls.first(1).find(b"B") == None
+        && decls.first(1).get(0).is_some()
+        && decls.first(1).get(1).is_none()
+}
+
+fn the_declarations_are_found(alloc: Global) -> Result<bool, AllocError> {
     let mut decls = DeclList::new(alloc);
-    decls.push(plain(alloc, b"A")?)?;
-    decls.push(plain(alloc, b"B")?)?;
-    decls.push(plain(alloc, b"A")?)?;
+    let pushed = push_decls(alloc, &mut decls);
+    let answer = first_declaration_is_found(&decls) && first_is_alone(&decls);
+    drop(decls);
+    pushed?;
+    Ok(answer)
+}
+
+#[test]
+fn the_first_declaration_of_a_name_is_found(rt: HostRuntime) {
+    assert!(rt; holds(the_declarations_are_found(rt.alloc())));
+}
+
+/// Whether each name goes with its last declaration. The last `pop` finds an empty list.
+fn names_go(decls: &mut DeclList) -> bool {
     decls.pop();
-    assert!(rt; decls.find(b"A") == Some(0) && decls.len() == 2);
+    let has_first = decls.find(b"A") == Some(0) && decls.len() == 2;
     decls.pop();
-    assert!(rt; decls.find(b"B") == None && decls.as_slice().len() == 1);
+    let has_one = decls.find(b"B") == None && decls.as_slice().len() == 1;
     decls.pop();
     decls.pop();
-    assert!(rt; decls.find(b"A") == None && decls.len() == 0);
-    Ok(())
+    has_first && has_one && decls.find(b"A") == None && decls.len() == 0
+}
+
+fn the_names_go_with_their_declarations(alloc: Global) -> Result<bool, AllocError> {
+    let mut decls = DeclList::new(alloc);
+    let pushed = push_decls(alloc, &mut decls);
+    let answer = names_go(&mut decls);
+    drop(decls);
+    pushed?;
+    Ok(answer)
+}
+
+#[test]
+fn the_last_declaration_goes_with_its_name(rt: HostRuntime) {
+    assert!(rt; holds(the_names_go_with_their_declarations(rt.alloc())));
 }

@@ -4,11 +4,11 @@ ghost use Rattle.std.specs.Prelude.{◌≡◌, IfOk};
 ghost use Rattle.jl_program.specs.Prelude.{prelude_functions, prelude_sites};
 ghost use Rattle.api_tests.specs.SamplePrograms.{row_types, row_site, bare};
 
+use crate::holds;
 use jl_model::ty::{Bounds, Bytes, Decls, Ty, Tys, Written};
 use jl_program::tree::{Expr, Exprs, Items, Names, Program, Site, Sites};
 use jl_sig::Ready;
 use std::alloc::{AllocError, Global};
-use std::test::Fail;
 
 const FUNCTIONS: [&str; 12] = [
     "+", "-", "*", "div", "rem", "==", "!=", "<", "<=", ">", ">=", "!",
@@ -99,16 +99,15 @@ fn bare(alloc: Global) -> Result<Program, AllocError>
 
 fn bare_is_kept(alloc: Global) -> Result<bool, AllocError> {
     let ready = Ready::make(alloc, bare(alloc)?)?;
-    Ok(
-        ready.table().count() == 8
-            && ready.program().top.as_slice().is_empty()
-            && ready.sig(12).written().parts.as_slice().len() == 1
-            && ready.fields(4).is_none(),
-    )
+    let answer = ready.table().count() == 8
+        && ready.program().top.as_slice().is_empty()
+        && ready.sig(12).written().parts.as_slice().len() == 1
+        && ready.fields(4).is_none();
+    drop(ready);
+    Ok(answer)
 }
 
 #[test]
-fn the_prelude_is_kept_with_its_table_and_its_signatures(rt: HostRuntime) -> Result<(), Fail> {
-    assert!(rt; bare_is_kept(rt.alloc()) == Ok(true));
-    Ok(())
+fn the_prelude_is_kept_with_its_table_and_its_signatures(rt: HostRuntime) {
+    assert!(rt; holds(bare_is_kept(rt.alloc())));
 }

@@ -1,5 +1,6 @@
 //! The slots that names get, and the parameters that constructors infer.
 
+use crate::holds;
 use jl_grammar::tree::Name;
 use jl_model::ty::{Bound, Bounds, Bytes, Decl, DeclKind, Field, Fields, Ty, Tys};
 use jl_names::decls::DeclList;
@@ -10,7 +11,6 @@ use jl_resolve_forms::scopes::{bind, slot_of};
 use jl_resolve_forms::state::{Scope, State};
 use jl_written::fault::{Fault, StaticKind};
 use std::alloc::{AllocError, Global};
-use std::test::Fail;
 
 fn bytes(alloc: Global, text: &[u8]) -> Result<Bytes, AllocError> {
     Bytes::from_vec(alloc, Vec::from_slice(alloc, text)?)
@@ -24,30 +24,45 @@ fn name(alloc: Global, at: u32) -> Result<Name, AllocError> {
     })
 }
 
-/// The scope and the fault behind two variables of one name.
-fn bound_twice(alloc: Global) -> Result<(Scope, Option<Fault>), AllocError> {
+/// Binds two variables of one name. The scope and the state are let go by their owner alone, by a call: a drop that is left to the
+/// compiler is unrolled into the proof at each way out.
+fn bind_twice(alloc: Global, scope: &mut Scope, state: &mut State) -> Result<(), AllocError> {
+    bind(scope, state, &name(alloc, 0)?)?;
+    bind(scope, state, &name(alloc, 4)?)?;
+    Ok(())
+}
+
+/// How many slots there are, the slot of `x`, and the fault.
+type Found = (usize, Option<u32>, Option<Fault>);
+
+/// What there is behind two variables of one name.
+fn bound_twice(alloc: Global) -> Result<Found, AllocError> {
     let mut scope = bare_scope(alloc, 8);
     let mut state = State {
         sites: Cells::new(alloc),
         spawns: Cells::new(alloc),
         fault: None,
     };
-    bind(&mut scope, &mut state, &name(alloc, 0)?)?;
-    bind(&mut scope, &mut state, &name(alloc, 4)?)?;
-    Ok((scope, state.fault))
+    let bound = bind_twice(alloc, &mut scope, &mut state);
+    let found = (scope.slots.len(), slot_of(&scope.slots, b"x"), state.fault);
+    drop(scope);
+    drop(state);
+    bound?;
+    Ok(found)
 }
 
-#[test]
-fn a_name_that_is_visible_takes_a_slot_without_a_name(rt: HostRuntime) -> Result<(), Fail> {
-    let (scope, fault) = bound_twice(rt.alloc())?;
+fn second_is_unnamed(alloc: Global) -> Result<bool, AllocError> {
     let due = Fault {
         at: 4,
         kind: StaticKind::Rebound,
     };
-    assert!(rt; scope.slots.len() == 2);
-    assert!(rt; slot_of(&scope.slots, b"x") == Some(0));
-    assert!(rt; fault == Some(due));
-    Ok(())
+    let (count, slot, fault) = bound_twice(alloc)?;
+    Ok(count == 2 && slot == Some(0) && fault == Some(due))
+}
+
+#[test]
+fn a_name_that_is_visible_takes_a_slot_without_a_name(rt: HostRuntime) {
+    assert!(rt; holds(second_is_unnamed(rt.alloc())));
 }
 
 /// The bounds of `{T, S}`.
@@ -64,18 +79,23 @@ fn two_bounds(alloc: Global) -> Result<Bounds, AllocError> {
 
 /// The field `x` of a type.
 fn one_field(alloc: Global, ty: Ty) -> Result<Fields, AllocError> {
-    let mut fields = Vec::new(alloc);
-    fields.push(Field {
-        name: bytes(alloc, b"x")?,
-        ty,
-    })?;
-    Fields::from_vec(alloc, fields)
+    match bytes(alloc, b"x") {
+        Ok(name) => {
+            let mut fields = Vec::new(alloc);
+            fields.push(Field { name, ty })?;
+            Fields::from_vec(alloc, fields)
+        }
+        Err(error) => {
+            drop(ty);
+            Err(error)
+        }
+    }
 }
 
 /// `struct A{T, S}; x::ty end`
 fn with_field(alloc: Global, ty: Ty) -> Result<Decl, AllocError> {
-    let params = two_bounds(alloc)?;
     let fields = one_field(alloc, ty)?;
+    let params = two_bounds(alloc)?;
     let name = bytes(alloc, b"A")?;
     Ok(Decl {
         name,
@@ -95,21 +115,36 @@ fn both(alloc: Global) -> Result<Tys, AllocError> {
 }
 
 /// Three structs of two parameters, whose field is a tuple of both, a union of both, and the first one.
-fn three_known(alloc: Global) -> Result<KnownDecls, AllocError> {
-    let mut decls = DeclList::new(alloc);
+fn push_three(alloc: Global, decls: &mut DeclList) -> Result<(), AllocError> {
     decls.push(with_field(alloc, Ty::Tuple(both(alloc)?))?)?;
     decls.push(with_field(alloc, Ty::Union(both(alloc)?))?)?;
-    decls.push(with_field(alloc, Ty::Var(0))?)?;
-    KnownDecls::of(alloc, decls)
+    decls.push(with_field(alloc, Ty::Var(0))?)
+}
+
+/// What is known of these three.
+fn three_known(alloc: Global) -> Result<KnownDecls, AllocError> {
+    let mut decls = DeclList::new(alloc);
+    match push_three(alloc, &mut decls) {
+        Ok(()) => KnownDecls::of(alloc, decls),
+        Err(error) => {
+            drop(decls);
+            Err(error)
+        }
+    }
+}
+
+fn the_parameters_are_found(alloc: Global) -> Result<bool, AllocError> {
+    let known = three_known(alloc)?;
+    let answer = known.finds_parameters(0)
+        && !known.finds_parameters(1)
+        && !known.finds_parameters(2)
+        && !known.finds_parameters(3)
+        && known.list().len() == 3;
+    drop(known);
+    Ok(answer)
 }
 
 #[test]
-fn a_constructor_infers_the_parameters_that_stand_outside_unions(
-    rt: HostRuntime,
-) -> Result<(), Fail> {
-    let known = three_known(rt.alloc())?;
-    assert!(rt; known.finds_parameters(0) && !known.finds_parameters(1));
-    assert!(rt; !known.finds_parameters(2) && !known.finds_parameters(3));
-    assert!(rt; known.list().len() == 3);
-    Ok(())
+fn a_constructor_infers_the_parameters_that_stand_outside_unions(rt: HostRuntime) {
+    assert!(rt; holds(the_parameters_are_found(rt.alloc())));
 }
