@@ -9,8 +9,6 @@ mod declare_tests;
 #[cfg(test)]
 mod host_tests;
 #[cfg(test)]
-mod judge_tests;
-#[cfg(test)]
 mod names_tests;
 #[cfg(test)]
 mod ready_tests;

@@ -54,7 +54,7 @@ fn sig_line(
 {
     for written in rights {
         let right = made(alloc, table, written)?;
-        let is_below = sig_sub(alloc, table, sig, &right);
+        let is_below = sig_sub(alloc, table, sig, right.get());
         drop(right);
         out.push_str(if is_below? { "<" } else { "." })?;
     }
@@ -67,7 +67,7 @@ pub fn sig_lines(alloc: Global, table: &Table, sigs: &[Written]) -> Result<Strin
     let mut out = String::new(alloc);
     for written in sigs {
         let sig = made(alloc, table, written)?;
-        let written = sig_line(alloc, table, &sig, sigs, &mut out);
+        let written = sig_line(alloc, table, sig.get(), sigs, &mut out);
         drop(sig);
         written?;
     }
@@ -102,7 +102,7 @@ pub fn call_lines(
     let mut out = String::new(alloc);
     for written in sigs {
         let sig = made(alloc, table, written)?;
-        let written = call_line(alloc, table, &sig, calls, &mut out);
+        let written = call_line(alloc, table, sig.get(), calls, &mut out);
         drop(sig);
         written?;
     }

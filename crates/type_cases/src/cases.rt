@@ -4,6 +4,7 @@ use crate::all::{call_lines, sig_lines, type_lines};
 use crate::choice::chosen;
 use crate::halt::Halt;
 use crate::heads::read_signature;
+use crate::judging::judged;
 use crate::reading::{read_type, read_types};
 use crate::signatures::{application, body, keeping, row_count, rows, sig_standing, variables};
 use crate::types::{
@@ -95,6 +96,7 @@ impl Cases {
             "above" => above(alloc, table, text),
             "find" => found(alloc, table, text),
             "lacking" => lacking(alloc, table, text),
+            "judge" => judged(alloc, table, text),
             "types" => Ok(format!(in alloc; "{}", type_standing(alloc, table, text)?)?),
             _ => self.about_signatures(alloc, word, text),
         }

@@ -118,7 +118,7 @@ fn after_three(
         [] => among_three(alloc, table, first, second, third),
         [text] => {
             let fourth = signature(alloc, table, text)?;
-            let choice = among_four(alloc, table, first, second, third, &fourth);
+            let choice = among_four(alloc, table, first, second, third, fourth.get());
             drop(fourth);
             choice
         }
@@ -141,7 +141,7 @@ fn after_two(
         [] => among_two(alloc, table, first, second),
         [text, rest @ ..] => {
             let third = signature(alloc, table, text)?;
-            let choice = after_three(alloc, table, first, second, &third, rest);
+            let choice = after_three(alloc, table, first, second, third.get(), rest);
             drop(third);
             choice
         }
@@ -155,7 +155,7 @@ fn after_one(alloc: Global, table: &Table, first: &Sig, texts: &[&str]) -> Resul
         [] => among_one(alloc, table, first),
         [text, rest @ ..] => {
             let second = signature(alloc, table, text)?;
-            let choice = after_two(alloc, table, first, &second, rest);
+            let choice = after_two(alloc, table, first, second.get(), rest);
             drop(second);
             choice
         }
@@ -168,7 +168,7 @@ fn of_all(alloc: Global, table: &Table, texts: &[&str]) -> Result<Choice, Halt> 
         [] | [""] => Ok(choose_method(alloc, table, &[])?),
         [text, rest @ ..] => {
             let first = signature(alloc, table, text)?;
-            let choice = after_one(alloc, table, &first, rest);
+            let choice = after_one(alloc, table, first.get(), rest);
             drop(first);
             choice
         }

@@ -14,6 +14,8 @@
 //! - `body (T, S) where V` whether a type in a body is allowed: the variables that have no name are static parameters
 //! - `find N (T, S) | (T, S)` what stands at the first place of variable N among arguments, `lacking N (T)` which of N variables do not
 //!   stand there, nor an atom of theirs
+//! - `judge below T | S`, `judge signature SIG`, `judge body (T, S)` and `judge wide N` what the tests of jl_judge tell: whether both
+//!   types can be judged and one is below the other, the first refusal, and whether type N has too many rows
 //!
 //! A refusal is the answer. Any other line is a heading.
 #![tactic(auto)]
@@ -23,6 +25,7 @@ mod cases;
 mod choice;
 mod halt;
 mod heads;
+mod judging;
 mod reading;
 mod ready;
 mod signatures;

@@ -7,6 +7,7 @@ ghost use Rattle.jl_match.specs.SigRefused.{IsMade};
 
 use crate::halt::Halt;
 use jl_match::{is_concrete, is_well_named, make_sig};
+use jl_model::shared::SharedNode;
 use jl_model::ty::{Ty, Written};
 use jl_norm::known::is_known;
 use jl_norm::norm;
@@ -41,15 +42,15 @@ pub fn arguments(alloc: Global, table: &Table, types: &[Ty]) -> Result<Vec<Ty>, 
     Ok(found)
 }
 
-/// A signature with what the calls need.
-pub fn made(alloc: Global, table: &Table, written: &Written) -> Result<Sig, Halt>
+/// A signature with what the calls need. It is handed out in a node, since each function that has one by value is longer to check.
+pub fn made(alloc: Global, table: &Table, written: &Written) -> Result<SharedNode<Sig>, Halt>
     ensures { IfOk result (λ sig. IsMade table.now written.now sig) }
 {
     if !is_well_named(table, written) {
         return Err(Halt::Unknown);
     }
     match make_sig(alloc, table, written) {
-        Ok(sig) => Ok(sig),
+        Ok(sig) => Ok(SharedNode::new(alloc, sig)?),
         Err(fault) => Err(Halt::Signature(fault)),
     }
 }

@@ -11,6 +11,7 @@ use crate::types::{plain_scope, standing};
 use crate::writing::{list_text, rows_text, type_text};
 use jl_body::check_type;
 use jl_match::applies;
+use jl_model::shared::SharedNode;
 use jl_model::ty::{Ty, Written};
 use jl_norm::known::are_known;
 use jl_sig::types::types_in;
@@ -31,13 +32,13 @@ fn scope<'a>(table: &'a Table, vars: &'a [VarText<'a>]) -> Scope<'a> {
 /// How many rows a signature has.
 pub fn row_count(alloc: Global, table: &Table, written: &Written) -> Result<String, Halt> {
     let sig = made(alloc, table, written)?;
-    let count = sig.rows().len();
+    let count = sig.get().rows().len();
     drop(sig);
     Ok(format!(in alloc; "{count}")?)
 }
 
 /// A signature that is written so, or that of a struct's fields.
-fn sig_of(alloc: Global, table: &Table, text: &str) -> Result<Sig, Halt>
+fn sig_of(alloc: Global, table: &Table, text: &str) -> Result<SharedNode<Sig>, Halt>
     ensures { IfOk result (λ sig. IsSigOf table.now sig) }
 {
     let Some(name) = text.strip_prefix("fields ") else {
@@ -48,7 +49,7 @@ fn sig_of(alloc: Global, table: &Table, text: &str) -> Result<Sig, Halt>
         return Err(Halt::Unknown);
     }
     match Sig::of_fields(alloc, table, number) {
-        Ok(sig) => Ok(sig),
+        Ok(sig) => Ok(SharedNode::new(alloc, sig)?),
         Err(fault) => Err(Halt::Signature(fault)),
     }
 }
@@ -57,7 +58,7 @@ fn sig_of(alloc: Global, table: &Table, text: &str) -> Result<Sig, Halt>
 pub fn rows(alloc: Global, table: &Table, text: &str) -> Result<String, Halt> {
     let vars = variables_in(alloc, text)?;
     let sig = sig_of(alloc, table, text)?;
-    let answer = rows_text(alloc, scope(table, vars.as_slice()), sig.rows());
+    let answer = rows_text(alloc, scope(table, vars.as_slice()), sig.get().rows());
     drop(sig);
     Ok(answer?)
 }
@@ -99,7 +100,7 @@ fn kept_text(alloc: Global, scope: Scope, sig: &Sig) -> Result<String, Halt> {
 pub fn keeping(alloc: Global, table: &Table, text: &str) -> Result<String, Halt> {
     let vars = variables_in(alloc, text)?;
     let sig = sig_of(alloc, table, text)?;
-    let answer = kept_text(alloc, scope(table, vars.as_slice()), &sig);
+    let answer = kept_text(alloc, scope(table, vars.as_slice()), sig.get());
     drop(sig);
     answer
 }
@@ -153,7 +154,7 @@ pub fn application(alloc: Global, table: &Table, text: &str) -> Result<String, H
     let written = read_signature(alloc, table, left)?;
     let types = read_types(alloc, plain_scope(table), right)?;
     let sig = made(alloc, table, &written)?;
-    let answer = applied(alloc, table, &sig, types.as_slice(), "none");
+    let answer = applied(alloc, table, sig.get(), types.as_slice(), "none");
     drop(sig);
     answer
 }
@@ -178,14 +179,14 @@ pub fn sig_standing(alloc: Global, table: &Table, text: &str) -> Result<&'static
             return Err(halt);
         }
     };
-    let answer = compare(alloc, table, &left, &right);
+    let answer = compare(alloc, table, left.get(), right.get());
     drop(left);
     drop(right);
     answer
 }
 
 /// A signature that is written so.
-pub fn signature(alloc: Global, table: &Table, text: &str) -> Result<Sig, Halt>
+pub fn signature(alloc: Global, table: &Table, text: &str) -> Result<SharedNode<Sig>, Halt>
     ensures { IfOk result (λ sig. IsSigOf table.now sig) }
 {
     let written = read_signature(alloc, table, text)?;
