@@ -8,8 +8,8 @@ abbrev pub SwapsFit : ℕ → List Swap → Type 0
 SwapsFit n [] = Unit {0}
 SwapsFit n (s ∷ ss) = (s.stop ≤ n) × SwapsFit n ss
 
--- Variables only come, swaps are of those that came, a fault stays, and without a fault each name means something and is bound once: s is known behind what
--- r is known before.
+-- Variables only come, swaps are of those that came, a fault stays, and without a fault each name means something and is
+-- bound once: s is known behind what r is known before.
 pub record Grows (r s : Reading) : Type 0 where
   pub longer : length r.vars ≤ length s.vars
   pub fits : SwapsFit (length r.vars) r.swaps → SwapsFit (length s.vars) s.swaps

@@ -43,8 +43,9 @@ pub struct Swap {
 }
 
 /// What is known behind a part of the text: the bounds of the variables so far, in the order in which they were read; the
-/// places of variables, in text order; where the text has another order of variables; the first fault; whether some name in a type is unknown; whether one is unknown or bound where it is
-/// visible; and whether a variable is brought in an invariant place of another nominal type.
+/// places of variables, in text order; where the text has another order of variables; the first fault; whether some name
+/// in a type is unknown; whether one is unknown or bound where it is visible; and whether a variable is brought in an
+/// invariant place of another nominal type.
 #[derive(Drop)]
 pub struct Reading {
     pub vars: Row<Bound>,
