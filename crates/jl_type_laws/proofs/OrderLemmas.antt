@@ -205,4 +205,4 @@ one_ordered_told t (s ∷ ss) = record { length_is = arranged_length (text_place
 
 pub ordered_count : (ts : Types) (ss : List Swap) → length (ordered_by ss ts).tys ≡ length ts.tys
 ordered_count ts [] = refl
-ordered_count ts (s ∷ ss) = length-map (renumbered (text_places ts.after)) ts.tys
+ordered_count ts (s ∷ ss) = length-map ts.tys (renumbered (text_places ts.after))
