@@ -96,14 +96,19 @@ fn text_of(alloc: Global, source: &[u8]) -> Result<TypeText, TypeFault> {
     Ok(ty)
 }
 
-/// The number of the variable that a type is, or that its first argument is.
+fn number_of(ty: Option<&Ty>) -> Option<u32> {
+    match ty {
+        Some(Ty::Var(number)) => Some(*number),
+        _ => None,
+    }
+}
+
+/// The number of the variable that a type is, or that its first argument or part is.
 fn variable_in(ty: &Ty) -> Option<u32> {
     match ty {
         Ty::Var(number) => Some(*number),
-        Ty::Nominal(_, arguments) => match arguments.as_slice().first() {
-            Some(Ty::Var(number)) => Some(*number),
-            _ => None,
-        },
+        Ty::Nominal(_, arguments) => number_of(arguments.as_slice().first()),
+        Ty::Tuple(parts) => number_of(parts.as_slice().first()),
         _ => None,
     }
 }
@@ -153,12 +158,15 @@ fn found_of(alloc: Global, source: &str, visible: usize) -> Result<Found, TypeFa
 }
 
 /// A text, how many static parameters are visible, and what is found.
-static TEXTS: [(&str, usize, u32, usize, bool); 3] = [
+static TEXTS: [(&str, usize, u32, usize, bool); 5] = [
     // a missing argument is a fresh variable
     ("Box", 0, 0, 1, false),
     // static parameters have the numbers behind those of the type, and the last of a name hides the others
     ("(Box{T} where U)", 3, 3, 1, false),
     ("T", 2, 0, 0, false),
+    // the variable of a `where` comes after those of the type in front of it, wherever that names it
+    ("(Tuple{<:Int64, U} where U)", 0, 0, 2, false),
+    ("(Tuple{U, <:Int64} where U)", 0, 1, 2, false),
 ];
 
 fn numbers_are_right(alloc: Global) -> Result<bool, TypeFault> {

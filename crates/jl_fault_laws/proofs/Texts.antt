@@ -1,5 +1,5 @@
 -- What is told of a written type has no row here: it is a fault of types.
-use Rattle.std.proofs.Common.{ℕ, Bool, true, false, cond, not, ◌||◌, nat_eq, List, [], ◌∷◌, map, drop, length, ◌≡◌, Option, Some, None, refl, sym, subst, slice_get}
+use Rattle.std.proofs.Common.{ℕ, Bool, true, false, cond, not, ◌||◌, ◌&&◌, nat_eq, nat_lt, List, [], ◌∷◌, ◌++◌, map, drop, length, ◌≡◌, Option, Some, None, refl, sym, subst, slice_get}
 use Rattle.jl_model.specs.declared.ty.Ty.{Ty, out-Ty}
 use Rattle.jl_model.specs.declared.ty.Ty.TheOpen.{Ty-F}
 use Rattle.jl_model.specs.declared.ty.Ty.TheOpen as L
@@ -20,11 +20,13 @@ use Rattle.jl_written.specs.declared.fault.StaticKind.TheVariants as kind
 use Rattle.jl_written.specs.declared.reading.Named.{Named}
 use Rattle.jl_written.specs.declared.reading.Named.TheVariants as N
 use Rattle.jl_written.specs.declared.reading.Reading.{Reading}
+use Rattle.jl_written.specs.declared.reading.Swap.{Swap}
 use Rattle.jl_written.specs.declared.reading.TypeVar.{TypeVar}
 use Rattle.jl_written.specs.Answered.{first_of, comes_before}
 use Rattle.jl_written.specs.Meaning.{var_of, named}
-use Rattle.jl_written.specs.Reads.{Typed, TypeReads, ArgReads, VarReads, unread, note, unknown, used, missing, fresh, placed_layer, placed, arguments, members, rebound, guarded, bind, bind_all, where_at, within, plain, applied, type_step, arg_step, var_step, type_reads, arg_reads, var_reads}
+use Rattle.jl_written.specs.Reads.{Typed, Types, TypeReads, ArgReads, VarReads, unread, note, unknown, used, missing, fresh, placed_layer, placed, arguments, members, rebound, guarded, bind, bind_all, where_at, swapped, within, plain, applied, type_step, arg_step, var_step, type_reads, arg_reads, var_reads}
 use Rattle.jl_written.specs.Signatures.{option_reads, all_read, all_bound, adopted, written_of, signature, shifted, body_type, constructor_type, width_of}
+use Rattle.jl_written.specs.TextOrder.{ordered_by, one_ordered_by}
 use Rattle.jl_resolve_forms.specs.declared.known.Known.{Known}
 use Rattle.jl_resolve_forms.specs.declared.state.Scope.{Scope}
 use Rattle.jl_resolve_forms.specs.declared.state.State.{State}
@@ -108,6 +110,22 @@ where_other : (vs : List VarReads) (inside : Bool) (r : Reading) → IsOther r.f
 where_other [] inside r h = h
 where_other (v ∷ vs) inside r h = h
 
+swap_other : (b : Bool) (s : Swap) (r : Reading) → IsOther r.fault → IsOther (cond b (record r { swaps = r.swaps ++ s ∷ [] }) r).fault
+swap_other true s r h = h
+swap_other false s r h = h
+
+swapped_other : (start middle : ℕ) (r : Reading) → IsOther r.fault → IsOther (swapped start middle r).fault
+swapped_other start middle r h = swap_other (nat_lt start middle && nat_lt middle (length r.vars)) (record { start = start; middle = middle; stop = length r.vars }) r h
+
+-- the order of the text changes no fault
+ordered_other : (ss : List Swap) (ts : Types) → IsOther ts.after.fault → IsOther (ordered_by ss ts).after.fault
+ordered_other [] ts h = h
+ordered_other (s ∷ ss) ts h = h
+
+one_ordered_other : (ss : List Swap) (t : Typed) → IsOther t.after.fault → IsOther (one_ordered_by ss t).after.fault
+one_ordered_other [] t h = h
+one_ordered_other (s ∷ ss) t h = h
+
 each_map : {A B : Type 0} (P : B → Type 0) (f : A → B) (xs : List A) → EachText (λ x. P (f x)) xs → EachText P (map f xs)
 each_map P f [] h = tt
 each_map P f (x ∷ xs) h = (h.0, each_map P f xs h.1)
@@ -136,7 +154,8 @@ module _ (ds : List Decl) where
   within_other : (t : TypeReads) → KeepsType t → (vs : List VarReads) → EachText KeepsVar vs → KeepsType (within t vs)
   within_other t k vs l vars inside r h =
       let s = bind_all vs vars inside (where_at vs inside r) in
-      k s.vars inside s.after (bind_all_other vs l vars inside (where_at vs inside r) (where_other vs inside r h))
+      let u = t s.vars inside s.after in
+      swapped_other (length r.vars) (length s.after.vars) u.after (k s.vars inside s.after (bind_all_other vs l vars inside (where_at vs inside r) (where_other vs inside r h)))
 
   cases : TextCases (λ t. KeepsArg (arg_reads ds t)) (λ t. KeepsType (type_reads ds t)) (λ t. KeepsVar (var_reads ds t))
   cases = record {
@@ -176,7 +195,10 @@ module _ (ds : List Decl) where
   bound_other vs vars r h = bind_all_other (map (var_reads ds) vs) (each_map KeepsVar (var_reads ds) vs (each_all (λ v. KeepsVar (var_reads ds v)) var_other vs)) vars false r h
 
   body_other : (statics : List TypeVar) (t : TypeText) → IsOther (body_type ds statics t).after.fault
-  body_other statics t = type_other t (shifted (width_of ds statics t) statics) false unread tt
+  body_other statics t =
+      let vars = shifted (width_of ds statics t) statics in
+      let raw = type_reads ds t vars false unread in
+      one_ordered_other raw.after.swaps raw (type_other t vars false unread tt)
 
   made_other : (p : ℕ) (bs : List Bound) (statics : List TypeVar) (xs : List ArgText) → IsOther (constructor_type ds p bs statics xs).after.fault
   made_other p bs statics xs = arguments_other bs (map (arg_reads ds) xs) (each_map KeepsArg (arg_reads ds) xs (each_all (λ x. KeepsArg (arg_reads ds x)) arg_other xs)) (shifted 0 statics) false unread tt
@@ -237,8 +259,9 @@ signed_other : (t : Tests) (k : Known) → TellTypes t → (types : ℕ) (h : He
 signed_other t k q types h =
     let ds = declared_at k types in
     let s = all_bound ds h.vars [] unread in
+    let ts = all_read ds (map type_of h.params) s.vars s.after in
     let g = signature ds (map type_of h.params) h.vars in (
-      all_other ds (map type_of h.params) s.vars s.after (bound_other ds h.vars [] unread tt),
+      ordered_other ts.after.swaps ts (all_other ds (map type_of h.params) s.vars s.after (bound_other ds h.vars [] unread tt)),
       refusal_other t.signature q.signature g.types.after (written_of t.below g.types),
     )
 

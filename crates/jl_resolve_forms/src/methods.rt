@@ -34,6 +34,7 @@ use jl_written::names::{is_builtin, small};
 use jl_written::reading::{Reading, TypeVar};
 use jl_written::reads::{bind_all, read_type};
 use jl_written::signatures::{adopted, unread};
+use jl_written::text_order::order_types;
 use jl_written::vars::{Around, TypeVars};
 use std::alloc::{AllocError, Global};
 
@@ -126,7 +127,8 @@ fn all_read(
     tys.into_shared(alloc)
 }
 
-/// The types of a method's parameters, where the variables of its `where` are visible.
+/// The types of a method's parameters, where the variables of its `where` are visible. These come first, and all others
+/// after them in text order.
 fn signature(
     alloc: Global,
     decls: &FirstDecls<'_>,
@@ -140,6 +142,7 @@ fn signature(
     let mut reading = unread(alloc);
     bind_all(alloc, &around, &mut visible, &mut reading, vars, false)?;
     let types = all_read(alloc, &around, &mut visible, &mut reading, params)?;
+    let types = order_types(alloc, &mut reading, types)?;
     Ok(SignatureRead {
         vars: visible,
         types,

@@ -20,7 +20,7 @@ adopted_length below (p ∷ ps) bs =
     ∙ one_length (nat_lt p.var (length bs)) (below p.high (get_or bs p.var free).high) bs p.var p.high
 
 module _ (P : Ty → Type 0) where
-  set_has : (bs : List Bound) (v : ℕ) (b : Bound) → BoundsHave P bs → BoundHas P b → BoundsHave P (slice_set bs v b)
+  pub set_has : (bs : List Bound) (v : ℕ) (b : Bound) → BoundsHave P bs → BoundHas P b → BoundsHave P (slice_set bs v b)
   set_has [] v b h g = tt
   set_has (a ∷ bs) zero b h g = (g, h.1)
   set_has (a ∷ bs) (suc v) b h g = (h.0, set_has bs v b h.1 g)

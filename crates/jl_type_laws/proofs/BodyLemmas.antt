@@ -1,5 +1,5 @@
 -- The types in bodies, and of explicit constructors: where no fault stands they may stand there.
-use Rattle.std.proofs.Common.{◌≡◌, ◌∙◌, sym, ap, refl, ℕ, ◌+◌, ◌-◌, ◌≤◌, arith, Bool, true, false, ◌||◌, cond, nat_lt, List, [], ◌∷◌, length, length-take, take, get_or, Option, None, Some}
+use Rattle.std.proofs.Common.{◌≡◌, ◌∙◌, sym, ap, subst, refl, ℕ, ◌+◌, ◌-◌, ◌<◌, ◌≤◌, arith, Bool, true, false, ◌||◌, cond, nat_lt, List, [], ◌∷◌, length, length-take, take, get_or, Option, None, Some}
 use Rattle.std.specs.List.{flat_map, list_all}
 use Rattle.jl_model.specs.declared.ty.Ty.{Ty}
 use Rattle.jl_model.specs.declared.ty.Ty.TheViews as V
@@ -19,8 +19,9 @@ use Rattle.jl_written.specs.declared.fault.StaticKind.{StaticKind}
 use Rattle.jl_written.specs.declared.fault.StaticKind.TheVariants as kind
 use Rattle.jl_written.specs.declared.reading.Reading.{Reading}
 use Rattle.jl_written.specs.declared.reading.TypeVar.{TypeVar}
-use Rattle.jl_written.specs.Reads.{unread}
+use Rattle.jl_written.specs.Reads.{unread, type_reads}
 use Rattle.jl_written.specs.Signatures.{adopted, shifted, width_of, body_type}
+use Rattle.jl_written.specs.TextOrder.{text_places, number_in}
 use Rattle.jl_resolve_forms.specs.declared.known.Known.{Known}
 use Rattle.jl_resolve_forms.specs.declared.state.Scope.{Scope}
 use Rattle.jl_resolve_forms.specs.declared.state.State.{State}
@@ -32,6 +33,8 @@ use Rattle.jl_type_laws.specs.Told.{StaticsFit, IsSeenType}
 use Rattle.jl_type_laws.proofs.GrowLemmas.{never_none, fault_at, or_left}
 use Rattle.jl_type_laws.proofs.CarryLemmas.{lt_true, all_pass, bounds_pass, all_join, all_flat, all_take, closed_params, known_carried, vars_carried, all_carried}
 use Rattle.jl_type_laws.proofs.AdoptLemmas.{adopted_length, adopted_has}
+use Rattle.jl_type_laws.specs.Grown.{SwapsFit}
+use Rattle.jl_type_laws.proofs.OrderLemmas.{number_below, number_kept, known_kept, vars_kept, one_ordered_passes, one_ordered_told}
 use Rattle.jl_type_laws.proofs.ReadLemmas.{type_law}
 use Rattle.jl_type_laws.proofs.WideLemmas.{width_is}
 
@@ -91,6 +94,14 @@ shifted_fit w n flags (v ∷ vs) e f = (
 own_stand : (flags : List Bool) (r : Reading) → NumbersHave (λ v. may_stand (length r.vars) flags v ≡ true) r
 own_stand flags r n l = or_left (nat_lt n (length r.vars)) (get_or flags (n - length r.vars) false) (lt_true n (length r.vars) l)
 
+stays_by : (flags : List Bool) (n v w : ℕ) (b : Bool) → nat_lt v n ≡ b → (v < n → w < n) → (n ≤ v → w ≡ v) → may_stand n flags v ≡ true → may_stand n flags w ≡ true
+stays_by flags n v w true e l k h = or_left (nat_lt w n) (get_or flags (w - n) false) (lt_true w n (l (grind (arith, e))))
+stays_by flags n v w false e l k h = ap (λ z. may_stand n flags z) (k (grind (arith, e))) ∙ h
+
+-- with its number in the text a variable may stand where it may without
+stays_seen : (flags : List Bool) (r : Reading) → SwapsFit (length r.vars) r.swaps → (v : ℕ) → may_stand (length r.vars) flags v ≡ true → may_stand (length r.vars) flags (number_in (text_places r) v) ≡ true
+stays_seen flags r f v h = stays_by flags (length r.vars) v (number_in (text_places r) v) (nat_lt v (length r.vars)) refl (number_below r f v) (number_kept r v) h
+
 -- nothing is asked of the visible variables
 pub all_visible : (vs : List TypeVar) → Visible (λ v u. Unit {0}) vs
 all_visible [] = tt
@@ -126,19 +137,26 @@ module _ (t : Tests) (k : Known) (declared : DeclsKnown k.decls) (flags : List B
       let w = one_type ty.ty (adopted t.below r.places r.vars) in
       let n = noted_none (begins text) (refusal t.body r w) (merged r.fault s) e in
       let m = merged_none r.fault s n.1 in
-      let ck = known_at k.decls declared c.types in
-      let q = may_stand (length r.vars) flags in
-      let cv = vars_at k.decls declared c.types q in
       let vars = shifted (width_of Decls c.statics text) c.statics in
+      let raw = type_reads Decls text vars false unread in
+      let as_it_was = one_ordered_told raw raw.after.swaps in
+      let ck = known_at k.decls declared c.types in
+      let q = may_stand (length raw.after.vars) flags in
+      let cv = vars_at k.decls declared c.types q in
+      let cw = vars_at k.decls declared c.types (may_stand (length r.vars) flags) in
       let wide = sym (width_is Decls c.statics text (width_of Decls c.statics text)) in
       let lk = type_law Decls _ _ _ _ ck text vars false unread in
       let lv = type_law Decls _ _ _ _ cv text vars false unread in
-      let known = lk.holds tt (λ v l. tt) (all_visible vars) (nothing_has _) in
-      let own = lv.holds m.0 (own_stand flags r) (shifted_fit (width_of Decls c.statics text) (length r.vars) flags c.statics wide fit) (nothing_has _) in
+      let f = sym as_it_was.fault_is ∙ m.0 in
+      let read = lk.holds tt (λ v l. tt) (all_visible vars) (nothing_has _) in
+      let known = one_ordered_passes (is_known (length k.decls)) raw (known_kept (length k.decls) (text_places raw.after)) raw.after.swaps read.0 read.1 in
+      let owned = lv.holds f (own_stand flags raw.after) (shifted_fit (width_of Decls c.statics text) (length raw.after.vars) flags c.statics wide fit) (nothing_has _) in
+      let seen = one_ordered_passes (vars_pass q) raw (vars_kept q (text_places raw.after) (stays_seen flags raw.after (lv.grows.fits tt))) raw.after.swaps owned.0 owned.1 in
+      let own = subst (λ n. Passes (vars_pass (may_stand n flags)) ty.ty × ReadingHas (Passes (vars_pass (may_stand n flags))) r) (sym as_it_was.length_is) seen in
       record {
         unfaulted = m.1;
-        seen = seen_of k.decls flags t.below ty.ty r known (ck.union [] tt) ck.any own (cv.union [] tt) cv.any;
-        allowed = untold r.misplaced r.unclear kind.VariablePlace (t.body w) (lv.grows.told m.0) n.0;
+        seen = seen_of k.decls flags t.below ty.ty r known (ck.union [] tt) ck.any own (cw.union [] tt) cw.any;
+        allowed = untold r.misplaced r.unclear kind.VariablePlace (t.body w) (as_it_was.unclear_is ∙ lv.grows.told f) n.0;
       }
 
   pub body_seen : (text : TypeText) → (body_written t k text c s).after.fault ≡ None → IsSeenType t k.decls flags s (body_written t k text c s)

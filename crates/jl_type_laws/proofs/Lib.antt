@@ -5,6 +5,7 @@ pub mod ReadLemmas
 pub mod CarryLemmas
 pub mod WideLemmas
 pub mod AdoptLemmas
+pub mod OrderLemmas
 pub mod BodyLemmas
 pub mod MadeLemmas
 pub mod SignedLemmas

@@ -17,6 +17,7 @@ use Rattle.jl_written.specs.declared.reading.TypeVar.{TypeVar}
 use Rattle.jl_written.specs.Meaning.{var_of}
 use Rattle.jl_written.specs.Reads.{VarReads, unread, bound_name, guarded, bind, bind_all, var_reads}
 use Rattle.jl_written.specs.Signatures.{all_bound, all_read, option_reads, written_of}
+use Rattle.jl_written.specs.TextOrder.{in_text_order, text_places, number_in}
 use Rattle.jl_resolve_forms.specs.declared.known.Known.{Known}
 use Rattle.jl_resolve_forms.specs.Expressions.{type_of, static_parameters, signed}
 use Rattle.jl_resolve_forms.specs.TypesIn.{Tests, declared_at}
@@ -27,6 +28,7 @@ use Rattle.jl_type_laws.specs.Told.{StaticsFit, IsGoodSignature}
 use Rattle.jl_type_laws.proofs.GrowLemmas.{grows_trans}
 use Rattle.jl_type_laws.proofs.CarryLemmas.{lt_true, all_pass, all_flat}
 use Rattle.jl_type_laws.proofs.AdoptLemmas.{adopted_length}
+use Rattle.jl_type_laws.proofs.OrderLemmas.{number_below, known_kept, vars_kept, ordered_passes, ordered_told, ordered_count}
 use Rattle.jl_type_laws.proofs.ReadLemmas.{all_law, bound_law}
 use Rattle.jl_type_laws.proofs.BodyLemmas.{untold, known_at, vars_at, types_pass, nothing_has}
 
@@ -80,7 +82,10 @@ module _ (t : Tests) (k : Known) (declared : DeclsKnown k.decls) (types : ℕ) (
       let s = all_bound ds head.vars [] unread in
       let ts = all_read ds texts s.vars s.after in
       let r = ts.after in
-      let w = written_of t.below ts in
+      let us = in_text_order ts in
+      let w = written_of t.below us in
+      let as_it_was = ordered_told ts r.swaps in
+      let f = sym as_it_was.fault_is ∙ e in
       let q : ℕ → Bool = λ v. nat_lt v (length r.vars) in
       let ck = known_at k.decls declared types in
       let cv = vars_at k.decls declared types q in
@@ -89,17 +94,20 @@ module _ (t : Tests) (k : Known) (declared : DeclsKnown k.decls) (types : ℕ) (
       let lk = all_law ds _ _ _ _ ck texts s.vars s.after in
       let lv = all_law ds _ _ _ _ cv texts s.vars s.after in
       let long = lv.grows.longer in
-      let known_vars = bk.holds tt (λ v l. tt) tt (nothing_has _) in
-      let known = lk.holds tt (λ v l. tt) known_vars.0 known_vars.1 in
-      let own_vars = bv.holds (lv.grows.faultless e) (λ v l. lt_true v (length r.vars) (omega (arith, l, long))) tt (nothing_has _) in
-      let own = lv.holds e (λ v l. lt_true v (length r.vars) l) own_vars.0 own_vars.1 in
-      let same : length w.vars ≡ length r.vars = adopted_length t.below r.places r.vars in
       let grown = grows_trans unread s.after r bv.grows lv.grows in
+      let known_vars = bk.holds tt (λ v l. tt) tt (nothing_has _) in
+      let read = lk.holds tt (λ v l. tt) known_vars.0 known_vars.1 in
+      let known = ordered_passes (is_known (length k.decls)) ts (known_kept (length k.decls) (text_places r)) r.swaps read.0 read.1 in
+      let own_vars = bv.holds (lv.grows.faultless f) (λ v l. lt_true v (length r.vars) (omega (arith, l, long))) tt (nothing_has _) in
+      let owned = lv.holds f (λ v l. lt_true v (length r.vars) l) own_vars.0 own_vars.1 in
+      let stays : (v : ℕ) → q v ≡ true → q (number_in (text_places r) v) ≡ true = λ v h. lt_true (number_in (text_places r) v) (length r.vars) (number_below r (grown.fits tt) v (lt_of v (length r.vars) h)) in
+      let own = ordered_passes (vars_pass q) ts (vars_kept q (text_places r) stays) r.swaps owned.0 owned.1 in
+      let same : length w.vars ≡ length r.vars = adopted_length t.below us.after.places us.after.vars ∙ as_it_was.length_is in
       record {
-        own = ap (λ z. list_all (λ v. nat_lt v z) (flat_map vars_in ts.tys)) same ∙ all_flat q ts.tys ∙ all_pass (vars_pass q) ts.tys own.0;
-        known = types_pass (is_known (length k.decls)) t.below r ts.tys (ck.union [] tt) ck.any known.1 known.0;
-        allowed = untold r.misplaced r.unclear kind.VariablePlace (t.signature w) (grown.told e) n;
-        counted = sym (read_length ds texts s.vars s.after ∙ types_length head.params);
+        own = ap (λ z. list_all (λ v. nat_lt v z) (flat_map vars_in us.tys)) same ∙ all_flat q us.tys ∙ all_pass (vars_pass q) us.tys own.0;
+        known = types_pass (is_known (length k.decls)) t.below us.after us.tys (ck.union [] tt) ck.any known.1 known.0;
+        allowed = untold us.after.misplaced us.after.unclear kind.VariablePlace (t.signature w) (as_it_was.unclear_is ∙ grown.told f) n;
+        counted = sym (ordered_count ts r.swaps ∙ read_length ds texts s.vars s.after ∙ types_length head.params);
         statics = statics_fit w s.vars (widened w.vars s.vars (sym same) own_vars.0) (all_usable (map (var_reads ds) head.vars) [] false unread tt);
       }
     where

@@ -1,5 +1,5 @@
 -- A property that goes by the parts is carried through each step of reading.
-use Rattle.std.proofs.Common.{◌≡◌, ap, refl, ℕ, suc, ◌+◌, ◌≤◌, ◌<◌, arith, Bool, true, false, cond, List, [], ◌∷◌, ◌++◌, map, length, drop, Option, None, Some, ◌⊎◌, inl, inr, codes, slice_get}
+use Rattle.std.proofs.Common.{◌≡◌, ap, refl, ℕ, suc, ◌+◌, ◌≤◌, ◌<◌, arith, Bool, true, false, ◌&&◌, cond, nat_lt, List, [], ◌∷◌, ◌++◌, map, length, drop, Option, None, Some, ◌⊎◌, inl, inr, codes, slice_get}
 use Rattle.jl_model.specs.declared.ty.Ty.{Ty, out-Ty}
 use Rattle.jl_model.specs.declared.ty.Ty.TheOpen.{Ty-F}
 use Rattle.jl_model.specs.declared.ty.Ty.TheOpen as L
@@ -14,12 +14,13 @@ use Rattle.jl_written.specs.declared.reading.Named.{Named}
 use Rattle.jl_written.specs.declared.reading.Named.TheVariants as M
 use Rattle.jl_written.specs.declared.reading.Place.{Place}
 use Rattle.jl_written.specs.declared.reading.Reading.{Reading}
+use Rattle.jl_written.specs.declared.reading.Swap.{Swap}
 use Rattle.jl_written.specs.declared.reading.TypeVar.{TypeVar}
 use Rattle.jl_written.specs.Meaning.{place_from, place_of, later, var_of, nominal_of, word_of, var_or, named}
-use Rattle.jl_written.specs.Reads.{TypeReads, ArgReads, VarReads, note, unknown, used, fresh, missing, placed, placed_layer, arguments, members, rebound, bound_name, guarded, bind, bind_all, where_at, within, plain, applied}
+use Rattle.jl_written.specs.Reads.{TypeReads, ArgReads, VarReads, note, unknown, used, fresh, missing, placed, placed_layer, arguments, members, rebound, bound_name, guarded, bind, bind_all, where_at, swapped, within, plain, applied}
 use Rattle.jl_type_laws.specs.Grown.{Grows}
 use Rattle.jl_type_laws.specs.Carried.{AllHave, BoundHas, BoundsHave, PlacesHave, ReadingHas, Visible, NumbersHave, IsCarried}
-use Rattle.jl_type_laws.proofs.GrowLemmas.{one_longer, grows_refl, grows_trans, grows_note, grows_unknown, grows_unclear, grows_brought, grows_bound, grows_fresh}
+use Rattle.jl_type_laws.proofs.GrowLemmas.{one_longer, grows_refl, grows_trans, grows_note, grows_unknown, grows_unclear, grows_brought, grows_bound, grows_fresh, grows_swapped}
 use Rattle.jl_type_laws.proofs.TextInduction.{EachText}
 
 pub bounds_append : (P : Ty → Type 0) (bs : List Bound) (b : Bound) → BoundsHave P bs → BoundHas P b → BoundsHave P (bs ++ b ∷ [])
@@ -108,7 +109,7 @@ module _ (ds : List Decl) (P : Ty → Type 0) (N : ℕ → Type 0) (S : ℕ → 
 
   placed_layer_steps : {F : Type 0} (high : Ty) (y : Ty-F Ty) (r : Reading) → P high → Steps r (placed_layer high y r) F F
   placed_layer_steps high (L.Var v) r p = record {
-    grows = let g = grows_refl r in record { longer = g.longer; faultless = g.faultless; named = g.named; told = g.told; unclear = g.unclear; misplaced = g.misplaced };
+    grows = let g = grows_refl r in record { longer = g.longer; fits = g.fits; faultless = g.faultless; named = g.named; told = g.told; unclear = g.unclear; misplaced = g.misplaced };
     holds = λ e n g h. (g, record { bounds = h.bounds; places = places_append P r.places (record { var = v; high = high }) h.places p });
   }
   placed_layer_steps high L.Any r p = still r (λ g. g)
@@ -183,10 +184,22 @@ module _ (ds : List Decl) (P : Ty → Type 0) (N : ℕ → Type 0) (S : ℕ → 
   where_steps [] inside r = still r (λ g. g)
   where_steps (v ∷ vs) inside r = record { grows = grows_brought inside r; holds = λ e n g h. (g, record { bounds = h.bounds; places = h.places }) }
 
+  swapped_has : (b : Bool) (s : Swap) (r : Reading) → ReadingHas P r → ReadingHas P (cond b (record r { swaps = r.swaps ++ s ∷ [] }) r)
+  swapped_has true s r h = record { bounds = h.bounds; places = h.places }
+  swapped_has false s r h = h
+
+  swapped_steps : {F : Type 0} (start middle : ℕ) (r : Reading) → Steps r (swapped start middle r) F F
+  swapped_steps start middle r = record {
+    grows = grows_swapped start middle r;
+    holds = λ e n g h. (g, swapped_has (nat_lt start middle && nat_lt middle (length r.vars)) (record { start = start; middle = middle; stop = length r.vars }) r h);
+  }
+
   pub within_law : (t : TypeReads) → TypeLaw t → (vs : List VarReads) → EachText VarLaw vs → TypeLaw (within t vs)
   within_law t k vs l vars inside r =
       let s = bind_all vs vars inside (where_at vs inside r) in
-      then_ (where_steps vs inside r) (then_ (bind_all_steps vs l vars inside (where_at vs inside r)) (k s.vars inside s.after))
+      let u = t s.vars inside s.after in
+      then_ (where_steps vs inside r)
+      (then_ (bind_all_steps vs l vars inside (where_at vs inside r)) (then_ (k s.vars inside s.after) (swapped_steps (length r.vars) (length s.after.vars) u.after)))
 
   -- ---- names
 

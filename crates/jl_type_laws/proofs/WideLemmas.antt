@@ -1,5 +1,5 @@
 -- How many variables a text brings does not depend on the numbers of the visible variables.
-use Rattle.std.proofs.Common.{◌≡◌, ◌∙◌, sym, ap, subst, refl, ℕ, arith, Bool, true, false, cond, List, [], ◌∷◌, ◌++◌, map, length, length-append, drop, Option, None, Some, slice_get}
+use Rattle.std.proofs.Common.{◌≡◌, ◌∙◌, sym, ap, subst, refl, ℕ, arith, Bool, true, false, ◌&&◌, cond, nat_lt, List, [], ◌∷◌, ◌++◌, map, length, length-append, drop, Option, None, Some, slice_get}
 use Rattle.jl_model.specs.declared.ty.Ty.{Ty, out-Ty}
 use Rattle.jl_model.specs.declared.ty.Ty.TheOpen.{Ty-F}
 use Rattle.jl_model.specs.declared.ty.Ty.TheOpen as L
@@ -14,9 +14,10 @@ use Rattle.jl_written.specs.declared.fault.StaticKind.TheVariants as kind
 use Rattle.jl_written.specs.declared.reading.Named.{Named}
 use Rattle.jl_written.specs.declared.reading.Named.TheVariants as M
 use Rattle.jl_written.specs.declared.reading.Reading.{Reading}
+use Rattle.jl_written.specs.declared.reading.Swap.{Swap}
 use Rattle.jl_written.specs.declared.reading.TypeVar.{TypeVar}
 use Rattle.jl_written.specs.Meaning.{names_of, later, var_of, word_of, var_or}
-use Rattle.jl_written.specs.Reads.{TypeReads, ArgReads, VarReads, note, unread, used, fresh, missing, placed, placed_layer, arguments, members, bound_name, guarded, bind, bind_all, where_at, within, plain, applied, type_step, arg_step, var_step, type_reads, arg_reads, var_reads}
+use Rattle.jl_written.specs.Reads.{TypeReads, ArgReads, VarReads, note, unread, used, fresh, missing, placed, placed_layer, arguments, members, bound_name, guarded, bind, bind_all, where_at, swapped, within, plain, applied, type_step, arg_step, var_step, type_reads, arg_reads, var_reads}
 use Rattle.jl_written.specs.Signatures.{shifted, width_of}
 use Rattle.jl_type_laws.proofs.TextInduction.{EachText, TextCases, by_type}
 use Rattle.jl_type_laws.proofs.ReadLemmas.{each_map}
@@ -53,6 +54,13 @@ guarded_same at false r = refl
 where_same : (vs : List VarReads) (i : Bool) (r : Reading) → (where_at vs i r).vars ≡ r.vars
 where_same [] i r = refl
 where_same (v ∷ vs) i r = refl
+
+swap_same : (b : Bool) (s : Swap) (r : Reading) → (cond b (record r { swaps = r.swaps ++ s ∷ [] }) r).vars ≡ r.vars
+swap_same true s r = refl
+swap_same false s r = refl
+
+swapped_same : (start middle : ℕ) (r : Reading) → (swapped start middle r).vars ≡ r.vars
+swapped_same start middle r = swap_same (nat_lt start middle && nat_lt middle (length r.vars)) (record { start = start; middle = middle; stop = length r.vars }) r
 
 abbrev TypeWide : TypeReads → Type 0
 TypeWide t = (a b : List TypeVar) → names_of a ≡ names_of b → (i : Bool) (r q : Reading) → Same r q → Same (t a i r).after (t b i q).after
@@ -177,7 +185,11 @@ within_wide t k vs l a b n i r q h =
     let s = bind_all vs a i (where_at vs i r) in
     let u = bind_all vs b i (where_at vs i q) in
     let w = bind_all_wide vs l a b n i (where_at vs i r) (where_at vs i q) (e ∙ h ∙ sym f) in
-    k s.vars u.vars w.0 i s.after u.after w.1
+    let x = t s.vars i s.after in
+    let y = t u.vars i u.after in
+    ap (λ z. length z) (swapped_same (length r.vars) (length s.after.vars) x.after)
+    ∙ k s.vars u.vars w.0 i s.after u.after w.1
+    ∙ sym (ap (λ z. length z) (swapped_same (length q.vars) (length u.after.vars) y.after))
 
 module _ (ds : List Decl) where
   cases : TextCases (λ t. ArgWide (arg_reads ds t)) (λ t. TypeWide (type_reads ds t)) (λ t. VarWide (var_reads ds t))

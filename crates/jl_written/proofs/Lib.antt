@@ -2,3 +2,4 @@ pub mod PlaceLemmas
 pub mod TextLemmas
 pub mod ScopeLemmas
 pub mod VarLemmas
+pub mod OrderLemmas

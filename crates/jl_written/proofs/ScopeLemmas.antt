@@ -13,7 +13,7 @@ use Rattle.jl_typeread.specs.declared.tree.VarText.{VarText}
 use Rattle.jl_typeread.specs.declared.tree.ArgText.TheViews as A
 use Rattle.jl_typeread.specs.declared.tree.ArgText.TheOpen as F
 use Rattle.jl_typeread.specs.declared.tree.ArgText.TheFolds.{fold-roll-TypeText}
-use Rattle.jl_written.specs.Reads.{arg_step, type_step, var_step, ArgReads, type_reads, var_reads, TypeReads, VarReads, Scoped, typed, scoped, bound_name, bind, bind_all, guarded, where_at, within}
+use Rattle.jl_written.specs.Reads.{arg_step, type_step, var_step, ArgReads, type_reads, var_reads, TypeReads, VarReads, Typed, Scoped, typed, scoped, bound_name, bind, bind_all, guarded, where_at, swapped, within}
 
 one_more : (at : ℕ) (name : List ℕ) (b : Bound) (vars : List TypeVar) (r : Reading) (o : Option TypeVar) → (more : List TypeVar) × ((bound_name at name b vars r o).vars ≡ vars ++ more)
 one_more at name b vars r o = (_, refl)
@@ -27,14 +27,17 @@ more_of (v ∷ vs) vars inside r =
     let rest = more_of vs s.vars inside s.after in
     (one.0 ++ rest.0, rest.1 ∙ ap (λ x. x ++ rest.0) one.1 ∙ append_assoc vars one.0 rest.0)
 
--- a type in parentheses, step by step: the variables of its `where`, and then the type
+-- a type in parentheses, step by step: the variables of its `where`, then the type, and how they stand in the text
 pub within_steps :
-    (t : TypeReads) (vs : List VarReads) (vars vars1 : List TypeVar) (inside : Bool) (r r1 r2 r3 : Reading) (ty : Ty)
-    → r1 ≡ where_at vs inside r → scoped vars1 r2 ≡ bind_all vs vars inside r1 → typed ty r3 ≡ t vars1 inside r2
-    → typed ty r3 ≡ within t vs vars inside r
-within_steps t vs vars vars1 inside r r1 r2 r3 ty w b e =
-    let s = b ∙ ap (bind_all vs vars inside) w in
-    e ∙ ap (λ (z : Scoped). t z.vars inside z.after) s
+    (t : TypeReads) (vs : List VarReads) (vars vars1 : List TypeVar) (inside : Bool) (r r1 r2 r3 r4 : Reading) (ty : Ty) (start middle : ℕ)
+    → start ≡ length r.vars → middle ≡ length r2.vars
+    → r1 ≡ where_at vs inside r → scoped vars1 r2 ≡ bind_all vs vars inside r1 → typed ty r3 ≡ t vars1 inside r2 → r4 ≡ swapped start middle r3
+    → typed ty r4 ≡ within t vs vars inside r
+within_steps t vs vars vars1 inside r r1 r2 r3 r4 ty start middle f g w b e s =
+    let read = b ∙ ap (bind_all vs vars inside) w in
+    ap (typed ty) (s ∙ ap (λ n. swapped n middle r3) f ∙ ap (λ n. swapped (length r.vars) n r3) g)
+    ∙ ap (λ (z : Typed). typed z.ty (swapped (length r.vars) (length r2.vars) z.after)) e
+    ∙ ap (λ (z : Scoped). let u = t z.vars inside z.after in typed u.ty (swapped (length r.vars) (length z.after.vars) u.after)) read
 
 -- cut to their number, the variables behind it are those of before
 pub within_kept :
@@ -53,14 +56,14 @@ paren_is ds at t vs vars inside r =
     ∙ ap (λ (f : TypeReads). f vars inside r) (fold-roll-TypeText ArgReads TypeReads VarReads (arg_step ds) (type_step ds) (var_step ds) (F.Paren at t vs))
 
 pub paren_read :
-    (ds : List Decl) (text t t1 : TypeText) (at : ℕ) (vs vs1 vs2 : List VarText) (vars vars1 : List TypeVar) (inside : Bool) (r r1 r2 r3 : Reading) (ty : Ty)
-    → text ≡ A.Paren at t vs → t1 ≡ t → vs1 ≡ vs → vs2 ≡ vs
+    (ds : List Decl) (text t t1 : TypeText) (at : ℕ) (vs vs1 vs2 : List VarText) (vars vars1 : List TypeVar) (inside : Bool) (r r1 r2 r3 r4 : Reading) (ty : Ty) (start middle : ℕ)
+    → text ≡ A.Paren at t vs → t1 ≡ t → vs1 ≡ vs → vs2 ≡ vs → start ≡ length r.vars → middle ≡ length r2.vars
     → r1 ≡ where_at (map (var_reads ds) vs1) inside r → scoped vars1 r2 ≡ bind_all (map (var_reads ds) vs2) vars inside r1 → typed ty r3 ≡ type_reads ds t1 vars1 inside r2
-    → typed ty r3 ≡ type_reads ds text vars inside r
-paren_read ds text t t1 at vs vs1 vs2 vars vars1 inside r r1 r2 r3 ty i g e1 e2 w b e =
+    → r4 ≡ swapped start middle r3 → typed ty r4 ≡ type_reads ds text vars inside r
+paren_read ds text t t1 at vs vs1 vs2 vars vars1 inside r r1 r2 r3 r4 ty start middle i g e1 e2 l m w b e s =
     let w1 = w ∙ ap (λ (z : List VarText). where_at (map (var_reads ds) z) inside r) e1 in
     let b1 = b ∙ ap (λ (z : List VarText). bind_all (map (var_reads ds) z) vars inside r1) e2 in
     let e3 = e ∙ ap (λ (z : TypeText). type_reads ds z vars1 inside r2) g in
-    within_steps (type_reads ds t) (map (var_reads ds) vs) vars vars1 inside r r1 r2 r3 ty w1 b1 e3
+    within_steps (type_reads ds t) (map (var_reads ds) vs) vars vars1 inside r r1 r2 r3 r4 ty start middle l m w1 b1 e3 s
     ∙ sym (paren_is ds at t vs vars inside r)
     ∙ sym (ap (λ (z : TypeText). type_reads ds z vars inside r) i)

@@ -1,7 +1,8 @@
 -- What the text of a type means, where the declared types ds stand before it (Julia manual, Types: Parametric Types, UnionAll
 -- Types). A type, an argument and a variable are read from left to right, the variables of a `where` before the type in front
--- of it: each gives what it means, and what is known behind it.
-use Rattle.std.specs.Prelude.{ℕ, Bool, true, false, ◌||◌, cond, List, [], ◌∷◌, ◌++◌, length, drop, Option, Some, None, slice_get}
+-- of it, which names them: each gives what it means, and what is known behind it. A variable has the number of those that were
+-- read before it; `TextOrder` gives it the one that it has in the text.
+use Rattle.std.specs.Prelude.{ℕ, Bool, true, false, ◌||◌, ◌&&◌, cond, nat_lt, List, [], ◌∷◌, ◌++◌, length, drop, Option, Some, None, slice_get}
 use Rattle.jl_model.specs.declared.ty.Ty.{Ty, out-Ty}
 use Rattle.jl_model.specs.declared.ty.Ty.TheOpen.{Ty-F}
 use Rattle.jl_model.specs.declared.ty.Ty.TheOpen as L
@@ -59,7 +60,7 @@ behind us ts = record { tys = us ++ ts.tys; after = ts.after }
 
 -- nothing is known yet
 abbrev pub unread : Reading
-unread = record { vars = []; places = []; fault = None; unknown = false; unclear = false; misplaced = false }
+unread = record { vars = []; places = []; swaps = []; fault = None; unknown = false; unclear = false; misplaced = false }
 
 -- a fault stands at this place
 abbrev pub note : ℕ → StaticKind → Reading → Reading
@@ -179,9 +180,17 @@ abbrev pub where_at : List VarReads → Bool → Reading → Reading
 where_at [] inside r = r
 where_at (v ∷ vs) inside r = brought inside r
 
--- a type with the variables of its `where`, which end with it
+-- In the text, the variables that were read from `start` to `middle` come after those that were read from `middle` until now.
+abbrev pub swapped : ℕ → ℕ → Reading → Reading
+swapped start middle r =
+    cond (nat_lt start middle && nat_lt middle (length r.vars)) (record r { swaps = r.swaps ++ record { start = start; middle = middle; stop = length r.vars } ∷ [] }) r
+
+-- a type with the variables of its `where`, which end with it, and come after those of the type
 abbrev pub within : TypeReads → List VarReads → List TypeVar → Bool → Reading → Typed
-within t vs vars inside r = let s = bind_all vs vars inside (where_at vs inside r) in t s.vars inside s.after
+within t vs vars inside r =
+    let s = bind_all vs vars inside (where_at vs inside r) in
+    let u = t s.vars inside s.after in
+    record { ty = u.ty; after = swapped (length r.vars) (length s.after.vars) u.after }
 
 -- ---- each rule
 

@@ -13,6 +13,7 @@ use Rattle.jl_written.specs.declared.reading.Place.{Place}
 use Rattle.jl_written.specs.declared.reading.Reading.{Reading}
 use Rattle.jl_written.specs.declared.reading.TypeVar.{TypeVar}
 use Rattle.jl_written.specs.Reads.{Types, Typed, Scoped, unread, bind_all, arguments, nominal_of, type_reads, arg_reads, var_reads}
+use Rattle.jl_written.specs.TextOrder.{in_text_order, one_in_text_order}
 
 -- a parameter or a field without a type has the type `Any`
 abbrev pub option_reads : List Decl → Option TypeText → List TypeVar → Reading → Typed
@@ -47,13 +48,14 @@ adopted below (p ∷ ps) bs = adopted below ps (adopted_at below p bs)
 abbrev pub written_of : (Ty → Ty → Bool) → Types → Written
 written_of below ts = record { vars = adopted below ts.after.places ts.after.vars; parts = ts.tys }
 
--- The types of a method's parameters, where the variables of its `where` are visible.
+-- The types of a method's parameters, where the variables of its `where` are visible. These come first, and all others after them
+-- in text order.
 pub record Signature : Type 0 where
   pub vars : List TypeVar
   pub types : Types
 
 abbrev pub signature : List Decl → List (Option TypeText) → List VarText → Signature
-signature ds ts vs = let s = all_bound ds vs [] unread in record { vars = s.vars; types = all_read ds ts s.vars s.after }
+signature ds ts vs = let s = all_bound ds vs [] unread in record { vars = s.vars; types = in_text_order (all_read ds ts s.vars s.after) }
 
 -- the static parameters of a body, where the variables of the type itself have the numbers before them
 abbrev pub shifted : ℕ → List TypeVar → List TypeVar
@@ -73,9 +75,10 @@ or_no_vars (Some vars) = vars
 abbrev pub width_of : List Decl → List TypeVar → TypeText → ℕ
 width_of ds statics t = length (type_reads ds t (shifted 0 statics) false unread).after.vars
 
--- A type in a body: a static parameter has the number of the variables of the type, and its own after that.
+-- A type in a body, whose variables stand in text order: a static parameter has the number of the variables of the type, and its
+-- own after that.
 abbrev pub body_type : List Decl → List TypeVar → TypeText → Typed
-body_type ds statics t = type_reads ds t (shifted (width_of ds statics t) statics) false unread
+body_type ds statics t = one_in_text_order (type_reads ds t (shifted (width_of ds statics t) statics) false unread)
 
 -- The type of an explicit constructor, by the arguments in its braces, whose declared bounds are bs. It is allowed only where
 -- it brings no variable, so that a static parameter has its own number.

@@ -7,4 +7,5 @@ pub mod notes;
 pub mod reading;
 pub mod reads;
 pub mod signatures;
+pub mod text_order;
 pub mod vars;

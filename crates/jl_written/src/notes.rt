@@ -2,14 +2,14 @@
 
 ghost use Rattle.std.specs.Prelude.{◌≡◌, ◌++◌, ◌∷◌, [], length, drop, IfOk, OnOk, Bool};
 ghost use Rattle.jl_written.specs.Answered.{number_of, comes_before, first_of};
-ghost use Rattle.jl_written.specs.Reads.{typed, types, behind, note, unknown, used, brought, fresh, missing, placed};
+ghost use Rattle.jl_written.specs.Reads.{typed, types, behind, note, unknown, used, brought, fresh, missing, placed, swapped};
 
 use crate::fault::{Fault, StaticKind};
 use crate::names::small;
-use crate::reading::{Place, Reading};
+use crate::reading::{Place, Reading, Swap};
 use jl_model::rows::Row;
 use jl_model::ty::{Bound, Ty};
-use std::alloc::AllocError;
+use std::alloc::{AllocError, Global};
 
 /// The number of a fault in the table of static faults.
 fn number_of(kind: StaticKind) -> u8
@@ -112,6 +112,17 @@ pub(crate) fn copy_bound(bound: &Bound) -> Result<Bound, AllocError>
     })
 }
 
+/// Equal bounds, whose types are shared.
+pub(crate) fn copy_bounds(alloc: Global, vars: &[Bound]) -> Result<Vec<Bound>, AllocError>
+    ensures { IfOk result (λ bs. bs.items ≡ vars.now) }
+{
+    let mut bounds = Vec::new(alloc);
+    for var in vars {
+        bounds.push(copy_bound(var)?)?;
+    }
+    Ok(bounds)
+}
+
 /// The arguments that are missing, behind those that are written.
 pub(crate) fn missing(
     state: &mut Reading,
@@ -138,6 +149,21 @@ pub(crate) fn placed(state: &mut Reading, bounds: &[Bound], ty: &Ty) -> Result<(
             let high = bound.high.copy()?;
             state.places.push(Place { var: *var, high })?;
         }
+    }
+    Ok(())
+}
+
+/// In the text, the variables that were read from `start` to `middle` come after those that were read since.
+pub(crate) fn swap(state: &mut Reading, start: usize, middle: usize) -> Result<(), AllocError>
+    ensures { OnOk result (state.new ≡ swapped start middle state.old) }
+{
+    let stop = state.vars.len();
+    if start < middle && middle < stop {
+        state.swaps.push(Swap {
+            start: small(start)?,
+            middle: small(middle)?,
+            stop: small(stop)?,
+        })?;
     }
     Ok(())
 }

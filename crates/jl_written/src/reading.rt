@@ -33,13 +33,24 @@ pub struct Place {
     pub high: Ty,
 }
 
-/// What is known behind a part of the text: the bounds of the variables so far, by their numbers; the places of variables,
-/// in text order; the first fault; whether some name in a type is unknown; whether one is unknown or bound where it is
-/// visible; and whether a variable is brought in an invariant place of another nominal type.
+/// The variables that were read from `start` to `middle` are those of a `where`, and come after those that were read from
+/// `middle` to `stop`, which the type in front of it brings.
+#[derive(Clone, Copy, PartialEq, Eq, Debug)]
+pub struct Swap {
+    pub start: u32,
+    pub middle: u32,
+    pub stop: u32,
+}
+
+/// What is known behind a part of the text: the bounds of the variables so far, in the order in which they were read; the
+/// places of variables, in text order; where the text has another order of variables; the first fault; whether some name
+/// in a type is unknown; whether one is unknown or bound where it is visible; and whether a variable is brought in an
+/// invariant place of another nominal type.
 #[derive(Drop)]
 pub struct Reading {
     pub vars: Row<Bound>,
     pub places: Row<Place>,
+    pub swaps: Row<Swap>,
     pub fault: Option<Fault>,
     pub unknown: bool,
     pub unclear: bool,

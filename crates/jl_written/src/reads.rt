@@ -9,7 +9,7 @@ ghost use Rattle.jl_written.specs.Reads.{typed, types, scoped, bounded, within, 
 
 use crate::fault::StaticKind;
 use crate::names::{is_builtin, small};
-use crate::notes::{brought, fresh, missing, note, placed, unknown, used};
+use crate::notes::{brought, fresh, missing, note, placed, swap, unknown, used};
 use crate::reading::{Named, Reading, TypeVar};
 use crate::vars::{Around, TypeVars, is_bound, named};
 use jl_model::rows::Row;
@@ -220,9 +220,12 @@ pub fn read_type(
         }
         TypeText::Paren(_, ty, variables) => {
             let visible = vars.len();
+            let start = state.vars.len();
             where_at(state, variables.as_slice(), inside);
             bind_all(alloc, around, vars, state, variables.as_slice(), inside)?;
+            let middle = state.vars.len();
             let ty = read_type(alloc, around, vars, state, ty.get(), inside)?;
+            swap(state, start, middle)?;
             vars.truncate(visible);
             Ok(ty)
         }

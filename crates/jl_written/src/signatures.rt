@@ -5,9 +5,10 @@ ghost use Rattle.jl_model.specs.declared.ty.Ty.{Ty};
 ghost use Rattle.jl_written.specs.Reads.{typed, unread, type_reads};
 ghost use Rattle.jl_written.specs.Signatures.{adopted_at, adopted, width_of, body_type, constructor_type};
 
-use crate::notes::copy_bound;
+use crate::notes::copy_bounds;
 use crate::reading::{Place, Reading};
 use crate::reads::{arguments, read_type};
+use crate::text_order::order_type;
 use crate::vars::{Around, Statics, TypeVars};
 use jl_model::rows::Row;
 use jl_model::ty::{Bound, Ty};
@@ -22,6 +23,7 @@ pub fn unread(alloc: Global) -> Reading
     Reading {
         vars: Row::new(alloc),
         places: Row::new(alloc),
+        swaps: Row::new(alloc),
         fault: None,
         unknown: false,
         unclear: false,
@@ -69,19 +71,9 @@ pub fn adopted<O: Order>(
 ) -> Result<Vec<Bound>, AllocError>
     ensures { IfOk result (λ bs. bs.items ≡ adopted (O.below order.now) places.now vars.now) }
 {
-    let mut bounds = copies(alloc, vars)?;
+    let mut bounds = copy_bounds(alloc, vars)?;
     for place in places {
         adopted_at(alloc, order, place, &mut bounds)?;
-    }
-    Ok(bounds)
-}
-
-fn copies(alloc: Global, vars: &[Bound]) -> Result<Vec<Bound>, AllocError>
-    ensures { IfOk result (λ bs. bs.items ≡ vars.now) }
-{
-    let mut bounds = Vec::new(alloc);
-    for var in vars {
-        bounds.push(copy_bound(var)?)?;
     }
     Ok(bounds)
 }
@@ -106,8 +98,8 @@ fn width_of(
     Ok(state.vars.len())
 }
 
-/// What a type in a body means, and what is known behind it. A static parameter of the method has the number of the
-/// type's own variables, and its own after that.
+/// What a type in a body means, with its variables in text order, and what is known behind it. A static parameter of the
+/// method has the number of the type's own variables, and its own after that.
 pub fn body_type(
     alloc: Global,
     decls: &FirstDecls<'_>,
@@ -124,6 +116,7 @@ pub fn body_type(
     let mut vars = TypeVars::new(alloc);
     let mut state = unread(alloc);
     let ty = read_type(alloc, &around, &mut vars, &mut state, text, false)?;
+    let ty = order_type(alloc, &mut state, ty)?;
     Ok((ty, state))
 }
 
