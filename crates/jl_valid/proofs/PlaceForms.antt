@@ -25,7 +25,8 @@ use Rattle.jl_grammar.specs.declared.tree.Param.TheVariants as A
 use Rattle.jl_written.specs.declared.fault.StaticKind.TheVariants as kind
 use Rattle.jl_written.specs.declared.reading.Reading.{Reading}
 use Rattle.jl_written.specs.declared.reading.TypeVar.{TypeVar}
-use Rattle.jl_written.specs.Signatures.{all_read, option_reads}
+use Rattle.jl_written.specs.Reads.{unread}
+use Rattle.jl_written.specs.Signatures.{all_bound, all_read, option_reads}
 use Rattle.jl_resolve_forms.specs.declared.known.Known.{Known}
 use Rattle.jl_resolve_forms.specs.declared.state.Opening.{Opening}
 use Rattle.jl_resolve_forms.specs.declared.state.Scope.{Scope}
@@ -36,6 +37,7 @@ use Rattle.jl_resolve_forms.specs.Functions.{place_of_callee, function_of}
 use Rattle.jl_resolve_forms.specs.Scopes.{noted, merged, with_slot, bind}
 use Rattle.jl_resolve_forms.specs.TypesIn.{Tests, declared_at}
 use Rattle.jl_resolve_forms.specs.Expressions.{Reads, Coded, Says, block_of, bare_scope, spawned, type_of, parameters, static_parameters, names_in, may_define, defined_function, if_unknown, too_many, site_of, reserved, closed, signed, named, opened, method, method_step, expr_step}
+use Rattle.jl_type_laws.proofs.OrderLemmas.{ordered_count}
 use Rattle.jl_valid.specs.Adds.{got, no_got, got_in, got_codes, bodies, stands, Gathers, Every, IsFree, Views, Within, Adds}
 use Rattle.jl_valid.specs.Parts.{Sees, IsCode, flags_of, IsGood, IsSite, IsGoodMethod, IsGoodStmt, Each, IsKnown, IsGoodName, IsGoodHead}
 use Rattle.jl_valid.proofs.FaultLemmas.{noted_none, noted_same, merged_none, merged_same, clean}
@@ -235,7 +237,11 @@ module _ (t : Tests) (k : Known) where
   as_many_types ds (ty ∷ ts) vs r = ap suc (as_many_types ds ts vs (option_reads ds ty vs r).after)
 
   as_many_parts : (types : ℕ) (h : Head) → length (signed t k types h).sig.parts ≡ length h.params
-  as_many_parts types h = as_many_types (declared_at k types) (map type_of h.params) _ _ ∙ length-map h.params type_of
+  as_many_parts types h =
+      let ds = declared_at k types in
+      let s = all_bound ds h.vars [] unread in
+      let ts = all_read ds (map type_of h.params) s.vars s.after in
+      ordered_count ts ts.after.swaps ∙ as_many_types ds (map type_of h.params) s.vars s.after ∙ length-map h.params type_of
 
   -- ---- the head of a method
 
