@@ -2,10 +2,15 @@
 //! defines a method again and again.
 #![tactic(auto)]
 
+#[cfg(test)]
 mod looks;
+#[cfg(test)]
 mod program;
+#[cfg(test)]
 mod rounds;
+#[cfg(test)]
 mod searches;
 #[cfg(test)]
 mod tests;
+#[cfg(test)]
 mod threads;
