@@ -1,4 +1,5 @@
 pub mod RightTests
+pub mod Sound
 pub mod Declared
 pub mod Outlines
 pub mod ScriptRows
