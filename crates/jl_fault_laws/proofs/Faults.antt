@@ -5,7 +5,7 @@ use Rattle.jl_written.specs.declared.fault.StaticKind.{StaticKind}
 use Rattle.jl_written.specs.declared.fault.StaticKind.TheVariants as kind
 use Rattle.jl_resolve_forms.specs.declared.known.Known.{Known}
 use Rattle.jl_fault_laws.specs.Uses.{Use}
-use Rattle.jl_fault_laws.specs.Rows.{unknown_name, unknown_function, unknown_type, too_many_arguments, rebound, name_clash}
+use Rattle.jl_fault_laws.specs.Rows.{unknown_name, unknown_function, unknown_type, too_many_arguments, rebound, duplicate, name_clash}
 use Rattle.jl_fault_laws.proofs.Firsts.{Tells, two, same}
 
 -- a fault where a row holds
@@ -17,7 +17,8 @@ abbrev pub faults_of : Known → Use → List Fault
 faults_of k u = one (name_clash k u.how) kind.NameClash u.at ++ (one (rebound u.how u.visible) kind.Rebound u.at
     ++ (one (unknown_name u.how u.visible) kind.UnknownName u.at
     ++ (one (unknown_function k u.how u.visible) kind.UnknownFunction u.at
-    ++ (one (unknown_type u.how u.visible) kind.UnknownType u.at ++ one (too_many_arguments k u.how u.visible) kind.TooManyArguments u.at))))
+    ++ (one (unknown_type u.how u.visible) kind.UnknownType u.at
+    ++ (one (duplicate u.how u.visible) kind.DuplicateType u.at ++ one (too_many_arguments k u.how u.visible) kind.TooManyArguments u.at)))))
 
 abbrev pub all_faults : Known → List Use → List Fault
 all_faults k [] = []

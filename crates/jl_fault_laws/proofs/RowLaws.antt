@@ -9,7 +9,7 @@ use Rattle.jl_resolve_forms.specs.declared.known.Known.{Known}
 use Rattle.jl_resolve_forms.specs.Top.{resolved}
 use Rattle.jl_resolve_forms.specs.TypesIn.{Tests}
 use Rattle.jl_fault_laws.specs.Uses.{Use, In, names_told, uses_of}
-use Rattle.jl_fault_laws.specs.Rows.{unknown_name, unknown_function, unknown_type, too_many_arguments, rebound, name_clash, holds, has_row, HoldsIn, HoldsAt, IsReportedBy, TellTypes}
+use Rattle.jl_fault_laws.specs.Rows.{unknown_name, unknown_function, unknown_type, too_many_arguments, rebound, duplicate, name_clash, holds, has_row, HoldsIn, HoldsAt, IsReportedBy, TellTypes}
 use Rattle.jl_fault_laws.proofs.Firsts.{in_left, in_right, in_either, only_rows}
 use Rattle.jl_fault_laws.proofs.Order.{least_rows}
 use Rattle.jl_fault_laws.proofs.Faults.{one, faults_of, all_faults}
@@ -40,8 +40,11 @@ one_of k u f x b h i =
 abbrev from_arguments : Known → Use → List Fault
 from_arguments k u = one (too_many_arguments k u.how u.visible) kind.TooManyArguments u.at
 
+abbrev from_duplicate : Known → Use → List Fault
+from_duplicate k u = one (duplicate u.how u.visible) kind.DuplicateType u.at ++ from_arguments k u
+
 abbrev from_type : Known → Use → List Fault
-from_type k u = one (unknown_type u.how u.visible) kind.UnknownType u.at ++ from_arguments k u
+from_type k u = one (unknown_type u.how u.visible) kind.UnknownType u.at ++ from_duplicate k u
 
 abbrev from_function : Known → Use → List Fault
 from_function k u = one (unknown_function k u.how u.visible) kind.UnknownFunction u.at ++ from_type k u
@@ -52,12 +55,19 @@ from_name k u = one (unknown_name u.how u.visible) kind.UnknownName u.at ++ from
 abbrev from_rebound : Known → Use → List Fault
 from_rebound k u = one (rebound u.how u.visible) kind.Rebound u.at ++ from_name k u
 
-of_type : (k : Known) (u : Use) (f : Fault) → In f (from_type k u) → IsOf k u f
-of_type k u f i = by (in_either f (one (unknown_type u.how u.visible) kind.UnknownType u.at) (from_arguments k u) i)
+of_duplicate : (k : Known) (u : Use) (f : Fault) → In f (from_duplicate k u) → IsOf k u f
+of_duplicate k u f i = by (in_either f (one (duplicate u.how u.visible) kind.DuplicateType u.at) (from_arguments k u) i)
   where
-    by : In f (one (unknown_type u.how u.visible) kind.UnknownType u.at) ⊎ In f (from_arguments k u) → IsOf k u f
-    by (inl j) = one_of k u f kind.UnknownType (unknown_type u.how u.visible) refl j
+    by : In f (one (duplicate u.how u.visible) kind.DuplicateType u.at) ⊎ In f (from_arguments k u) → IsOf k u f
+    by (inl j) = one_of k u f kind.DuplicateType (duplicate u.how u.visible) refl j
     by (inr j) = one_of k u f kind.TooManyArguments (too_many_arguments k u.how u.visible) refl j
+
+of_type : (k : Known) (u : Use) (f : Fault) → In f (from_type k u) → IsOf k u f
+of_type k u f i = by (in_either f (one (unknown_type u.how u.visible) kind.UnknownType u.at) (from_duplicate k u) i)
+  where
+    by : In f (one (unknown_type u.how u.visible) kind.UnknownType u.at) ⊎ In f (from_duplicate k u) → IsOf k u f
+    by (inl j) = one_of k u f kind.UnknownType (unknown_type u.how u.visible) refl j
+    by (inr j) = of_duplicate k u f j
 
 of_function : (k : Known) (u : Use) (f : Fault) → In f (from_function k u) → IsOf k u f
 of_function k u f i = by (in_either f (one (unknown_function k u.how u.visible) kind.UnknownFunction u.at) (from_type k u) i)
@@ -105,14 +115,19 @@ behind_name k u f i = behind_clash k u f (in_right f (one (rebound u.how u.visib
 behind_type : (k : Known) (u : Use) (f : Fault) → In f (from_type k u) → In f (faults_of k u)
 behind_type k u f i = behind_name k u f (in_right f (one (unknown_function k u.how u.visible) kind.UnknownFunction u.at) (from_type k u) i)
 
+behind_duplicate : (k : Known) (u : Use) (f : Fault) → In f (from_duplicate k u) → In f (faults_of k u)
+behind_duplicate k u f i = behind_type k u f (in_right f (one (unknown_type u.how u.visible) kind.UnknownType u.at) (from_duplicate k u) i)
+
 fault_by : (k : Known) (u : Use) (x : StaticKind) → holds k x u.how u.visible ≡ true → In (record { at = u.at; kind = x }) (faults_of k u)
 fault_by k u kind.NameClash h = in_left _ (one (name_clash k u.how) kind.NameClash u.at) (from_rebound k u) (in_one (name_clash k u.how) kind.NameClash u.at h)
 fault_by k u kind.Rebound h = behind_clash k u _ (in_left _ (one (rebound u.how u.visible) kind.Rebound u.at) (from_name k u) (in_one (rebound u.how u.visible) kind.Rebound u.at h))
 fault_by k u kind.UnknownName h = behind_clash k u _ (in_right _ (one (rebound u.how u.visible) kind.Rebound u.at) (from_name k u)
     (in_left _ (one (unknown_name u.how u.visible) kind.UnknownName u.at) (from_function k u) (in_one (unknown_name u.how u.visible) kind.UnknownName u.at h)))
 fault_by k u kind.UnknownFunction h = behind_name k u _ (in_left _ (one (unknown_function k u.how u.visible) kind.UnknownFunction u.at) (from_type k u) (in_one (unknown_function k u.how u.visible) kind.UnknownFunction u.at h))
-fault_by k u kind.UnknownType h = behind_type k u _ (in_left _ (one (unknown_type u.how u.visible) kind.UnknownType u.at) (from_arguments k u) (in_one (unknown_type u.how u.visible) kind.UnknownType u.at h))
-fault_by k u kind.TooManyArguments h = behind_type k u _ (in_right _ (one (unknown_type u.how u.visible) kind.UnknownType u.at) (from_arguments k u) (in_one (too_many_arguments k u.how u.visible) kind.TooManyArguments u.at h))
+fault_by k u kind.UnknownType h = behind_type k u _ (in_left _ (one (unknown_type u.how u.visible) kind.UnknownType u.at) (from_duplicate k u) (in_one (unknown_type u.how u.visible) kind.UnknownType u.at h))
+fault_by k u kind.DuplicateType h = behind_duplicate k u _ (in_left _ (one (duplicate u.how u.visible) kind.DuplicateType u.at) (from_arguments k u) (in_one (duplicate u.how u.visible) kind.DuplicateType u.at h))
+fault_by k u kind.TooManyArguments h =
+    behind_duplicate k u _ (in_right _ (one (duplicate u.how u.visible) kind.DuplicateType u.at) (from_arguments k u) (in_one (too_many_arguments k u.how u.visible) kind.TooManyArguments u.at h))
 fault_by k u _ h = absurd (true≢false (sym h))
 
 fault_of : (k : Known) (u : Use) (f : Fault) → u.at ≡ f.at → holds k f.kind u.how u.visible ≡ true → In f (faults_of k u)

@@ -65,6 +65,11 @@ rebound (shared n) v = true
 rebound (type_variable n) v = is_among n v.vars
 rebound _ v = false
 
+-- DuplicateType: a type is declared where one of its name is declared before
+abbrev pub duplicate : How → Visible → Bool
+duplicate (declared_type n) v = is_among n v.types
+duplicate _ v = false
+
 -- a function is defined by a built-in name without `Base.`, or by the name of a type of the script
 abbrev pub is_taken : Known → Callee → Bool
 is_taken k (C.Plain n) = is_among n.bytes builtin_names || is_among n.bytes (names_in k.types)
@@ -79,13 +84,14 @@ name_clash k (type_variable n) = is_among n builtin_names
 name_clash k (declared_type n) = is_among n builtin_names
 name_clash k _ = false
 
--- the row of a kind of fault, where it is one of the six
+-- the row of a kind of fault, where it is one of the seven
 abbrev pub holds : Known → StaticKind → How → Visible → Bool
 holds k kind.UnknownName h v = unknown_name h v
 holds k kind.UnknownFunction h v = unknown_function k h v
 holds k kind.TooManyArguments h v = too_many_arguments k h v
 holds k kind.UnknownType h v = unknown_type h v
 holds k kind.Rebound h v = rebound h v
+holds k kind.DuplicateType h v = duplicate h v
 holds k kind.NameClash h v = name_clash k h
 holds k _ h v = false
 
@@ -96,6 +102,7 @@ has_row kind.UnknownFunction = true
 has_row kind.TooManyArguments = true
 has_row kind.UnknownType = true
 has_row kind.Rebound = true
+has_row kind.DuplicateType = true
 has_row kind.NameClash = true
 has_row _ = false
 

@@ -1,18 +1,18 @@
 -- What is told of the declarations are the faults of the uses of names in them.
-use Rattle.std.proofs.Common.{ℕ, ◌+◌, Bool, true, false, cond, not, ◌&&◌, nat_eq, List, [], ◌∷◌, ◌++◌, map, length, ◌≡◌, Option, Some, None, refl, sym, ap, subst, ◌∙◌}
-use Rattle.std.specs.List.{list_all}
+use Rattle.std.proofs.Common.{ℕ, zero, suc, ◌+◌, ◌<◌, arith, Bool, true, false, cond, not, ◌&&◌, ◌||◌, ◌==◌, nat_eq, List, [], ◌∷◌, ◌++◌, map, length, ◌≡◌, Option, Some, None, refl, sym, ap, subst, ◌∙◌, append-nil, append_assoc, slice_index_or}
+use Rattle.std.specs.List.{Contains, list_all}
 use Rattle.jl_model.specs.declared.ty.Bound.{Bound}
 use Rattle.jl_model.specs.declared.ty.Decl.{Decl}
 use Rattle.jl_model.specs.declared.ty.DeclKind.{DeclKind}
 use Rattle.jl_model.specs.declared.ty.DeclKind.TheVariants.{Abstract, Struct}
 use Rattle.jl_model.specs.declared.ty.Ty.{Ty}
 use Rattle.jl_model.specs.Ancestors.{builtin_types, field_types}
-use Rattle.jl_model.specs.Refusals.{Declared, UnknownType, bound_types, is_known_decl, own}
+use Rattle.jl_model.specs.Refusals.{Declared, DuplicateType, UnknownType, bound_types, is_known_decl, own}
 use Rattle.jl_model.specs.Valid.{is_known}
 use Rattle.jl_norm.specs.declared.fault.DeclareFault.{DeclareFault}
 use Rattle.jl_norm.specs.declared.fault.DeclareFault.TheVariants as D
 use Rattle.jl_norm.specs.Refused.{Refused}
-use Rattle.jl_program.specs.Names.{is_among, builtin_names}
+use Rattle.jl_program.specs.Names.{same_text, is_among, builtin_names}
 use Rattle.jl_grammar.specs.declared.tree.Field.{Field as FieldText}
 use Rattle.jl_grammar.specs.declared.tree.Header.{Header}
 use Rattle.jl_grammar.specs.declared.tree.Item.{Item}
@@ -34,8 +34,8 @@ use Rattle.jl_declare.specs.Judgement.{kind_of, IsJudged, kept, refused, told, I
 use Rattle.jl_declare.specs.Declarations.{Declaring, no_declaration, with_fault, named_fault, text_fault, IsJudgement, IsDeclared, DeclaresOne, Declares}
 use Rattle.jl_fault_laws.specs.Uses.{Names, Visible, Use, declared_type, used, with_vars, brought, var_uses, option_uses, options_uses, type_names}
 use Rattle.jl_fault_laws.specs.Rows.{has_row, IsOther}
-use Rattle.jl_fault_laws.proofs.Firsts.{Tells, nothing, one_fault, no_row}
-use Rattle.jl_fault_laws.proofs.Faults.{one, all_faults, joined, then_other}
+use Rattle.jl_fault_laws.proofs.Firsts.{Tells, nothing, two, same, swapped, one_fault, no_row}
+use Rattle.jl_fault_laws.proofs.Faults.{one, all_faults, joined}
 use Rattle.jl_fault_laws.proofs.Merged.{merge, merge_told}
 use Rattle.jl_fault_laws.proofs.Texts.{bound_told, option_told, options_told}
 use Rattle.jl_row_laws.specs.Script.{types_only, declaration_uses, declarations_uses}
@@ -44,17 +44,41 @@ use Rattle.jl_row_laws.proofs.Sound.{Sound, same_length, stays_sound, sound_star
 
 -- ---- what is answered for a declaration
 
--- no refusal but that of an unknown type has a row
-kind_other : (ds : List Decl) (d : Decl) (f : DeclareFault) (k : StaticKind) → kind_of f ≡ Some k → Refused f ds d → (UnknownType ds d → ⊥) → has_row k ≡ false
-kind_other ds d f k e r n = by f e r
+same_self : (name : List ℕ) → same_text name name ≡ true
+same_self [] = refl
+same_self (c ∷ cs) = let e : (c == c) ≡ true = grind arith in let f = same_self cs in rw (e, f) refl
+
+or_first : (b c : Bool) → (b || c) ≡ false → b ≡ false
+or_first false c h = refl
+or_first true c h = h
+
+or_last : (b c : Bool) → (b || c) ≡ false → c ≡ false
+or_last false c h = h
+or_last true c h = absurd (let f : true ≡ false = h in cc)
+
+-- a name that is not among these is none of them
+absent : (names : Names) (name : List ℕ) → is_among name names ≡ false → Contains names name → ⊥
+absent names name h c = go names c.0 h c.1 c.2
+  where
+    go : (names : Names) (k : ℕ) → is_among name names ≡ false → k < length names → slice_index_or names k name ≡ name → ⊥
+    go [] k h l e = absurd (omega (arith, l))
+    go (x ∷ xs) zero h l e =
+        let f : x ≡ name = e in
+        let g : same_text name x ≡ true = ap (same_text name) f ∙ same_self name in
+        let i : true ≡ false = sym g ∙ or_first (same_text name x) (is_among name xs) h in cc
+    go (x ∷ xs) (suc k) h l e = go xs k (or_last (same_text name x) (is_among name xs) h) (omega (arith, l)) e
+
+-- no other refusal than a second type of a name and an unknown type has a row
+kind_other : (ds : List Decl) (d : Decl) (f : DeclareFault) (k : StaticKind) → kind_of f ≡ Some k → Refused f ds d → (DuplicateType ds d → ⊥) → (UnknownType ds d → ⊥) → has_row k ≡ false
+kind_other ds d f k e r m n = by f e r
   where
     row : Option StaticKind → Bool
     row None = false
     row (Some x) = has_row x
 
     by : (g : DeclareFault) → kind_of g ≡ Some k → Refused g ds d → has_row k ≡ false
+    by D.DuplicateType i q = absurd (m q)
     by D.UnknownType i q = absurd (n q.1)
-    by D.DuplicateType i q = sym (ap row i)
     by D.WrongParameterCount i q = sym (ap row i)
     by D.SuperNotAbstract i q = sym (ap row i)
     by D.VariablePlace i q = sym (ap row i)
@@ -65,18 +89,23 @@ kind_other ds d f k e r n = by f e r
     by D.DuplicateField i q = sym (ap row i)
     by D.Memory i q = sym (ap row i)
 
-judged_other : (ds : List Decl) (d : Decl) (at : ℕ) (j : Judged) → (UnknownType ds d → ⊥) → IsJudged ds d j → IsOther (refusal_at at j)
-judged_other ds d at j n (kept e a k) = tt
-judged_other ds d at j n (refused f k e r) = kind_other ds d f k e r n
+judged_other : (ds : List Decl) (d : Decl) (at : ℕ) (j : Judged) → (DuplicateType ds d → ⊥) → (UnknownType ds d → ⊥) → IsJudged ds d j → IsOther (refusal_at at j)
+judged_other ds d at j m n (kept e a k) = tt
+judged_other ds d at j m n (refused f k e r) = kind_other ds d f k e r m n
+
+other_told : (o : Option Fault) → IsOther o → Tells [] None o
+other_told None h = nothing None
+other_told (Some f) h = no_row f None h
 
 -- the answer by what is told of it without the table
-answer_other : (ds : List Decl) (d : Decl) (at : ℕ) (j : Judged) (a b c all : Bool) → (b ≡ false → c ≡ true → all ≡ true → UnknownType ds d → ⊥)
-    → IsAnswer ds d (cond a (Some (J.Refused kind.DuplicateType)) (cond b (Some J.Unjudged) (cond (not c) (Some (J.Refused kind.WrongParameterCount)) (cond all None (Some J.Unjudged))))) j → IsOther (refusal_at at j)
-answer_other ds d at j true b c all n p = subst (λ x. IsOther (refusal_at at x)) (sym p) refl
-answer_other ds d at j false true c all n p = subst (λ x. IsOther (refusal_at at x)) (sym p) tt
-answer_other ds d at j false false false all n p = subst (λ x. IsOther (refusal_at at x)) (sym p) refl
-answer_other ds d at j false false true true n p = judged_other ds d at j (n refl refl refl) p
-answer_other ds d at j false false true false n p = subst (λ x. IsOther (refusal_at at x)) (sym p) tt
+answer_told : (ds : List Decl) (d : Decl) (at : ℕ) (j : Judged) (a b c all : Bool) → (a ≡ false → DuplicateType ds d → ⊥) → (b ≡ false → c ≡ true → all ≡ true → UnknownType ds d → ⊥)
+    → IsAnswer ds d (cond a (Some (J.Refused kind.DuplicateType)) (cond b (Some J.Unjudged) (cond (not c) (Some (J.Refused kind.WrongParameterCount)) (cond all None (Some J.Unjudged))))) j
+    → Tells (one a kind.DuplicateType at) None (refusal_at at j)
+answer_told ds d at j true b c all m n p = subst (λ x. Tells (record { at = at; kind = kind.DuplicateType } ∷ []) None (refusal_at at x)) (sym p) (one_fault (record { at = at; kind = kind.DuplicateType }) None)
+answer_told ds d at j false true c all m n p = subst (λ x. Tells [] None (refusal_at at x)) (sym p) (nothing None)
+answer_told ds d at j false false false all m n p = subst (λ x. Tells [] None (refusal_at at x)) (sym p) (no_row (record { at = at; kind = kind.WrongParameterCount }) None refl)
+answer_told ds d at j false false true true m n p = other_told (refusal_at at j) (judged_other ds d at j (m refl) (n refl refl refl) p)
+answer_told ds d at j false false true false m n p = subst (λ x. Tells [] None (refusal_at at x)) (sym p) (nothing None)
 
 -- ---- the types of a declaration are declared
 
@@ -140,11 +169,7 @@ with_is o (Some f) = refl
 with_told : (fs : List Fault) (o p : Option Fault) → Tells fs None p → Tells fs o (with_fault o p)
 with_told fs o p h = subst (Tells fs o) (with_is o p) (merge_told fs o p h)
 
-other_told : (o : Option Fault) → IsOther o → Tells [] None o
-other_told None h = nothing None
-other_told (Some f) h = no_row f None h
-
-named_told : (at : ℕ) (b : Bool) → Tells ((one b kind.NameClash at ++ []) ++ []) None (cond b (Some (record { at = at; kind = kind.NameClash })) None)
+named_told : (at : ℕ) (b : Bool) → Tells (one b kind.NameClash at) None (cond b (Some (record { at = at; kind = kind.NameClash })) None)
 named_told at true = one_fault (record { at = at; kind = kind.NameClash }) None
 named_told at false = nothing None
 
@@ -184,18 +209,25 @@ module _ (k : Known) where
       let us = reading_uses h fields types in
       let among = is_among r.decl.name (names_of st.decls) in
       let all = nat_eq st.allowed (length st.decls) in
-      let o1 = with_fault st.fault (named_fault h.name.at h.name.bytes) in
+      let at = h.name.at in
+      let o1 = with_fault st.fault (named_fault at h.name.bytes) in
       let o2 = with_fault o1 r.reading.fault in
-      let o3 = with_fault o2 (refusal_at h.name.at j) in
-      let other = answer_other st.decls r.decl h.name.at j among r.reading.unknown r.whole all
+      let o3 = with_fault o2 (refusal_at at j) in
+      let xs = one (is_among h.name.bytes builtin_names) kind.NameClash at in
+      let ys = one (is_among h.name.bytes types) kind.DuplicateType at in
+      let zs = all_faults k us in
+      let name = (read_same st.decls kind_ h fields).0 in
+      let here : among ≡ is_among h.name.bytes types = λ i. is_among (name i) (e i) in
+      let t1 = with_told xs st.fault (named_fault at h.name.bytes) (named_told at (is_among h.name.bytes builtin_names)) in
+      let t2 = with_told zs o1 r.reading.fault (reading_told st.decls kind_ h fields types e) in
+      let answer = answer_told st.decls r.decl at j among r.reading.unknown r.whole all (absent (names_of st.decls) r.decl.name)
           (λ x y z. known st.decls h fields (s.valid (same_length st.allowed (length st.decls) z)) kind_ f x y) d.1 in
-      let t1 = with_told (all_faults k (own_use ∷ [])) st.fault (named_fault h.name.at h.name.bytes) (named_told h.name.at (is_among h.name.bytes builtin_names)) in
-      let t2 = with_told (all_faults k us) o1 r.reading.fault (reading_told st.decls kind_ h fields types e) in
-      let t3 = with_told [] o2 (refusal_at h.name.at j) (other_told (refusal_at h.name.at j) other) in
+      let t3 = with_told ys o2 (refusal_at at j) (same (one among kind.DuplicateType at) ys None (refusal_at at j) (ap (λ b. one b kind.DuplicateType at) here) answer) in
       let q = shown_same st.decls r.decl j among r.reading.unknown r.whole all d.1 in (
         subst (λ (z : Declaring). Tells (all_faults k (own_use ∷ us)) st.fault z.fault) (sym d.2)
-            (then_other (all_faults k (own_use ∷ us)) st.fault o2 o3 (joined k (own_use ∷ []) us st.fault o1 o2 t1 t2) t3),
-        ap (λ (z : Declaring). type_names z.decls) d.2 ∙ names_more st.decls (shown j r.decl) ∙ (λ i. e i ++ (q.0 ∙ (read_same st.decls kind_ h fields).0) i ∷ []),
+            (same (xs ++ (ys ++ zs)) ((xs ++ (ys ++ [])) ++ zs) st.fault o3 ((λ i. xs ++ (sym (append-nil ys) i ++ zs)) ∙ sym (append_assoc xs (ys ++ []) zs))
+            (two xs (ys ++ zs) st.fault o1 o3 t1 (swapped zs ys o1 o3 (two zs ys o1 o2 o3 t2 t3)))),
+        ap (λ (z : Declaring). type_names z.decls) d.2 ∙ names_more st.decls (shown j r.decl) ∙ (λ i. e i ++ (q.0 ∙ name) i ∷ []),
       )
 
   -- ---- the declarations one after another

@@ -21,6 +21,7 @@ sig_other ds s kind.UnknownFunction a = absurd a
 sig_other ds s kind.TooManyArguments a = absurd a
 sig_other ds s kind.UnknownType a = absurd a
 sig_other ds s kind.Rebound a = absurd a
+sig_other ds s kind.DuplicateType a = absurd a
 sig_other ds s kind.NameClash a = absurd a
 sig_other ds s _ a = refl
 
@@ -30,6 +31,7 @@ body_other ds s kind.UnknownFunction a = absurd a
 body_other ds s kind.TooManyArguments a = absurd a
 body_other ds s kind.UnknownType a = absurd a
 body_other ds s kind.Rebound a = absurd a
+body_other ds s kind.DuplicateType a = absurd a
 body_other ds s kind.NameClash a = absurd a
 body_other ds s _ a = refl
 
