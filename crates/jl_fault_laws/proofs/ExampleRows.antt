@@ -56,13 +56,13 @@ short_uses : (a : ℕ) (h : Head) (e : Expr) → U.method_uses told (E.Short a h
 short_uses a h e = ap (U.method_uses told) (sym (E.rolls-Short a h e))
     ∙ fold-roll-Method Uses Uses Uses Uses Stated Uses (U.eval_step told) (U.expr_step told) (U.method_step told) (U.piece_step told) (U.stmt_step told) (U.branch_step told) (F.Short a h e)
 
-plain_uses : (a : ℕ) (n : List ℕ) → type_uses (TV.Name a n) ≡ (λ v. used a (plain_type n) v ∷ [])
+pub plain_uses : (a : ℕ) (n : List ℕ) → type_uses (TV.Name a n) ≡ (λ v. used a (plain_type n) v ∷ [])
 plain_uses a n = ap type_uses (sym (V.rolls-Name a n)) ∙ fold-roll-TypeText Uses Uses Brings U.arg_step U.type_step U.var_step (A.Name a n)
 
 paren_uses : (a : ℕ) (t : TypeText) (vs : List VarText) → type_uses (V.Paren a t vs) ≡ U.type_step (A.Paren a (type_uses t) (map var_uses vs))
 paren_uses a t vs = ap type_uses (sym (V.rolls-Paren a t vs)) ∙ fold-roll-TypeText Uses Uses Brings U.arg_step U.type_step U.var_step (A.Paren a t vs)
 
-free_uses : (a : ℕ) (n : List ℕ) → var_uses (VV.Free a n) ≡ record { at = a; name = n; uses = λ v. [] }
+pub free_uses : (a : ℕ) (n : List ℕ) → var_uses (VV.Free a n) ≡ record { at = a; name = n; uses = λ v. [] }
 free_uses a n = ap var_uses (sym (V.rolls-Free a n)) ∙ fold-roll-VarText Uses Uses Brings U.arg_step U.type_step U.var_step (A.Free a n)
 
 abbrev no_uses : Uses

@@ -3,3 +3,4 @@ pub mod Sound
 pub mod Declared
 pub mod Outlines
 pub mod ScriptRows
+pub mod ExampleRows
