@@ -210,10 +210,10 @@ module _ (k : Known) (ds : List Decl) where
 
   -- ---- a text tells what its layer does
 
-  type_at : (l : TypeText-F ArgText TypeText VarText)
+  text_at : (l : TypeText-F ArgText TypeText VarText)
       → IsType (U.type_step (map-TypeText ArgText TypeText VarText Uses Uses Brings arg_uses type_uses var_uses l)) (R.type_step ds (map-TypeText ArgText TypeText VarText ArgReads TypeReads VarReads (arg_reads ds) (type_reads ds) (var_reads ds) l))
       → IsType (type_uses (roll-TypeText l)) (type_reads ds (roll-TypeText l))
-  type_at l h =
+  text_at l h =
       subst (λ u. IsType u (type_reads ds (roll-TypeText l))) (sym (fold-roll-TypeText Uses Uses Brings U.arg_step U.type_step U.var_step l))
       (subst (λ x. IsType (U.type_step (map-TypeText ArgText TypeText VarText Uses Uses Brings arg_uses type_uses var_uses l)) x) (sym (fold-roll-TypeText ArgReads TypeReads VarReads (R.arg_step ds) (R.type_step ds) (R.var_step ds) l)) h)
 
@@ -233,9 +233,9 @@ module _ (k : Known) (ds : List Decl) where
 
   cases : TextCases (λ t. IsArg (arg_uses t) (arg_reads ds t)) (λ t. IsType (type_uses t) (type_reads ds t)) (λ t. IsVar (var_uses t) (var_reads ds t))
   cases = record {
-    name = λ at n. type_at (F.Name at n) (plain_told at n);
-    applied = λ at n xs l. type_at (F.Applied at n xs) (applied_told at n (map arg_uses xs) (map (arg_reads ds) xs) (each_pairs IsArg arg_uses (arg_reads ds) xs l));
-    paren = λ at t vs l p. type_at (F.Paren at t vs) (within_told (type_uses t) (type_reads ds t) l (map var_uses vs) (map (var_reads ds) vs) (each_pairs IsVar var_uses (var_reads ds) vs p));
+    name = λ at n. text_at (F.Name at n) (plain_told at n);
+    applied = λ at n xs l. text_at (F.Applied at n xs) (applied_told at n (map arg_uses xs) (map (arg_reads ds) xs) (each_pairs IsArg arg_uses (arg_reads ds) xs l));
+    paren = λ at t vs l p. text_at (F.Paren at t vs) (within_told (type_uses t) (type_reads ds t) l (map var_uses vs) (map (var_reads ds) vs) (each_pairs IsVar var_uses (var_reads ds) vs p));
     exact = λ t l. arg_at (F.Exact t) (λ vars v outer inner r h e. l vars v inner r h e);
     below_ = λ at t l. arg_at (F.ArgText::Below at t) (λ vars v outer inner r h e. l vars v inner r h e);
     above = λ at t l. arg_at (F.ArgText::Above at t) (λ vars v outer inner r h e. l vars v inner r h e);

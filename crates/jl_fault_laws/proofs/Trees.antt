@@ -1,5 +1,5 @@
 -- What is told of a well-formed tree are the faults of the uses of names in it: one line a form.
-use Rattle.std.proofs.Common.{◌≡◌, sym, refl, subst, ap, ℕ, ◌+◌, max, Bool, true, false, List, [], ◌∷◌, ◌++◌, map, Option, Some, None}
+use Rattle.std.proofs.Common.{◌≡◌, ◌∙◌, sym, refl, subst, ap, ℕ, ◌+◌, max, Bool, true, false, List, [], ◌∷◌, ◌++◌, map, Option, Some, None}
 use Rattle.std.proofs.lemmas.List.{take-map}
 use Rattle.jl_model.specs.declared.ty.Decl.{Decl}
 use Rattle.jl_grammar.specs.declared.tree.Branch.{Branch}
