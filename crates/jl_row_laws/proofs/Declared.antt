@@ -6,7 +6,8 @@ use Rattle.jl_model.specs.declared.ty.Decl.{Decl}
 use Rattle.jl_model.specs.declared.ty.DeclKind.{DeclKind}
 use Rattle.jl_model.specs.declared.ty.DeclKind.TheVariants.{Abstract, Struct}
 use Rattle.jl_model.specs.declared.ty.Ty.{Ty}
-use Rattle.jl_model.specs.Ancestors.{builtin_types, field_types}
+use Rattle.jl_model.specs.Ancestors.{builtin_types}
+use Rattle.jl_model.specs.Kept.{field_types}
 use Rattle.jl_model.specs.Refusals.{Declared, DuplicateType, UnknownType, bound_types, is_known_decl, own}
 use Rattle.jl_model.specs.Valid.{is_known}
 use Rattle.jl_norm.specs.declared.fault.DeclareFault.{DeclareFault}
@@ -221,7 +222,7 @@ module _ (k : Known) where
       let t1 = with_told xs st.fault (named_fault at h.name.bytes) (named_told at (is_among h.name.bytes builtin_names)) in
       let t2 = with_told zs o1 r.reading.fault (reading_told st.decls kind_ h fields types e) in
       let answer = answer_told st.decls r.decl at j among r.reading.unknown r.whole all (absent (names_of st.decls) r.decl.name)
-          (λ x y z. known st.decls h fields (s.valid (same_length st.allowed (length st.decls) z)) kind_ f x y) d.1 in
+      (λ x y z. known st.decls h fields (s.valid (same_length st.allowed (length st.decls) z)) kind_ f x y) d.1 in
       let t3 = with_told ys o2 (refusal_at at j) (same (one among kind.DuplicateType at) ys None (refusal_at at j) (ap (λ b. one b kind.DuplicateType at) here) answer) in
       let q = shown_same st.decls r.decl j among r.reading.unknown r.whole all d.1 in (
         subst (λ (z : Declaring). Tells (all_faults k (own_use ∷ us)) st.fault z.fault) (sym d.2)

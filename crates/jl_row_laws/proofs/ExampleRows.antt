@@ -36,13 +36,13 @@ abbrev P_use : List Use → List Use
 P_use us = used 7 (declared_type (codes "P")) (types_only (type_names builtin_types)) ∷ us
 
 unknown_faults : AreFaults with_unknown_type (fault 12 kind.UnknownType ∷ [])
-unknown_faults = λ i. all_faults (text_known with_unknown_type) (P_use (plain_uses 12 (codes "R") i (types_only (type_names builtin_types)) ++ []))
+unknown_faults = λ i. all_faults (text_known with_unknown_type) (P_use (((plain_uses 12 (codes "R") i (types_only (type_names builtin_types)) ++ []) ++ []) ++ []))
 
 pub unknown_row : HoldsOf with_unknown_type (fault 12 kind.UnknownType)
 unknown_row = one_holds with_unknown_type (fault 12 kind.UnknownType) unknown_faults
 
 parameters_faults : AreFaults with_two_parameters (fault 12 kind.Rebound ∷ [])
-parameters_faults = λ i. all_faults (text_known with_two_parameters) (P_use (brought (free_uses 9 (codes "T") i ∷ free_uses 12 (codes "T") i ∷ []) (types_only (type_names builtin_types)) ++ []))
+parameters_faults = λ i. all_faults (text_known with_two_parameters) (P_use (((brought (free_uses 9 (codes "T") i ∷ free_uses 12 (codes "T") i ∷ []) (types_only (type_names builtin_types)) ++ []) ++ []) ++ []))
 
 pub parameters_row : HoldsOf with_two_parameters (fault 12 kind.Rebound)
 parameters_row = one_holds with_two_parameters (fault 12 kind.Rebound) parameters_faults
