@@ -1,5 +1,13 @@
 -- The rows of the small scripts.
 use Rattle.std.proofs.Common.{ℕ, ℤ, pos, codes, List, [], ◌∷◌, ◌++◌, map, ◌≡◌, inl, refl, sym, ap, subst, ◌∙◌}
+use Rattle.jl_model.specs.declared.builtin.TheConstants.{BUILTIN_TYPES}
+use Rattle.jl_typeread.specs.declared.tree.ArgText.TheFolds.{fold-roll-TypeText, fold-roll-VarText}
+use Rattle.jl_typeread.specs.declared.tree.ArgText.TheOpen as A
+use Rattle.jl_typeread.specs.declared.tree.ArgText.TheViews as V
+use Rattle.jl_typeread.specs.declared.tree.TypeText.{TypeText}
+use Rattle.jl_typeread.specs.declared.tree.TypeText.TheVariants as TV
+use Rattle.jl_typeread.specs.declared.tree.VarText.{VarText}
+use Rattle.jl_typeread.specs.declared.tree.VarText.TheVariants as VV
 use Rattle.jl_grammar.specs.declared.tree.Callee.{Callee}
 use Rattle.jl_grammar.specs.declared.tree.Callee.TheVariants as C
 use Rattle.jl_grammar.specs.declared.tree.Eval.TheFolds.{fold-roll-Expr, fold-roll-Method}
@@ -10,30 +18,55 @@ use Rattle.jl_grammar.specs.declared.tree.Expr.TheVariants as X
 use Rattle.jl_grammar.specs.declared.tree.Head.{Head}
 use Rattle.jl_grammar.specs.declared.tree.Item.{Item}
 use Rattle.jl_grammar.specs.declared.tree.Item.TheVariants as N
+use Rattle.jl_grammar.specs.declared.tree.Name.{Name}
 use Rattle.jl_written.specs.declared.fault.Fault.{Fault}
 use Rattle.jl_written.specs.declared.fault.StaticKind.TheVariants as kind
-use Rattle.jl_fault_laws.specs.Uses.{In, Use, Uses, Stated, used, bound, value, eval_step, expr_step, method_step, piece_step, stmt_step, branch_step, expr_uses, method_uses, uses_of}
+use Rattle.jl_fault_laws.specs.Uses.{Names, Visible, Use, Uses, Stated, Brings, In, ScriptNames, names_told, used, value, plain_type, at_top, top_uses, brought, with_vars, type_uses, var_uses, uses_of}
+use Rattle.jl_fault_laws.specs.Uses as U
 use Rattle.jl_fault_laws.specs.Rows.{HoldsAt}
-use Rattle.jl_fault_laws.specs.Examples.{f, g, x, y, name_at, one_at, known, head, with_line, good, with_unknown_name, with_unknown_function, with_many_arguments, with_two_bindings, with_built_in, fault}
+use Rattle.jl_fault_laws.specs.Examples.{f, g, x, y, R, T, name_at, one_at, known, head, with_line, good, with_unknown_name, with_unknown_function, with_many_arguments, with_unknown_type, with_two_variables, with_function_name, with_two_bindings, with_built_in, fault}
 use Rattle.jl_fault_laws.proofs.Faults.{all_faults}
 use Rattle.jl_fault_laws.proofs.RowLaws.{holds_among, among_holds}
 
+abbrev told : ScriptNames
+told = names_told known
+
+abbrev expr_uses : Expr → Uses
+expr_uses = U.expr_uses told
+
 -- ---- the uses of the forms
 
-number_uses : (a : ℕ) (n : ℤ) → expr_uses (X.Number a n) ≡ (λ vs. [])
-number_uses a n = ap expr_uses (sym (E.rolls-Number a n)) ∙ fold-roll-Expr (List Use) Uses (List Use) Uses Stated Uses eval_step expr_step method_step piece_step stmt_step branch_step (F.Number a n)
+number_uses : (a : ℕ) (n : ℤ) → expr_uses (X.Number a n) ≡ (λ v. [])
+number_uses a n = ap expr_uses (sym (E.rolls-Number a n))
+    ∙ fold-roll-Expr Uses Uses Uses Uses Stated Uses (U.eval_step told) (U.expr_step told) (U.method_step told) (U.piece_step told) (U.stmt_step told) (U.branch_step told) (F.Number a n)
 
-name_uses : (a : ℕ) (n : List ℕ) → expr_uses (X.Name a n) ≡ (λ vs. used a (value n) vs ∷ [])
-name_uses a n = ap expr_uses (sym (E.rolls-Name a n)) ∙ fold-roll-Expr (List Use) Uses (List Use) Uses Stated Uses eval_step expr_step method_step piece_step stmt_step branch_step (F.Name a n)
+name_uses : (a : ℕ) (n : List ℕ) → expr_uses (X.Name a n) ≡ (λ v. used a (value n) v ∷ [])
+name_uses a n = ap expr_uses (sym (E.rolls-Name a n))
+    ∙ fold-roll-Expr Uses Uses Uses Uses Stated Uses (U.eval_step told) (U.expr_step told) (U.method_step told) (U.piece_step told) (U.stmt_step told) (U.branch_step told) (F.Name a n)
 
-call_uses : (a : ℕ) (c : Callee) (es : List Expr) → expr_uses (E.Call a c es) ≡ expr_step (F.Call a c (map expr_uses es))
-call_uses a c es = ap expr_uses (sym (E.rolls-Call a c es)) ∙ fold-roll-Expr (List Use) Uses (List Use) Uses Stated Uses eval_step expr_step method_step piece_step stmt_step branch_step (F.Call a c es)
+call_uses : (a : ℕ) (c : Callee) (es : List Expr) → expr_uses (E.Call a c es) ≡ U.expr_step told (F.Call a c (map expr_uses es))
+call_uses a c es = ap expr_uses (sym (E.rolls-Call a c es))
+    ∙ fold-roll-Expr Uses Uses Uses Uses Stated Uses (U.eval_step told) (U.expr_step told) (U.method_step told) (U.piece_step told) (U.stmt_step told) (U.branch_step told) (F.Call a c es)
 
-short_uses : (a : ℕ) (h : Head) (e : Expr) → method_uses (E.Short a h e) ≡ method_step (F.Short a h (expr_uses e))
-short_uses a h e = ap method_uses (sym (E.rolls-Short a h e)) ∙ fold-roll-Method (List Use) Uses (List Use) Uses Stated Uses eval_step expr_step method_step piece_step stmt_step branch_step (F.Short a h e)
+isa_uses : (a : ℕ) (e : Expr) (t : TypeText) → expr_uses (E.Isa a e t) ≡ (λ v. expr_uses e v ++ type_uses t v)
+isa_uses a e t = ap expr_uses (sym (E.rolls-Isa a e t))
+    ∙ fold-roll-Expr Uses Uses Uses Uses Stated Uses (U.eval_step told) (U.expr_step told) (U.method_step told) (U.piece_step told) (U.stmt_step told) (U.branch_step told) (F.Isa a e t)
+
+short_uses : (a : ℕ) (h : Head) (e : Expr) → U.method_uses told (E.Short a h e) ≡ U.method_step told (F.Short a h (expr_uses e))
+short_uses a h e = ap (U.method_uses told) (sym (E.rolls-Short a h e))
+    ∙ fold-roll-Method Uses Uses Uses Uses Stated Uses (U.eval_step told) (U.expr_step told) (U.method_step told) (U.piece_step told) (U.stmt_step told) (U.branch_step told) (F.Short a h e)
+
+pub plain_uses : (a : ℕ) (n : List ℕ) → type_uses (TV.Name a n) ≡ (λ v. used a (plain_type n) v ∷ [])
+plain_uses a n = ap type_uses (sym (V.rolls-Name a n)) ∙ fold-roll-TypeText Uses Uses Brings U.arg_step U.type_step U.var_step (A.Name a n)
+
+paren_uses : (a : ℕ) (t : TypeText) (vs : List VarText) → type_uses (V.Paren a t vs) ≡ U.type_step (A.Paren a (type_uses t) (map var_uses vs))
+paren_uses a t vs = ap type_uses (sym (V.rolls-Paren a t vs)) ∙ fold-roll-TypeText Uses Uses Brings U.arg_step U.type_step U.var_step (A.Paren a t vs)
+
+pub free_uses : (a : ℕ) (n : List ℕ) → var_uses (VV.Free a n) ≡ record { at = a; name = n; uses = λ v. [] }
+free_uses a n = ap var_uses (sym (V.rolls-Free a n)) ∙ fold-roll-VarText Uses Uses Brings U.arg_step U.type_step U.var_step (A.Free a n)
 
 abbrev no_uses : Uses
-no_uses vs = []
+no_uses v = []
 
 numbers_use : (ats : List ℕ) → map expr_uses (map one_at ats) ≡ map (λ a. no_uses) ats
 numbers_use [] = refl
@@ -41,58 +74,97 @@ numbers_use (a ∷ ats) = λ i. number_uses a (pos 1) i ∷ numbers_use ats i
 
 -- ---- the faults of the scripts
 
--- of the method and a call behind it, before what follows
-abbrev from_line : Callee → List Uses → List Use → List Use
-from_line c us more = method_step (F.Short 0 head no_uses) ++ (expr_step (F.Call 13 c us) [] ++ (used 9 (bound (y ∷ [])) [] ∷ more))
+abbrev top : Names → Visible
+top vs = at_top told BUILTIN_TYPES vs
 
-line_uses : (c : Callee) (es : List Expr) (us : List Uses) → map expr_uses es ≡ us → (more : List Use)
-    → method_uses (E.Short 0 head (one_at 7)) ++ (expr_uses (E.Call 13 c es) [] ++ (used 9 (bound (y ∷ [])) [] ∷ more)) ≡ from_line c us more
-line_uses c es us h more =
-    let m = short_uses 0 head (one_at 7) ∙ ap (λ u. method_step (F.Short 0 head u)) (number_uses 7 (pos 1)) in
-    let e = call_uses 13 c es ∙ ap (λ z. expr_step (F.Call 13 c z)) h in
-    λ i. m i ++ (e i [] ++ (used 9 (bound (y ∷ [])) [] ∷ more))
+-- of the method and a line behind it, before what follows
+abbrev from_line : Uses → List Use → List Use
+from_line u more = U.method_step told (F.Short 0 head no_uses) (top []) ++ (u (top []) ++ (top_uses told (name_at 9 y) (top []) ++ more))
 
-line_faults : (c : Callee) (es : List Expr) (us : List Uses) → map expr_uses es ≡ us → all_faults known (uses_of (with_line (E.Call 13 c es))) ≡ all_faults known (from_line c us [])
-line_faults c es us h = ap (all_faults known) (line_uses c es us h [])
+line_uses : (e : Expr) (u : Uses) → expr_uses e ≡ u → (more : List Use)
+    → U.method_uses told (E.Short 0 head (one_at 7)) (top []) ++ (expr_uses e (top []) ++ (top_uses told (name_at 9 y) (top []) ++ more)) ≡ from_line u more
+line_uses e u h more =
+    let m = short_uses 0 head (one_at 7) ∙ ap (λ z. U.method_step told (F.Short 0 head z)) (number_uses 7 (pos 1)) in
+    λ i. m i (top []) ++ (h i (top []) ++ (top_uses told (name_at 9 y) (top []) ++ more))
+
+line_faults : (e : Expr) (u : Uses) → expr_uses e ≡ u → all_faults known (uses_of told (with_line e)) ≡ all_faults known (from_line u [])
+line_faults e u h = ap (all_faults known) (line_uses e u h [])
+
+-- of a call on the line
+call_is : (c : Callee) (es : List Expr) (us : List Uses) → map expr_uses es ≡ us → expr_uses (E.Call 13 c es) ≡ U.expr_step told (F.Call 13 c us)
+call_is c es us h = call_uses 13 c es ∙ ap (λ z. U.expr_step told (F.Call 13 c z)) h
+
+call_faults : (c : Callee) (es : List Expr) (us : List Uses) → map expr_uses es ≡ us → all_faults known (uses_of told (with_line (E.Call 13 c es))) ≡ all_faults known (from_line (U.expr_step told (F.Call 13 c us)) [])
+call_faults c es us h = line_faults (E.Call 13 c es) (U.expr_step told (F.Call 13 c us)) (call_is c es us h)
 
 -- where these are the faults of a script, a row holds exactly there
 abbrev AreFaults : List Item → List Fault → Type 0
-AreFaults items fs = all_faults known (uses_of items) ≡ fs
+AreFaults items fs = all_faults known (uses_of told items) ≡ fs
 
 one_holds : (items : List Item) (q : Fault) → AreFaults items (q ∷ []) → HoldsAt known items q
-one_holds items q e = among_holds known items q (subst (In q) (sym e) (inl refl))
+one_holds items q e = among_holds known (uses_of told items) q (subst (In q) (sym e) (inl refl))
 
 good_faults : AreFaults good []
-good_faults = line_faults (C.Plain (name_at 13 f)) (one_at 15 ∷ []) (no_uses ∷ []) (numbers_use (15 ∷ []))
+good_faults = call_faults (C.Plain (name_at 13 f)) (one_at 15 ∷ []) (no_uses ∷ []) (numbers_use (15 ∷ []))
 
 pub good_rows : (q : Fault) → HoldsAt known good q → ⊥
-good_rows q h = subst (In q) good_faults (holds_among known good q h)
+good_rows q h = subst (In q) good_faults (holds_among known (uses_of told good) q h)
 
 pub name_row : HoldsAt known with_unknown_name (fault 15 kind.UnknownName)
 name_row = one_holds with_unknown_name (fault 15 kind.UnknownName)
-    (line_faults (C.Plain (name_at 13 f)) (X.Name 15 (x ∷ []) ∷ []) ((λ vs. used 15 (value (x ∷ [])) vs ∷ []) ∷ []) (λ i. name_uses 15 (x ∷ []) i ∷ []))
+    (call_faults (C.Plain (name_at 13 f)) (X.Name 15 (x ∷ []) ∷ []) ((λ v. used 15 (value (x ∷ [])) v ∷ []) ∷ []) (λ i. name_uses 15 (x ∷ []) i ∷ []))
 
 pub function_row : HoldsAt known with_unknown_function (fault 13 kind.UnknownFunction)
-function_row = one_holds with_unknown_function (fault 13 kind.UnknownFunction) (line_faults (C.Plain (name_at 13 g)) (one_at 15 ∷ []) (no_uses ∷ []) (numbers_use (15 ∷ [])))
+function_row = one_holds with_unknown_function (fault 13 kind.UnknownFunction) (call_faults (C.Plain (name_at 13 g)) (one_at 15 ∷ []) (no_uses ∷ []) (numbers_use (15 ∷ [])))
 
 abbrev nine : List ℕ
 nine = 15 ∷ 17 ∷ 19 ∷ 21 ∷ 23 ∷ 25 ∷ 27 ∷ 29 ∷ 31 ∷ []
 
 pub arguments_row : HoldsAt known with_many_arguments (fault 13 kind.TooManyArguments)
-arguments_row = one_holds with_many_arguments (fault 13 kind.TooManyArguments) (line_faults (C.Plain (name_at 13 f)) (map one_at nine) (map (λ a. no_uses) nine) (numbers_use nine))
+arguments_row = one_holds with_many_arguments (fault 13 kind.TooManyArguments) (call_faults (C.Plain (name_at 13 f)) (map one_at nine) (map (λ a. no_uses) nine) (numbers_use nine))
+
+-- with a type on the line
+isa_is : (t : TypeText) (u : Uses) → type_uses t ≡ u → expr_uses (E.Isa 13 (one_at 13) t) ≡ (λ v. [] ++ u v)
+isa_is t u h = isa_uses 13 (one_at 13) t ∙ (λ i v. number_uses 13 (pos 1) i v ++ h i v)
+
+pub type_row : HoldsAt known with_unknown_type (fault 19 kind.UnknownType)
+type_row =
+    let u : Uses = λ v. used 19 (plain_type (R ∷ [])) v ∷ [] in
+    one_holds with_unknown_type (fault 19 kind.UnknownType) (line_faults (E.Isa 13 (one_at 13) (TV.Name 19 (R ∷ []))) u (isa_is (TV.Name 19 (R ∷ [])) u (plain_uses 19 (R ∷ []))))
+
+abbrev free_at : ℕ → Brings
+free_at a = record { at = a; name = T ∷ []; uses = λ v. [] }
+
+abbrev two_free : Uses
+two_free = U.type_step (A.Paren 19 (λ v. used 20 (plain_type (codes "Int")) v ∷ []) (free_at 31 ∷ free_at 34 ∷ []))
+
+abbrev two_free_type : TypeText
+two_free_type = V.Paren 19 (TV.Name 20 (codes "Int")) (VV.Free 31 (T ∷ []) ∷ VV.Free 34 (T ∷ []) ∷ [])
+
+two_free_uses : type_uses two_free_type ≡ two_free
+two_free_uses =
+    paren_uses 19 (TV.Name 20 (codes "Int")) (VV.Free 31 (T ∷ []) ∷ VV.Free 34 (T ∷ []) ∷ [])
+    ∙ (λ i. U.type_step (A.Paren 19 (plain_uses 20 (codes "Int") i) (free_uses 31 (T ∷ []) i ∷ free_uses 34 (T ∷ []) i ∷ [])))
+
+pub variable_row : HoldsAt known with_two_variables (fault 34 kind.Rebound)
+variable_row = one_holds with_two_variables (fault 34 kind.Rebound) (line_faults (E.Isa 13 (one_at 13) two_free_type) two_free (isa_is two_free_type two_free two_free_uses))
 
 -- with a binding on the third line
-bound_faults : (name : List ℕ) (at : ℕ) → all_faults known (uses_of (good ++ N.Bind (record { at = 18; bytes = name }) (one_at at) ∷ []))
-    ≡ all_faults known (from_line (C.Plain (name_at 13 f)) (no_uses ∷ []) (used 18 (bound name) ((y ∷ []) ∷ []) ∷ []))
+bound_faults : (name : List ℕ) (at : ℕ) → all_faults known (uses_of told (good ++ N.Bind (record { at = 18; bytes = name }) (one_at at) ∷ []))
+    ≡ all_faults known (from_line (U.expr_step told (F.Call 13 (C.Plain (name_at 13 f)) (no_uses ∷ []))) (top_uses told (record { at = 18; bytes = name }) (top ((y ∷ []) ∷ [])) ++ []))
 bound_faults name at =
-    let vs = (y ∷ []) ∷ [] in
-    let last = used 18 (bound name) vs ∷ [] in
+    let v = top ((y ∷ []) ∷ []) in
+    let last = top_uses told (record { at = 18; bytes = name }) v ++ [] in
     let c = C.Plain (name_at 13 f) in
-    ap (all_faults known) (line_uses c (one_at 15 ∷ []) (no_uses ∷ []) (numbers_use (15 ∷ [])) (expr_uses (one_at at) vs ++ last)
-    ∙ (λ i. from_line c (no_uses ∷ []) (number_uses at (pos 1) i vs ++ last)))
+    let u = U.expr_step told (F.Call 13 c (no_uses ∷ [])) in
+    ap (all_faults known) (line_uses (E.Call 13 c (one_at 15 ∷ [])) u (call_is c (one_at 15 ∷ []) (no_uses ∷ []) (numbers_use (15 ∷ []))) (expr_uses (one_at at) v ++ last)
+    ∙ (λ i. from_line u (number_uses at (pos 1) i v ++ last)))
 
 pub binding_row : HoldsAt known with_two_bindings (fault 18 kind.Rebound)
 binding_row = one_holds with_two_bindings (fault 18 kind.Rebound) (bound_faults (y ∷ []) 22)
+
+pub shared_row : HoldsAt known with_function_name (fault 18 kind.Rebound)
+shared_row = one_holds with_function_name (fault 18 kind.Rebound) (bound_faults (f ∷ []) 22)
 
 pub built_in_row : HoldsAt known with_built_in (fault 18 kind.NameClash)
 built_in_row = one_holds with_built_in (fault 18 kind.NameClash) (bound_faults (codes "div") 24)

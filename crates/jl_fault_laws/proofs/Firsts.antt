@@ -6,7 +6,7 @@ use Rattle.jl_written.specs.Answered.{comes_before, first_of}
 use Rattle.jl_resolve_forms.specs.declared.state.State.{State}
 use Rattle.jl_resolve_forms.specs.Scopes.{noted, merged}
 use Rattle.jl_fault_laws.specs.Uses.{In}
-use Rattle.jl_fault_laws.specs.Rows.{has_whole_row, IsOther, IsOtherKind}
+use Rattle.jl_fault_laws.specs.Rows.{has_row, IsOther, IsOtherKind}
 
 -- the first of a fault and others
 abbrev pub firsts : Option Fault → List Fault → Option Fault
@@ -49,11 +49,11 @@ in_both x xs ys us vs f g i = by (in_either x xs ys i)
     by (inl j) = in_left x us vs (f j)
     by (inr j) = in_right x us vs (g j)
 
--- From one first fault to the next some faults are found: all of these, and no other one that has its whole row here.
+-- From one first fault to the next some faults are found: all of these, and no other one that has a row here.
 pub record Tells (fs : List Fault) (o r : Option Fault) : Type 0 where
   pub found : List Fault
   pub is : r ≡ firsts o found
-  pub only : (g : Fault) → has_whole_row g.kind ≡ true → In g found → In g fs
+  pub only : (g : Fault) → has_row g.kind ≡ true → In g found → In g fs
   pub all : (g : Fault) → In g fs → In g found
 
 pub nothing : (o : Option Fault) → Tells [] o o
@@ -77,11 +77,11 @@ swapped fs gs o r h = record { found = h.found; is = h.is; only = λ g e i. in_s
 pub one_fault : (f : Fault) (o : Option Fault) → Tells (f ∷ []) o (first_of o f)
 one_fault f o = record { found = f ∷ []; is = refl; only = λ g e i. i; all = λ g i. i }
 
-not_whole : (f g : Fault) → has_whole_row f.kind ≡ false → has_whole_row g.kind ≡ true → In g (f ∷ []) → In g []
-not_whole f g e r (inl p) = absurd (true≢false (sym r ∙ ap (λ (x : Fault). has_whole_row x.kind) p ∙ e))
+not_whole : (f g : Fault) → has_row f.kind ≡ false → has_row g.kind ≡ true → In g (f ∷ []) → In g []
+not_whole f g e r (inl p) = absurd (true≢false (sym r ∙ ap (λ (x : Fault). has_row x.kind) p ∙ e))
 not_whole f g e r (inr i) = i
 
-pub no_row : (f : Fault) (o : Option Fault) → has_whole_row f.kind ≡ false → Tells [] o (first_of o f)
+pub no_row : (f : Fault) (o : Option Fault) → has_row f.kind ≡ false → Tells [] o (first_of o f)
 no_row f o e = record { found = f ∷ []; is = refl; only = λ g r i. not_whole f g e r i; all = λ g i. absurd i }
 
 -- ---- faults without a row
@@ -122,7 +122,7 @@ firsts_among o (f ∷ fs) g e = by (firsts_among (first_of o f) fs g e)
     by (inr i) = inr (inr i)
 
 -- a fault with a row that is reported stood before, or is one of them
-pub only_rows : (fs : List Fault) (o r : Option Fault) → Tells fs o r → (g : Fault) → has_whole_row g.kind ≡ true → r ≡ Some g → (o ≡ Some g) ⊎ In g fs
+pub only_rows : (fs : List Fault) (o r : Option Fault) → Tells fs o r → (g : Fault) → has_row g.kind ≡ true → r ≡ Some g → (o ≡ Some g) ⊎ In g fs
 only_rows fs o r h g k e = by (firsts_among o h.found g (sym h.is ∙ e))
   where
     by : (o ≡ Some g) ⊎ In g h.found → (o ≡ Some g) ⊎ In g fs

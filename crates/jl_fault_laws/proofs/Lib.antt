@@ -1,6 +1,7 @@
 pub mod Firsts
 pub mod Faults
 pub mod Order
+pub mod Merged
 pub mod Names
 pub mod Told
 pub mod Trees

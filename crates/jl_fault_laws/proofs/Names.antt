@@ -1,6 +1,7 @@
 -- What is visible, and what a name is there, by slots and by names.
 use Rattle.std.proofs.Common.{ℕ, ◌+◌, Bool, true, false, cond, not, ◌||◌, ◌&&◌, List, [], ◌∷◌, ◌++◌, map, ◌≡◌, Option, Some, None, is_some, refl, sym, ap, ◌∙◌}
 use Rattle.jl_model.specs.declared.ty.Decl.{Decl}
+use Rattle.jl_model.specs.declared.ty.Written.{Written}
 use Rattle.jl_program.specs.Names.{same_text, is_among, builtin_names}
 use Rattle.jl_program.specs.Prelude.{prelude_functions}
 use Rattle.jl_token.specs.declared.token.Operator.{Operator}
@@ -16,7 +17,9 @@ use Rattle.jl_grammar.specs.declared.tree.Name.{Name}
 use Rattle.jl_grammar.specs.declared.tree.Param.{Param}
 use Rattle.jl_grammar.specs.declared.tree.Param.TheVariants as A
 use Rattle.jl_grammar.specs.Marks.{is_function}
-use Rattle.jl_written.specs.Meaning.{place_from, place_of}
+use Rattle.jl_written.specs.declared.reading.TypeVar.{TypeVar}
+use Rattle.jl_written.specs.Meaning.{later, place_from, place_of, var_of}
+use Rattle.jl_written.specs.Signatures.{shifted}
 use Rattle.jl_written.specs.declared.fault.StaticKind.TheVariants as kind
 use Rattle.jl_names.proofs.NumberLemmas.{text_is}
 use Rattle.jl_resolve_forms.specs.declared.known.Known.{Known}
@@ -24,15 +27,60 @@ use Rattle.jl_resolve_forms.specs.declared.state.Scope.{Scope}
 use Rattle.jl_resolve_forms.specs.declared.state.State.{State}
 use Rattle.jl_resolve_forms.specs.Scopes.{Seen, slot_from, slot_of, note, clashing, with_slot, slotted, bind}
 use Rattle.jl_resolve_forms.specs.Functions.{function_of_operator, function_of, unless_slot, if_struct, struct_named, struct_of}
-use Rattle.jl_resolve_forms.specs.Expressions.{parameters, made_struct}
-use Rattle.jl_fault_laws.specs.Uses.{Visible, bound, used, with_names, params_of, params_uses}
-use Rattle.jl_fault_laws.specs.Rows.{is_struct, makes_layer, has_function}
+use Rattle.jl_resolve_forms.specs.TypesIn.{declared_at}
+use Rattle.jl_resolve_forms.specs.Expressions.{parameters, made_struct, static_parameter, static_parameters}
+use Rattle.jl_fault_laws.specs.Uses.{Names, Visible, bound, used, with_name, with_names, params_of, params_uses, type_names, names_told, makes_layer}
+use Rattle.jl_fault_laws.specs.Rows.{is_struct, has_function}
 use Rattle.jl_fault_laws.proofs.Firsts.{Tells, nothing, two, same, one_fault}
 use Rattle.jl_fault_laws.proofs.Faults.{one, all_faults, joined}
 
 -- the slots with a name are those of the visible names
-abbrev pub Agrees : Scope → Visible → Type 0
+abbrev pub Agrees : Scope → Names → Type 0
 Agrees c vs = (name : List ℕ) → is_some (slot_of c.slots name) ≡ is_among name vs
+
+-- the type variables with a name are those of the visible names
+abbrev pub Knows : List TypeVar → Names → Type 0
+Knows vars ns = (name : List ℕ) → is_some (var_of vars name) ≡ is_among name ns
+
+-- a scope is what is visible
+pub record Sees (k : Known) (c : Scope) (v : Visible) : Type 0 where
+  pub slots : Agrees c v.names
+  pub vars : Knows c.statics v.vars
+  pub types : type_names (declared_at k c.types) ≡ v.types
+
+-- ---- the visible type variables
+
+first_is : (b : Bool) (x : TypeVar) (o : Option TypeVar) → is_some (later (cond b (Some x) None) o) ≡ (b || is_some o)
+first_is true x None = refl
+first_is true x (Some y) = refl
+first_is false x None = refl
+first_is false x (Some y) = refl
+
+reordered : (a s r : Bool) → (a || (s || r)) ≡ (s || (a || r))
+reordered true true r = refl
+reordered true false r = refl
+reordered false s r = refl
+
+appended : (vars : List TypeVar) (x : TypeVar) (name : List ℕ) → is_some (var_of (vars ++ x ∷ []) name) ≡ (same_text name x.name || is_some (var_of vars name))
+appended [] x name = first_is (same_text name x.name) x None
+appended (y ∷ ys) x name =
+    let a = same_text name y.name in
+    let s = same_text name x.name in
+    first_is a y (var_of (ys ++ x ∷ []) name) ∙ ap (λ b. a || b) (appended ys x name) ∙ reordered a s (is_some (var_of ys name)) ∙ ap (λ b. s || b) (sym (first_is a y (var_of ys name)))
+
+pub one_more : (vars : List TypeVar) (ns : Names) (x : TypeVar) → Knows vars ns → Knows (vars ++ x ∷ []) (x.name ∷ ns)
+one_more vars ns x h = λ name. appended vars x name ∙ ap (λ b. same_text name x.name || b) (h name)
+
+renumbered : (f : TypeVar → TypeVar) → ((v : TypeVar) → (f v).name ≡ v.name) → (vars : List TypeVar) (name : List ℕ) → is_some (var_of (map f vars) name) ≡ is_some (var_of vars name)
+renumbered f e [] name = refl
+renumbered f e (v ∷ vs) name =
+    first_is (same_text name (f v).name) (f v) (var_of (map f vs) name) ∙ (λ i. same_text name (e v i) || renumbered f e vs name i) ∙ sym (first_is (same_text name v.name) v (var_of vs name))
+
+pub shifted_knows : (n : ℕ) (vars : List TypeVar) (ns : Names) → Knows vars ns → Knows (shifted n vars) ns
+shifted_knows n vars ns h = λ name. renumbered (λ (v : TypeVar). record { name = v.name; number = n + v.number; usable = v.usable }) (λ v. refl) vars name ∙ h name
+
+pub statics_know : (w : Written) (vars : List TypeVar) (ns : Names) → Knows vars ns → Knows (static_parameters w vars) ns
+statics_know w vars ns h = λ name. renumbered (static_parameter w) (λ v. refl) vars name ∙ h name
 
 -- ---- one more slot
 
@@ -63,20 +111,32 @@ behind_some i (Some m ∷ ss) n name = by (same_text name m) (behind_some (i + 1
     by false e = e
 
 -- a name that is visible already adds none
-already : (n : List ℕ) (vs : Visible) → is_among n vs ≡ true → (name : List ℕ) → is_among name vs ≡ (same_text name n || is_among name vs)
+already : (n : List ℕ) (vs : Names) → is_among n vs ≡ true → (name : List ℕ) → is_among name vs ≡ (same_text name n || is_among name vs)
 already n vs e name = by (same_text name n) refl
   where
     by : (b : Bool) → same_text name n ≡ b → is_among name vs ≡ (b || is_among name vs)
     by true h = ap (λ x. is_among x vs) (text_is name n h) ∙ e
     by false h = refl
 
-slotted_agrees : (n : Name) (c : Scope) (s : State) (vs : Visible) → Agrees c vs → (o : Option ℕ) → slot_of c.slots n.bytes ≡ o → Agrees (slotted n c s o).scope (n.bytes ∷ vs)
+slotted_agrees : (n : Name) (c : Scope) (s : State) (vs : Names) → Agrees c vs → (o : Option ℕ) → slot_of c.slots n.bytes ≡ o → Agrees (slotted n c s o).scope (n.bytes ∷ vs)
 slotted_agrees n c s vs h None e = λ name. behind_some 0 c.slots n.bytes name ∙ ap (λ b. same_text name n.bytes || b) (h name)
 slotted_agrees n c s vs h (Some i) e = λ name. behind_none 0 c.slots name ∙ h name ∙ already n.bytes vs (sym (h n.bytes) ∙ ap is_some e) name
 
-pub bind_agrees : (n : Name) (c : Scope) (s : State) (vs : Visible) → Agrees c vs → Agrees (bind n c s).scope (n.bytes ∷ vs)
+slotted_sees : (k : Known) (n : Name) (c : Scope) (s : State) (v : Visible) → Sees k c v → (o : Option ℕ) → slot_of c.slots n.bytes ≡ o → Sees k (slotted n c s o).scope (with_name n.bytes v)
+slotted_sees k n c s v h None e = record { slots = slotted_agrees n c s v.names h.slots None e; vars = h.vars; types = h.types }
+slotted_sees k n c s v h (Some i) e = record { slots = slotted_agrees n c s v.names h.slots (Some i) e; vars = h.vars; types = h.types }
+
+pub bind_sees : (k : Known) (n : Name) (c : Scope) (s : State) (v : Visible) → Sees k c v → Sees k (bind n c s).scope (with_name n.bytes v)
 unfolding bind
-bind_agrees n c s vs h = slotted_agrees n c (clashing n.at n.bytes s) vs h (slot_of c.slots n.bytes) refl
+bind_sees k n c s v h = slotted_sees k n c (clashing n.at n.bytes s) v h (slot_of c.slots n.bytes) refl
+
+slotted_types : (n : Name) (c : Scope) (s : State) (o : Option ℕ) → (slotted n c s o).scope.types ≡ c.types
+slotted_types n c s None = refl
+slotted_types n c s (Some i) = refl
+
+pub bind_types : (n : Name) (c : Scope) (s : State) → (bind n c s).scope.types ≡ c.types
+unfolding bind
+bind_types n c s = slotted_types n c (clashing n.at n.bytes s) (slot_of c.slots n.bytes)
 
 -- what is told of a binding
 clashing_told : (at : ℕ) (name : List ℕ) (s : State) → Tells (one (is_among name builtin_names) kind.NameClash at) s.fault (clashing at name s).fault
@@ -91,45 +151,45 @@ slotted_told n c s None = nothing s.fault
 slotted_told n c s (Some i) = one_fault (record { at = n.at; kind = kind.Rebound }) s.fault
 
 -- the two faults of a binding among those of all rows
-two_of : (at : ℕ) (a b : Bool) → one a kind.NameClash at ++ one b kind.Rebound at ≡ (one a kind.NameClash at ++ (one b kind.Rebound at ++ [])) ++ []
+pub two_of : (at : ℕ) (a b : Bool) → one a kind.NameClash at ++ one b kind.Rebound at ≡ (one a kind.NameClash at ++ (one b kind.Rebound at ++ [])) ++ []
 two_of at true true = refl
 two_of at true false = refl
 two_of at false true = refl
 two_of at false false = refl
 
-pub bind_told : (k : Known) (n : Name) (c : Scope) (s : State) (vs : Visible) → Agrees c vs → Tells (all_faults k (used n.at (bound n.bytes) vs ∷ [])) s.fault (bind n c s).after.fault
+pub bind_told : (k : Known) (n : Name) (c : Scope) (s : State) (v : Visible) → Agrees c v.names → Tells (all_faults k (used n.at (bound n.bytes) v ∷ [])) s.fault (bind n c s).after.fault
 unfolding bind
-bind_told k n c s vs h =
+bind_told k n c s v h =
     let z = clashing n.at n.bytes s in
     let o = slot_of c.slots n.bytes in
     let a = is_among n.bytes builtin_names in
     let q = slotted n c z o in
-    same _ _ s.fault q.after.fault ((λ i. one a kind.NameClash n.at ++ one (h n.bytes i) kind.Rebound n.at) ∙ two_of n.at a (is_among n.bytes vs))
+    same _ _ s.fault q.after.fault ((λ i. one a kind.NameClash n.at ++ one (h n.bytes i) kind.Rebound n.at) ∙ two_of n.at a (is_among n.bytes v.names))
     (two (one a kind.NameClash n.at) (one (is_some o) kind.Rebound n.at) s.fault z.fault q.after.fault (clashing_told n.at n.bytes s) (slotted_told n c z o))
 
 -- parameters
-pub params_agree : (ps : List Param) (c : Scope) (s : State) (vs : Visible) → Agrees c vs → Agrees (parameters ps c s).scope (with_names (params_of ps) vs)
-params_agree [] c s vs h = h
-params_agree (A.Name n ∷ ps) c s vs h = let b = bind n c s in params_agree ps b.scope b.after (n.bytes ∷ vs) (bind_agrees n c s vs h)
-params_agree (A.Typed n t ∷ ps) c s vs h = let b = bind n c s in params_agree ps b.scope b.after (n.bytes ∷ vs) (bind_agrees n c s vs h)
-params_agree (A.Unnamed at t ∷ ps) c s vs h = params_agree ps (with_slot None c) s vs (λ name. behind_none 0 c.slots name ∙ h name)
+pub params_see : (k : Known) (ps : List Param) (c : Scope) (s : State) (v : Visible) → Sees k c v → Sees k (parameters ps c s).scope (with_names (params_of ps) v)
+params_see k [] c s v h = h
+params_see k (A.Name n ∷ ps) c s v h = let b = bind n c s in params_see k ps b.scope b.after (with_name n.bytes v) (bind_sees k n c s v h)
+params_see k (A.Typed n t ∷ ps) c s v h = let b = bind n c s in params_see k ps b.scope b.after (with_name n.bytes v) (bind_sees k n c s v h)
+params_see k (A.Unnamed at t ∷ ps) c s v h = params_see k ps (with_slot None c) s v (record { slots = λ name. behind_none 0 c.slots name ∙ h.slots name; vars = h.vars; types = h.types })
 
-named_param : (k : Known) (n : Name) (ps : List Param) (c : Scope) (s : State) (vs : Visible) → Agrees c vs
-    → ((b : Seen) → Agrees b.scope (n.bytes ∷ vs) → Tells (all_faults k (params_uses ps (n.bytes ∷ vs))) b.after.fault (parameters ps b.scope b.after).after.fault)
-    → Tells (all_faults k (used n.at (bound n.bytes) vs ∷ params_uses ps (n.bytes ∷ vs))) s.fault (parameters ps (bind n c s).scope (bind n c s).after).after.fault
-named_param k n ps c s vs h more =
+named_param : (k : Known) (n : Name) (ps : List Param) (c : Scope) (s : State) (v : Visible) → Sees k c v
+    → ((b : Seen) → Sees k b.scope (with_name n.bytes v) → Tells (all_faults k (params_uses ps (with_name n.bytes v))) b.after.fault (parameters ps b.scope b.after).after.fault)
+    → Tells (all_faults k (used n.at (bound n.bytes) v ∷ params_uses ps (with_name n.bytes v))) s.fault (parameters ps (bind n c s).scope (bind n c s).after).after.fault
+named_param k n ps c s v h more =
     let b = bind n c s in
-    joined k (used n.at (bound n.bytes) vs ∷ []) (params_uses ps (n.bytes ∷ vs)) s.fault b.after.fault (parameters ps b.scope b.after).after.fault (bind_told k n c s vs h) (more b (bind_agrees n c s vs h))
+    joined k (used n.at (bound n.bytes) v ∷ []) (params_uses ps (with_name n.bytes v)) s.fault b.after.fault (parameters ps b.scope b.after).after.fault (bind_told k n c s v h.slots) (more b (bind_sees k n c s v h))
 
-pub params_told : (k : Known) (ps : List Param) (c : Scope) (s : State) (vs : Visible) → Agrees c vs → Tells (all_faults k (params_uses ps vs)) s.fault (parameters ps c s).after.fault
-params_told k [] c s vs h = nothing s.fault
-params_told k (A.Name n ∷ ps) c s vs h = named_param k n ps c s vs h (λ b. params_told k ps b.scope b.after (n.bytes ∷ vs))
-params_told k (A.Typed n t ∷ ps) c s vs h = named_param k n ps c s vs h (λ b. params_told k ps b.scope b.after (n.bytes ∷ vs))
-params_told k (A.Unnamed at t ∷ ps) c s vs h = params_told k ps (with_slot None c) s vs (λ name. behind_none 0 c.slots name ∙ h name)
+pub params_told : (k : Known) (ps : List Param) (c : Scope) (s : State) (v : Visible) → Sees k c v → Tells (all_faults k (params_uses ps v)) s.fault (parameters ps c s).after.fault
+params_told k [] c s v h = nothing s.fault
+params_told k (A.Name n ∷ ps) c s v h = named_param k n ps c s v h (λ b. params_told k ps b.scope b.after (with_name n.bytes v))
+params_told k (A.Typed n t ∷ ps) c s v h = named_param k n ps c s v h (λ b. params_told k ps b.scope b.after (with_name n.bytes v))
+params_told k (A.Unnamed at t ∷ ps) c s v h = params_told k ps (with_slot None c) s v (record { slots = λ name. behind_none 0 c.slots name ∙ h.slots name; vars = h.vars; types = h.types })
 
 -- ---- what a name is
 
-place_found : (i : ℕ) (ns : List (List ℕ)) (name : List ℕ) → is_some (place_from i ns name) ≡ is_among name ns
+pub place_found : (i : ℕ) (ns : List (List ℕ)) (name : List ℕ) → is_some (place_from i ns name) ≡ is_among name ns
 place_found i [] name = refl
 place_found i (n ∷ ns) name = by (same_text name n) (place_found (i + 1) ns name)
   where
@@ -156,25 +216,25 @@ operator_is O.GreaterEqual = refl
 operator_is O.Not = refl
 operator_is _ = refl
 
-pub function_is : (k : Known) (f : Callee) (c : Scope) (vs : Visible) → Agrees c vs → is_some (function_of k f c) ≡ has_function k f vs
+pub function_is : (k : Known) (f : Callee) (c : Scope) (vs : Names) → Agrees c vs → is_some (function_of k f c) ≡ has_function k f vs
 unfolding function_of
 function_is k (C.Plain n) c vs h = unless_is (slot_of c.slots n.bytes) (place_of k.functions n.bytes) ∙ (λ i. not (h n.bytes i) && place_found 0 k.functions n.bytes i)
 function_is k (C.Base at n) c vs h = place_found 0 prelude_functions n.bytes
 function_is k (C.Operator at o) c vs h = operator_is o
 
-named_is : (k : Known) (n : List ℕ) (c : Scope) (vs : Visible) → Agrees c vs →
+named_is : (k : Known) (n : List ℕ) (c : Scope) (vs : Names) → Agrees c vs →
     is_some (struct_named k n c) ≡ (not (is_among n vs) && is_some (if_struct k.decls (place_of (map (λ (d : Decl). d.name) k.decls) n)))
 unfolding struct_named
 named_is k n c vs h =
     let p = if_struct k.decls (place_of (map (λ (d : Decl). d.name) k.decls) n) in
     unless_is (slot_of c.slots n) p ∙ ap (λ b. not b && is_some p) (h n)
 
-pub struct_is : (k : Known) (f : Callee) (c : Scope) (vs : Visible) → Agrees c vs → is_some (struct_of k f c) ≡ is_struct k f vs
+pub struct_is : (k : Known) (f : Callee) (c : Scope) (vs : Names) → Agrees c vs → is_some (struct_of k f c) ≡ is_struct k f vs
 struct_is k (C.Plain n) c vs h = named_is k n.bytes c vs h
 struct_is k (C.Base at n) c vs h = refl
 struct_is k (C.Operator at o) c vs h = refl
 
-pub makes_is : (k : Known) (l : TypeText-F ArgText TypeText VarText) (c : Scope) (vs : Visible) → Agrees c vs → is_some (made_struct k l c) ≡ makes_layer k l vs
-makes_is k (T.Name at n) c vs h = named_is k n c vs h
-makes_is k (T.Applied at n xs) c vs h = named_is k n c vs h
-makes_is k (T.Paren at t ws) c vs h = refl
+pub makes_is : (k : Known) (l : TypeText-F ArgText TypeText VarText) (c : Scope) (v : Visible) → Agrees c v.names → is_some (made_struct k l c) ≡ makes_layer (names_told k) l v
+makes_is k (T.Name at n) c v h = named_is k n c v.names h
+makes_is k (T.Applied at n xs) c v h = named_is k n c v.names h
+makes_is k (T.Paren at t ws) c v h = refl

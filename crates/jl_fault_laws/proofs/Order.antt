@@ -51,6 +51,9 @@ not_lex a b c d (inr h) = or_from (nat_lt a b) (nat_eq a b && nat_lt c d) (le-lt
 weaker : (c d i : ℕ) → d ≤ c → i < d → i ≤ c
 weaker c d i l m = omega (arith, l, m)
 
+not_less : (c d i : ℕ) → d ≤ c → i ≤ d → i ≤ c
+not_less c d i l m = omega (arith, l, m)
+
 -- what is before something that another does not come before, is not after that either
 joined : (a b e c d i : ℕ) → (b < a) ⊎ ((a ≡ b) × (d ≤ c)) → (e < b) ⊎ ((e ≡ b) × (i < d)) → (e < a) ⊎ ((a ≡ e) × (i ≤ c))
 joined a b e c d i (inl l) (inl m) = inl (omega (arith, l, m))
@@ -58,9 +61,20 @@ joined a b e c d i (inl l) (inr m) = inl (let n : e ≡ b = m.0 in omega (arith,
 joined a b e c d i (inr l) (inl m) = inl (let n : a ≡ b = l.0 in omega (arith, n, m))
 joined a b e c d i (inr l) (inr m) = inr (l.0 ∙ sym m.0, weaker c d i l.1 m.1)
 
-passes : (f h g : Fault) → comes_before f h ≡ false → comes_before g h ≡ true → comes_before f g ≡ false
+pub passes : (f h g : Fault) → comes_before f h ≡ false → comes_before g h ≡ true → comes_before f g ≡ false
 passes f h g e d = not_lex f.at g.at (number_of f.kind) (number_of g.kind)
     (joined f.at h.at g.at (number_of f.kind) (number_of h.kind) (number_of g.kind) (lex_false f.at h.at (number_of f.kind) (number_of h.kind) e) (lex_true g.at h.at (number_of g.kind) (number_of h.kind) d))
+
+-- where neither of two comes before the one behind it, the first does not come before the last
+below_both : (a b e c d i : ℕ) → (b < a) ⊎ ((a ≡ b) × (d ≤ c)) → (e < b) ⊎ ((b ≡ e) × (i ≤ d)) → (e < a) ⊎ ((a ≡ e) × (i ≤ c))
+below_both a b e c d i (inl l) (inl m) = inl (omega (arith, l, m))
+below_both a b e c d i (inl l) (inr m) = inl (let n : b ≡ e = m.0 in omega (arith, l, n))
+below_both a b e c d i (inr l) (inl m) = inl (let n : a ≡ b = l.0 in omega (arith, n, m))
+below_both a b e c d i (inr l) (inr m) = inr (l.0 ∙ m.0, not_less c d i l.1 m.1)
+
+pub neither : (f g h : Fault) → comes_before f g ≡ false → comes_before g h ≡ false → comes_before f h ≡ false
+neither f g h e d = not_lex f.at h.at (number_of f.kind) (number_of h.kind)
+    (below_both f.at g.at h.at (number_of f.kind) (number_of g.kind) (number_of h.kind) (lex_false f.at g.at (number_of f.kind) (number_of g.kind) e) (lex_false g.at h.at (number_of g.kind) (number_of h.kind) d))
 
 itself : (f : Fault) → comes_before f f ≡ false
 itself f = not_lex f.at f.at (number_of f.kind) (number_of f.kind) (inr (refl, omega arith))

@@ -8,12 +8,12 @@ use Rattle.jl_written.specs.declared.fault.StaticKind.TheVariants as kind
 use Rattle.jl_resolve_forms.specs.declared.known.Known.{Known}
 use Rattle.jl_resolve_forms.specs.Top.{resolved}
 use Rattle.jl_resolve_forms.specs.TypesIn.{Tests}
-use Rattle.jl_fault_laws.specs.Uses.{Use, In, uses_of}
-use Rattle.jl_fault_laws.specs.Rows.{unknown_name, unknown_function, too_many_arguments, rebound, name_clash, holds, has_whole_row, HoldsAt, IsReportedBy, TellTypes}
+use Rattle.jl_fault_laws.specs.Uses.{Use, In, names_told, uses_of}
+use Rattle.jl_fault_laws.specs.Rows.{unknown_name, unknown_function, unknown_type, too_many_arguments, rebound, duplicate, name_clash, holds, has_row, HoldsIn, HoldsAt, IsReportedBy, TellTypes}
 use Rattle.jl_fault_laws.proofs.Firsts.{in_left, in_right, in_either, only_rows}
 use Rattle.jl_fault_laws.proofs.Order.{least_rows}
 use Rattle.jl_fault_laws.proofs.Faults.{one, faults_of, all_faults}
-use Rattle.jl_fault_laws.proofs.Texts.{are_other}
+use Rattle.jl_fault_laws.proofs.Texts.{are_told}
 use Rattle.jl_fault_laws.proofs.Trees.{script_told}
 
 -- ---- a fault of a use, and the row that holds of it
@@ -40,8 +40,14 @@ one_of k u f x b h i =
 abbrev from_arguments : Known → Use → List Fault
 from_arguments k u = one (too_many_arguments k u.how u.visible) kind.TooManyArguments u.at
 
+abbrev from_duplicate : Known → Use → List Fault
+from_duplicate k u = one (duplicate u.how u.visible) kind.DuplicateType u.at ++ from_arguments k u
+
+abbrev from_type : Known → Use → List Fault
+from_type k u = one (unknown_type u.how u.visible) kind.UnknownType u.at ++ from_duplicate k u
+
 abbrev from_function : Known → Use → List Fault
-from_function k u = one (unknown_function k u.how u.visible) kind.UnknownFunction u.at ++ from_arguments k u
+from_function k u = one (unknown_function k u.how u.visible) kind.UnknownFunction u.at ++ from_type k u
 
 abbrev from_name : Known → Use → List Fault
 from_name k u = one (unknown_name u.how u.visible) kind.UnknownName u.at ++ from_function k u
@@ -49,12 +55,26 @@ from_name k u = one (unknown_name u.how u.visible) kind.UnknownName u.at ++ from
 abbrev from_rebound : Known → Use → List Fault
 from_rebound k u = one (rebound u.how u.visible) kind.Rebound u.at ++ from_name k u
 
-of_function : (k : Known) (u : Use) (f : Fault) → In f (from_function k u) → IsOf k u f
-of_function k u f i = by (in_either f (one (unknown_function k u.how u.visible) kind.UnknownFunction u.at) (from_arguments k u) i)
+of_duplicate : (k : Known) (u : Use) (f : Fault) → In f (from_duplicate k u) → IsOf k u f
+of_duplicate k u f i = by (in_either f (one (duplicate u.how u.visible) kind.DuplicateType u.at) (from_arguments k u) i)
   where
-    by : In f (one (unknown_function k u.how u.visible) kind.UnknownFunction u.at) ⊎ In f (from_arguments k u) → IsOf k u f
-    by (inl j) = one_of k u f kind.UnknownFunction (unknown_function k u.how u.visible) refl j
+    by : In f (one (duplicate u.how u.visible) kind.DuplicateType u.at) ⊎ In f (from_arguments k u) → IsOf k u f
+    by (inl j) = one_of k u f kind.DuplicateType (duplicate u.how u.visible) refl j
     by (inr j) = one_of k u f kind.TooManyArguments (too_many_arguments k u.how u.visible) refl j
+
+of_type : (k : Known) (u : Use) (f : Fault) → In f (from_type k u) → IsOf k u f
+of_type k u f i = by (in_either f (one (unknown_type u.how u.visible) kind.UnknownType u.at) (from_duplicate k u) i)
+  where
+    by : In f (one (unknown_type u.how u.visible) kind.UnknownType u.at) ⊎ In f (from_duplicate k u) → IsOf k u f
+    by (inl j) = one_of k u f kind.UnknownType (unknown_type u.how u.visible) refl j
+    by (inr j) = of_duplicate k u f j
+
+of_function : (k : Known) (u : Use) (f : Fault) → In f (from_function k u) → IsOf k u f
+of_function k u f i = by (in_either f (one (unknown_function k u.how u.visible) kind.UnknownFunction u.at) (from_type k u) i)
+  where
+    by : In f (one (unknown_function k u.how u.visible) kind.UnknownFunction u.at) ⊎ In f (from_type k u) → IsOf k u f
+    by (inl j) = one_of k u f kind.UnknownFunction (unknown_function k u.how u.visible) refl j
+    by (inr j) = of_type k u f j
 
 of_name : (k : Known) (u : Use) (f : Fault) → In f (from_name k u) → IsOf k u f
 of_name k u f i = by (in_either f (one (unknown_name u.how u.visible) kind.UnknownName u.at) (from_function k u) i)
@@ -92,27 +112,23 @@ behind_name : (k : Known) (u : Use) (f : Fault) → In f (from_function k u) →
 behind_name k u f i = behind_clash k u f (in_right f (one (rebound u.how u.visible) kind.Rebound u.at) (from_name k u) (in_right f (one (unknown_name u.how u.visible) kind.UnknownName u.at) (from_function k u) i))
 
 -- where a row holds its fault is among those of the use
+behind_type : (k : Known) (u : Use) (f : Fault) → In f (from_type k u) → In f (faults_of k u)
+behind_type k u f i = behind_name k u f (in_right f (one (unknown_function k u.how u.visible) kind.UnknownFunction u.at) (from_type k u) i)
+
+behind_duplicate : (k : Known) (u : Use) (f : Fault) → In f (from_duplicate k u) → In f (faults_of k u)
+behind_duplicate k u f i = behind_type k u f (in_right f (one (unknown_type u.how u.visible) kind.UnknownType u.at) (from_duplicate k u) i)
+
 fault_by : (k : Known) (u : Use) (x : StaticKind) → holds k x u.how u.visible ≡ true → In (record { at = u.at; kind = x }) (faults_of k u)
 fault_by k u kind.NameClash h = in_left _ (one (name_clash k u.how) kind.NameClash u.at) (from_rebound k u) (in_one (name_clash k u.how) kind.NameClash u.at h)
 fault_by k u kind.Rebound h = behind_clash k u _ (in_left _ (one (rebound u.how u.visible) kind.Rebound u.at) (from_name k u) (in_one (rebound u.how u.visible) kind.Rebound u.at h))
 fault_by k u kind.UnknownName h = behind_clash k u _ (in_right _ (one (rebound u.how u.visible) kind.Rebound u.at) (from_name k u)
     (in_left _ (one (unknown_name u.how u.visible) kind.UnknownName u.at) (from_function k u) (in_one (unknown_name u.how u.visible) kind.UnknownName u.at h)))
-fault_by k u kind.UnknownFunction h = behind_name k u _ (in_left _ (one (unknown_function k u.how u.visible) kind.UnknownFunction u.at) (from_arguments k u) (in_one (unknown_function k u.how u.visible) kind.UnknownFunction u.at h))
-fault_by k u kind.TooManyArguments h = behind_name k u _ (in_right _ (one (unknown_function k u.how u.visible) kind.UnknownFunction u.at) (from_arguments k u) (in_one (too_many_arguments k u.how u.visible) kind.TooManyArguments u.at h))
-fault_by k u kind.UnknownType h = absurd (true≢false (sym h))
-fault_by k u kind.DuplicateType h = absurd (true≢false (sym h))
-fault_by k u kind.WrongParameterCount h = absurd (true≢false (sym h))
-fault_by k u kind.SuperNotAbstract h = absurd (true≢false (sym h))
-fault_by k u kind.VariablePlace h = absurd (true≢false (sym h))
-fault_by k u kind.TypeLimit h = absurd (true≢false (sym h))
-fault_by k u kind.BoundsCrossed h = absurd (true≢false (sym h))
-fault_by k u kind.BoundBroken h = absurd (true≢false (sym h))
-fault_by k u kind.TooMany h = absurd (true≢false (sym h))
-fault_by k u kind.DuplicateField h = absurd (true≢false (sym h))
-fault_by k u kind.UnusedVariable h = absurd (true≢false (sym h))
-fault_by k u kind.TooManyParameters h = absurd (true≢false (sym h))
-fault_by k u kind.TooManySites h = absurd (true≢false (sym h))
-fault_by k u kind.StaticParameterUse h = absurd (true≢false (sym h))
+fault_by k u kind.UnknownFunction h = behind_name k u _ (in_left _ (one (unknown_function k u.how u.visible) kind.UnknownFunction u.at) (from_type k u) (in_one (unknown_function k u.how u.visible) kind.UnknownFunction u.at h))
+fault_by k u kind.UnknownType h = behind_type k u _ (in_left _ (one (unknown_type u.how u.visible) kind.UnknownType u.at) (from_duplicate k u) (in_one (unknown_type u.how u.visible) kind.UnknownType u.at h))
+fault_by k u kind.DuplicateType h = behind_duplicate k u _ (in_left _ (one (duplicate u.how u.visible) kind.DuplicateType u.at) (from_arguments k u) (in_one (duplicate u.how u.visible) kind.DuplicateType u.at h))
+fault_by k u kind.TooManyArguments h =
+    behind_duplicate k u _ (in_right _ (one (duplicate u.how u.visible) kind.DuplicateType u.at) (from_arguments k u) (in_one (too_many_arguments k u.how u.visible) kind.TooManyArguments u.at h))
+fault_by k u _ h = absurd (true≢false (sym h))
 
 fault_of : (k : Known) (u : Use) (f : Fault) → u.at ≡ f.at → holds k f.kind u.how u.visible ≡ true → In f (faults_of k u)
 fault_of k u f e h = subst (λ a. In (record { at = a; kind = f.kind }) (faults_of k u)) e (fault_by k u f.kind h)
@@ -122,22 +138,26 @@ among k [] u f i e h = absurd i
 among k (v ∷ us) u f (inl p) e h = in_left f (faults_of k v) (all_faults k us) (subst (λ x. In f (faults_of k x)) p (fault_of k u f e h))
 among k (v ∷ us) u f (inr i) e h = in_right f (faults_of k v) (all_faults k us) (among k us u f i e h)
 
-pub among_holds : (k : Known) (items : List Item) (f : Fault) → In f (all_faults k (uses_of items)) → HoldsAt k items f
-among_holds k items f i = let u = some_use k (uses_of items) f i in record { use_ = u.0; among = u.1; place = u.2.0; row = u.2.1 }
+pub among_holds : (k : Known) (us : List Use) (f : Fault) → In f (all_faults k us) → HoldsIn k us f
+among_holds k us f i = let u = some_use k us f i in record { use_ = u.0; among = u.1; place = u.2.0; row = u.2.1 }
 
-pub holds_among : (k : Known) (items : List Item) (f : Fault) → HoldsAt k items f → In f (all_faults k (uses_of items))
-holds_among k items f h = among k (uses_of items) h.use_ f h.among h.place h.row
+pub holds_among : (k : Known) (us : List Use) (f : Fault) → HoldsIn k us f → In f (all_faults k us)
+holds_among k us f h = among k us h.use_ f h.among h.place h.row
 
 -- ---- of a script
 
-pub rows_only : (t : Tests) → TellTypes t → (k : Known) (items : List Item) (o : Option Fault) → FormedItems items → (f : Fault) → has_whole_row f.kind ≡ true →
+pub rows_only : (t : Tests) → TellTypes t → (k : Known) (items : List Item) (o : Option Fault) → FormedItems items → (f : Fault) → has_row f.kind ≡ true →
     (resolved t k items o).fault ≡ Some f → (o ≡ Some f) ⊎ HoldsAt k items f
-rows_only t q k items o fs f r e = by (only_rows (all_faults k (uses_of items)) o (resolved t k items o).fault (script_told t k (are_other t k q) items fs o) f r e)
+rows_only t q k items o fs f r e = by (only_rows (all_faults k us) o (resolved t k items o).fault (script_told t k (are_told t k q) items fs o) f r e)
   where
-    by : (o ≡ Some f) ⊎ In f (all_faults k (uses_of items)) → (o ≡ Some f) ⊎ HoldsAt k items f
+    us : List Use
+    us = uses_of (names_told k) items
+
+    by : (o ≡ Some f) ⊎ In f (all_faults k us) → (o ≡ Some f) ⊎ HoldsAt k items f
     by (inl p) = inl p
-    by (inr i) = inr (among_holds k items f i)
+    by (inr i) = inr (among_holds k us f i)
 
 pub rows_least : (t : Tests) → TellTypes t → (k : Known) (items : List Item) (o : Option Fault) → FormedItems items → (f : Fault) → HoldsAt k items f → IsReportedBy (resolved t k items o).fault f
 rows_least t q k items o fs f h =
-    least_rows (all_faults k (uses_of items)) o (resolved t k items o).fault (script_told t k (are_other t k q) items fs o) f (holds_among k items f h)
+    let us = uses_of (names_told k) items in
+    least_rows (all_faults k us) o (resolved t k items o).fault (script_told t k (are_told t k q) items fs o) f (holds_among k us f h)

@@ -1,5 +1,6 @@
--- What is told of a written type has no row here: it is a fault of types.
-use Rattle.std.proofs.Common.{ℕ, Bool, true, false, cond, not, ◌||◌, ◌&&◌, nat_eq, nat_lt, List, [], ◌∷◌, ◌++◌, map, drop, length, ◌≡◌, Option, Some, None, refl, sym, subst, slice_get}
+-- What is told of a written type are the faults of the uses of names in it.
+use Rattle.std.proofs.Common.{ℕ, Bool, true, false, cond, not, ◌||◌, ◌&&◌, codes, nat_eq, nat_lt, List, [], ◌∷◌, ◌++◌, map, drop, length, ◌≡◌, Option, Some, None, is_some, refl, sym, ap, subst, ◌∙◌, slice_get}
+use Rattle.jl_model.specs.declared.builtin.TheConstants.{INT64}
 use Rattle.jl_model.specs.declared.ty.Ty.{Ty, out-Ty}
 use Rattle.jl_model.specs.declared.ty.Ty.TheOpen.{Ty-F}
 use Rattle.jl_model.specs.declared.ty.Ty.TheOpen as L
@@ -7,24 +8,26 @@ use Rattle.jl_model.specs.declared.ty.Bound.{Bound}
 use Rattle.jl_model.specs.declared.ty.Decl.{Decl}
 use Rattle.jl_model.specs.declared.ty.Written.{Written}
 use Rattle.jl_model.specs.Valid.{params_of}
-use Rattle.jl_program.specs.Names.{is_among, builtin_names}
+use Rattle.jl_program.specs.Names.{same_text, is_among, builtin_names}
 use Rattle.jl_typeread.specs.declared.tree.TypeText.{TypeText}
 use Rattle.jl_typeread.specs.declared.tree.ArgText.{ArgText}
 use Rattle.jl_typeread.specs.declared.tree.VarText.{VarText}
 use Rattle.jl_typeread.specs.declared.tree.ArgText.TheOpen as F
-use Rattle.jl_typeread.specs.declared.tree.ArgText.TheFolds.{fold-roll-TypeText, fold-roll-ArgText, fold-roll-VarText}
+use Rattle.jl_typeread.specs.declared.tree.ArgText.TheOpen.{ArgText-F, TypeText-F, VarText-F}
+use Rattle.jl_typeread.specs.declared.tree.ArgText.TheFolds.{map-ArgText, map-TypeText, map-VarText, fold-roll-TypeText, fold-roll-ArgText, fold-roll-VarText}
+use Rattle.jl_typeread.specs.declared.tree.ArgText.TheViews.{roll-ArgText, roll-TypeText, roll-VarText}
 use Rattle.jl_grammar.specs.declared.tree.Head.{Head}
 use Rattle.jl_written.specs.declared.fault.Fault.{Fault}
 use Rattle.jl_written.specs.declared.fault.StaticKind.{StaticKind}
 use Rattle.jl_written.specs.declared.fault.StaticKind.TheVariants as kind
-use Rattle.jl_written.specs.declared.reading.Named.{Named}
 use Rattle.jl_written.specs.declared.reading.Named.TheVariants as N
 use Rattle.jl_written.specs.declared.reading.Reading.{Reading}
 use Rattle.jl_written.specs.declared.reading.Swap.{Swap}
 use Rattle.jl_written.specs.declared.reading.TypeVar.{TypeVar}
-use Rattle.jl_written.specs.Answered.{first_of, comes_before}
-use Rattle.jl_written.specs.Meaning.{var_of, named}
-use Rattle.jl_written.specs.Reads.{Typed, Types, TypeReads, ArgReads, VarReads, unread, note, unknown, used, missing, fresh, placed_layer, placed, arguments, members, rebound, guarded, bind, bind_all, where_at, swapped, within, plain, applied, type_step, arg_step, var_step, type_reads, arg_reads, var_reads}
+use Rattle.jl_written.specs.Meaning.{place_of, var_of, var_or, named}
+use Rattle.jl_written.specs.Meaning as M
+use Rattle.jl_written.specs.Reads.{Typed, Types, TypeReads, ArgReads, VarReads, unread, note, unknown, missing, fresh, placed_layer, placed, arguments, members, rebound, guarded, bind, bind_all, where_at, within, plain, applied, type_reads, arg_reads, var_reads}
+use Rattle.jl_written.specs.Reads as R
 use Rattle.jl_written.specs.Signatures.{option_reads, all_read, all_bound, adopted, written_of, signature, shifted, body_type, constructor_type, width_of}
 use Rattle.jl_written.specs.TextOrder.{ordered_by, one_ordered_by}
 use Rattle.jl_resolve_forms.specs.declared.known.Known.{Known}
@@ -34,174 +37,271 @@ use Rattle.jl_resolve_forms.specs.Scopes.{noted, merged}
 use Rattle.jl_resolve_forms.specs.TypesIn.{Tests, declared_at, refusal, begins, one_type, made_refusal, type_at, made_type, body_written, made_at}
 use Rattle.jl_resolve_forms.specs.Expressions.{type_of, signed}
 use Rattle.jl_type_laws.proofs.TextInduction.{EachText, TextCases, by_type, by_arg, by_var}
-use Rattle.jl_fault_laws.specs.Rows.{has_whole_row, IsOther, IsOtherKind, TellTypes}
-use Rattle.jl_fault_laws.proofs.Firsts.{Tells, two, noted_other, merged_other}
-use Rattle.jl_fault_laws.proofs.Told.{AreOther}
+use Rattle.jl_fault_laws.specs.Uses.{Visible, Uses, Brings, type_variable, plain_type, braced_type, used, each, if_read, with_var, with_vars, brought, bare, type_names, type_uses, arg_uses, var_uses, option_uses, options_uses, in_head, signature_uses}
+use Rattle.jl_fault_laws.specs.Uses as U
+use Rattle.jl_fault_laws.specs.Rows.{IsOtherKind, TellTypes}
+use Rattle.jl_fault_laws.proofs.Firsts.{Tells, nothing, two, same, one_fault, no_row, noted_other}
+use Rattle.jl_fault_laws.proofs.Faults.{one, all_faults, Pairs, joined, then_other}
+use Rattle.jl_fault_laws.proofs.Merged.{merged_told}
+use Rattle.jl_fault_laws.proofs.Names.{Knows, Sees, one_more, shifted_knows, two_of, place_found}
+use Rattle.jl_fault_laws.proofs.Told.{AreTold}
 
-pub first_other : (o : Option Fault) (f : Fault) → has_whole_row f.kind ≡ false → IsOther o → IsOther (first_of o f)
-first_other None f e h = e
-first_other (Some g) f e h = by (comes_before f g)
+-- ---- readings
+
+missing_told : (bs : List Bound) (inside : Bool) (r : Reading) → Tells [] r.fault (missing bs inside r).after.fault
+missing_told [] inside r = nothing r.fault
+missing_told (b ∷ bs) inside r = missing_told bs inside (fresh b inside r).after
+
+layer_told : (high : Ty) (l : Ty-F Ty) (r : Reading) → Tells [] r.fault (placed_layer high l r).fault
+layer_told high (L.Var v) r = nothing r.fault
+layer_told high _ r = nothing r.fault
+
+placed_told : (bs : List Bound) (t : Ty) (r : Reading) → Tells [] r.fault (placed bs t r).fault
+placed_told [] t r = nothing r.fault
+placed_told (b ∷ bs) t r = layer_told b.high (out-Ty t) r
+
+used_told : (at : ℕ) (b : Bool) (r : Reading) → Tells [] r.fault (R.used at b r).fault
+used_told at true r = nothing r.fault
+used_told at false r = no_row (record { at = at; kind = kind.StaticParameterUse }) r.fault refl
+
+unknown_told : (at : ℕ) (r : Reading) → Tells (record { at = at; kind = kind.UnknownType } ∷ []) r.fault (unknown at r).after.fault
+unknown_told at r = one_fault (record { at = at; kind = kind.UnknownType }) r.fault
+
+guarded_told : (at : ℕ) (name : List ℕ) (r : Reading) → Tells (one (is_among name builtin_names) kind.NameClash at) r.fault (guarded at name r).fault
+guarded_told at name r = by (is_among name builtin_names)
   where
-    by : (b : Bool) → IsOther (cond b (Some f) (Some g))
-    by true = e
-    by false = h
+    by : (b : Bool) → Tells (one b kind.NameClash at) r.fault (cond b (note at kind.NameClash r) r).fault
+    by true = one_fault (record { at = at; kind = kind.NameClash }) r.fault
+    by false = nothing r.fault
 
--- ---- readings that tell nothing else
+rebound_told : (at : ℕ) (o : Option TypeVar) (r : Reading) → Tells (one (is_some o) kind.Rebound at) r.fault (rebound at o r).fault
+rebound_told at None r = nothing r.fault
+rebound_told at (Some v) r = one_fault (record { at = at; kind = kind.Rebound }) r.fault
 
-abbrev KeepsType : TypeReads → Type 0
-KeepsType t = (vars : List TypeVar) (inside : Bool) (r : Reading) → IsOther r.fault → IsOther (t vars inside r).after.fault
-
-abbrev KeepsArg : ArgReads → Type 0
-KeepsArg x = (vars : List TypeVar) (outer inner : Bool) (r : Reading) → IsOther r.fault → IsOther (x vars outer inner r).after.fault
-
-abbrev KeepsVar : VarReads → Type 0
-KeepsVar v = (vars : List TypeVar) (inside : Bool) (r : Reading) → IsOther r.fault → IsOther (v.bounds vars inside r).after.fault
-
-missing_other : (bs : List Bound) (inside : Bool) (r : Reading) → IsOther r.fault → IsOther (missing bs inside r).after.fault
-missing_other [] inside r h = h
-missing_other (b ∷ bs) inside r h = missing_other bs inside (fresh b inside r).after h
-
-layer_other : (high : Ty) (l : Ty-F Ty) (r : Reading) → IsOther r.fault → IsOther (placed_layer high l r).fault
-layer_other high (L.Var v) r h = h
-layer_other high _ r h = h
-
-placed_other : (bs : List Bound) (t : Ty) (r : Reading) → IsOther r.fault → IsOther (placed bs t r).fault
-placed_other [] t r h = h
-placed_other (b ∷ bs) t r h = layer_other b.high (out-Ty t) r h
-
-arguments_other : (bs : List Bound) (xs : List ArgReads) → EachText KeepsArg xs → (vars : List TypeVar) (inside : Bool) (r : Reading) → IsOther r.fault → IsOther (arguments bs xs vars inside r).after.fault
-arguments_other bs [] k vars inside r h = missing_other bs inside r h
-arguments_other bs (x ∷ xs) k vars inside r h =
-    let t = x vars inside true r in
-    arguments_other (drop 1 bs) xs k.1 vars inside (placed bs t.ty t.after) (placed_other bs t.ty t.after (k.0 vars inside true r h))
-
-members_other : (xs : List ArgReads) → EachText KeepsArg xs → (vars : List TypeVar) (inside : Bool) (r : Reading) → IsOther r.fault → IsOther (members xs vars inside r).after.fault
-members_other [] k vars inside r h = h
-members_other (x ∷ xs) k vars inside r h = members_other xs k.1 vars inside (x vars inside inside r).after (k.0 vars inside inside r h)
-
-used_other : (at : ℕ) (b : Bool) (r : Reading) → IsOther r.fault → IsOther (used at b r).fault
-used_other at true r h = h
-used_other at false r h = first_other r.fault (record { at = at; kind = kind.StaticParameterUse }) refl h
-
-unknown_other : (at : ℕ) (r : Reading) → IsOther r.fault → IsOther (unknown at r).after.fault
-unknown_other at r h = first_other r.fault (record { at = at; kind = kind.UnknownType }) refl h
-
-rebound_other : (at : ℕ) (o : Option TypeVar) (r : Reading) → IsOther r.fault → IsOther (rebound at o r).fault
-rebound_other at None r h = h
-rebound_other at (Some v) r h = first_other r.fault (record { at = at; kind = kind.Rebound }) refl h
-
-guarded_other : (at : ℕ) (name : List ℕ) (r : Reading) → IsOther r.fault → IsOther (guarded at name r).fault
-guarded_other at name r h = by (is_among name builtin_names)
-  where
-    by : (b : Bool) → IsOther (cond b (note at kind.NameClash r) r).fault
-    by true = first_other r.fault (record { at = at; kind = kind.NameClash }) refl h
-    by false = h
-
-bind_other : (v : VarReads) → KeepsVar v → (vars : List TypeVar) (inside : Bool) (r : Reading) → IsOther r.fault → IsOther (bind v vars inside r).after.fault
-bind_other v k vars inside r h =
-    let b = v.bounds vars inside r in
-    rebound_other v.at (var_of vars v.name) (guarded v.at v.name b.after) (guarded_other v.at v.name b.after (k vars inside r h))
-
-bind_all_other : (vs : List VarReads) → EachText KeepsVar vs → (vars : List TypeVar) (inside : Bool) (r : Reading) → IsOther r.fault → IsOther (bind_all vs vars inside r).after.fault
-bind_all_other [] k vars inside r h = h
-bind_all_other (v ∷ vs) k vars inside r h = let s = bind v vars inside r in bind_all_other vs k.1 s.vars inside s.after (bind_other v k.0 vars inside r h)
-
-where_other : (vs : List VarReads) (inside : Bool) (r : Reading) → IsOther r.fault → IsOther (where_at vs inside r).fault
-where_other [] inside r h = h
-where_other (v ∷ vs) inside r h = h
-
-swap_other : (b : Bool) (s : Swap) (r : Reading) → IsOther r.fault → IsOther (cond b (record r { swaps = r.swaps ++ s ∷ [] }) r).fault
-swap_other true s r h = h
-swap_other false s r h = h
-
-swapped_other : (start middle : ℕ) (r : Reading) → IsOther r.fault → IsOther (swapped start middle r).fault
-swapped_other start middle r h = swap_other (nat_lt start middle && nat_lt middle (length r.vars)) (record { start = start; middle = middle; stop = length r.vars }) r h
+where_told : (vs : List VarReads) (inside : Bool) (r : Reading) → Tells [] r.fault (where_at vs inside r).fault
+where_told [] inside r = nothing r.fault
+where_told (v ∷ vs) inside r = nothing r.fault
 
 -- the order of the text changes no fault
-ordered_other : (ss : List Swap) (ts : Types) → IsOther ts.after.fault → IsOther (ordered_by ss ts).after.fault
-ordered_other [] ts h = h
-ordered_other (s ∷ ss) ts h = h
 
-one_ordered_other : (ss : List Swap) (t : Typed) → IsOther t.after.fault → IsOther (one_ordered_by ss t).after.fault
-one_ordered_other [] t h = h
-one_ordered_other (s ∷ ss) t h = h
+swap_told : (b : Bool) (s : Swap) (fs : List Fault) (o : Option Fault) (r : Reading) → Tells fs o r.fault → Tells fs o (cond b (record r { swaps = r.swaps ++ s ∷ [] }) r).fault
+swap_told true s fs o r h = h
+swap_told false s fs o r h = h
 
-each_map : {A B : Type 0} (P : B → Type 0) (f : A → B) (xs : List A) → EachText (λ x. P (f x)) xs → EachText P (map f xs)
-each_map P f [] h = tt
-each_map P f (x ∷ xs) h = (h.0, each_map P f xs h.1)
+swapped_told : (start middle : ℕ) (fs : List Fault) (o : Option Fault) (r : Reading) → Tells fs o r.fault → Tells fs o (R.swapped start middle r).fault
+swapped_told start middle fs o r h = swap_told (nat_lt start middle && nat_lt middle (length r.vars)) (record { start = start; middle = middle; stop = length r.vars }) fs o r h
+
+ordered_told : (ss : List Swap) (ts : Types) (fs : List Fault) (o : Option Fault) → Tells fs o ts.after.fault → Tells fs o (ordered_by ss ts).after.fault
+ordered_told [] ts fs o h = h
+ordered_told (s ∷ ss) ts fs o h = h
+
+one_ordered_told : (ss : List Swap) (t : Typed) (fs : List Fault) (o : Option Fault) → Tells fs o t.after.fault → Tells fs o (one_ordered_by ss t).after.fault
+one_ordered_told [] t fs o h = h
+one_ordered_told (s ∷ ss) t fs o h = h
+
+each_pairs : {A B C : Type 0} (P : B → C → Type 0) (f : A → B) (g : A → C) (xs : List A) → EachText (λ x. P (f x) (g x)) xs → Pairs P (map f xs) (map g xs)
+each_pairs P f g [] h = tt
+each_pairs P f g (x ∷ xs) h = (h.0, each_pairs P f g xs h.1)
 
 each_all : {A : Type 0} (P : A → Type 0) → ((x : A) → P x) → (xs : List A) → EachText P xs
 each_all P h [] = tt
 each_all P h (x ∷ xs) = (h x, each_all P h xs)
 
-module _ (ds : List Decl) where
-  plain_other : (at : ℕ) (n : Named) (inside : Bool) (r : Reading) → IsOther r.fault → IsOther (plain ds at n inside r).after.fault
-  plain_other at (N.Variable v usable) inside r h = used_other at usable r h
-  plain_other at N.Any inside r h = h
-  plain_other at N.Union inside r h = unknown_other at r h
-  plain_other at N.Tuple inside r h = unknown_other at r h
-  plain_other at (N.Nominal k) inside r h = missing_other (params_of (slice_get ds k)) inside r h
-  plain_other at N.Unknown inside r h = unknown_other at r h
+module _ (k : Known) (ds : List Decl) where
+  abbrev IsType : Uses → TypeReads → Type 0
+  IsType u t = (vars : List TypeVar) (v : Visible) (inside : Bool) (r : Reading) → Knows vars v.vars → type_names ds ≡ v.types → Tells (all_faults k (u v)) r.fault (t vars inside r).after.fault
 
-  applied_other : (at : ℕ) (n : Named) (xs : List ArgReads) → EachText KeepsArg xs → (vars : List TypeVar) (inside : Bool) (r : Reading) → IsOther r.fault → IsOther (applied ds at n xs vars inside r).after.fault
-  applied_other at (N.Variable v usable) xs k vars inside r h = unknown_other at r h
-  applied_other at N.Any xs k vars inside r h = unknown_other at r h
-  applied_other at N.Union xs k vars inside r h = members_other xs k vars inside r h
-  applied_other at N.Tuple xs k vars inside r h = members_other xs k vars inside r h
-  applied_other at (N.Nominal p) xs k vars inside r h = arguments_other (params_of (slice_get ds p)) xs k vars inside r h
-  applied_other at N.Unknown xs k vars inside r h = unknown_other at r h
+  abbrev IsArg : Uses → ArgReads → Type 0
+  IsArg u x = (vars : List TypeVar) (v : Visible) (outer inner : Bool) (r : Reading) → Knows vars v.vars → type_names ds ≡ v.types → Tells (all_faults k (u v)) r.fault (x vars outer inner r).after.fault
 
-  within_other : (t : TypeReads) → KeepsType t → (vs : List VarReads) → EachText KeepsVar vs → KeepsType (within t vs)
-  within_other t k vs l vars inside r h =
-      let s = bind_all vs vars inside (where_at vs inside r) in
-      let u = t s.vars inside s.after in
-      swapped_other (length r.vars) (length s.after.vars) u.after (k s.vars inside s.after (bind_all_other vs l vars inside (where_at vs inside r) (where_other vs inside r h)))
+  pub record IsVar (b : Brings) (x : VarReads) : Type 0 where
+    pub at : b.at ≡ x.at
+    pub name : b.name ≡ x.name
+    pub bounds : (vars : List TypeVar) (v : Visible) (inside : Bool) (r : Reading) → Knows vars v.vars → type_names ds ≡ v.types → Tells (all_faults k (b.uses v)) r.fault (x.bounds vars inside r).after.fault
 
-  cases : TextCases (λ t. KeepsArg (arg_reads ds t)) (λ t. KeepsType (type_reads ds t)) (λ t. KeepsVar (var_reads ds t))
+  arguments_told : (us : List Uses) (xs : List ArgReads) → Pairs IsArg us xs → (bs : List Bound) (vars : List TypeVar) (v : Visible) (inside : Bool) (r : Reading) → Knows vars v.vars → type_names ds ≡ v.types
+      → Tells (all_faults k (each us v)) r.fault (arguments bs xs vars inside r).after.fault
+  arguments_told [] [] p bs vars v inside r h e = missing_told bs inside r
+  arguments_told [] (x ∷ xs) p bs vars v inside r h e = absurd p
+  arguments_told (u ∷ us) [] p bs vars v inside r h e = absurd p
+  arguments_told (u ∷ us) (x ∷ xs) p bs vars v inside r h e =
+      let t = x vars inside true r in
+      let z = placed bs t.ty t.after in
+      joined k (u v) (each us v) r.fault z.fault (arguments (drop 1 bs) xs vars inside z).after.fault
+      (then_other (all_faults k (u v)) r.fault t.after.fault z.fault (p.0 vars v inside true r h e) (placed_told bs t.ty t.after))
+      (arguments_told us xs p.1 (drop 1 bs) vars v inside z h e)
+
+  members_told : (us : List Uses) (xs : List ArgReads) → Pairs IsArg us xs → (vars : List TypeVar) (v : Visible) (inside : Bool) (r : Reading) → Knows vars v.vars → type_names ds ≡ v.types
+      → Tells (all_faults k (each us v)) r.fault (members xs vars inside r).after.fault
+  members_told [] [] p vars v inside r h e = nothing r.fault
+  members_told [] (x ∷ xs) p vars v inside r h e = absurd p
+  members_told (u ∷ us) [] p vars v inside r h e = absurd p
+  members_told (u ∷ us) (x ∷ xs) p vars v inside r h e =
+      let t = x vars inside inside r in
+      joined k (u v) (each us v) r.fault t.after.fault (members xs vars inside t.after).after.fault (p.0 vars v inside inside r h e) (members_told us xs p.1 vars v inside t.after h e)
+
+  -- by what the name is: a variable, one of the four words, or the place of a declared type
+  plain_by : (at : ℕ) (o : Option TypeVar) (a b c d : Bool) (p : Option ℕ) (inside : Bool) (r : Reading) →
+      Tells ((one (not (is_some o || (a || (not (b || c) && (d || is_some p))))) kind.UnknownType at ++ []) ++ []) r.fault
+      (plain ds at (var_or o (cond a N.Any (cond b N.Union (cond c N.Tuple (cond d (N.Nominal INT64) (M.nominal_of p)))))) inside r).after.fault
+  plain_by at (Some x) a b c d p inside r = used_told at x.usable r
+  plain_by at None true b c d p inside r = nothing r.fault
+  plain_by at None false true c d p inside r = unknown_told at r
+  plain_by at None false false true d p inside r = unknown_told at r
+  plain_by at None false false false true p inside r = missing_told (params_of (slice_get ds INT64)) inside r
+  plain_by at None false false false false (Some n) inside r = missing_told (params_of (slice_get ds n)) inside r
+  plain_by at None false false false false None inside r = unknown_told at r
+
+  plain_told : (at : ℕ) (n : List ℕ) → IsType (λ v. used at (plain_type n) v ∷ []) (λ vars inside r. plain ds at (named ds vars n) inside r)
+  plain_told at n vars v inside r h e =
+      let a = same_text n (codes "Any") in
+      let b = same_text n (codes "Union") in
+      let c = same_text n (codes "Tuple") in
+      let d = same_text n (codes "Int") in
+      let p = place_of (type_names ds) n in
+      let q = place_found 0 (type_names ds) n ∙ ap (λ ns. is_among n ns) e in
+      same _ _ r.fault (plain ds at (named ds vars n) inside r).after.fault
+      (λ i. (one (not (h n i || (a || (not (b || c) && (d || q i))))) kind.UnknownType at ++ []) ++ []) (plain_by at (var_of vars n) a b c d p inside r)
+
+  applied_by : (at : ℕ) (us : List Uses) (xs : List ArgReads) → Pairs IsArg us xs → (o : Option TypeVar) (a b c d : Bool) (p : Option ℕ) (vars : List TypeVar) (v : Visible) (inside : Bool) (r : Reading)
+      → Knows vars v.vars → type_names ds ≡ v.types
+      → Tells ((one (not (not (is_some o) && (not a && (b || (c || (d || is_some p)))))) kind.UnknownType at ++ []) ++ all_faults k (if_read (not (is_some o) && (not a && (b || (c || (d || is_some p))))) (each us v))) r.fault
+      (applied ds at (var_or o (cond a N.Any (cond b N.Union (cond c N.Tuple (cond d (N.Nominal INT64) (M.nominal_of p)))))) xs vars inside r).after.fault
+  applied_by at us xs l (Some x) a b c d p vars v inside r h e = unknown_told at r
+  applied_by at us xs l None true b c d p vars v inside r h e = unknown_told at r
+  applied_by at us xs l None false true c d p vars v inside r h e = members_told us xs l vars v inside r h e
+  applied_by at us xs l None false false true d p vars v inside r h e = members_told us xs l vars v inside r h e
+  applied_by at us xs l None false false false true p vars v inside r h e = arguments_told us xs l (params_of (slice_get ds INT64)) vars v inside r h e
+  applied_by at us xs l None false false false false (Some n) vars v inside r h e = arguments_told us xs l (params_of (slice_get ds n)) vars v inside r h e
+  applied_by at us xs l None false false false false None vars v inside r h e = unknown_told at r
+
+  applied_told : (at : ℕ) (n : List ℕ) (us : List Uses) (xs : List ArgReads) → Pairs IsArg us xs
+      → IsType (λ v. used at (braced_type n) v ∷ if_read (U.takes_braces n v) (each us v)) (λ vars inside r. applied ds at (named ds vars n) xs vars inside r)
+  applied_told at n us xs l vars v inside r h e =
+      let a = same_text n (codes "Any") in
+      let b = same_text n (codes "Union") in
+      let c = same_text n (codes "Tuple") in
+      let d = same_text n (codes "Int") in
+      let p = place_of (type_names ds) n in
+      let q = place_found 0 (type_names ds) n ∙ ap (λ ns. is_among n ns) e in
+      same _ _ r.fault (applied ds at (named ds vars n) xs vars inside r).after.fault
+      (λ i. (one (not (not (h n i) && (not a && (b || (c || (d || q i)))))) kind.UnknownType at ++ []) ++ all_faults k (if_read (not (h n i) && (not a && (b || (c || (d || q i))))) (each us v)))
+      (applied_by at us xs l (var_of vars n) a b c d p vars v inside r h e)
+
+  -- ---- variables
+
+  variable_told : (at : ℕ) (name : List ℕ) (o : Option TypeVar) (r : Reading) (v : Visible) → is_some o ≡ is_among name v.vars → Tells (all_faults k (used at (type_variable name) v ∷ [])) r.fault (rebound at o (guarded at name r)).fault
+  variable_told at name o r v e =
+      let a = is_among name builtin_names in
+      let z = guarded at name r in
+      same _ _ r.fault (rebound at o z).fault ((λ i. one a kind.NameClash at ++ one (e i) kind.Rebound at) ∙ two_of at a (is_among name v.vars))
+      (two (one a kind.NameClash at) (one (is_some o) kind.Rebound at) r.fault z.fault (rebound at o z).fault (guarded_told at name r) (rebound_told at o z))
+
+  bind_told : (b : Brings) (x : VarReads) → IsVar b x → (vars : List TypeVar) (v : Visible) (inside : Bool) (r : Reading) → Knows vars v.vars → type_names ds ≡ v.types
+      → Tells (all_faults k (b.uses v ++ used b.at (type_variable b.name) v ∷ [])) r.fault (bind x vars inside r).after.fault × Knows (bind x vars inside r).vars (b.name ∷ v.vars)
+  bind_told b x l vars v inside r h e =
+      let y = x.bounds vars inside r in
+      let o = var_of vars x.name in
+      let z = rebound x.at o (guarded x.at x.name y.after) in (
+        same _ _ r.fault z.fault (λ i. all_faults k (b.uses v ++ used (sym l.at i) (type_variable (sym l.name i)) v ∷ []))
+            (joined k (b.uses v) (used x.at (type_variable x.name) v ∷ []) r.fault y.after.fault z.fault (l.bounds vars v inside r h e) (variable_told x.at x.name o y.after v (h x.name))),
+        subst (λ n. Knows (bind x vars inside r).vars (n ∷ v.vars)) (sym l.name) (one_more vars v.vars (record { name = x.name; number = length (guarded x.at x.name y.after).vars; usable = true }) h),
+      )
+
+  brought_told : (bs : List Brings) (xs : List VarReads) → Pairs IsVar bs xs → (vars : List TypeVar) (v : Visible) (inside : Bool) (r : Reading) → Knows vars v.vars → type_names ds ≡ v.types
+      → Tells (all_faults k (brought bs v)) r.fault (bind_all xs vars inside r).after.fault × Knows (bind_all xs vars inside r).vars (with_vars bs v).vars
+  brought_told [] [] p vars v inside r h e = (nothing r.fault, h)
+  brought_told [] (x ∷ xs) p vars v inside r h e = absurd p
+  brought_told (b ∷ bs) [] p vars v inside r h e = absurd p
+  brought_told (b ∷ bs) (x ∷ xs) p vars v inside r h e =
+      let s = bind x vars inside r in
+      let here = bind_told b x p.0 vars v inside r h e in
+      let rest = brought_told bs xs p.1 s.vars (with_var b.name v) inside s.after here.1 e in
+      (joined k (b.uses v ++ used b.at (type_variable b.name) v ∷ []) (brought bs (with_var b.name v)) r.fault s.after.fault (bind_all xs s.vars inside s.after).after.fault here.0 rest.0, rest.1)
+
+  within_told : (u : Uses) (t : TypeReads) → IsType u t → (bs : List Brings) (xs : List VarReads) → Pairs IsVar bs xs → IsType (λ v. brought bs v ++ u (with_vars bs v)) (within t xs)
+  within_told u t l bs xs p vars v inside r h e =
+      let w = where_at xs inside r in
+      let s = bind_all xs vars inside w in
+      let q = brought_told bs xs p vars v inside w h e in
+      let z = t s.vars inside s.after in
+      swapped_told (length r.vars) (length s.after.vars) (all_faults k (brought bs v ++ u (with_vars bs v))) r.fault z.after
+      (joined k (brought bs v) (u (with_vars bs v)) r.fault s.after.fault z.after.fault
+      (two [] (all_faults k (brought bs v)) r.fault w.fault s.after.fault (where_told xs inside r) q.0)
+      (l s.vars (with_vars bs v) inside s.after q.1 e))
+
+  -- ---- a text tells what its layer does
+
+  text_at : (l : TypeText-F ArgText TypeText VarText)
+      → IsType (U.type_step (map-TypeText ArgText TypeText VarText Uses Uses Brings arg_uses type_uses var_uses l)) (R.type_step ds (map-TypeText ArgText TypeText VarText ArgReads TypeReads VarReads (arg_reads ds) (type_reads ds) (var_reads ds) l))
+      → IsType (type_uses (roll-TypeText l)) (type_reads ds (roll-TypeText l))
+  text_at l h =
+      subst (λ u. IsType u (type_reads ds (roll-TypeText l))) (sym (fold-roll-TypeText Uses Uses Brings U.arg_step U.type_step U.var_step l))
+      (subst (λ x. IsType (U.type_step (map-TypeText ArgText TypeText VarText Uses Uses Brings arg_uses type_uses var_uses l)) x) (sym (fold-roll-TypeText ArgReads TypeReads VarReads (R.arg_step ds) (R.type_step ds) (R.var_step ds) l)) h)
+
+  arg_at : (l : ArgText-F ArgText TypeText VarText)
+      → IsArg (U.arg_step (map-ArgText ArgText TypeText VarText Uses Uses Brings arg_uses type_uses var_uses l)) (R.arg_step ds (map-ArgText ArgText TypeText VarText ArgReads TypeReads VarReads (arg_reads ds) (type_reads ds) (var_reads ds) l))
+      → IsArg (arg_uses (roll-ArgText l)) (arg_reads ds (roll-ArgText l))
+  arg_at l h =
+      subst (λ u. IsArg u (arg_reads ds (roll-ArgText l))) (sym (fold-roll-ArgText Uses Uses Brings U.arg_step U.type_step U.var_step l))
+      (subst (λ x. IsArg (U.arg_step (map-ArgText ArgText TypeText VarText Uses Uses Brings arg_uses type_uses var_uses l)) x) (sym (fold-roll-ArgText ArgReads TypeReads VarReads (R.arg_step ds) (R.type_step ds) (R.var_step ds) l)) h)
+
+  var_at : (l : VarText-F ArgText TypeText VarText)
+      → IsVar (U.var_step (map-VarText ArgText TypeText VarText Uses Uses Brings arg_uses type_uses var_uses l)) (R.var_step ds (map-VarText ArgText TypeText VarText ArgReads TypeReads VarReads (arg_reads ds) (type_reads ds) (var_reads ds) l))
+      → IsVar (var_uses (roll-VarText l)) (var_reads ds (roll-VarText l))
+  var_at l h =
+      subst (λ u. IsVar u (var_reads ds (roll-VarText l))) (sym (fold-roll-VarText Uses Uses Brings U.arg_step U.type_step U.var_step l))
+      (subst (λ x. IsVar (U.var_step (map-VarText ArgText TypeText VarText Uses Uses Brings arg_uses type_uses var_uses l)) x) (sym (fold-roll-VarText ArgReads TypeReads VarReads (R.arg_step ds) (R.type_step ds) (R.var_step ds) l)) h)
+
+  cases : TextCases (λ t. IsArg (arg_uses t) (arg_reads ds t)) (λ t. IsType (type_uses t) (type_reads ds t)) (λ t. IsVar (var_uses t) (var_reads ds t))
   cases = record {
-    name = λ at n. subst KeepsType (sym (fold-roll-TypeText ArgReads TypeReads VarReads (arg_step ds) (type_step ds) (var_step ds) (F.Name at n))) (λ vars inside r h. plain_other at (named ds vars n) inside r h);
-    applied = λ at n xs l. subst KeepsType (sym (fold-roll-TypeText ArgReads TypeReads VarReads (arg_step ds) (type_step ds) (var_step ds) (F.Applied at n xs)))
-        (λ vars inside r h. applied_other at (named ds vars n) (map (arg_reads ds) xs) (each_map KeepsArg (arg_reads ds) xs l) vars inside r h);
-    paren = λ at t vs k l. subst KeepsType (sym (fold-roll-TypeText ArgReads TypeReads VarReads (arg_step ds) (type_step ds) (var_step ds) (F.Paren at t vs)))
-        (within_other (type_reads ds t) k (map (var_reads ds) vs) (each_map KeepsVar (var_reads ds) vs l));
-    exact = λ t l. subst KeepsArg (sym (fold-roll-ArgText ArgReads TypeReads VarReads (arg_step ds) (type_step ds) (var_step ds) (F.Exact t))) (λ vars outer inner r h. l vars inner r h);
-    below_ = λ at t l. subst KeepsArg (sym (fold-roll-ArgText ArgReads TypeReads VarReads (arg_step ds) (type_step ds) (var_step ds) (F.ArgText::Below at t))) (λ vars outer inner r h. l vars inner r h);
-    above = λ at t l. subst KeepsArg (sym (fold-roll-ArgText ArgReads TypeReads VarReads (arg_step ds) (type_step ds) (var_step ds) (F.ArgText::Above at t))) (λ vars outer inner r h. l vars inner r h);
-    free = λ at n. subst KeepsVar (sym (fold-roll-VarText ArgReads TypeReads VarReads (arg_step ds) (type_step ds) (var_step ds) (F.Free at n))) (λ vars inside r h. h);
-    upper = λ at n t l. subst KeepsVar (sym (fold-roll-VarText ArgReads TypeReads VarReads (arg_step ds) (type_step ds) (var_step ds) (F.VarText::Below at n t))) (λ vars inside r h. l vars inside r h);
-    lower = λ at n t l. subst KeepsVar (sym (fold-roll-VarText ArgReads TypeReads VarReads (arg_step ds) (type_step ds) (var_step ds) (F.VarText::Above at n t))) (λ vars inside r h. l vars inside r h);
-    between = λ t at n u l k. subst KeepsVar (sym (fold-roll-VarText ArgReads TypeReads VarReads (arg_step ds) (type_step ds) (var_step ds) (F.Between t at n u)))
-        (λ vars inside r h. k vars inside (type_reads ds t vars inside r).after (l vars inside r h));
+    name = λ at n. text_at (F.Name at n) (plain_told at n);
+    applied = λ at n xs l. text_at (F.Applied at n xs) (applied_told at n (map arg_uses xs) (map (arg_reads ds) xs) (each_pairs IsArg arg_uses (arg_reads ds) xs l));
+    paren = λ at t vs l p. text_at (F.Paren at t vs) (within_told (type_uses t) (type_reads ds t) l (map var_uses vs) (map (var_reads ds) vs) (each_pairs IsVar var_uses (var_reads ds) vs p));
+    exact = λ t l. arg_at (F.Exact t) (λ vars v outer inner r h e. l vars v inner r h e);
+    below_ = λ at t l. arg_at (F.ArgText::Below at t) (λ vars v outer inner r h e. l vars v inner r h e);
+    above = λ at t l. arg_at (F.ArgText::Above at t) (λ vars v outer inner r h e. l vars v inner r h e);
+    free = λ at n. var_at (F.Free at n) (record { at = refl; name = refl; bounds = λ vars v inside r h e. nothing r.fault });
+    upper = λ at n t l. var_at (F.VarText::Below at n t) (record { at = refl; name = refl; bounds = λ vars v inside r h e. l vars v inside r h e });
+    lower = λ at n t l. var_at (F.VarText::Above at n t) (record { at = refl; name = refl; bounds = λ vars v inside r h e. l vars v inside r h e });
+    between = λ t at n u l p. var_at (F.Between t at n u)
+        (record {
+          at = refl;
+          name = refl;
+          bounds = λ vars v inside r h e.
+              let b = type_reads ds t vars inside r in
+              joined k (type_uses t v) (type_uses u v) r.fault b.after.fault (type_reads ds u vars inside b.after).after.fault (l vars v inside r h e) (p vars v inside b.after h e);
+        });
   }
 
-  type_other : (t : TypeText) → KeepsType (type_reads ds t)
-  type_other = by_type _ _ _ cases
+  pub type_told : (t : TypeText) → IsType (type_uses t) (type_reads ds t)
+  type_told = by_type _ _ _ cases
 
-  arg_other : (x : ArgText) → KeepsArg (arg_reads ds x)
-  arg_other = by_arg _ _ _ cases
+  arg_told : (x : ArgText) → IsArg (arg_uses x) (arg_reads ds x)
+  arg_told = by_arg _ _ _ cases
 
-  var_other : (v : VarText) → KeepsVar (var_reads ds v)
-  var_other = by_var _ _ _ cases
+  var_told : (x : VarText) → IsVar (var_uses x) (var_reads ds x)
+  var_told = by_var _ _ _ cases
 
-  pub option_other : (t : Option TypeText) (vars : List TypeVar) (r : Reading) → IsOther r.fault → IsOther (option_reads ds t vars r).after.fault
-  option_other None vars r h = h
-  option_other (Some t) vars r h = type_other t vars false r h
+  pub option_told : (t : Option TypeText) (vars : List TypeVar) (v : Visible) (r : Reading) → Knows vars v.vars → type_names ds ≡ v.types → Tells (all_faults k (option_uses t v)) r.fault (option_reads ds t vars r).after.fault
+  option_told None vars v r h e = nothing r.fault
+  option_told (Some t) vars v r h e = type_told t vars v false r h e
 
-  pub all_other : (ts : List (Option TypeText)) (vars : List TypeVar) (r : Reading) → IsOther r.fault → IsOther (all_read ds ts vars r).after.fault
-  all_other [] vars r h = h
-  all_other (t ∷ ts) vars r h = all_other ts vars (option_reads ds t vars r).after (option_other t vars r h)
+  pub options_told : (ts : List (Option TypeText)) (vars : List TypeVar) (v : Visible) (r : Reading) → Knows vars v.vars → type_names ds ≡ v.types → Tells (all_faults k (options_uses ts v)) r.fault (all_read ds ts vars r).after.fault
+  options_told [] vars v r h e = nothing r.fault
+  options_told (t ∷ ts) vars v r h e =
+      let u = option_reads ds t vars r in
+      joined k (option_uses t v) (options_uses ts v) r.fault u.after.fault (all_read ds ts vars u.after).after.fault (option_told t vars v r h e) (options_told ts vars v u.after h e)
 
-  pub bound_other : (vs : List VarText) (vars : List TypeVar) (r : Reading) → IsOther r.fault → IsOther (all_bound ds vs vars r).after.fault
-  bound_other vs vars r h = bind_all_other (map (var_reads ds) vs) (each_map KeepsVar (var_reads ds) vs (each_all (λ v. KeepsVar (var_reads ds v)) var_other vs)) vars false r h
+  pub bound_told : (vs : List VarText) (vars : List TypeVar) (v : Visible) (r : Reading) → Knows vars v.vars → type_names ds ≡ v.types
+      → Tells (all_faults k (brought (map var_uses vs) v)) r.fault (all_bound ds vs vars r).after.fault × Knows (all_bound ds vs vars r).vars (with_vars (map var_uses vs) v).vars
+  bound_told vs vars v r h e = brought_told (map var_uses vs) (map (var_reads ds) vs) (each_pairs IsVar var_uses (var_reads ds) vs (each_all (λ x. IsVar (var_uses x) (var_reads ds x)) var_told vs)) vars v false r h e
 
-  body_other : (statics : List TypeVar) (t : TypeText) → IsOther (body_type ds statics t).after.fault
-  body_other statics t =
-      let vars = shifted (width_of ds statics t) statics in
-      let raw = type_reads ds t vars false unread in
-      one_ordered_other raw.after.swaps raw (type_other t vars false unread tt)
-
-  made_other : (p : ℕ) (bs : List Bound) (statics : List TypeVar) (xs : List ArgText) → IsOther (constructor_type ds p bs statics xs).after.fault
-  made_other p bs statics xs = arguments_other bs (map (arg_reads ds) xs) (each_map KeepsArg (arg_reads ds) xs (each_all (λ x. KeepsArg (arg_reads ds x)) arg_other xs)) (shifted 0 statics) false unread tt
+  made_told : (xs : List ArgText) (p : ℕ) (bs : List Bound) (statics : List TypeVar) (v : Visible) → Knows statics v.vars → type_names ds ≡ v.types
+      → Tells (all_faults k (each (map arg_uses xs) v)) None (constructor_type ds p bs statics xs).after.fault
+  made_told xs p bs statics v h e =
+      arguments_told (map arg_uses xs) (map (arg_reads ds) xs) (each_pairs IsArg arg_uses (arg_reads ds) xs (each_all (λ x. IsArg (arg_uses x) (arg_reads ds x)) arg_told xs)) bs (shifted 0 statics) v false unread
+      (shifted_knows 0 statics v.vars h) e
 
 -- ---- types in bodies and signatures
 
@@ -231,39 +331,50 @@ made_refusal_other test h c r w = by r.misplaced
     by true = refl
     by false = next (not (nat_eq (length r.vars) 0) || not c)
 
-type_at_other : (t : Tests) → TellTypes t → (at : ℕ) (ty : Typed) (s : State) → IsOther ty.after.fault → Tells [] s.fault (type_at t at ty s).after.fault
-type_at_other t q at ty s h =
-    let w = one_type ty.ty (adopted t.below ty.after.places ty.after.vars) in
-    let z = merged ty.after.fault s in
-    let o = refusal t.body ty.after w in
-    two [] [] s.fault z.fault (noted at o z).fault (merged_other ty.after.fault s h) (noted_other at o z (refusal_other t.body q.body ty.after w))
+module _ (t : Tests) (k : Known) (q : TellTypes t) where
+  body_written_told : (text : TypeText) (c : Scope) (v : Visible) (s : State) → Sees k c v → Tells (all_faults k (type_uses text v)) s.fault (body_written t k text c s).after.fault
+  unfolding body_written
+  body_written_told text c v s h =
+      let ds = declared_at k c.types in
+      let ty = body_type ds c.statics text in
+      let w = one_type ty.ty (adopted t.below ty.after.places ty.after.vars) in
+      let z = merged ty.after.fault s in
+      let o = refusal t.body ty.after w in
+      let fs = all_faults k (type_uses text v) in
+      let n = width_of ds c.statics text in
+      let raw = type_reads ds text (shifted n c.statics) false unread in
+      then_other fs s.fault z.fault (noted (begins text) o z).fault
+      (merged_told fs ty.after.fault s (one_ordered_told raw.after.swaps raw fs None (type_told k ds text (shifted n c.statics) v false unread (shifted_knows n c.statics v.vars h.vars) h.types)))
+      (noted_other (begins text) o z (refusal_other t.body q.body ty.after w))
 
-made_type_other : (t : Tests) → TellTypes t → (at : ℕ) (ty : Typed) (c : Bool) (s : State) → IsOther ty.after.fault → Tells [] s.fault (made_type t at ty c s).after.fault
-made_type_other t q at ty c s h =
-    let w = one_type ty.ty [] in
-    let z = merged ty.after.fault s in
-    let o = made_refusal t.body c ty.after w in
-    two [] [] s.fault z.fault (noted at o z).fault (merged_other ty.after.fault s h) (noted_other at o z (made_refusal_other t.body q.body c ty.after w))
+  made_at_told : (at p : ℕ) (xs : List ArgText) (c : Scope) (v : Visible) (s : State) → Sees k c v → Tells (all_faults k (each (map arg_uses xs) v)) s.fault (made_at t k at p xs c s).after.fault
+  unfolding made_at
+  made_at_told at p xs c v s h =
+      let bs = params_of (slice_get k.decls p) in
+      let ds = declared_at k c.types in
+      let ty = constructor_type ds p bs c.statics xs in
+      let counted = nat_eq (length xs) (length bs) in
+      let w = one_type ty.ty [] in
+      let z = merged ty.after.fault s in
+      let o = made_refusal t.body counted ty.after w in
+      let fs = all_faults k (each (map arg_uses xs) v) in
+      then_other fs s.fault z.fault (noted at o z).fault
+      (merged_told fs ty.after.fault s (made_told k ds xs p bs c.statics v h.vars h.types))
+      (noted_other at o z (made_refusal_other t.body q.body counted ty.after w))
 
-body_written_other : (t : Tests) (k : Known) → TellTypes t → (text : TypeText) (c : Scope) (s : State) → Tells [] s.fault (body_written t k text c s).after.fault
-unfolding body_written
-body_written_other t k q text c s = type_at_other t q (begins text) (body_type (declared_at k c.types) c.statics text) s (body_other (declared_at k c.types) c.statics text)
+  signed_told : (types : ℕ) (h : Head) (v : Visible) → type_names (declared_at k types) ≡ v.types
+      → Tells (all_faults k (signature_uses h v)) None (signed t k types h).fault × IsOtherKind (signed t k types h).refusal × Knows (signed t k types h).vars (in_head h v).vars
+  signed_told types h v e =
+      let ds = declared_at k types in
+      let s = all_bound ds h.vars [] unread in
+      let ts = all_read ds (map type_of h.params) s.vars s.after in
+      let fs = all_faults k (options_uses (map type_of h.params) (in_head h v)) in
+      let g = signature ds (map type_of h.params) h.vars in
+      let b = bound_told k ds h.vars [] (bare v) unread (λ name. refl) e in (
+        joined k (brought (map var_uses h.vars) (bare v)) (options_uses (map type_of h.params) (in_head h v)) None s.after.fault g.types.after.fault b.0 (ordered_told ts.after.swaps ts fs s.after.fault (options_told k ds (map type_of h.params) s.vars (in_head h v) s.after b.1 e)),
+        refusal_other t.signature q.signature g.types.after (written_of t.below g.types),
+        b.1,
+      )
 
-made_at_other : (t : Tests) (k : Known) → TellTypes t → (at p : ℕ) (xs : List ArgText) (c : Scope) (s : State) → Tells [] s.fault (made_at t k at p xs c s).after.fault
-unfolding made_at
-made_at_other t k q at p xs c s =
-    let bs = params_of (slice_get k.decls p) in
-    made_type_other t q at (constructor_type (declared_at k c.types) p bs c.statics xs) (nat_eq (length xs) (length bs)) s (made_other (declared_at k c.types) p bs c.statics xs)
-
-signed_other : (t : Tests) (k : Known) → TellTypes t → (types : ℕ) (h : Head) → IsOther (signed t k types h).fault × IsOtherKind (signed t k types h).refusal
-signed_other t k q types h =
-    let ds = declared_at k types in
-    let s = all_bound ds h.vars [] unread in
-    let ts = all_read ds (map type_of h.params) s.vars s.after in
-    let g = signature ds (map type_of h.params) h.vars in (
-      ordered_other ts.after.swaps ts (all_other ds (map type_of h.params) s.vars s.after (bound_other ds h.vars [] unread tt)),
-      refusal_other t.signature q.signature g.types.after (written_of t.below g.types),
-    )
-
-pub are_other : (t : Tests) (k : Known) → TellTypes t → AreOther t k
-are_other t k q = record { body = body_written_other t k q; made_of = made_at_other t k q; of_head = signed_other t k q }
+pub are_told : (t : Tests) (k : Known) → TellTypes t → AreTold t k
+are_told t k q = record { body = body_written_told t k q; made_of = made_at_told t k q; of_head = signed_told t k q }

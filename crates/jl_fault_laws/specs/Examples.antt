@@ -1,6 +1,11 @@
 -- Small scripts, of which the rows are computed. Each is `f(x) = 1` and a line after it.
 use Rattle.std.specs.Prelude.{ℕ, pos, codes, List, [], ◌∷◌, ◌++◌, map}
+use Rattle.jl_model.specs.Ancestors.{builtin_types}
 use Rattle.jl_program.specs.Prelude.{prelude_functions}
+use Rattle.jl_typeread.specs.declared.tree.TypeText.{TypeText}
+use Rattle.jl_typeread.specs.declared.tree.ArgText.TheViews as V
+use Rattle.jl_typeread.specs.declared.tree.TypeText.TheVariants as TV
+use Rattle.jl_typeread.specs.declared.tree.VarText.TheVariants as VV
 use Rattle.jl_grammar.specs.declared.tree.Callee.TheVariants as C
 use Rattle.jl_grammar.specs.declared.tree.Eval.TheViews as E
 use Rattle.jl_grammar.specs.declared.tree.Expr.{Expr}
@@ -24,6 +29,12 @@ f = 102
 abbrev pub g : ℕ
 g = 103
 
+abbrev pub R : ℕ
+R = 82
+
+abbrev pub T : ℕ
+T = 84
+
 abbrev pub x : ℕ
 x = 120
 
@@ -35,7 +46,7 @@ one_at at = X.Number at (pos 1)
 
 -- `f(x) = 1` declares no type, and one function beside those of the prelude
 abbrev pub known : Known
-known = record { decls = []; functions = prelude_functions ++ (f ∷ []) ∷ []; methods = name_at 0 f ∷ []; types = [] }
+known = record { decls = builtin_types; functions = prelude_functions ++ (f ∷ []) ∷ []; methods = name_at 0 f ∷ []; types = [] }
 
 abbrev pub head : Head
 head = record { callee = C.Plain (name_at 0 f); params = P.Name (name_at 2 x) ∷ []; vars = [] }
@@ -59,6 +70,18 @@ with_unknown_function = with_line (E.Call 13 (C.Plain (name_at 13 g)) (one_at 15
 -- `y = f(1,1,1,1,1,1,1,1,1)`
 abbrev pub with_many_arguments : List Item
 with_many_arguments = with_line (E.Call 13 (C.Plain (name_at 13 f)) (map one_at (15 ∷ 17 ∷ 19 ∷ 21 ∷ 23 ∷ 25 ∷ 27 ∷ 29 ∷ 31 ∷ [])))
+
+-- `y = 1 isa R`
+abbrev pub with_unknown_type : List Item
+with_unknown_type = with_line (E.Isa 13 (one_at 13) (TV.Name 19 (R ∷ [])))
+
+-- `y = 1 isa (Int where {T, T})`
+abbrev pub with_two_variables : List Item
+with_two_variables = with_line (E.Isa 13 (one_at 13) (V.Paren 19 (TV.Name 20 (codes "Int")) (VV.Free 31 (T ∷ []) ∷ VV.Free 34 (T ∷ []) ∷ [])))
+
+-- `y = f(1)`, and on a third line `f = 1`
+abbrev pub with_function_name : List Item
+with_function_name = good ++ N.Bind (name_at 18 f) (one_at 22) ∷ []
 
 -- `y = f(1)`, and on a third line `y = 1`
 abbrev pub with_two_bindings : List Item

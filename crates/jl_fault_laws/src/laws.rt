@@ -7,16 +7,16 @@ ghost use Rattle.jl_written.specs.declared.fault.Fault.{Fault};
 ghost use Rattle.jl_resolve_forms.specs.declared.known.Known.{Known};
 ghost use Rattle.jl_resolve_forms.specs.Top.{resolved};
 ghost use Rattle.jl_resolve_forms.specs.TypesIn.{Tests};
-ghost use Rattle.jl_written.specs.declared.fault.StaticKind.TheVariants.{UnknownName, UnknownFunction, TooManyArguments, Rebound, NameClash};
-ghost use Rattle.jl_fault_laws.specs.Examples.{known, good, with_unknown_name, with_unknown_function, with_many_arguments, with_two_bindings, with_built_in, fault};
-ghost use Rattle.jl_fault_laws.specs.Rows.{has_whole_row, HoldsAt, IsReportedBy, TellTypes};
+ghost use Rattle.jl_written.specs.declared.fault.StaticKind.TheVariants.{UnknownName, UnknownFunction, UnknownType, TooManyArguments, Rebound, NameClash};
+ghost use Rattle.jl_fault_laws.specs.Examples.{known, good, with_unknown_name, with_unknown_function, with_many_arguments, with_unknown_type, with_two_variables, with_function_name, with_two_bindings, with_built_in, fault};
+ghost use Rattle.jl_fault_laws.specs.Rows.{has_row, HoldsAt, IsReportedBy, TellTypes};
 
-/// Rows of uses of names in well-formed items. `only`: a fault UnknownName, UnknownFunction or TooManyArguments is reported only
-/// where its row holds of a use of a name at its place, or where the declarations had it. `least`: where a row holds of a use, these
-/// three or Rebound or NameClash, its fault is reported, or one that it does not come before.
+/// Rows of uses of names in well-formed items. `only`: a fault UnknownName, UnknownFunction, UnknownType, Rebound, NameClash or
+/// TooManyArguments is reported only where its row holds of a use of a name at its place, or where the declarations had it. `least`:
+/// where a row holds of a use, its fault is reported, or one that it does not come before.
 #[tactic(none)]
 pub fn law_rows()
-    ensures only { (t : Tests) → TellTypes t → (k : Known) (items : List Item) (o : Option Fault) → FormedItems items → (f : Fault) → has_whole_row f.kind ≡ true
+    ensures only { (t : Tests) → TellTypes t → (k : Known) (items : List Item) (o : Option Fault) → FormedItems items → (f : Fault) → has_row f.kind ≡ true
         → (resolved t k items o).fault ≡ Some f → (o ≡ Some f) ⊎ HoldsAt k items f }
     ensures least { (t : Tests) → TellTypes t → (k : Known) (items : List Item) (o : Option Fault) → FormedItems items → (f : Fault) → HoldsAt k items f
         → IsReportedBy (resolved t k items o).fault f }
@@ -29,6 +29,9 @@ pub fn law_examples()
     ensures name { HoldsAt known with_unknown_name (fault 15 UnknownName) }
     ensures function { HoldsAt known with_unknown_function (fault 13 UnknownFunction) }
     ensures arguments { HoldsAt known with_many_arguments (fault 13 TooManyArguments) }
+    ensures type_ { HoldsAt known with_unknown_type (fault 19 UnknownType) }
+    ensures variable { HoldsAt known with_two_variables (fault 34 Rebound) }
     ensures binding { HoldsAt known with_two_bindings (fault 18 Rebound) }
+    ensures function_name { HoldsAt known with_function_name (fault 18 Rebound) }
     ensures built_in { HoldsAt known with_built_in (fault 18 NameClash) }
 {}

@@ -8,12 +8,6 @@ use Rattle.jl_model.specs.declared.ty.DeclKind.{DeclKind}
 use Rattle.jl_model.specs.declared.ty.DeclKind.TheVariants.{Abstract, Struct}
 use Rattle.jl_model.specs.Ancestors.{builtin_types, is_struct_kind, plain_decl}
 use Rattle.jl_program.specs.Names.{is_among}
-use Rattle.jl_typeread.specs.declared.tree.ArgText.{ArgText}
-use Rattle.jl_typeread.specs.declared.tree.TypeText.{TypeText}
-use Rattle.jl_typeread.specs.declared.tree.VarText.{VarText}
-use Rattle.jl_typeread.specs.declared.tree.ArgText.TheOpen as T
-use Rattle.jl_typeread.specs.declared.tree.ArgText.TheOpen.{TypeText-F}
-use Rattle.jl_typeread.specs.declared.tree.ArgText.TheViews.{out-TypeText}
 use Rattle.jl_grammar.specs.declared.tree.Callee.{Callee}
 use Rattle.jl_grammar.specs.declared.tree.Callee.TheVariants as C
 use Rattle.jl_grammar.specs.declared.tree.Field.{Field as FieldText}
@@ -26,6 +20,7 @@ use Rattle.jl_written.specs.declared.fault.StaticKind.{StaticKind}
 use Rattle.jl_written.specs.declared.fault.StaticKind.TheVariants as kind
 use Rattle.jl_written.specs.Meaning.{place_of}
 use Rattle.jl_written.specs.Signatures.{all_read}
+use Rattle.jl_resolve_forms.specs.Defined.{methods_of, types_of}
 use Rattle.jl_resolve_forms.specs.Functions.{if_struct}
 use Rattle.jl_declare.specs.declared.judged.Judged.{Judged}
 use Rattle.jl_declare.specs.declared.judged.Judged.TheVariants as J
@@ -34,8 +29,8 @@ use Rattle.jl_declare.specs.Declaration.{fields_of, heading, declaration, outlin
 use Rattle.jl_declare.specs.Judgement.{IsJudged, kept, refused, IsAnswer, shown}
 use Rattle.jl_declare.specs.Declarations.{Declaring, no_declaration, IsJudgement, IsDeclared, DeclaresOne, Declares}
 use Rattle.jl_declare.specs.Script.{known_of}
-use Rattle.jl_fault_laws.specs.Uses.{Visible, How, value, called, made, latest, defined, bound}
-use Rattle.jl_fault_laws.specs.Rows.{declares, is_struct, makes_layer, has_function, unknown_function, too_many_arguments, holds, HoldsAt}
+use Rattle.jl_fault_laws.specs.Uses.{Names, Visible, Use, In, How, called, made, declares, names_told, makes, type_names, uses_of}
+use Rattle.jl_fault_laws.specs.Rows.{is_struct, has_function, unknown_function, too_many_arguments, holds, HoldsIn}
 use Rattle.jl_row_laws.specs.Script.{declared_in}
 
 -- ---- declarations of the same names and kinds
@@ -75,7 +70,7 @@ same_struct ds es h (Some p) = ap (λ b. is_some (let x : Option ℕ = cond (nat
 
 -- ---- what stands in the text
 
-shown_same : (ds : List Decl) (d : Decl) (j : Judged) (a b c all : Bool)
+pub shown_same : (ds : List Decl) (d : Decl) (j : Judged) (a b c all : Bool)
     → IsAnswer ds d (cond a (Some (J.Refused kind.DuplicateType)) (cond b (Some J.Unjudged) (cond (not c) (Some (J.Refused kind.WrongParameterCount)) (cond all None (Some J.Unjudged))))) j
     → ((shown j d).name ≡ d.name) × ((shown j d).kind ≡ d.kind)
 shown_same ds d j true b c all p = subst (λ x. ((shown x d).name ≡ d.name) × ((shown x d).kind ≡ d.kind)) (sym p) (refl, refl)
@@ -92,7 +87,7 @@ either_same : (x y : Decl) (n : List ℕ) (k : DeclKind) → x.name ≡ n → x.
 either_same x y n k p q r s true = (p, q)
 either_same x y n k p q r s false = (r, s)
 
-read_same : (ds : List Decl) (k : DeclKind) (h : Header) (fields : List FieldText) → ((declaration ds k h fields).decl.name ≡ h.name.bytes) × ((declaration ds k h fields).decl.kind ≡ k)
+pub read_same : (ds : List Decl) (k : DeclKind) (h : Header) (fields : List FieldText) → ((declaration ds k h fields).decl.name ≡ h.name.bytes) × ((declaration ds k h fields).decl.kind ≡ k)
 read_same ds k h fields =
     let x = heading ds k h in
     let ts = all_read (ds ++ x.own ∷ []) (map (λ (f : FieldText). f.ty) fields) x.vars x.reading in
@@ -124,48 +119,47 @@ module _ (items : List Item) (ds es : List Decl) (same : AreSame ds es) where
       ap (λ ns. is_some (if_struct ds (place_of ns n))) (same_names ds es same)
       ∙ same_struct ds es same (place_of (map (λ (d : Decl). d.name) es) n)
 
-  struct_same : (f : Callee) (vs : Visible) → is_struct (known_of items ds) f vs ≡ is_struct (known_of items es) f vs
+  -- what the script tells of names
+  names_same : names_told (known_of items ds) ≡ names_told (known_of items es)
+  names_same = λ i. record { types = same_names ds es same i; structs = λ n. declares_same n i; functions = methods_of items; own_types = types_of items }
+
+  struct_same : (f : Callee) (vs : Names) → is_struct (known_of items ds) f vs ≡ is_struct (known_of items es) f vs
   struct_same (C.Plain n) vs = ap (λ b. not (is_among n.bytes vs) && b) (declares_same n.bytes)
   struct_same (C.Base at n) vs = refl
   struct_same (C.Operator at o) vs = refl
 
-  makes_same : (l : TypeText-F ArgText TypeText VarText) (vs : Visible) → makes_layer (known_of items ds) l vs ≡ makes_layer (known_of items es) l vs
-  makes_same (T.Name at n) vs = ap (λ b. not (is_among n vs) && b) (declares_same n)
-  makes_same (T.Applied at n xs) vs = ap (λ b. not (is_among n vs) && b) (declares_same n)
-  makes_same (T.Paren at t ws) vs = refl
+  function_same : (h : How) (v : Visible) → unknown_function (known_of items ds) h v ≡ unknown_function (known_of items es) h v
+  function_same (called f m) v = ap (λ b. not b && not (has_function (known_of items es) f v.names)) (struct_same f v.names)
+  function_same (made t) v = ap (λ g. not (makes g t v)) names_same
+  function_same _ v = refl
 
-  function_same : (h : How) (vs : Visible) → unknown_function (known_of items ds) h vs ≡ unknown_function (known_of items es) h vs
-  function_same (value n) vs = refl
-  function_same (called f m) vs = ap (λ b. not b && not (has_function (known_of items es) f vs)) (struct_same f vs)
-  function_same (made t) vs = ap not (makes_same (out-TypeText t) vs)
-  function_same (latest f m) vs = refl
-  function_same (defined f) vs = refl
-  function_same (bound n) vs = refl
+  arguments_same : (h : How) (v : Visible) → too_many_arguments (known_of items ds) h v ≡ too_many_arguments (known_of items es) h v
+  arguments_same (called f m) v = ap (λ b. not b && (has_function (known_of items es) f v.names && nat_lt MOST_ARGUMENTS m)) (struct_same f v.names)
+  arguments_same _ v = refl
 
-  arguments_same : (h : How) (vs : Visible) → too_many_arguments (known_of items ds) h vs ≡ too_many_arguments (known_of items es) h vs
-  arguments_same (value n) vs = refl
-  arguments_same (called f m) vs = ap (λ b. not b && (has_function (known_of items es) f vs && nat_lt MOST_ARGUMENTS m)) (struct_same f vs)
-  arguments_same (made t) vs = refl
-  arguments_same (latest f m) vs = refl
-  arguments_same (defined f) vs = refl
-  arguments_same (bound n) vs = refl
+  holds_same : (k : StaticKind) (h : How) (v : Visible) → holds (known_of items ds) k h v ≡ holds (known_of items es) k h v
+  holds_same kind.UnknownFunction h v = function_same h v
+  holds_same kind.TooManyArguments h v = arguments_same h v
+  holds_same _ h v = refl
 
-  holds_same : (k : StaticKind) (h : How) (vs : Visible) → holds (known_of items ds) k h vs ≡ holds (known_of items es) k h vs
-  holds_same kind.UnknownFunction h vs = function_same h vs
-  holds_same kind.TooManyArguments h vs = arguments_same h vs
-  holds_same _ h vs = refl
+  uses_same : (us : List Use) → us ++ uses_of (names_told (known_of items ds)) items ≡ us ++ uses_of (names_told (known_of items es)) items
+  uses_same us = ap (λ g. us ++ uses_of g items) names_same
 
-  there : (f : Fault) → HoldsAt (known_of items ds) items f → HoldsAt (known_of items es) items f
-  there f h = record { use_ = h.use_; among = h.among; place = h.place; row = sym (holds_same f.kind h.use_.how h.use_.visible) ∙ h.row }
+  there : (us : List Use) (f : Fault) → HoldsIn (known_of items ds) (us ++ uses_of (names_told (known_of items ds)) items) f → HoldsIn (known_of items es) (us ++ uses_of (names_told (known_of items es)) items) f
+  there us f h = record { use_ = h.use_; among = subst (In h.use_) (uses_same us) h.among; place = h.place; row = sym (holds_same f.kind h.use_.how h.use_.visible) ∙ h.row }
 
-  back : (f : Fault) → HoldsAt (known_of items es) items f → HoldsAt (known_of items ds) items f
-  back f h = record { use_ = h.use_; among = h.among; place = h.place; row = holds_same f.kind h.use_.how h.use_.visible ∙ h.row }
+  back : (us : List Use) (f : Fault) → HoldsIn (known_of items es) (us ++ uses_of (names_told (known_of items es)) items) f → HoldsIn (known_of items ds) (us ++ uses_of (names_told (known_of items ds)) items) f
+  back us f h = record { use_ = h.use_; among = subst (In h.use_) (sym (uses_same us)) h.among; place = h.place; row = holds_same f.kind h.use_.how h.use_.visible ∙ h.row }
 
 text_same : (items : List Item) (d : Declaring) → Declares items no_declaration d → AreSame d.decls (builtin_types ++ declared_in items)
 text_same items d h = items_same items no_declaration d builtin_types (same_all builtin_types) h
 
-pub to_text : (items : List Item) (d : Declaring) → Declares items no_declaration d → (f : Fault) → HoldsAt (known_of items d.decls) items f → HoldsAt (known_of items (builtin_types ++ declared_in items)) items f
-to_text items d h f q = there items d.decls (builtin_types ++ declared_in items) (text_same items d h) f q
+pub to_text : (items : List Item) (d : Declaring) → Declares items no_declaration d → (us : List Use) (f : Fault)
+    → HoldsIn (known_of items d.decls) (us ++ uses_of (names_told (known_of items d.decls)) items) f
+    → HoldsIn (known_of items (builtin_types ++ declared_in items)) (us ++ uses_of (names_told (known_of items (builtin_types ++ declared_in items))) items) f
+to_text items d h us f q = there items d.decls (builtin_types ++ declared_in items) (text_same items d h) us f q
 
-pub from_text : (items : List Item) (d : Declaring) → Declares items no_declaration d → (f : Fault) → HoldsAt (known_of items (builtin_types ++ declared_in items)) items f → HoldsAt (known_of items d.decls) items f
-from_text items d h f q = back items d.decls (builtin_types ++ declared_in items) (text_same items d h) f q
+pub from_text : (items : List Item) (d : Declaring) → Declares items no_declaration d → (us : List Use) (f : Fault)
+    → HoldsIn (known_of items (builtin_types ++ declared_in items)) (us ++ uses_of (names_told (known_of items (builtin_types ++ declared_in items))) items) f
+    → HoldsIn (known_of items d.decls) (us ++ uses_of (names_told (known_of items d.decls)) items) f
+from_text items d h us f q = back items d.decls (builtin_types ++ declared_in items) (text_same items d h) us f q

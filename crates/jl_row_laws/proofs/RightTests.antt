@@ -8,29 +8,37 @@ use Rattle.jl_written.specs.declared.fault.StaticKind.TheVariants as kind
 use Rattle.jl_resolve_forms.specs.TypesIn.{Tests}
 use Rattle.jl_judge.specs.Answers.{SigAnswer, BodyAnswer}
 use Rattle.jl_judge.specs.Right.{IsRight}
-use Rattle.jl_fault_laws.specs.Rows.{has_whole_row, IsOtherKind, TellTypes}
+use Rattle.jl_fault_laws.specs.Rows.{has_row, IsOtherKind, TellTypes}
 
 -- an answer is of another row where none of a row is answered
-other_of : (o : Option StaticKind) → ((k : StaticKind) → o ≡ Some k → has_whole_row k ≡ true → ⊥) → IsOtherKind o
+other_of : (o : Option StaticKind) → ((k : StaticKind) → o ≡ Some k → has_row k ≡ true → ⊥) → IsOtherKind o
 other_of None h = tt
-other_of (Some k) h = false_from_ne_true (has_whole_row k) (λ r. h k refl r)
+other_of (Some k) h = false_from_ne_true (has_row k) (λ r. h k refl r)
 
-sig_other : (ds : List Decl) (s : Written) (k : StaticKind) → SigAnswer (Some k) ds s → has_whole_row k ≡ false
+sig_other : (ds : List Decl) (s : Written) (k : StaticKind) → SigAnswer (Some k) ds s → has_row k ≡ false
 sig_other ds s kind.UnknownName a = absurd a
 sig_other ds s kind.UnknownFunction a = absurd a
 sig_other ds s kind.TooManyArguments a = absurd a
+sig_other ds s kind.UnknownType a = absurd a
+sig_other ds s kind.Rebound a = absurd a
+sig_other ds s kind.DuplicateType a = absurd a
+sig_other ds s kind.NameClash a = absurd a
 sig_other ds s _ a = refl
 
-body_other : (ds : List Decl) (s : Written) (k : StaticKind) → BodyAnswer (Some k) ds s → has_whole_row k ≡ false
+body_other : (ds : List Decl) (s : Written) (k : StaticKind) → BodyAnswer (Some k) ds s → has_row k ≡ false
 body_other ds s kind.UnknownName a = absurd a
 body_other ds s kind.UnknownFunction a = absurd a
 body_other ds s kind.TooManyArguments a = absurd a
+body_other ds s kind.UnknownType a = absurd a
+body_other ds s kind.Rebound a = absurd a
+body_other ds s kind.DuplicateType a = absurd a
+body_other ds s kind.NameClash a = absurd a
 body_other ds s _ a = refl
 
 none_some : (k : StaticKind) → None ≡ Some k → ⊥
 none_some k e = true≢false (sym (ap is_some e))
 
-both : (k : StaticKind) → has_whole_row k ≡ false → has_whole_row k ≡ true → ⊥
+both : (k : StaticKind) → has_row k ≡ false → has_row k ≡ true → ⊥
 both k f r = true≢false (sym r ∙ f)
 
 pub tell_types : (ds : List Decl) (t : Tests) → IsRight ds t → TellTypes t

@@ -1,15 +1,19 @@
 -- Where a row holds of a script.
-use Rattle.std.specs.Prelude.{List, [], ◌∷◌, ◌++◌}
+use Rattle.std.specs.Prelude.{List, [], ◌∷◌, ◌++◌, map}
 use Rattle.jl_model.specs.declared.ty.Decl.{Decl}
 use Rattle.jl_model.specs.declared.ty.DeclKind.TheVariants.{Abstract, Struct}
 use Rattle.jl_model.specs.Ancestors.{builtin_types}
+use Rattle.jl_grammar.specs.declared.tree.Field.{Field as FieldText}
+use Rattle.jl_grammar.specs.declared.tree.Header.{Header}
 use Rattle.jl_grammar.specs.declared.tree.Item.{Item}
 use Rattle.jl_grammar.specs.declared.tree.Item.TheVariants as N
 use Rattle.jl_grammar.specs.declared.tree.Script.{Script}
 use Rattle.jl_written.specs.declared.fault.Fault.{Fault}
 use Rattle.jl_declare.specs.Declaration.{outline}
 use Rattle.jl_declare.specs.Script.{known_of}
-use Rattle.jl_fault_laws.specs.Rows.{HoldsAt}
+use Rattle.jl_resolve_forms.specs.declared.known.Known.{Known}
+use Rattle.jl_fault_laws.specs.Uses.{Names, Visible, Use, used, declared_type, with_vars, brought, var_uses, option_uses, options_uses, type_names, names_told, uses_of}
+use Rattle.jl_fault_laws.specs.Rows.{HoldsIn}
 
 -- the types that items declare, in text order: rows of names ask only for their names, and which of them are structs
 abbrev pub declared_in : List Item → List Decl
@@ -20,6 +24,34 @@ declared_in (N.Method m ∷ xs) = declared_in xs
 declared_in (N.Bind n x ∷ xs) = declared_in xs
 declared_in (N.Do x ∷ xs) = declared_in xs
 
--- a row holds of a use of a name in a script, by the types that stand in it, and its fault stands there
+-- only these types are visible
+abbrev pub types_only : Names → Visible
+types_only types = record { names = []; vars = []; types = types }
+
+-- The uses of names in a declaration behind these types: its own name, its parameters with their bounds, its parent, and its
+-- fields, which see the type itself too.
+abbrev pub declaration_uses : Header → List FieldText → Names → List Use
+declaration_uses h fields types =
+    let w = with_vars (map var_uses h.params) (types_only types) in
+    used h.name.at (declared_type h.name.bytes) (types_only types)
+    ∷ (brought (map var_uses h.params) (types_only types) ++ (option_uses h.parent w ++ options_uses (map (λ (f : FieldText). f.ty) fields) (record w { types = types ++ h.name.bytes ∷ [] })))
+
+abbrev pub declarations_uses : List Item → Names → List Use
+declarations_uses [] types = []
+declarations_uses (N.Abstract a ∷ xs) types = declaration_uses a.header [] types ++ declarations_uses xs (types ++ a.header.name.bytes ∷ [])
+declarations_uses (N.Struct s ∷ xs) types = declaration_uses s.header s.fields types ++ declarations_uses xs (types ++ s.header.name.bytes ∷ [])
+declarations_uses (N.Method m ∷ xs) types = declarations_uses xs types
+declarations_uses (N.Bind n x ∷ xs) types = declarations_uses xs types
+declarations_uses (N.Do x ∷ xs) types = declarations_uses xs types
+
+-- what the text of a script tells of names
+abbrev pub text_known : Script → Known
+text_known s = known_of s.items (builtin_types ++ declared_in s.items)
+
+-- the uses of names in a script: those in its declarations, and those in its methods and statements
+abbrev pub script_uses : Script → List Use
+script_uses s = declarations_uses s.items (type_names builtin_types) ++ uses_of (names_told (text_known s)) s.items
+
+-- a row holds of a use of a name in a script, and its fault stands there
 abbrev pub HoldsOf : Script → Fault → Type 0
-HoldsOf s f = HoldsAt (known_of s.items (builtin_types ++ declared_in s.items)) s.items f
+HoldsOf s f = HoldsIn (text_known s) (script_uses s) f

@@ -12,8 +12,11 @@ ghost use Rattle.jl_written.specs.Answered.{comes_before};
 ghost use Rattle.jl_resolve_forms.specs.TypesIn.{Tests};
 ghost use Rattle.jl_judge.specs.Right.{IsRight};
 ghost use Rattle.jl_resolve.specs.Program.{IsProgramOf, IsFaultOf};
-ghost use Rattle.jl_fault_laws.specs.Rows.{has_whole_row, TellTypes};
+ghost use Rattle.jl_fault_laws.specs.Rows.{has_row, TellTypes};
+ghost use Rattle.jl_written.specs.declared.fault.StaticKind.TheVariants.{UnknownType, Rebound, DuplicateType, NameClash};
+ghost use Rattle.jl_fault_laws.specs.Examples.{fault};
 ghost use Rattle.jl_row_laws.specs.Script.{HoldsOf};
+ghost use Rattle.jl_row_laws.specs.Examples.{good, with_two_types, with_built_in, with_unknown_type, with_two_parameters};
 
 /// Tests that are right for a table answer a signature, and a type in a body, only by faults that no row of uses of names has.
 #[tactic(none)]
@@ -21,15 +24,25 @@ pub fn law_right_tests_tell_types()
     ensures { (ds : List Decl) (t : Tests) → IsRight ds t → TellTypes t }
 {}
 
-/// What `program` of jl_resolve answers, by rows of uses of names. `only`: a script has UnknownName, UnknownFunction or
-/// TooManyArguments as its first fault only where the row of that fault holds of a use of a name at its place. `first`: where a row
-/// holds of a use, one of these three or Rebound or NameClash, its fault does not come before the one that the script has. `none`: of
-/// a program no row holds.
+/// What `program` of jl_resolve answers, by rows of uses of names. `only`: a script has UnknownName, UnknownFunction, UnknownType,
+/// Rebound, DuplicateType, NameClash or TooManyArguments as its first fault only where the row of that fault holds of a use of a name
+/// at its place. `first`: where a row holds of a use, its fault does not come before the one that the script has. `none`: of a program
+/// no row holds.
 #[tactic(none)]
 pub fn law_program_rows()
-    ensures only { (s : Script) → FormedScript s → (at : ℕ) (kind : StaticKind) → has_whole_row kind ≡ true → IsFaultOf s at kind
+    ensures only { (s : Script) → FormedScript s → (at : ℕ) (kind : StaticKind) → has_row kind ≡ true → IsFaultOf s at kind
         → HoldsOf s (record { at = at; kind = kind }) }
     ensures first { (s : Script) → FormedScript s → (at : ℕ) (kind : StaticKind) → IsFaultOf s at kind → (f : Fault) → HoldsOf s f
         → comes_before f (record { at = at; kind = kind }) ≡ false }
     ensures none { (s : Script) → FormedScript s → (P : Program) → IsProgramOf s P → (f : Fault) → HoldsOf s f → ⊥ }
+{}
+
+/// The rows of names in declarations are computed on small scripts: none holds of a program, and each holds where its fault stands.
+#[tactic(none)]
+pub fn law_declared_examples()
+    ensures none { (f : Fault) → HoldsOf good f → ⊥ }
+    ensures two_types { HoldsOf with_two_types (fault 34 DuplicateType) }
+    ensures built_in { HoldsOf with_built_in (fault 14 NameClash) }
+    ensures unknown { HoldsOf with_unknown_type (fault 12 UnknownType) }
+    ensures parameters { HoldsOf with_two_parameters (fault 12 Rebound) }
 {}

@@ -1,4 +1,4 @@
-use Rattle.jl_fault_laws.proofs.ExampleRows.{good_rows, name_row, function_row, arguments_row, binding_row, built_in_row}
+use Rattle.jl_fault_laws.proofs.ExampleRows.{good_rows, name_row, function_row, arguments_row, type_row, variable_row, binding_row, shared_row, built_in_row}
 use Rattle.jl_fault_laws.proofs.laws.law_examples.Goals as goal
 
 pub returns-clause-none : goal.returns-clause-none
@@ -18,3 +18,12 @@ returns-clause-binding c = binding_row
 
 pub returns-clause-built_in : goal.returns-clause-built_in
 returns-clause-built_in c = built_in_row
+
+pub returns-clause-type_ : goal.returns-clause-type_
+returns-clause-type_ c = type_row
+
+pub returns-clause-variable : goal.returns-clause-variable
+returns-clause-variable c = variable_row
+
+pub returns-clause-function_name : goal.returns-clause-function_name
+returns-clause-function_name c = shared_row
