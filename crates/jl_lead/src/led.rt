@@ -1,6 +1,8 @@
 //! A dispatcher that leads a task along a trace.
 
 ghost use Rattle.std.specs.Prelude.{◌≡◌, ◌<◌, ◌↔◌, ◌++◌, [], ◌∷◌, IsTrue, OnOk, None, drop, length, true, false};
+ghost use Rattle.jl_program.specs.declared.value.Value.TheVariants.{Nothing};
+ghost use Rattle.jl_calculus.specs.declared.history.Outcome.TheVariants as O;
 ghost use Rattle.jl_calculus.specs.Past.{done_of};
 ghost use Rattle.jl_calculus.specs.ValidHistory.{IsValidOutcome};
 ghost use Rattle.jl_lead.specs.Items.{next_item, world_full_of, task_full_of, IsNoFetch};
@@ -187,6 +189,30 @@ impl Led<'_> {
         }
     }
 
+    /// A task that has not ended ends so, and its outcome is answered.
+    fn end_with(
+        &mut self,
+        task: u32,
+        ended: Record,
+        outcome: SharedNode<Outcome>,
+    ) -> Result<SharedNode<Outcome>, FetchFault>
+        requires here { self.old.alone ≡ false }
+        requires running { done_of task self.old.past.1 ≡ None }
+        requires next { IsNoFetch (next_item self.old.alone self.old.items.items self.old.told) task }
+        requires nothing { ended.outcome ≡ O.Value Nothing }
+        requires same { outcome ≡ ended.outcome }
+        ensures { AnswersFetch (knows_of self.old) (knows_of self.new) task result }
+    {
+        match self.past.end(task, ended) {
+            Ok(()) => {
+                self.alone = true;
+                self.seen = self.past.len();
+                Ok(outcome)
+            }
+            Err(_) => Err(FetchFault::Memory),
+        }
+    }
+
     /// A fetch of a task that has not ended and does not stand next: the task ends with `nothing`, unless another event was made.
     fn make_end(&mut self, task: u32) -> Result<SharedNode<Outcome>, FetchFault>
         requires running { done_of task self.old.past.1 ≡ None }
@@ -199,14 +225,7 @@ impl Led<'_> {
         let Ok((ended, outcome)) = nothing_done(self.past.alloc()) else {
             return Err(FetchFault::Memory);
         };
-        match self.past.end(task, ended) {
-            Ok(()) => {
-                self.alone = true;
-                self.seen = self.past.len();
-                Ok(outcome)
-            }
-            Err(_) => Err(FetchFault::Memory),
-        }
+        self.end_with(task, ended, outcome)
     }
 
     /// A fetch that does not stand next.

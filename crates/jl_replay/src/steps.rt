@@ -12,11 +12,7 @@ use jl_report::Step;
 use std::alloc::{AllocError, Global};
 
 /// The outcome of a task that has ended; `nothing` where it has not.
-fn outcome_of(
-    alloc: Global,
-    past: &Past<'_>,
-    task: u32,
-) -> Result<SharedNode<Outcome>, AllocError>
+fn outcome_of(alloc: Global, past: &Past<'_>, task: u32) -> Result<SharedNode<Outcome>, AllocError>
     ensures { IfOk result (λ outcome. outcome ≡ outcome_or_nothing (done_of task past.now.1)) }
 {
     match past.outcome(task)? {

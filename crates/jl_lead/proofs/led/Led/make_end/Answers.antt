@@ -1,8 +1,5 @@
-use Rattle.std.proofs.Common.{refl, sym, subst}
-use Rattle.jl_calculus.specs.declared.history.Event.TheVariants as Ev
-use Rattle.jl_calculus.specs.ValidHistory.{IsValidOutcome}
-use Rattle.jl_point.proofs.ValueTypes.{nothing_valid}
-use Rattle.jl_lead.proofs.Whole.{placed_same, placed_more, left_same, fetch_lost, fetch_made}
+use Rattle.std.proofs.Common.{refl}
+use Rattle.jl_lead.proofs.Whole.{fetch_lost}
 use Rattle.jl_lead.proofs.led.Led.make_end.Goals as goal
 
 pub returns-then-self : goal.returns-then-self
@@ -14,35 +11,3 @@ pub returns-in_default : goal.returns-in_default
 returns-in_default c =
     let s = c.args.self.now in
     fetch_lost s.past.0 s.past.1 s.task s.items.items s.told s.seen s.looks s.alone c.args.task s.past refl
-
-pub end-requires : goal.end-requires
-end-requires c =
-    let s = c.args.self.now in
-    subst (IsValidOutcome s.past.0) (sym c.in-Ok.ensures.nothing) (nothing_valid s.past.0)
-
-pub invariant_of-self-in-Ok-2 : goal.invariant_of-self-in-Ok-2
-invariant_of-self-in-Ok-2 c =
-    let s = c.args.self.now in
-    record {
-      placed = placed_more s.past.0 s.past.1 (Ev.Done c.args.task c.in-Ok.ended) s.task s.seen c.len-self.result c.end.new.self s.placed c.in-Ok-2.ensures.added c.len-self.ensures;
-      left = tt;
-    }
-
-pub returns-in-Ok-2 : goal.returns-in-Ok-2
-returns-in-Ok-2 c =
-    let s = c.args.self.now in
-    fetch_made s.past.0 s.past.1 s.task s.items.items s.told s.seen s.looks s.alone c.args.task c.len-self.result c.in-Ok.ended c.in-Ok.outcome c.end.new.self c.in-Ok.ensures.same c.in-Ok.ensures.nothing c.if-self.false
-    c.requires.next s.placed.seen_some c.requires.running c.in-Ok-2.ensures.added c.len-self.ensures
-
-pub invariant_of-self-in-Err : goal.invariant_of-self-in-Err
-invariant_of-self-in-Err c =
-    let s = c.args.self.now in
-    record {
-      placed = placed_same c.end.new.self s.past s.task s.seen c.in-Err.ensures.refused s.placed;
-      left = left_same c.end.new.self s.past s.alone s.seen _ c.in-Err.ensures.refused s.left;
-    }
-
-pub returns-in-Err : goal.returns-in-Err
-returns-in-Err c =
-    let s = c.args.self.now in
-    fetch_lost s.past.0 s.past.1 s.task s.items.items s.told s.seen s.looks s.alone c.args.task c.end.new.self c.in-Err.ensures.refused
