@@ -16,14 +16,14 @@ turn_alone-requires g c = record {
 }
 
 pub alone-smaller : goal.alone-smaller
-alone-smaller g c = moves_fewer _ _ c.alone.self c.in-Some.next c.turn_alone.new.self (rw c.in-Some.is at c.in_ok-turn_alone.ensures.moves)
+alone-smaller g c = moves_fewer _ _ c.alone.self c.in-Some.next c.turn_alone.new.self (rw c.in-Some.is at c.in_ok-next.ensures.moves)
 
 pub alone-preserved : goal.alone-preserved
 alone-preserved g c = record {
-  on = once_more _ c.args.first c.args.self.now c.alone.work c.alone.self c.alone.invariant.on c.in-Some.next c.turn_alone.new.self (rw c.in-Some.is at c.in_ok-turn_alone.ensures.moves);
+  on = once_more _ c.args.first c.args.self.now c.alone.work c.alone.self c.alone.invariant.on c.in-Some.next c.turn_alone.new.self (rw c.in-Some.is at c.in_ok-next.ensures.moves);
   types = c.turn_alone.ensures.types ∙ c.alone.invariant.types;
 }
 
 pub returns-in-None-clause-on : goal.returns-in-None-clause-on
 returns-in-None-clause-on g c =
-    subst (λ (t : Task). GoesOn (g.D.Dispatcher.knows c.args.with.now) c.args.first c.args.self.now c.alone.work t) (sym (rw c.in-None.is at c.in_ok-turn_alone.ensures.moves)) c.alone.invariant.on
+    subst (λ (t : Task). GoesOn (g.D.Dispatcher.knows c.args.with.now) c.args.first c.args.self.now c.alone.work t) (sym (rw c.in-None.is at c.in_ok-next.ensures.moves)) c.alone.invariant.on
