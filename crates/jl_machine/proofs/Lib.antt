@@ -4,4 +4,5 @@ pub mod TakenLemmas
 pub mod Choosing
 pub mod Asking
 pub mod Acting
+pub mod Moving
 pub mod Whole

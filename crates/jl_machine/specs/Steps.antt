@@ -1,5 +1,5 @@
 -- A step of a machine over a lent program is a step of the task that it stands for.
-use Rattle.std.specs.Prelude.{◌≡◌, ◌<◌, ℕ, [], ◌∷◌, ◌++◌, List, map, Option, None, Some, slice_get, false}
+use Rattle.std.specs.Prelude.{◌≡◌, ◌⊎◌, ◌<◌, ℕ, [], ◌∷◌, ◌++◌, List, map, Option, None, Some, slice_get, false}
 use Rattle.jl_model.specs.declared.ty.Ty.{Ty}
 use Rattle.jl_model.specs.declared.ty.Decl.{Decl}
 use Rattle.jl_model.specs.Bindings.{bindings}
@@ -66,6 +66,20 @@ pub record LentWaits (k : Knows) (w : Work) (t : Task) (k' : Knows) (task : ℕ)
   pub known : IsKnowing k w (progress_of t) → IsKnown k.start t.trace task
   pub running : IsNotDone k' task
   pub same : t' ≡ t
+
+-- a step that asked nobody
+pub record Moves (k : Knows) (w : Work) (t : Task) (work : LentWork) (t' : Task) : Type 0 where
+  pub step : LentSteps k w t k work t'
+  pub trace : t'.trace ≡ t.trace
+
+-- a step that asked nobody, or the task is as it was
+abbrev pub MayMove : Knows → Work → Task → Option LentWork → Task → Type 0
+MayMove k w t (Some work) t' = Moves k w t work t'
+MayMove k w t None t' = t' ≡ t
+
+-- steps that asked nobody, or the task and what comes next are as they were
+abbrev pub GoesOn : Knows → LentWork → Task → LentWork → Task → Type 0
+GoesOn k work t work' t' = ((work' ≡ work) × (t' ≡ t)) ⊎ Moves k (work_of work t.now) t work' t'
 
 -- what a turn leads to
 abbrev pub Goes : Knows → Work → Task → Knows → Next → Task → Type 0

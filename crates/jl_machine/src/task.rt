@@ -24,7 +24,7 @@ ghost use Rattle.jl_machine.specs.Acting.{IsOperation};
 ghost use Rattle.jl_machine.specs.Fetched.{task_of};
 ghost use Rattle.jl_fit.specs.Fits.{fetched_outcome};
 ghost use Rattle.jl_point.specs.Size.{program_size};
-ghost use Rattle.jl_machine.specs.Steps.{fuel_of, trace_of, turns_of, job_with, MachineFits, TurnSays, WaitsRightly, KnowsTasks, IsLost, IsEnded, IsNewRoot, IsNewTask, HasEnded, IsRecordOf, IsFirst, progress_of, LentSteps, LentWaits, Goes, HasLooked, IsWorking, variables_at, AppliesAt};
+ghost use Rattle.jl_machine.specs.Steps.{fuel_of, trace_of, turns_of, job_with, MachineFits, TurnSays, WaitsRightly, KnowsTasks, IsLost, IsEnded, IsNewRoot, IsNewTask, HasEnded, IsRecordOf, IsFirst, progress_of, LentSteps, LentWaits, Goes, HasLooked, IsWorking, MayMove, GoesOn, variables_at, AppliesAt};
 
 use crate::now::{LentNow, LentWork};
 use crate::{acts, turns};
@@ -417,6 +417,7 @@ impl<'p> Task<'p> {
         requires form { IsOperation (out-Expr expr.now) }
         requires settled { self.old.now.frames.open_text ≡ [] }
         ensures steps { IfOk result (λ work. LentSteps (D.knows with.now) (W.Acting expr.now self.old.now.frames.open_values) self.old (D.knows with.now) work self.new) }
+        ensures trace { self.new.trace ≡ self.old.trace }
         ensures types { memo.new ≡ memo.old }
     {
         let outcome = acts::operate(self.alloc, ready, memo, &self.now.frames, expr)?;
@@ -464,8 +465,146 @@ impl<'p> Task<'p> {
         }
     }
 
-    /// One turn: what comes next, and what comes after it.
+    /// A call whose arguments are the open values, where its method is remembered. Nothing is answered where it is not, or where no call is
+    /// left or too many are open.
     #[inline(always)]
+    fn recall<D: Recall>(
+        &mut self,
+        ready: &'p Ready,
+        ops: &HostOps,
+        with: &D,
+        function: u32,
+        world: u32,
+    ) -> Result<Option<LentWork<'p>>, AllocError>
+        requires fits { Fitting (D.knows with.now) (W.Calling function world self.old.now.frames.open_values) (progress_of self.old) }
+        requires program { ready.now ≡ (D.knows with.now).program }
+        requires settled { self.old.now.frames.open_text ≡ [] }
+        ensures { IfOk result (λ next. MayMove (D.knows with.now) (W.Calling function world self.old.now.frames.open_values) self.old next self.new) }
+    {
+        if self.calls >= self.fuel {
+            return Ok(None);
+        }
+        if self.now.room == 0 {
+            return Ok(None);
+        }
+        match with.recall(function, self.now.frames.open_values(), world) {
+            Some(found) => {
+                self.calls += 1;
+                let work =
+                    turns::perform(&mut self.now, ready, ops, found.site, world, found.statics)?;
+                Ok(Some(work))
+            }
+            None => Ok(None),
+        }
+    }
+
+    /// An expression acts, whose parts are the open values, where it asks nobody.
+    #[inline(always)]
+    fn act_alone<D: Recall>(
+        &mut self,
+        ready: &'p Ready,
+        memo: &mut Memo,
+        ops: &HostOps,
+        with: &D,
+        expr: &'p Expr,
+    ) -> Result<Option<LentWork<'p>>, AllocError>
+        requires types { memo.old ≡ all_types ready.now }
+        requires fits { Fitting (D.knows with.now) (W.Acting expr.now self.old.now.frames.open_values) (progress_of self.old) }
+        requires program { ready.now ≡ (D.knows with.now).program }
+        requires settled { self.old.now.frames.open_text ≡ [] }
+        ensures moves { IfOk result (λ next. MayMove (D.knows with.now) (W.Acting expr.now self.old.now.frames.open_values) self.old next self.new) }
+        ensures types { memo.new ≡ memo.old }
+    {
+        match expr {
+            Expr::Call(function, _) => {
+                let world = self.now.world;
+                let next = self.recall(ready, ops, with, *function, world)?;
+                Ok(next)
+            }
+            Expr::Make(_, _) | Expr::Infer(_, _) | Expr::Parts(_) | Expr::Field(_, _) => {
+                let work = self.operate(ready, memo, with, expr)?;
+                Ok(Some(work))
+            }
+            Expr::Part(_, _) | Expr::Egal(_, _, _) | Expr::Isa(_, _) | Expr::Sub(_, _) => {
+                let work = self.operate(ready, memo, with, expr)?;
+                Ok(Some(work))
+            }
+            _ => Ok(None),
+        }
+    }
+
+    /// A turn that asks nobody. Nothing is answered where what comes next asks, or the task has ended.
+    #[inline(always)]
+    fn turn_alone<D: Recall>(
+        &mut self,
+        ready: &'p Ready,
+        memo: &mut Memo,
+        ops: &HostOps,
+        with: &D,
+        work: LentWork<'p>,
+    ) -> Result<Option<LentWork<'p>>, AllocError>
+        requires types { memo.old ≡ all_types ready.now }
+        requires fits { Fitting (D.knows with.now) (work_of work self.old.now) (progress_of self.old) }
+        requires program { ready.now ≡ (D.knows with.now).program }
+        requires settled { IsSettled work self.old.now }
+        ensures moves { IfOk result (λ next. MayMove (D.knows with.now) (work_of work.entry self.old.now) self.old next self.new) }
+        ensures types { memo.new ≡ memo.old }
+    {
+        match work {
+            LentWork::Eval(expr) => {
+                let next = turns::begin(&mut self.now, expr)?;
+                Ok(Some(next))
+            }
+            LentWork::Give => {
+                let next = turns::give(ready, &mut self.now)?;
+                Ok(Some(next))
+            }
+            LentWork::Leave => Ok(Some(turns::leave(&mut self.now))),
+            LentWork::Acting(expr) => {
+                let next = self.act_alone(ready, memo, ops, with, expr)?;
+                Ok(next)
+            }
+            LentWork::Stmts(stmts) => {
+                let next = turns::go_stmts(&mut self.now, stmts)?;
+                Ok(Some(next))
+            }
+            LentWork::Pieces(line, pieces) => {
+                let next = turns::go_pieces(&mut self.now, pieces, line)?;
+                Ok(Some(next))
+            }
+            _ => Ok(None),
+        }
+    }
+
+    /// Turns that ask nobody, as many as there are. What comes next is kept in registers between them, where a turn of its own writes it
+    /// into the machine and reads it again.
+    #[inline(always)]
+    fn go_on<D: Recall>(
+        &mut self,
+        ready: &'p Ready,
+        memo: &mut Memo,
+        ops: &HostOps,
+        with: &D,
+        first: LentWork<'p>,
+    ) -> Result<LentWork<'p>, AllocError>
+        requires types { memo.old ≡ all_types ready.now }
+        requires fits { Fitting (D.knows with.now) (work_of first self.old.now) (progress_of self.old) }
+        requires program { ready.now ≡ (D.knows with.now).program }
+        requires settled { IsSettled first self.old.now }
+        ensures on { IfOk result (λ last. GoesOn (D.knows with.now) first.entry self.old last self.new) }
+        ensures types { memo.new ≡ memo.old }
+    {
+        let mut work = first;
+        'alone: loop {
+            match self.turn_alone(ready, memo, ops, with, work)? {
+                Some(next) => work = next,
+                None => return Ok(work),
+            }
+        }
+    }
+
+    /// One turn: what comes next, and what comes after it. It is out of line, so that the turns that ask nobody are a loop of their own.
+    #[inline(never)]
     fn turn<D: Recall>(
         &mut self,
         ready: &'p Ready,
@@ -617,8 +756,8 @@ impl<'p> Machine<'p> {
         Ok(machine)
     }
 
-    /// One turn. It keeps that the machine fits its dispatcher, leaves fewer turns, and adds at most one item to the trace, which
-    /// answers what the task asked there. It fetches and waits for tasks alone that it knows: those that its start mentions, that it
+    /// One turn, and those after it that ask nobody. It keeps that the machine fits its dispatcher, leaves fewer turns, and adds at most one
+    /// item to the trace, which answers what the task asked there. It fetches and waits for tasks alone that it knows: those that its start mentions, that it
     /// spawned, or that an outcome mentions that it fetched before. `NeedFetch` comes exactly where the dispatcher answered that a task
     /// has not ended yet (`waits`), and the machine is then as it was. After out of memory the machine is lost: it answers so at each
     /// later turn.
@@ -648,7 +787,8 @@ impl<'p> Machine<'p> {
                 self.work = LentWork::Lost;
                 match self.task.turn(ready, &mut self.memo, ops, with, work)? {
                     Next::Go(next) => {
-                        self.work = next;
+                        let last = self.task.go_on(ready, &mut self.memo, ops, with, next)?;
+                        self.work = last;
                         Ok(Turn::Again)
                     }
                     Next::Wait(task) => {

@@ -2,6 +2,7 @@ use Rattle.std.proofs.Common.{sym, ap, subst, inl, ◌∙◌}
 use Rattle.jl_machine.specs.declared.task.Task.{Task}
 use Rattle.jl_fit.specs.Asks.{Follows}
 use Rattle.jl_machine.proofs.Whole.{working, fitting, program_is, settled_is, step_fits, step_fuel, step_turns, step_tells, step_knows, step_kept, waits_fit, waits_known, types_at, types_are}
+use Rattle.jl_machine.proofs.Moving.{fits_after, then_on}
 use Rattle.jl_machine.proofs.task.Machine.step.Goals as goal
 
 pub turn-requires : goal.turn-requires
@@ -15,23 +16,34 @@ turn-requires g c =
       types = types_are c.args.ready.now c.args.self.now.work c.args.self.now.memo w c.requires.types;
     }
 
-pub returns-in-Go : goal.returns-in-Go
-returns-in-Go g c =
+pub go_on-requires : goal.go_on-requires
+go_on-requires g c =
     let w = working c.args.self.now.work c.in_default.not-Ended c.in_default.not-Lost in
     let s = rw c.in-Go.is at c.in_ok-next-in_default.ensures.goes in
     record {
+      types = c.turn.ensures.types ∙ types_are c.args.ready.now c.args.self.now.work c.args.self.now.memo w c.requires.types;
+      fits = fits_after _ _ _ c.args.self.now.task c.in-Go.next c.turn.new.self s;
+      program = program_is c.args.ready.now _ c.args.self.now.work c.args.self.now.task w c.requires.task ∙ sym s.steps.fits.program;
+      settled = s.settled;
+    }
+
+pub returns-in_ok-last-in-Go : goal.returns-in_ok-last-in-Go
+returns-in_ok-last-in-Go g c =
+    let w = working c.args.self.now.work c.in_default.not-Ended c.in_default.not-Lost in
+    let s = then_on _ _ _ c.args.self.now.task c.in-Go.next c.turn.new.self (rw c.in-Go.is at c.in_ok-next-in_default.ensures.goes) c.in_ok-last-in-Go.last c.go_on.new.self c.in_ok-last-in-Go.ensures.on in
+    record {
       fits = record {
-        task = step_fits c.args.ready.now _ c.args.self.now.work c.args.self.now.task w c.requires.task _ c.in-Go.next c.turn.new.self s;
-        types = types_at c.args.ready.now c.in-Go.next c.turn.new.memo (c.turn.ensures.types ∙ types_are c.args.ready.now c.args.self.now.work c.args.self.now.memo w c.requires.types);
+        task = step_fits c.args.ready.now _ c.args.self.now.work c.args.self.now.task w c.requires.task _ c.in_ok-last-in-Go.last c.go_on.new.self s;
+        types = types_at c.args.ready.now c.in_ok-last-in-Go.last c.go_on.new.memo (c.go_on.ensures.types ∙ c.turn.ensures.types ∙ types_are c.args.ready.now c.args.self.now.work c.args.self.now.memo w c.requires.types);
       };
-      turn = step_turns c.args.ready.now _ c.args.self.now.work c.args.self.now.task w c.requires.task _ c.in-Go.next c.turn.new.self s;
+      turn = step_turns c.args.ready.now _ c.args.self.now.work c.args.self.now.task w c.requires.task _ c.in_ok-last-in-Go.last c.go_on.new.self s;
       waits = tt;
-      fuel = step_fuel c.args.ready.now _ c.args.self.now.work c.args.self.now.task w c.requires.task _ c.in-Go.next c.turn.new.self s;
-      tells = step_tells c.args.ready.now _ c.args.self.now.work c.args.self.now.task w c.requires.task _ c.in-Go.next c.turn.new.self s;
-      knows = step_knows c.args.ready.now _ c.args.self.now.work c.args.self.now.task w c.requires.task _ c.in-Go.next c.turn.new.self s;
+      fuel = step_fuel c.args.ready.now _ c.args.self.now.work c.args.self.now.task w c.requires.task _ c.in_ok-last-in-Go.last c.go_on.new.self s;
+      tells = step_tells c.args.ready.now _ c.args.self.now.work c.args.self.now.task w c.requires.task _ c.in_ok-last-in-Go.last c.go_on.new.self s;
+      knows = step_knows c.args.ready.now _ c.args.self.now.work c.args.self.now.task w c.requires.task _ c.in_ok-last-in-Go.last c.go_on.new.self s;
       follows = s.steps.follows;
       lost = tt;
-      kept = step_kept c.args.ready.now _ c.args.self.now.work c.args.self.now.task w c.requires.task _ c.in-Go.next c.turn.new.self s;
+      kept = step_kept c.args.ready.now _ c.args.self.now.work c.args.self.now.task w c.requires.task _ c.in_ok-last-in-Go.last c.go_on.new.self s;
       still = λ lost. absurd (c.in_default.not-Lost lost);
     }
 
