@@ -1,3 +1,4 @@
 pub mod ValidLemmas
 pub mod KeyLemmas
 pub mod IndexLemmas
+pub mod StartLemmas

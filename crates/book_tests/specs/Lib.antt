@@ -1,3 +1,4 @@
 pub mod Programs
 pub mod Simple
 pub mod Crossed
+pub mod Starts

@@ -19,7 +19,7 @@ pub(crate) const F: u32 = PRELUDE_FUNCTIONS;
 /// How many calls a task may make.
 pub(crate) const FUEL: u64 = 100;
 /// The number of the second.
-const LATE: u32 = F + 1;
+pub(crate) const LATE: u32 = F + 1;
 
 fn named(number: u32) -> Ty
     ensures { result ≡ named number }
@@ -28,7 +28,7 @@ fn named(number: u32) -> Ty
 }
 
 /// One more at the end. It takes the list, so that none is alive where memory is refused.
-fn push<T: Drop>(items: Vec<T>, item: T) -> Result<Vec<T>, AllocError>
+pub(crate) fn push<T: Drop>(items: Vec<T>, item: T) -> Result<Vec<T>, AllocError>
     ensures { IfOk result (λ all. all.items ≡ items.items ++ item ∷ []) }
 {
     let mut items = items;
