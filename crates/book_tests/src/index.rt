@@ -90,15 +90,15 @@ fn name(
     alloc: Global,
     ready: &Ready,
     index: &mut Index,
-    key: &Key,
+    key: Key,
     differs: &mut bool,
 ) -> Result<(), AllocError>
-    requires key { IsKeyOf ready.now key.now }
-    requires event { (es : List Event) × IsIndexOf ready.now es index.old × MayCome ready.now es (E.Key key.now) }
-    ensures { OnOk result ((es : List Event) → IsIndexOf ready.now es index.old → MayCome ready.now es (E.Key key.now) → IsIndexOf ready.now (es ++ E.Key key.now ∷ []) index.new) }
+    requires key { IsKeyOf ready.now key }
+    requires event { (es : List Event) × IsIndexOf ready.now es index.old × MayCome ready.now es (E.Key key) }
+    ensures { OnOk result ((es : List Event) → IsIndexOf ready.now es index.old → MayCome ready.now es (E.Key key) → IsIndexOf ready.now (es ++ E.Key key ∷ []) index.new) }
 {
-    let touching = index.find_touching(alloc, ready, key)?;
-    let event = Event::Key(key.copy()?);
+    let touching = index.find_touching(alloc, ready, &key)?;
+    let event = Event::Key(key);
     let noted = note(alloc, ready, index, &event, touching.as_slice(), differs);
     drop(event);
     noted
@@ -120,16 +120,14 @@ fn begin(
     noted
 }
 
-/// Whether after the second and after the third definition of the function these worlds touch the key.
+/// Whether the worlds that are due touch the key of two integers after the second and after the third definition of its function.
 fn touching(
     alloc: Global,
     ready: &Ready,
     index: &mut Index,
-    key: &Key,
     differs: &mut bool,
 ) -> Result<bool, AllocError>
-    requires index { IsIndexOf ready.now [] index.old }
-    requires key { IsKeyOf ready.now key.now }
+    requires { IsIndexOf ready.now [] index.old }
 {
     let first = PRELUDE_SITES;
     if ready.program().sites.len() <= first as usize + 2 {
@@ -137,6 +135,7 @@ fn touching(
     }
     begin(alloc, ready, index, differs)?;
     define(alloc, ready, index, first, differs)?;
+    let key = make_key(alloc, ready, F, 0, 2)?;
     name(alloc, ready, index, key, differs)?;
     define(alloc, ready, index, first + 1, differs)?;
     let are_two = index.touching(0) == [15u32, 16].as_slice();
@@ -145,18 +144,11 @@ fn touching(
     Ok(are_two && are_three)
 }
 
-/// The same for a new index, and for the key of two integers.
+/// The same for a new index.
 fn touching_anew(alloc: Global, ready: &Ready, differs: &mut bool) -> Result<bool, AllocError> {
-    let key = make_key(alloc, ready, F, 0, 2)?;
-    let told = match Index::new(alloc, ready) {
-        Ok(mut index) => {
-            let told = touching(alloc, ready, &mut index, &key, differs);
-            drop(index);
-            told
-        }
-        Err(_) => Err(AllocError),
-    };
-    drop(key);
+    let mut index = Index::new(alloc, ready)?;
+    let told = touching(alloc, ready, &mut index, differs);
+    drop(index);
     told
 }
 

@@ -1,4 +1,5 @@
 use crate::asks::{FULL, make_start};
+use crate::ends::both_end;
 use crate::index::touching_both;
 use crate::programs::{F, FUEL, push};
 use crate::runs::tell_late;
@@ -125,5 +126,12 @@ fn each_limit_is_refused_at_its_number(rt: HostRuntime) -> Result<(), Fail> {
     let most = tell_late(rt.alloc(), 8_192, 16_384, &MOST_STEPS, &[])?;
     let few = tell_late(rt.alloc(), 1, 1, &FEW_STEPS, &[])?;
     assert!(rt; most && few);
+    Ok(())
+}
+
+#[test]
+fn a_task_ends_and_is_fetched(rt: HostRuntime) -> Result<(), Fail> {
+    let told = both_end(rt.alloc())?;
+    assert!(rt; told);
     Ok(())
 }
