@@ -101,6 +101,7 @@ module _ (about : About) (h : IsChild about.program.value) where
     looks = refl;
     runs = λ es _. root_task about.program.value h es _ _;
   }
+
 -- ---- what the spawn leaves
 module _ (about : About) (es s : List Event) (v0 v1 : TaskView) (n : ℕ) (start : Start)
     (is : es ≡ first_events about) (at : v0 ≡ begun 0 None (first_events about)) (look : v1 ≡ looked s v0) (number : n ≡ tasks_of es) (from : start ≡ first_start) where
