@@ -1,6 +1,6 @@
 //! Which definitions the index says touch a key, as they are made.
 
-ghost use Rattle.std.specs.Prelude.{◌<◌, ◌++◌, ◌∷◌, [], List, IfOk, OnOk, length};
+ghost use Rattle.std.specs.Prelude.{◌<◌, ◌++◌, ◌∷◌, [], List, OnOk, length};
 ghost use Rattle.jl_calculus.specs.declared.history.Event.{Event};
 ghost use Rattle.jl_calculus.specs.declared.history.Event.TheVariants as E;
 ghost use Rattle.jl_calculus.specs.Legal.{IsKeyOf, MayCome};

@@ -1,6 +1,6 @@
 //! Steps of a run, one after another, each with what is due.
 
-ghost use Rattle.std.specs.Prelude.{◌≡◌, ◌<◌, ◌≤◌};
+ghost use Rattle.std.specs.Prelude.{◌≡◌};
 ghost use Rattle.jl_calculus.specs.Legal.{IsKeyOf};
 ghost use Rattle.jl_calculus.specs.ValidStart.{IsValidStart};
 ghost use Rattle.book_tests.specs.Starts.{first_start};

@@ -12,12 +12,13 @@ use std::test::Fail;
 
 /// The definitions of the script; a row for the world of its task and one for the world after it; and the first definition once more,
 /// which ends the row that has no end.
-static LATE_STEPS: [Step; 16] = [
+static LATE_STEPS: [Step; 17] = [
     Step::Define(14, 15),
     Step::Define(15, 16),
     Step::Define(16, 17),
     Step::Name(0),
     Step::Resolve(16, 15, 0),
+    Step::Find(14, NO_SITE),
     Step::Find(15, 14),
     Step::Find(16, 14),
     Step::Find(17, NO_SITE),
