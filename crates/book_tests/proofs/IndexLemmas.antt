@@ -1,5 +1,5 @@
 -- Each event that the index notes may come.
-use Rattle.std.proofs.Common.{refl, ◌<◌, arith, [], length}
+use Rattle.std.proofs.Common.{refl, ◌<◌, arith, [], length, Result, Ok, Err, OnOk}
 use Rattle.std.specs.List.{Contains}
 use Rattle.jl_model.specs.declared.ty.Key.{Key}
 use Rattle.jl_program.specs.declared.tree.Program.{Program}
@@ -7,6 +7,11 @@ use Rattle.jl_calculus.specs.declared.history.Event.TheVariants as Ev
 use Rattle.jl_calculus.specs.Legal.{IsKeyOf, MayCome}
 use Rattle.jl_calculus.specs.Ranges.{keys_of}
 use Rattle.book_tests.specs.Crossed.{begun, one_made, keyed, two_made}
+
+-- what follows where there is no error
+pub on_ok : {X E : Type 0} (r : Result X E) (P Q : Type 0) → (P → Q) → OnOk r P → OnOk r Q
+on_ok (Ok x) P Q f h = f h
+on_ok (Err e) P Q f h = tt
 
 module _ (P : Program) where
   pub may_begin : MayCome P [] (Ev.Begin 0)

@@ -9,9 +9,6 @@ use Rattle.jl_program.specs.declared.tree.Program.{Program}
 use Rattle.jl_program.specs.declared.value.Value.TheVariants as V
 use Rattle.jl_program.specs.Scope.{all_types}
 use Rattle.jl_program.specs.ValidValue.{IsValueType}
-use Rattle.jl_cache.specs.declared.found.Found.{Found}
-use Rattle.jl_cache.specs.declared.found.Found.TheVariants.{Hit, Miss}
-use Rattle.jl_cache.specs.Finds.{MatchFound}
 use Rattle.jl_calculus.specs.declared.history.Event.{Event}
 use Rattle.jl_calculus.specs.Learnt.{IsNamed}
 use Rattle.jl_calculus.specs.Legal.{IsKeyOf}
@@ -36,11 +33,6 @@ known es seen new n key e is grows = omega (arith, subst (λ xs. n < length (key
 -- a world that was looked at is there in what the book answers later
 pub still_there : (seen es new now : List Event) → Begins seen es → new ≡ es → now ≡ new → world_of seen ≤ world_of now
 still_there seen es new now grows is sees = subst (λ xs. world_of seen ≤ world_of xs) (sym (sees ∙ is)) (worlds_grow seen es grows)
-
--- what is told of a miss tells more
-pub missed : {M : Type 0} (found : Found M) (Told More : M → Type 0) → ((m : M) → Told m → More m) → MatchFound found (λ site. Unit {0}) Told → MatchFound found (λ site. Unit {0}) More
-missed (Hit site) Told More tells h = tt
-missed (Miss m) Told More tells h = tells m h
 
 -- ---- keys of simple types
 

@@ -1,3 +1,5 @@
 pub mod ValidLemmas
+pub mod StartLemmas
+pub mod ChildLemmas
 pub mod KeyLemmas
 pub mod IndexLemmas

@@ -21,8 +21,8 @@ use Rattle.jl_program.specs.Scope.{View, nothing_seen, all_types, at_top, are_va
 use Rattle.jl_program.specs.Valid.{IsValid, IsValidSite}
 use Rattle.jl_program.proofs.Computing.{names}
 use Rattle.jl_program.proofs.PlainSigs.{Plain, AllPlain, any, builtin as one_builtin, plain_valid}
-use Rattle.jl_program.proofs.ValidLayers.{valid-int, valid-local, valid-call, valid-spawn, valid-fetch, valid-print, valid-show, valid-define, valid-top-bind, valid-top-do, in-layer, in-nothing, in-int, in-local, in-call, in-print, in-spawn, in-show, in-define, in-top-bind, in-top-do}
-use Rattle.book_tests.specs.Programs.{program_of, site_of, late, late_sites, late_top, crossed, crossed_sites, crossed_top}
+use Rattle.jl_program.proofs.ValidLayers.{valid-nothing, valid-int, valid-local, valid-call, valid-spawn, valid-fetch, valid-print, valid-show, valid-define, valid-top-bind, valid-top-do, in-layer, in-nothing, in-int, in-local, in-call, in-print, in-spawn, in-show, in-define, in-top-bind, in-top-do}
+use Rattle.book_tests.specs.Programs.{program_of, site_of, late, late_sites, late_top, crossed, crossed_sites, crossed_top, child}
 
 none : {X : Type 0} (Is : X → Type 0) (xs : List X) → xs ≡ [] → All Is xs
 none Is [] e k d l = absurd (omega (arith, l))
@@ -145,6 +145,9 @@ module _ {A : Type 0} (own : Layer A → List A) (nothing : own F.Nothing ≡ []
         print ([] ∷ []) true,
       ) refl
 
+  in_child : in_program own child ≡ own (F.Spawn 0) ++ [] ++ []
+  in_child = rw (in-nothing own, nothing, in-top-do own (E.Spawn 0), in-spawn own 0) refl
+
 -- ---- each by itself
 
 once_in : (P : Program) → spawned_places P ≡ 0 ∷ [] → (place : ℕ) → place < 1 → times place (spawned_places P) ≡ 1
@@ -218,4 +221,16 @@ crossed_valid = parts_valid (codes "f" ∷ []) crossed_sites [] crossed_top [] (
       ) refl;
   written = in_crossed own_types refl (λ n. refl) (λ x. refl) (λ f xs. refl) (λ x. refl) (λ ps line. refl);
   inferred = in_crossed own_struct refl (λ n. refl) (λ x. refl) (λ f xs. refl) (λ x. refl) (λ ps line. refl);
+})
+
+pub child_valid : IsValid child
+child_valid = parts_valid [] [] (E.Nothing ∷ []) (I.Do (E.Spawn 0) ∷ []) one_view (record {
+  free = refl;
+  distinct = refl;
+  tasks = rw (valid-nothing child one_view) refl;
+  once = once_in child (in_child own_place refl (λ n. refl) (λ x. refl) (λ f xs. refl) (λ x. refl) (λ ps line. refl));
+  each = tt;
+  statements = rw (valid-top-do child one_view (E.Spawn 0), valid-spawn child one_view 0) refl;
+  written = in_child own_types refl (λ n. refl) (λ x. refl) (λ f xs. refl) (λ x. refl) (λ ps line. refl);
+  inferred = in_child own_struct refl (λ n. refl) (λ x. refl) (λ f xs. refl) (λ x. refl) (λ ps line. refl);
 })

@@ -1,3 +1,5 @@
 pub mod Programs
+pub mod Child
 pub mod Simple
 pub mod Crossed
+pub mod Starts

@@ -43,3 +43,7 @@ crossed_top = I.Define 14 ∷ I.Define 15 ∷ I.Define 16 ∷ shown (X.Call 12 (
 
 abbrev pub crossed : Program
 crossed = program_of (codes "f" ∷ []) crossed_sites [] crossed_top
+
+-- `Threads.@spawn nothing`
+abbrev pub child : Program
+child = program_of [] [] (E.Nothing ∷ []) (I.Do (E.Spawn 0) ∷ [])

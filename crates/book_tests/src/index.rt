@@ -1,6 +1,6 @@
 //! Which definitions the index says touch a key, as they are made.
 
-ghost use Rattle.std.specs.Prelude.{◌<◌, ◌++◌, ◌∷◌, [], List, IfOk, OnOk, length};
+ghost use Rattle.std.specs.Prelude.{◌<◌, ◌++◌, ◌∷◌, [], List, OnOk, length};
 ghost use Rattle.jl_calculus.specs.declared.history.Event.{Event};
 ghost use Rattle.jl_calculus.specs.declared.history.Event.TheVariants as E;
 ghost use Rattle.jl_calculus.specs.Legal.{IsKeyOf, MayCome};
@@ -37,18 +37,10 @@ fn told(alloc: Global, index: &Index) -> Result<Vec<u32>, AllocError> {
     Ok(told)
 }
 
-/// Whether two such lists are the same. One for which there is no memory can't be compared.
-fn are_told_alike(
-    before: &Result<Vec<u32>, AllocError>,
-    after: &Result<Vec<u32>, AllocError>,
-) -> bool {
-    match before {
-        Err(_) => true,
-        Ok(before) => match after {
-            Err(_) => true,
-            Ok(after) => before.as_slice() == after.as_slice(),
-        },
-    }
+/// Whether the index says what it said before.
+fn is_told(alloc: Global, index: &Index, before: &[u32]) -> Result<bool, AllocError> {
+    let after = told(alloc, index)?;
+    Ok(after.as_slice() == before)
 }
 
 /// Notes an event, with what comes along with it. Where memory is refused it is seen whether the index is as before.
@@ -56,24 +48,21 @@ fn note(
     alloc: Global,
     ready: &Ready,
     index: &mut Index,
-    event: Event,
+    event: &Event,
     touched: &[u32],
     differs: &mut bool,
 ) -> Result<(), AllocError>
-    requires { MayBeNoted ready.now index.old event touched.now }
-    ensures { OnOk result ((es : List Event) → IsIndexOf ready.now es index.old → MayCome ready.now es event → ComesWith ready.now es event touched.now → IsIndexOf ready.now (es ++ event ∷ []) index.new) }
+    requires { MayBeNoted ready.now index.old event.now touched.now }
+    ensures { OnOk result ((es : List Event) → IsIndexOf ready.now es index.old → MayCome ready.now es event.now → ComesWith ready.now es event.now touched.now → IsIndexOf ready.now (es ++ event.now ∷ []) index.new) }
 {
-    let before = told(alloc, index);
-    let room = index.reserve(ready, &event, touched);
+    let before = told(alloc, index)?;
+    let room = index.reserve(ready, event, touched);
     if room.is_ok() {
-        index.note(ready, &event);
+        index.note(ready, event);
     } else {
-        let after = told(alloc, index);
-        *differs = *differs || !are_told_alike(&before, &after);
-        drop(after);
+        let is_same = is_told(alloc, index, before.as_slice());
+        *differs = *differs || is_same == Ok(false);
     }
-    drop(before);
-    drop(event);
     room
 }
 
@@ -90,14 +79,10 @@ fn define(
     ensures { OnOk result ((es : List Event) → IsIndexOf ready.now es index.old → MayCome ready.now es (E.Def 0 site) → IsIndexOf ready.now (es ++ E.Def 0 site ∷ []) index.new) }
 {
     let touched = index.find_touched(alloc, ready, site)?;
-    note(
-        alloc,
-        ready,
-        index,
-        Event::Def { task: 0, site },
-        touched.as_slice(),
-        differs,
-    )
+    let event = Event::Def { task: 0, site };
+    let noted = note(alloc, ready, index, &event, touched.as_slice(), differs);
+    drop(event);
+    noted
 }
 
 /// Names a key.
@@ -113,52 +98,64 @@ fn name(
     ensures { OnOk result ((es : List Event) → IsIndexOf ready.now es index.old → MayCome ready.now es (E.Key key) → IsIndexOf ready.now (es ++ E.Key key ∷ []) index.new) }
 {
     let touching = index.find_touching(alloc, ready, &key)?;
-    note(
-        alloc,
-        ready,
-        index,
-        Event::Key(key),
-        touching.as_slice(),
-        differs,
-    )
+    let event = Event::Key(key);
+    let noted = note(alloc, ready, index, &event, touching.as_slice(), differs);
+    drop(event);
+    noted
 }
 
-/// The index of a history that begins.
-fn begin(alloc: Global, ready: &Ready) -> Result<Index, AllocError>
-    ensures { IfOk result (λ index. IsIndexOf ready.now begun index) }
+/// Begins the history.
+fn begin(
+    alloc: Global,
+    ready: &Ready,
+    index: &mut Index,
+    differs: &mut bool,
+) -> Result<(), AllocError>
+    requires { IsIndexOf ready.now [] index.old }
+    ensures { OnOk result (IsIndexOf ready.now begun index.new) }
 {
-    let mut index = Index::new(alloc, ready)?;
-    let mut differs = false;
-    note(alloc, ready, &mut index, Event::Begin(0), &[], &mut differs)?;
-    Ok(index)
+    let event = Event::Begin(0);
+    let noted = note(alloc, ready, index, &event, &[], differs);
+    drop(event);
+    noted
 }
 
-/// The worlds that touch the key of two integers after the second and after the third definition of its function.
+/// Whether the worlds that are due touch the key of two integers after the second and after the third definition of its function.
 fn touching(
     alloc: Global,
     ready: &Ready,
+    index: &mut Index,
     differs: &mut bool,
-) -> Result<(Vec<u32>, Vec<u32>), AllocError> {
+) -> Result<bool, AllocError>
+    requires { IsIndexOf ready.now [] index.old }
+{
     let first = PRELUDE_SITES;
     if ready.program().sites.len() <= first as usize + 2 {
         return Err(AllocError);
     }
-    let mut index = begin(alloc, ready)?;
-    define(alloc, ready, &mut index, first, differs)?;
+    begin(alloc, ready, index, differs)?;
+    define(alloc, ready, index, first, differs)?;
     let key = make_key(alloc, ready, F, 0, 2)?;
-    name(alloc, ready, &mut index, key, differs)?;
-    define(alloc, ready, &mut index, first + 1, differs)?;
-    let two = Vec::from_slice(alloc, index.touching(0))?;
-    define(alloc, ready, &mut index, first + 2, differs)?;
-    let three = Vec::from_slice(alloc, index.touching(0))?;
-    Ok((two, three))
+    name(alloc, ready, index, key, differs)?;
+    define(alloc, ready, index, first + 1, differs)?;
+    let are_two = index.touching(0) == [15u32, 16].as_slice();
+    define(alloc, ready, index, first + 2, differs)?;
+    let are_three = index.touching(0) == [15u32, 16, 17].as_slice();
+    Ok(are_two && are_three)
+}
+
+/// The same for a new index.
+fn touching_anew(alloc: Global, ready: &Ready, differs: &mut bool) -> Result<bool, AllocError> {
+    let mut index = Index::new(alloc, ready)?;
+    let told = touching(alloc, ready, &mut index, differs);
+    drop(index);
+    told
 }
 
 /// The same for the script. It is told whether a refusal changed the index.
-pub(crate) fn touching_both(
-    alloc: Global,
-    differs: &mut bool,
-) -> Result<(Vec<u32>, Vec<u32>), AllocError> {
+pub(crate) fn touching_both(alloc: Global, differs: &mut bool) -> Result<bool, AllocError> {
     let ready = ready_crossed(alloc)?;
-    touching(alloc, &ready, differs)
+    let told = touching_anew(alloc, &ready, differs);
+    drop(ready);
+    told
 }

@@ -4,6 +4,7 @@ ghost use Rattle.std.specs.Prelude.{◌≡◌, ◌≤◌, IfOk, length};
 ghost use Rattle.jl_calculus.specs.Legal.{IsKeyOf};
 ghost use Rattle.book_tests.specs.Simple.{AreSimple};
 
+use crate::programs::push;
 use jl_model::builtin::INT64;
 use jl_model::ty::{Key, Ty, Tys};
 use jl_sig::Ready;
@@ -20,7 +21,7 @@ fn make_types(alloc: Global, number: u32, count: u32) -> Result<Tys, AllocError>
     let mut types = Vec::new(alloc);
     let mut rest = number;
     for _ in 0..count {
-        types.push(Ty::Nominal(INT64 + rest % TYPES, Tys::empty()))?;
+        types = push(types, Ty::Nominal(INT64 + rest % TYPES, Tys::empty()))?;
         rest /= TYPES;
     }
     let types = Tys::from_vec(alloc, types)?;

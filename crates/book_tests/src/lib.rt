@@ -3,14 +3,22 @@
 #![tactic(auto)]
 
 #[cfg(test)]
+mod asks;
+#[cfg(test)]
+mod ends;
+#[cfg(test)]
 mod index;
 #[cfg(test)]
 mod keys;
 #[cfg(test)]
 mod programs;
 #[cfg(test)]
-mod rows;
+mod runs;
+#[cfg(test)]
+mod searches;
 #[cfg(test)]
 mod snapshot;
+#[cfg(test)]
+mod steps;
 #[cfg(test)]
 mod tests;

@@ -4,7 +4,7 @@ ghost use Rattle.std.specs.Prelude.{◌≡◌, ◌++◌, ◌∷◌, [], codes, I
 ghost use Rattle.jl_model.specs.Ancestors.{named};
 ghost use Rattle.jl_program.specs.declared.tree.Expr.TheViews as X;
 ghost use Rattle.jl_program.specs.Prelude.{prelude_functions, prelude_sites, shape_types};
-ghost use Rattle.book_tests.specs.Programs.{site_of, shown, late, late_sites, late_top, crossed, crossed_sites, crossed_top};
+ghost use Rattle.book_tests.specs.Programs.{site_of, shown, late, late_sites, late_top, crossed, crossed_sites, crossed_top, child};
 
 use jl_model::builtin::{BOOL, INT64};
 use jl_model::shared::{SharedList, SharedNode};
@@ -19,7 +19,7 @@ pub(crate) const F: u32 = PRELUDE_FUNCTIONS;
 /// How many calls a task may make.
 pub(crate) const FUEL: u64 = 100;
 /// The number of the second.
-const LATE: u32 = F + 1;
+pub(crate) const LATE: u32 = F + 1;
 
 fn named(number: u32) -> Ty
     ensures { result ≡ named number }
@@ -28,7 +28,7 @@ fn named(number: u32) -> Ty
 }
 
 /// One more at the end. It takes the list, so that none is alive where memory is refused.
-fn push<T: Drop>(items: Vec<T>, item: T) -> Result<Vec<T>, AllocError>
+pub(crate) fn push<T: Drop>(items: Vec<T>, item: T) -> Result<Vec<T>, AllocError>
     ensures { IfOk result (λ all. all.items ≡ items.items ++ item ∷ []) }
 {
     let mut items = items;
@@ -45,7 +45,7 @@ fn one<T: Drop>(alloc: Global, item: T) -> Result<SharedList<T>, AllocError>
 }
 
 /// A list of two.
-fn pair<T: Drop>(alloc: Global, first: T, second: T) -> Result<SharedList<T>, AllocError>
+pub(crate) fn pair<T: Drop>(alloc: Global, first: T, second: T) -> Result<SharedList<T>, AllocError>
     ensures { IfOk result (λ pair. pair ≡ first ∷ second ∷ []) }
 {
     let mut items = Vec::new(alloc);
@@ -233,6 +233,18 @@ fn make_crossed(alloc: Global) -> Result<Program, AllocError>
     Ok(make_program(names, sites, Exprs::empty(), top))
 }
 
+fn make_child(alloc: Global) -> Result<Program, AllocError>
+    ensures { IfOk result (λ P. P ≡ child) }
+{
+    let names = make_names(alloc)?;
+    let names = Names::from_vec(alloc, names)?;
+    let sites = make_prelude(alloc)?;
+    let sites = Sites::from_vec(alloc, sites)?;
+    let spawns = one(alloc, Expr::Nothing)?;
+    let top = one(alloc, Item::Do(Expr::Spawn(0)))?;
+    Ok(make_program(names, sites, spawns, top))
+}
+
 /// A task runs in the world that spawned it, and its function is defined again.
 pub(crate) fn ready_late(alloc: Global) -> Result<Ready, AllocError>
     ensures { IfOk result (λ ready. ready ≡ late) }
@@ -246,5 +258,13 @@ pub(crate) fn ready_crossed(alloc: Global) -> Result<Ready, AllocError>
     ensures { IfOk result (λ ready. ready ≡ crossed) }
 {
     let program = make_crossed(alloc)?;
+    Ready::make(alloc, program)
+}
+
+/// A task that does nothing.
+pub(crate) fn ready_child(alloc: Global) -> Result<Ready, AllocError>
+    ensures { IfOk result (λ ready. ready ≡ child) }
+{
+    let program = make_child(alloc)?;
     Ready::make(alloc, program)
 }

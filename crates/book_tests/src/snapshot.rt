@@ -1,14 +1,13 @@
 //! All that can be asked of a book and of the words of its run, to be compared before and after a refused call.
 
-ghost use Rattle.std.specs.Prelude.{◌≡◌, ◌<◌, ◌≤◌, IfSome, length};
-ghost use Rattle.jl_cache.specs.Finds.{MatchFound};
+ghost use Rattle.std.specs.Prelude.{◌≡◌, ◌≤◌};
 ghost use Rattle.jl_calculus.specs.Legal.{IsKeyOf};
-ghost use Rattle.jl_calculus.specs.Ranges.{keys_of};
 ghost use Rattle.jl_calculus.specs.World.{world_of};
-ghost use Rattle.jl_program.specs.Prelude.{prelude_count};
 
+use crate::programs::push;
+use crate::searches::find_site;
 use jl_book::{Book, Pass};
-use jl_cache::{Cache, Found, Miss};
+use jl_cache::Cache;
 use jl_calculus::history::Event;
 use jl_calculus::same::Same;
 use jl_model::limits::MOST_WORLDS;
@@ -18,38 +17,27 @@ use jl_sig::Ready;
 use jl_world::Naming;
 use std::alloc::{AllocError, Global};
 
-/// The events; the newest world and the number of events, by the words; how many tasks have not ended; the site of each definition, by
-/// the index; and what is found for a key in each world, by its head and its rows.
+/// The events; and in numbers the newest world and how many events there are, by the words, how many tasks have not ended, the site of
+/// each definition, by the index, and the site that is found for a key in each world, by its head and its rows.
 pub(crate) struct Snapshot {
     events: Vec<Event>,
-    newest: u32,
-    length: u32,
-    unfinished: u32,
-    sites: Vec<u32>,
-    found: Vec<Option<u32>>,
+    numbers: Vec<u32>,
 }
 
 impl Drop for Snapshot {
     fn drop(self) {
-        let Snapshot {
-            events,
-            newest: _,
-            length: _,
-            unfinished: _,
-            sites,
-            found,
-        } = self;
+        let Snapshot { events, numbers } = self;
         drop(events);
-        drop(sites);
-        drop(found);
+        drop(numbers);
     }
 }
 
 /// Equal events.
-pub(crate) fn copy_events(alloc: Global, events: &[Event]) -> Result<Vec<Event>, AllocError> {
+fn copy_events(alloc: Global, events: &[Event]) -> Result<Vec<Event>, AllocError> {
     let mut copies = Vec::new(alloc);
     for event in events {
-        copies.push(event.copy(alloc)?)?;
+        let copy = event.copy(alloc)?;
+        copies = push(copies, copy)?;
     }
     Ok(copies)
 }
@@ -65,6 +53,18 @@ pub(crate) fn are_same(some: &[Event], others: &[Event]) -> bool {
         }
     }
     true
+}
+
+/// Whether a key has a number.
+fn has_key(events: &[Event], key: &Key) -> bool {
+    for event in events {
+        if let Event::Key(other) = event {
+            if other.same(key) {
+                return true;
+            }
+        }
+    }
+    false
 }
 
 /// The newest world, by the events; it counts no further than the number of worlds that there may be.
@@ -83,78 +83,60 @@ fn newest_world(events: &[Event]) -> u32
 }
 
 /// The sites of all definitions, the prelude's first, as the index has them.
-fn copy_sites<N: Naming>(alloc: Global, book: &Book<N>) -> Result<Vec<u32>, AllocError> {
+fn push_sites<N: Naming>(numbers: &mut Vec<u32>, book: &Book<N>) -> Result<(), AllocError> {
     let newest = newest_world(book.events());
-    let mut sites = Vec::new(alloc);
     for world in 0..newest {
-        sites.push(book.site(world + 1))?;
+        numbers.push(book.site(world + 1))?;
     }
-    Ok(sites)
+    Ok(())
 }
 
-/// A search for a key in a world. There is none where the key gets no number, or the world is not there.
-pub(crate) fn find<N: Naming>(
+/// What is found for a key in each world.
+fn push_found<N: Naming>(
     alloc: Global,
     ready: &Ready,
     cache: &Cache<N>,
     book: &mut Book<N>,
     pass: &mut Pass<N>,
     key: &Key,
-    world: u32,
-) -> Option<Found<Miss<N>>>
-    requires ready { ready.now ≡ N.about.program.value }
-    requires key { IsKeyOf N.about.program.value key.now }
-    ensures key { IfSome result (λ found. MatchFound found (λ site. Unit {0}) (λ miss. miss.key < length (keys_of pass.new.seen))) }
-    ensures world { IfSome result (λ found. MatchFound found (λ site. Unit {0}) (λ miss. (prelude_count ≤ miss.world) × (miss.world ≤ world_of pass.new.seen))) }
-{
-    let Ok(number) = book.key(alloc, ready, cache, pass, key) else {
-        return None;
-    };
-    let newest = pass.look(cache).world;
-    if world < FIRST_WORLD || newest < world {
-        return None;
-    }
-    Some(pass.find(cache, number, world))
-}
-
-/// The site of what is found.
-fn site_found<N: Naming>(found: Option<Found<Miss<N>>>) -> Option<u32> {
-    match found {
-        Some(Found::Hit(site)) => Some(site),
-        other => {
-            drop(other);
-            None
-        }
-    }
-}
-
-/// What is found for a key in each world; nothing where it has no number.
-fn find_all<N: Naming>(
-    alloc: Global,
-    ready: &Ready,
-    cache: &Cache<N>,
-    book: &mut Book<N>,
-    pass: &mut Pass<N>,
-    key: &Key,
-    is_named: bool,
-) -> Result<Vec<Option<u32>>, AllocError>
+    numbers: &mut Vec<u32>,
+) -> Result<(), AllocError>
     requires ready { ready.now ≡ N.about.program.value }
     requires key { IsKeyOf N.about.program.value key.now }
 {
-    let mut all = Vec::new(alloc);
-    let end = if is_named {
-        pass.look(cache).world.saturating_add(1)
-    } else {
-        FIRST_WORLD
-    };
+    let end = pass.look(cache).world.saturating_add(1);
     for world in FIRST_WORLD..end {
-        let found = find(alloc, ready, cache, book, pass, key, world);
-        all.push(site_found(found))?;
+        let site = find_site(alloc, ready, cache, book, pass, key, world);
+        numbers.push(site)?;
     }
-    Ok(all)
+    Ok(())
 }
 
-/// All that can be asked. A key is searched for only where it has a number.
+/// All that is asked in numbers. A key is searched for only where it has a number.
+fn ask_numbers<N: Naming>(
+    alloc: Global,
+    ready: &Ready,
+    cache: &Cache<N>,
+    book: &mut Book<N>,
+    pass: &mut Pass<N>,
+    key: &Key,
+) -> Result<Vec<u32>, AllocError>
+    requires ready { ready.now ≡ N.about.program.value }
+    requires key { IsKeyOf N.about.program.value key.now }
+{
+    let seen = pass.look(cache);
+    let mut numbers = Vec::new(alloc);
+    numbers.push(seen.world)?;
+    numbers.push(seen.length)?;
+    numbers.push(book.unfinished())?;
+    push_sites(&mut numbers, book)?;
+    if has_key(book.events(), key) {
+        push_found(alloc, ready, cache, book, pass, key, &mut numbers)?;
+    }
+    Ok(numbers)
+}
+
+/// All that can be asked.
 pub(crate) fn take<N: Naming>(
     alloc: Global,
     ready: &Ready,
@@ -162,33 +144,19 @@ pub(crate) fn take<N: Naming>(
     book: &mut Book<N>,
     pass: &mut Pass<N>,
     key: &Key,
-    is_named: bool,
 ) -> Result<Snapshot, AllocError>
     requires ready { ready.now ≡ N.about.program.value }
     requires key { IsKeyOf N.about.program.value key.now }
 {
-    let seen = pass.look(cache);
+    let numbers = ask_numbers(alloc, ready, cache, book, pass, key)?;
     let events = copy_events(alloc, book.events())?;
-    let sites = copy_sites(alloc, book)?;
-    let found = find_all(alloc, ready, cache, book, pass, key, is_named)?;
-    Ok(Snapshot {
-        events,
-        newest: seen.world,
-        length: seen.length,
-        unfinished: book.unfinished(),
-        sites,
-        found,
-    })
+    Ok(Snapshot { events, numbers })
 }
 
 impl Snapshot {
     /// Whether all is as it was.
     pub(crate) fn same(&self, other: &Snapshot) -> bool {
-        self.newest == other.newest
-            && self.length == other.length
-            && self.unfinished == other.unfinished
-            && self.sites.as_slice() == other.sites.as_slice()
-            && self.found.as_slice() == other.found.as_slice()
+        self.numbers.as_slice() == other.numbers.as_slice()
             && are_same(self.events.as_slice(), other.events.as_slice())
     }
 }

@@ -9,20 +9,20 @@ pub define-requires-clause-event : goal.define-requires-clause-event
 define-requires-clause-event c =
     let P = c.args.ready.now in
     let many : 16 < length P.sites = omega (arith, c.if-len-first.false, c.len.ensures, ap (λ (p : Program). length p.sites) c.program.ensures) in
-    (begun, c.in_ok-index.ensures, may_define_first P (omega (arith, many)))
+    (begun, c.in_ok-begin.ensures, may_define_first P (omega (arith, many)))
 
 pub name-requires-clause-event : goal.name-requires-clause-event
 name-requires-clause-event c =
     let P = c.args.ready.now in
     let many : 16 < length P.sites = omega (arith, c.if-len-first.false, c.len.ensures, ap (λ (p : Program). length p.sites) c.program.ensures) in
-    (one_made, c.in_ok-define.ensures begun c.in_ok-index.ensures (may_define_first P (omega (arith, many))), may_name P c.in_ok-key.key c.in_ok-key.ensures)
+    (one_made, c.in_ok-define.ensures begun c.in_ok-begin.ensures (may_define_first P (omega (arith, many))), may_name P c.in_ok-key.key c.in_ok-key.ensures)
 
 pub define-requires-2-clause-event : goal.define-requires-2-clause-event
 define-requires-2-clause-event c =
     let P = c.args.ready.now in
     let key = c.in_ok-key.key in
     let many : 16 < length P.sites = omega (arith, c.if-len-first.false, c.len.ensures, ap (λ (p : Program). length p.sites) c.program.ensures) in
-    let one : IsIndexOf P one_made c.define.new.index = c.in_ok-define.ensures begun c.in_ok-index.ensures (may_define_first P (omega (arith, many))) in
+    let one : IsIndexOf P one_made c.define.new.index = c.in_ok-define.ensures begun c.in_ok-begin.ensures (may_define_first P (omega (arith, many))) in
     (keyed key, c.in_ok-name.ensures one_made one (may_name P key c.in_ok-key.ensures), may_define_second P key (omega (arith, many)))
 
 pub define-requires-3-clause-event : goal.define-requires-3-clause-event
@@ -30,6 +30,6 @@ define-requires-3-clause-event c =
     let P = c.args.ready.now in
     let key = c.in_ok-key.key in
     let many : 16 < length P.sites = omega (arith, c.if-len-first.false, c.len.ensures, ap (λ (p : Program). length p.sites) c.program.ensures) in
-    let one : IsIndexOf P one_made c.define.new.index = c.in_ok-define.ensures begun c.in_ok-index.ensures (may_define_first P (omega (arith, many))) in
+    let one : IsIndexOf P one_made c.define.new.index = c.in_ok-define.ensures begun c.in_ok-begin.ensures (may_define_first P (omega (arith, many))) in
     let two : IsIndexOf P (keyed key) c.name.new.index = c.in_ok-name.ensures one_made one (may_name P key c.in_ok-key.ensures) in
     (two_made key, c.in_ok-define-2.ensures (keyed key) two (may_define_second P key (omega (arith, many))), may_define_third P key many)

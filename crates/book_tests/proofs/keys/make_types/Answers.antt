@@ -8,7 +8,7 @@ use Rattle.book_tests.proofs.keys.make_types.Goals as goal
 pub loop-preserved : goal.loop-preserved
 loop-preserved c =
     let k = c.loop.rest % 4 in
-    let pushed = c.in_ok-push.ensures.items in (
+    let pushed = c.in_ok-types.ensures in (
       subst AreSimple (sym pushed) (one_more c.loop.types.items k _ (mod-lt c.loop.rest (omega arith)) (ap (λ (xs : List Ty). V.Nominal (4 + k) xs) c.empty.ensures) c.loop.invariant.0),
       omega (arith, ap length pushed, length-append c.loop.types.items (V.Nominal (4 + k) c.empty.result ∷ []), c.loop.invariant.1),
     )

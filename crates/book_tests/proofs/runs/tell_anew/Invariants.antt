@@ -1,5 +1,5 @@
 use Rattle.jl_world.specs.Names.{table_of, about_of}
-use Rattle.book_tests.proofs.rows.tell_late.Given as goal
+use Rattle.book_tests.proofs.runs.tell_anew.Given as goal
 
 -- the words that were just made
 abbrev pub ghosts-tell : goal.ghosts-tell
