@@ -1,8 +1,7 @@
 -- Steps that ask nobody, one after another.
-use Rattle.std.proofs.Common.{◌≡◌, sym, ◌∙◌, ap, subst, inl, inr, ℕ, ◌<◌, List, Option, None, Some, arith}
+use Rattle.std.proofs.Common.{◌≡◌, sym, ◌∙◌, subst, inl, inr, ℕ, ◌<◌, List, Option, None, Some, arith}
 use Rattle.jl_program.specs.declared.tree.Expr.{Expr}
 use Rattle.jl_program.specs.declared.tree.Expr.TheVariants as E
-use Rattle.jl_program.specs.declared.tree.Program.{Program}
 use Rattle.jl_calculus.specs.declared.history.TraceItem.{TraceItem}
 use Rattle.jl_point.specs.declared.point.Work.{Work}
 use Rattle.jl_point.specs.declared.point.Work.TheVariants as W
@@ -44,7 +43,7 @@ after k k' w t work t' s last t'' m =
     let f = s.steps.fits in
     let j : job_of k' t'.fuel ≡ job_of k t.fuel = λ i. record { program = f.program i; start = f.start i; places = f.places i; fuel = f.fuel_is i } in
     let less : turns_left k.program t.fuel t''.calls (work_of last t''.now) (now_of t''.now) < turns_left k.program t.fuel t'.calls (work_of work t'.now) (now_of t'.now)
-        = subst (λ (x : Job). turns_left x.program x.fuel t''.calls (work_of last t''.now) (now_of t''.now) < turns_left x.program x.fuel t'.calls (work_of work t'.now) (now_of t'.now)) j m.step.steps.lighter in
+    = subst (λ (x : Job). turns_left x.program x.fuel t''.calls (work_of last t''.now) (now_of t''.now) < turns_left x.program x.fuel t'.calls (work_of work t'.now) (now_of t'.now)) j m.step.steps.lighter in
     record {
       steps = record {
         fits = subst (λ (x : Job). FitsWith x k' (work_of last t''.now) (progress_of t'')) j m.step.steps.fits;

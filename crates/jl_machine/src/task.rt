@@ -490,8 +490,14 @@ impl<'p> Task<'p> {
         match with.recall(function, self.now.frames.open_values(), world) {
             Some(found) => {
                 self.calls += 1;
-                let work =
-                    turns::perform(&mut self.now, ready, ops, found.site, world, found.statics)?;
+                let work = turns::perform(
+                    &mut self.now,
+                    ready,
+                    ops,
+                    found.site,
+                    world,
+                    found.statics,
+                )?;
                 Ok(Some(work))
             }
             None => Ok(None),
