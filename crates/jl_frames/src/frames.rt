@@ -5,6 +5,7 @@ ghost use Rattle.jl_program.specs.declared.value.Value.TheVariants.{Nothing};
 ghost use Rattle.jl_frames.specs.Held.{nothing_held, with_open, opens, IsOne};
 
 use crate::flat::{Flat, Scope};
+use crate::scopes::drop_above;
 use jl_model::rows::Row;
 use jl_model::ty::Ty;
 use jl_program::value::Value;
@@ -121,7 +122,7 @@ impl<'p> Frames<'p> {
     pub fn clear(&mut self)
         ensures { self.new ≡ with_open self.old [] }
     {
-        self.values.truncate(self.from as usize);
+        drop_above(&mut self.values, self.from as usize);
     }
 
     /// The one open value is taken.

@@ -82,6 +82,39 @@ fn push_types(types: &mut Vec<Ty>, statics: &[Ty]) -> Result<(), AllocError>
     Ok(())
 }
 
+/// A value is dropped. One that has no parts needs no call.
+#[inline(always)]
+fn let_go(value: Value) {
+    match value {
+        Value::Int(_) | Value::Bool(_) | Value::Nothing | Value::Task(_) => {}
+        Value::Tuple(made) | Value::Struct(made) => drop(made),
+    }
+}
+
+/// The last value is dropped.
+#[inline(always)]
+fn drop_last(values: &mut Vec<Value>)
+    requires some { 0 < length values.old.items }
+    ensures left { (v : Value) × (values.old.items ≡ values.new.items ++ v ∷ []) }
+    ensures less { length values.new.items + 1 ≡ length values.old.items }
+{
+    match values.pop() {
+        Some(value) => let_go(value),
+        None => unreachable!(),
+    }
+}
+
+/// The values above a place are dropped, from the last one on.
+#[inline(always)]
+pub(crate) fn drop_above(values: &mut Vec<Value>, from: usize)
+    requires within { from ≤ length values.old.items }
+    ensures left { values.new.items ≡ take from values.old.items }
+{
+    for place in from..values.len() {
+        drop_last(values);
+    }
+}
+
 /// The slots and the types that no frame keeps are dropped.
 #[inline(always)]
 pub(crate) fn drop_own(slots: &mut Vec<Value>, types: &mut Vec<Ty>, scope: Scope)
