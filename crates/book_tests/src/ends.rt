@@ -15,6 +15,7 @@ use crate::snapshot::are_same;
 use jl_book::{Book, Pass};
 use jl_cache::Cache;
 use jl_calculus::history::{Event, FetchFault, History, Outcome, Record, TraceItem, TraceItems};
+use jl_model::shared::SharedNode;
 use jl_model::ty::Bytes;
 use jl_program::prelude::FIRST_WORLD;
 use jl_program::tree::Start;
@@ -25,15 +26,16 @@ use std::alloc::{AllocError, Global};
 use std::marker::Brand;
 
 /// What the task did: nothing.
-fn end_of_child() -> Record
-    ensures { result ≡ child_end }
+fn end_of_child(alloc: Global) -> Result<Record, AllocError>
+    ensures { IfOk result (λ ended. ended ≡ child_end) }
 {
-    Record {
+    let outcome = SharedNode::new(alloc, Outcome::Value(Value::Nothing))?;
+    Ok(Record {
         trace: TraceItems::empty(),
-        outcome: Outcome::Value(Value::Nothing),
+        outcome,
         output: Bytes::empty(),
         calls: 0,
-    }
+    })
 }
 
 /// What the root did: it looked, and spawned the task, which is its value.
@@ -45,9 +47,10 @@ fn end_of_root(alloc: Global) -> Result<Record, AllocError>
         at: 1,
     };
     let trace = pair(alloc, look, TraceItem::Spawn { child: 1, at: 1 })?;
+    let outcome = SharedNode::new(alloc, Outcome::Value(Value::Task(1)))?;
     Ok(Record {
         trace,
-        outcome: Outcome::Value(Value::Task(1)),
+        outcome,
         output: Bytes::empty(),
         calls: 0,
     })
@@ -80,7 +83,7 @@ fn fetch_child<N: Naming>(book: &mut Book<N>, cache: &Cache<N>, root: &mut Pass<
         Err(FetchFault::NotYet) => Fetched::Running,
         Err(FetchFault::Memory) => Fetched::Other,
         Ok(outcome) => {
-            let gives_nothing = is_nothing(&outcome);
+            let gives_nothing = is_nothing(outcome.get());
             drop(outcome);
             if gives_nothing {
                 Fetched::Nothing
@@ -129,13 +132,24 @@ fn end<N: Naming>(cache: &Cache<N>, book: &mut Book<N>, pass: Pass<N>, ended: Re
 }
 
 /// Whether the task ends.
-fn end_child<N: Naming>(cache: &Cache<N>, book: &mut Book<N>, child: Pass<N>) -> bool
+fn end_child<N: Naming>(
+    alloc: Global,
+    cache: &Cache<N>,
+    book: &mut Book<N>,
+    child: Pass<N>,
+) -> bool
     requires program { IsChild N.about.program.value }
     requires book { book.old ≡ spawned N.about.fuel }
     requires child { child ≡ begun 1 (Some first_start) (spawned N.about.fuel) }
     ensures { IsTrue result → book.new ≡ half_done N.about.fuel }
 {
-    end(cache, book, child, end_of_child())
+    match end_of_child(alloc) {
+        Ok(ended) => end(cache, book, child, ended),
+        Err(_) => {
+            drop(child);
+            false
+        }
+    }
 }
 
 /// Whether the root ends.
@@ -176,7 +190,7 @@ fn run_child<N: Naming>(
     };
     let before = fetch_child(book, cache, root);
     let running = book.unfinished();
-    let ended = end_child(cache, book, child);
+    let ended = end_child(alloc, cache, book, child);
     if !ended {
         return false;
     }
@@ -245,13 +259,8 @@ fn events_of_child(alloc: Global) -> Result<Vec<Event>, AllocError> {
             start,
         },
     )?;
-    push(
-        events,
-        Event::Done {
-            task: 1,
-            ended: end_of_child(),
-        },
-    )
+    let ended = end_of_child(alloc)?;
+    push(events, Event::Done { task: 1, ended })
 }
 
 /// All events of that run.

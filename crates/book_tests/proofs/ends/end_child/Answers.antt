@@ -8,8 +8,8 @@ use Rattle.book_tests.proofs.ends.end_child.Goals as goal
 
 pub end-requires : goal.end-requires
 end-requires g c =
-    subst (λ (z : TaskView × Record). IsRunOver g.N.Naming.about z.0 z.1) (λ i. (sym c.requires.child i, sym c.end_of_child.ensures i)) (child_over g.N.Naming.about c.requires.program)
+    subst (λ (z : TaskView × Record). IsRunOver g.N.Naming.about z.0 z.1) (λ i. (sym c.requires.child i, sym c.in-Ok.ensures i)) (child_over g.N.Naming.about c.requires.program)
 
-pub returns : goal.returns
-returns g c told =
-    c.end.ensures told ∙ (λ i. c.requires.book i ++ Done (task_in (c.requires.child i)) (c.end_of_child.ensures i) ∷ [])
+pub returns-in-Ok : goal.returns-in-Ok
+returns-in-Ok g c told =
+    c.end.ensures told ∙ (λ i. c.requires.book i ++ Done (task_in (c.requires.child i)) (c.in-Ok.ensures i) ∷ [])
