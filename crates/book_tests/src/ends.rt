@@ -132,12 +132,7 @@ fn end<N: Naming>(cache: &Cache<N>, book: &mut Book<N>, pass: Pass<N>, ended: Re
 }
 
 /// Whether the task ends.
-fn end_child<N: Naming>(
-    alloc: Global,
-    cache: &Cache<N>,
-    book: &mut Book<N>,
-    child: Pass<N>,
-) -> bool
+fn end_child<N: Naming>(alloc: Global, cache: &Cache<N>, book: &mut Book<N>, child: Pass<N>) -> bool
     requires program { IsChild N.about.program.value }
     requires book { book.old ≡ spawned N.about.fuel }
     requires child { child ≡ begun 1 (Some first_start) (spawned N.about.fuel) }
