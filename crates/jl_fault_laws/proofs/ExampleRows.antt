@@ -21,10 +21,11 @@ use Rattle.jl_grammar.specs.declared.tree.Item.TheVariants as N
 use Rattle.jl_grammar.specs.declared.tree.Name.{Name}
 use Rattle.jl_written.specs.declared.fault.Fault.{Fault}
 use Rattle.jl_written.specs.declared.fault.StaticKind.TheVariants as kind
-use Rattle.jl_fault_laws.specs.Uses.{Names, Visible, Use, Uses, Stated, Brings, In, ScriptNames, names_told, used, value, plain_type, at_top, top_uses, brought, with_vars, type_uses, var_uses, uses_of}
+use Rattle.jl_fault_laws.specs.Uses.{Names, Visible, Use, Uses, Stated, Brings, ScriptNames, names_told, used, value, plain_type, at_top, top_uses, brought, with_vars, type_uses, var_uses, uses_of}
 use Rattle.jl_fault_laws.specs.Uses as U
 use Rattle.jl_fault_laws.specs.Rows.{HoldsAt}
 use Rattle.jl_fault_laws.specs.Examples.{f, g, x, y, R, T, name_at, one_at, known, head, with_line, good, with_unknown_name, with_unknown_function, with_many_arguments, with_unknown_type, with_two_variables, with_function_name, with_two_bindings, with_built_in, fault}
+use Rattle.jl_fault_laws.proofs.Firsts.{In}
 use Rattle.jl_fault_laws.proofs.Faults.{all_faults}
 use Rattle.jl_fault_laws.proofs.RowLaws.{holds_among, among_holds}
 
@@ -87,19 +88,19 @@ line_uses e u h more =
     let m = short_uses 0 head (one_at 7) ∙ ap (λ z. U.method_step told (F.Short 0 head z)) (number_uses 7 (pos 1)) in
     λ i. m i (top []) ++ (h i (top []) ++ (top_uses told (name_at 9 y) (top []) ++ more))
 
-line_faults : (e : Expr) (u : Uses) → expr_uses e ≡ u → all_faults known (uses_of told (with_line e)) ≡ all_faults known (from_line u [])
-line_faults e u h = ap (all_faults known) (line_uses e u h [])
+line_faults : (e : Expr) (u : Uses) → expr_uses e ≡ u → all_faults known 0 (uses_of told (with_line e)) ≡ all_faults known 0 (from_line u [])
+line_faults e u h = ap (all_faults known 0) (line_uses e u h [])
 
 -- of a call on the line
 call_is : (c : Callee) (es : List Expr) (us : List Uses) → map expr_uses es ≡ us → expr_uses (E.Call 13 c es) ≡ U.expr_step told (F.Call 13 c us)
 call_is c es us h = call_uses 13 c es ∙ ap (λ z. U.expr_step told (F.Call 13 c z)) h
 
-call_faults : (c : Callee) (es : List Expr) (us : List Uses) → map expr_uses es ≡ us → all_faults known (uses_of told (with_line (E.Call 13 c es))) ≡ all_faults known (from_line (U.expr_step told (F.Call 13 c us)) [])
+call_faults : (c : Callee) (es : List Expr) (us : List Uses) → map expr_uses es ≡ us → all_faults known 0 (uses_of told (with_line (E.Call 13 c es))) ≡ all_faults known 0 (from_line (U.expr_step told (F.Call 13 c us)) [])
 call_faults c es us h = line_faults (E.Call 13 c es) (U.expr_step told (F.Call 13 c us)) (call_is c es us h)
 
 -- where these are the faults of a script, a row holds exactly there
 abbrev AreFaults : List Item → List Fault → Type 0
-AreFaults items fs = all_faults known (uses_of told items) ≡ fs
+AreFaults items fs = all_faults known 0 (uses_of told items) ≡ fs
 
 one_holds : (items : List Item) (q : Fault) → AreFaults items (q ∷ []) → HoldsAt known items q
 one_holds items q e = among_holds known (uses_of told items) q (subst (In q) (sym e) (inl refl))
@@ -150,14 +151,14 @@ pub variable_row : HoldsAt known with_two_variables (fault 34 kind.Rebound)
 variable_row = one_holds with_two_variables (fault 34 kind.Rebound) (line_faults (E.Isa 13 (one_at 13) two_free_type) two_free (isa_is two_free_type two_free two_free_uses))
 
 -- with a binding on the third line
-bound_faults : (name : List ℕ) (at : ℕ) → all_faults known (uses_of told (good ++ N.Bind (record { at = 18; bytes = name }) (one_at at) ∷ []))
-    ≡ all_faults known (from_line (U.expr_step told (F.Call 13 (C.Plain (name_at 13 f)) (no_uses ∷ []))) (top_uses told (record { at = 18; bytes = name }) (top ((y ∷ []) ∷ [])) ++ []))
+bound_faults : (name : List ℕ) (at : ℕ) → all_faults known 0 (uses_of told (good ++ N.Bind (record { at = 18; bytes = name }) (one_at at) ∷ []))
+    ≡ all_faults known 0 (from_line (U.expr_step told (F.Call 13 (C.Plain (name_at 13 f)) (no_uses ∷ []))) (top_uses told (record { at = 18; bytes = name }) (top ((y ∷ []) ∷ [])) ++ []))
 bound_faults name at =
     let v = top ((y ∷ []) ∷ []) in
     let last = top_uses told (record { at = 18; bytes = name }) v ++ [] in
     let c = C.Plain (name_at 13 f) in
     let u = U.expr_step told (F.Call 13 c (no_uses ∷ [])) in
-    ap (all_faults known) (line_uses (E.Call 13 c (one_at 15 ∷ [])) u (call_is c (one_at 15 ∷ []) (no_uses ∷ []) (numbers_use (15 ∷ []))) (expr_uses (one_at at) v ++ last)
+    ap (all_faults known 0) (line_uses (E.Call 13 c (one_at 15 ∷ [])) u (call_is c (one_at 15 ∷ []) (no_uses ∷ []) (numbers_use (15 ∷ []))) (expr_uses (one_at at) v ++ last)
     ∙ (λ i. from_line u (number_uses at (pos 1) i v ++ last)))
 
 pub binding_row : HoldsAt known with_two_bindings (fault 18 kind.Rebound)

@@ -5,8 +5,12 @@ use Rattle.jl_written.specs.declared.fault.StaticKind.{StaticKind}
 use Rattle.jl_written.specs.Answered.{comes_before, first_of}
 use Rattle.jl_resolve_forms.specs.declared.state.State.{State}
 use Rattle.jl_resolve_forms.specs.Scopes.{noted, merged}
-use Rattle.jl_fault_laws.specs.Uses.{In}
 use Rattle.jl_fault_laws.specs.Rows.{has_row, IsOther, IsOtherKind}
+
+-- it is one of a list
+abbrev pub In : {A : Type 0} → A → List A → Type 0
+In x [] = ⊥
+In x (y ∷ ys) = (x ≡ y) ⊎ In x ys
 
 -- the first of a fault and others
 abbrev pub firsts : Option Fault → List Fault → Option Fault

@@ -1,5 +1,7 @@
 pub mod Firsts
 pub mod Faults
+pub mod Adds
+pub mod Plain
 pub mod Order
 pub mod Merged
 pub mod Names

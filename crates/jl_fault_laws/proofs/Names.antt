@@ -32,7 +32,8 @@ use Rattle.jl_resolve_forms.specs.Expressions.{parameters, made_struct, static_p
 use Rattle.jl_fault_laws.specs.Uses.{Names, Visible, bound, used, with_name, with_names, params_of, params_uses, type_names, names_told, makes_layer}
 use Rattle.jl_fault_laws.specs.Rows.{is_struct, has_function}
 use Rattle.jl_fault_laws.proofs.Firsts.{Tells, nothing, two, same, one_fault}
-use Rattle.jl_fault_laws.proofs.Faults.{one, all_faults, joined}
+use Rattle.jl_fault_laws.proofs.Faults.{one, TellsOf, joined}
+use Rattle.jl_fault_laws.proofs.Adds.{Adds, adds_alike}
 
 -- the slots with a name are those of the visible names
 abbrev pub Agrees : Scope → Names → Type 0
@@ -157,15 +158,30 @@ two_of at true false = refl
 two_of at false true = refl
 two_of at false false = refl
 
-pub bind_told : (k : Known) (n : Name) (c : Scope) (s : State) (v : Visible) → Agrees c v.names → Tells (all_faults k (used n.at (bound n.bytes) v ∷ [])) s.fault (bind n c s).after.fault
+bind_told : (k : Known) (n : Name) (c : Scope) (s : State) (v : Visible) → Agrees c v.names → TellsOf k (used n.at (bound n.bytes) v ∷ []) s.fault (bind n c s).after.fault
 unfolding bind
-bind_told k n c s v h =
+bind_told k n c s v h m =
     let z = clashing n.at n.bytes s in
     let o = slot_of c.slots n.bytes in
     let a = is_among n.bytes builtin_names in
     let q = slotted n c z o in
     same _ _ s.fault q.after.fault ((λ i. one a kind.NameClash n.at ++ one (h n.bytes i) kind.Rebound n.at) ∙ two_of n.at a (is_among n.bytes v.names))
     (two (one a kind.NameClash n.at) (one (is_some o) kind.Rebound n.at) s.fault z.fault q.after.fault (clashing_told n.at n.bytes s) (slotted_told n c z o))
+
+clashing_sites : (b : Bool) (at : ℕ) (s : State) → (cond b (note at kind.NameClash s) s).sites ≡ s.sites
+clashing_sites true at s = refl
+clashing_sites false at s = refl
+
+slotted_sites : (n : Name) (c : Scope) (s : State) (o : Option ℕ) → (slotted n c s o).after.sites ≡ s.sites
+slotted_sites n c s None = refl
+slotted_sites n c s (Some i) = refl
+
+bind_sites : (n : Name) (c : Scope) (s : State) → (bind n c s).after.sites ≡ s.sites
+unfolding bind
+bind_sites n c s = slotted_sites n c (clashing n.at n.bytes s) (slot_of c.slots n.bytes) ∙ clashing_sites (is_among n.bytes builtin_names) n.at s
+
+pub bind_adds : (k : Known) (n : Name) (c : Scope) (s : State) (v : Visible) → Agrees c v.names → Adds k (used n.at (bound n.bytes) v ∷ []) s (bind n c s).after
+bind_adds k n c s v h = adds_alike k (used n.at (bound n.bytes) v ∷ []) s (bind n c s).after refl (bind_sites n c s) (bind_told k n c s v h)
 
 -- parameters
 pub params_see : (k : Known) (ps : List Param) (c : Scope) (s : State) (v : Visible) → Sees k c v → Sees k (parameters ps c s).scope (with_names (params_of ps) v)
@@ -175,17 +191,23 @@ params_see k (A.Typed n t ∷ ps) c s v h = let b = bind n c s in params_see k p
 params_see k (A.Unnamed at t ∷ ps) c s v h = params_see k ps (with_slot None c) s v (record { slots = λ name. behind_none 0 c.slots name ∙ h.slots name; vars = h.vars; types = h.types })
 
 named_param : (k : Known) (n : Name) (ps : List Param) (c : Scope) (s : State) (v : Visible) → Sees k c v
-    → ((b : Seen) → Sees k b.scope (with_name n.bytes v) → Tells (all_faults k (params_uses ps (with_name n.bytes v))) b.after.fault (parameters ps b.scope b.after).after.fault)
-    → Tells (all_faults k (used n.at (bound n.bytes) v ∷ params_uses ps (with_name n.bytes v))) s.fault (parameters ps (bind n c s).scope (bind n c s).after).after.fault
+    → ((b : Seen) → Sees k b.scope (with_name n.bytes v) → TellsOf k (params_uses ps (with_name n.bytes v)) b.after.fault (parameters ps b.scope b.after).after.fault)
+    → TellsOf k (used n.at (bound n.bytes) v ∷ params_uses ps (with_name n.bytes v)) s.fault (parameters ps (bind n c s).scope (bind n c s).after).after.fault
 named_param k n ps c s v h more =
     let b = bind n c s in
     joined k (used n.at (bound n.bytes) v ∷ []) (params_uses ps (with_name n.bytes v)) s.fault b.after.fault (parameters ps b.scope b.after).after.fault (bind_told k n c s v h.slots) (more b (bind_sees k n c s v h))
 
-pub params_told : (k : Known) (ps : List Param) (c : Scope) (s : State) (v : Visible) → Sees k c v → Tells (all_faults k (params_uses ps v)) s.fault (parameters ps c s).after.fault
-params_told k [] c s v h = nothing s.fault
+pub params_told : (k : Known) (ps : List Param) (c : Scope) (s : State) (v : Visible) → Sees k c v → TellsOf k (params_uses ps v) s.fault (parameters ps c s).after.fault
+params_told k [] c s v h = λ m. nothing s.fault
 params_told k (A.Name n ∷ ps) c s v h = named_param k n ps c s v h (λ b. params_told k ps b.scope b.after (with_name n.bytes v))
 params_told k (A.Typed n t ∷ ps) c s v h = named_param k n ps c s v h (λ b. params_told k ps b.scope b.after (with_name n.bytes v))
 params_told k (A.Unnamed at t ∷ ps) c s v h = params_told k ps (with_slot None c) s v (record { slots = λ name. behind_none 0 c.slots name ∙ h.slots name; vars = h.vars; types = h.types })
+
+pub params_sites : (ps : List Param) (c : Scope) (s : State) → (parameters ps c s).after.sites ≡ s.sites
+params_sites [] c s = refl
+params_sites (A.Name n ∷ ps) c s = let b = bind n c s in params_sites ps b.scope b.after ∙ bind_sites n c s
+params_sites (A.Typed n t ∷ ps) c s = let b = bind n c s in params_sites ps b.scope b.after ∙ bind_sites n c s
+params_sites (A.Unnamed at t ∷ ps) c s = params_sites ps (with_slot None c) s
 
 -- ---- what a name is
 

@@ -4,9 +4,8 @@ use Rattle.std.proofs.lemmas.Bool.{eqb-false, or_from, and_left, and_right}
 use Rattle.std.proofs.Math.Nat.{lt_irrefl}
 use Rattle.jl_written.specs.declared.fault.Fault.{Fault}
 use Rattle.jl_written.specs.Answered.{comes_before, first_of, number_of}
-use Rattle.jl_fault_laws.specs.Uses.{In}
 use Rattle.jl_fault_laws.specs.Rows.{IsReportedBy}
-use Rattle.jl_fault_laws.proofs.Firsts.{firsts, Tells}
+use Rattle.jl_fault_laws.proofs.Firsts.{In, firsts, Tells}
 
 -- a pair of numbers before another
 abbrev lex : ℕ → ℕ → ℕ → ℕ → Bool

@@ -41,7 +41,9 @@ use Rattle.jl_fault_laws.specs.Uses.{Visible, Uses, Brings, type_variable, plain
 use Rattle.jl_fault_laws.specs.Uses as U
 use Rattle.jl_fault_laws.specs.Rows.{IsOtherKind, TellTypes}
 use Rattle.jl_fault_laws.proofs.Firsts.{Tells, nothing, two, same, one_fault, no_row, noted_other}
-use Rattle.jl_fault_laws.proofs.Faults.{one, all_faults, Pairs, joined, then_other}
+use Rattle.jl_fault_laws.proofs.Faults.{one, all_faults, Pairs, TellsOf, joined, then_other}
+use Rattle.jl_fault_laws.proofs.Adds.{Adds, adds_alike, noted_same, merged_same}
+use Rattle.jl_fault_laws.proofs.Plain.{type_plain, args_plain}
 use Rattle.jl_fault_laws.proofs.Merged.{merged_told}
 use Rattle.jl_fault_laws.proofs.Names.{Knows, Sees, one_more, shifted_knows, two_of, place_found}
 use Rattle.jl_fault_laws.proofs.Told.{AreTold}
@@ -109,31 +111,31 @@ each_all P h (x ∷ xs) = (h x, each_all P h xs)
 
 module _ (k : Known) (ds : List Decl) where
   abbrev IsType : Uses → TypeReads → Type 0
-  IsType u t = (vars : List TypeVar) (v : Visible) (inside : Bool) (r : Reading) → Knows vars v.vars → type_names ds ≡ v.types → Tells (all_faults k (u v)) r.fault (t vars inside r).after.fault
+  IsType u t = (vars : List TypeVar) (v : Visible) (inside : Bool) (r : Reading) → Knows vars v.vars → type_names ds ≡ v.types → TellsOf k (u v) r.fault (t vars inside r).after.fault
 
   abbrev IsArg : Uses → ArgReads → Type 0
-  IsArg u x = (vars : List TypeVar) (v : Visible) (outer inner : Bool) (r : Reading) → Knows vars v.vars → type_names ds ≡ v.types → Tells (all_faults k (u v)) r.fault (x vars outer inner r).after.fault
+  IsArg u x = (vars : List TypeVar) (v : Visible) (outer inner : Bool) (r : Reading) → Knows vars v.vars → type_names ds ≡ v.types → TellsOf k (u v) r.fault (x vars outer inner r).after.fault
 
   pub record IsVar (b : Brings) (x : VarReads) : Type 0 where
     pub at : b.at ≡ x.at
     pub name : b.name ≡ x.name
-    pub bounds : (vars : List TypeVar) (v : Visible) (inside : Bool) (r : Reading) → Knows vars v.vars → type_names ds ≡ v.types → Tells (all_faults k (b.uses v)) r.fault (x.bounds vars inside r).after.fault
+    pub bounds : (vars : List TypeVar) (v : Visible) (inside : Bool) (r : Reading) → Knows vars v.vars → type_names ds ≡ v.types → TellsOf k (b.uses v) r.fault (x.bounds vars inside r).after.fault
 
   arguments_told : (us : List Uses) (xs : List ArgReads) → Pairs IsArg us xs → (bs : List Bound) (vars : List TypeVar) (v : Visible) (inside : Bool) (r : Reading) → Knows vars v.vars → type_names ds ≡ v.types
-      → Tells (all_faults k (each us v)) r.fault (arguments bs xs vars inside r).after.fault
-  arguments_told [] [] p bs vars v inside r h e = missing_told bs inside r
+      → TellsOf k (each us v) r.fault (arguments bs xs vars inside r).after.fault
+  arguments_told [] [] p bs vars v inside r h e = λ n. missing_told bs inside r
   arguments_told [] (x ∷ xs) p bs vars v inside r h e = absurd p
   arguments_told (u ∷ us) [] p bs vars v inside r h e = absurd p
   arguments_told (u ∷ us) (x ∷ xs) p bs vars v inside r h e =
       let t = x vars inside true r in
       let z = placed bs t.ty t.after in
       joined k (u v) (each us v) r.fault z.fault (arguments (drop 1 bs) xs vars inside z).after.fault
-      (then_other (all_faults k (u v)) r.fault t.after.fault z.fault (p.0 vars v inside true r h e) (placed_told bs t.ty t.after))
+      (λ n. then_other (all_faults k n (u v)) r.fault t.after.fault z.fault (p.0 vars v inside true r h e n) (placed_told bs t.ty t.after))
       (arguments_told us xs p.1 (drop 1 bs) vars v inside z h e)
 
   members_told : (us : List Uses) (xs : List ArgReads) → Pairs IsArg us xs → (vars : List TypeVar) (v : Visible) (inside : Bool) (r : Reading) → Knows vars v.vars → type_names ds ≡ v.types
-      → Tells (all_faults k (each us v)) r.fault (members xs vars inside r).after.fault
-  members_told [] [] p vars v inside r h e = nothing r.fault
+      → TellsOf k (each us v) r.fault (members xs vars inside r).after.fault
+  members_told [] [] p vars v inside r h e = λ n. nothing r.fault
   members_told [] (x ∷ xs) p vars v inside r h e = absurd p
   members_told (u ∷ us) [] p vars v inside r h e = absurd p
   members_told (u ∷ us) (x ∷ xs) p vars v inside r h e =
@@ -153,7 +155,7 @@ module _ (k : Known) (ds : List Decl) where
   plain_by at None false false false false None inside r = unknown_told at r
 
   plain_told : (at : ℕ) (n : List ℕ) → IsType (λ v. used at (plain_type n) v ∷ []) (λ vars inside r. plain ds at (named ds vars n) inside r)
-  plain_told at n vars v inside r h e =
+  plain_told at n vars v inside r h e m =
       let a = same_text n (codes "Any") in
       let b = same_text n (codes "Union") in
       let c = same_text n (codes "Tuple") in
@@ -164,20 +166,20 @@ module _ (k : Known) (ds : List Decl) where
       (λ i. (one (not (h n i || (a || (not (b || c) && (d || q i))))) kind.UnknownType at ++ []) ++ []) (plain_by at (var_of vars n) a b c d p inside r)
 
   applied_by : (at : ℕ) (us : List Uses) (xs : List ArgReads) → Pairs IsArg us xs → (o : Option TypeVar) (a b c d : Bool) (p : Option ℕ) (vars : List TypeVar) (v : Visible) (inside : Bool) (r : Reading)
-      → Knows vars v.vars → type_names ds ≡ v.types
-      → Tells ((one (not (not (is_some o) && (not a && (b || (c || (d || is_some p)))))) kind.UnknownType at ++ []) ++ all_faults k (if_read (not (is_some o) && (not a && (b || (c || (d || is_some p))))) (each us v))) r.fault
+      → Knows vars v.vars → type_names ds ≡ v.types → (m : ℕ)
+      → Tells ((one (not (not (is_some o) && (not a && (b || (c || (d || is_some p)))))) kind.UnknownType at ++ []) ++ all_faults k m (if_read (not (is_some o) && (not a && (b || (c || (d || is_some p))))) (each us v))) r.fault
       (applied ds at (var_or o (cond a N.Any (cond b N.Union (cond c N.Tuple (cond d (N.Nominal INT64) (M.nominal_of p)))))) xs vars inside r).after.fault
-  applied_by at us xs l (Some x) a b c d p vars v inside r h e = unknown_told at r
-  applied_by at us xs l None true b c d p vars v inside r h e = unknown_told at r
-  applied_by at us xs l None false true c d p vars v inside r h e = members_told us xs l vars v inside r h e
-  applied_by at us xs l None false false true d p vars v inside r h e = members_told us xs l vars v inside r h e
-  applied_by at us xs l None false false false true p vars v inside r h e = arguments_told us xs l (params_of (slice_get ds INT64)) vars v inside r h e
-  applied_by at us xs l None false false false false (Some n) vars v inside r h e = arguments_told us xs l (params_of (slice_get ds n)) vars v inside r h e
-  applied_by at us xs l None false false false false None vars v inside r h e = unknown_told at r
+  applied_by at us xs l (Some x) a b c d p vars v inside r h e m = unknown_told at r
+  applied_by at us xs l None true b c d p vars v inside r h e m = unknown_told at r
+  applied_by at us xs l None false true c d p vars v inside r h e m = members_told us xs l vars v inside r h e m
+  applied_by at us xs l None false false true d p vars v inside r h e m = members_told us xs l vars v inside r h e m
+  applied_by at us xs l None false false false true p vars v inside r h e m = arguments_told us xs l (params_of (slice_get ds INT64)) vars v inside r h e m
+  applied_by at us xs l None false false false false (Some n) vars v inside r h e m = arguments_told us xs l (params_of (slice_get ds n)) vars v inside r h e m
+  applied_by at us xs l None false false false false None vars v inside r h e m = unknown_told at r
 
   applied_told : (at : ℕ) (n : List ℕ) (us : List Uses) (xs : List ArgReads) → Pairs IsArg us xs
       → IsType (λ v. used at (braced_type n) v ∷ if_read (U.takes_braces n v) (each us v)) (λ vars inside r. applied ds at (named ds vars n) xs vars inside r)
-  applied_told at n us xs l vars v inside r h e =
+  applied_told at n us xs l vars v inside r h e m =
       let a = same_text n (codes "Any") in
       let b = same_text n (codes "Union") in
       let c = same_text n (codes "Tuple") in
@@ -185,32 +187,32 @@ module _ (k : Known) (ds : List Decl) where
       let p = place_of (type_names ds) n in
       let q = place_found 0 (type_names ds) n ∙ ap (λ ns. is_among n ns) e in
       same _ _ r.fault (applied ds at (named ds vars n) xs vars inside r).after.fault
-      (λ i. (one (not (not (h n i) && (not a && (b || (c || (d || q i)))))) kind.UnknownType at ++ []) ++ all_faults k (if_read (not (h n i) && (not a && (b || (c || (d || q i))))) (each us v)))
-      (applied_by at us xs l (var_of vars n) a b c d p vars v inside r h e)
+      (λ i. (one (not (not (h n i) && (not a && (b || (c || (d || q i)))))) kind.UnknownType at ++ []) ++ all_faults k m (if_read (not (h n i) && (not a && (b || (c || (d || q i))))) (each us v)))
+      (applied_by at us xs l (var_of vars n) a b c d p vars v inside r h e m)
 
   -- ---- variables
 
-  variable_told : (at : ℕ) (name : List ℕ) (o : Option TypeVar) (r : Reading) (v : Visible) → is_some o ≡ is_among name v.vars → Tells (all_faults k (used at (type_variable name) v ∷ [])) r.fault (rebound at o (guarded at name r)).fault
-  variable_told at name o r v e =
+  variable_told : (at : ℕ) (name : List ℕ) (o : Option TypeVar) (r : Reading) (v : Visible) → is_some o ≡ is_among name v.vars → TellsOf k (used at (type_variable name) v ∷ []) r.fault (rebound at o (guarded at name r)).fault
+  variable_told at name o r v e m =
       let a = is_among name builtin_names in
       let z = guarded at name r in
       same _ _ r.fault (rebound at o z).fault ((λ i. one a kind.NameClash at ++ one (e i) kind.Rebound at) ∙ two_of at a (is_among name v.vars))
       (two (one a kind.NameClash at) (one (is_some o) kind.Rebound at) r.fault z.fault (rebound at o z).fault (guarded_told at name r) (rebound_told at o z))
 
   bind_told : (b : Brings) (x : VarReads) → IsVar b x → (vars : List TypeVar) (v : Visible) (inside : Bool) (r : Reading) → Knows vars v.vars → type_names ds ≡ v.types
-      → Tells (all_faults k (b.uses v ++ used b.at (type_variable b.name) v ∷ [])) r.fault (bind x vars inside r).after.fault × Knows (bind x vars inside r).vars (b.name ∷ v.vars)
+      → TellsOf k (b.uses v ++ used b.at (type_variable b.name) v ∷ []) r.fault (bind x vars inside r).after.fault × Knows (bind x vars inside r).vars (b.name ∷ v.vars)
   bind_told b x l vars v inside r h e =
       let y = x.bounds vars inside r in
       let o = var_of vars x.name in
       let z = rebound x.at o (guarded x.at x.name y.after) in (
-        same _ _ r.fault z.fault (λ i. all_faults k (b.uses v ++ used (sym l.at i) (type_variable (sym l.name i)) v ∷ []))
-            (joined k (b.uses v) (used x.at (type_variable x.name) v ∷ []) r.fault y.after.fault z.fault (l.bounds vars v inside r h e) (variable_told x.at x.name o y.after v (h x.name))),
+        λ m. same _ _ r.fault z.fault (λ i. all_faults k m (b.uses v ++ used (sym l.at i) (type_variable (sym l.name i)) v ∷ []))
+            (joined k (b.uses v) (used x.at (type_variable x.name) v ∷ []) r.fault y.after.fault z.fault (l.bounds vars v inside r h e) (variable_told x.at x.name o y.after v (h x.name)) m),
         subst (λ n. Knows (bind x vars inside r).vars (n ∷ v.vars)) (sym l.name) (one_more vars v.vars (record { name = x.name; number = length (guarded x.at x.name y.after).vars; usable = true }) h),
       )
 
   brought_told : (bs : List Brings) (xs : List VarReads) → Pairs IsVar bs xs → (vars : List TypeVar) (v : Visible) (inside : Bool) (r : Reading) → Knows vars v.vars → type_names ds ≡ v.types
-      → Tells (all_faults k (brought bs v)) r.fault (bind_all xs vars inside r).after.fault × Knows (bind_all xs vars inside r).vars (with_vars bs v).vars
-  brought_told [] [] p vars v inside r h e = (nothing r.fault, h)
+      → TellsOf k (brought bs v) r.fault (bind_all xs vars inside r).after.fault × Knows (bind_all xs vars inside r).vars (with_vars bs v).vars
+  brought_told [] [] p vars v inside r h e = (λ n. nothing r.fault, h)
   brought_told [] (x ∷ xs) p vars v inside r h e = absurd p
   brought_told (b ∷ bs) [] p vars v inside r h e = absurd p
   brought_told (b ∷ bs) (x ∷ xs) p vars v inside r h e =
@@ -225,10 +227,10 @@ module _ (k : Known) (ds : List Decl) where
       let s = bind_all xs vars inside w in
       let q = brought_told bs xs p vars v inside w h e in
       let z = t s.vars inside s.after in
-      swapped_told (length r.vars) (length s.after.vars) (all_faults k (brought bs v ++ u (with_vars bs v))) r.fault z.after
+      λ n. swapped_told (length r.vars) (length s.after.vars) (all_faults k n (brought bs v ++ u (with_vars bs v))) r.fault z.after
       (joined k (brought bs v) (u (with_vars bs v)) r.fault s.after.fault z.after.fault
-      (two [] (all_faults k (brought bs v)) r.fault w.fault s.after.fault (where_told xs inside r) q.0)
-      (l s.vars (with_vars bs v) inside s.after q.1 e))
+      (λ m. two [] (all_faults k m (brought bs v)) r.fault w.fault s.after.fault (where_told xs inside r) (q.0 m))
+      (l s.vars (with_vars bs v) inside s.after q.1 e) n)
 
   -- ---- a text tells what its layer does
 
@@ -261,7 +263,7 @@ module _ (k : Known) (ds : List Decl) where
     exact = λ t l. arg_at (F.Exact t) (λ vars v outer inner r h e. l vars v inner r h e);
     below_ = λ at t l. arg_at (F.ArgText::Below at t) (λ vars v outer inner r h e. l vars v inner r h e);
     above = λ at t l. arg_at (F.ArgText::Above at t) (λ vars v outer inner r h e. l vars v inner r h e);
-    free = λ at n. var_at (F.Free at n) (record { at = refl; name = refl; bounds = λ vars v inside r h e. nothing r.fault });
+    free = λ at n. var_at (F.Free at n) (record { at = refl; name = refl; bounds = λ vars v inside r h e n. nothing r.fault });
     upper = λ at n t l. var_at (F.VarText::Below at n t) (record { at = refl; name = refl; bounds = λ vars v inside r h e. l vars v inside r h e });
     lower = λ at n t l. var_at (F.VarText::Above at n t) (record { at = refl; name = refl; bounds = λ vars v inside r h e. l vars v inside r h e });
     between = λ t at n u l p. var_at (F.Between t at n u)
@@ -283,22 +285,22 @@ module _ (k : Known) (ds : List Decl) where
   var_told : (x : VarText) → IsVar (var_uses x) (var_reads ds x)
   var_told = by_var _ _ _ cases
 
-  pub option_told : (t : Option TypeText) (vars : List TypeVar) (v : Visible) (r : Reading) → Knows vars v.vars → type_names ds ≡ v.types → Tells (all_faults k (option_uses t v)) r.fault (option_reads ds t vars r).after.fault
-  option_told None vars v r h e = nothing r.fault
+  pub option_told : (t : Option TypeText) (vars : List TypeVar) (v : Visible) (r : Reading) → Knows vars v.vars → type_names ds ≡ v.types → TellsOf k (option_uses t v) r.fault (option_reads ds t vars r).after.fault
+  option_told None vars v r h e = λ n. nothing r.fault
   option_told (Some t) vars v r h e = type_told t vars v false r h e
 
-  pub options_told : (ts : List (Option TypeText)) (vars : List TypeVar) (v : Visible) (r : Reading) → Knows vars v.vars → type_names ds ≡ v.types → Tells (all_faults k (options_uses ts v)) r.fault (all_read ds ts vars r).after.fault
-  options_told [] vars v r h e = nothing r.fault
+  pub options_told : (ts : List (Option TypeText)) (vars : List TypeVar) (v : Visible) (r : Reading) → Knows vars v.vars → type_names ds ≡ v.types → TellsOf k (options_uses ts v) r.fault (all_read ds ts vars r).after.fault
+  options_told [] vars v r h e = λ n. nothing r.fault
   options_told (t ∷ ts) vars v r h e =
       let u = option_reads ds t vars r in
       joined k (option_uses t v) (options_uses ts v) r.fault u.after.fault (all_read ds ts vars u.after).after.fault (option_told t vars v r h e) (options_told ts vars v u.after h e)
 
   pub bound_told : (vs : List VarText) (vars : List TypeVar) (v : Visible) (r : Reading) → Knows vars v.vars → type_names ds ≡ v.types
-      → Tells (all_faults k (brought (map var_uses vs) v)) r.fault (all_bound ds vs vars r).after.fault × Knows (all_bound ds vs vars r).vars (with_vars (map var_uses vs) v).vars
+      → TellsOf k (brought (map var_uses vs) v) r.fault (all_bound ds vs vars r).after.fault × Knows (all_bound ds vs vars r).vars (with_vars (map var_uses vs) v).vars
   bound_told vs vars v r h e = brought_told (map var_uses vs) (map (var_reads ds) vs) (each_pairs IsVar var_uses (var_reads ds) vs (each_all (λ x. IsVar (var_uses x) (var_reads ds x)) var_told vs)) vars v false r h e
 
   made_told : (xs : List ArgText) (p : ℕ) (bs : List Bound) (statics : List TypeVar) (v : Visible) → Knows statics v.vars → type_names ds ≡ v.types
-      → Tells (all_faults k (each (map arg_uses xs) v)) None (constructor_type ds p bs statics xs).after.fault
+      → TellsOf k (each (map arg_uses xs) v) None (constructor_type ds p bs statics xs).after.fault
   made_told xs p bs statics v h e =
       arguments_told (map arg_uses xs) (map (arg_reads ds) xs) (each_pairs IsArg arg_uses (arg_reads ds) xs (each_all (λ x. IsArg (arg_uses x) (arg_reads ds x)) arg_told xs)) bs (shifted 0 statics) v false unread
       (shifted_knows 0 statics v.vars h) e
@@ -332,7 +334,7 @@ made_refusal_other test h c r w = by r.misplaced
     by false = next (not (nat_eq (length r.vars) 0) || not c)
 
 module _ (t : Tests) (k : Known) (q : TellTypes t) where
-  body_written_told : (text : TypeText) (c : Scope) (v : Visible) (s : State) → Sees k c v → Tells (all_faults k (type_uses text v)) s.fault (body_written t k text c s).after.fault
+  body_written_told : (text : TypeText) (c : Scope) (v : Visible) (s : State) → Sees k c v → Adds k (type_uses text v) s (body_written t k text c s).after
   unfolding body_written
   body_written_told text c v s h =
       let ds = declared_at k c.types in
@@ -340,14 +342,16 @@ module _ (t : Tests) (k : Known) (q : TellTypes t) where
       let w = one_type ty.ty (adopted t.below ty.after.places ty.after.vars) in
       let z = merged ty.after.fault s in
       let o = refusal t.body ty.after w in
-      let fs = all_faults k (type_uses text v) in
       let n = width_of ds c.statics text in
       let raw = type_reads ds text (shifted n c.statics) false unread in
+      adds_alike k (type_uses text v) s (noted (begins text) o z) (type_plain text v) (noted_same (begins text) o z ∙ merged_same ty.after.fault s)
+      (λ m.
+      let fs = all_faults k m (type_uses text v) in
       then_other fs s.fault z.fault (noted (begins text) o z).fault
-      (merged_told fs ty.after.fault s (one_ordered_told raw.after.swaps raw fs None (type_told k ds text (shifted n c.statics) v false unread (shifted_knows n c.statics v.vars h.vars) h.types)))
-      (noted_other (begins text) o z (refusal_other t.body q.body ty.after w))
+      (merged_told fs ty.after.fault s (one_ordered_told raw.after.swaps raw fs None (type_told k ds text (shifted n c.statics) v false unread (shifted_knows n c.statics v.vars h.vars) h.types m)))
+      (noted_other (begins text) o z (refusal_other t.body q.body ty.after w)))
 
-  made_at_told : (at p : ℕ) (xs : List ArgText) (c : Scope) (v : Visible) (s : State) → Sees k c v → Tells (all_faults k (each (map arg_uses xs) v)) s.fault (made_at t k at p xs c s).after.fault
+  made_at_told : (at p : ℕ) (xs : List ArgText) (c : Scope) (v : Visible) (s : State) → Sees k c v → Adds k (each (map arg_uses xs) v) s (made_at t k at p xs c s).after
   unfolding made_at
   made_at_told at p xs c v s h =
       let bs = params_of (slice_get k.decls p) in
@@ -357,21 +361,22 @@ module _ (t : Tests) (k : Known) (q : TellTypes t) where
       let w = one_type ty.ty [] in
       let z = merged ty.after.fault s in
       let o = made_refusal t.body counted ty.after w in
-      let fs = all_faults k (each (map arg_uses xs) v) in
+      adds_alike k (each (map arg_uses xs) v) s (noted at o z) (args_plain xs v) (noted_same at o z ∙ merged_same ty.after.fault s)
+      (λ m.
+      let fs = all_faults k m (each (map arg_uses xs) v) in
       then_other fs s.fault z.fault (noted at o z).fault
-      (merged_told fs ty.after.fault s (made_told k ds xs p bs c.statics v h.vars h.types))
-      (noted_other at o z (made_refusal_other t.body q.body counted ty.after w))
+      (merged_told fs ty.after.fault s (made_told k ds xs p bs c.statics v h.vars h.types m))
+      (noted_other at o z (made_refusal_other t.body q.body counted ty.after w)))
 
   signed_told : (types : ℕ) (h : Head) (v : Visible) → type_names (declared_at k types) ≡ v.types
-      → Tells (all_faults k (signature_uses h v)) None (signed t k types h).fault × IsOtherKind (signed t k types h).refusal × Knows (signed t k types h).vars (in_head h v).vars
+      → TellsOf k (signature_uses h v) None (signed t k types h).fault × IsOtherKind (signed t k types h).refusal × Knows (signed t k types h).vars (in_head h v).vars
   signed_told types h v e =
       let ds = declared_at k types in
       let s = all_bound ds h.vars [] unread in
       let ts = all_read ds (map type_of h.params) s.vars s.after in
-      let fs = all_faults k (options_uses (map type_of h.params) (in_head h v)) in
       let g = signature ds (map type_of h.params) h.vars in
       let b = bound_told k ds h.vars [] (bare v) unread (λ name. refl) e in (
-        joined k (brought (map var_uses h.vars) (bare v)) (options_uses (map type_of h.params) (in_head h v)) None s.after.fault g.types.after.fault b.0 (ordered_told ts.after.swaps ts fs s.after.fault (options_told k ds (map type_of h.params) s.vars (in_head h v) s.after b.1 e)),
+        joined k (brought (map var_uses h.vars) (bare v)) (options_uses (map type_of h.params) (in_head h v)) None s.after.fault g.types.after.fault b.0 (λ m. ordered_told ts.after.swaps ts (all_faults k m (options_uses (map type_of h.params) (in_head h v))) s.after.fault (options_told k ds (map type_of h.params) s.vars (in_head h v) s.after b.1 e m)),
         refusal_other t.signature q.signature g.types.after (written_of t.below g.types),
         b.1,
       )

@@ -1,7 +1,7 @@
 -- The uses of names in a script, each with what is visible there (Julia manual, Scope of Variables; Types): where a name is a
 -- value, where a function or a constructor is called, where a method is added to a function, where a name stands for a type,
 -- and where a variable, a type variable or a type gets its name. Neither faults nor slots nor code are named here.
-use Rattle.std.specs.Prelude.{ℕ, ◌+◌, max, Bool, false, ◌&&◌, ◌||◌, not, cond, codes, List, [], ◌∷◌, ◌++◌, ◌≡◌, ◌⊎◌, map, take, length, Option, Some, None, is_some}
+use Rattle.std.specs.Prelude.{ℕ, ◌+◌, max, Bool, false, ◌&&◌, ◌||◌, not, cond, codes, List, [], ◌∷◌, ◌++◌, map, take, length, Option, Some, None, is_some}
 use Rattle.jl_model.specs.declared.ty.Decl.{Decl}
 use Rattle.jl_program.specs.Names.{same_text, is_among}
 use Rattle.jl_typeread.specs.declared.tree.ArgText.{ArgText}
@@ -105,11 +105,6 @@ pub record Use : Type 0 where
 
 abbrev pub used : ℕ → How → Visible → Use
 used at h v = record { at = at; how = h; visible = v }
-
--- it is one of a list
-abbrev pub In : {A : Type 0} → A → List A → Type 0
-In x [] = ⊥
-In x (y ∷ ys) = (x ≡ y) ⊎ In x ys
 
 -- ---- the uses in a part, by what is visible there
 
