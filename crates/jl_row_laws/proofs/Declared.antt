@@ -34,9 +34,10 @@ use Rattle.jl_declare.specs.Declaration.{fields_of, heading, declaration, outlin
 use Rattle.jl_declare.specs.Judgement.{kind_of, IsJudged, kept, refused, told, IsAnswer, shown, refusal_at}
 use Rattle.jl_declare.specs.Declarations.{Declaring, no_declaration, with_fault, named_fault, text_fault, IsJudgement, IsDeclared, DeclaresOne, Declares}
 use Rattle.jl_fault_laws.specs.Uses.{Names, Visible, Use, declared_type, used, with_vars, brought, var_uses, option_uses, options_uses, type_names}
-use Rattle.jl_fault_laws.specs.Rows.{has_row, IsOther}
+use Rattle.jl_fault_laws.specs.Rows.{has_row, IsOther, definitions}
 use Rattle.jl_fault_laws.proofs.Firsts.{Tells, nothing, two, same, swapped, one_fault, no_row}
-use Rattle.jl_fault_laws.proofs.Faults.{one, all_faults, joined}
+use Rattle.jl_fault_laws.proofs.Faults.{one, all_faults, TellsOf, joined}
+use Rattle.jl_fault_laws.proofs.Plain.{both_plain, vars_plain, option_plain, options_plain}
 use Rattle.jl_fault_laws.proofs.Merged.{merge, merge_told}
 use Rattle.jl_fault_laws.proofs.Texts.{bound_told, option_told, options_told}
 use Rattle.jl_row_laws.specs.Script.{types_only, declaration_uses, declarations_uses}
@@ -184,7 +185,7 @@ module _ (k : Known) where
       let w = with_vars (map var_uses h.params) (types_only types) in
       brought (map var_uses h.params) (types_only types) ++ (option_uses h.parent w ++ options_uses (map (λ (f : FieldText). f.ty) fields) (record w { types = types ++ h.name.bytes ∷ [] }))
 
-  reading_told : (ds : List Decl) (kind_ : DeclKind) (h : Header) (fields : List FieldText) (types : Names) → type_names ds ≡ types → Tells (all_faults k (reading_uses h fields types)) None (declaration ds kind_ h fields).reading.fault
+  reading_told : (ds : List Decl) (kind_ : DeclKind) (h : Header) (fields : List FieldText) (types : Names) → type_names ds ≡ types → TellsOf k (reading_uses h fields types) None (declaration ds kind_ h fields).reading.fault
   reading_told ds kind_ h fields types e =
       let v = types_only types in
       let bs = map var_uses h.params in
@@ -202,7 +203,7 @@ module _ (k : Known) where
       (options_told k (ds ++ x.own ∷ []) texts s.vars inside p.after b.1 (names_more ds x.own ∙ ap (λ z. z ++ h.name.bytes ∷ []) e)))
 
   declared_told : (kind_ : DeclKind) (h : Header) (fields : List FieldText) → HasFields kind_ fields → (st new : Declaring) (types : Names) → type_names st.decls ≡ types → Sound st → IsDeclared kind_ h fields st new
-      → Tells (all_faults k (declaration_uses h fields types)) st.fault new.fault × (type_names new.decls ≡ types ++ h.name.bytes ∷ [])
+      → TellsOf k (declaration_uses h fields types) st.fault new.fault × (type_names new.decls ≡ types ++ h.name.bytes ∷ [])
   declared_told kind_ h fields f st new types e s d =
       let r = declaration st.decls kind_ h fields in
       let j = d.0 in
@@ -216,18 +217,18 @@ module _ (k : Known) where
       let o3 = with_fault o2 (refusal_at at j) in
       let xs = one (is_among h.name.bytes builtin_names) kind.NameClash at in
       let ys = one (is_among h.name.bytes types) kind.DuplicateType at in
-      let zs = all_faults k us in
+      let zs = λ n. all_faults k n us in
       let name = (read_same st.decls kind_ h fields).0 in
       let here : among ≡ is_among h.name.bytes types = λ i. is_among (name i) (e i) in
       let t1 = with_told xs st.fault (named_fault at h.name.bytes) (named_told at (is_among h.name.bytes builtin_names)) in
-      let t2 = with_told zs o1 r.reading.fault (reading_told st.decls kind_ h fields types e) in
+      let t2 = λ n. with_told (zs n) o1 r.reading.fault (reading_told st.decls kind_ h fields types e n) in
       let answer = answer_told st.decls r.decl at j among r.reading.unknown r.whole all (absent (names_of st.decls) r.decl.name)
       (λ x y z. known st.decls h fields (s.valid (same_length st.allowed (length st.decls) z)) kind_ f x y) d.1 in
       let t3 = with_told ys o2 (refusal_at at j) (same (one among kind.DuplicateType at) ys None (refusal_at at j) (ap (λ b. one b kind.DuplicateType at) here) answer) in
       let q = shown_same st.decls r.decl j among r.reading.unknown r.whole all d.1 in (
-        subst (λ (z : Declaring). Tells (all_faults k (own_use ∷ us)) st.fault z.fault) (sym d.2)
-            (same (xs ++ (ys ++ zs)) ((xs ++ (ys ++ [])) ++ zs) st.fault o3 ((λ i. xs ++ (sym (append-nil ys) i ++ zs)) ∙ sym (append_assoc xs (ys ++ []) zs))
-            (two xs (ys ++ zs) st.fault o1 o3 t1 (swapped zs ys o1 o3 (two zs ys o1 o2 o3 t2 t3)))),
+        subst (λ (z : Declaring). TellsOf k (own_use ∷ us) st.fault z.fault) (sym d.2)
+            (λ n. same (xs ++ (ys ++ zs n)) ((xs ++ (ys ++ [])) ++ zs n) st.fault o3 ((λ i. xs ++ (sym (append-nil ys) i ++ zs n)) ∙ sym (append_assoc xs (ys ++ []) (zs n)))
+            (two xs (ys ++ zs n) st.fault o1 o3 t1 (swapped (zs n) ys o1 o3 (two (zs n) ys o1 o2 o3 (t2 n) t3)))),
         ap (λ (z : Declaring). type_names z.decls) d.2 ∙ names_more st.decls (shown j r.decl) ∙ (λ i. e i ++ (q.0 ∙ name) i ∷ []),
       )
 
@@ -235,12 +236,12 @@ module _ (k : Known) where
 
   -- what is no declaration adds none
   same_declared : (xs : List Item) (st mid new : Declaring) (types : Names) → type_names st.decls ≡ types → Sound st → mid ≡ st
-      → (type_names mid.decls ≡ types → Sound mid → Tells (all_faults k (declarations_uses xs types)) mid.fault new.fault) → Tells (all_faults k (declarations_uses xs types)) st.fault new.fault
+      → (type_names mid.decls ≡ types → Sound mid → TellsOf k (declarations_uses xs types) mid.fault new.fault) → TellsOf k (declarations_uses xs types) st.fault new.fault
   same_declared xs st mid new types e s is more =
-      subst (λ (z : Declaring). Tells (all_faults k (declarations_uses xs types)) z.fault new.fault) is (more (ap (λ (z : Declaring). type_names z.decls) is ∙ e) (subst Sound (sym is) s))
+      subst (λ (z : Declaring). TellsOf k (declarations_uses xs types) z.fault new.fault) is (more (ap (λ (z : Declaring). type_names z.decls) is ∙ e) (subst Sound (sym is) s))
 
-  pub items_declared : (xs : List Item) (st new : Declaring) (types : Names) → type_names st.decls ≡ types → Sound st → Declares xs st new → Tells (all_faults k (declarations_uses xs types)) st.fault new.fault
-  items_declared [] st new types e s d = subst (λ (z : Declaring). Tells [] st.fault z.fault) (sym d) (nothing st.fault)
+  pub items_declared : (xs : List Item) (st new : Declaring) (types : Names) → type_names st.decls ≡ types → Sound st → Declares xs st new → TellsOf k (declarations_uses xs types) st.fault new.fault
+  items_declared [] st new types e s d = subst (λ (z : Declaring). TellsOf k [] st.fault z.fault) (sym d) (λ n. nothing st.fault)
   items_declared (N.Abstract x ∷ xs) st new types e s d =
       let t = declared_told Abstract x.header [] refl st d.0 types e s d.1 in
       let more = types ++ x.header.name.bytes ∷ [] in
@@ -253,5 +254,28 @@ module _ (k : Known) where
   items_declared (N.Bind n m ∷ xs) st new types e s d = same_declared xs st d.0 new types e s d.1 (λ x y. items_declared xs d.0 new types x y d.2)
   items_declared (N.Do m ∷ xs) st new types e s d = same_declared xs st d.0 new types e s d.1 (λ x y. items_declared xs d.0 new types x y d.2)
 
-  pub all_declared : (xs : List Item) (d : Declaring) → Declares xs no_declaration d → Tells (all_faults k (declarations_uses xs (type_names builtin_types))) None d.fault
+  pub all_declared : (xs : List Item) (d : Declaring) → Declares xs no_declaration d → TellsOf k (declarations_uses xs (type_names builtin_types)) None d.fault
   all_declared xs d h = items_declared xs no_declaration d (type_names builtin_types) refl sound_start h
+
+-- ---- no method is defined in a declaration
+
+declaration_plain : (h : Header) (fields : List FieldText) (types : Names) → definitions (declaration_uses h fields types) ≡ 0
+declaration_plain h fields types =
+    let v = types_only types in
+    let w = with_vars (map var_uses h.params) v in
+    let inside : Visible = record w { types = types ++ h.name.bytes ∷ [] } in
+    let texts = map (λ (f : FieldText). f.ty) fields in
+    both_plain (brought (map var_uses h.params) v) (option_uses h.parent w ++ options_uses texts inside) (vars_plain h.params v)
+    (both_plain (option_uses h.parent w) (options_uses texts inside) (option_plain h.parent w) (options_plain texts inside))
+
+pub declarations_plain : (xs : List Item) (types : Names) → definitions (declarations_uses xs types) ≡ 0
+declarations_plain [] types = refl
+declarations_plain (N.Abstract x ∷ xs) types =
+    let more = types ++ x.header.name.bytes ∷ [] in
+    both_plain (declaration_uses x.header [] types) (declarations_uses xs more) (declaration_plain x.header [] types) (declarations_plain xs more)
+declarations_plain (N.Struct x ∷ xs) types =
+    let more = types ++ x.header.name.bytes ∷ [] in
+    both_plain (declaration_uses x.header x.fields types) (declarations_uses xs more) (declaration_plain x.header x.fields types) (declarations_plain xs more)
+declarations_plain (N.Method m ∷ xs) types = declarations_plain xs types
+declarations_plain (N.Bind n m ∷ xs) types = declarations_plain xs types
+declarations_plain (N.Do m ∷ xs) types = declarations_plain xs types
