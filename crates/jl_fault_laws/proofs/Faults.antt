@@ -30,11 +30,11 @@ abbrev pub all_faults : Known → ℕ → List Use → List Fault
 all_faults k n [] = []
 all_faults k n (u ∷ us) = faults_of k n u ++ all_faults k (next u n) us
 
-counted_on : (b : Bool) (n d : ℕ) → n + cond b (suc d) d ≡ cond b (suc n) n + d
+pub counted_on : (b : Bool) (n d : ℕ) → n + cond b (suc d) d ≡ cond b (suc n) n + d
 counted_on true n d = omega arith
 counted_on false n d = refl
 
-none_more : (n : ℕ) → n + 0 ≡ n
+pub none_more : (n : ℕ) → n + 0 ≡ n
 none_more n = omega arith
 
 pub faults_append : (k : Known) (n : ℕ) (us vs : List Use) → all_faults k n us ++ all_faults k (n + definitions us) vs ≡ all_faults k n (us ++ vs)

@@ -307,9 +307,9 @@ module _ (t : Tests) (k : Known) where
         by : (a b : Bool) → Tells (one (a || b) kind.NameClash at) s.fault (noted at (cond a (Some kind.NameClash) (cond b (Some kind.NameClash) None)) s).fault
         by true b = one_fault (record { at = at; kind = kind.NameClash }) s.fault
         by false true = one_fault (record { at = at; kind = kind.NameClash }) s.fault
-        by false false = adds_nothing k s
-    define_told (C.Base x n) at s = adds_nothing k s
-    define_told (C.Operator x o) at s = adds_nothing k s
+        by false false = nothing s.fault
+    define_told (C.Base x n) at s = nothing s.fault
+    define_told (C.Operator x o) at s = nothing s.fault
 
     many_other : (s : State) → IsOtherKind (too_many s)
     many_other s = by (nat_le site_limit (length s.sites))
@@ -320,7 +320,7 @@ module _ (t : Tests) (k : Known) where
 
     unknown_told : (at : ℕ) (f : Option ℕ) (s : State) → Tells (one (not (is_some f)) kind.UnknownFunction at ++ []) s.fault (noted at (if_unknown f) s).fault
     unknown_told at None s = one_fault (record { at = at; kind = kind.UnknownFunction }) s.fault
-    unknown_told at (Some f) s = adds_nothing k s
+    unknown_told at (Some f) s = nothing s.fault
 
     -- the lists of the five notes at the name of a method, in the order of the rows
     in_rows : (at : ℕ) (a b c : Bool) (fs : List Fault) → (one a kind.NameClash at ++ (one b kind.UnknownFunction at ++ [])) ++ (one c kind.TooManySites at ++ fs)
