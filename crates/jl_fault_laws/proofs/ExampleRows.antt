@@ -1,5 +1,7 @@
 -- The rows of the small scripts.
-use Rattle.std.proofs.Common.{ℕ, ℤ, pos, codes, List, [], ◌∷◌, ◌++◌, map, ◌≡◌, inl, refl, sym, ap, subst, ◌∙◌}
+use Rattle.std.proofs.Common.{ℕ, zero, suc, ◌+◌, ◌≤◌, ℤ, pos, codes, List, [], ◌∷◌, ◌++◌, map, ◌≡◌, inl, refl, sym, ap, subst, ◌∙◌, append_assoc}
+use Rattle.std.proofs.lemmas.Bool.{le-leb}
+use Rattle.jl_model.specs.declared.limits.TheConstants.{MOST_SITES}
 use Rattle.jl_model.specs.declared.builtin.TheConstants.{BUILTIN_TYPES}
 use Rattle.jl_typeread.specs.declared.tree.ArgText.TheFolds.{fold-roll-TypeText, fold-roll-VarText}
 use Rattle.jl_typeread.specs.declared.tree.ArgText.TheOpen as A
@@ -23,8 +25,8 @@ use Rattle.jl_written.specs.declared.fault.Fault.{Fault}
 use Rattle.jl_written.specs.declared.fault.StaticKind.TheVariants as kind
 use Rattle.jl_fault_laws.specs.Uses.{Names, Visible, Use, Uses, Stated, Brings, ScriptNames, names_told, used, value, plain_type, at_top, top_uses, brought, with_vars, type_uses, var_uses, uses_of}
 use Rattle.jl_fault_laws.specs.Uses as U
-use Rattle.jl_fault_laws.specs.Rows.{HoldsAt}
-use Rattle.jl_fault_laws.specs.Examples.{f, g, x, y, R, T, name_at, one_at, known, head, with_line, good, with_unknown_name, with_unknown_function, with_many_arguments, with_unknown_type, with_two_variables, with_function_name, with_two_bindings, with_built_in, fault}
+use Rattle.jl_fault_laws.specs.Rows.{HoldsAt, definitions}
+use Rattle.jl_fault_laws.specs.Examples.{f, g, x, y, R, T, name_at, one_at, known, head, with_line, good, with_unknown_name, with_unknown_function, with_many_arguments, with_unknown_type, with_two_variables, with_function_name, with_two_bindings, with_built_in, method_at, lines, fault}
 use Rattle.jl_fault_laws.proofs.Firsts.{In}
 use Rattle.jl_fault_laws.proofs.Faults.{all_faults}
 use Rattle.jl_fault_laws.proofs.RowLaws.{holds_among, among_holds}
@@ -169,3 +171,40 @@ shared_row = one_holds with_function_name (fault 18 kind.Rebound) (bound_faults 
 
 pub built_in_row : HoldsAt known with_built_in (fault 18 kind.NameClash)
 built_in_row = one_holds with_built_in (fault 18 kind.NameClash) (bound_faults (codes "div") 24)
+
+-- ---- many methods
+
+-- the uses in a line `f(x) = 1`
+abbrev line_at : ℕ → List Use
+line_at at = U.method_step told (F.Short at (record { callee = C.Plain (name_at at f); params = P.Name (name_at (at + 2) x) ∷ []; vars = [] }) no_uses) (top [])
+
+line_is : (at : ℕ) (ys : List Item) → U.items_uses told (method_at at ∷ ys) BUILTIN_TYPES [] ≡ line_at at ++ U.items_uses told ys BUILTIN_TYPES []
+line_is at ys =
+    let h : Head = record { callee = C.Plain (name_at at f); params = P.Name (name_at (at + 2) x) ∷ []; vars = [] } in
+    let m = short_uses at h (one_at (at + 7)) ∙ ap (λ z. U.method_step told (F.Short at h z)) (number_uses (at + 7) (pos 1)) in
+    λ i. m i (top []) ++ U.items_uses told ys BUILTIN_TYPES []
+
+abbrev uses_in : ℕ → ℕ → List Use
+uses_in zero at = []
+uses_in (suc n) at = line_at at ++ uses_in n (at + 9)
+
+lines_are : (n at : ℕ) (ys : List Item) → U.items_uses told (lines n at ++ ys) BUILTIN_TYPES [] ≡ uses_in n at ++ U.items_uses told ys BUILTIN_TYPES []
+lines_are zero at ys = refl
+lines_are (suc n) at ys = line_is at (lines n (at + 9) ++ ys) ∙ ap (λ us. line_at at ++ us) (lines_are n (at + 9) ys) ∙ sym (append_assoc (line_at at) (uses_in n (at + 9)) (U.items_uses told ys BUILTIN_TYPES []))
+
+all_define : (n at : ℕ) → definitions (uses_in n at) ≡ n
+all_define zero at = refl
+all_define (suc n) at = ap suc (all_define n (at + 9))
+
+-- where so many methods are added before that no more may be
+pub sites_row : (n at : ℕ) → MOST_SITES ≤ n → HoldsAt known (lines n 0 ++ method_at at ∷ []) (fault at kind.TooManySites)
+sites_row n at l =
+    let h : Head = record { callee = C.Plain (name_at at f); params = P.Name (name_at (at + 2) x) ∷ []; vars = [] } in
+    record {
+      before = uses_in n 0;
+      use_ = used at (U.defined h.callee) (U.bare (top []));
+      behind = U.params_uses h.params (U.in_head h (top [])) ++ [];
+      is = lines_are n 0 (method_at at ∷ []) ∙ ap (λ us. uses_in n 0 ++ us) (line_is at []);
+      place = refl;
+      row = le-leb MOST_SITES (definitions (uses_in n 0)) (subst (λ m. MOST_SITES ≤ m) (sym (all_define n 0)) l);
+    }

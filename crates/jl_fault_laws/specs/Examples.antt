@@ -1,5 +1,5 @@
 -- Small scripts, of which the rows are computed. Each is `f(x) = 1` and a line after it.
-use Rattle.std.specs.Prelude.{ℕ, pos, codes, List, [], ◌∷◌, ◌++◌, map}
+use Rattle.std.specs.Prelude.{ℕ, zero, suc, ◌+◌, pos, codes, List, [], ◌∷◌, ◌++◌, map}
 use Rattle.jl_model.specs.Ancestors.{builtin_types}
 use Rattle.jl_program.specs.Prelude.{prelude_functions}
 use Rattle.jl_typeread.specs.declared.tree.TypeText.{TypeText}
@@ -90,6 +90,15 @@ with_two_bindings = good ++ N.Bind (name_at 18 y) (one_at 22) ∷ []
 -- `y = f(1)`, and on a third line `div = 1`
 abbrev pub with_built_in : List Item
 with_built_in = good ++ N.Bind (record { at = 18; bytes = codes "div" }) (one_at 24) ∷ []
+
+-- `f(x) = 1` at this place
+abbrev pub method_at : ℕ → Item
+method_at at = N.Method (E.Short at (record { callee = C.Plain (name_at at f); params = P.Name (name_at (at + 2) x) ∷ []; vars = [] }) (one_at (at + 7)))
+
+-- so many lines `f(x) = 1`, from this place on
+abbrev pub lines : ℕ → ℕ → List Item
+lines zero at = []
+lines (suc n) at = method_at at ∷ lines n (at + 9)
 
 abbrev pub fault : ℕ → StaticKind → Fault
 fault at kind = record { at = at; kind = kind }

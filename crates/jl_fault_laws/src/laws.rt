@@ -1,19 +1,20 @@
 //! Rows of the table of static faults. They are about definitions alone: the function does nothing, and its contract is the law.
 
-ghost use Rattle.std.specs.Prelude.{◌≡◌, ◌⊎◌, List, Option, Some, true};
+ghost use Rattle.std.specs.Prelude.{◌≡◌, ◌⊎◌, ◌≤◌, ℕ, List, [], ◌∷◌, ◌++◌, Option, Some, true};
+ghost use Rattle.jl_model.specs.declared.limits.TheConstants.{MOST_SITES};
 ghost use Rattle.jl_grammar.specs.declared.tree.Item.{Item};
 ghost use Rattle.jl_formed.specs.Formed.{FormedItems};
 ghost use Rattle.jl_written.specs.declared.fault.Fault.{Fault};
 ghost use Rattle.jl_resolve_forms.specs.declared.known.Known.{Known};
 ghost use Rattle.jl_resolve_forms.specs.Top.{resolved};
 ghost use Rattle.jl_resolve_forms.specs.TypesIn.{Tests};
-ghost use Rattle.jl_written.specs.declared.fault.StaticKind.TheVariants.{UnknownName, UnknownFunction, UnknownType, TooManyArguments, Rebound, NameClash};
-ghost use Rattle.jl_fault_laws.specs.Examples.{known, good, with_unknown_name, with_unknown_function, with_many_arguments, with_unknown_type, with_two_variables, with_function_name, with_two_bindings, with_built_in, fault};
+ghost use Rattle.jl_written.specs.declared.fault.StaticKind.TheVariants.{UnknownName, UnknownFunction, UnknownType, TooManyArguments, TooManySites, Rebound, NameClash};
+ghost use Rattle.jl_fault_laws.specs.Examples.{known, good, with_unknown_name, with_unknown_function, with_many_arguments, with_unknown_type, with_two_variables, with_function_name, with_two_bindings, with_built_in, method_at, lines, fault};
 ghost use Rattle.jl_fault_laws.specs.Rows.{has_row, HoldsAt, IsReportedBy, TellTypes};
 
-/// Rows of uses of names in well-formed items. `only`: a fault UnknownName, UnknownFunction, UnknownType, Rebound, NameClash or
-/// TooManyArguments is reported only where its row holds of a use of a name at its place, or where the declarations had it. `least`:
-/// where a row holds of a use, its fault is reported, or one that it does not come before.
+/// Rows of uses of names in well-formed items. `only`: a fault UnknownName, UnknownFunction, UnknownType, Rebound, NameClash,
+/// TooManySites or TooManyArguments is reported only where its row holds of a use of a name at its place, or where the declarations
+/// had it. `least`: where a row holds of a use, its fault is reported, or one that it does not come before.
 #[tactic(none)]
 pub fn law_rows()
     ensures only { (t : Tests) → TellTypes t → (k : Known) (items : List Item) (o : Option Fault) → FormedItems items → (f : Fault) → has_row f.kind ≡ true
@@ -34,4 +35,5 @@ pub fn law_examples()
     ensures binding { HoldsAt known with_two_bindings (fault 18 Rebound) }
     ensures function_name { HoldsAt known with_function_name (fault 18 Rebound) }
     ensures built_in { HoldsAt known with_built_in (fault 18 NameClash) }
+    ensures sites { (n at : ℕ) → MOST_SITES ≤ n → HoldsAt known (lines n 0 ++ method_at at ∷ []) (fault at TooManySites) }
 {}

@@ -25,9 +25,9 @@ pub fn law_right_tests_tell_types()
 {}
 
 /// What `program` of jl_resolve answers, by rows of uses of names. `only`: a script has UnknownName, UnknownFunction, UnknownType,
-/// Rebound, DuplicateType, NameClash or TooManyArguments as its first fault only where the row of that fault holds of a use of a name
-/// at its place. `first`: where a row holds of a use, its fault does not come before the one that the script has. `none`: of a program
-/// no row holds.
+/// Rebound, DuplicateType, NameClash, TooManySites or TooManyArguments as its first fault only where the row of that fault holds of a
+/// use of a name at its place. `first`: where a row holds of a use, its fault does not come before the one that the script has. `none`:
+/// of a program no row holds.
 #[tactic(none)]
 pub fn law_program_rows()
     ensures only { (s : Script) → FormedScript s → (at : ℕ) (kind : StaticKind) → has_row kind ≡ true → IsFaultOf s at kind
