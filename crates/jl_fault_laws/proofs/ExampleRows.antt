@@ -20,7 +20,7 @@ use Rattle.jl_grammar.specs.declared.tree.Expr.TheVariants as X
 use Rattle.jl_grammar.specs.declared.tree.Head.{Head}
 use Rattle.jl_grammar.specs.declared.tree.Item.{Item}
 use Rattle.jl_grammar.specs.declared.tree.Item.TheVariants as N
-use Rattle.jl_grammar.specs.declared.tree.Name.{Name}
+use Rattle.jl_grammar.specs.declared.tree.Param.TheVariants as P
 use Rattle.jl_written.specs.declared.fault.Fault.{Fault}
 use Rattle.jl_written.specs.declared.fault.StaticKind.TheVariants as kind
 use Rattle.jl_fault_laws.specs.Uses.{Names, Visible, Use, Uses, Stated, Brings, ScriptNames, names_told, used, value, plain_type, at_top, top_uses, brought, with_vars, type_uses, var_uses, uses_of}

@@ -1,5 +1,5 @@
 -- The faults of a use of a name, as far as they have a row, and how they are told one after another.
-use Rattle.std.proofs.Common.{ℕ, suc, ◌+◌, arith, Bool, true, false, cond, List, [], ◌∷◌, ◌++◌, ◌≡◌, Option, refl, sym, ap, ◌∙◌, append-nil, append_assoc}
+use Rattle.std.proofs.Common.{ℕ, suc, ◌+◌, arith, Bool, true, false, cond, List, [], ◌∷◌, ◌++◌, ◌≡◌, Option, refl, ap, ◌∙◌, append-nil, append_assoc}
 use Rattle.jl_written.specs.declared.fault.Fault.{Fault}
 use Rattle.jl_written.specs.declared.fault.StaticKind.{StaticKind}
 use Rattle.jl_written.specs.declared.fault.StaticKind.TheVariants as kind

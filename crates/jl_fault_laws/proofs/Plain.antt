@@ -1,5 +1,5 @@
 -- The uses of names in types and in parameters define no method.
-use Rattle.std.proofs.Common.{ℕ, ◌+◌, arith, Bool, true, false, List, [], ◌∷◌, ◌++◌, map, ◌≡◌, Option, Some, None, refl, sym, subst}
+use Rattle.std.proofs.Common.{arith, Bool, true, false, List, [], ◌∷◌, ◌++◌, map, ◌≡◌, Option, Some, None, refl, sym, subst}
 use Rattle.jl_typeread.specs.declared.tree.TypeText.{TypeText}
 use Rattle.jl_typeread.specs.declared.tree.ArgText.{ArgText}
 use Rattle.jl_typeread.specs.declared.tree.VarText.{VarText}

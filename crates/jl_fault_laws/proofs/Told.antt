@@ -1,5 +1,5 @@
 -- What is told of a part are the faults of the uses of names in it, as far as these have a row: form by form.
-use Rattle.std.proofs.Common.{ℕ, suc, ◌+◌, arith, Bool, true, false, cond, not, ◌&&◌, ◌||◌, nat_lt, nat_le, nat_eq, List, [], ◌∷◌, ◌++◌, length, ◌≡◌, Option, Some, None, is_some, refl, sym, ap, subst, map, ◌∙◌, append-nil, append_assoc, slice_get}
+use Rattle.std.proofs.Common.{ℕ, suc, ◌+◌, arith, Bool, true, false, cond, not, ◌&&◌, ◌||◌, nat_lt, nat_le, nat_eq, List, [], ◌∷◌, ◌++◌, length, ◌≡◌, Option, Some, None, is_some, refl, sym, ap, subst, map, ◌∙◌, append-nil, slice_get}
 use Rattle.std.proofs.lemmas.Bool.{leb-true, leb-false}
 use Rattle.std.proofs.lemmas.List.{length-append, length-set}
 use Rattle.jl_model.specs.declared.limits.TheConstants.{MOST_ARGUMENTS, MOST_SITES}
@@ -14,7 +14,6 @@ use Rattle.jl_grammar.specs.declared.tree.Callee.{Callee}
 use Rattle.jl_grammar.specs.declared.tree.Callee.TheVariants as C
 use Rattle.jl_grammar.specs.declared.tree.Head.{Head}
 use Rattle.jl_written.specs.declared.fault.Fault.{Fault}
-use Rattle.jl_written.specs.declared.fault.StaticKind.{StaticKind}
 use Rattle.jl_written.specs.declared.fault.StaticKind.TheVariants as kind
 use Rattle.jl_resolve_forms.specs.declared.known.Known.{Known}
 use Rattle.jl_resolve_forms.specs.declared.known.Called.{Called}
@@ -310,13 +309,6 @@ module _ (t : Tests) (k : Known) where
         by false false = nothing s.fault
     define_told (C.Base x n) at s = nothing s.fault
     define_told (C.Operator x o) at s = nothing s.fault
-
-    many_other : (s : State) → IsOtherKind (too_many s)
-    many_other s = by (nat_le site_limit (length s.sites))
-      where
-        by : (b : Bool) → IsOtherKind (cond b (Some kind.TooManySites) None)
-        by true = refl
-        by false = tt
 
     unknown_told : (at : ℕ) (f : Option ℕ) (s : State) → Tells (one (not (is_some f)) kind.UnknownFunction at ++ []) s.fault (noted at (if_unknown f) s).fault
     unknown_told at None s = one_fault (record { at = at; kind = kind.UnknownFunction }) s.fault

@@ -2,7 +2,6 @@
 use Rattle.std.specs.Prelude.{ℕ, zero, suc, ◌+◌, pos, codes, List, [], ◌∷◌, ◌++◌, map}
 use Rattle.jl_model.specs.Ancestors.{builtin_types}
 use Rattle.jl_program.specs.Prelude.{prelude_functions}
-use Rattle.jl_typeread.specs.declared.tree.TypeText.{TypeText}
 use Rattle.jl_typeread.specs.declared.tree.ArgText.TheViews as V
 use Rattle.jl_typeread.specs.declared.tree.TypeText.TheVariants as TV
 use Rattle.jl_typeread.specs.declared.tree.VarText.TheVariants as VV

@@ -1,5 +1,5 @@
 -- Rows of the table of static faults: of which use of a name each holds (docs/LANGUAGE.md, Faults of a script).
-use Rattle.std.specs.Prelude.{ℕ, suc, Bool, true, false, ◌&&◌, ◌||◌, not, cond, nat_lt, nat_le, List, [], ◌∷◌, ◌++◌, map, Option, Some, None, ◌≡◌}
+use Rattle.std.specs.Prelude.{ℕ, suc, Bool, true, false, ◌&&◌, ◌||◌, not, cond, nat_lt, nat_le, List, [], ◌∷◌, ◌++◌, Option, Some, None, ◌≡◌}
 use Rattle.jl_model.specs.declared.limits.TheConstants.{MOST_ARGUMENTS, MOST_SITES}
 use Rattle.jl_model.specs.declared.ty.Written.{Written}
 use Rattle.jl_program.specs.Names.{is_among, builtin_names}
