@@ -7,6 +7,7 @@ pub mod Merged
 pub mod Names
 pub mod Told
 pub mod Trees
+pub mod Others
 pub mod Texts
 pub mod RowLaws
 pub mod ExampleRows

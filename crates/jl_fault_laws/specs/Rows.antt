@@ -41,7 +41,7 @@ abbrev pub unknown_function : Known → How → Visible → Bool
 unknown_function k (called f m) v = not (is_struct k f v.names) && not (has_function k f v.names)
 unknown_function k (made t) v = not (makes (names_told k) t v)
 unknown_function k (latest f m) v = not (has_function k f v.names)
-unknown_function k (defined f) v = not (has_function k f v.names)
+unknown_function k (defined h) v = not (has_function k h.callee v.names)
 unknown_function k _ v = false
 
 -- UnknownType: a name that must be a type is none there: not declared before and no type variable, or `Union` or `Tuple` without
@@ -78,7 +78,7 @@ is_taken k (C.Operator at o) = false
 
 -- NameClash: a variable, a type variable or a type gets a built-in name, or a taken one is defined
 abbrev pub name_clash : Known → How → Bool
-name_clash k (defined f) = is_taken k f
+name_clash k (defined h) = is_taken k h.callee
 name_clash k (bound n) = is_among n builtin_names
 name_clash k (type_variable n) = is_among n builtin_names
 name_clash k (declared_type n) = is_among n builtin_names
@@ -86,7 +86,7 @@ name_clash k _ = false
 
 -- a method is defined there
 abbrev pub is_definition : How → Bool
-is_definition (defined f) = true
+is_definition (defined h) = true
 is_definition _ = false
 
 -- how many methods these uses define
@@ -96,7 +96,7 @@ definitions (u ∷ us) = cond (is_definition u.how) (suc (definitions us)) (defi
 
 -- TooManySites: a method is defined where so many are defined before that no more may be
 abbrev pub too_many_sites : How → ℕ → Bool
-too_many_sites (defined f) n = nat_le MOST_SITES n
+too_many_sites (defined h) n = nat_le MOST_SITES n
 too_many_sites _ n = false
 
 -- the row of a kind of fault, where it is one of the eight, of a use behind so many defined methods
