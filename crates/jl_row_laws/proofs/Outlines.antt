@@ -168,6 +168,10 @@ module _ (items : List Item) (ds es : List Decl) (same : AreSame ds es) where
 text_same : (items : List Item) (d : Declaring) → Declares items no_declaration d → AreSame d.decls (builtin_types ++ declared_in items)
 text_same items d h = items_same items no_declaration d builtin_types (same_all builtin_types) h
 
+pub same_uses : (items : List Item) (d : Declaring) → Declares items no_declaration d → (us : List Use)
+    → us ++ uses_of (names_told (known_of items d.decls)) items ≡ us ++ uses_of (names_told (known_of items (builtin_types ++ declared_in items))) items
+same_uses items d h us = uses_same items d.decls (builtin_types ++ declared_in items) (text_same items d h) us
+
 pub to_text : (items : List Item) (d : Declaring) → Declares items no_declaration d → (us : List Use) (f : Fault)
     → HoldsIn (known_of items d.decls) (us ++ uses_of (names_told (known_of items d.decls)) items) f
     → HoldsIn (known_of items (builtin_types ++ declared_in items)) (us ++ uses_of (names_told (known_of items (builtin_types ++ declared_in items))) items) f

@@ -28,6 +28,10 @@ with_two_types = record { items = abstract_type 0 14 (codes "A") ∷ abstract_ty
 abbrev pub with_built_in : Script
 with_built_in = record { items = abstract_type 0 14 (codes "div") ∷ [] }
 
+-- `abstract type Int64 end`
+abbrev pub with_built_in_type : Script
+with_built_in_type = record { items = abstract_type 0 14 (codes "Int64") ∷ [] }
+
 -- `struct P <: R end`
 abbrev pub with_unknown_type : Script
 with_unknown_type = struct_P [] (Some (TV.Name 12 (codes "R")))
