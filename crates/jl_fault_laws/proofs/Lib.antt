@@ -5,6 +5,7 @@ pub mod Plain
 pub mod Order
 pub mod Merged
 pub mod Names
+pub mod Hiding
 pub mod Told
 pub mod Trees
 pub mod Others

@@ -27,7 +27,7 @@ use Rattle.jl_written.specs.Meaning.{place_of, var_of, var_or, named}
 use Rattle.jl_written.specs.Meaning as M
 use Rattle.jl_written.specs.Reads.{Typed, Types, TypeReads, ArgReads, VarReads, unread, note, unknown, missing, fresh, placed_layer, placed, arguments, members, rebound, guarded, bind, bind_all, where_at, within, plain, applied, type_reads, arg_reads, var_reads}
 use Rattle.jl_written.specs.Reads as R
-use Rattle.jl_written.specs.Signatures.{option_reads, all_read, all_bound, adopted, signature, shifted, body_type, constructor_type, width_of}
+use Rattle.jl_written.specs.Signatures.{option_reads, all_read, all_bound, adopted, written_of, signature, shifted, body_type, constructor_type, width_of}
 use Rattle.jl_written.specs.TextOrder.{ordered_by, one_ordered_by}
 use Rattle.jl_resolve_forms.specs.declared.known.Known.{Known}
 use Rattle.jl_resolve_forms.specs.declared.state.Scope.{Scope}
@@ -35,17 +35,18 @@ use Rattle.jl_resolve_forms.specs.declared.state.State.{State}
 use Rattle.jl_resolve_forms.specs.Scopes.{noted, merged}
 use Rattle.jl_resolve_forms.specs.TypesIn.{Tests, declared_at, refusal, begins, one_type, made_refusal, body_written, made_at}
 use Rattle.jl_resolve_forms.specs.Expressions.{type_of, made_args, signed_as, signed}
-use Rattle.jl_type_laws.proofs.TextInduction.{EachText, TextCases, by_type, by_arg, by_var}
+use Rattle.jl_type_laws.proofs.TextInduction.{TextCases, by_type, by_arg, by_var}
 use Rattle.jl_fault_laws.specs.Uses.{Visible, Uses, Brings, type_variable, plain_type, braced_type, written, built, used, each, if_read, with_var, with_vars, brought, bare, type_names, type_uses, arg_uses, var_uses, option_uses, options_uses, body_uses, built_uses, in_head, signature_uses}
 use Rattle.jl_fault_laws.specs.Uses as U
-use Rattle.jl_fault_laws.specs.TypeRows.{declared_before, struct_built, is_idle, statics_at, signature_at, type_refusal, built_refusal}
+use Rattle.jl_fault_laws.specs.TypeRows.{declared_before, struct_built, is_idle, statics_at, signature_at, any_hides, signature_refusal, type_refusal, built_refusal}
 use Rattle.jl_fault_laws.proofs.Firsts.{Tells, nothing, two, same, swapped, one_fault, given, noted_told}
 use Rattle.jl_fault_laws.proofs.Faults.{one, all_faults, Pairs, TellsOf, joined, then_other}
 use Rattle.jl_fault_laws.proofs.Adds.{Adds, adds_alike, noted_same, merged_same}
 use Rattle.jl_fault_laws.proofs.Plain.{type_plain, args_plain}
 use Rattle.jl_fault_laws.proofs.Merged.{merged_told}
 use Rattle.jl_fault_laws.proofs.Names.{Knows, Sees, one_more, shifted_knows, declared_is, two_of, place_found}
-use Rattle.jl_fault_laws.proofs.Told.{AreTold}
+use Rattle.jl_fault_laws.proofs.Hiding.{each_pairs, each_all, both_clear, ordered_clear, one_ordered_clear, type_clear, options_clear, bound_clear, args_clear}
+use Rattle.jl_fault_laws.proofs.Told.{AreTold, SignedTold}
 
 -- ---- readings
 
@@ -99,14 +100,6 @@ ordered_told (s ∷ ss) ts fs o h = h
 one_ordered_told : (ss : List Swap) (t : Typed) (fs : List Fault) (o : Option Fault) → Tells fs o t.after.fault → Tells fs o (one_ordered_by ss t).after.fault
 one_ordered_told [] t fs o h = h
 one_ordered_told (s ∷ ss) t fs o h = h
-
-each_pairs : {A B C : Type 0} (P : B → C → Type 0) (f : A → B) (g : A → C) (xs : List A) → EachText (λ x. P (f x) (g x)) xs → Pairs P (map f xs) (map g xs)
-each_pairs P f g [] h = tt
-each_pairs P f g (x ∷ xs) h = (h.0, each_pairs P f g xs h.1)
-
-each_all : {A : Type 0} (P : A → Type 0) → ((x : A) → P x) → (xs : List A) → EachText P xs
-each_all P h [] = tt
-each_all P h (x ∷ xs) = (h x, each_all P h xs)
 
 module _ (tests : Tests) (k : Known) (ds : List Decl) where
   abbrev IsType : Uses → TypeReads → Type 0
@@ -316,9 +309,12 @@ module _ (t : Tests) (k : Known) where
       (swapped fs (given o at) s.fault (noted at o z).fault (two fs (given o at) s.fault z.fault (noted at o z).fault (merged_told fs q s h) (noted_told at o z)))
 
   type_refusal_is : (text : TypeText) (ds : List Decl) (statics : List TypeVar) (v : Visible) → ds ≡ declared_before k v.types → statics ≡ statics_at t k v
+      → (body_type ds statics text).after.unclear ≡ any_hides (type_uses text v)
       → (let ty = body_type ds statics text in refusal t.body ty.after (one_type ty.ty (adopted t.below ty.after.places ty.after.vars))) ≡ type_refusal t k text v
   unfolding type_refusal
-  type_refusal_is text ds statics v e f = λ i. (let ty = body_type (e i) (f i) text in refusal t.body ty.after (one_type ty.ty (adopted t.below ty.after.places ty.after.vars)))
+  type_refusal_is text ds statics v e f c =
+      ap (λ b. let ty = body_type ds statics text in cond ty.after.misplaced (Some kind.VariablePlace) (cond b None (t.body (one_type ty.ty (adopted t.below ty.after.places ty.after.vars))))) c
+      ∙ (λ i. let ty = body_type (e i) (f i) text in cond ty.after.misplaced (Some kind.VariablePlace) (cond (any_hides (type_uses text v)) None (t.body (one_type ty.ty (adopted t.below ty.after.places ty.after.vars)))))
 
   body_written_told : (text : TypeText) (c : Scope) (v : Visible) (s : State) → Sees t k c v → Adds t k (body_uses text v) s (body_written t k text c s).after
   unfolding body_written
@@ -332,18 +328,26 @@ module _ (t : Tests) (k : Known) where
       adds_alike t k (body_uses text v) s (noted (begins text) o (merged ty.after.fault s)) (type_plain text v) (noted_same (begins text) o (merged ty.after.fault s) ∙ merged_same ty.after.fault s)
       (λ m.
       let fs = all_faults t k m (type_uses text v) in
-      refused_last (begins text) o (type_refusal t k text v) fs ty.after.fault s (type_refusal_is text ds c.statics v (declared_is k c.types v.types h.types) h.statics)
+      refused_last (begins text) o (type_refusal t k text v) fs ty.after.fault s
+      (type_refusal_is text ds c.statics v (declared_is k c.types v.types h.types) h.statics (one_ordered_clear raw.after.swaps raw ∙ type_clear t k ds text (shifted n c.statics) v false unread (shifted_knows t k n c.statics v h.vars) h.types))
       (one_ordered_told raw.after.swaps raw fs None (type_told t k ds text (shifted n c.statics) v false unread (shifted_knows t k n c.statics v h.vars) h.types m)))
 
   built_refusal_is : (p : ℕ) (xs : List ArgText) (ds : List Decl) (statics : List TypeVar) (v : Visible) (q : Option ℕ) → ds ≡ declared_before k v.types → statics ≡ statics_at t k v → q ≡ Some p
+      → (constructor_type ds p (params_of (slice_get k.decls p)) statics xs).after.unclear ≡ any_hides (each (map arg_uses xs) v)
       → (let bs = params_of (slice_get k.decls p) in
       let ty = constructor_type ds p bs statics xs in
       made_refusal t.body (nat_eq (length xs) (length bs)) ty.after (one_type ty.ty [])) ≡ built_refusal t k q xs v
   unfolding built_refusal
-  built_refusal_is p xs ds statics v q e f g =
-      (λ i. (let bs = params_of (slice_get k.decls p) in
+  built_refusal_is p xs ds statics v q e f g c =
+      ap (λ b. let bs = params_of (slice_get k.decls p) in
+      let ty = constructor_type ds p bs statics xs in
+      cond ty.after.misplaced (Some kind.VariablePlace)
+      (cond (not (nat_eq (length ty.after.vars) 0) || not (nat_eq (length xs) (length bs))) (Some kind.WrongParameterCount) (cond b None (t.body (one_type ty.ty []))))) c
+      ∙ (λ i. let bs = params_of (slice_get k.decls p) in
       let ty = constructor_type (e i) p bs (f i) xs in
-      made_refusal t.body (nat_eq (length xs) (length bs)) ty.after (one_type ty.ty []))) ∙ ap (λ o. built_refusal t k o xs v) (sym g)
+      cond ty.after.misplaced (Some kind.VariablePlace)
+      (cond (not (nat_eq (length ty.after.vars) 0) || not (nat_eq (length xs) (length bs))) (Some kind.WrongParameterCount) (cond (any_hides (each (map arg_uses xs) v)) None (t.body (one_type ty.ty [])))))
+      ∙ ap (λ o. built_refusal t k o xs v) (sym g)
 
   made_at_told : (text : TypeText) (p : ℕ) (c : Scope) (v : Visible) (s : State) → Sees t k c v → struct_built k (out-TypeText text) v.names ≡ Some p
       → Adds t k (built_uses text v) s (made_at t k (begins text) p (made_args (out-TypeText text)) c s).after
@@ -357,26 +361,39 @@ module _ (t : Tests) (k : Known) where
       let o = made_refusal t.body (nat_eq (length xs) (length bs)) ty.after (one_type ty.ty []) in
       let q = struct_built k (out-TypeText text) v.names in
       adds_alike t k (built_uses text v) s (noted at o (merged ty.after.fault s)) (args_plain xs v) (noted_same at o (merged ty.after.fault s) ∙ merged_same ty.after.fault s)
-      (λ m. refused_last at o (built_refusal t k q xs v) (all_faults t k m (each (map arg_uses xs) v)) ty.after.fault s (built_refusal_is p xs ds c.statics v q (declared_is k c.types v.types h.types) h.statics e)
+      (λ m. refused_last at o (built_refusal t k q xs v) (all_faults t k m (each (map arg_uses xs) v)) ty.after.fault s (built_refusal_is p xs ds c.statics v q (declared_is k c.types v.types h.types) h.statics e
+      (args_clear t k ds xs bs (shifted 0 c.statics) v unread (shifted_knows t k 0 c.statics v h.vars) h.types))
       (made_told t k ds xs p bs c.statics v h.vars h.types m))
 
   signature_is : (types : ℕ) (h : Head) (ts : List (List ℕ)) → type_names (declared_at k types) ≡ ts → signed t k types h ≡ signature_at t k h ts
   unfolding signature_at
   signature_is types h ts e = ap (λ ds. signed_as t (signature ds (map type_of h.params) h.vars)) (declared_is k types ts e)
 
-  signed_told : (types : ℕ) (h : Head) (v : Visible) → type_names (declared_at k types) ≡ v.types
-      → TellsOf t k (signature_uses h v) None (signed t k types h).fault × Knows t k (signed t k types h).vars (in_head h v) × (signed t k types h ≡ signature_at t k h v.types)
+  signature_refusal_is : (types : ℕ) (h : Head) (v : Visible) → type_names (declared_at k types) ≡ v.types
+      → (signature (declared_at k types) (map type_of h.params) h.vars).types.after.unclear ≡ any_hides (signature_uses h v) → (signed t k types h).refusal ≡ signature_refusal t k h (bare v)
+  unfolding signature_refusal
+  signature_refusal_is types h v e c =
+      ap (λ b. let ts = (signature (declared_at k types) (map type_of h.params) h.vars).types in cond ts.after.misplaced (Some kind.VariablePlace) (cond b None (t.signature (written_of t.below ts)))) c
+      ∙ ap (λ ds. let ts = (signature ds (map type_of h.params) h.vars).types in cond ts.after.misplaced (Some kind.VariablePlace) (cond (any_hides (signature_uses h v)) None (t.signature (written_of t.below ts)))) (declared_is k types v.types e)
+
+  signed_told : (types : ℕ) (h : Head) (v : Visible) → type_names (declared_at k types) ≡ v.types → SignedTold t k types h v
   signed_told types h v e =
       let ds = declared_at k types in
       let s = all_bound ds h.vars [] unread in
       let ts = all_read ds (map type_of h.params) s.vars s.after in
       let g = signature ds (map type_of h.params) h.vars in
-      let b = bound_told t k ds h.vars [] (bare v) unread (record { names = λ name. refl; idle = λ name. refl }) e in (
-        joined t k (brought (map var_uses h.vars) (bare v)) (options_uses (map type_of h.params) (in_head h v)) None s.after.fault g.types.after.fault b.0
-            (λ m. ordered_told ts.after.swaps ts (all_faults t k m (options_uses (map type_of h.params) (in_head h v))) s.after.fault (options_told t k ds (map type_of h.params) s.vars (in_head h v) s.after b.1 e m)),
-        b.1,
-        signature_is types h v.types e,
-      )
+      let nothing_known : Knows t k [] (bare v) = record { names = λ name. refl; idle = λ name. refl } in
+      let b = bound_told t k ds h.vars [] (bare v) unread nothing_known e in
+      let us = brought (map var_uses h.vars) (bare v) in
+      let vs = options_uses (map type_of h.params) (in_head h v) in
+      let c = bound_clear t k ds h.vars [] (bare v) unread nothing_known e in
+      record {
+        tells = joined t k us vs None s.after.fault g.types.after.fault b.0
+            (λ m. ordered_told ts.after.swaps ts (all_faults t k m vs) s.after.fault (options_told t k ds (map type_of h.params) s.vars (in_head h v) s.after b.1 e m));
+        knows = b.1;
+        is = signature_is types h v.types e;
+        refusal = signature_refusal_is types h v e (ordered_clear ts.after.swaps ts ∙ both_clear us vs unread s.after ts.after c.0 (options_clear t k ds (map type_of h.params) s.vars (in_head h v) s.after c.1 e));
+      }
 
 pub are_told : (t : Tests) (k : Known) → AreTold t k
 are_told t k = record { body = body_written_told t k; made_of = made_at_told t k; of_head = signed_told t k }

@@ -27,7 +27,7 @@ use Rattle.jl_resolve_forms.specs.Expressions.{Reads, Defines, Says, binds, retu
 use Rattle.jl_fault_laws.specs.Uses.{Visible, value, Use, used, Uses, Stated, each, with_names, block, bare, params_of, params_uses, type_names, names_told, if_read, makes, body_uses, built_uses, in_head, after_head, in_body, signature_uses, head_uses}
 use Rattle.jl_fault_laws.specs.Uses as U
 use Rattle.jl_fault_laws.specs.Rows.{is_taken, definitions}
-use Rattle.jl_fault_laws.specs.TypeRows.{struct_built, call_refusal, signature_at, statics_of}
+use Rattle.jl_fault_laws.specs.TypeRows.{struct_built, call_refusal, signature_at, signature_refusal, statics_of}
 use Rattle.jl_fault_laws.proofs.Firsts.{Tells, nothing, two, same, swapped, one_fault, given, noted_told}
 use Rattle.jl_fault_laws.proofs.Faults.{one, all_faults, faults_append, definitions_append, Pairs, TellsOf}
 use Rattle.jl_fault_laws.proofs.Adds.{Adds, adds_nothing, adds_joined, adds_alike, adds_same, noted_same, merged_same}
@@ -35,13 +35,19 @@ use Rattle.jl_fault_laws.proofs.Plain.{both_plain, signature_plain, params_plain
 use Rattle.jl_fault_laws.proofs.Merged.{merged_told}
 use Rattle.jl_fault_laws.proofs.Names.{Knows, Sees, bind_sees, bind_adds, params_see, params_told, params_sites, statics_know, function_is, struct_is, called_at, makes_is, built_at}
 
+-- what is told of the signature of a method
+pub record SignedTold (t : Tests) (k : Known) (types : ℕ) (h : Head) (v : Visible) : Type 0 where
+  pub tells : TellsOf t k (signature_uses h v) None (signed t k types h).fault
+  pub knows : Knows t k (signed t k types h).vars (in_head h v)
+  pub is : signed t k types h ≡ signature_at t k h v.types
+  pub refusal : (signed t k types h).refusal ≡ signature_refusal t k h (bare v)
+
 -- what is told of types, in bodies, in explicit constructors and in signatures
 pub record AreTold (t : Tests) (k : Known) : Type 0 where
   pub body : (text : TypeText) (c : Scope) (v : Visible) (s : State) → Sees t k c v → Adds t k (body_uses text v) s (body_written t k text c s).after
   pub made_of : (text : TypeText) (p : ℕ) (c : Scope) (v : Visible) (s : State) → Sees t k c v → struct_built k (out-TypeText text) v.names ≡ Some p
       → Adds t k (built_uses text v) s (made_at t k (begins text) p (made_args (out-TypeText text)) c s).after
-  pub of_head : (types : ℕ) (h : Head) (v : Visible) → type_names (declared_at k types) ≡ v.types
-      → TellsOf t k (signature_uses h v) None (signed t k types h).fault × Knows t k (signed t k types h).vars (in_head h v) × (signed t k types h ≡ signature_at t k h v.types)
+  pub of_head : (types : ℕ) (h : Head) (v : Visible) → type_names (declared_at k types) ≡ v.types → SignedTold t k types h v
 
 module _ (t : Tests) (k : Known) where
   abbrev pub IsTold : Uses → Reads → Type 0
@@ -375,10 +381,10 @@ module _ (t : Tests) (k : Known) where
         let s1 = named k at h.callee f g s in
         let c : Scope = record { slots = []; statics = static_parameters g.sig g.vars; types = types } in
         let q = types_told.of_head types h v e in
-        let same_statics = statics_are types h v.types q.2 in
+        let same_statics = statics_are types h v.types q.is in
         let sees : Sees t k c (after_head h v) = record {
           slots = λ name. refl;
-          vars = subst (λ xs. Knows t k xs (after_head h v)) (sym same_statics) (statics_know g.sig g.vars (in_head h v).vars (statics_of t k h v.types) same_statics q.1.names);
+          vars = subst (λ xs. Knows t k xs (after_head h v)) (sym same_statics) (statics_know g.sig g.vars (in_head h v).vars (statics_of t k h v.types) same_statics q.knows.names);
           statics = same_statics;
           types = e;
         } in
@@ -393,9 +399,9 @@ module _ (t : Tests) (k : Known) where
               same (all_faults t k n (own ∷ sig) ++ all_faults t k m params) (all_faults t k n (head_uses h v)) s.fault z.fault (faults_append t k n (own ∷ sig) params)
               (two (all_faults t k n (own ∷ sig)) (all_faults t k m params) s.fault s1.fault z.fault
               (same _ _ s.fault s1.fault
-              (λ j. (given (q.2 j).refusal at ++ (one (nat_le MOST_SITES n) kind.TooManySites at ++ (one (is_taken k h.callee) kind.NameClash at
+              (λ j. (given (q.refusal j) at ++ (one (nat_le MOST_SITES n) kind.TooManySites at ++ (one (is_taken k h.callee) kind.NameClash at
               ++ (one (not (function_is k h.callee (bare_scope types) [] (λ name. refl) j)) kind.UnknownFunction at ++ [])))) ++ all_faults t k (suc n) sig)
-              (named_told at h.callee f g (all_faults t k (suc n) sig) (q.0 (suc n)) s n i))
+              (named_told at h.callee f g (all_faults t k (suc n) sig) (q.tells (suc n)) s n i))
               (params_told t k h.params c s1 (after_head h v) sees m));
           sees = params_see t k h.params c s1 (after_head h v) sees;
         }

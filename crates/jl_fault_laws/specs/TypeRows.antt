@@ -1,6 +1,6 @@
 -- Rows of types in the table of static faults: what refuses a signature, a type in a body and a constructor, and which type variables a
 -- body may not use (docs/LANGUAGE.md, Faults of a script).
-use Rattle.std.specs.Prelude.{ℕ, Bool, false, ◌&&◌, not, cond, nat_eq, List, [], ◌∷◌, ◌++◌, map, take, length, Option, Some, None, slice_get, ◌≡◌}
+use Rattle.std.specs.Prelude.{ℕ, Bool, false, ◌&&◌, ◌||◌, not, cond, nat_eq, List, [], ◌∷◌, ◌++◌, map, take, length, Option, Some, None, slice_get, ◌≡◌}
 use Rattle.jl_model.specs.declared.ty.Decl.{Decl}
 use Rattle.jl_model.specs.Valid.{params_of}
 use Rattle.jl_program.specs.Names.{is_among}
@@ -19,13 +19,14 @@ use Rattle.jl_written.specs.declared.fault.StaticKind.{StaticKind}
 use Rattle.jl_written.specs.declared.fault.StaticKind.TheVariants as kind
 use Rattle.jl_written.specs.declared.reading.TypeVar.{TypeVar}
 use Rattle.jl_written.specs.Meaning.{place_of, var_of}
-use Rattle.jl_written.specs.Signatures.{adopted, signature, body_type, constructor_type}
+use Rattle.jl_written.specs.Signatures.{adopted, written_of, signature, body_type, constructor_type}
 use Rattle.jl_resolve_forms.specs.declared.known.Known.{Known}
 use Rattle.jl_resolve_forms.specs.declared.state.Signed.{Signed}
 use Rattle.jl_resolve_forms.specs.Expressions.{type_of, made_args, signed_as, static_parameters, inferred_refusal}
 use Rattle.jl_resolve_forms.specs.Functions.{if_struct}
-use Rattle.jl_resolve_forms.specs.TypesIn.{Tests, refusal, made_refusal, one_type}
-use Rattle.jl_fault_laws.specs.Uses.{Names, Visible, How, called, built, defined, plain_type, written, Use, names_told, type_names, uses_of}
+use Rattle.jl_resolve_forms.specs.TypesIn.{Tests, one_type}
+use Rattle.jl_fault_laws.specs.Uses.{Names, Visible, How, called, built, defined, plain_type, written, Use, each, names_told, type_names, type_uses, arg_uses, signature_uses, uses_of}
+use Rattle.jl_fault_laws.specs.Rows.{unknown_type, rebound}
 
 -- the first declared types, as many as have a visible name
 abbrev pub declared_before : Known → Names → List Decl
@@ -51,6 +52,21 @@ abbrev pub is_idle : Option TypeVar → Bool
 is_idle None = false
 is_idle (Some x) = not x.usable
 
+-- A name that means no type, or a type variable that is bound twice, hides what else refuses the text around it.
+abbrev pub hides : Use → Bool
+hides u = unknown_type u.how u.visible || rebound u.how u.visible
+
+abbrev pub any_hides : List Use → Bool
+any_hides [] = false
+any_hides (u ∷ us) = hides u || any_hides us
+
+abbrev pub unless_hidden : List Use → Option StaticKind → Option StaticKind
+unless_hidden us o = cond (any_hides us) None o
+
+-- a variable that is brought where none may be comes first
+abbrev pub unless_misplaced : Bool → Option StaticKind → Option StaticKind
+unless_misplaced misplaced o = cond misplaced (Some kind.VariablePlace) o
+
 module _ (t : Tests) (k : Known) where
   -- what the signature of a method means after these types
   unfoldable pub signature_at : Head → Names → Signed
@@ -72,19 +88,27 @@ module _ (t : Tests) (k : Known) where
   abbrev pub is_barred : List ℕ → Visible → Bool
   is_barred n v = not (is_among n v.inner) && is_idle (var_of (statics_at v) n)
 
+  -- what refuses the signature of a method
+  unfoldable pub signature_refusal : Head → Visible → Option StaticKind
+  signature_refusal h v =
+      let ts = (signature (declared_before k v.types) (map type_of h.params) h.vars).types in
+      unless_misplaced ts.after.misplaced (unless_hidden (signature_uses h v) (t.signature (written_of t.below ts)))
+
   -- what refuses a type in a body
   unfoldable pub type_refusal : TypeText → Visible → Option StaticKind
   type_refusal text v =
       let ty = body_type (declared_before k v.types) (statics_at v) text in
-      refusal t.body ty.after (one_type ty.ty (adopted t.below ty.after.places ty.after.vars))
+      unless_misplaced ty.after.misplaced (unless_hidden (type_uses text v) (t.body (one_type ty.ty (adopted t.below ty.after.places ty.after.vars))))
 
-  -- what refuses the type of a struct with these arguments in braces
+  -- what refuses the type of a struct with these arguments in braces: they must be as many as declared, and bring no variable
   unfoldable pub built_refusal : Option ℕ → List ArgText → Visible → Option StaticKind
   built_refusal None xs v = None
   built_refusal (Some p) xs v =
       let bs = params_of (slice_get k.decls p) in
       let ty = constructor_type (declared_before k v.types) p bs (statics_at v) xs in
-      made_refusal t.body (nat_eq (length xs) (length bs)) ty.after (one_type ty.ty [])
+      unless_misplaced ty.after.misplaced
+      (cond (not (nat_eq (length ty.after.vars) 0) || not (nat_eq (length xs) (length bs))) (Some kind.WrongParameterCount)
+      (unless_hidden (each (map arg_uses xs) v) (t.body (one_type ty.ty []))))
 
   -- what refuses a struct that is called without braces: where it has parameters, these are inferred
   abbrev pub call_refusal : Option ℕ → Option StaticKind
@@ -95,7 +119,7 @@ module _ (t : Tests) (k : Known) where
   abbrev pub refused_by : How → Visible → Option StaticKind
   refused_by (called f n) v = call_refusal (struct_called k f v.names)
   refused_by (built text) v = built_refusal (struct_built k (out-TypeText text) v.names) (made_args (out-TypeText text)) v
-  refused_by (defined h) v = (signature_at h v.types).refusal
+  refused_by (defined h) v = signature_refusal h v
   refused_by (plain_type n) v = cond (is_barred n v) (Some kind.StaticParameterUse) None
   refused_by (written text) v = type_refusal text v
   refused_by _ v = None
