@@ -33,15 +33,12 @@ use Rattle.jl_fault_laws.specs.Uses.{Visible, Use, Uses, Brings, type_variable, 
 use Rattle.jl_fault_laws.specs.Uses as U
 use Rattle.jl_fault_laws.specs.TypeRows.{hides, any_hides}
 use Rattle.jl_fault_laws.proofs.Faults.{Pairs}
+use Rattle.jl_fault_laws.proofs.Plain.{each_all}
 use Rattle.jl_fault_laws.proofs.Names.{Knows, one_more, place_found}
 
 pub each_pairs : {A B C : Type 0} (P : B → C → Type 0) (f : A → B) (g : A → C) (xs : List A) → EachText (λ x. P (f x) (g x)) xs → Pairs P (map f xs) (map g xs)
 each_pairs P f g [] h = tt
 each_pairs P f g (x ∷ xs) h = (h.0, each_pairs P f g xs h.1)
-
-pub each_all : {A : Type 0} (P : A → Type 0) → ((x : A) → P x) → (xs : List A) → EachText P xs
-each_all P h [] = tt
-each_all P h (x ∷ xs) = (h x, each_all P h xs)
 
 or_false : (b : Bool) → b ≡ (b || false)
 or_false true = refl

@@ -38,7 +38,7 @@ each_map : {A B : Type 0} (P : B → Type 0) (f : A → B) (xs : List A) → Eac
 each_map P f [] h = tt
 each_map P f (x ∷ xs) h = (h.0, each_map P f xs h.1)
 
-each_all : {A : Type 0} (P : A → Type 0) → ((x : A) → P x) → (xs : List A) → EachText P xs
+pub each_all : {A : Type 0} (P : A → Type 0) → ((x : A) → P x) → (xs : List A) → EachText P xs
 each_all P h [] = tt
 each_all P h (x ∷ xs) = (h x, each_all P h xs)
 

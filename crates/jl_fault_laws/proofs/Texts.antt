@@ -42,10 +42,10 @@ use Rattle.jl_fault_laws.specs.TypeRows.{declared_before, struct_built, is_idle,
 use Rattle.jl_fault_laws.proofs.Firsts.{Tells, nothing, two, same, swapped, one_fault, given, noted_told}
 use Rattle.jl_fault_laws.proofs.Faults.{one, all_faults, Pairs, TellsOf, joined, then_other}
 use Rattle.jl_fault_laws.proofs.Adds.{Adds, adds_alike, noted_same, merged_same}
-use Rattle.jl_fault_laws.proofs.Plain.{type_plain, args_plain}
+use Rattle.jl_fault_laws.proofs.Plain.{each_all, type_plain, args_plain}
 use Rattle.jl_fault_laws.proofs.Merged.{merged_told}
 use Rattle.jl_fault_laws.proofs.Names.{Knows, Sees, one_more, shifted_knows, declared_is, two_of, place_found}
-use Rattle.jl_fault_laws.proofs.Hiding.{each_pairs, each_all, both_clear, ordered_clear, one_ordered_clear, type_clear, options_clear, bound_clear, args_clear}
+use Rattle.jl_fault_laws.proofs.Hiding.{each_pairs, both_clear, ordered_clear, one_ordered_clear, type_clear, options_clear, bound_clear, args_clear}
 use Rattle.jl_fault_laws.proofs.Told.{AreTold, SignedTold}
 
 -- ---- readings

@@ -5,4 +5,5 @@ pub mod Same
 pub mod Declared
 pub mod Outlines
 pub mod ScriptRows
+pub mod NineRows
 pub mod ExampleRows

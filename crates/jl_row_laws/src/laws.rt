@@ -13,10 +13,10 @@ ghost use Rattle.jl_resolve_forms.specs.TypesIn.{Tests};
 ghost use Rattle.jl_judge.specs.Right.{IsRight};
 ghost use Rattle.jl_resolve.specs.Program.{IsProgramOf, IsFaultOf};
 ghost use Rattle.jl_fault_laws.specs.Rows.{has_row, TellTypes};
-ghost use Rattle.jl_written.specs.declared.fault.StaticKind.TheVariants.{UnknownType, Rebound, DuplicateType, NameClash};
+ghost use Rattle.jl_written.specs.declared.fault.StaticKind.TheVariants.{UnknownType, Rebound, DuplicateType, NameClash, TooManyParameters};
 ghost use Rattle.jl_fault_laws.specs.Examples.{fault};
 ghost use Rattle.jl_row_laws.specs.Script.{HoldsOf, Setting, RefusedOf, RefusedDeclaration};
-ghost use Rattle.jl_row_laws.specs.Examples.{good, with_two_types, with_built_in, with_built_in_type, with_unknown_type, with_two_parameters};
+ghost use Rattle.jl_row_laws.specs.Examples.{good, with_two_types, with_built_in, with_built_in_type, with_unknown_type, with_two_parameters, with_nine_parameters};
 
 /// Tests that are right for a table answer a signature, and a type in a body, only by faults that no row of uses of names has.
 #[tactic(none)]
@@ -50,7 +50,8 @@ pub fn law_each_program_fault()
         → RefusedOf s g f ⊎ RefusedDeclaration s f → ⊥ }
 {}
 
-/// The rows of names in declarations are computed on small scripts: none holds of a program, and each holds where its fault stands.
+/// The rows are computed on small scripts: of names in declarations none holds of a program, and each holds where its fault stands; a
+/// declaration and a signature are refused.
 #[tactic(none)]
 pub fn law_declared_examples()
     ensures none { (f : Fault) → HoldsOf good f → ⊥ }
@@ -59,4 +60,5 @@ pub fn law_declared_examples()
     ensures unknown { HoldsOf with_unknown_type (fault 12 UnknownType) }
     ensures parameters { HoldsOf with_two_parameters (fault 12 Rebound) }
     ensures refused { RefusedDeclaration with_built_in_type (fault 14 DuplicateType) }
+    ensures many { (g : Setting with_nine_parameters) → RefusedOf with_nine_parameters g (fault 0 TooManyParameters) }
 {}
