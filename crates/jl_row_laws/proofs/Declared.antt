@@ -94,7 +94,7 @@ kind_other ds d f k e r m n = by f e r
     by D.DuplicateField i q = sym (ap row i)
     by D.Memory i q = sym (ap row i)
 
-kind_in : Judged → StaticKind
+abbrev kind_in : Judged → StaticKind
 kind_in (J.Refused k) = k
 kind_in _ = kind.DuplicateType
 
@@ -246,76 +246,76 @@ module _ (t : Tests) (k : Known) where
     abbrev all : Bool
     all = nat_eq st.allowed (length st.decls)
 
-    abbrev xs : List Fault
-    xs = one (is_among h.name.bytes builtin_names) kind.NameClash at
+    abbrev of_name : List Fault
+    of_name = one (is_among h.name.bytes builtin_names) kind.NameClash at
 
-    abbrev ys : List Fault
-    ys = one (is_among h.name.bytes types) kind.DuplicateType at
+    abbrev of_second : List Fault
+    of_second = one (is_among h.name.bytes types) kind.DuplicateType at
 
-    abbrev zs : ℕ → List Fault
-    zs n = all_faults t k n (reading_uses h fields types)
+    abbrev of_reading : ℕ → List Fault
+    of_reading n = all_faults t k n (reading_uses h fields types)
 
-    abbrev js : List Fault
-    js = listed (refusal_at at d.0)
+    abbrev of_answer : List Fault
+    of_answer = listed (refusal_at at d.0)
 
-    abbrev fs : ℕ → List Fault
-    fs n = (xs ++ (ys ++ [])) ++ zs n
+    abbrev of_uses : ℕ → List Fault
+    of_uses n = (of_name ++ (of_second ++ [])) ++ of_reading n
 
     here : among ≡ is_among h.name.bytes types
     here = λ i. is_among ((read_same st.decls kind_ h fields).0 i) (e i)
 
-    found_told : (n : ℕ) → Tells (xs ++ (zs n ++ js)) st.fault (with_fault (text_fault h.name r st.fault) (refusal_at at d.0))
+    found_told : (n : ℕ) → Tells (of_name ++ (of_reading n ++ of_answer)) st.fault (with_fault (text_fault h.name r st.fault) (refusal_at at d.0))
     found_told n =
         let o1 = with_fault st.fault (named_fault at h.name.bytes) in
         let o2 = with_fault o1 r.reading.fault in
         let o3 = with_fault o2 (refusal_at at d.0) in
-        two xs (zs n ++ js) st.fault o1 o3 (with_told xs st.fault (named_fault at h.name.bytes) (named_told at (is_among h.name.bytes builtin_names)))
-        (two (zs n) js o1 o2 o3 (with_told (zs n) o1 r.reading.fault (reading_told st.decls kind_ h fields types e n)) (with_told js o2 (refusal_at at d.0) (listed_told (refusal_at at d.0))))
+        two of_name (of_reading n ++ of_answer) st.fault o1 o3 (with_told of_name st.fault (named_fault at h.name.bytes) (named_told at (is_among h.name.bytes builtin_names)))
+        (two (of_reading n) of_answer o1 o2 o3 (with_told (of_reading n) o1 r.reading.fault (reading_told st.decls kind_ h fields types e n)) (with_told of_answer o2 (refusal_at at d.0) (listed_told (refusal_at at d.0))))
 
-    only : (n : ℕ) (g : Fault) → In g (xs ++ (zs n ++ js)) → In g (fs n) ⊎ IsRefusedAs kind_ h fields st g
-    only n g i = by (in_either g xs (zs n ++ js) i)
+    only : (n : ℕ) (g : Fault) → In g (of_name ++ (of_reading n ++ of_answer)) → In g (of_uses n) ⊎ IsRefusedAs kind_ h fields st g
+    only n g i = by (in_either g of_name (of_reading n ++ of_answer) i)
       where
         judged : (at ≡ g.at) × (d.0 ≡ J.Refused g.kind) → IsRefusedAs kind_ h fields st g
         judged p = (p.0, subst (λ j. IsJudgement st r j) p.1 d.1)
 
-        last : In g (zs n) ⊎ In g js → In g (fs n) ⊎ IsRefusedAs kind_ h fields st g
-        last (inl j) = inl (in_right g (xs ++ (ys ++ [])) (zs n) j)
+        last : In g (of_reading n) ⊎ In g of_answer → In g (of_uses n) ⊎ IsRefusedAs kind_ h fields st g
+        last (inl j) = inl (in_right g (of_name ++ (of_second ++ [])) (of_reading n) j)
         last (inr j) = inr (judged (in_listed at d.0 g j))
 
-        by : In g xs ⊎ In g (zs n ++ js) → In g (fs n) ⊎ IsRefusedAs kind_ h fields st g
-        by (inl j) = inl (in_left g (xs ++ (ys ++ [])) (zs n) (in_left g xs (ys ++ []) j))
-        by (inr j) = last (in_either g (zs n) js j)
+        by : In g of_name ⊎ In g (of_reading n ++ of_answer) → In g (of_uses n) ⊎ IsRefusedAs kind_ h fields st g
+        by (inl j) = inl (in_left g (of_name ++ (of_second ++ [])) (of_reading n) (in_left g of_name (of_second ++ []) j))
+        by (inr j) = last (in_either g (of_reading n) of_answer j)
 
-    each : (n : ℕ) (g : Fault) → In g (fs n) → In g (xs ++ (zs n ++ js))
-    each n g i = by (in_either g (xs ++ (ys ++ [])) (zs n) i)
+    each : (n : ℕ) (g : Fault) → In g (of_uses n) → In g (of_name ++ (of_reading n ++ of_answer))
+    each n g i = by (in_either g (of_name ++ (of_second ++ [])) (of_reading n) i)
       where
-        again : In g ys → In g (xs ++ (zs n ++ js))
-        again j = in_right g xs (zs n ++ js) (in_right g (zs n) js (duplicate_in st.decls r.decl at d.0 g among r.reading.unknown r.whole all d.1 (subst (λ b. In g (one b kind.DuplicateType at)) (sym here) j)))
+        again : In g of_second → In g (of_name ++ (of_reading n ++ of_answer))
+        again j = in_right g of_name (of_reading n ++ of_answer) (in_right g (of_reading n) of_answer (duplicate_in st.decls r.decl at d.0 g among r.reading.unknown r.whole all d.1 (subst (λ b. In g (one b kind.DuplicateType at)) (sym here) j)))
 
-        second : In g ys ⊎ In g [] → In g (xs ++ (zs n ++ js))
+        second : In g of_second ⊎ In g [] → In g (of_name ++ (of_reading n ++ of_answer))
         second (inl j) = again j
         second (inr j) = absurd j
 
-        first : In g xs ⊎ In g (ys ++ []) → In g (xs ++ (zs n ++ js))
-        first (inl j) = in_left g xs (zs n ++ js) j
-        first (inr j) = second (in_either g ys [] j)
+        first : In g of_name ⊎ In g (of_second ++ []) → In g (of_name ++ (of_reading n ++ of_answer))
+        first (inl j) = in_left g of_name (of_reading n ++ of_answer) j
+        first (inr j) = second (in_either g of_second [] j)
 
-        by : In g (xs ++ (ys ++ [])) ⊎ In g (zs n) → In g (xs ++ (zs n ++ js))
-        by (inl j) = first (in_either g xs (ys ++ []) j)
-        by (inr j) = in_right g xs (zs n ++ js) (in_left g (zs n) js j)
+        by : In g (of_name ++ (of_second ++ [])) ⊎ In g (of_reading n) → In g (of_name ++ (of_reading n ++ of_answer))
+        by (inl j) = first (in_either g of_name (of_second ++ []) j)
+        by (inr j) = in_right g of_name (of_reading n ++ of_answer) (in_left g (of_reading n) of_answer j)
 
-    refused_found : (n : ℕ) (g : Fault) → IsRefusedAs kind_ h fields st g → In g (xs ++ (zs n ++ js))
-    refused_found n g p = in_right g xs (zs n ++ js) (in_right g (zs n) js (listed_in at g d.0 p.0 (one_answer st r s d.0 (J.Refused g.kind) d.1 p.1)))
+    refused_found : (n : ℕ) (g : Fault) → IsRefusedAs kind_ h fields st g → In g (of_name ++ (of_reading n ++ of_answer))
+    refused_found n g p = in_right g of_name (of_reading n ++ of_answer) (in_right g (of_reading n) of_answer (listed_in at g d.0 p.0 (one_answer st r s d.0 (J.Refused g.kind) d.1 p.1)))
 
-    with_row : (n : ℕ) (g : Fault) → has_row g.kind ≡ true → IsRefusedAs kind_ h fields st g → In g (fs n)
+    with_row : (n : ℕ) (g : Fault) → has_row g.kind ≡ true → IsRefusedAs kind_ h fields st g → In g (of_uses n)
     with_row n g w p =
         let own = row_in st.decls r.decl at g among r.reading.unknown r.whole all (absent (names_of st.decls) r.decl.name)
         (λ x y z. known st.decls h fields (s.valid (same_length st.allowed (length st.decls) z)) kind_ f x y) w p.0 p.1 in
-        in_left g (xs ++ (ys ++ [])) (zs n) (in_right g xs (ys ++ []) (in_left g ys [] (subst (λ b. In g (one b kind.DuplicateType at)) here own)))
+        in_left g (of_name ++ (of_second ++ [])) (of_reading n) (in_right g of_name (of_second ++ []) (in_left g of_second [] (subst (λ b. In g (one b kind.DuplicateType at)) here own)))
 
     declared_told : (n : ℕ) → TellsWith (all_faults t k n (declaration_uses h fields types)) (IsRefusedAs kind_ h fields st) st.fault new.fault
-    declared_told n = subst (λ (z : Declaring). TellsWith (fs n) (IsRefusedAs kind_ h fields st) st.fault z.fault) (sym d.2)
-        (record { found = xs ++ (zs n ++ js); tells = found_told n; only = λ g i. only n g i; all = λ g i. each n g i; refused = λ g p. refused_found n g p; row = λ g w p. with_row n g w p })
+    declared_told n = subst (λ (z : Declaring). TellsWith (of_uses n) (IsRefusedAs kind_ h fields st) st.fault z.fault) (sym d.2)
+        (record { found = of_name ++ (of_reading n ++ of_answer); tells = found_told n; only = λ g i. only n g i; all = λ g i. each n g i; refused = λ g p. refused_found n g p; row = λ g w p. with_row n g w p })
 
     declared_names : type_names new.decls ≡ types ++ h.name.bytes ∷ []
     declared_names =

@@ -38,11 +38,11 @@ item_same (N.Method f) st m n s p q = p ∙ sym q
 item_same (N.Bind v x) st m n s p q = p ∙ sym q
 item_same (N.Do x) st m n s p q = p ∙ sym q
 
-first_or : Item → List Item → Item
+abbrev first_or : Item → List Item → Item
 first_or y [] = y
 first_or y (x ∷ xs) = x
 
-rest_of : List Item → List Item
+abbrev rest_of : List Item → List Item
 rest_of [] = []
 rest_of (x ∷ xs) = xs
 

@@ -1,5 +1,5 @@
 -- The rows over what a script comes to.
-use Rattle.std.proofs.Common.{ℕ, true, false, true≢false, List, ◌++◌, take, ◌≡◌, ◌⊎◌, inl, inr, Option, Some, None, is_some, refl, sym, ap, subst, ◌∙◌}
+use Rattle.std.proofs.Common.{ℕ, ◌+◌, arith, true, false, true≢false, List, ◌++◌, take, ◌≡◌, ◌⊎◌, inl, inr, Option, Some, None, is_some, refl, sym, ap, subst, ◌∙◌}
 use Rattle.jl_model.specs.Ancestors.{builtin_types}
 use Rattle.jl_program.specs.declared.tree.Program.{Program}
 use Rattle.jl_grammar.specs.declared.tree.Script.{Script}
@@ -49,12 +49,14 @@ module _ (s : Script) (fs : FormedScript s) (g : Setting s) where
   all_told =
       let d = g.declaring in
       let us = all_faults g.tests told_of 0 in_declarations in
-      let vs = all_faults g.tests told_of (definitions in_declarations) in_items in
+      let vs = all_faults g.tests told_of (0 + definitions in_declarations) in_items in
+      let plain = declarations_plain s.items (type_names builtin_types) in
+      let none : 0 + definitions in_declarations ≡ 0 = omega (arith, plain) in
       let R = RefusedFrom s.items no_declaration in
       as_told faults (Both R NoFault) R None first_fault to (λ f q. inl q)
       (with_same (us ++ vs) faults (Both R NoFault) None first_fault (faults_append g.tests told_of 0 in_declarations in_items)
       (two_with us vs R NoFault None d.fault first_fault (all_declared g.tests told_of s.items d g.declares)
-      (alone vs d.fault first_fault (subst (λ n. Tells (all_faults g.tests told_of n in_items) d.fault first_fault) (sym (declarations_plain s.items (type_names builtin_types)))
+      (alone vs d.fault first_fault (subst (λ n. Tells (all_faults g.tests told_of n in_items) d.fault first_fault) (sym none)
       (script_told g.tests told_of (are_told g.tests told_of) s.items fs d.fault)))))
     where
       to : (f : Fault) → Both (RefusedFrom s.items no_declaration) NoFault f → RefusedFrom s.items no_declaration f
