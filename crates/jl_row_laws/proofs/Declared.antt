@@ -32,16 +32,16 @@ use Rattle.jl_declare.specs.declared.judged.Judged.{Judged}
 use Rattle.jl_declare.specs.declared.judged.Judged.TheVariants as J
 use Rattle.jl_declare.specs.declared.read.ReadDecl.{ReadDecl}
 use Rattle.jl_declare.specs.Declaration.{fields_of, heading, declaration, outline}
-use Rattle.jl_declare.specs.Judgement.{kind_of, IsJudged, kept, refused, told, IsAnswer, shown, refusal_at}
+use Rattle.jl_declare.specs.Judgement.{kind_of, IsJudged, kept, refused, IsAnswer, shown, refusal_at}
 use Rattle.jl_declare.specs.Declarations.{Declaring, no_declaration, with_fault, named_fault, text_fault, IsJudgement, IsDeclared, DeclaresOne, Declares}
-use Rattle.jl_fault_laws.specs.Uses.{Names, Visible, Use, declared_type, used, with_vars, brought, var_uses, option_uses, options_uses, type_names}
+use Rattle.jl_fault_laws.specs.Uses.{Names, Visible, Use, with_vars, brought, var_uses, option_uses, options_uses, type_names}
 use Rattle.jl_fault_laws.specs.Rows.{has_row, definitions}
 use Rattle.jl_fault_laws.proofs.Firsts.{In, in_left, in_right, in_either, Tells, nothing, two, one_fault}
 use Rattle.jl_fault_laws.proofs.Faults.{one, all_faults, faults_append, TellsOf, joined}
 use Rattle.jl_fault_laws.proofs.Plain.{both_plain, vars_plain, option_plain, options_plain}
 use Rattle.jl_fault_laws.proofs.Merged.{merge, merge_told}
 use Rattle.jl_fault_laws.proofs.Texts.{bound_told, option_told, options_told}
-use Rattle.jl_row_laws.specs.Script.{types_only, declaration_uses, declarations_uses, IsRefusedAs, IsRefusedItem, RefusedFrom, RefusedDeclaration}
+use Rattle.jl_row_laws.specs.Script.{types_only, declaration_uses, declarations_uses, IsRefusedAs, IsRefusedItem, RefusedFrom}
 use Rattle.jl_row_laws.proofs.RowTells.{TellsWith, NoFault, Both, alone, two_with, as_told, with_same}
 use Rattle.jl_row_laws.proofs.Same.{one_answer, split}
 use Rattle.jl_row_laws.proofs.Outlines.{shown_same, read_same}

@@ -1,7 +1,6 @@
 -- Right tests answer TooManyParameters of a signature with nine parameters without types.
-use Rattle.std.proofs.Common.{◌≡◌, ◌∙◌, refl, sym, ap, subst, ℕ, ◌<◌, arith, Bool, true, false, true≢false, ◌&&◌, nat_lt, IsTrue, List, [], ◌∷◌, ◌++◌, length, Option, Some, None, ℤ, pos}
+use Rattle.std.proofs.Common.{◌≡◌, ◌∙◌, refl, sym, ap, ℕ, ◌<◌, arith, Bool, true, true≢false, ◌&&◌, nat_lt, IsTrue, List, [], ◌∷◌, ◌++◌, length, Option, Some, None}
 use Rattle.std.specs.List.{flat_map, list_all}
-use Rattle.jl_model.specs.declared.ty.Ty.{Ty}
 use Rattle.jl_model.specs.declared.ty.Ty.TheOpen.{Any}
 use Rattle.jl_model.specs.declared.ty.Ty.TheVariants as W
 use Rattle.jl_model.specs.declared.ty.Ty.TheViews.{rolls-Any}
@@ -11,12 +10,11 @@ use Rattle.jl_model.specs.declared.ty.Written.{Written}
 use Rattle.jl_model.specs.Rows.{vars_in, vars_step}
 use Rattle.jl_model.specs.Valid.{names_in, names_step, is_known}
 use Rattle.jl_model.specs.SigRefusals.{is_component, component_step, are_placed, VariablePlace, UnusedVariable, TooManyParameters}
-use Rattle.jl_sig.specs.Prepared.{HasOwnVariables}
 use Rattle.jl_written.specs.declared.fault.StaticKind.{StaticKind}
 use Rattle.jl_written.specs.declared.fault.StaticKind.TheVariants as kind
 use Rattle.jl_resolve_forms.specs.TypesIn.{Tests}
 use Rattle.jl_judge.specs.Answers.{SigAnswer}
-use Rattle.jl_judge.specs.Right.{IsRight, NamesDeclared}
+use Rattle.jl_judge.specs.Right.{IsRight}
 
 abbrev pub nine : Written
 nine = record { vars = []; parts = W.Any ∷ W.Any ∷ W.Any ∷ W.Any ∷ W.Any ∷ W.Any ∷ W.Any ∷ W.Any ∷ W.Any ∷ [] }

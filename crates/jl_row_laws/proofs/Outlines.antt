@@ -24,12 +24,11 @@ use Rattle.jl_resolve_forms.specs.Defined.{methods_of, types_of}
 use Rattle.jl_resolve_forms.specs.Functions.{if_struct}
 use Rattle.jl_declare.specs.declared.judged.Judged.{Judged}
 use Rattle.jl_declare.specs.declared.judged.Judged.TheVariants as J
-use Rattle.jl_declare.specs.declared.read.ReadDecl.{ReadDecl}
 use Rattle.jl_declare.specs.Declaration.{fields_of, heading, declaration, outline}
 use Rattle.jl_declare.specs.Judgement.{IsJudged, kept, refused, IsAnswer, shown}
-use Rattle.jl_declare.specs.Declarations.{Declaring, no_declaration, IsJudgement, IsDeclared, DeclaresOne, Declares}
+use Rattle.jl_declare.specs.Declarations.{Declaring, no_declaration, IsDeclared, Declares}
 use Rattle.jl_declare.specs.Script.{known_of}
-use Rattle.jl_fault_laws.specs.Uses.{Names, Visible, Use, How, called, made, declares, names_told, makes, type_names, uses_of}
+use Rattle.jl_fault_laws.specs.Uses.{Names, Visible, Use, How, called, made, declares, names_told, makes, uses_of}
 use Rattle.jl_fault_laws.specs.Rows.{is_struct, has_function, unknown_function, too_many_arguments, definitions, holds, HoldsIn}
 use Rattle.jl_row_laws.specs.Script.{declared_in}
 

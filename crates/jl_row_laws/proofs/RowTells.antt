@@ -1,8 +1,8 @@
 -- The faults that are found, by those of uses and others.
-use Rattle.std.proofs.Common.{true, List, [], ◌++◌, ◌≡◌, ◌⊎◌, inl, inr, Option, subst}
+use Rattle.std.proofs.Common.{true, List, ◌++◌, ◌≡◌, ◌⊎◌, inl, inr, Option, subst}
 use Rattle.jl_written.specs.declared.fault.Fault.{Fault}
 use Rattle.jl_fault_laws.specs.Rows.{has_row}
-use Rattle.jl_fault_laws.proofs.Firsts.{In, in_left, in_right, in_either, Tells, nothing, two}
+use Rattle.jl_fault_laws.proofs.Firsts.{In, in_left, in_right, in_either, Tells, two}
 
 -- From one first fault to the next some faults are found: these, and those that R tells; where R tells one with a row, it is one of these.
 pub record TellsWith (fs : List Fault) (R : Fault → Type 0) (o r : Option Fault) : Type 0 where

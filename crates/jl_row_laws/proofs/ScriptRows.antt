@@ -1,5 +1,5 @@
 -- The rows over what a script comes to.
-use Rattle.std.proofs.Common.{ℕ, ◌+◌, arith, true, false, true≢false, List, ◌++◌, take, ◌≡◌, ◌⊎◌, inl, inr, Option, Some, None, is_some, refl, sym, ap, subst, ◌∙◌}
+use Rattle.std.proofs.Common.{ℕ, ◌+◌, arith, true, false, true≢false, List, ◌++◌, take, ◌≡◌, ◌⊎◌, inl, inr, Option, Some, None, is_some, refl, sym, ap, subst}
 use Rattle.jl_model.specs.Ancestors.{builtin_types}
 use Rattle.jl_program.specs.declared.tree.Program.{Program}
 use Rattle.jl_grammar.specs.declared.tree.Script.{Script}
@@ -8,8 +8,8 @@ use Rattle.jl_written.specs.declared.fault.Fault.{Fault}
 use Rattle.jl_written.specs.declared.fault.StaticKind.{StaticKind}
 use Rattle.jl_written.specs.Answered.{comes_before}
 use Rattle.jl_resolve_forms.specs.declared.known.Known.{Known}
-use Rattle.jl_resolve_forms.specs.Top.{Resolved, resolved}
-use Rattle.jl_declare.specs.Declarations.{Declaring, no_declaration}
+use Rattle.jl_resolve_forms.specs.Top.{resolved}
+use Rattle.jl_declare.specs.Declarations.{no_declaration}
 use Rattle.jl_declare.specs.Script.{known_of}
 use Rattle.jl_resolve.specs.Program.{ComesTo, IsProgramOf, IsFaultOf}
 use Rattle.jl_resolve.proofs.OneMeaning.{one_fault}
