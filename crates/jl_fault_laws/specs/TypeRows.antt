@@ -36,12 +36,13 @@ declared_before k types = take (length types) k.decls
 abbrev pub struct_at : Known → List ℕ → Names → Option ℕ
 struct_at k n vs = cond (is_among n vs) None (if_struct k.decls (place_of (type_names k.decls) n))
 
+-- the struct that a call names
 abbrev pub struct_called : Known → Callee → Names → Option ℕ
 struct_called k (C.Plain n) vs = struct_at k n.bytes vs
 struct_called k (C.Base at n) vs = None
 struct_called k (C.Operator at o) vs = None
 
--- that before braces
+-- the struct that a call with braces names
 abbrev pub struct_built : Known → TypeText-F ArgText TypeText VarText → Names → Option ℕ
 struct_built k (T.Name at n) vs = struct_at k n vs
 struct_built k (T.Applied at n xs) vs = struct_at k n vs
@@ -56,10 +57,12 @@ is_idle (Some x) = not x.usable
 abbrev pub hides : Use → Bool
 hides u = unknown_type u.how u.visible || rebound u.how u.visible
 
+-- one of these does
 abbrev pub any_hides : List Use → Bool
 any_hides [] = false
 any_hides (u ∷ us) = hides u || any_hides us
 
+-- what is answered, where none of these uses hides it
 abbrev pub unless_hidden : List Use → Option StaticKind → Option StaticKind
 unless_hidden us o = cond (any_hides us) None o
 
@@ -76,6 +79,7 @@ module _ (t : Tests) (k : Known) where
   unfoldable pub statics_of : Head → Names → List TypeVar
   statics_of h types = let g = signature_at h types in static_parameters g.sig g.vars
 
+  -- outside of a method's body there are none
   abbrev pub statics_in : Option Head → Names → List TypeVar
   statics_in None types = []
   statics_in (Some h) types = statics_of h types

@@ -77,6 +77,7 @@ RefusedOf s g f = RefusedIn g.tests (known_of s.items g.declaring.decls) (script
 abbrev pub IsRefusedAs : DeclKind → Header → List FieldText → Declaring → Fault → Type 0
 IsRefusedAs k h fields st f = (h.name.at ≡ f.at) × IsJudgement st (declaration st.decls k h fields) (J.Refused f.kind)
 
+-- an item that is a declaration is refused
 abbrev pub IsRefusedItem : Item → Declaring → Fault → Type 0
 IsRefusedItem (N.Abstract a) st f = IsRefusedAs Abstract a.header [] st f
 IsRefusedItem (N.Struct x) st f = IsRefusedAs Struct x.header x.fields st f
