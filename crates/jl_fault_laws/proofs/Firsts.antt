@@ -1,12 +1,15 @@
--- The first of several faults, and those of them that have a row here.
-use Rattle.std.proofs.Common.{ℕ, Bool, true, false, true≢false, cond, List, [], ◌∷◌, ◌++◌, ◌≡◌, ◌⊎◌, inl, inr, Option, Some, None, refl, sym, ap, subst, ◌∙◌}
+-- The first of several faults.
+use Rattle.std.proofs.Common.{ℕ, Bool, true, false, cond, List, [], ◌∷◌, ◌++◌, ◌≡◌, ◌⊎◌, inl, inr, Option, Some, None, refl, sym, ap, subst, ◌∙◌}
 use Rattle.jl_written.specs.declared.fault.Fault.{Fault}
 use Rattle.jl_written.specs.declared.fault.StaticKind.{StaticKind}
 use Rattle.jl_written.specs.Answered.{comes_before, first_of}
 use Rattle.jl_resolve_forms.specs.declared.state.State.{State}
-use Rattle.jl_resolve_forms.specs.Scopes.{noted, merged}
-use Rattle.jl_fault_laws.specs.Uses.{In}
-use Rattle.jl_fault_laws.specs.Rows.{has_row, IsOther, IsOtherKind}
+use Rattle.jl_resolve_forms.specs.Scopes.{noted}
+
+-- it is one of a list
+abbrev pub In : {A : Type 0} → A → List A → Type 0
+In x [] = ⊥
+In x (y ∷ ys) = (x ≡ y) ⊎ In x ys
 
 -- the first of a fault and others
 abbrev pub firsts : Option Fault → List Fault → Option Fault
@@ -49,21 +52,21 @@ in_both x xs ys us vs f g i = by (in_either x xs ys i)
     by (inl j) = in_left x us vs (f j)
     by (inr j) = in_right x us vs (g j)
 
--- From one first fault to the next some faults are found: all of these, and no other one that has a row here.
+-- From one first fault to the next some faults are found: all of these, and no other.
 pub record Tells (fs : List Fault) (o r : Option Fault) : Type 0 where
   pub found : List Fault
   pub is : r ≡ firsts o found
-  pub only : (g : Fault) → has_row g.kind ≡ true → In g found → In g fs
+  pub only : (g : Fault) → In g found → In g fs
   pub all : (g : Fault) → In g fs → In g found
 
 pub nothing : (o : Option Fault) → Tells [] o o
-nothing o = record { found = []; is = refl; only = λ g e i. i; all = λ g i. i }
+nothing o = record { found = []; is = refl; only = λ g i. i; all = λ g i. i }
 
 pub two : (fs gs : List Fault) (o r q : Option Fault) → Tells fs o r → Tells gs r q → Tells (fs ++ gs) o q
 two fs gs o r q a b = record {
   found = a.found ++ b.found;
   is = b.is ∙ ap (λ x. firsts x b.found) a.is ∙ sym (firsts_append o a.found b.found);
-  only = λ g e i. in_both g a.found b.found fs gs (λ j. a.only g e j) (λ j. b.only g e j) i;
+  only = λ g i. in_both g a.found b.found fs gs (λ j. a.only g j) (λ j. b.only g j) i;
   all = λ g i. in_both g fs gs a.found b.found (λ j. a.all g j) (λ j. b.all g j) i;
 }
 
@@ -72,27 +75,19 @@ same fs gs o r e h = subst (λ x. Tells x o r) e h
 
 -- in any order
 pub swapped : (fs gs : List Fault) (o r : Option Fault) → Tells (fs ++ gs) o r → Tells (gs ++ fs) o r
-swapped fs gs o r h = record { found = h.found; is = h.is; only = λ g e i. in_swapped g fs gs (h.only g e i); all = λ g i. h.all g (in_swapped g gs fs i) }
+swapped fs gs o r h = record { found = h.found; is = h.is; only = λ g i. in_swapped g fs gs (h.only g i); all = λ g i. h.all g (in_swapped g gs fs i) }
 
 pub one_fault : (f : Fault) (o : Option Fault) → Tells (f ∷ []) o (first_of o f)
-one_fault f o = record { found = f ∷ []; is = refl; only = λ g e i. i; all = λ g i. i }
+one_fault f o = record { found = f ∷ []; is = refl; only = λ g i. i; all = λ g i. i }
 
-not_whole : (f g : Fault) → has_row f.kind ≡ false → has_row g.kind ≡ true → In g (f ∷ []) → In g []
-not_whole f g e r (inl p) = absurd (true≢false (sym r ∙ ap (λ (x : Fault). has_row x.kind) p ∙ e))
-not_whole f g e r (inr i) = i
+-- a fault, where there is one
+abbrev pub given : Option StaticKind → ℕ → List Fault
+given None at = []
+given (Some k) at = record { at = at; kind = k } ∷ []
 
-pub no_row : (f : Fault) (o : Option Fault) → has_row f.kind ≡ false → Tells [] o (first_of o f)
-no_row f o e = record { found = f ∷ []; is = refl; only = λ g r i. not_whole f g e r i; all = λ g i. absurd i }
-
--- ---- faults without a row
-
-pub noted_other : (at : ℕ) (o : Option StaticKind) (s : State) → IsOtherKind o → Tells [] s.fault (noted at o s).fault
-noted_other at None s h = nothing s.fault
-noted_other at (Some k) s h = no_row (record { at = at; kind = k }) s.fault h
-
-pub merged_other : (o : Option Fault) (s : State) → IsOther o → Tells [] s.fault (merged o s).fault
-merged_other None s h = nothing s.fault
-merged_other (Some f) s h = no_row f s.fault h
+pub noted_told : (at : ℕ) (o : Option StaticKind) (s : State) → Tells (given o at) s.fault (noted at o s).fault
+noted_told at None s = nothing s.fault
+noted_told at (Some k) s = one_fault (record { at = at; kind = k }) s.fault
 
 -- ---- what the first of all tells
 
@@ -121,10 +116,10 @@ firsts_among o (f ∷ fs) g e = by (firsts_among (first_of o f) fs g e)
     by (inl p) = head (first_either o f g p)
     by (inr i) = inr (inr i)
 
--- a fault with a row that is reported stood before, or is one of them
-pub only_rows : (fs : List Fault) (o r : Option Fault) → Tells fs o r → (g : Fault) → has_row g.kind ≡ true → r ≡ Some g → (o ≡ Some g) ⊎ In g fs
-only_rows fs o r h g k e = by (firsts_among o h.found g (sym h.is ∙ e))
+-- a fault that is reported was there before, or is one of them
+pub only_found : (fs : List Fault) (o r : Option Fault) → Tells fs o r → (g : Fault) → r ≡ Some g → (o ≡ Some g) ⊎ In g fs
+only_found fs o r h g e = by (firsts_among o h.found g (sym h.is ∙ e))
   where
     by : (o ≡ Some g) ⊎ In g h.found → (o ≡ Some g) ⊎ In g fs
     by (inl p) = inl p
-    by (inr i) = inr (h.only g k i)
+    by (inr i) = inr (h.only g i)

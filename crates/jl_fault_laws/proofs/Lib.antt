@@ -1,10 +1,14 @@
 pub mod Firsts
 pub mod Faults
+pub mod Adds
+pub mod Plain
 pub mod Order
 pub mod Merged
 pub mod Names
+pub mod Hiding
 pub mod Told
 pub mod Trees
+pub mod Others
 pub mod Texts
 pub mod RowLaws
 pub mod ExampleRows

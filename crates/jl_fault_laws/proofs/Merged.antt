@@ -40,11 +40,11 @@ merges o p [] = refl
 merges o p (f ∷ fs) = ap (λ x. firsts x fs) (step o p f) ∙ merges o (first_of p f) fs
 
 pub merge_told : (fs : List Fault) (o p : Option Fault) → Tells fs None p → Tells fs o (merge o p)
-merge_told fs o p h = record { found = h.found; is = ap (λ x. merge o x) h.is ∙ sym (merges o None h.found); only = λ g e i. h.only g e i; all = λ g i. h.all g i }
+merge_told fs o p h = record { found = h.found; is = ap (λ x. merge o x) h.is ∙ sym (merges o None h.found); only = λ g i. h.only g i; all = λ g i. h.all g i }
 
 merged_is : (o : Option Fault) (s : State) → merge s.fault o ≡ (merged o s).fault
 merged_is None s = refl
 merged_is (Some f) s = refl
 
 pub merged_told : (fs : List Fault) (o : Option Fault) (s : State) → Tells fs None o → Tells fs s.fault (merged o s).fault
-merged_told fs o s h = let q = merge_told fs s.fault o h in record { found = q.found; is = sym (merged_is o s) ∙ q.is; only = λ g e i. q.only g e i; all = λ g i. q.all g i }
+merged_told fs o s h = let q = merge_told fs s.fault o h in record { found = q.found; is = sym (merged_is o s) ∙ q.is; only = λ g i. q.only g i; all = λ g i. q.all g i }

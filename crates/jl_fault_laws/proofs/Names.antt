@@ -1,5 +1,5 @@
 -- What is visible, and what a name is there, by slots and by names.
-use Rattle.std.proofs.Common.{ℕ, ◌+◌, Bool, true, false, cond, not, ◌||◌, ◌&&◌, List, [], ◌∷◌, ◌++◌, map, ◌≡◌, Option, Some, None, is_some, refl, sym, ap, ◌∙◌}
+use Rattle.std.proofs.Common.{ℕ, zero, suc, ◌+◌, Bool, true, false, cond, not, ◌||◌, ◌&&◌, List, [], ◌∷◌, ◌++◌, map, take, length, ◌≡◌, Option, Some, None, is_some, refl, sym, ap, ◌∙◌}
 use Rattle.jl_model.specs.declared.ty.Decl.{Decl}
 use Rattle.jl_model.specs.declared.ty.Written.{Written}
 use Rattle.jl_program.specs.Names.{same_text, is_among, builtin_names}
@@ -27,60 +27,117 @@ use Rattle.jl_resolve_forms.specs.declared.state.Scope.{Scope}
 use Rattle.jl_resolve_forms.specs.declared.state.State.{State}
 use Rattle.jl_resolve_forms.specs.Scopes.{Seen, slot_from, slot_of, note, clashing, with_slot, slotted, bind}
 use Rattle.jl_resolve_forms.specs.Functions.{function_of_operator, function_of, unless_slot, if_struct, struct_named, struct_of}
-use Rattle.jl_resolve_forms.specs.TypesIn.{declared_at}
+use Rattle.jl_resolve_forms.specs.TypesIn.{Tests, declared_at}
 use Rattle.jl_resolve_forms.specs.Expressions.{parameters, made_struct, static_parameter, static_parameters}
-use Rattle.jl_fault_laws.specs.Uses.{Names, Visible, bound, used, with_name, with_names, params_of, params_uses, type_names, names_told, makes_layer}
+use Rattle.jl_fault_laws.specs.Uses.{Names, Visible, bound, used, with_name, with_names, with_var, params_of, params_uses, type_names, names_told, makes_layer}
 use Rattle.jl_fault_laws.specs.Rows.{is_struct, has_function}
+use Rattle.jl_fault_laws.specs.TypeRows.{declared_before, struct_at, struct_called, struct_built, is_idle, statics_at}
 use Rattle.jl_fault_laws.proofs.Firsts.{Tells, nothing, two, same, one_fault}
-use Rattle.jl_fault_laws.proofs.Faults.{one, all_faults, joined}
+use Rattle.jl_fault_laws.proofs.Faults.{one, TellsOf, joined}
+use Rattle.jl_fault_laws.proofs.Adds.{Adds, adds_alike}
 
 -- the slots with a name are those of the visible names
 abbrev pub Agrees : Scope → Names → Type 0
 Agrees c vs = (name : List ℕ) → is_some (slot_of c.slots name) ≡ is_among name vs
 
--- the type variables with a name are those of the visible names
-abbrev pub Knows : List TypeVar → Names → Type 0
-Knows vars ns = (name : List ℕ) → is_some (var_of vars name) ≡ is_among name ns
+-- the type variables with a name are those of the visible names, and those that a body may not use are barred there
+pub record KnowsAll (vars : List TypeVar) (ns inner : Names) (statics : List TypeVar) : Type 0 where
+  pub names : (name : List ℕ) → is_some (var_of vars name) ≡ is_among name ns
+  pub idle : (name : List ℕ) → is_idle (var_of vars name) ≡ (not (is_among name inner) && is_idle (var_of statics name))
+
+abbrev pub Knows : Tests → Known → List TypeVar → Visible → Type 0
+Knows t k vars v = KnowsAll vars v.vars v.inner (statics_at t k v)
 
 -- a scope is what is visible
-pub record Sees (k : Known) (c : Scope) (v : Visible) : Type 0 where
+pub record Sees (t : Tests) (k : Known) (c : Scope) (v : Visible) : Type 0 where
   pub slots : Agrees c v.names
-  pub vars : Knows c.statics v.vars
+  pub vars : Knows t k c.statics v
+  pub statics : c.statics ≡ statics_at t k v
   pub types : type_names (declared_at k c.types) ≡ v.types
 
 -- ---- the visible type variables
 
-first_is : (b : Bool) (x : TypeVar) (o : Option TypeVar) → is_some (later (cond b (Some x) None) o) ≡ (b || is_some o)
-first_is true x None = refl
-first_is true x (Some y) = refl
-first_is false x None = refl
-first_is false x (Some y) = refl
+later_none : (o : Option TypeVar) → later None o ≡ o
+later_none None = refl
+later_none (Some x) = refl
 
-reordered : (a s r : Bool) → (a || (s || r)) ≡ (s || (a || r))
-reordered true true r = refl
-reordered true false r = refl
-reordered false s r = refl
+later_last : (o p q : Option TypeVar) → later o (later p q) ≡ later (later o p) q
+later_last o p None = refl
+later_last o p (Some x) = refl
 
-appended : (vars : List TypeVar) (x : TypeVar) (name : List ℕ) → is_some (var_of (vars ++ x ∷ []) name) ≡ (same_text name x.name || is_some (var_of vars name))
-appended [] x name = first_is (same_text name x.name) x None
+-- a variable behind others is the one with its name
+appended : (vars : List TypeVar) (x : TypeVar) (name : List ℕ) → var_of (vars ++ x ∷ []) name ≡ later (var_of vars name) (cond (same_text name x.name) (Some x) None)
+appended [] x name = sym (later_none (cond (same_text name x.name) (Some x) None))
 appended (y ∷ ys) x name =
-    let a = same_text name y.name in
-    let s = same_text name x.name in
-    first_is a y (var_of (ys ++ x ∷ []) name) ∙ ap (λ b. a || b) (appended ys x name) ∙ reordered a s (is_some (var_of ys name)) ∙ ap (λ b. s || b) (sym (first_is a y (var_of ys name)))
+    let a = cond (same_text name y.name) (Some y) None in
+    let b = cond (same_text name x.name) (Some x) None in
+    ap (λ o. later a o) (appended ys x name) ∙ later_last a (var_of ys name) b
 
-pub one_more : (vars : List TypeVar) (ns : Names) (x : TypeVar) → Knows vars ns → Knows (vars ++ x ∷ []) (x.name ∷ ns)
-one_more vars ns x h = λ name. appended vars x name ∙ ap (λ b. same_text name x.name || b) (h name)
+last_some : (o : Option TypeVar) (b : Bool) (x : TypeVar) → is_some (later o (cond b (Some x) None)) ≡ (b || is_some o)
+last_some o true x = refl
+last_some o false x = refl
 
-renumbered : (f : TypeVar → TypeVar) → ((v : TypeVar) → (f v).name ≡ v.name) → (vars : List TypeVar) (name : List ℕ) → is_some (var_of (map f vars) name) ≡ is_some (var_of vars name)
+last_idle : (o : Option TypeVar) (b : Bool) (x : TypeVar) → x.usable ≡ true → is_idle (later o (cond b (Some x) None)) ≡ (not b && is_idle o)
+last_idle o true x e = ap not e
+last_idle o false x e = refl
+
+neither : (a b c : Bool) → (not a && (not b && c)) ≡ (not (a || b) && c)
+neither true b c = refl
+neither false b c = refl
+
+pub one_more : (t : Tests) (k : Known) (vars : List TypeVar) (v : Visible) (x : TypeVar) → x.usable ≡ true → Knows t k vars v → Knows t k (vars ++ x ∷ []) (with_var x.name v)
+one_more t k vars v x e h = record {
+  names = λ name. ap is_some (appended vars x name) ∙ last_some (var_of vars name) (same_text name x.name) x ∙ ap (λ b. same_text name x.name || b) (h.names name);
+  idle = λ name. ap is_idle (appended vars x name) ∙ last_idle (var_of vars name) (same_text name x.name) x e ∙ ap (λ b. not (same_text name x.name) && b) (h.idle name)
+      ∙ neither (same_text name x.name) (is_among name v.inner) (is_idle (var_of (statics_at t k v) name));
+}
+
+abbrev mapped : (TypeVar → TypeVar) → Option TypeVar → Option TypeVar
+mapped f None = None
+mapped f (Some x) = Some (f x)
+
+mapped_first : (f : TypeVar → TypeVar) (b : Bool) (x : TypeVar) (o : Option TypeVar) → later (cond b (Some (f x)) None) (mapped f o) ≡ mapped f (later (cond b (Some x) None) o)
+mapped_first f true x None = refl
+mapped_first f false x None = refl
+mapped_first f b x (Some y) = refl
+
+renumbered : (f : TypeVar → TypeVar) → ((v : TypeVar) → (f v).name ≡ v.name) → (vars : List TypeVar) (name : List ℕ) → var_of (map f vars) name ≡ mapped f (var_of vars name)
 renumbered f e [] name = refl
-renumbered f e (v ∷ vs) name =
-    first_is (same_text name (f v).name) (f v) (var_of (map f vs) name) ∙ (λ i. same_text name (e v i) || renumbered f e vs name i) ∙ sym (first_is (same_text name v.name) v (var_of vs name))
+renumbered f e (v ∷ vs) name = (λ i. later (cond (same_text name (e v i)) (Some (f v)) None) (renumbered f e vs name i)) ∙ mapped_first f (same_text name v.name) v (var_of vs name)
 
-pub shifted_knows : (n : ℕ) (vars : List TypeVar) (ns : Names) → Knows vars ns → Knows (shifted n vars) ns
-shifted_knows n vars ns h = λ name. renumbered (λ (v : TypeVar). record { name = v.name; number = n + v.number; usable = v.usable }) (λ v. refl) vars name ∙ h name
+mapped_some : (f : TypeVar → TypeVar) (o : Option TypeVar) → is_some (mapped f o) ≡ is_some o
+mapped_some f None = refl
+mapped_some f (Some x) = refl
 
-pub statics_know : (w : Written) (vars : List TypeVar) (ns : Names) → Knows vars ns → Knows (static_parameters w vars) ns
-statics_know w vars ns h = λ name. renumbered (static_parameter w) (λ v. refl) vars name ∙ h name
+mapped_idle : (f : TypeVar → TypeVar) → ((v : TypeVar) → (f v).usable ≡ v.usable) → (o : Option TypeVar) → is_idle (mapped f o) ≡ is_idle o
+mapped_idle f e None = refl
+mapped_idle f e (Some x) = ap not (e x)
+
+pub shifted_knows : (t : Tests) (k : Known) (n : ℕ) (vars : List TypeVar) (v : Visible) → Knows t k vars v → Knows t k (shifted n vars) v
+shifted_knows t k n vars v h =
+    let f : TypeVar → TypeVar = λ (x : TypeVar). record { name = x.name; number = n + x.number; usable = x.usable } in
+    record {
+      names = λ name. ap is_some (renumbered f (λ x. refl) vars name) ∙ mapped_some f (var_of vars name) ∙ h.names name;
+      idle = λ name. ap is_idle (renumbered f (λ x. refl) vars name) ∙ mapped_idle f (λ x. refl) (var_of vars name) ∙ h.idle name;
+    }
+
+-- behind a head the variables of its `where` are those of the method
+pub statics_know : (w : Written) (vars : List TypeVar) (ns : Names) (statics : List TypeVar) → static_parameters w vars ≡ statics → ((name : List ℕ) → is_some (var_of vars name) ≡ is_among name ns) → KnowsAll statics ns [] statics
+statics_know w vars ns statics e h = record {
+  names = λ name. ap (λ xs. is_some (var_of xs name)) (sym e) ∙ ap is_some (renumbered (static_parameter w) (λ x. refl) vars name) ∙ mapped_some (static_parameter w) (var_of vars name) ∙ h name;
+  idle = λ name. refl;
+}
+
+-- ---- the types that are declared before
+
+take_length : (n : ℕ) (ds : List Decl) → take n ds ≡ take (length (type_names (take n ds))) ds
+take_length zero [] = refl
+take_length zero (d ∷ ds) = refl
+take_length (suc n) [] = refl
+take_length (suc n) (d ∷ ds) = ap (λ xs. d ∷ xs) (take_length n ds)
+
+pub declared_is : (k : Known) (types : ℕ) (ts : Names) → type_names (declared_at k types) ≡ ts → declared_at k types ≡ declared_before k ts
+declared_is k types ts e = take_length types k.decls ∙ ap (λ ns. take (length ns) k.decls) e
 
 -- ---- one more slot
 
@@ -122,13 +179,13 @@ slotted_agrees : (n : Name) (c : Scope) (s : State) (vs : Names) → Agrees c vs
 slotted_agrees n c s vs h None e = λ name. behind_some 0 c.slots n.bytes name ∙ ap (λ b. same_text name n.bytes || b) (h name)
 slotted_agrees n c s vs h (Some i) e = λ name. behind_none 0 c.slots name ∙ h name ∙ already n.bytes vs (sym (h n.bytes) ∙ ap is_some e) name
 
-slotted_sees : (k : Known) (n : Name) (c : Scope) (s : State) (v : Visible) → Sees k c v → (o : Option ℕ) → slot_of c.slots n.bytes ≡ o → Sees k (slotted n c s o).scope (with_name n.bytes v)
-slotted_sees k n c s v h None e = record { slots = slotted_agrees n c s v.names h.slots None e; vars = h.vars; types = h.types }
-slotted_sees k n c s v h (Some i) e = record { slots = slotted_agrees n c s v.names h.slots (Some i) e; vars = h.vars; types = h.types }
+slotted_sees : (t : Tests) (k : Known) (n : Name) (c : Scope) (s : State) (v : Visible) → Sees t k c v → (o : Option ℕ) → slot_of c.slots n.bytes ≡ o → Sees t k (slotted n c s o).scope (with_name n.bytes v)
+slotted_sees t k n c s v h None e = record { slots = slotted_agrees n c s v.names h.slots None e; vars = h.vars; statics = h.statics; types = h.types }
+slotted_sees t k n c s v h (Some i) e = record { slots = slotted_agrees n c s v.names h.slots (Some i) e; vars = h.vars; statics = h.statics; types = h.types }
 
-pub bind_sees : (k : Known) (n : Name) (c : Scope) (s : State) (v : Visible) → Sees k c v → Sees k (bind n c s).scope (with_name n.bytes v)
+pub bind_sees : (t : Tests) (k : Known) (n : Name) (c : Scope) (s : State) (v : Visible) → Sees t k c v → Sees t k (bind n c s).scope (with_name n.bytes v)
 unfolding bind
-bind_sees k n c s v h = slotted_sees k n c (clashing n.at n.bytes s) v h (slot_of c.slots n.bytes) refl
+bind_sees t k n c s v h = slotted_sees t k n c (clashing n.at n.bytes s) v h (slot_of c.slots n.bytes) refl
 
 slotted_types : (n : Name) (c : Scope) (s : State) (o : Option ℕ) → (slotted n c s o).scope.types ≡ c.types
 slotted_types n c s None = refl
@@ -157,9 +214,9 @@ two_of at true false = refl
 two_of at false true = refl
 two_of at false false = refl
 
-pub bind_told : (k : Known) (n : Name) (c : Scope) (s : State) (v : Visible) → Agrees c v.names → Tells (all_faults k (used n.at (bound n.bytes) v ∷ [])) s.fault (bind n c s).after.fault
+bind_told : (t : Tests) (k : Known) (n : Name) (c : Scope) (s : State) (v : Visible) → Agrees c v.names → TellsOf t k (used n.at (bound n.bytes) v ∷ []) s.fault (bind n c s).after.fault
 unfolding bind
-bind_told k n c s v h =
+bind_told t k n c s v h m =
     let z = clashing n.at n.bytes s in
     let o = slot_of c.slots n.bytes in
     let a = is_among n.bytes builtin_names in
@@ -167,25 +224,46 @@ bind_told k n c s v h =
     same _ _ s.fault q.after.fault ((λ i. one a kind.NameClash n.at ++ one (h n.bytes i) kind.Rebound n.at) ∙ two_of n.at a (is_among n.bytes v.names))
     (two (one a kind.NameClash n.at) (one (is_some o) kind.Rebound n.at) s.fault z.fault q.after.fault (clashing_told n.at n.bytes s) (slotted_told n c z o))
 
+clashing_sites : (b : Bool) (at : ℕ) (s : State) → (cond b (note at kind.NameClash s) s).sites ≡ s.sites
+clashing_sites true at s = refl
+clashing_sites false at s = refl
+
+slotted_sites : (n : Name) (c : Scope) (s : State) (o : Option ℕ) → (slotted n c s o).after.sites ≡ s.sites
+slotted_sites n c s None = refl
+slotted_sites n c s (Some i) = refl
+
+bind_sites : (n : Name) (c : Scope) (s : State) → (bind n c s).after.sites ≡ s.sites
+unfolding bind
+bind_sites n c s = slotted_sites n c (clashing n.at n.bytes s) (slot_of c.slots n.bytes) ∙ clashing_sites (is_among n.bytes builtin_names) n.at s
+
+pub bind_adds : (t : Tests) (k : Known) (n : Name) (c : Scope) (s : State) (v : Visible) → Agrees c v.names → Adds t k (used n.at (bound n.bytes) v ∷ []) s (bind n c s).after
+bind_adds t k n c s v h = adds_alike t k (used n.at (bound n.bytes) v ∷ []) s (bind n c s).after refl (bind_sites n c s) (bind_told t k n c s v h)
+
 -- parameters
-pub params_see : (k : Known) (ps : List Param) (c : Scope) (s : State) (v : Visible) → Sees k c v → Sees k (parameters ps c s).scope (with_names (params_of ps) v)
-params_see k [] c s v h = h
-params_see k (A.Name n ∷ ps) c s v h = let b = bind n c s in params_see k ps b.scope b.after (with_name n.bytes v) (bind_sees k n c s v h)
-params_see k (A.Typed n t ∷ ps) c s v h = let b = bind n c s in params_see k ps b.scope b.after (with_name n.bytes v) (bind_sees k n c s v h)
-params_see k (A.Unnamed at t ∷ ps) c s v h = params_see k ps (with_slot None c) s v (record { slots = λ name. behind_none 0 c.slots name ∙ h.slots name; vars = h.vars; types = h.types })
+pub params_see : (t : Tests) (k : Known) (ps : List Param) (c : Scope) (s : State) (v : Visible) → Sees t k c v → Sees t k (parameters ps c s).scope (with_names (params_of ps) v)
+params_see t k [] c s v h = h
+params_see t k (A.Name n ∷ ps) c s v h = let b = bind n c s in params_see t k ps b.scope b.after (with_name n.bytes v) (bind_sees t k n c s v h)
+params_see t k (A.Typed n ty ∷ ps) c s v h = let b = bind n c s in params_see t k ps b.scope b.after (with_name n.bytes v) (bind_sees t k n c s v h)
+params_see t k (A.Unnamed at ty ∷ ps) c s v h = params_see t k ps (with_slot None c) s v (record { slots = λ name. behind_none 0 c.slots name ∙ h.slots name; vars = h.vars; statics = h.statics; types = h.types })
 
-named_param : (k : Known) (n : Name) (ps : List Param) (c : Scope) (s : State) (v : Visible) → Sees k c v
-    → ((b : Seen) → Sees k b.scope (with_name n.bytes v) → Tells (all_faults k (params_uses ps (with_name n.bytes v))) b.after.fault (parameters ps b.scope b.after).after.fault)
-    → Tells (all_faults k (used n.at (bound n.bytes) v ∷ params_uses ps (with_name n.bytes v))) s.fault (parameters ps (bind n c s).scope (bind n c s).after).after.fault
-named_param k n ps c s v h more =
+named_param : (t : Tests) (k : Known) (n : Name) (ps : List Param) (c : Scope) (s : State) (v : Visible) → Sees t k c v
+    → ((b : Seen) → Sees t k b.scope (with_name n.bytes v) → TellsOf t k (params_uses ps (with_name n.bytes v)) b.after.fault (parameters ps b.scope b.after).after.fault)
+    → TellsOf t k (used n.at (bound n.bytes) v ∷ params_uses ps (with_name n.bytes v)) s.fault (parameters ps (bind n c s).scope (bind n c s).after).after.fault
+named_param t k n ps c s v h more =
     let b = bind n c s in
-    joined k (used n.at (bound n.bytes) v ∷ []) (params_uses ps (with_name n.bytes v)) s.fault b.after.fault (parameters ps b.scope b.after).after.fault (bind_told k n c s v h.slots) (more b (bind_sees k n c s v h))
+    joined t k (used n.at (bound n.bytes) v ∷ []) (params_uses ps (with_name n.bytes v)) s.fault b.after.fault (parameters ps b.scope b.after).after.fault (bind_told t k n c s v h.slots) (more b (bind_sees t k n c s v h))
 
-pub params_told : (k : Known) (ps : List Param) (c : Scope) (s : State) (v : Visible) → Sees k c v → Tells (all_faults k (params_uses ps v)) s.fault (parameters ps c s).after.fault
-params_told k [] c s v h = nothing s.fault
-params_told k (A.Name n ∷ ps) c s v h = named_param k n ps c s v h (λ b. params_told k ps b.scope b.after (with_name n.bytes v))
-params_told k (A.Typed n t ∷ ps) c s v h = named_param k n ps c s v h (λ b. params_told k ps b.scope b.after (with_name n.bytes v))
-params_told k (A.Unnamed at t ∷ ps) c s v h = params_told k ps (with_slot None c) s v (record { slots = λ name. behind_none 0 c.slots name ∙ h.slots name; vars = h.vars; types = h.types })
+pub params_told : (t : Tests) (k : Known) (ps : List Param) (c : Scope) (s : State) (v : Visible) → Sees t k c v → TellsOf t k (params_uses ps v) s.fault (parameters ps c s).after.fault
+params_told t k [] c s v h = λ m. nothing s.fault
+params_told t k (A.Name n ∷ ps) c s v h = named_param t k n ps c s v h (λ b. params_told t k ps b.scope b.after (with_name n.bytes v))
+params_told t k (A.Typed n ty ∷ ps) c s v h = named_param t k n ps c s v h (λ b. params_told t k ps b.scope b.after (with_name n.bytes v))
+params_told t k (A.Unnamed at ty ∷ ps) c s v h = params_told t k ps (with_slot None c) s v (record { slots = λ name. behind_none 0 c.slots name ∙ h.slots name; vars = h.vars; statics = h.statics; types = h.types })
+
+pub params_sites : (ps : List Param) (c : Scope) (s : State) → (parameters ps c s).after.sites ≡ s.sites
+params_sites [] c s = refl
+params_sites (A.Name n ∷ ps) c s = let b = bind n c s in params_sites ps b.scope b.after ∙ bind_sites n c s
+params_sites (A.Typed n t ∷ ps) c s = let b = bind n c s in params_sites ps b.scope b.after ∙ bind_sites n c s
+params_sites (A.Unnamed at t ∷ ps) c s = params_sites ps (with_slot None c) s
 
 -- ---- what a name is
 
@@ -221,6 +299,26 @@ unfolding function_of
 function_is k (C.Plain n) c vs h = unless_is (slot_of c.slots n.bytes) (place_of k.functions n.bytes) ∙ (λ i. not (h n.bytes i) && place_found 0 k.functions n.bytes i)
 function_is k (C.Base at n) c vs h = place_found 0 prelude_functions n.bytes
 function_is k (C.Operator at o) c vs h = operator_is o
+
+no_slot : (o p : Option ℕ) → unless_slot o p ≡ cond (is_some o) None p
+no_slot None p = refl
+no_slot (Some i) p = refl
+
+named_at : (k : Known) (n : List ℕ) (c : Scope) (vs : Names) → Agrees c vs → struct_named k n c ≡ struct_at k n vs
+unfolding struct_named
+named_at k n c vs h =
+    let p = if_struct k.decls (place_of (map (λ (d : Decl). d.name) k.decls) n) in
+    no_slot (slot_of c.slots n) p ∙ ap (λ b. let o : Option ℕ = cond b None p in o) (h n)
+
+pub called_at : (k : Known) (f : Callee) (c : Scope) (vs : Names) → Agrees c vs → struct_of k f c ≡ struct_called k f vs
+called_at k (C.Plain n) c vs h = named_at k n.bytes c vs h
+called_at k (C.Base at n) c vs h = refl
+called_at k (C.Operator at o) c vs h = refl
+
+pub built_at : (k : Known) (l : TypeText-F ArgText TypeText VarText) (c : Scope) (v : Visible) → Agrees c v.names → made_struct k l c ≡ struct_built k l v.names
+built_at k (T.Name at n) c v h = named_at k n c v.names h
+built_at k (T.Applied at n xs) c v h = named_at k n c v.names h
+built_at k (T.Paren at u ws) c v h = refl
 
 named_is : (k : Known) (n : List ℕ) (c : Scope) (vs : Names) → Agrees c vs →
     is_some (struct_named k n c) ≡ (not (is_among n vs) && is_some (if_struct k.decls (place_of (map (λ (d : Decl). d.name) k.decls) n)))

@@ -4,9 +4,8 @@ use Rattle.std.proofs.lemmas.Bool.{eqb-false, or_from, and_left, and_right}
 use Rattle.std.proofs.Math.Nat.{lt_irrefl}
 use Rattle.jl_written.specs.declared.fault.Fault.{Fault}
 use Rattle.jl_written.specs.Answered.{comes_before, first_of, number_of}
-use Rattle.jl_fault_laws.specs.Uses.{In}
 use Rattle.jl_fault_laws.specs.Rows.{IsReportedBy}
-use Rattle.jl_fault_laws.proofs.Firsts.{firsts, Tells}
+use Rattle.jl_fault_laws.proofs.Firsts.{In, firsts, Tells}
 
 -- a pair of numbers before another
 abbrev lex : ℕ → ℕ → ℕ → ℕ → Bool
@@ -106,6 +105,6 @@ all_new o [] f i = absurd i
 all_new o (g ∷ fs) f (inl e) = all_kept (first_of o g) fs f (subst (λ x. IsReportedBy (first_of o x) f) e (new o f))
 all_new o (g ∷ fs) f (inr i) = all_new (first_of o g) fs f i
 
--- each fault with a row that is found is reported, or an earlier one
+-- each fault that is found is reported, or an earlier one
 pub least_rows : (fs : List Fault) (o r : Option Fault) → Tells fs o r → (f : Fault) → In f fs → IsReportedBy r f
 least_rows fs o r h f i = subst (λ x. IsReportedBy x f) (sym h.is) (all_new o h.found f (h.all f i))

@@ -1,12 +1,11 @@
 -- What is told of a written type are the faults of the uses of names in it.
-use Rattle.std.proofs.Common.{ℕ, Bool, true, false, cond, not, ◌||◌, ◌&&◌, codes, nat_eq, nat_lt, List, [], ◌∷◌, ◌++◌, map, drop, length, ◌≡◌, Option, Some, None, is_some, refl, sym, ap, subst, ◌∙◌, slice_get}
+use Rattle.std.proofs.Common.{ℕ, Bool, true, false, cond, not, ◌||◌, ◌&&◌, codes, nat_eq, nat_lt, List, [], ◌∷◌, ◌++◌, map, drop, length, ◌≡◌, Option, Some, None, is_some, refl, sym, ap, subst, ◌∙◌, append-nil, slice_get}
 use Rattle.jl_model.specs.declared.builtin.TheConstants.{INT64}
 use Rattle.jl_model.specs.declared.ty.Ty.{Ty, out-Ty}
 use Rattle.jl_model.specs.declared.ty.Ty.TheOpen.{Ty-F}
 use Rattle.jl_model.specs.declared.ty.Ty.TheOpen as L
 use Rattle.jl_model.specs.declared.ty.Bound.{Bound}
 use Rattle.jl_model.specs.declared.ty.Decl.{Decl}
-use Rattle.jl_model.specs.declared.ty.Written.{Written}
 use Rattle.jl_model.specs.Valid.{params_of}
 use Rattle.jl_program.specs.Names.{same_text, is_among, builtin_names}
 use Rattle.jl_typeread.specs.declared.tree.TypeText.{TypeText}
@@ -15,7 +14,7 @@ use Rattle.jl_typeread.specs.declared.tree.VarText.{VarText}
 use Rattle.jl_typeread.specs.declared.tree.ArgText.TheOpen as F
 use Rattle.jl_typeread.specs.declared.tree.ArgText.TheOpen.{ArgText-F, TypeText-F, VarText-F}
 use Rattle.jl_typeread.specs.declared.tree.ArgText.TheFolds.{map-ArgText, map-TypeText, map-VarText, fold-roll-TypeText, fold-roll-ArgText, fold-roll-VarText}
-use Rattle.jl_typeread.specs.declared.tree.ArgText.TheViews.{roll-ArgText, roll-TypeText, roll-VarText}
+use Rattle.jl_typeread.specs.declared.tree.ArgText.TheViews.{out-TypeText, roll-ArgText, roll-TypeText, roll-VarText}
 use Rattle.jl_grammar.specs.declared.tree.Head.{Head}
 use Rattle.jl_written.specs.declared.fault.Fault.{Fault}
 use Rattle.jl_written.specs.declared.fault.StaticKind.{StaticKind}
@@ -34,17 +33,20 @@ use Rattle.jl_resolve_forms.specs.declared.known.Known.{Known}
 use Rattle.jl_resolve_forms.specs.declared.state.Scope.{Scope}
 use Rattle.jl_resolve_forms.specs.declared.state.State.{State}
 use Rattle.jl_resolve_forms.specs.Scopes.{noted, merged}
-use Rattle.jl_resolve_forms.specs.TypesIn.{Tests, declared_at, refusal, begins, one_type, made_refusal, type_at, made_type, body_written, made_at}
-use Rattle.jl_resolve_forms.specs.Expressions.{type_of, signed}
-use Rattle.jl_type_laws.proofs.TextInduction.{EachText, TextCases, by_type, by_arg, by_var}
-use Rattle.jl_fault_laws.specs.Uses.{Visible, Uses, Brings, type_variable, plain_type, braced_type, used, each, if_read, with_var, with_vars, brought, bare, type_names, type_uses, arg_uses, var_uses, option_uses, options_uses, in_head, signature_uses}
+use Rattle.jl_resolve_forms.specs.TypesIn.{Tests, declared_at, refusal, begins, one_type, made_refusal, body_written, made_at}
+use Rattle.jl_resolve_forms.specs.Expressions.{type_of, made_args, signed_as, signed}
+use Rattle.jl_type_laws.proofs.TextInduction.{TextCases, by_type, by_arg, by_var}
+use Rattle.jl_fault_laws.specs.Uses.{Visible, Uses, Brings, type_variable, plain_type, braced_type, written, built, used, each, if_read, with_var, with_vars, brought, bare, type_names, type_uses, arg_uses, var_uses, option_uses, options_uses, body_uses, built_uses, in_head, signature_uses}
 use Rattle.jl_fault_laws.specs.Uses as U
-use Rattle.jl_fault_laws.specs.Rows.{IsOtherKind, TellTypes}
-use Rattle.jl_fault_laws.proofs.Firsts.{Tells, nothing, two, same, one_fault, no_row, noted_other}
-use Rattle.jl_fault_laws.proofs.Faults.{one, all_faults, Pairs, joined, then_other}
+use Rattle.jl_fault_laws.specs.TypeRows.{declared_before, struct_built, is_idle, statics_at, signature_at, any_hides, signature_refusal, type_refusal, built_refusal}
+use Rattle.jl_fault_laws.proofs.Firsts.{Tells, nothing, two, same, swapped, one_fault, given, noted_told}
+use Rattle.jl_fault_laws.proofs.Faults.{one, all_faults, Pairs, TellsOf, joined, then_other}
+use Rattle.jl_fault_laws.proofs.Adds.{Adds, adds_alike, noted_same, merged_same}
+use Rattle.jl_fault_laws.proofs.Plain.{each_all, type_plain, args_plain}
 use Rattle.jl_fault_laws.proofs.Merged.{merged_told}
-use Rattle.jl_fault_laws.proofs.Names.{Knows, Sees, one_more, shifted_knows, two_of, place_found}
-use Rattle.jl_fault_laws.proofs.Told.{AreTold}
+use Rattle.jl_fault_laws.proofs.Names.{Knows, Sees, one_more, shifted_knows, declared_is, two_of, place_found}
+use Rattle.jl_fault_laws.proofs.Hiding.{each_pairs, both_clear, ordered_clear, one_ordered_clear, type_clear, options_clear, bound_clear, args_clear}
+use Rattle.jl_fault_laws.proofs.Told.{AreTold, SignedTold}
 
 -- ---- readings
 
@@ -60,9 +62,9 @@ placed_told : (bs : List Bound) (t : Ty) (r : Reading) → Tells [] r.fault (pla
 placed_told [] t r = nothing r.fault
 placed_told (b ∷ bs) t r = layer_told b.high (out-Ty t) r
 
-used_told : (at : ℕ) (b : Bool) (r : Reading) → Tells [] r.fault (R.used at b r).fault
-used_told at true r = nothing r.fault
-used_told at false r = no_row (record { at = at; kind = kind.StaticParameterUse }) r.fault refl
+idle_told : (at : ℕ) (b : Bool) (r : Reading) → Tells ((given (cond (not b) (Some kind.StaticParameterUse) None) at ++ []) ++ []) r.fault (R.used at b r).fault
+idle_told at true r = nothing r.fault
+idle_told at false r = one_fault (record { at = at; kind = kind.StaticParameterUse }) r.fault
 
 unknown_told : (at : ℕ) (r : Reading) → Tells (record { at = at; kind = kind.UnknownType } ∷ []) r.fault (unknown at r).after.fault
 unknown_told at r = one_fault (record { at = at; kind = kind.UnknownType }) r.fault
@@ -99,52 +101,44 @@ one_ordered_told : (ss : List Swap) (t : Typed) (fs : List Fault) (o : Option Fa
 one_ordered_told [] t fs o h = h
 one_ordered_told (s ∷ ss) t fs o h = h
 
-each_pairs : {A B C : Type 0} (P : B → C → Type 0) (f : A → B) (g : A → C) (xs : List A) → EachText (λ x. P (f x) (g x)) xs → Pairs P (map f xs) (map g xs)
-each_pairs P f g [] h = tt
-each_pairs P f g (x ∷ xs) h = (h.0, each_pairs P f g xs h.1)
-
-each_all : {A : Type 0} (P : A → Type 0) → ((x : A) → P x) → (xs : List A) → EachText P xs
-each_all P h [] = tt
-each_all P h (x ∷ xs) = (h x, each_all P h xs)
-
-module _ (k : Known) (ds : List Decl) where
+module _ (tests : Tests) (k : Known) (ds : List Decl) where
   abbrev IsType : Uses → TypeReads → Type 0
-  IsType u t = (vars : List TypeVar) (v : Visible) (inside : Bool) (r : Reading) → Knows vars v.vars → type_names ds ≡ v.types → Tells (all_faults k (u v)) r.fault (t vars inside r).after.fault
+  IsType u t = (vars : List TypeVar) (v : Visible) (inside : Bool) (r : Reading) → Knows tests k vars v → type_names ds ≡ v.types → TellsOf tests k (u v) r.fault (t vars inside r).after.fault
 
   abbrev IsArg : Uses → ArgReads → Type 0
-  IsArg u x = (vars : List TypeVar) (v : Visible) (outer inner : Bool) (r : Reading) → Knows vars v.vars → type_names ds ≡ v.types → Tells (all_faults k (u v)) r.fault (x vars outer inner r).after.fault
+  IsArg u x = (vars : List TypeVar) (v : Visible) (outer inner : Bool) (r : Reading) → Knows tests k vars v → type_names ds ≡ v.types → TellsOf tests k (u v) r.fault (x vars outer inner r).after.fault
 
   pub record IsVar (b : Brings) (x : VarReads) : Type 0 where
     pub at : b.at ≡ x.at
     pub name : b.name ≡ x.name
-    pub bounds : (vars : List TypeVar) (v : Visible) (inside : Bool) (r : Reading) → Knows vars v.vars → type_names ds ≡ v.types → Tells (all_faults k (b.uses v)) r.fault (x.bounds vars inside r).after.fault
+    pub bounds : (vars : List TypeVar) (v : Visible) (inside : Bool) (r : Reading) → Knows tests k vars v → type_names ds ≡ v.types → TellsOf tests k (b.uses v) r.fault (x.bounds vars inside r).after.fault
 
-  arguments_told : (us : List Uses) (xs : List ArgReads) → Pairs IsArg us xs → (bs : List Bound) (vars : List TypeVar) (v : Visible) (inside : Bool) (r : Reading) → Knows vars v.vars → type_names ds ≡ v.types
-      → Tells (all_faults k (each us v)) r.fault (arguments bs xs vars inside r).after.fault
-  arguments_told [] [] p bs vars v inside r h e = missing_told bs inside r
+  arguments_told : (us : List Uses) (xs : List ArgReads) → Pairs IsArg us xs → (bs : List Bound) (vars : List TypeVar) (v : Visible) (inside : Bool) (r : Reading) → Knows tests k vars v → type_names ds ≡ v.types
+      → TellsOf tests k (each us v) r.fault (arguments bs xs vars inside r).after.fault
+  arguments_told [] [] p bs vars v inside r h e = λ n. missing_told bs inside r
   arguments_told [] (x ∷ xs) p bs vars v inside r h e = absurd p
   arguments_told (u ∷ us) [] p bs vars v inside r h e = absurd p
   arguments_told (u ∷ us) (x ∷ xs) p bs vars v inside r h e =
       let t = x vars inside true r in
       let z = placed bs t.ty t.after in
-      joined k (u v) (each us v) r.fault z.fault (arguments (drop 1 bs) xs vars inside z).after.fault
-      (then_other (all_faults k (u v)) r.fault t.after.fault z.fault (p.0 vars v inside true r h e) (placed_told bs t.ty t.after))
+      joined tests k (u v) (each us v) r.fault z.fault (arguments (drop 1 bs) xs vars inside z).after.fault
+      (λ n. then_other (all_faults tests k n (u v)) r.fault t.after.fault z.fault (p.0 vars v inside true r h e n) (placed_told bs t.ty t.after))
       (arguments_told us xs p.1 (drop 1 bs) vars v inside z h e)
 
-  members_told : (us : List Uses) (xs : List ArgReads) → Pairs IsArg us xs → (vars : List TypeVar) (v : Visible) (inside : Bool) (r : Reading) → Knows vars v.vars → type_names ds ≡ v.types
-      → Tells (all_faults k (each us v)) r.fault (members xs vars inside r).after.fault
-  members_told [] [] p vars v inside r h e = nothing r.fault
+  members_told : (us : List Uses) (xs : List ArgReads) → Pairs IsArg us xs → (vars : List TypeVar) (v : Visible) (inside : Bool) (r : Reading) → Knows tests k vars v → type_names ds ≡ v.types
+      → TellsOf tests k (each us v) r.fault (members xs vars inside r).after.fault
+  members_told [] [] p vars v inside r h e = λ n. nothing r.fault
   members_told [] (x ∷ xs) p vars v inside r h e = absurd p
   members_told (u ∷ us) [] p vars v inside r h e = absurd p
   members_told (u ∷ us) (x ∷ xs) p vars v inside r h e =
       let t = x vars inside inside r in
-      joined k (u v) (each us v) r.fault t.after.fault (members xs vars inside t.after).after.fault (p.0 vars v inside inside r h e) (members_told us xs p.1 vars v inside t.after h e)
+      joined tests k (u v) (each us v) r.fault t.after.fault (members xs vars inside t.after).after.fault (p.0 vars v inside inside r h e) (members_told us xs p.1 vars v inside t.after h e)
 
   -- by what the name is: a variable, one of the four words, or the place of a declared type
   plain_by : (at : ℕ) (o : Option TypeVar) (a b c d : Bool) (p : Option ℕ) (inside : Bool) (r : Reading) →
-      Tells ((one (not (is_some o || (a || (not (b || c) && (d || is_some p))))) kind.UnknownType at ++ []) ++ []) r.fault
+      Tells ((given (cond (is_idle o) (Some kind.StaticParameterUse) None) at ++ (one (not (is_some o || (a || (not (b || c) && (d || is_some p))))) kind.UnknownType at ++ [])) ++ []) r.fault
       (plain ds at (var_or o (cond a N.Any (cond b N.Union (cond c N.Tuple (cond d (N.Nominal INT64) (M.nominal_of p)))))) inside r).after.fault
-  plain_by at (Some x) a b c d p inside r = used_told at x.usable r
+  plain_by at (Some x) a b c d p inside r = idle_told at x.usable r
   plain_by at None true b c d p inside r = nothing r.fault
   plain_by at None false true c d p inside r = unknown_told at r
   plain_by at None false false true d p inside r = unknown_told at r
@@ -153,7 +147,7 @@ module _ (k : Known) (ds : List Decl) where
   plain_by at None false false false false None inside r = unknown_told at r
 
   plain_told : (at : ℕ) (n : List ℕ) → IsType (λ v. used at (plain_type n) v ∷ []) (λ vars inside r. plain ds at (named ds vars n) inside r)
-  plain_told at n vars v inside r h e =
+  plain_told at n vars v inside r h e m =
       let a = same_text n (codes "Any") in
       let b = same_text n (codes "Union") in
       let c = same_text n (codes "Tuple") in
@@ -161,23 +155,23 @@ module _ (k : Known) (ds : List Decl) where
       let p = place_of (type_names ds) n in
       let q = place_found 0 (type_names ds) n ∙ ap (λ ns. is_among n ns) e in
       same _ _ r.fault (plain ds at (named ds vars n) inside r).after.fault
-      (λ i. (one (not (h n i || (a || (not (b || c) && (d || q i))))) kind.UnknownType at ++ []) ++ []) (plain_by at (var_of vars n) a b c d p inside r)
+      (λ i. (given (cond (h.idle n i) (Some kind.StaticParameterUse) None) at ++ (one (not (h.names n i || (a || (not (b || c) && (d || q i))))) kind.UnknownType at ++ [])) ++ []) (plain_by at (var_of vars n) a b c d p inside r)
 
   applied_by : (at : ℕ) (us : List Uses) (xs : List ArgReads) → Pairs IsArg us xs → (o : Option TypeVar) (a b c d : Bool) (p : Option ℕ) (vars : List TypeVar) (v : Visible) (inside : Bool) (r : Reading)
-      → Knows vars v.vars → type_names ds ≡ v.types
-      → Tells ((one (not (not (is_some o) && (not a && (b || (c || (d || is_some p)))))) kind.UnknownType at ++ []) ++ all_faults k (if_read (not (is_some o) && (not a && (b || (c || (d || is_some p))))) (each us v))) r.fault
+      → Knows tests k vars v → type_names ds ≡ v.types → (m : ℕ)
+      → Tells ((one (not (not (is_some o) && (not a && (b || (c || (d || is_some p)))))) kind.UnknownType at ++ []) ++ all_faults tests k m (if_read (not (is_some o) && (not a && (b || (c || (d || is_some p))))) (each us v))) r.fault
       (applied ds at (var_or o (cond a N.Any (cond b N.Union (cond c N.Tuple (cond d (N.Nominal INT64) (M.nominal_of p)))))) xs vars inside r).after.fault
-  applied_by at us xs l (Some x) a b c d p vars v inside r h e = unknown_told at r
-  applied_by at us xs l None true b c d p vars v inside r h e = unknown_told at r
-  applied_by at us xs l None false true c d p vars v inside r h e = members_told us xs l vars v inside r h e
-  applied_by at us xs l None false false true d p vars v inside r h e = members_told us xs l vars v inside r h e
-  applied_by at us xs l None false false false true p vars v inside r h e = arguments_told us xs l (params_of (slice_get ds INT64)) vars v inside r h e
-  applied_by at us xs l None false false false false (Some n) vars v inside r h e = arguments_told us xs l (params_of (slice_get ds n)) vars v inside r h e
-  applied_by at us xs l None false false false false None vars v inside r h e = unknown_told at r
+  applied_by at us xs l (Some x) a b c d p vars v inside r h e m = unknown_told at r
+  applied_by at us xs l None true b c d p vars v inside r h e m = unknown_told at r
+  applied_by at us xs l None false true c d p vars v inside r h e m = members_told us xs l vars v inside r h e m
+  applied_by at us xs l None false false true d p vars v inside r h e m = members_told us xs l vars v inside r h e m
+  applied_by at us xs l None false false false true p vars v inside r h e m = arguments_told us xs l (params_of (slice_get ds INT64)) vars v inside r h e m
+  applied_by at us xs l None false false false false (Some n) vars v inside r h e m = arguments_told us xs l (params_of (slice_get ds n)) vars v inside r h e m
+  applied_by at us xs l None false false false false None vars v inside r h e m = unknown_told at r
 
   applied_told : (at : ℕ) (n : List ℕ) (us : List Uses) (xs : List ArgReads) → Pairs IsArg us xs
       → IsType (λ v. used at (braced_type n) v ∷ if_read (U.takes_braces n v) (each us v)) (λ vars inside r. applied ds at (named ds vars n) xs vars inside r)
-  applied_told at n us xs l vars v inside r h e =
+  applied_told at n us xs l vars v inside r h e m =
       let a = same_text n (codes "Any") in
       let b = same_text n (codes "Union") in
       let c = same_text n (codes "Tuple") in
@@ -185,39 +179,39 @@ module _ (k : Known) (ds : List Decl) where
       let p = place_of (type_names ds) n in
       let q = place_found 0 (type_names ds) n ∙ ap (λ ns. is_among n ns) e in
       same _ _ r.fault (applied ds at (named ds vars n) xs vars inside r).after.fault
-      (λ i. (one (not (not (h n i) && (not a && (b || (c || (d || q i)))))) kind.UnknownType at ++ []) ++ all_faults k (if_read (not (h n i) && (not a && (b || (c || (d || q i))))) (each us v)))
-      (applied_by at us xs l (var_of vars n) a b c d p vars v inside r h e)
+      (λ i. (one (not (not (h.names n i) && (not a && (b || (c || (d || q i)))))) kind.UnknownType at ++ []) ++ all_faults tests k m (if_read (not (h.names n i) && (not a && (b || (c || (d || q i))))) (each us v)))
+      (applied_by at us xs l (var_of vars n) a b c d p vars v inside r h e m)
 
   -- ---- variables
 
-  variable_told : (at : ℕ) (name : List ℕ) (o : Option TypeVar) (r : Reading) (v : Visible) → is_some o ≡ is_among name v.vars → Tells (all_faults k (used at (type_variable name) v ∷ [])) r.fault (rebound at o (guarded at name r)).fault
-  variable_told at name o r v e =
+  variable_told : (at : ℕ) (name : List ℕ) (o : Option TypeVar) (r : Reading) (v : Visible) → is_some o ≡ is_among name v.vars → TellsOf tests k (used at (type_variable name) v ∷ []) r.fault (rebound at o (guarded at name r)).fault
+  variable_told at name o r v e m =
       let a = is_among name builtin_names in
       let z = guarded at name r in
       same _ _ r.fault (rebound at o z).fault ((λ i. one a kind.NameClash at ++ one (e i) kind.Rebound at) ∙ two_of at a (is_among name v.vars))
       (two (one a kind.NameClash at) (one (is_some o) kind.Rebound at) r.fault z.fault (rebound at o z).fault (guarded_told at name r) (rebound_told at o z))
 
-  bind_told : (b : Brings) (x : VarReads) → IsVar b x → (vars : List TypeVar) (v : Visible) (inside : Bool) (r : Reading) → Knows vars v.vars → type_names ds ≡ v.types
-      → Tells (all_faults k (b.uses v ++ used b.at (type_variable b.name) v ∷ [])) r.fault (bind x vars inside r).after.fault × Knows (bind x vars inside r).vars (b.name ∷ v.vars)
+  bind_told : (b : Brings) (x : VarReads) → IsVar b x → (vars : List TypeVar) (v : Visible) (inside : Bool) (r : Reading) → Knows tests k vars v → type_names ds ≡ v.types
+      → TellsOf tests k (b.uses v ++ used b.at (type_variable b.name) v ∷ []) r.fault (bind x vars inside r).after.fault × Knows tests k (bind x vars inside r).vars (with_var b.name v)
   bind_told b x l vars v inside r h e =
       let y = x.bounds vars inside r in
       let o = var_of vars x.name in
       let z = rebound x.at o (guarded x.at x.name y.after) in (
-        same _ _ r.fault z.fault (λ i. all_faults k (b.uses v ++ used (sym l.at i) (type_variable (sym l.name i)) v ∷ []))
-            (joined k (b.uses v) (used x.at (type_variable x.name) v ∷ []) r.fault y.after.fault z.fault (l.bounds vars v inside r h e) (variable_told x.at x.name o y.after v (h x.name))),
-        subst (λ n. Knows (bind x vars inside r).vars (n ∷ v.vars)) (sym l.name) (one_more vars v.vars (record { name = x.name; number = length (guarded x.at x.name y.after).vars; usable = true }) h),
+        λ m. same _ _ r.fault z.fault (λ i. all_faults tests k m (b.uses v ++ used (sym l.at i) (type_variable (sym l.name i)) v ∷ []))
+            (joined tests k (b.uses v) (used x.at (type_variable x.name) v ∷ []) r.fault y.after.fault z.fault (l.bounds vars v inside r h e) (variable_told x.at x.name o y.after v (h.names x.name)) m),
+        subst (λ n. Knows tests k (bind x vars inside r).vars (with_var n v)) (sym l.name) (one_more tests k vars v (record { name = x.name; number = length (guarded x.at x.name y.after).vars; usable = true }) refl h),
       )
 
-  brought_told : (bs : List Brings) (xs : List VarReads) → Pairs IsVar bs xs → (vars : List TypeVar) (v : Visible) (inside : Bool) (r : Reading) → Knows vars v.vars → type_names ds ≡ v.types
-      → Tells (all_faults k (brought bs v)) r.fault (bind_all xs vars inside r).after.fault × Knows (bind_all xs vars inside r).vars (with_vars bs v).vars
-  brought_told [] [] p vars v inside r h e = (nothing r.fault, h)
+  brought_told : (bs : List Brings) (xs : List VarReads) → Pairs IsVar bs xs → (vars : List TypeVar) (v : Visible) (inside : Bool) (r : Reading) → Knows tests k vars v → type_names ds ≡ v.types
+      → TellsOf tests k (brought bs v) r.fault (bind_all xs vars inside r).after.fault × Knows tests k (bind_all xs vars inside r).vars (with_vars bs v)
+  brought_told [] [] p vars v inside r h e = (λ n. nothing r.fault, h)
   brought_told [] (x ∷ xs) p vars v inside r h e = absurd p
   brought_told (b ∷ bs) [] p vars v inside r h e = absurd p
   brought_told (b ∷ bs) (x ∷ xs) p vars v inside r h e =
       let s = bind x vars inside r in
       let here = bind_told b x p.0 vars v inside r h e in
       let rest = brought_told bs xs p.1 s.vars (with_var b.name v) inside s.after here.1 e in
-      (joined k (b.uses v ++ used b.at (type_variable b.name) v ∷ []) (brought bs (with_var b.name v)) r.fault s.after.fault (bind_all xs s.vars inside s.after).after.fault here.0 rest.0, rest.1)
+      (joined tests k (b.uses v ++ used b.at (type_variable b.name) v ∷ []) (brought bs (with_var b.name v)) r.fault s.after.fault (bind_all xs s.vars inside s.after).after.fault here.0 rest.0, rest.1)
 
   within_told : (u : Uses) (t : TypeReads) → IsType u t → (bs : List Brings) (xs : List VarReads) → Pairs IsVar bs xs → IsType (λ v. brought bs v ++ u (with_vars bs v)) (within t xs)
   within_told u t l bs xs p vars v inside r h e =
@@ -225,10 +219,10 @@ module _ (k : Known) (ds : List Decl) where
       let s = bind_all xs vars inside w in
       let q = brought_told bs xs p vars v inside w h e in
       let z = t s.vars inside s.after in
-      swapped_told (length r.vars) (length s.after.vars) (all_faults k (brought bs v ++ u (with_vars bs v))) r.fault z.after
-      (joined k (brought bs v) (u (with_vars bs v)) r.fault s.after.fault z.after.fault
-      (two [] (all_faults k (brought bs v)) r.fault w.fault s.after.fault (where_told xs inside r) q.0)
-      (l s.vars (with_vars bs v) inside s.after q.1 e))
+      λ n. swapped_told (length r.vars) (length s.after.vars) (all_faults tests k n (brought bs v ++ u (with_vars bs v))) r.fault z.after
+      (joined tests k (brought bs v) (u (with_vars bs v)) r.fault s.after.fault z.after.fault
+      (λ m. two [] (all_faults tests k m (brought bs v)) r.fault w.fault s.after.fault (where_told xs inside r) (q.0 m))
+      (l s.vars (with_vars bs v) inside s.after q.1 e) n)
 
   -- ---- a text tells what its layer does
 
@@ -261,7 +255,7 @@ module _ (k : Known) (ds : List Decl) where
     exact = λ t l. arg_at (F.Exact t) (λ vars v outer inner r h e. l vars v inner r h e);
     below_ = λ at t l. arg_at (F.ArgText::Below at t) (λ vars v outer inner r h e. l vars v inner r h e);
     above = λ at t l. arg_at (F.ArgText::Above at t) (λ vars v outer inner r h e. l vars v inner r h e);
-    free = λ at n. var_at (F.Free at n) (record { at = refl; name = refl; bounds = λ vars v inside r h e. nothing r.fault });
+    free = λ at n. var_at (F.Free at n) (record { at = refl; name = refl; bounds = λ vars v inside r h e n. nothing r.fault });
     upper = λ at n t l. var_at (F.VarText::Below at n t) (record { at = refl; name = refl; bounds = λ vars v inside r h e. l vars v inside r h e });
     lower = λ at n t l. var_at (F.VarText::Above at n t) (record { at = refl; name = refl; bounds = λ vars v inside r h e. l vars v inside r h e });
     between = λ t at n u l p. var_at (F.Between t at n u)
@@ -270,7 +264,7 @@ module _ (k : Known) (ds : List Decl) where
           name = refl;
           bounds = λ vars v inside r h e.
               let b = type_reads ds t vars inside r in
-              joined k (type_uses t v) (type_uses u v) r.fault b.after.fault (type_reads ds u vars inside b.after).after.fault (l vars v inside r h e) (p vars v inside b.after h e);
+              joined tests k (type_uses t v) (type_uses u v) r.fault b.after.fault (type_reads ds u vars inside b.after).after.fault (l vars v inside r h e) (p vars v inside b.after h e);
         });
   }
 
@@ -283,98 +277,123 @@ module _ (k : Known) (ds : List Decl) where
   var_told : (x : VarText) → IsVar (var_uses x) (var_reads ds x)
   var_told = by_var _ _ _ cases
 
-  pub option_told : (t : Option TypeText) (vars : List TypeVar) (v : Visible) (r : Reading) → Knows vars v.vars → type_names ds ≡ v.types → Tells (all_faults k (option_uses t v)) r.fault (option_reads ds t vars r).after.fault
-  option_told None vars v r h e = nothing r.fault
+  pub option_told : (t : Option TypeText) (vars : List TypeVar) (v : Visible) (r : Reading) → Knows tests k vars v → type_names ds ≡ v.types → TellsOf tests k (option_uses t v) r.fault (option_reads ds t vars r).after.fault
+  option_told None vars v r h e = λ n. nothing r.fault
   option_told (Some t) vars v r h e = type_told t vars v false r h e
 
-  pub options_told : (ts : List (Option TypeText)) (vars : List TypeVar) (v : Visible) (r : Reading) → Knows vars v.vars → type_names ds ≡ v.types → Tells (all_faults k (options_uses ts v)) r.fault (all_read ds ts vars r).after.fault
-  options_told [] vars v r h e = nothing r.fault
+  pub options_told : (ts : List (Option TypeText)) (vars : List TypeVar) (v : Visible) (r : Reading) → Knows tests k vars v → type_names ds ≡ v.types → TellsOf tests k (options_uses ts v) r.fault (all_read ds ts vars r).after.fault
+  options_told [] vars v r h e = λ n. nothing r.fault
   options_told (t ∷ ts) vars v r h e =
       let u = option_reads ds t vars r in
-      joined k (option_uses t v) (options_uses ts v) r.fault u.after.fault (all_read ds ts vars u.after).after.fault (option_told t vars v r h e) (options_told ts vars v u.after h e)
+      joined tests k (option_uses t v) (options_uses ts v) r.fault u.after.fault (all_read ds ts vars u.after).after.fault (option_told t vars v r h e) (options_told ts vars v u.after h e)
 
-  pub bound_told : (vs : List VarText) (vars : List TypeVar) (v : Visible) (r : Reading) → Knows vars v.vars → type_names ds ≡ v.types
-      → Tells (all_faults k (brought (map var_uses vs) v)) r.fault (all_bound ds vs vars r).after.fault × Knows (all_bound ds vs vars r).vars (with_vars (map var_uses vs) v).vars
+  pub bound_told : (vs : List VarText) (vars : List TypeVar) (v : Visible) (r : Reading) → Knows tests k vars v → type_names ds ≡ v.types
+      → TellsOf tests k (brought (map var_uses vs) v) r.fault (all_bound ds vs vars r).after.fault × Knows tests k (all_bound ds vs vars r).vars (with_vars (map var_uses vs) v)
   bound_told vs vars v r h e = brought_told (map var_uses vs) (map (var_reads ds) vs) (each_pairs IsVar var_uses (var_reads ds) vs (each_all (λ x. IsVar (var_uses x) (var_reads ds x)) var_told vs)) vars v false r h e
 
-  made_told : (xs : List ArgText) (p : ℕ) (bs : List Bound) (statics : List TypeVar) (v : Visible) → Knows statics v.vars → type_names ds ≡ v.types
-      → Tells (all_faults k (each (map arg_uses xs) v)) None (constructor_type ds p bs statics xs).after.fault
+  made_told : (xs : List ArgText) (p : ℕ) (bs : List Bound) (statics : List TypeVar) (v : Visible) → Knows tests k statics v → type_names ds ≡ v.types
+      → TellsOf tests k (each (map arg_uses xs) v) None (constructor_type ds p bs statics xs).after.fault
   made_told xs p bs statics v h e =
       arguments_told (map arg_uses xs) (map (arg_reads ds) xs) (each_pairs IsArg arg_uses (arg_reads ds) xs (each_all (λ x. IsArg (arg_uses x) (arg_reads ds x)) arg_told xs)) bs (shifted 0 statics) v false unread
-      (shifted_knows 0 statics v.vars h) e
+      (shifted_knows tests k 0 statics v h) e
 
 -- ---- types in bodies and signatures
 
-refusal_other : (test : Written → Option StaticKind) → ((w : Written) → IsOtherKind (test w)) → (r : Reading) (w : Written) → IsOtherKind (refusal test r w)
-refusal_other test h r w = by r.misplaced
-  where
-    last : (b : Bool) → IsOtherKind (cond b None (test w))
-    last true = tt
-    last false = h w
+-- a refusal behind the faults of a text
+module _ (t : Tests) (k : Known) where
+  refused_last : (at : ℕ) (o p : Option StaticKind) (fs : List Fault) (q : Option Fault) (s : State) → o ≡ p → Tells fs None q → Tells ((given p at ++ []) ++ fs) s.fault (noted at o (merged q s)).fault
+  refused_last at o p fs q s e h =
+      let z = merged q s in
+      same (given o at ++ fs) ((given p at ++ []) ++ fs) s.fault (noted at o z).fault
+      (ap (λ xs. xs ++ fs) (sym (append-nil (given o at))) ∙ ap (λ x. (given x at ++ []) ++ fs) e)
+      (swapped fs (given o at) s.fault (noted at o z).fault (two fs (given o at) s.fault z.fault (noted at o z).fault (merged_told fs q s h) (noted_told at o z)))
 
-    by : (b : Bool) → IsOtherKind (cond b (Some kind.VariablePlace) (cond r.unclear None (test w)))
-    by true = refl
-    by false = last r.unclear
+  type_refusal_is : (text : TypeText) (ds : List Decl) (statics : List TypeVar) (v : Visible) → ds ≡ declared_before k v.types → statics ≡ statics_at t k v
+      → (body_type ds statics text).after.unclear ≡ any_hides (type_uses text v)
+      → (let ty = body_type ds statics text in refusal t.body ty.after (one_type ty.ty (adopted t.below ty.after.places ty.after.vars))) ≡ type_refusal t k text v
+  unfolding type_refusal
+  type_refusal_is text ds statics v e f c =
+      ap (λ b. let ty = body_type ds statics text in cond ty.after.misplaced (Some kind.VariablePlace) (cond b None (t.body (one_type ty.ty (adopted t.below ty.after.places ty.after.vars))))) c
+      ∙ (λ i. let ty = body_type (e i) (f i) text in cond ty.after.misplaced (Some kind.VariablePlace) (cond (any_hides (type_uses text v)) None (t.body (one_type ty.ty (adopted t.below ty.after.places ty.after.vars)))))
 
-made_refusal_other : (test : Written → Option StaticKind) → ((w : Written) → IsOtherKind (test w)) → (c : Bool) (r : Reading) (w : Written) → IsOtherKind (made_refusal test c r w)
-made_refusal_other test h c r w = by r.misplaced
-  where
-    last : (b : Bool) → IsOtherKind (cond b None (test w))
-    last true = tt
-    last false = h w
-
-    next : (b : Bool) → IsOtherKind (cond b (Some kind.WrongParameterCount) (cond r.unclear None (test w)))
-    next true = refl
-    next false = last r.unclear
-
-    by : (b : Bool) → IsOtherKind (cond b (Some kind.VariablePlace) (cond (not (nat_eq (length r.vars) 0) || not c) (Some kind.WrongParameterCount) (cond r.unclear None (test w))))
-    by true = refl
-    by false = next (not (nat_eq (length r.vars) 0) || not c)
-
-module _ (t : Tests) (k : Known) (q : TellTypes t) where
-  body_written_told : (text : TypeText) (c : Scope) (v : Visible) (s : State) → Sees k c v → Tells (all_faults k (type_uses text v)) s.fault (body_written t k text c s).after.fault
+  body_written_told : (text : TypeText) (c : Scope) (v : Visible) (s : State) → Sees t k c v → Adds t k (body_uses text v) s (body_written t k text c s).after
   unfolding body_written
   body_written_told text c v s h =
       let ds = declared_at k c.types in
       let ty = body_type ds c.statics text in
       let w = one_type ty.ty (adopted t.below ty.after.places ty.after.vars) in
-      let z = merged ty.after.fault s in
       let o = refusal t.body ty.after w in
-      let fs = all_faults k (type_uses text v) in
       let n = width_of ds c.statics text in
       let raw = type_reads ds text (shifted n c.statics) false unread in
-      then_other fs s.fault z.fault (noted (begins text) o z).fault
-      (merged_told fs ty.after.fault s (one_ordered_told raw.after.swaps raw fs None (type_told k ds text (shifted n c.statics) v false unread (shifted_knows n c.statics v.vars h.vars) h.types)))
-      (noted_other (begins text) o z (refusal_other t.body q.body ty.after w))
+      adds_alike t k (body_uses text v) s (noted (begins text) o (merged ty.after.fault s)) (type_plain text v) (noted_same (begins text) o (merged ty.after.fault s) ∙ merged_same ty.after.fault s)
+      (λ m.
+      let fs = all_faults t k m (type_uses text v) in
+      refused_last (begins text) o (type_refusal t k text v) fs ty.after.fault s
+      (type_refusal_is text ds c.statics v (declared_is k c.types v.types h.types) h.statics (one_ordered_clear raw.after.swaps raw ∙ type_clear t k ds text (shifted n c.statics) v false unread (shifted_knows t k n c.statics v h.vars) h.types))
+      (one_ordered_told raw.after.swaps raw fs None (type_told t k ds text (shifted n c.statics) v false unread (shifted_knows t k n c.statics v h.vars) h.types m)))
 
-  made_at_told : (at p : ℕ) (xs : List ArgText) (c : Scope) (v : Visible) (s : State) → Sees k c v → Tells (all_faults k (each (map arg_uses xs) v)) s.fault (made_at t k at p xs c s).after.fault
+  built_refusal_is : (p : ℕ) (xs : List ArgText) (ds : List Decl) (statics : List TypeVar) (v : Visible) (q : Option ℕ) → ds ≡ declared_before k v.types → statics ≡ statics_at t k v → q ≡ Some p
+      → (constructor_type ds p (params_of (slice_get k.decls p)) statics xs).after.unclear ≡ any_hides (each (map arg_uses xs) v)
+      → (let bs = params_of (slice_get k.decls p) in
+      let ty = constructor_type ds p bs statics xs in
+      made_refusal t.body (nat_eq (length xs) (length bs)) ty.after (one_type ty.ty [])) ≡ built_refusal t k q xs v
+  unfolding built_refusal
+  built_refusal_is p xs ds statics v q e f g c =
+      ap (λ b. let bs = params_of (slice_get k.decls p) in
+      let ty = constructor_type ds p bs statics xs in
+      cond ty.after.misplaced (Some kind.VariablePlace)
+      (cond (not (nat_eq (length ty.after.vars) 0) || not (nat_eq (length xs) (length bs))) (Some kind.WrongParameterCount) (cond b None (t.body (one_type ty.ty []))))) c
+      ∙ (λ i. let bs = params_of (slice_get k.decls p) in
+      let ty = constructor_type (e i) p bs (f i) xs in
+      cond ty.after.misplaced (Some kind.VariablePlace)
+      (cond (not (nat_eq (length ty.after.vars) 0) || not (nat_eq (length xs) (length bs))) (Some kind.WrongParameterCount) (cond (any_hides (each (map arg_uses xs) v)) None (t.body (one_type ty.ty [])))))
+      ∙ ap (λ o. built_refusal t k o xs v) (sym g)
+
+  made_at_told : (text : TypeText) (p : ℕ) (c : Scope) (v : Visible) (s : State) → Sees t k c v → struct_built k (out-TypeText text) v.names ≡ Some p
+      → Adds t k (built_uses text v) s (made_at t k (begins text) p (made_args (out-TypeText text)) c s).after
   unfolding made_at
-  made_at_told at p xs c v s h =
+  made_at_told text p c v s h e =
+      let at = begins text in
+      let xs = made_args (out-TypeText text) in
       let bs = params_of (slice_get k.decls p) in
       let ds = declared_at k c.types in
       let ty = constructor_type ds p bs c.statics xs in
-      let counted = nat_eq (length xs) (length bs) in
-      let w = one_type ty.ty [] in
-      let z = merged ty.after.fault s in
-      let o = made_refusal t.body counted ty.after w in
-      let fs = all_faults k (each (map arg_uses xs) v) in
-      then_other fs s.fault z.fault (noted at o z).fault
-      (merged_told fs ty.after.fault s (made_told k ds xs p bs c.statics v h.vars h.types))
-      (noted_other at o z (made_refusal_other t.body q.body counted ty.after w))
+      let o = made_refusal t.body (nat_eq (length xs) (length bs)) ty.after (one_type ty.ty []) in
+      let q = struct_built k (out-TypeText text) v.names in
+      adds_alike t k (built_uses text v) s (noted at o (merged ty.after.fault s)) (args_plain xs v) (noted_same at o (merged ty.after.fault s) ∙ merged_same ty.after.fault s)
+      (λ m. refused_last at o (built_refusal t k q xs v) (all_faults t k m (each (map arg_uses xs) v)) ty.after.fault s (built_refusal_is p xs ds c.statics v q (declared_is k c.types v.types h.types) h.statics e
+      (args_clear t k ds xs bs (shifted 0 c.statics) v unread (shifted_knows t k 0 c.statics v h.vars) h.types))
+      (made_told t k ds xs p bs c.statics v h.vars h.types m))
 
-  signed_told : (types : ℕ) (h : Head) (v : Visible) → type_names (declared_at k types) ≡ v.types
-      → Tells (all_faults k (signature_uses h v)) None (signed t k types h).fault × IsOtherKind (signed t k types h).refusal × Knows (signed t k types h).vars (in_head h v).vars
+  signature_is : (types : ℕ) (h : Head) (ts : List (List ℕ)) → type_names (declared_at k types) ≡ ts → signed t k types h ≡ signature_at t k h ts
+  unfolding signature_at
+  signature_is types h ts e = ap (λ ds. signed_as t (signature ds (map type_of h.params) h.vars)) (declared_is k types ts e)
+
+  signature_refusal_is : (types : ℕ) (h : Head) (v : Visible) → type_names (declared_at k types) ≡ v.types
+      → (signature (declared_at k types) (map type_of h.params) h.vars).types.after.unclear ≡ any_hides (signature_uses h v) → (signed t k types h).refusal ≡ signature_refusal t k h (bare v)
+  unfolding signature_refusal
+  signature_refusal_is types h v e c =
+      ap (λ b. let ts = (signature (declared_at k types) (map type_of h.params) h.vars).types in cond ts.after.misplaced (Some kind.VariablePlace) (cond b None (t.signature (written_of t.below ts)))) c
+      ∙ ap (λ ds. let ts = (signature ds (map type_of h.params) h.vars).types in cond ts.after.misplaced (Some kind.VariablePlace) (cond (any_hides (signature_uses h v)) None (t.signature (written_of t.below ts)))) (declared_is k types v.types e)
+
+  signed_told : (types : ℕ) (h : Head) (v : Visible) → type_names (declared_at k types) ≡ v.types → SignedTold t k types h v
   signed_told types h v e =
       let ds = declared_at k types in
       let s = all_bound ds h.vars [] unread in
       let ts = all_read ds (map type_of h.params) s.vars s.after in
-      let fs = all_faults k (options_uses (map type_of h.params) (in_head h v)) in
       let g = signature ds (map type_of h.params) h.vars in
-      let b = bound_told k ds h.vars [] (bare v) unread (λ name. refl) e in (
-        joined k (brought (map var_uses h.vars) (bare v)) (options_uses (map type_of h.params) (in_head h v)) None s.after.fault g.types.after.fault b.0 (ordered_told ts.after.swaps ts fs s.after.fault (options_told k ds (map type_of h.params) s.vars (in_head h v) s.after b.1 e)),
-        refusal_other t.signature q.signature g.types.after (written_of t.below g.types),
-        b.1,
-      )
+      let nothing_known : Knows t k [] (bare v) = record { names = λ name. refl; idle = λ name. refl } in
+      let b = bound_told t k ds h.vars [] (bare v) unread nothing_known e in
+      let us = brought (map var_uses h.vars) (bare v) in
+      let vs = options_uses (map type_of h.params) (in_head h v) in
+      let c = bound_clear t k ds h.vars [] (bare v) unread nothing_known e in
+      record {
+        tells = joined t k us vs None s.after.fault g.types.after.fault b.0
+            (λ m. ordered_told ts.after.swaps ts (all_faults t k m vs) s.after.fault (options_told t k ds (map type_of h.params) s.vars (in_head h v) s.after b.1 e m));
+        knows = b.1;
+        is = signature_is types h v.types e;
+        refusal = signature_refusal_is types h v e (ordered_clear ts.after.swaps ts ∙ both_clear us vs unread s.after ts.after c.0 (options_clear t k ds (map type_of h.params) s.vars (in_head h v) s.after c.1 e));
+      }
 
-pub are_told : (t : Tests) (k : Known) → TellTypes t → AreTold t k
-are_told t k q = record { body = body_written_told t k q; made_of = made_at_told t k q; of_head = signed_told t k q }
+pub are_told : (t : Tests) (k : Known) → AreTold t k
+are_told t k = record { body = body_written_told t k; made_of = made_at_told t k; of_head = signed_told t k }

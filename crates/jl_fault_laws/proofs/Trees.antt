@@ -34,9 +34,10 @@ use Rattle.jl_resolve_forms.specs.Expressions as R
 use Rattle.jl_resolve_forms.specs.Expressions.{Reads, Defines, Says, Evaluates, Shows, Tries, bare_scope, expr_reads, method_reads, stmt_reads, eval_reads, piece_reads, branch_reads, all_coded}
 use Rattle.jl_fault_laws.specs.Uses as U
 use Rattle.jl_fault_laws.specs.Uses.{Names, Visible, ScriptNames, Uses, Stated, used, each, block, bare, names_told, type_names, at_top, shared_uses, top_uses, items_uses, uses_of}
-use Rattle.jl_fault_laws.proofs.Firsts.{Tells, nothing, one_fault}
-use Rattle.jl_fault_laws.proofs.Faults.{all_faults, Pairs, joined}
-use Rattle.jl_fault_laws.proofs.Names.{Agrees, Knows, Sees, bind_sees, bind_types, bind_told}
+use Rattle.jl_fault_laws.proofs.Firsts.{Tells, one_fault}
+use Rattle.jl_fault_laws.proofs.Faults.{all_faults, Pairs}
+use Rattle.jl_fault_laws.proofs.Adds.{Adds, adds_nothing, adds_joined, adds_alike}
+use Rattle.jl_fault_laws.proofs.Names.{Agrees, Knows, Sees, bind_sees, bind_types, bind_adds}
 use Rattle.jl_fault_laws.proofs.Told as D
 use Rattle.jl_fault_laws.proofs.Told.{AreTold, IsTold, IsToldMethod, IsToldStmt, IsToldEval, IsToldPiece, IsToldBranch}
 
@@ -130,19 +131,19 @@ module _ (t : Tests) (k : Known) (types_told : AreTold t k) where
       subst (λ (x : Tries). IsToldBranch t k (branch_uses (record { at = a; test = e; block = ss })) x) (sym rs)
       (let it : IsToldBranch t k (branch_uses (record { at = a; test = e; block = ss })) b = record { of_test = expr_uses e; of_block = map stmt_uses ss; is = λ v. ap (λ (f : Uses). f v) (sym us); test = h; in_block = g } in it)
 
-  pair_told : (u w : Uses) (x y : Reads) → IsTold t k u x → IsTold t k w y → (c : Scope) (v : Visible) (s : State) → Sees k c v → Tells (all_faults k (u v ++ w v)) s.fault (y c (x c s).after).after.fault
-  pair_told u w x y f g c v s h = joined k (u v) (w v) s.fault (x c s).after.fault (y c (x c s).after).after.fault (f c v s h) (g c v (x c s).after h)
+  pair_told : (u w : Uses) (x y : Reads) → IsTold t k u x → IsTold t k w y → (c : Scope) (v : Visible) (s : State) → Sees t k c v → Adds t k (u v ++ w v) s (y c (x c s).after).after
+  pair_told u w x y f g c v s h = adds_joined t k (u v) (w v) s (x c s).after (y c (x c s).after).after (f c v s h) (g c v (x c s).after h)
 
-  bare_sees : (types : ℕ) (v : Visible) → type_names (declared_at k types) ≡ v.types → Sees k (bare_scope types) (bare v)
-  bare_sees types v e = record { slots = λ name. refl; vars = λ name. refl; types = e }
+  bare_sees : (types : ℕ) (v : Visible) → type_names (declared_at k types) ≡ v.types → Sees t k (bare_scope types) (bare v)
+  bare_sees types v e = record { slots = λ name. refl; vars = record { names = λ name. refl; idle = λ name. refl }; statics = refl; types = e }
 
   -- ---- trees
 
   mutual
     pub expr_told : (r : Bool) (e : Expr) → FormedExpr r e → IsTold t k (expr_uses e) (expr_reads t k e)
-    expr_told _ _ (G.number r a n) = expr_at (F.Number a n) (XV.Number a n) (E.rolls-Number a n) (λ c v s g. nothing s.fault)
-    expr_told _ _ (G.truth r a b) = expr_at (F.Bool a b) (XV.Bool a b) (E.rolls-Bool a b) (λ c v s g. nothing s.fault)
-    expr_told _ _ (G.nothing r a) = expr_at (F.Nothing a) (XV.Nothing a) (E.rolls-Nothing a) (λ c v s g. nothing s.fault)
+    expr_told _ _ (G.number r a n) = expr_at (F.Number a n) (XV.Number a n) (E.rolls-Number a n) (λ c v s g. adds_nothing t k s)
+    expr_told _ _ (G.truth r a b) = expr_at (F.Bool a b) (XV.Bool a b) (E.rolls-Bool a b) (λ c v s g. adds_nothing t k s)
+    expr_told _ _ (G.nothing r a) = expr_at (F.Nothing a) (XV.Nothing a) (E.rolls-Nothing a) (λ c v s g. adds_nothing t k s)
     expr_told _ _ (G.name r a n is) = expr_at (F.Name a n) (XV.Name a n) (E.rolls-Name a n) (D.name_told t k a n)
     expr_told _ _ (G.paren r a e f) = expr_at (F.Paren a e) (E.Paren a e) (E.rolls-Paren a e) (expr_told r e f)
     expr_told _ _ (G.tuple r a es fs) = expr_at (F.Tuple a es) (E.Tuple a es) (E.rolls-Tuple a es) (D.all_coded_told t k (map expr_uses es) (map (expr_reads t k) es) (exprs_told r es fs))
@@ -159,13 +160,13 @@ module _ (t : Tests) (k : Known) (types_told : AreTold t k) where
         let x = expr_reads t k c z s in
         let y = expr_reads t k e z x.after in
         let w = expr_reads t k d z y.after in
-        joined k (expr_uses c v) (expr_uses e v ++ expr_uses d v) s.fault x.after.fault w.after.fault (expr_told r c f z v s h)
-        (joined k (expr_uses e v) (expr_uses d v) x.after.fault y.after.fault w.after.fault (expr_told r e g z v x.after h) (expr_told r d i z v y.after h)))
+        adds_joined t k (expr_uses c v) (expr_uses e v ++ expr_uses d v) s x.after w.after (expr_told r c f z v s h)
+        (adds_joined t k (expr_uses e v) (expr_uses d v) x.after y.after w.after (expr_told r e g z v x.after h) (expr_told r d i z v y.after h)))
     expr_told _ _ (G.if_end r a bs fs) = expr_at (F.If a bs) (E.If a bs) (E.rolls-If a bs) (D.all_tried_told t k (map branch_uses bs) (map (branch_reads t k) bs) (branches_told r bs fs))
     expr_told _ _ (G.if_else r a bs ss fs gs) = expr_at (F.IfElse a bs ss) (E.IfElse a bs ss) (E.rolls-IfElse a bs ss)
         (λ c v s h.
         let y = R.all_tried (map (branch_reads t k) bs) c s in
-        joined k (each (map branch_uses bs) v) (block (map stmt_uses ss) v) s.fault y.after.fault (R.block_of (map (stmt_reads t k) ss) c y.after).after.fault
+        adds_joined t k (each (map branch_uses bs) v) (block (map stmt_uses ss) v) s y.after (R.block_of (map (stmt_reads t k) ss) c y.after).after
         (D.all_tried_told t k (map branch_uses bs) (map (branch_reads t k) bs) (branches_told r bs fs) c v s h)
         (D.block_told t k (map stmt_uses ss) (map (stmt_reads t k) ss) (stmts_told r ss gs) c v y.after h))
     expr_told _ _ (G.begin_end r a ss fs) = expr_at (F.Begin a ss) (E.Begin a ss) (E.rolls-Begin a ss) (D.block_told t k (map stmt_uses ss) (map (stmt_reads t k) ss) (stmts_told r ss fs))
@@ -200,7 +201,7 @@ module _ (t : Tests) (k : Known) (types_told : AreTold t k) where
     stmt_told : (r : Bool) (s : Stmt) → FormedStmt r s → IsToldStmt t k (stmt_uses s) (stmt_reads t k s)
     stmt_told _ _ (G.bind_stmt r x e is f) = stmt_at (F.Bind x e) (SV.Bind x e) (E.rolls-Bind x e) (refl, expr_uses e, λ v. refl, expr_told r e f)
     stmt_told _ _ (G.return_stmt a e f) = stmt_at (F.Return a e) (SV.Return a e) (E.rolls-Return a e) (refl, expr_told true e f)
-    stmt_told _ _ (G.return_nothing a) = stmt_at (F.ReturnNothing a) (SV.ReturnNothing a) (E.rolls-ReturnNothing a) (refl, λ c v s g. nothing s.fault)
+    stmt_told _ _ (G.return_nothing a) = stmt_at (F.ReturnNothing a) (SV.ReturnNothing a) (E.rolls-ReturnNothing a) (refl, λ c v s g. adds_nothing t k s)
     stmt_told _ _ (G.do_stmt r e f) = stmt_at (F.Stmt::Do e) (SV.Do e) (E.rolls-Stmt::Do e) (refl, expr_told r e f)
 
     stmts_told : (r : Bool) (ss : List Stmt) → FormedStmts r ss → Pairs (IsToldStmt t k) (map stmt_uses ss) (map (stmt_reads t k) ss)
@@ -224,47 +225,47 @@ module _ (t : Tests) (k : Known) (types_told : AreTold t k) where
   -- ---- items
 
   -- what is visible at the top, where so many types are declared before
-  top_sees : (c : Scope) (n : ℕ) (vs : Names) → Agrees c vs → c.types ≡ n → Knows c.statics [] → Sees k c (at_top told n vs)
-  top_sees c n vs a e h = record { slots = a; vars = h; types = ap (λ m. type_names (declared_at k m)) e ∙ sym (take-map (λ (d : Decl). d.name) n k.decls) }
+  top_sees : (c : Scope) (n : ℕ) (vs : Names) → Agrees c vs → c.types ≡ n → c.statics ≡ [] → Sees t k c (at_top told n vs)
+  top_sees c n vs a e h = record { slots = a; vars = subst (λ xs. Knows t k xs (at_top told n vs)) (sym h) (record { names = λ name. refl; idle = λ name. refl }); statics = h; types = ap (λ m. type_names (declared_at k m)) e ∙ sym (take-map (λ (d : Decl). d.name) n k.decls) }
 
-  shared_told : (n : Name) (o : Option ℕ) (v : Visible) (s : State) → Tells (all_faults k (shared_uses told n o v)) s.fault (clash n.at o s).fault
-  shared_told n None v s = nothing s.fault
-  shared_told n (Some i) v s = one_fault (record { at = max n.at i; kind = kind.Rebound }) s.fault
+  shared_told : (n : Name) (o : Option ℕ) (v : Visible) (s : State) → Adds t k (shared_uses told n o v) s (clash n.at o s)
+  shared_told n None v s = adds_nothing t k s
+  shared_told n (Some i) v s = adds_alike t k (shared_uses told n (Some i) v) s (clash n.at (Some i) s) refl refl (λ m. one_fault (record { at = max n.at i; kind = kind.Rebound }) s.fault)
 
-  top_told : (n : Name) (c : Scope) (v : Visible) (s : State) → Agrees c v.names → Tells (all_faults k (top_uses told n v)) s.fault (top_bind k n c s).after.fault
+  top_told : (n : Name) (c : Scope) (v : Visible) (s : State) → Agrees c v.names → Adds t k (top_uses told n v) s (top_bind k n c s).after
   top_told n c v s a =
       let b = bind n c s in
       let f = first_at k.methods n.bytes in
       let o = first_at k.types n.bytes in
       let z = clash n.at f b.after in
       let own = used n.at (U.bound n.bytes) v ∷ [] in
-      joined k own (shared_uses told n f v ++ shared_uses told n o v) s.fault b.after.fault (clash n.at o z).fault (bind_told k n c s v a)
-      (joined k (shared_uses told n f v) (shared_uses told n o v) b.after.fault z.fault (clash n.at o z).fault (shared_told n f v b.after) (shared_told n o v z))
+      adds_joined t k own (shared_uses told n f v ++ shared_uses told n o v) s b.after (clash n.at o z) (bind_adds t k n c s v a)
+      (adds_joined t k (shared_uses told n f v) (shared_uses told n o v) b.after z (clash n.at o z) (shared_told n f v b.after) (shared_told n o v z))
 
-  pub items_told : (xs : List Item) → FormedItems xs → (c : Scope) (n : ℕ) (vs : Names) (s : State) → Sees k c (at_top told n vs) → c.types ≡ n → Tells (all_faults k (items_uses told xs n vs)) s.fault (all_top t k xs c s).after.fault
-  items_told _ G.no_items c n vs s a e = nothing s.fault
+  pub items_told : (xs : List Item) → FormedItems xs → (c : Scope) (n : ℕ) (vs : Names) (s : State) → Sees t k c (at_top told n vs) → c.types ≡ n → Adds t k (items_uses told xs n vs) s (all_top t k xs c s).after
+  items_told _ G.no_items c n vs s a e = adds_nothing t k s
   items_told _ (G.more_items _ xs (G.abstract_item h f) fs) c n vs s a e =
       let d = record c { types = c.types + 1 } in
-      items_told xs fs d (n + 1) vs s (top_sees d (n + 1) vs a.slots (ap (λ m. m + 1) e) a.vars) (ap (λ m. m + 1) e)
+      items_told xs fs d (n + 1) vs s (top_sees d (n + 1) vs a.slots (ap (λ m. m + 1) e) a.statics) (ap (λ m. m + 1) e)
   items_told _ (G.more_items _ xs (G.struct_item h ys f g) fs) c n vs s a e =
       let d = record c { types = c.types + 1 } in
-      items_told xs fs d (n + 1) vs s (top_sees d (n + 1) vs a.slots (ap (λ m. m + 1) e) a.vars) (ap (λ m. m + 1) e)
+      items_told xs fs d (n + 1) vs s (top_sees d (n + 1) vs a.slots (ap (λ m. m + 1) e) a.statics) (ap (λ m. m + 1) e)
   items_told _ (G.more_items _ xs (G.method_item m f) fs) c n vs s a e =
       let y = method_reads t k m c.types s in
-      joined k (method_uses m (at_top told n vs)) (items_uses told xs n vs) s.fault y.after.fault (all_top t k xs c y.after).after.fault (method_told m f c.types (at_top told n vs) s a.types) (items_told xs fs c n vs y.after a e)
+      adds_joined t k (method_uses m (at_top told n vs)) (items_uses told xs n vs) s y.after (all_top t k xs c y.after).after (method_told m f c.types (at_top told n vs) s a.types) (items_told xs fs c n vs y.after a e)
   items_told _ (G.more_items _ xs (G.bind_item x d is f) fs) c n vs s a e =
       let v = at_top told n vs in
       let y = expr_reads t k d c s in
       let b = top_bind k x c y.after in
       let us = items_uses told xs n (x.bytes ∷ vs) in
       let z = all_top t k xs b.scope b.after in
-      joined k (expr_uses d v) (top_uses told x v ++ us) s.fault y.after.fault z.after.fault (expr_told false d f c v s a)
-      (joined k (top_uses told x v) us y.after.fault b.after.fault z.after.fault (top_told x c v y.after a.slots)
-      (items_told xs fs b.scope n (x.bytes ∷ vs) b.after (bind_sees k x c y.after v a) (bind_types x c y.after ∙ e)))
+      adds_joined t k (expr_uses d v) (top_uses told x v ++ us) s y.after z.after (expr_told false d f c v s a)
+      (adds_joined t k (top_uses told x v) us y.after b.after z.after (top_told x c v y.after a.slots)
+      (items_told xs fs b.scope n (x.bytes ∷ vs) b.after (bind_sees t k x c y.after v a) (bind_types x c y.after ∙ e)))
   items_told _ (G.more_items _ xs (G.do_item d f) fs) c n vs s a e =
       let y = expr_reads t k d c s in
-      joined k (expr_uses d (at_top told n vs)) (items_uses told xs n vs) s.fault y.after.fault (all_top t k xs c y.after).after.fault (expr_told false d f c (at_top told n vs) s a) (items_told xs fs c n vs y.after a e)
+      adds_joined t k (expr_uses d (at_top told n vs)) (items_uses told xs n vs) s y.after (all_top t k xs c y.after).after (expr_told false d f c (at_top told n vs) s a) (items_told xs fs c n vs y.after a e)
 
-  pub script_told : (xs : List Item) → FormedItems xs → (f : Option Fault) → Tells (all_faults k (uses_of told xs)) f (resolved t k xs f).fault
+  pub script_told : (xs : List Item) → FormedItems xs → (f : Option Fault) → Tells (all_faults t k 0 (uses_of told xs)) f (resolved t k xs f).fault
   script_told xs fs f =
-      items_told xs fs (bare_scope BUILTIN_TYPES) BUILTIN_TYPES [] (beginning f) (top_sees (bare_scope BUILTIN_TYPES) BUILTIN_TYPES [] (λ name. refl) refl (λ name. refl)) refl
+      (items_told xs fs (bare_scope BUILTIN_TYPES) BUILTIN_TYPES [] (beginning f) (top_sees (bare_scope BUILTIN_TYPES) BUILTIN_TYPES [] (λ name. refl) refl refl) refl).tells 0 refl

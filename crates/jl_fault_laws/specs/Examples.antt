@@ -1,8 +1,10 @@
 -- Small scripts, of which the rows are computed. Each is `f(x) = 1` and a line after it.
-use Rattle.std.specs.Prelude.{ℕ, pos, codes, List, [], ◌∷◌, ◌++◌, map}
+use Rattle.std.specs.Prelude.{ℕ, zero, suc, ◌+◌, pos, codes, List, [], ◌∷◌, ◌++◌, map, None}
+use Rattle.jl_model.specs.declared.ty.DeclKind.TheVariants.{Struct}
+use Rattle.jl_model.specs.declared.ty.Ty.TheVariants as W
 use Rattle.jl_model.specs.Ancestors.{builtin_types}
+use Rattle.jl_model.specs.Rows.{free}
 use Rattle.jl_program.specs.Prelude.{prelude_functions}
-use Rattle.jl_typeread.specs.declared.tree.TypeText.{TypeText}
 use Rattle.jl_typeread.specs.declared.tree.ArgText.TheViews as V
 use Rattle.jl_typeread.specs.declared.tree.TypeText.TheVariants as TV
 use Rattle.jl_typeread.specs.declared.tree.VarText.TheVariants as VV
@@ -28,6 +30,9 @@ f = 102
 
 abbrev pub g : ℕ
 g = 103
+
+abbrev pub S : ℕ
+S = 83
 
 abbrev pub R : ℕ
 R = 82
@@ -90,6 +95,30 @@ with_two_bindings = good ++ N.Bind (name_at 18 y) (one_at 22) ∷ []
 -- `y = f(1)`, and on a third line `div = 1`
 abbrev pub with_built_in : List Item
 with_built_in = good ++ N.Bind (record { at = 18; bytes = codes "div" }) (one_at 24) ∷ []
+
+-- `struct S{T} end`, whose parameter is in no field, declares a type and no function
+abbrev pub known_struct : Known
+known_struct = record {
+  decls = builtin_types ++ record { name = S ∷ []; kind = Struct; params = free ∷ []; parent = W.Any; fields = [] } ∷ [];
+  functions = prelude_functions;
+  methods = [];
+  types = name_at 7 S ∷ [];
+}
+
+-- behind it, on a second line, `S()`
+abbrev pub with_inferred : List Item
+with_inferred =
+    N.Struct (record { header = record { at = 0; name = name_at 7 S; params = VV.Free 9 (T ∷ []) ∷ []; parent = None }; fields = [] })
+    ∷ N.Do (E.Call 16 (C.Plain (name_at 16 S)) []) ∷ []
+
+-- `f(x) = 1` at this place
+abbrev pub method_at : ℕ → Item
+method_at at = N.Method (E.Short at (record { callee = C.Plain (name_at at f); params = P.Name (name_at (at + 2) x) ∷ []; vars = [] }) (one_at (at + 7)))
+
+-- so many lines `f(x) = 1`, from this place on
+abbrev pub lines : ℕ → ℕ → List Item
+lines zero at = []
+lines (suc n) at = method_at at ∷ lines n (at + 9)
 
 abbrev pub fault : ℕ → StaticKind → Fault
 fault at kind = record { at = at; kind = kind }

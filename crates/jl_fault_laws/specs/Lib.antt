@@ -1,3 +1,4 @@
 pub mod Uses
 pub mod Rows
+pub mod TypeRows
 pub mod Examples

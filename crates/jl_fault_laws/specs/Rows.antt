@@ -1,6 +1,6 @@
 -- Rows of the table of static faults: of which use of a name each holds (docs/LANGUAGE.md, Faults of a script).
-use Rattle.std.specs.Prelude.{ℕ, Bool, true, false, ◌&&◌, ◌||◌, not, nat_lt, List, map, Option, Some, None, ◌≡◌}
-use Rattle.jl_model.specs.declared.limits.TheConstants.{MOST_ARGUMENTS}
+use Rattle.std.specs.Prelude.{ℕ, suc, Bool, true, false, ◌&&◌, ◌||◌, not, cond, nat_lt, nat_le, List, [], ◌∷◌, ◌++◌, Option, Some, None, ◌≡◌}
+use Rattle.jl_model.specs.declared.limits.TheConstants.{MOST_ARGUMENTS, MOST_SITES}
 use Rattle.jl_model.specs.declared.ty.Written.{Written}
 use Rattle.jl_program.specs.Names.{is_among, builtin_names}
 use Rattle.jl_program.specs.Prelude.{prelude_functions}
@@ -15,7 +15,7 @@ use Rattle.jl_written.specs.declared.fault.StaticKind.TheVariants as kind
 use Rattle.jl_resolve_forms.specs.declared.known.Known.{Known}
 use Rattle.jl_resolve_forms.specs.Expressions.{names_in}
 use Rattle.jl_resolve_forms.specs.TypesIn.{Tests}
-use Rattle.jl_fault_laws.specs.Uses.{Names, Visible, How, value, called, made, latest, defined, bound, shared, type_variable, declared_type, plain_type, braced_type, Use, In, declares, names_told, makes, is_type, takes_braces, uses_of}
+use Rattle.jl_fault_laws.specs.Uses.{Names, Visible, How, value, called, made, latest, defined, bound, shared, type_variable, declared_type, plain_type, braced_type, Use, declares, names_told, makes, is_type, takes_braces, uses_of}
 
 -- a struct of the script, which no variable hides
 abbrev pub is_struct : Known → Callee → Names → Bool
@@ -41,7 +41,7 @@ abbrev pub unknown_function : Known → How → Visible → Bool
 unknown_function k (called f m) v = not (is_struct k f v.names) && not (has_function k f v.names)
 unknown_function k (made t) v = not (makes (names_told k) t v)
 unknown_function k (latest f m) v = not (has_function k f v.names)
-unknown_function k (defined f) v = not (has_function k f v.names)
+unknown_function k (defined h) v = not (has_function k h.callee v.names)
 unknown_function k _ v = false
 
 -- UnknownType: a name that must be a type is none there: not declared before and no type variable, or `Union` or `Tuple` without
@@ -78,22 +78,38 @@ is_taken k (C.Operator at o) = false
 
 -- NameClash: a variable, a type variable or a type gets a built-in name, or a taken one is defined
 abbrev pub name_clash : Known → How → Bool
-name_clash k (defined f) = is_taken k f
+name_clash k (defined h) = is_taken k h.callee
 name_clash k (bound n) = is_among n builtin_names
 name_clash k (type_variable n) = is_among n builtin_names
 name_clash k (declared_type n) = is_among n builtin_names
 name_clash k _ = false
 
--- the row of a kind of fault, where it is one of the seven
-abbrev pub holds : Known → StaticKind → How → Visible → Bool
-holds k kind.UnknownName h v = unknown_name h v
-holds k kind.UnknownFunction h v = unknown_function k h v
-holds k kind.TooManyArguments h v = too_many_arguments k h v
-holds k kind.UnknownType h v = unknown_type h v
-holds k kind.Rebound h v = rebound h v
-holds k kind.DuplicateType h v = duplicate h v
-holds k kind.NameClash h v = name_clash k h
-holds k _ h v = false
+-- a method is defined there
+abbrev pub is_definition : How → Bool
+is_definition (defined h) = true
+is_definition _ = false
+
+-- how many methods these uses define
+abbrev pub definitions : List Use → ℕ
+definitions [] = 0
+definitions (u ∷ us) = cond (is_definition u.how) (suc (definitions us)) (definitions us)
+
+-- TooManySites: a method is defined where so many are defined before that no more may be
+abbrev pub too_many_sites : How → ℕ → Bool
+too_many_sites (defined h) n = nat_le MOST_SITES n
+too_many_sites _ n = false
+
+-- the row of a kind of fault, where it is one of the eight, of a use behind so many defined methods
+abbrev pub holds : Known → StaticKind → How → Visible → ℕ → Bool
+holds k kind.UnknownName h v n = unknown_name h v
+holds k kind.UnknownFunction h v n = unknown_function k h v
+holds k kind.TooManyArguments h v n = too_many_arguments k h v
+holds k kind.UnknownType h v n = unknown_type h v
+holds k kind.Rebound h v n = rebound h v
+holds k kind.DuplicateType h v n = duplicate h v
+holds k kind.NameClash h v n = name_clash k h
+holds k kind.TooManySites h v n = too_many_sites h n
+holds k _ h v n = false
 
 -- these kinds of faults have their row here
 abbrev pub has_row : StaticKind → Bool
@@ -104,14 +120,17 @@ has_row kind.UnknownType = true
 has_row kind.Rebound = true
 has_row kind.DuplicateType = true
 has_row kind.NameClash = true
+has_row kind.TooManySites = true
 has_row _ = false
 
 -- a row holds of one of these uses of names, and its fault stands there
 pub record HoldsIn (k : Known) (us : List Use) (f : Fault) : Type 0 where
+  pub before : List Use
   pub use_ : Use
-  pub among : In use_ us
+  pub behind : List Use
+  pub is : us ≡ before ++ use_ ∷ behind
   pub place : use_.at ≡ f.at
-  pub row : holds k f.kind use_.how use_.visible ≡ true
+  pub row : holds k f.kind use_.how use_.visible (definitions before) ≡ true
 
 -- a row holds of a use of a name in items
 abbrev pub HoldsAt : Known → List Item → Fault → Type 0

@@ -1,7 +1,7 @@
 -- The uses of names in a script, each with what is visible there (Julia manual, Scope of Variables; Types): where a name is a
 -- value, where a function or a constructor is called, where a method is added to a function, where a name stands for a type,
 -- and where a variable, a type variable or a type gets its name. Neither faults nor slots nor code are named here.
-use Rattle.std.specs.Prelude.{ℕ, ◌+◌, max, Bool, false, ◌&&◌, ◌||◌, not, cond, codes, List, [], ◌∷◌, ◌++◌, ◌≡◌, ◌⊎◌, map, take, length, Option, Some, None, is_some}
+use Rattle.std.specs.Prelude.{ℕ, ◌+◌, max, Bool, false, ◌&&◌, ◌||◌, not, cond, codes, List, [], ◌∷◌, ◌++◌, map, take, length, Option, Some, None, is_some}
 use Rattle.jl_model.specs.declared.ty.Decl.{Decl}
 use Rattle.jl_program.specs.Names.{same_text, is_among}
 use Rattle.jl_typeread.specs.declared.tree.ArgText.{ArgText}
@@ -38,21 +38,24 @@ use Rattle.jl_resolve_forms.specs.TypesIn.{begins}
 abbrev pub Names : Type 0
 Names = List (List ℕ)
 
--- what is visible at a place: the variables, the type variables, and the types that are declared before it
+-- What is visible at a place: the variables; the type variables, and those of them that the type itself brings; the types that
+-- are declared before it; and the method in whose body it is.
 pub record Visible : Type 0 where
   pub names : Names
   pub vars : Names
+  pub inner : Names
   pub types : Names
+  pub method : Option Head
 
 abbrev pub with_name : List ℕ → Visible → Visible
 with_name n v = record v { names = n ∷ v.names }
 
 abbrev pub with_var : List ℕ → Visible → Visible
-with_var n v = record v { vars = n ∷ v.vars }
+with_var n v = record v { vars = n ∷ v.vars; inner = n ∷ v.inner }
 
 -- a method and an evaluated statement see no variable around them
 abbrev pub bare : Visible → Visible
-bare v = record { names = []; vars = []; types = v.types }
+bare v = record { names = []; vars = []; inner = []; types = v.types; method = None }
 
 -- What the whole script tells of names: its types, the built-in ones first, in text order; which names are structs of it; and
 -- where it names its functions and its types.
@@ -80,10 +83,12 @@ pub data How : Type 0 where
   called : Callee → ℕ → How
   -- called with braces behind it
   made : TypeText → How
+  -- a struct, called with these type arguments in braces
+  built : TypeText → How
   -- called by `Base.invokelatest` with so many arguments
   latest : Callee → ℕ → How
-  -- a method is added to it
-  defined : Callee → How
+  -- a method with this head is added to it
+  defined : Head → How
   -- a variable gets it
   bound : List ℕ → How
   -- a variable at the top has it, and a function or a type of the script has it too: at the later of the two places
@@ -96,6 +101,8 @@ pub data How : Type 0 where
   plain_type : List ℕ → How
   -- as a type, with braces behind it
   braced_type : List ℕ → How
+  -- as the first of a type that is written in a body
+  written : TypeText → How
 
 -- a use of a name: where it stands, and what is visible there
 pub record Use : Type 0 where
@@ -105,11 +112,6 @@ pub record Use : Type 0 where
 
 abbrev pub used : ℕ → How → Visible → Use
 used at h v = record { at = at; how = h; visible = v }
-
--- it is one of a list
-abbrev pub In : {A : Type 0} → A → List A → Type 0
-In x [] = ⊥
-In x (y ∷ ys) = (x ≡ y) ⊎ In x ys
 
 -- ---- the uses in a part, by what is visible there
 
@@ -179,7 +181,7 @@ then_vars [] vs = vs
 then_vars (x ∷ xs) vs = then_vars xs (x.name ∷ vs)
 
 abbrev pub with_vars : List Brings → Visible → Visible
-with_vars xs v = record v { vars = then_vars xs v.vars }
+with_vars xs v = record v { vars = then_vars xs v.vars; inner = then_vars xs v.inner }
 
 abbrev pub brought : List Brings → Uses
 brought [] v = []
@@ -219,6 +221,14 @@ abbrev pub options_uses : List (Option TypeText) → Uses
 options_uses [] v = []
 options_uses (t ∷ ts) v = option_uses t v ++ options_uses ts v
 
+-- a type in a body
+abbrev pub body_uses : TypeText → Uses
+body_uses t v = used (begins t) (written t) v ∷ type_uses t v
+
+-- the type arguments of a struct that is called
+abbrev pub built_uses : TypeText → Uses
+built_uses t v = used (begins t) (built t) v ∷ each (map arg_uses (made_args (out-TypeText t))) v
+
 -- ---- of a method up to its body
 
 -- its types see the variables of its `where`
@@ -228,12 +238,16 @@ in_head h v = with_vars (map var_uses h.vars) (bare v)
 abbrev pub signature_uses : Head → Uses
 signature_uses h v = brought (map var_uses h.vars) (bare v) ++ options_uses (map type_of h.params) (in_head h v)
 
+-- after its signature the variables of its `where` are those of the method
+abbrev pub after_head : Head → Visible → Visible
+after_head h v = record (in_head h v) { inner = []; method = Some h }
+
 abbrev pub head_uses : Head → Uses
-head_uses h v = used (place_of_callee h.callee) (defined h.callee) (bare v) ∷ (signature_uses h v ++ params_uses h.params (in_head h v))
+head_uses h v = used (place_of_callee h.callee) (defined h) (bare v) ∷ (signature_uses h v ++ params_uses h.params (after_head h v))
 
 -- its body sees its parameters too, and no variable of the script
 abbrev pub in_body : Head → Visible → Visible
-in_body h v = with_names (params_of h.params) (in_head h v)
+in_body h v = with_names (params_of h.params) (after_head h v)
 
 module _ (g : ScriptNames) where
   -- a struct of the script before braces, which no variable hides
@@ -255,13 +269,13 @@ module _ (g : ScriptNames) where
   expr_step (F.Paren at x) v = x v
   expr_step (F.Tuple at xs) v = each xs v
   expr_step (F.Call at f xs) v = each xs v ++ used (place_of_callee f) (called f (length xs)) v ∷ []
-  expr_step (F.Make at ty xs) v = if_read (makes ty v) (each (map arg_uses (made_args (out-TypeText ty))) v) ++ (each xs v ++ used (begins ty) (made ty) v ∷ [])
+  expr_step (F.Make at ty xs) v = if_read (makes ty v) (built_uses ty v) ++ (each xs v ++ used (begins ty) (made ty) v ∷ [])
   expr_step (F.Field at x n) v = x v
   expr_step (F.Part at x n) v = x v
   expr_step (F.Prefix at o x) v = x v
   expr_step (F.Infix at o a b) v = a v ++ b v
-  expr_step (F.Isa at x ty) v = x v ++ type_uses ty v
-  expr_step (F.Sub at a b) v = type_uses a v ++ type_uses b v
+  expr_step (F.Isa at x ty) v = x v ++ body_uses ty v
+  expr_step (F.Sub at a b) v = body_uses a v ++ body_uses b v
   expr_step (F.Choose at q a b) v = q v ++ (a v ++ b v)
   expr_step (F.If at bs) v = each bs v
   expr_step (F.IfElse at bs ss) v = each bs v ++ block ss v
@@ -320,7 +334,7 @@ module _ (g : ScriptNames) where
 
   -- what is visible at the top, where so many types are declared before
   abbrev pub at_top : ℕ → Names → Visible
-  at_top n vs = record { names = vs; vars = []; types = take n g.types }
+  at_top n vs = record { names = vs; vars = []; inner = []; types = take n g.types; method = None }
 
   -- a variable at the top has the name of a function or a type, which stands there
   abbrev pub shared_uses : Name → Option ℕ → Uses

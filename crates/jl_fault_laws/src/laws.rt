@@ -1,24 +1,37 @@
-//! Rows of the table of static faults. They are about definitions alone: the function does nothing, and its contract is the law.
+//! Rows of the table of static faults. They are about definitions alone: each function does nothing, and its contract is the law.
 
-ghost use Rattle.std.specs.Prelude.{◌≡◌, ◌⊎◌, List, Option, Some, true};
+ghost use Rattle.std.specs.Prelude.{◌≡◌, ◌⊎◌, ◌≤◌, ℕ, List, [], ◌∷◌, ◌++◌, Option, Some, true};
+ghost use Rattle.jl_model.specs.declared.limits.TheConstants.{MOST_SITES};
 ghost use Rattle.jl_grammar.specs.declared.tree.Item.{Item};
 ghost use Rattle.jl_formed.specs.Formed.{FormedItems};
 ghost use Rattle.jl_written.specs.declared.fault.Fault.{Fault};
 ghost use Rattle.jl_resolve_forms.specs.declared.known.Known.{Known};
 ghost use Rattle.jl_resolve_forms.specs.Top.{resolved};
 ghost use Rattle.jl_resolve_forms.specs.TypesIn.{Tests};
-ghost use Rattle.jl_written.specs.declared.fault.StaticKind.TheVariants.{UnknownName, UnknownFunction, UnknownType, TooManyArguments, Rebound, NameClash};
-ghost use Rattle.jl_fault_laws.specs.Examples.{known, good, with_unknown_name, with_unknown_function, with_many_arguments, with_unknown_type, with_two_variables, with_function_name, with_two_bindings, with_built_in, fault};
+ghost use Rattle.jl_written.specs.declared.fault.StaticKind.TheVariants.{UnknownName, UnknownFunction, UnknownType, TooManyArguments, TooManySites, Rebound, NameClash, StaticParameterUse};
+ghost use Rattle.jl_fault_laws.specs.Examples.{known, good, with_unknown_name, with_unknown_function, with_many_arguments, with_unknown_type, with_two_variables, with_function_name, with_two_bindings, with_built_in, known_struct, with_inferred, method_at, lines, fault};
 ghost use Rattle.jl_fault_laws.specs.Rows.{has_row, HoldsAt, IsReportedBy, TellTypes};
+ghost use Rattle.jl_fault_laws.specs.TypeRows.{RefusedAt};
 
-/// Rows of uses of names in well-formed items. `only`: a fault UnknownName, UnknownFunction, UnknownType, Rebound, NameClash or
-/// TooManyArguments is reported only where its row holds of a use of a name at its place, or where the declarations had it. `least`:
-/// where a row holds of a use, its fault is reported, or one that it does not come before.
+/// Rows of uses of names in well-formed items. `only`: a fault UnknownName, UnknownFunction, UnknownType, Rebound, NameClash,
+/// TooManySites or TooManyArguments is reported only where its row holds of a use of a name at its place, or where the declarations
+/// had it. `least`: where a row holds of a use, its fault is reported, or one that it does not come before.
 #[tactic(none)]
 pub fn law_rows()
     ensures only { (t : Tests) → TellTypes t → (k : Known) (items : List Item) (o : Option Fault) → FormedItems items → (f : Fault) → has_row f.kind ≡ true
         → (resolved t k items o).fault ≡ Some f → (o ≡ Some f) ⊎ HoldsAt k items f }
     ensures least { (t : Tests) → TellTypes t → (k : Known) (items : List Item) (o : Option Fault) → FormedItems items → (f : Fault) → HoldsAt k items f
+        → IsReportedBy (resolved t k items o).fault f }
+{}
+
+/// Each fault of well-formed items. `only`: a fault is reported only where its row of names holds of a use at its place, where a use at
+/// its place is refused for its types with that fault, or where the declarations had it. `least`: where a use is refused for its types,
+/// that fault is reported, or one that it does not come before.
+#[tactic(none)]
+pub fn law_each_fault()
+    ensures only { (t : Tests) (k : Known) (items : List Item) (o : Option Fault) → FormedItems items → (f : Fault)
+        → (resolved t k items o).fault ≡ Some f → (o ≡ Some f) ⊎ HoldsAt k items f ⊎ RefusedAt t k items f }
+    ensures least { (t : Tests) (k : Known) (items : List Item) (o : Option Fault) → FormedItems items → (f : Fault) → RefusedAt t k items f
         → IsReportedBy (resolved t k items o).fault f }
 {}
 
@@ -34,4 +47,6 @@ pub fn law_examples()
     ensures binding { HoldsAt known with_two_bindings (fault 18 Rebound) }
     ensures function_name { HoldsAt known with_function_name (fault 18 Rebound) }
     ensures built_in { HoldsAt known with_built_in (fault 18 NameClash) }
+    ensures sites { (n at : ℕ) → MOST_SITES ≤ n → HoldsAt known (lines n 0 ++ method_at at ∷ []) (fault at TooManySites) }
+    ensures inferred { (t : Tests) → RefusedAt t known_struct with_inferred (fault 16 StaticParameterUse) }
 {}

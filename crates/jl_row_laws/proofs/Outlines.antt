@@ -24,13 +24,12 @@ use Rattle.jl_resolve_forms.specs.Defined.{methods_of, types_of}
 use Rattle.jl_resolve_forms.specs.Functions.{if_struct}
 use Rattle.jl_declare.specs.declared.judged.Judged.{Judged}
 use Rattle.jl_declare.specs.declared.judged.Judged.TheVariants as J
-use Rattle.jl_declare.specs.declared.read.ReadDecl.{ReadDecl}
 use Rattle.jl_declare.specs.Declaration.{fields_of, heading, declaration, outline}
 use Rattle.jl_declare.specs.Judgement.{IsJudged, kept, refused, IsAnswer, shown}
-use Rattle.jl_declare.specs.Declarations.{Declaring, no_declaration, IsJudgement, IsDeclared, DeclaresOne, Declares}
+use Rattle.jl_declare.specs.Declarations.{Declaring, no_declaration, IsDeclared, Declares}
 use Rattle.jl_declare.specs.Script.{known_of}
-use Rattle.jl_fault_laws.specs.Uses.{Names, Visible, Use, In, How, called, made, declares, names_told, makes, type_names, uses_of}
-use Rattle.jl_fault_laws.specs.Rows.{is_struct, has_function, unknown_function, too_many_arguments, holds, HoldsIn}
+use Rattle.jl_fault_laws.specs.Uses.{Names, Visible, Use, How, called, made, declares, names_told, makes, uses_of}
+use Rattle.jl_fault_laws.specs.Rows.{is_struct, has_function, unknown_function, too_many_arguments, definitions, holds, HoldsIn}
 use Rattle.jl_row_laws.specs.Script.{declared_in}
 
 -- ---- declarations of the same names and kinds
@@ -137,22 +136,40 @@ module _ (items : List Item) (ds es : List Decl) (same : AreSame ds es) where
   arguments_same (called f m) v = ap (λ b. not b && (has_function (known_of items es) f v.names && nat_lt MOST_ARGUMENTS m)) (struct_same f v.names)
   arguments_same _ v = refl
 
-  holds_same : (k : StaticKind) (h : How) (v : Visible) → holds (known_of items ds) k h v ≡ holds (known_of items es) k h v
-  holds_same kind.UnknownFunction h v = function_same h v
-  holds_same kind.TooManyArguments h v = arguments_same h v
-  holds_same _ h v = refl
+  holds_same : (k : StaticKind) (h : How) (v : Visible) (n : ℕ) → holds (known_of items ds) k h v n ≡ holds (known_of items es) k h v n
+  holds_same kind.UnknownFunction h v n = function_same h v
+  holds_same kind.TooManyArguments h v n = arguments_same h v
+  holds_same _ h v n = refl
 
   uses_same : (us : List Use) → us ++ uses_of (names_told (known_of items ds)) items ≡ us ++ uses_of (names_told (known_of items es)) items
   uses_same us = ap (λ g. us ++ uses_of g items) names_same
 
   there : (us : List Use) (f : Fault) → HoldsIn (known_of items ds) (us ++ uses_of (names_told (known_of items ds)) items) f → HoldsIn (known_of items es) (us ++ uses_of (names_told (known_of items es)) items) f
-  there us f h = record { use_ = h.use_; among = subst (In h.use_) (uses_same us) h.among; place = h.place; row = sym (holds_same f.kind h.use_.how h.use_.visible) ∙ h.row }
+  there us f h = record {
+    before = h.before;
+    use_ = h.use_;
+    behind = h.behind;
+    is = sym (uses_same us) ∙ h.is;
+    place = h.place;
+    row = sym (holds_same f.kind h.use_.how h.use_.visible (definitions h.before)) ∙ h.row;
+  }
 
   back : (us : List Use) (f : Fault) → HoldsIn (known_of items es) (us ++ uses_of (names_told (known_of items es)) items) f → HoldsIn (known_of items ds) (us ++ uses_of (names_told (known_of items ds)) items) f
-  back us f h = record { use_ = h.use_; among = subst (In h.use_) (sym (uses_same us)) h.among; place = h.place; row = holds_same f.kind h.use_.how h.use_.visible ∙ h.row }
+  back us f h = record {
+    before = h.before;
+    use_ = h.use_;
+    behind = h.behind;
+    is = uses_same us ∙ h.is;
+    place = h.place;
+    row = holds_same f.kind h.use_.how h.use_.visible (definitions h.before) ∙ h.row;
+  }
 
 text_same : (items : List Item) (d : Declaring) → Declares items no_declaration d → AreSame d.decls (builtin_types ++ declared_in items)
 text_same items d h = items_same items no_declaration d builtin_types (same_all builtin_types) h
+
+pub same_uses : (items : List Item) (d : Declaring) → Declares items no_declaration d → (us : List Use)
+    → us ++ uses_of (names_told (known_of items d.decls)) items ≡ us ++ uses_of (names_told (known_of items (builtin_types ++ declared_in items))) items
+same_uses items d h us = uses_same items d.decls (builtin_types ++ declared_in items) (text_same items d h) us
 
 pub to_text : (items : List Item) (d : Declaring) → Declares items no_declaration d → (us : List Use) (f : Fault)
     → HoldsIn (known_of items d.decls) (us ++ uses_of (names_told (known_of items d.decls)) items) f

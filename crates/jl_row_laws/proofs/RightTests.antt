@@ -23,6 +23,7 @@ sig_other ds s kind.UnknownType a = absurd a
 sig_other ds s kind.Rebound a = absurd a
 sig_other ds s kind.DuplicateType a = absurd a
 sig_other ds s kind.NameClash a = absurd a
+sig_other ds s kind.TooManySites a = absurd a
 sig_other ds s _ a = refl
 
 body_other : (ds : List Decl) (s : Written) (k : StaticKind) → BodyAnswer (Some k) ds s → has_row k ≡ false
@@ -33,6 +34,7 @@ body_other ds s kind.UnknownType a = absurd a
 body_other ds s kind.Rebound a = absurd a
 body_other ds s kind.DuplicateType a = absurd a
 body_other ds s kind.NameClash a = absurd a
+body_other ds s kind.TooManySites a = absurd a
 body_other ds s _ a = refl
 
 none_some : (k : StaticKind) → None ≡ Some k → ⊥

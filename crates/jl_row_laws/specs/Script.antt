@@ -1,6 +1,7 @@
 -- Where a row holds of a script.
-use Rattle.std.specs.Prelude.{List, [], ◌∷◌, ◌++◌, map}
+use Rattle.std.specs.Prelude.{◌≡◌, List, [], ◌∷◌, ◌++◌, map, take, None}
 use Rattle.jl_model.specs.declared.ty.Decl.{Decl}
+use Rattle.jl_model.specs.declared.ty.DeclKind.{DeclKind}
 use Rattle.jl_model.specs.declared.ty.DeclKind.TheVariants.{Abstract, Struct}
 use Rattle.jl_model.specs.Ancestors.{builtin_types}
 use Rattle.jl_grammar.specs.declared.tree.Field.{Field as FieldText}
@@ -9,11 +10,16 @@ use Rattle.jl_grammar.specs.declared.tree.Item.{Item}
 use Rattle.jl_grammar.specs.declared.tree.Item.TheVariants as N
 use Rattle.jl_grammar.specs.declared.tree.Script.{Script}
 use Rattle.jl_written.specs.declared.fault.Fault.{Fault}
-use Rattle.jl_declare.specs.Declaration.{outline}
+use Rattle.jl_declare.specs.declared.judged.Judged.TheVariants as J
+use Rattle.jl_declare.specs.Declaration.{declaration, outline}
+use Rattle.jl_declare.specs.Declarations.{Declaring, Declares, IsJudgement, no_declaration}
 use Rattle.jl_declare.specs.Script.{known_of}
+use Rattle.jl_judge.specs.Right.{IsRight}
 use Rattle.jl_resolve_forms.specs.declared.known.Known.{Known}
+use Rattle.jl_resolve_forms.specs.TypesIn.{Tests}
 use Rattle.jl_fault_laws.specs.Uses.{Names, Visible, Use, used, declared_type, with_vars, brought, var_uses, option_uses, options_uses, type_names, names_told, uses_of}
 use Rattle.jl_fault_laws.specs.Rows.{HoldsIn}
+use Rattle.jl_fault_laws.specs.TypeRows.{RefusedIn}
 
 -- the types that items declare, in text order: rows of names ask only for their names, and which of them are structs
 abbrev pub declared_in : List Item → List Decl
@@ -26,7 +32,7 @@ declared_in (N.Do x ∷ xs) = declared_in xs
 
 -- only these types are visible
 abbrev pub types_only : Names → Visible
-types_only types = record { names = []; vars = []; types = types }
+types_only types = record { names = []; vars = []; inner = []; types = types; method = None }
 
 -- The uses of names in a declaration behind these types: its own name, its parameters with their bounds, its parent, and its
 -- fields, which see the type itself too.
@@ -55,3 +61,38 @@ script_uses s = declarations_uses s.items (type_names builtin_types) ++ uses_of 
 -- a row holds of a use of a name in a script, and its fault stands there
 abbrev pub HoldsOf : Script → Fault → Type 0
 HoldsOf s f = HoldsIn (text_known s) (script_uses s) f
+
+-- what a script is read over: its declarations, and tests that are right for those of them that are allowed
+pub record Setting (s : Script) : Type 0 where
+  pub declaring : Declaring
+  pub declares : Declares s.items no_declaration declaring
+  pub tests : Tests
+  pub right : IsRight (take declaring.allowed declaring.decls) tests
+
+-- a use in a script is refused for its types, and the fault stands there
+abbrev pub RefusedOf : (s : Script) → Setting s → Fault → Type 0
+RefusedOf s g f = RefusedIn g.tests (known_of s.items g.declaring.decls) (script_uses s) f
+
+-- a declaration is refused after those before it, and the fault stands at its name
+abbrev pub IsRefusedAs : DeclKind → Header → List FieldText → Declaring → Fault → Type 0
+IsRefusedAs k h fields st f = (h.name.at ≡ f.at) × IsJudgement st (declaration st.decls k h fields) (J.Refused f.kind)
+
+-- an item that is a declaration is refused
+abbrev pub IsRefusedItem : Item → Declaring → Fault → Type 0
+IsRefusedItem (N.Abstract a) st f = IsRefusedAs Abstract a.header [] st f
+IsRefusedItem (N.Struct x) st f = IsRefusedAs Struct x.header x.fields st f
+IsRefusedItem _ st f = ⊥
+
+-- a declaration in these items is refused, where these are declared before them
+pub record RefusedFrom (xs : List Item) (st : Declaring) (f : Fault) : Type 0 where
+  pub before : List Item
+  pub item : Item
+  pub behind : List Item
+  pub is : xs ≡ before ++ item ∷ behind
+  pub declaring : Declaring
+  pub declares : Declares before st declaring
+  pub refused : IsRefusedItem item declaring f
+
+-- a declaration of a script is refused
+abbrev pub RefusedDeclaration : Script → Fault → Type 0
+RefusedDeclaration s f = RefusedFrom s.items no_declaration f

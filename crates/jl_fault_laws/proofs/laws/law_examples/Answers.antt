@@ -1,4 +1,4 @@
-use Rattle.jl_fault_laws.proofs.ExampleRows.{good_rows, name_row, function_row, arguments_row, type_row, variable_row, binding_row, shared_row, built_in_row}
+use Rattle.jl_fault_laws.proofs.ExampleRows.{good_rows, name_row, function_row, arguments_row, type_row, variable_row, binding_row, shared_row, built_in_row, inferred_row, sites_row}
 use Rattle.jl_fault_laws.proofs.laws.law_examples.Goals as goal
 
 pub returns-clause-none : goal.returns-clause-none
@@ -27,3 +27,9 @@ returns-clause-variable c = variable_row
 
 pub returns-clause-function_name : goal.returns-clause-function_name
 returns-clause-function_name c = shared_row
+
+pub returns-clause-inferred : goal.returns-clause-inferred
+returns-clause-inferred c = inferred_row
+
+pub returns-clause-sites : goal.returns-clause-sites
+returns-clause-sites c = sites_row

@@ -1,4 +1,4 @@
-use Rattle.jl_row_laws.proofs.ExampleRows.{good_rows, duplicate_row, built_in_row, unknown_row, parameters_row}
+use Rattle.jl_row_laws.proofs.ExampleRows.{good_rows, duplicate_row, built_in_row, unknown_row, parameters_row, refused_row, parameters_refused}
 use Rattle.jl_row_laws.proofs.laws.law_declared_examples.Goals as goal
 
 pub returns-clause-none : goal.returns-clause-none
@@ -15,3 +15,9 @@ returns-clause-unknown c = unknown_row
 
 pub returns-clause-parameters : goal.returns-clause-parameters
 returns-clause-parameters c = parameters_row
+
+pub returns-clause-refused : goal.returns-clause-refused
+returns-clause-refused c = refused_row
+
+pub returns-clause-many : goal.returns-clause-many
+returns-clause-many c = parameters_refused
