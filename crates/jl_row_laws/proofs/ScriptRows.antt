@@ -119,7 +119,7 @@ module _ (s : Script) (fs : FormedScript s) (g : Setting s) where
       least f (all_told.all f (refused_among g.tests told_of 0 us f (subst (λ us. RefusedIn g.tests told_of us f) (sym (same_uses s.items g.declaring g.declares in_declarations)) r)))
   refused_least f (inr r) = least f (all_told.refused f r)
 
-setting_of : (s : Script) (P : Program) (o : Option Fault) → ComesTo s P o → Setting s
+pub setting_of : (s : Script) (P : Program) (o : Option Fault) → ComesTo s P o → Setting s
 setting_of s P o c = record { declaring = c.declaring; declares = c.declares; tests = c.tests; right = c.right }
 
 abbrev fault_at : ℕ → StaticKind → Fault

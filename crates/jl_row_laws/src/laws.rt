@@ -1,7 +1,7 @@
 //! Rows of the table of static faults, of whole scripts. They are laws over definitions alone: each function does nothing,
 //! and its contract is the law.
 
-ghost use Rattle.std.specs.Prelude.{◌≡◌, ◌⊎◌, ℕ, List, true, false};
+ghost use Rattle.std.specs.Prelude.{◌≡◌, ◌⊎◌, ℕ, List, Option, true, false};
 ghost use Rattle.jl_model.specs.declared.ty.Decl.{Decl};
 ghost use Rattle.jl_program.specs.declared.tree.Program.{Program};
 ghost use Rattle.jl_grammar.specs.declared.tree.Script.{Script};
@@ -11,7 +11,7 @@ ghost use Rattle.jl_written.specs.declared.fault.StaticKind.{StaticKind};
 ghost use Rattle.jl_written.specs.Answered.{comes_before};
 ghost use Rattle.jl_resolve_forms.specs.TypesIn.{Tests};
 ghost use Rattle.jl_judge.specs.Right.{IsRight};
-ghost use Rattle.jl_resolve.specs.Program.{IsProgramOf, IsFaultOf};
+ghost use Rattle.jl_resolve.specs.Program.{ComesTo, IsProgramOf, IsFaultOf};
 ghost use Rattle.jl_fault_laws.specs.Rows.{has_row, TellTypes};
 ghost use Rattle.jl_written.specs.declared.fault.StaticKind.TheVariants.{UnknownType, Rebound, DuplicateType, NameClash, TooManyParameters};
 ghost use Rattle.jl_fault_laws.specs.Examples.{fault};
@@ -39,7 +39,8 @@ pub fn law_program_rows()
 
 /// Each static fault of a script. `only`: it is the first one only where its row of names holds of a use at its place, where a use at its
 /// place is refused for its types with that fault, or where the declaration of that name is. `first`: where one of these is refused, its
-/// fault does not come before the one that the script has. `none`: in a program none is refused.
+/// fault does not come before the one that the script has. `none`: in a program none is refused. `setting`: whatever
+/// a script comes to, it has a setting.
 #[tactic(none)]
 pub fn law_each_program_fault()
     ensures only { (s : Script) → FormedScript s → (g : Setting s) (at : ℕ) (kind : StaticKind) → IsFaultOf s at kind
@@ -48,6 +49,7 @@ pub fn law_each_program_fault()
         → RefusedOf s g f ⊎ RefusedDeclaration s f → comes_before f (record { at = at; kind = kind }) ≡ false }
     ensures none { (s : Script) → FormedScript s → (g : Setting s) (P : Program) → IsProgramOf s P → (f : Fault)
         → RefusedOf s g f ⊎ RefusedDeclaration s f → ⊥ }
+    ensures setting { (s : Script) (P : Program) (o : Option Fault) → ComesTo s P o → Setting s }
 {}
 
 /// The rows are computed on small scripts: of names in declarations none holds of a program, and each holds where its fault stands; a
