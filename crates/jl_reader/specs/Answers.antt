@@ -56,12 +56,6 @@ abbrev pub wrong : Bool → ℕ → SyntaxFault
 wrong true a = BadType a
 wrong false a = Syntax a
 
--- the reading behind a token, or the place of the item that is too deep
-abbrev pub WithinLimit : State → Result State SyntaxFault → Type 0
-WithinLimit s (Ok r) = (r ≡ s) × (s.script.too_deep ≡ None)
-WithinLimit s (Err (TooDeep a)) = s.script.too_deep ≡ Some a
-WithinLimit s (Err e) = ⊥
-
 -- one token: what comes of it, or what ends the reading at it
 abbrev pub Took : Marked → State → Result State SyntaxFault → Type 0
 Took t s (Ok r) = (step t (Some s) ≡ Some r) × (r.script.too_deep ≡ None)

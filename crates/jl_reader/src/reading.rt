@@ -3,10 +3,12 @@
 ghost use Rattle.std.specs.Prelude.{◌≡◌, Option, Some, None, Result, Err};
 ghost use Rattle.jl_typeread.specs.Reads.{EndsAlone};
 ghost use Rattle.jl_grammar.specs.Machine.{step};
-ghost use Rattle.jl_reader.specs.Answers.{Reads, UnlessMemory, IsOnly, WithinLimit, Took, wrong};
+ghost use Rattle.jl_reader.specs.Answers.{Reads, UnlessMemory, IsOnly, Took, wrong};
 
 use crate::fault::SyntaxFault;
-use crate::step::{start, step, wants_type};
+use crate::step::{
+    is_frequent, is_in_type, start, step_anywhere, step_in_type, step_often, wants_type,
+};
 use jl_grammar::mark::Marked;
 use jl_grammar::state::State;
 use jl_grammar::tree::Script;
@@ -25,20 +27,6 @@ fn wrong(is_type: bool, at: u32) -> SyntaxFault
     SyntaxFault::Syntax(at)
 }
 
-/// The reading behind a token, unless an item that is too deep has ended with it.
-#[inline(always)]
-fn within_limit(next: State) -> Result<State, SyntaxFault>
-    ensures { WithinLimit next result }
-{
-    match next.script.too_deep {
-        None => Ok(next),
-        Some(at) => {
-            drop(next);
-            Err(SyntaxFault::TooDeep(at))
-        }
-    }
-}
-
 /// Takes a token, or tells what is wrong with it, or that it ends an item that is too deep.
 #[inline(always)]
 fn take(alloc: Global, token: Marked, state: State) -> Result<State, SyntaxFault>
@@ -46,11 +34,24 @@ fn take(alloc: Global, token: Marked, state: State) -> Result<State, SyntaxFault
 {
     let is_type = wants_type(&state.point);
     let at = token.lexeme.at;
-    let taken = step(alloc, &token, state);
+    let taken = if is_frequent(&state.point) {
+        step_often(alloc, &token, state)
+    } else if is_in_type(&state.point) {
+        step_in_type(alloc, &token, state)
+    } else {
+        step_anywhere(alloc, &token, state)
+    };
     drop(token);
-    match taken? {
-        None => Err(wrong(is_type, at)),
-        Some(next) => within_limit(next),
+    match taken {
+        Err(error) => Err(SyntaxFault::from(error)),
+        Ok(None) => Err(wrong(is_type, at)),
+        Ok(Some(next)) => match next.script.too_deep {
+            None => Ok(next),
+            Some(at) => {
+                drop(next);
+                Err(SyntaxFault::TooDeep(at))
+            }
+        },
     }
 }
 

@@ -1,5 +1,6 @@
-//! What a token makes of a reading. `step` is inlined into the loop of a reading, with what most tokens call: at a call the place of a
-//! result is cleared first, and the result is copied.
+//! What a token makes of a reading. A function clears the places of all its arms when it begins, so the points at which most tokens stand
+//! have functions of their own beside the one of all points. Each is a call, to which the state is handed as a whole: inlined into the loop
+//! of a reading, or where the point is looked into there, the state is moved piece by piece.
 
 ghost use Rattle.std.specs.Prelude.{◌≡◌, IfOk, Option, Some};
 ghost use Rattle.jl_grammar.specs.Machine.{start, step_by, step, wants_type};
@@ -39,7 +40,8 @@ pub(crate) fn start(alloc: Global) -> State
     }
 }
 
-/// Whether a type must stand at a point.
+/// Whether a type must stand at a point. It is a call, so that the loop of a reading does not look into the point.
+#[inline(never)]
 pub(crate) fn wants_type(point: &Point) -> bool
     ensures { result ≡ wants_type point.now }
 {
@@ -52,8 +54,12 @@ pub(crate) fn wants_type(point: &Point) -> bool
 }
 
 /// What a token makes of a reading; none where it is wrong.
-#[inline(always)]
-pub(crate) fn step(alloc: Global, token: &Marked, state: State) -> Result<Option<State>, AllocError>
+#[inline(never)]
+pub(crate) fn step_anywhere(
+    alloc: Global,
+    token: &Marked,
+    state: State,
+) -> Result<Option<State>, AllocError>
     ensures { IfOk result (λ s. s ≡ step token.now (Some state)) }
 {
     let State {
@@ -117,5 +123,95 @@ pub(crate) fn step(alloc: Global, token: &Marked, state: State) -> Result<Option
         Point::Field(fielding, name) => at_field(alloc, sign, fielding, name, k, xs),
         Point::Made(item) => at_made(sign, item, k, xs),
         Point::MadeMethod(method) => at_made_method(alloc, sign, method, k, xs),
+    }
+}
+
+/// Whether a reading is at a point at which most tokens of an expression stand.
+pub(crate) fn is_frequent(point: &Point) -> bool {
+    match point {
+        Point::Entry => true,
+        Point::Want(_) => true,
+        Point::First(_) => true,
+        Point::Have(_, _) => true,
+        Point::Named(_, _) => true,
+        _ => false,
+    }
+}
+
+/// Whether a reading is inside a type, but for the variables of a `where` and of a declaration.
+pub(crate) fn is_in_type(point: &Point) -> bool {
+    match point {
+        Point::Type(_, _) => true,
+        _ => false,
+    }
+}
+
+/// The same as `step_anywhere`, for a point at which most tokens of an expression stand.
+#[inline(never)]
+pub(crate) fn step_often(
+    alloc: Global,
+    token: &Marked,
+    state: State,
+) -> Result<Option<State>, AllocError>
+    ensures { IfOk result (λ s. s ≡ step token.now (Some state)) }
+{
+    let State {
+        point: q,
+        stack: k,
+        script: xs,
+    } = state;
+    let sign = &token.lexeme.sign;
+    let at = token.lexeme.at;
+    let m = token.marks;
+    match q {
+        Point::Entry => at_entry(alloc, sign, m, at, k, xs),
+        Point::Want(pending) => begins(alloc, sign, m, at, pending, k, xs),
+        Point::First(returns) => at_first(alloc, sign, m, at, returns, k, xs),
+        Point::Have(pending, e) => follows(alloc, sign, at, pending, e, k, xs),
+        Point::Named(purpose, name) => at_named(alloc, sign, purpose, name, k, xs),
+        q => step_anywhere(
+            alloc,
+            token,
+            State {
+                point: q,
+                stack: k,
+                script: xs,
+            },
+        ),
+    }
+}
+
+/// The same as `step_anywhere`, inside a type.
+#[inline(never)]
+pub(crate) fn step_in_type(
+    alloc: Global,
+    token: &Marked,
+    state: State,
+) -> Result<Option<State>, AllocError>
+    ensures { IfOk result (λ s. s ≡ step token.now (Some state)) }
+{
+    let State {
+        point: q,
+        stack: k,
+        script: xs,
+    } = state;
+    let lexeme = &token.lexeme;
+    match q {
+        Point::Type(goal, state) => match turns::step(alloc, lexeme, state) {
+            Ok(turn) => type_goes(alloc, turn, &lexeme.sign, lexeme.at, goal, k, xs),
+            Err(error) => {
+                drop(goal);
+                Err(error)
+            }
+        },
+        q => step_anywhere(
+            alloc,
+            token,
+            State {
+                point: q,
+                stack: k,
+                script: xs,
+            },
+        ),
     }
 }

@@ -118,6 +118,25 @@ fn forms_of_all(alloc: Global, types: &[Ty], places: &[Tys]) -> Result<Vec<Ty>, 
     Ok(all)
 }
 
+/// Whether two of these types may have another number of forms than one each, so that a long list could be made beside an empty one.
+/// In tuples in one another, each in the one around it, no level has two such parts, and so none is counted again at each level.
+fn have_two_counts(types: &[Ty]) -> bool {
+    let mut has_one = false;
+    for ty in types {
+        match ty {
+            Ty::Any => {}
+            Ty::Nominal(_, _) => {}
+            _ => {
+                if has_one {
+                    return true;
+                }
+                has_one = true;
+            }
+        }
+    }
+    false
+}
+
 /// The forms of a type. No list of forms is made where one beside it in a tuple is empty.
 #[cycle(forms)]
 fn forms(alloc: Global, ty: &Ty, places: &[Tys]) -> Result<Vec<Ty>, AllocError>
@@ -129,7 +148,9 @@ fn forms(alloc: Global, ty: &Ty, places: &[Tys]) -> Result<Vec<Ty>, AllocError>
             Ok(all)
         }
         Ty::Tuple(parts) => {
-            if product_of_forms(parts.as_slice(), places) == 0 {
+            if have_two_counts(parts.as_slice())
+                && product_of_forms(parts.as_slice(), places) == 0
+            {
                 return Ok(Vec::new(alloc));
             }
             let lists = forms_of_each(alloc, parts.as_slice(), places)?;

@@ -8,7 +8,7 @@ use Rattle.jl_sig.proofs.expansion.+forms.Goals as goal
 
 pub forms-returns-then-product_of_forms-eq0 : goal.forms-returns-then-product_of_forms-eq0
 forms-returns-then-product_of_forms-eq0 t c =
-    no_forms (placed c.args.places.now) c.args.ty.now c.in-Tuple.parts c.as_slice-in-Tuple.result.now c.new.result.items c.product_of_forms.result c.in-Tuple.is c.as_slice-in-Tuple.ensures c.product_of_forms.ensures c.if-product_of_forms-eq0.true c.new.ensures.items
+    no_forms (placed c.args.places.now) c.args.ty.now c.in-Tuple.parts c.as_slice-then-have_two_counts.result.now c.new.result.items c.product_of_forms.result c.in-Tuple.is c.as_slice-then-have_two_counts.ensures c.product_of_forms.ensures c.if-product_of_forms-eq0.true c.new.ensures.items
 
 pub forms-returns-in_ok-push-in_default : goal.forms-returns-in_ok-push-in_default
 forms-returns-in_ok-push-in_default t c =
