@@ -6,7 +6,7 @@ use Rattle.jl_program.specs.declared.tree.Program.{Program}
 use Rattle.jl_calculus.specs.declared.history.Event.TheVariants as Ev
 use Rattle.jl_calculus.specs.Legal.{IsKeyOf, MayCome}
 use Rattle.jl_calculus.specs.Ranges.{keys_of}
-use Rattle.book_tests.specs.Crossed.{begun, one_made, keyed, two_made}
+use Rattle.book_tests.specs.Crossed.{begun, one_made, keyed, two_made, three_made}
 
 -- what follows where there is no error
 pub on_ok : {X E : Type 0} (r : Result X E) (P Q : Type 0) → (P → Q) → OnOk r P → OnOk r Q
@@ -31,3 +31,6 @@ module _ (P : Program) where
 
   pub may_define_third : (key : Key) → 16 < length P.sites → MayCome P (two_made key) (Ev.Def 0 16)
   may_define_third key l = record { running = record { begun = refl; started = omega arith; going = refl }; past_prelude = omega arith; of_program = l; room = omega arith }
+
+  pub may_define_again : (key : Key) → 14 < length P.sites → MayCome P (three_made key) (Ev.Def 0 14)
+  may_define_again key l = record { running = record { begun = refl; started = omega arith; going = refl }; past_prelude = omega arith; of_program = l; room = omega arith }

@@ -1,4 +1,4 @@
--- What the index notes: three definitions, and a key after the first.
+-- What the index notes: four definitions, the first and the last of one site, and a key after the first.
 use Rattle.std.specs.Prelude.{List, [], ◌∷◌}
 use Rattle.jl_model.specs.declared.ty.Key.{Key}
 use Rattle.jl_calculus.specs.declared.history.Event.{Event}
@@ -15,3 +15,6 @@ keyed key = Ev.Begin 0 ∷ Ev.Def 0 14 ∷ Ev.Key key ∷ []
 
 abbrev pub two_made : Key → List Event
 two_made key = Ev.Begin 0 ∷ Ev.Def 0 14 ∷ Ev.Key key ∷ Ev.Def 0 15 ∷ []
+
+abbrev pub three_made : Key → List Event
+three_made key = Ev.Begin 0 ∷ Ev.Def 0 14 ∷ Ev.Key key ∷ Ev.Def 0 15 ∷ Ev.Def 0 16 ∷ []

@@ -10,7 +10,7 @@ ghost use Rattle.book_tests.specs.Crossed.{begun};
 
 use crate::keys::make_key;
 use crate::programs::{F, ready_crossed};
-use jl_calculus::history::Event;
+use jl_calculus::history::{Def, Event};
 use jl_methods::Index;
 use jl_model::ty::Key;
 use jl_program::prelude::PRELUDE_SITES;
@@ -24,13 +24,19 @@ fn push_all(told: &mut Vec<u32>, numbers: &[u32]) -> Result<(), AllocError> {
     Ok(())
 }
 
-/// All that the index says of the function and of its first key, in a list.
-fn told(alloc: Global, index: &Index) -> Result<Vec<u32>, AllocError> {
-    let mut told = Vec::new(alloc);
-    for def in index.defs_of(F) {
+fn push_defs(told: &mut Vec<u32>, defs: &[Def]) -> Result<(), AllocError> {
+    for def in defs {
         told.push(def.world)?;
         told.push(def.site)?;
     }
+    Ok(())
+}
+
+/// All that the index says of the function and of its first key, in a list.
+fn told(alloc: Global, index: &Index) -> Result<Vec<u32>, AllocError> {
+    let mut told = Vec::new(alloc);
+    push_defs(&mut told, index.defs_of(F))?;
+    push_defs(&mut told, index.latest(0))?;
     push_all(&mut told, index.keys_of(F))?;
     push_all(&mut told, index.rows_of(0))?;
     push_all(&mut told, index.touching(0))?;
@@ -56,14 +62,17 @@ fn note(
     ensures { OnOk result ((es : List Event) → IsIndexOf ready.now es index.old → MayCome ready.now es event.now → ComesWith ready.now es event.now touched.now → IsIndexOf ready.now (es ++ event.now ∷ []) index.new) }
 {
     let before = told(alloc, index)?;
-    let room = index.reserve(ready, event, touched);
-    if room.is_ok() {
-        index.note(ready, event);
-    } else {
-        let is_same = is_told(alloc, index, before.as_slice());
-        *differs = *differs || is_same == Ok(false);
+    match index.reserve(ready, event, touched) {
+        Ok(()) => {
+            index.note(ready, event);
+            Ok(())
+        }
+        Err(error) => {
+            let is_same = is_told(alloc, index, before.as_slice());
+            *differs = *differs || is_same == Ok(false);
+            Err(error)
+        }
     }
-    room
 }
 
 /// Notes a definition of a site by the root.
@@ -120,7 +129,22 @@ fn begin(
     noted
 }
 
-/// Whether the worlds that are due touch the key of two integers after the second and after the third definition of its function.
+/// Whether the latest definitions of the first key are those of these worlds.
+fn are_latest(index: &Index, worlds: &[u32]) -> bool {
+    let latest = index.latest(0);
+    if latest.len() != worlds.len() {
+        return false;
+    }
+    for (i, def) in latest.iter().enumerate() {
+        if def.world != worlds[i] {
+            return false;
+        }
+    }
+    true
+}
+
+/// Whether the worlds that are due touch the key of two integers after the second and after the third definition of its function, and
+/// whether the first site's definition is the latest when it is made once more.
 fn touching(
     alloc: Global,
     ready: &Ready,
@@ -141,7 +165,10 @@ fn touching(
     let are_two = index.touching(0) == [15u32, 16].as_slice();
     define(alloc, ready, index, first + 2, differs)?;
     let are_three = index.touching(0) == [15u32, 16, 17].as_slice();
-    Ok(are_two && are_three)
+    define(alloc, ready, index, first, differs)?;
+    let are_four = index.touching(0) == [15u32, 16, 17, 18].as_slice();
+    let is_latest = are_latest(index, [16u32, 17, 18].as_slice());
+    Ok(are_two && are_three && are_four && is_latest)
 }
 
 /// The same for a new index.

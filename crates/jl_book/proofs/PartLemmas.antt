@@ -39,6 +39,13 @@ module _ (about : About) (es : List Event) (seat : BookView) (kept : List Event)
   parts_met now is = subst (λ (s : BookView). HasParts about s.events s kept index keys ends n) (sym is)
       (record { knows = refl; keeps = h.keeps; book = h.book; filters = h.filters; named = h.named; ended = h.ended; counted = h.counted })
 
+  -- and where room was taken or refused: what the index has noted is the same
+  pub parts_kept : (now : BookView) (then : List Event) (next : Index) (many : List Key) → now ≡ seat → then ≡ kept → noted_in next ≡ noted_in index → many ≡ keys → HasParts about now.events now then next many ends n
+  parts_kept now then next many seat_is then_is noted many_is =
+      let filters = subst (AreFilters P (definitions es) (keys_of es) (rows_of es)) (sym noted) h.filters in
+      subst (λ (s : BookView). HasParts about s.events s then next many ends n) (sym (seat_is ∙ h.knows))
+      (record { knows = refl; keeps = then_is ∙ h.keeps; book = h.book; filters = filters; named = many_is ∙ h.named; ended = h.ended; counted = h.counted })
+
   -- an event that starts and ends no task, for which the index had room
   pub parts_added : (Q : Program) → Q ≡ P → (e : Event) (now : BookView) (then : List Event) (before next : Index) (many : List Key)
       → now ≡ at_rest (es ++ e ∷ []) → then ≡ kept ++ e ∷ [] → IsHistory about (es ++ e ∷ []) → IsValidEvent P e → OnDone (IsEnd about es) e

@@ -1,5 +1,5 @@
 -- Keys and rows, as the index and the first worlds tell them.
-use Rattle.std.proofs.Common.{◌≡◌, ◌∙◌, ap, sym, subst, refl, ℕ, zero, suc, ◌+◌, ◌<◌, ◌≤◌, inl, inr, arith, Bool, true, false, IsTrue, nat_eq, List, [], ◌∷◌, ◌++◌, map, length, get_or, slice_get, append-nil, Some, IsSome, Result, Ok, OnOk}
+use Rattle.std.proofs.Common.{◌≡◌, ◌∙◌, ap, sym, subst, refl, ℕ, zero, suc, ◌+◌, ◌<◌, ◌≤◌, inl, inr, arith, Bool, true, false, IsTrue, nat_eq, List, [], ◌∷◌, ◌++◌, map, length, get_or, slice_get, append-nil, None, Some, IsSome, Result, Ok, OnOk}
 use Rattle.std.specs.Prelude.{◌↔◌}
 use Rattle.std.specs.Bool.{Decides}
 use Rattle.std.specs.List.{Contains}
@@ -21,7 +21,9 @@ use Rattle.jl_calculus.proofs.BetweenLemmas.{of_world}
 use Rattle.jl_calculus.proofs.ChoiceLaws.{determined}
 use Rattle.jl_calculus.proofs.GrowthLemmas.{keys_append, rows_append, touches_known}
 use Rattle.jl_methods.specs.Filters.{is_row_of, row_numbers}
+use Rattle.jl_methods.specs.declared.newest.NewestRow.{NewestRow}
 use Rattle.jl_methods.specs.Indexed.{IsIndexOf, noted_in}
+use Rattle.jl_methods.specs.Newest.{IsNewest, IsNewestOf}
 use Rattle.jl_methods.proofs.TouchLemmas.{number_of, number_there}
 use Rattle.jl_causes.specs.declared.rows.Rows.{Rows}
 use Rattle.jl_causes.specs.Causes.{IsNextFill}
@@ -227,3 +229,14 @@ begins_high P es k first ws b high h exact = ((λ yes. inr (high, (exact first).
     by : MayBegin P es k first → b ≡ true
     by (inl e) = absurd (omega (arith, high, e))
     by (inr (low, t)) = h.1 ((exact first).1 t)
+
+-- ---- the newest row of a key
+
+pub no_newest : (es : List Event) (key first : ℕ) → IsNewestOf (rows_of es) key None → IsTrue false ↔ HasRow es key first
+no_newest es key first none = ((λ yes. absurd (cc yes)), (λ (row, stands, of_key, begins). absurd (none row stands of_key)))
+
+pub row_newest : (es : List Event) (key first : ℕ) (newest : NewestRow) → IsNewest (rows_of es) key newest → newest.first ≤ first → IsTrue (nat_eq newest.first first) ↔ HasRow es key first
+row_newest es key first newest n le = (
+  λ yes. (let is : newest.first ≡ first = grind (arith, yes) in (n.row, member_at (rows_of es) newest.number n.row n.stands, n.of_key, n.begins ∙ is)),
+  λ (row, stands, of_key, begins). (let most = n.latest row stands of_key in let yes : nat_eq newest.first first ≡ true = grind (arith, le, most, begins) in yes),
+)

@@ -12,7 +12,7 @@ use std::alloc::{AllocError, Global};
 
 /// The first entry of which a cause holds that can be told without a run, and the first such cause in the table; none where there
 /// is no such entry. The cost is in the length of the text, in the number of keys for each key, in the rows of its key for
-/// each fill, and in that of the choices of the fills.
+/// each fill that begins before the newest of these, and in that of the choices of the fills.
 pub fn first_cause<R: ReadKey>(
     alloc: Global,
     ready: &Ready,

@@ -3,6 +3,7 @@
 ghost use Rattle.std.specs.Prelude.{◌≡◌, ◌≤◌, ◌<◌, ◌↔◌, ◌++◌, ◌∷◌, [], ℕ, List, IsTrue, IfOk, OnOk, length, slice_get, Some};
 ghost use Rattle.std.specs.Bool.{Decides};
 ghost use Rattle.std.specs.List.{Contains};
+ghost use Rattle.std.specs.List.Sorted.{IsStrictlyIncreasing};
 ghost use Rattle.jl_model.specs.declared.ty.Key.{Key};
 ghost use Rattle.jl_program.specs.declared.tree.Program.{Program};
 ghost use Rattle.jl_calculus.specs.declared.history.Event.{Event};
@@ -15,7 +16,7 @@ ghost use Rattle.jl_causes.specs.Causes.{IsNextFill};
 ghost use Rattle.jl_causes.specs.State.{AreRows, HasRow};
 
 use jl_calculus::history::Event;
-use jl_methods::Index;
+use jl_methods::{Index, count_up_to};
 use jl_model::limits::MOST_CACHE_ROWS;
 use jl_model::ty::Key;
 use jl_program::choice::Choice;
@@ -33,16 +34,15 @@ pub(crate) struct Rows {
     firsts: Vec<u32>,
 }
 
-/// Whether a number is one of these.
-fn is_among(numbers: &[u32], sought: u32) -> bool
-    ensures { IsTrue result ↔ Contains numbers.now sought }
+/// Whether a world is one of these, which are in order.
+fn is_among(worlds: &[u32], sought: u32) -> bool
+    ensures { IsStrictlyIncreasing worlds.now → IsTrue result ↔ Contains worlds.now sought }
 {
-    for number in numbers {
-        if *number == sought {
-            return true;
-        }
+    let count = count_up_to(worlds, sought);
+    if count == 0 || count > worlds.len() {
+        return false;
     }
-    false
+    worlds[count - 1] == sought
 }
 
 /// Whether two keys are the same.
@@ -100,8 +100,8 @@ impl Rows {
         false
     }
 
-    /// Whether a key has a row that begins in this world.
-    fn has_row(&self, key: u32, first: u32) -> bool
+    /// Whether a key has a row that begins in this world. All rows of the key are looked at.
+    fn has_older_row(&self, key: u32, first: u32) -> bool
         requires { (P : Program) × (es : List Event) × AreRows P es self.now }
         ensures { (P : Program) (es : List Event) → AreRows P es self.now → IsTrue result ↔ HasRow es key first }
     {
@@ -113,6 +113,21 @@ impl Rows {
             }
         }
         false
+    }
+
+    /// Whether a key has a row that begins in this world. A world that is not below the first world of the newest row is answered at
+    /// once.
+    fn has_row(&self, key: u32, first: u32) -> bool
+        requires { (P : Program) × (es : List Event) × AreRows P es self.now }
+        ensures { (P : Program) (es : List Event) → AreRows P es self.now → IsTrue result ↔ HasRow es key first }
+    {
+        let Some(newest) = self.index.newest_row(key) else {
+            return false;
+        };
+        if newest.first <= first {
+            return newest.first == first;
+        }
+        self.has_older_row(key, first)
     }
 
     /// Whether a fill of this key may come next, as far as its key, its first world and room go.
@@ -143,8 +158,8 @@ impl Rows {
         is_among(self.index.touching(key), first)
     }
 
-    /// Whether the method that is chosen for a key in this world is of this site. The cost is in the number of definitions that touch
-    /// the key; one that is made again and again counts once in the choice.
+    /// Whether the method that is chosen for a key in this world is of this site. In a world that has all definitions that touch the
+    /// key the cost is in the sites of its function, and in an older one in the number of these definitions.
     pub(crate) fn chooses_right(
         &self,
         alloc: Global,

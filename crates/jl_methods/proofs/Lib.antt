@@ -3,9 +3,12 @@ pub mod EachLemmas
 pub mod FilterLemmas
 pub mod PutLemmas
 pub mod FunctionLemmas
-pub mod NoteLemmas
 pub mod TouchLemmas
 pub mod AppliesLemmas
 pub mod PreludeLemmas
 pub mod StepLemmas
 pub mod UpLemmas
+pub mod CountLemmas
+pub mod LatestLemmas
+pub mod NewestLemmas
+pub mod NoteLemmas

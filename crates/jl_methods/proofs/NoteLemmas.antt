@@ -1,5 +1,6 @@
 -- An index of some events becomes that of one more.
-use Rattle.std.proofs.Common.{◌≡◌, ◌∙◌, ap, sym, subst, refl, ℕ, ◌+◌, ◌<◌, ◌⊎◌, inl, inr, arith, Bool, true, false, nat_eq, List, [], ◌∷◌, ◌++◌, length, slice_get, Some}
+use Rattle.std.proofs.Common.{◌≡◌, ◌∙◌, ap, sym, subst, refl, ℕ, ◌+◌, ◌<◌, ◌⊎◌, inl, inr, arith, Bool, true, false, nat_eq, cond, List, [], ◌∷◌, ◌++◌, length, get_or, slice_get, None, Some}
+use Rattle.std.specs.List.{Contains}
 use Rattle.std.proofs.lemmas.Bool.{eqb-true, eqb-false}
 use Rattle.std.proofs.lemmas.List.{append-nil, length-set, length_push}
 use Rattle.std.proofs.lemmas.List.Elements.{All-push, All-weaker}
@@ -17,11 +18,17 @@ use Rattle.jl_calculus.specs.World.{defined, definitions}
 use Rattle.jl_calculus.proofs.GrowthLemmas.{definitions_append, keys_append, rows_append}
 use Rattle.jl_methods.specs.Filters.{numbers_from, is_key_of, is_row_of, ArePicked, AreTouched, ComesWith}
 use Rattle.jl_methods.specs.Indexed.{AreFilters}
+use Rattle.jl_methods.specs.declared.newest.NewestRow.{NewestRow}
+use Rattle.jl_methods.specs.Latest.{AreLatestOfSites, renewed, renewed_by}
+use Rattle.jl_methods.specs.Newest.{IsNewestOf, newer}
 use Rattle.jl_methods.specs.Noted.{Noted, with_key, with_row, with_def, with_event, next_world, function_in, function_of}
-use Rattle.jl_methods.specs.Numbered.{nth, put_at, put_each}
+use Rattle.jl_methods.specs.Numbered.{nth, put_at, put_each, change_each}
 use Rattle.jl_methods.proofs.FilterLemmas.{def, numbers_push, defs_push, picked_yes, picked_no}
 use Rattle.jl_methods.proofs.FunctionLemmas.{get_there, function_known}
-use Rattle.jl_methods.proofs.PutLemmas.{only_if, is_in, nth_put_at, nth_add_none, nth_add_old, nth_add_new, length_put_each, nth_put_each, contained_if, contained_only_if, get_known, get_push}
+use Rattle.jl_methods.proofs.PutLemmas.{only_if, is_in, nth_put_at, nth_add_none, nth_add_old, nth_add_new, length_put_each, nth_put_each, contained_if, contained_only_if, get_known, get_push, get_add_default, length_change_each, nth_change_each}
+use Rattle.jl_methods.proofs.LatestLemmas.{latest_more, latest_same, latest_of_key}
+use Rattle.jl_methods.proofs.NewestLemmas.{newest_each}
+use Rattle.jl_methods.proofs.TouchLemmas.{def_of}
 
 -- ---- what the events add
 
@@ -57,6 +64,16 @@ module _ (P : Program) (sites : List ℕ) (keys : List Key) (rows : List CacheRo
         let at : n ≡ length v.touching = e ∙ sym h.all_touching in
         subst (Touching P sites k) (sym (ap (nth (v.touching ++ ws ∷ [])) at ∙ nth_add_new v.touching ws)) (subst (λ k. Touching P sites k ws) q touching)
 
+    key_latest : (n : ℕ) (k : Key) → (slice_get keys n ≡ Some k) ⊎ ((n ≡ length keys) × (key ≡ k))
+        → AreLatestOfSites P k.types (defs_from P k.function 1 sites) (nth (v.latest ++ renewed_by v.sites [] ws ∷ []) n)
+    key_latest n k (inl e) =
+        subst (AreLatestOfSites P k.types (defs_from P k.function 1 sites)) (sym (nth_add_old v.latest (renewed_by v.sites [] ws) n (omega (arith, h.all_latest, get_known keys n k e)))) (h.each_latest n k e)
+    key_latest n k (inr (e, q)) =
+        let at : n ≡ length v.latest = e ∙ sym h.all_latest in
+        let made = subst (λ xs. AreLatestOfSites P key.types (defs_from P key.function 1 sites) (renewed_by xs [] ws)) (sym h.known_sites) (latest_of_key P sites key ws touching) in
+        subst (AreLatestOfSites P k.types (defs_from P k.function 1 sites)) (sym (ap (nth (v.latest ++ renewed_by v.sites [] ws ∷ [])) at ∙ nth_add_new v.latest (renewed_by v.sites [] ws)))
+        (subst (λ (k : Key). AreLatestOfSites P k.types (defs_from P k.function 1 sites) (renewed_by v.sites [] ws)) q made)
+
     key_numbers : (f : ℕ) → nth (put_at v.numbers key.function (length v.keys)) f ≡ numbers_from (is_key_of f) 0 (keys ++ key ∷ [])
     key_numbers f =
         let many : length v.keys ≡ 0 + length keys = omega (arith, ap length h.known_keys) in
@@ -76,10 +93,14 @@ module _ (P : Program) (sites : List ℕ) (keys : List Key) (rows : List CacheRo
           all_numbers = length-set v.numbers key.function (nth v.numbers key.function ++ length v.keys ∷ []) ∙ h.all_numbers;
           all_rows = omega (arith, h.all_rows, length_push v.rows [], length_push keys key);
           all_touching = omega (arith, h.all_touching, length_push v.touching ws, length_push keys key);
+          all_latest = omega (arith, h.all_latest, length_push v.latest (renewed_by v.sites [] ws), length_push keys key);
+          all_newest = omega (arith, h.all_newest, length_push v.newest None, length_push keys key);
           each_defs = h.each_defs;
           each_numbers = key_numbers;
           each_rows = λ n. nth_add_none v.rows n ∙ h.each_rows n;
           each_touching = λ n k e. key_touching n k (get_push keys key k n e);
+          each_latest = λ n k e. key_latest n k (get_push keys key k n e);
+          each_newest = λ n. subst (IsNewestOf rows n) (sym (get_add_default v.newest None n)) (h.each_newest n);
         }
 
   module _ (row : CacheRow) (known : row.key < length keys) where
@@ -91,7 +112,10 @@ module _ (P : Program) (sites : List ℕ) (keys : List Key) (rows : List CacheRo
         ∙ ap (λ m. numbers_from (is_row_of n) 0 rows ++ only_if (nat_eq row.key n) m) many
         ∙ sym (numbers_push (is_row_of n) 0 rows row)
 
-    pub row_added : AreFilters P sites keys (rows ++ row ∷ []) (with_row row.key v)
+    abbrev linked : NewestRow
+    linked = record { number = v.fills; first = row.first }
+
+    pub row_added : AreFilters P sites keys (rows ++ row ∷ []) (with_row row.key row.first v)
     row_added =
         record {
           known_keys = h.known_keys;
@@ -102,10 +126,14 @@ module _ (P : Program) (sites : List ℕ) (keys : List Key) (rows : List CacheRo
           all_numbers = h.all_numbers;
           all_rows = length-set v.rows row.key (nth v.rows row.key ++ v.fills ∷ []) ∙ h.all_rows;
           all_touching = h.all_touching;
+          all_latest = h.all_latest;
+          all_newest = length-set v.newest row.key (Some (newer (get_or v.newest row.key None) linked)) ∙ h.all_newest;
           each_defs = h.each_defs;
           each_numbers = h.each_numbers;
           each_rows = row_numbers;
           each_touching = h.each_touching;
+          each_latest = h.each_latest;
+          each_newest = newest_each rows row linked h.filled refl v.newest (omega (arith, h.all_newest, known)) h.each_newest;
         }
 
   module _ (site : ℕ) (s : Site) (ns : List ℕ) (stands : slice_get P.sites site ≡ Some s) (known : s.function < length P.functions) (touched : AreTouched P keys site ns) where
@@ -170,6 +198,32 @@ module _ (P : Program) (sites : List ℕ) (keys : List Key) (rows : List CacheRo
           (subst (ArePicked (AppliesTo P key.types) (λ (d : Def). d.world) (defs_from P key.function 1 sites ++ only_if (nat_eq s.function key.function) latest)) (sym (nth_put_each 0 v.touching ns (next_world v) n touched.rises lists))
           (by_tests (nat_eq s.function key.function) (is_in n ns) refl refl (h.each_touching n key e)))
 
+      -- the others were made before
+      made_before : (x : Def) → Contains (defs_from P key.function 1 sites) x → x.world < next_world v
+      made_before x c =
+          let i = def_of P key.function 1 sites x c in
+          let within = get_known sites i.place x.site i.site_is in
+          omega (arith, i.world_is, within, newest)
+
+      renewed_if : (a b : Bool) → nat_eq s.function key.function ≡ a → is_in n ns ≡ b → AreLatestOfSites P key.types (defs_from P key.function 1 sites) (nth v.latest n)
+          → AreLatestOfSites P key.types (defs_from P key.function 1 sites ++ only_if a latest) (cond b (renewed (nth v.latest n) latest) (nth v.latest n))
+      renewed_if true true i j past =
+          latest_more P key.types (defs_from P key.function 1 sites) (nth v.latest n) past latest (applies_if key ((touched.exact n key e).0 (contained_if n ns j))).1 made_before
+      renewed_if true false i j past =
+          latest_same P key.types (defs_from P key.function 1 sites) (nth v.latest n) past latest
+          (λ t. contained_only_if n ns j ((touched.exact n key e).1 (touches_if key (eqb-true s.function key.function i) t)))
+      renewed_if false true i j past =
+          absurd (eqb-false s.function key.function i (applies_if key ((touched.exact n key e).0 (contained_if n ns j))).0)
+      renewed_if false false i j past =
+          subst (λ ds. AreLatestOfSites P key.types ds (nth v.latest n)) (sym (append-nil (defs_from P key.function 1 sites))) past
+
+      def_latest : AreLatestOfSites P key.types (defs_from P key.function 1 (sites ++ site ∷ [])) (nth (change_each (λ ds. renewed ds latest) v.latest ns) n)
+      def_latest =
+          let lists = All-weaker (λ m. m < length keys) (λ m. m < length v.latest) (λ m l. omega (arith, l, h.all_latest)) ns touched.known in
+          subst (λ ds. AreLatestOfSites P key.types ds (nth (change_each (λ ds. renewed ds latest) v.latest ns) n)) (sym (defs_more key.function))
+          (subst (AreLatestOfSites P key.types (defs_from P key.function 1 sites ++ only_if (nat_eq s.function key.function) latest)) (sym (nth_change_each (λ ds. renewed ds latest) 0 v.latest ns n touched.rises lists))
+          (renewed_if (nat_eq s.function key.function) (is_in n ns) refl refl (h.each_latest n key e)))
+
     pub def_added : AreFilters P (sites ++ site ∷ []) keys rows (with_def (function_of P site) site ns v)
     def_added =
         record {
@@ -181,10 +235,14 @@ module _ (P : Program) (sites : List ℕ) (keys : List Key) (rows : List CacheRo
           all_numbers = h.all_numbers;
           all_rows = h.all_rows;
           all_touching = length_put_each v.touching ns (next_world v) ∙ h.all_touching;
+          all_latest = length_change_each (λ ds. renewed ds (def (next_world v) site)) v.latest ns ∙ h.all_latest;
+          all_newest = h.all_newest;
           each_defs = def_defs;
           each_numbers = h.each_numbers;
           each_rows = h.each_rows;
           each_touching = def_touching;
+          each_latest = def_latest;
+          each_newest = h.each_newest;
         }
 
 -- ---- an event
@@ -211,10 +269,10 @@ noted_key P es key ws v h proper touching =
     (key_added P (definitions es) (keys_of es) (rows_of es) v h key ws proper touching)))
 
 noted_row : (P : Program) (es : List Event) (key site first : ℕ) (v : Noted) → AreFilters P (definitions es) (keys_of es) (rows_of es) v → key < length (keys_of es)
-    → AreFilters P (definitions (es ++ Ev.Fill key site first ∷ [])) (keys_of (es ++ Ev.Fill key site first ∷ [])) (rows_of (es ++ Ev.Fill key site first ∷ [])) (with_row key v)
+    → AreFilters P (definitions (es ++ Ev.Fill key site first ∷ [])) (keys_of (es ++ Ev.Fill key site first ∷ [])) (rows_of (es ++ Ev.Fill key site first ∷ [])) (with_row key first v)
 noted_row P es key site first v h l =
     let row : CacheRow = record { key = key; site = site; first = first } in
-    let after = with_row key v in
+    let after = with_row key first v in
     moved P es (Ev.Fill key site first) after
     (no_site P (definitions es) (keys_of es ++ []) (rows_of es ++ row ∷ []) after
     (no_key P (definitions es) (keys_of es) (rows_of es ++ row ∷ []) after

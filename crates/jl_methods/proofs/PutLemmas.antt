@@ -1,10 +1,10 @@
 -- What one more element at the end of some of the lists makes of each of them.
-use Rattle.std.proofs.Common.{◌≡◌, ◌∙◌, ap, sym, subst, refl, ℕ, zero, suc, ◌+◌, ◌<◌, ◌⊎◌, inl, inr, arith, Bool, true, false, ◌||◌, cond, nat_eq, List, [], ◌∷◌, ◌++◌, length, slice_get, Some}
+use Rattle.std.proofs.Common.{◌≡◌, ◌∙◌, ap, sym, subst, refl, ℕ, zero, suc, ◌+◌, ◌<◌, ◌⊎◌, inl, inr, arith, Bool, true, false, ◌||◌, cond, nat_eq, List, [], ◌∷◌, ◌++◌, length, get_or, slice_get, Some}
 use Rattle.std.specs.List.{All, Contains, list_any}
 use Rattle.std.proofs.lemmas.Bool.{eqb-true, eqb-false}
 use Rattle.std.proofs.lemmas.List.{append-nil, length-set, get_or-set_same, get_or-set_other}
 use Rattle.std.proofs.lemmas.List.Elements.{All-head, All-tail, All-weaker}
-use Rattle.jl_methods.specs.Numbered.{nth, put_at, put_each, RisesFrom}
+use Rattle.jl_methods.specs.Numbered.{nth, put_at, put_each, change_at, change_each, RisesFrom}
 use Rattle.jl_methods.proofs.FilterLemmas.{here, there, here_or_there}
 
 -- ---- the list of a number
@@ -84,6 +84,43 @@ nth_put_each low ls (n ∷ ns) x m r h =
     ∙ ap (λ ys. ys ++ only_if (is_in m ns) x) (nth_put_at ls n x m first ∙ ap (λ b. nth ls m ++ only_if b x) (turned n m))
     ∙ joined (nth ls m) x (nat_eq m n) (is_in m ns) apart
 
+-- ---- the list of a number changed
+
+nth_change_at : {T : Type 0} (f : List T → List T) (ls : List (List T)) (n m : ℕ) → n < length ls → nth (change_at f ls n) m ≡ cond (nat_eq m n) (f (nth ls m)) (nth ls m)
+nth_change_at f ls n m l = by (nat_eq m n) refl
+  where
+    by : (b : Bool) → nat_eq m n ≡ b → nth (change_at f ls n) m ≡ cond b (f (nth ls m)) (nth ls m)
+    by true e =
+        let q : n ≡ m = sym (eqb-true m n e) in
+        subst (λ k. nth (change_at f ls n) k ≡ f (nth ls k)) q (get_or-set_same ls n (f (nth ls n)) [] l)
+    by false e = get_or-set_other ls n m (f (nth ls n)) [] (λ q. eqb-false m n e q)
+
+pub length_change_each : {T : Type 0} (f : List T → List T) (ls : List (List T)) (ns : List ℕ) → length (change_each f ls ns) ≡ length ls
+length_change_each f ls [] = refl
+length_change_each f ls (n ∷ ns) = length_change_each f (change_at f ls n) ns ∙ length-set ls n (f (nth ls n))
+
+all_change : {T : Type 0} (f : List T → List T) (ls : List (List T)) (n : ℕ) (ns : List ℕ) → All (λ m. m < length ls) ns → All (λ m. m < length (change_at f ls n)) ns
+all_change f ls n ns h = All-weaker (λ m. m < length ls) (λ m. m < length (change_at f ls n)) (λ m l. omega (arith, l, length-set ls n (f (nth ls n)))) ns h
+
+-- one number has its list changed at the front of these, or behind
+changed_once : {T : Type 0} (f : List T → List T) (xs : List T) (a b : Bool) → (a ≡ true → b ≡ false) → cond b (f (cond a (f xs) xs)) (cond a (f xs) xs) ≡ cond (a || b) (f xs) xs
+changed_once f xs true true h = let q = h refl in cc
+changed_once f xs true false h = refl
+changed_once f xs false b h = refl
+
+pub nth_change_each : {T : Type 0} (f : List T → List T) (low : ℕ) (ls : List (List T)) (ns : List ℕ) (m : ℕ) → RisesFrom low ns → All (λ n. n < length ls) ns
+    → nth (change_each f ls ns) m ≡ cond (is_in m ns) (f (nth ls m)) (nth ls m)
+nth_change_each f low ls [] m r h = refl
+nth_change_each f low ls (n ∷ ns) m r h =
+    let first : n < length ls = All-head (λ k. k < length ls) n ns h in
+    let others = All-tail (λ k. k < length ls) n ns h in
+    let apart : nat_eq m n ≡ true → is_in m ns ≡ false = λ e. none_in m ns (n + 1) (omega (arith, eqb-true m n e)) r.1 in
+    nth_change_each f (n + 1) (change_at f ls n) ns m r.1 (all_change f ls n ns others)
+    ∙ ap (λ xs. cond (is_in m ns) (f xs) xs) (nth_change_at f ls n m first)
+    ∙ changed_once f (nth ls m) (nat_eq m n) (is_in m ns) apart
+
+-- ---- one of some numbers
+
 pub contained_if : (n : ℕ) (ns : List ℕ) → is_in n ns ≡ true → Contains ns n
 contained_if n [] h = cc
 contained_if n (m ∷ ns) h = by (nat_eq n m) refl h (contained_if n ns)
@@ -107,6 +144,22 @@ pub get_known : {X : Type 0} (xs : List X) (n : ℕ) (x : X) → slice_get xs n 
 get_known [] n x e = cc
 get_known (y ∷ xs) zero x e = omega arith
 get_known (y ∷ xs) (suc n) x e = omega (arith, get_known xs n x e)
+
+pub get_more : {X : Type 0} (xs : List X) (y x : X) (n : ℕ) → slice_get xs n ≡ Some x → slice_get (xs ++ y ∷ []) n ≡ Some x
+get_more [] y x n e = cc
+get_more (z ∷ xs) y x zero e = e
+get_more (z ∷ xs) y x (suc n) e = get_more xs y x n e
+
+pub get_last : {X : Type 0} (xs : List X) (y : X) → slice_get (xs ++ y ∷ []) (length xs) ≡ Some y
+get_last [] y = refl
+get_last (z ∷ xs) y = get_last xs y
+
+-- a default at the end changes nothing
+pub get_add_default : {X : Type 0} (xs : List X) (d : X) (n : ℕ) → get_or (xs ++ d ∷ []) n d ≡ get_or xs n d
+get_add_default [] d zero = refl
+get_add_default [] d (suc n) = refl
+get_add_default (x ∷ xs) d zero = refl
+get_add_default (x ∷ xs) d (suc n) = get_add_default xs d n
 
 pub get_push : {X : Type 0} (xs : List X) (y x : X) (n : ℕ) → slice_get (xs ++ y ∷ []) n ≡ Some x → (slice_get xs n ≡ Some x) ⊎ ((n ≡ length xs) × (y ≡ x))
 get_push [] y x zero e = inr (refl, cc)

@@ -2,7 +2,7 @@
 use Rattle.std.proofs.Common.{◌≡◌, ◌∙◌, ap, refl, ℕ, zero, suc, ◌<◌, arith, List, [], ◌∷◌, ◌++◌, length, map, get_or, set}
 use Rattle.std.specs.Global.{Vec}
 use Rattle.std.proofs.lemmas.List.{map-set, set-get_or}
-use Rattle.jl_methods.specs.Numbered.{nth, put_at}
+use Rattle.jl_methods.specs.Numbered.{nth, put_at, change_at}
 
 abbrev pub items : {T : Type 0} → List (Vec T) → List (List T)
 items vs = map (λ (v : Vec _). v.items) vs
@@ -22,6 +22,10 @@ pub write_put : {T : Type 0} (vs : List (Vec T)) (n : ℕ) (x : T) (v w : Vec T)
     → items (set vs n w) ≡ put_at (items vs) n x
 write_put vs n x v w l e h =
     map-set (λ (v : Vec _). v.items) vs n w ∙ ap (set (items vs) n) (h ∙ ap (λ xs. xs ++ x ∷ []) (read_item vs n v l e))
+
+-- a list that is changed
+pub write_change : {T : Type 0} (f : List T → List T) (vs : List (Vec T)) (n : ℕ) (v w : Vec T) → n < length vs → v ≡ get_or vs n v → w.items ≡ f v.items → items (set vs n w) ≡ change_at f (items vs) n
+write_change f vs n v w l e h = map-set (λ (v : Vec _). v.items) vs n w ∙ ap (set (items vs) n) (h ∙ ap f (read_item vs n v l e))
 
 pub length_items : {T : Type 0} (vs : List (Vec T)) → length (items vs) ≡ length vs
 length_items [] = refl

@@ -128,7 +128,7 @@ rises_next low (n ∷ ns) zero r l = omega (arith, rises_at (n + 1) ns 0 0 (omeg
 rises_next low (n ∷ ns) (suc k) r l = rises_next (n + 1) ns k r.1 (omega (arith, l))
 
 module _ (P : Program) (es : List Event) (key : Key) (ws : List ℕ) (h : AreTouching P es key ws) where
-  touching_to : (w : ℕ) → (d : Def) × Contains (defs_from P key.function 1 (definitions es)) d × AppliesTo P key.types d × (d.world ≡ w) → Touches P es w key
+  pub touching_to : (w : ℕ) → (d : Def) × Contains (defs_from P key.function 1 (definitions es)) d × AppliesTo P key.types d × (d.world ≡ w) → Touches P es w key
   touching_to w (d, c, a, e) =
       let i = def_of P key.function 1 (definitions es) d c in
       let at : suc i.place ≡ w = omega (arith, i.world_is, e) in

@@ -108,7 +108,7 @@ take_within zero xs = omega arith
 take_within (suc n) [] = omega arith
 take_within (suc n) (x ∷ xs) = omega (arith, take_within n xs)
 
-get_or_of : (xs : List ℕ) (k x : ℕ) → slice_get xs k ≡ Some x → get_or xs k 0 ≡ x
+pub get_or_of : (xs : List ℕ) (k x : ℕ) → slice_get xs k ≡ Some x → get_or xs k 0 ≡ x
 get_or_of [] k x e = cc
 get_or_of (y ∷ xs) zero x e = cc
 get_or_of (y ∷ xs) (suc k) x e = get_or_of xs k x e
@@ -203,6 +203,14 @@ world_known P es index key ws i h l e m =
     let t = touch_of P es (get_or ws i 0) k ((touching_exact P es k ws touching (get_or ws i 0)).0 (Contains-get_or ws i 0 m)) in
     let low : 1 ≤ get_or ws i 0 = omega (arith, t.world_is) in
     let high : get_or ws i 0 ≤ length index.sites.items = omega (arith, t.world_is, get_known (definitions es) t.place t.site t.site_is, ap length h.known_sites) in
+    (low, high)
+
+pub worlds_known : (P : Program) (es : List Event) (index : Index) (key : Key) (ws : List ℕ) → IsIndexOf P es index → AreTouching P es key ws → All (λ n. (1 ≤ n) × (n ≤ length index.sites.items)) ws
+worlds_known P es index key ws h touching =
+    λ k d l.
+    let t = touch_of P es (get_or ws k d) key ((touching_exact P es key ws touching (get_or ws k d)).0 (Contains-get_or ws k d l)) in
+    let low : 1 ≤ get_or ws k d = omega (arith, t.world_is) in
+    let high : get_or ws k d ≤ length index.sites.items = omega (arith, t.world_is, get_known (definitions es) t.place t.site t.site_is, ap length h.known_sites) in
     (low, high)
 
 pub up_same_sites : (P : Program) (es : List Event) (index : Index) (key w : ℕ) (k : Key) (ws : List ℕ) (ds : List Def) → IsIndexOf P es index → slice_get (keys_of es) key ≡ Some k

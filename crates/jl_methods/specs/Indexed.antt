@@ -1,5 +1,5 @@
 -- When an index is that of a list of events, and what it has room for.
-use Rattle.std.specs.Prelude.{ℕ, ◌≡◌, ◌<◌, List, All, length, slice_get, Some}
+use Rattle.std.specs.Prelude.{ℕ, ◌≡◌, ◌<◌, List, [], All, length, get_or, slice_get, None, Some}
 use Rattle.jl_model.specs.declared.limits.TheConstants.{MOST_WORLDS, MOST_CACHE_KEYS, MOST_CACHE_ROWS}
 use Rattle.jl_model.specs.declared.ty.Key.{Key}
 use Rattle.jl_program.specs.declared.tree.Program.{Program}
@@ -12,6 +12,8 @@ use Rattle.jl_calculus.specs.Ranges.{CacheRow, keys_of, rows_of}
 use Rattle.jl_calculus.specs.World.{definitions}
 use Rattle.jl_methods.specs.declared.index.Index.{Index}
 use Rattle.jl_methods.specs.Filters.{numbers_from, is_key_of, is_row_of, ArePicked, ComesWith}
+use Rattle.jl_methods.specs.Latest.{AreLatestOfSites, renewed_by}
+use Rattle.jl_methods.specs.Newest.{IsNewestOf}
 use Rattle.jl_methods.specs.Noted.{Noted, function_of}
 use Rattle.jl_methods.specs.Numbered.{nth}
 use Rattle.jl_methods.specs.Room.{items_of, IsRoomy, HasRoomAt, HasRoomAtEach, HasPlace}
@@ -26,6 +28,8 @@ noted_in i =
       numbers = items_of i.numbers;
       rows = items_of i.rows;
       touching = items_of i.touching;
+      latest = items_of i.latest;
+      newest = i.newest.items;
       fills = i.fills;
     }
 
@@ -43,10 +47,14 @@ pub record AreFilters (P : Program) (sites : List ℕ) (keys : List Key) (rows :
   pub all_numbers : length v.numbers ≡ length P.functions
   pub all_rows : length v.rows ≡ length keys
   pub all_touching : length v.touching ≡ length keys
+  pub all_latest : length v.latest ≡ length keys
+  pub all_newest : length v.newest ≡ length keys
   pub each_defs : (f : ℕ) → nth v.defs f ≡ defs_from P f 1 sites
   pub each_numbers : (f : ℕ) → nth v.numbers f ≡ numbers_from (is_key_of f) 0 keys
   pub each_rows : (n : ℕ) → nth v.rows n ≡ numbers_from (is_row_of n) 0 rows
   pub each_touching : (n : ℕ) (key : Key) → slice_get keys n ≡ Some key → ArePicked (AppliesTo P key.types) (λ (d : Def). d.world) (defs_from P key.function 1 sites) (nth v.touching n)
+  pub each_latest : (n : ℕ) (key : Key) → slice_get keys n ≡ Some key → AreLatestOfSites P key.types (defs_from P key.function 1 sites) (nth v.latest n)
+  pub each_newest : (n : ℕ) → IsNewestOf rows n (get_or v.newest n None)
 
 -- the index is that of these events of a run of the program
 abbrev pub IsIndexOf : Program → List Event → Index → Type 0
@@ -71,11 +79,15 @@ pub record HasRoomForKey (key : Key) (i : Index) : Type 0 where
   pub number : HasRoomAt i.numbers key.function
   pub row_list : HasPlace i.rows
   pub touching_list : HasPlace i.touching
+  pub latest_list : HasPlace i.latest
+  pub latest : i.next_latest.items ≡ renewed_by i.sites.items [] (awaited_in i)
+  pub newest : IsRoomy i.newest
 
 -- a row of a key can
 pub record HasRoomForRow (key : ℕ) (i : Index) : Type 0 where
   pub few : i.fills < MOST_CACHE_ROWS
   pub row : HasRoomAt i.rows key
+  pub newest : key < length i.newest.items
 
 -- a definition of a function can
 pub record HasRoomForDef (function : ℕ) (i : Index) : Type 0 where
@@ -83,6 +95,7 @@ pub record HasRoomForDef (function : ℕ) (i : Index) : Type 0 where
   pub list : IsRoomy i.sites
   pub def : HasRoomAt i.defs function
   pub worlds : HasRoomAtEach i.touching (awaited_in i)
+  pub latest : HasRoomAtEach i.latest (awaited_in i)
 
 -- an event can be noted without memory
 abbrev pub HasRoomFor : Program → Event → Index → Type 0

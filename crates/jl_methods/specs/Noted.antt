@@ -6,10 +6,14 @@ use Rattle.jl_program.specs.declared.tree.Program.{Program}
 use Rattle.jl_calculus.specs.declared.history.Def.{Def}
 use Rattle.jl_calculus.specs.declared.history.Event.{Event}
 use Rattle.jl_calculus.specs.declared.history.Event.TheVariants as Ev
-use Rattle.jl_methods.specs.Numbered.{put_at, put_each}
+use Rattle.jl_methods.specs.declared.newest.NewestRow.{NewestRow}
+use Rattle.jl_methods.specs.Latest.{renewed, renewed_by}
+use Rattle.jl_methods.specs.Newest.{newer_at}
+use Rattle.jl_methods.specs.Numbered.{put_at, put_each, change_each}
 
 -- the keys and the sites of the definitions, in order; for each function its definitions and the numbers of its keys; for each key
--- the numbers of its rows and the worlds of the definitions that touch it; and how many rows there are
+-- the numbers of its rows, the worlds of the definitions that touch it, the latest of these of each site, and its newest row; and how
+-- many rows there are
 pub record Noted : Type 0 where
   pub keys : List Key
   pub sites : List ℕ
@@ -17,6 +21,8 @@ pub record Noted : Type 0 where
   pub numbers : List (List ℕ)
   pub rows : List (List ℕ)
   pub touching : List (List ℕ)
+  pub latest : List (List Def)
+  pub newest : List (Option NewestRow)
   pub fills : ℕ
 
 -- a key, with the definitions that touch it
@@ -27,11 +33,18 @@ with_key key ws v =
       numbers = put_at v.numbers key.function (length v.keys);
       rows = v.rows ++ [] ∷ [];
       touching = v.touching ++ ws ∷ [];
+      latest = v.latest ++ renewed_by v.sites [] ws ∷ [];
+      newest = v.newest ++ None ∷ [];
     }
 
--- a row of a key
-abbrev pub with_row : ℕ → Noted → Noted
-with_row key v = record v { rows = put_at v.rows key v.fills; fills = v.fills + 1 }
+-- a row of a key that begins in a world
+abbrev pub with_row : ℕ → ℕ → Noted → Noted
+with_row key first v =
+    record v {
+      rows = put_at v.rows key v.fills;
+      newest = newer_at v.newest key (record { number = v.fills; first = first });
+      fills = v.fills + 1;
+    }
 
 -- the world that the next definition makes
 abbrev pub next_world : Noted → ℕ
@@ -44,6 +57,7 @@ with_def function site ns v =
       sites = v.sites ++ site ∷ [];
       defs = put_at v.defs function (record { world = next_world v; site = site });
       touching = put_each v.touching ns (next_world v);
+      latest = change_each (λ ds. renewed ds (record { world = next_world v; site = site })) v.latest ns;
     }
 
 -- the function of a site
@@ -57,7 +71,7 @@ function_of P site = function_in (slice_get P.sites site)
 -- an event, with what comes along with it
 abbrev pub with_event : Program → Event → List ℕ → Noted → Noted
 with_event P (Ev.Key key) ns v = with_key key ns v
-with_event P (Ev.Fill key site first) ns v = with_row key v
+with_event P (Ev.Fill key site first) ns v = with_row key first v
 with_event P (Ev.Def task site) ns v = with_def (function_of P site) site ns v
 with_event P (Ev.Begin fuel) ns v = v
 with_event P (Ev.Spawn task child start) ns v = v

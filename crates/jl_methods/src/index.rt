@@ -10,15 +10,19 @@ ghost use Rattle.jl_program.specs.Prelude.{prelude_numbers};
 ghost use Rattle.jl_calculus.specs.declared.history.Event.{Event};
 ghost use Rattle.jl_calculus.specs.Definitions.{defs_from};
 ghost use Rattle.jl_calculus.specs.Legal.{MayCome};
-ghost use Rattle.jl_calculus.specs.Ranges.{keys_of, Touches};
+ghost use Rattle.jl_calculus.specs.Ranges.{keys_of, rows_of, Touches};
 ghost use Rattle.jl_calculus.specs.World.{site_of, world_of};
 ghost use Rattle.jl_methods.specs.Filters.{defs_of, key_numbers, row_numbers, ComesWith};
 ghost use Rattle.jl_methods.specs.Indexed.{noted_in, awaited_in, IsIndexOf, MayBeNoted, HasRoomFor, HasRoomForKey, HasRoomForRow, HasRoomForDef};
+ghost use Rattle.jl_methods.specs.Latest.{AreLatestOfSites};
+ghost use Rattle.jl_methods.specs.Newest.{IsNewestOf};
 ghost use Rattle.jl_methods.specs.Noted.{with_key, with_row, with_def, function_of};
 ghost use Rattle.jl_methods.specs.Numbered.{nth, RisesFrom};
 ghost use Rattle.jl_methods.specs.Room.{items_of};
 
+use crate::latest::make_latest;
 use crate::lists::Lists;
+use crate::newest::{NewestRow, newer};
 use jl_calculus::history::{Def, Event};
 use jl_model::ty::Key;
 use jl_program::prelude::PRELUDE_SITES;
@@ -37,8 +41,11 @@ pub struct Index {
     pub(crate) numbers: Lists<u32>,
     rows: Lists<u32>,
     pub(crate) touching: Lists<u32>,
+    latest: Lists<Def>,
+    newest: Vec<Option<NewestRow>>,
     fills: u32,
     next_key: Option<Key>,
+    next_latest: Vec<Def>,
     awaited: Vec<u32>,
 }
 
@@ -105,8 +112,11 @@ impl Index {
             numbers,
             rows: Lists::new(alloc),
             touching: Lists::new(alloc),
+            latest: Lists::new(alloc),
+            newest: Vec::new(alloc),
             fills: 0,
             next_key: None,
+            next_latest: Vec::new(alloc),
             awaited: Vec::new(alloc),
         })
     }
@@ -138,6 +148,25 @@ impl Index {
         ensures ordered { (P : Program) (es : List Event) (k : Key) → IsIndexOf P es self.now → slice_get (keys_of es) key ≡ Some k → IsStrictlyIncreasing result.now }
     {
         self.touching.get(key)
+    }
+
+    /// The definitions that touch a key, in the order of their worlds, without those that a later one of the same site replaced. In
+    /// a world that has all definitions that touch the key, what is chosen among these is the choice for the key. There are no
+    /// more of them than the function has sites, however often these are defined.
+    pub fn latest(&self, key: u32) -> &[Def]
+        ensures { (P : Program) (es : List Event) (k : Key) → IsIndexOf P es self.now → slice_get (keys_of es) key ≡ Some k → AreLatestOfSites P k.types (defs_of P es k.function) result.now }
+    {
+        self.latest.get(key)
+    }
+
+    /// The row of a key that begins in the latest world, where the key has a row.
+    pub fn newest_row(&self, key: u32) -> Option<NewestRow>
+        ensures { (P : Program) (es : List Event) → IsIndexOf P es self.now → IsNewestOf (rows_of es) key result }
+    {
+        if key as usize >= self.newest.len() {
+            return None;
+        }
+        self.newest[key as usize]
     }
 
     /// The key of a number.
@@ -189,7 +218,7 @@ impl Index {
         ready.valid();
         match event {
             Event::Key(_) => self.note_key(),
-            Event::Fill { key, .. } => self.note_row(*key),
+            Event::Fill { key, first, .. } => self.note_row(*key, *first),
             Event::Def { site, .. } => self.note_def(function_of(ready, *site), *site),
             Event::Begin(_) => {}
             Event::Spawn { .. } => {}
@@ -217,6 +246,7 @@ impl Index {
     fn reserve_key(&mut self, key: &Key) -> Result<(), AllocError>
         requires function { key.now.function < length (noted_in self.old).numbers }
         requires few { length (noted_in self.old).keys < MOST_CACHE_KEYS }
+        requires worlds { All (λ n. (1 ≤ n) × (n ≤ length (noted_in self.old).sites)) (awaited_in self.old) }
         ensures room { OnOk result (HasRoomForKey key.now self.new) }
         ensures awaited { awaited_in self.new ≡ awaited_in self.old }
         ensures kept { noted_in self.new ≡ noted_in self.old }
@@ -225,6 +255,9 @@ impl Index {
         self.numbers.reserve(key.function)?;
         self.rows.reserve_list()?;
         self.touching.reserve_list()?;
+        self.latest.reserve_list()?;
+        self.newest.reserve(1)?;
+        self.next_latest = make_latest(self.alloc, self.sites.as_slice(), self.awaited.as_slice())?;
         self.next_key = Some(key.copy()?);
         Ok(())
     }
@@ -233,6 +266,7 @@ impl Index {
         requires function { function < length (noted_in self.old).defs }
         requires few { length (noted_in self.old).sites < MOST_WORLDS }
         requires known { All (λ n. n < length (noted_in self.old).touching) (awaited_in self.old) }
+        requires known_latest { All (λ n. n < length (noted_in self.old).latest) (awaited_in self.old) }
         requires rises { RisesFrom 0 (awaited_in self.old) }
         ensures room { OnOk result (HasRoomForDef function self.new) }
         ensures awaited { awaited_in self.new ≡ awaited_in self.old }
@@ -240,7 +274,8 @@ impl Index {
     {
         self.sites.reserve(1)?;
         self.defs.reserve(function)?;
-        self.touching.reserve_each(self.awaited.as_slice())
+        self.touching.reserve_each(self.awaited.as_slice())?;
+        self.latest.reserve_each(self.awaited.as_slice())
     }
 
     fn note_key(&mut self)
@@ -253,15 +288,23 @@ impl Index {
             self.rows.add(Vec::new(self.alloc));
             let touching = mem::replace(&mut self.awaited, Vec::new(self.alloc));
             self.touching.add(touching);
+            let latest = mem::replace(&mut self.next_latest, Vec::new(self.alloc));
+            self.latest.add(latest);
+            self.newest.push_reserved(None);
             self.keys.push_reserved(key);
         }
     }
 
-    fn note_row(&mut self, key: u32)
+    fn note_row(&mut self, key: u32, first: u32)
         requires { HasRoomForRow key self.old }
-        ensures { noted_in self.new ≡ with_row key (noted_in self.old) }
+        ensures { noted_in self.new ≡ with_row key first (noted_in self.old) }
     {
+        let row = NewestRow {
+            number: self.fills,
+            first,
+        };
         self.rows.put(key, self.fills);
+        self.newest[key as usize] = Some(newer(self.newest[key as usize], row));
         self.fills += 1;
     }
 
@@ -273,5 +316,7 @@ impl Index {
         self.sites.push_reserved(site);
         self.defs.put(function, Def { world, site });
         self.touching.put_each(self.awaited.as_slice(), world);
+        self.latest
+            .renew_each(self.awaited.as_slice(), Def { world, site });
     }
 }

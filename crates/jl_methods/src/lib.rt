@@ -2,8 +2,13 @@
 //! definitions that touch it (Julia manual, Redefining Methods; Belyakova et al., OOPSLA 2020).
 #![tactic(auto)]
 
+mod count;
 mod index;
+mod latest;
 mod lists;
+mod newest;
 mod touch;
 
+pub use count::count_up_to;
 pub use index::Index;
+pub use newest::NewestRow;

@@ -2,9 +2,12 @@
 
 ghost use Rattle.std.specs.Prelude.{◌≡◌, ◌<◌, ◌++◌, ◌∷◌, [], ℕ, length, OnOk};
 ghost use Rattle.std.specs.List.{All};
-ghost use Rattle.jl_methods.specs.Numbered.{nth, put_at, put_each};
+ghost use Rattle.jl_methods.specs.Latest.{renewed};
+ghost use Rattle.jl_methods.specs.Numbered.{nth, put_at, put_each, change_at, change_each};
 ghost use Rattle.jl_methods.specs.Room.{items_of, HasRoomAt, HasRoomAtEach, HasPlace};
 
+use crate::latest::renew;
+use jl_calculus::history::Def;
 use std::alloc::{AllocError, Global};
 
 /// Lists by number, each of which grows at its end. Memory is taken ahead, by `reserve` and `reserve_list`, so that `put` and
@@ -92,6 +95,27 @@ impl<T> Lists<T> {
     {
         for number in numbers {
             self.put(*number, element);
+        }
+    }
+}
+
+impl Lists<Def> {
+    /// Puts a definition at the end of a list, in place of that of its own site, where there is one.
+    pub(crate) fn renew(&mut self, number: u32, def: Def)
+        requires { HasRoomAt self.old number }
+        ensures renewed { items_of self.new ≡ change_at (λ ds. renewed ds def) (items_of self.old) number }
+        ensures other { (n : ℕ) → (n ≡ number → ⊥) → HasRoomAt self.old n → HasRoomAt self.new n }
+    {
+        renew(&mut self.lists[number as usize], def);
+    }
+
+    /// The same in each of these lists, whose numbers are in order.
+    pub(crate) fn renew_each(&mut self, numbers: &[u32], def: Def)
+        requires { HasRoomAtEach self.old numbers.now }
+        ensures { items_of self.new ≡ change_each (λ ds. renewed ds def) (items_of self.old) numbers.now }
+    {
+        for number in numbers {
+            self.renew(*number, def);
         }
     }
 }

@@ -37,6 +37,27 @@ pub defs_sites : (P : Program) (f : ℕ) (sites : List ℕ) → Every (HasSite P
 defs_sites P f sites =
     every_of (HasSite P) (defs_from P f 1 sites) (λ d c. (let i = def_of P f 1 sites d c in get_known P.sites d.site i.site i.stands))
 
+-- ---- the definitions of a world
+
+module _ (P : Program) (es : List Event) (f w : ℕ) where
+  pub in_world : (d : Def) → Contains (defs_from P f 1 (definitions es)) d → d.world ≤ w → Contains (defs_from P f 1 (take w (definitions es))) d
+  in_world d c l =
+      let i = def_of P f 1 (definitions es) d c in
+      let at : i.place < w = omega (arith, i.world_is, l) in
+      let same : def (1 + i.place) d.site ≡ d = λ j. def (sym i.world_is j) d.site in
+      subst (Contains (defs_from P f 1 (take w (definitions es)))) same
+      (def_there P f 1 (take w (definitions es)) i.place d.site i.site (get_taken (definitions es) w i.place d.site i.site_is at) i.stands i.function_is)
+
+  pub of_world : (d : Def) → Contains (defs_from P f 1 (take w (definitions es))) d → Contains (defs_from P f 1 (definitions es)) d × (d.world ≤ w)
+  of_world d c =
+      let i = def_of P f 1 (take w (definitions es)) d c in
+      let at = get_known (take w (definitions es)) i.place d.site i.site_is in
+      let same : def (1 + i.place) d.site ≡ d = λ j. def (sym i.world_is j) d.site in (
+        subst (Contains (defs_from P f 1 (definitions es))) same
+            (def_there P f 1 (definitions es) i.place d.site i.site (get_whole (definitions es) w i.place d.site i.site_is) i.stands i.function_is),
+        omega (arith, i.world_is, at, take_low w (definitions es)),
+      )
+
 module _ (P : Program) (ts : List Ty) (w : ℕ) where
   -- ---- what is among them
 
@@ -83,28 +104,10 @@ module _ (P : Program) (ts : List Ty) (w : ℕ) where
   -- ---- in a world
 
   module _ (es : List Event) (f : ℕ) (those : List Def) (h : AreApplying P ts w (defs_from P f 1 (definitions es)) those) where
-    in_world : (d : Def) → Contains (defs_from P f 1 (definitions es)) d → d.world ≤ w → Contains (defs_from P f 1 (take w (definitions es))) d
-    in_world d c l =
-        let i = def_of P f 1 (definitions es) d c in
-        let at : i.place < w = omega (arith, i.world_is, l) in
-        let same : def (1 + i.place) d.site ≡ d = λ j. def (sym i.world_is j) d.site in
-        subst (Contains (defs_from P f 1 (take w (definitions es)))) same
-        (def_there P f 1 (take w (definitions es)) i.place d.site i.site (get_taken (definitions es) w i.place d.site i.site_is at) i.stands i.function_is)
-
-    of_world : (d : Def) → Contains (defs_from P f 1 (take w (definitions es))) d → Contains (defs_from P f 1 (definitions es)) d × (d.world ≤ w)
-    of_world d c =
-        let i = def_of P f 1 (take w (definitions es)) d c in
-        let at = get_known (take w (definitions es)) i.place d.site i.site_is in
-        let same : def (1 + i.place) d.site ≡ d = λ j. def (sym i.world_is j) d.site in (
-          subst (Contains (defs_from P f 1 (definitions es))) same
-              (def_there P f 1 (definitions es) i.place d.site i.site (get_whole (definitions es) w i.place d.site i.site_is) i.stands i.function_is),
-          omega (arith, i.world_is, at, take_low w (definitions es)),
-        )
-
     pub applying_are : AreThoseThatApply P es f ts w those
     applying_are d = (
-      λ c. let i = applying_from (defs_from P f 1 (definitions es)) those h d c in (in_world d i.stands i.low, i.applies),
-      λ x. let i = of_world d x.0 in applying_to (defs_from P f 1 (definitions es)) those h d (record { stands = i.0; low = i.1; applies = x.1 }),
+      λ c. let i = applying_from (defs_from P f 1 (definitions es)) those h d c in (in_world P es f w d i.stands i.low, i.applies),
+      λ x. let i = of_world P es f w d x.0 in applying_to (defs_from P f 1 (definitions es)) those h d (record { stands = i.0; low = i.1; applies = x.1 }),
     )
 
     pub applying_rises : RisesFrom 0 (worlds those)

@@ -120,7 +120,7 @@ module _ (P : Program) where
   latest_there ds es (replaced x e xs ys j s p) d c = let i = latest_there xs ys p d c in (suc i.0, omega (arith, i.1), i.2)
 
   -- for each one stays that has the same signature and is no earlier
-  record HasLater (es : List Def) (d : Def) : Type 0 where
+  pub record HasLater (es : List Def) (d : Def) : Type 0 where
     pub by : Def
     pub stays : Contains es by
     pub same : HasSameSig P d by
@@ -223,7 +223,7 @@ module _ (P : Program) where
       last = λ o a e s. c.last o (record { stands = all_of o a.stands; below = a.below }) e s;
     }
 
-    same_chosen : (c : Choice) → Chooses (types_of P) (methods_of P some) ts c → Chooses (types_of P) (methods_of P all) ts c
+    pub same_chosen : (c : Choice) → Chooses (types_of P) (methods_of P some) ts c → Chooses (types_of P) (methods_of P all) ts c
     same_chosen = same_choice (types_of P) (methods_of P some) (methods_of P all) ts to from
 
   -- the choice among those that stay is that among all

@@ -5,5 +5,6 @@ pub mod RowReads
 pub mod CutLemmas
 pub mod LatestLemmas
 pub mod ApplyingLemmas
+pub mod NewestLemmas
 pub mod PlanLemmas
 pub mod KeptLemmas

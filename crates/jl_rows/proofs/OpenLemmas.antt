@@ -1,5 +1,5 @@
 -- At most one row of a key has no end.
-use Rattle.std.proofs.Common.{◌≡◌, ◌∙◌, ap, sym, subst, refl, ℕ, ◌<◌, ◌⊎◌, inl, inr, List, [], ◌∷◌, ◌++◌, length, slice_get, append-nil, Some}
+use Rattle.std.proofs.Common.{◌≡◌, ◌∙◌, ap, sym, subst, refl, arith, ℕ, ◌<◌, ◌≤◌, ◌⊎◌, inl, inr, List, [], ◌∷◌, ◌++◌, length, slice_get, append-nil, Some}
 use Rattle.std.specs.List.{Contains}
 use Rattle.jl_model.specs.declared.ty.Key.{Key}
 use Rattle.jl_program.specs.declared.tree.Program.{Program}
@@ -10,6 +10,10 @@ use Rattle.jl_calculus.specs.Ranges.{CacheRow, keys_of, rows_of, Covers, HasNoEn
 use Rattle.jl_calculus.specs.World.{world_of}
 use Rattle.jl_calculus.proofs.GrowthLemmas.{rows_append}
 use Rattle.jl_calculus.proofs.RowLemmas.{one_first}
+use Rattle.jl_program.specs.Prelude.{prelude_count}
+use Rattle.jl_methods.specs.declared.newest.NewestRow.{NewestRow}
+use Rattle.jl_methods.specs.Newest.{IsNewest}
+use Rattle.jl_world.specs.Rule.{IsOpenRow}
 use Rattle.jl_world.proofs.Growth.{each_grow}
 use Rattle.jl_world.proofs.Lists.{contains_at, get_pushed, one_there}
 use Rattle.jl_world.proofs.Rights.{rows_right, begins_low}
@@ -76,3 +80,38 @@ module _ (P : Program) where
       let y = covers_newest es stand number s a.key named k in
       rows_differ es stand r s a.row b.row a.stands b.stands (h.of_key ∙ sym k.of_key)
       (one_first P es a.key a.row.first b.row.first (world_of es) x.begun y.begun x.covers y.covers)
+
+  -- a row without an end is the newest one of its key
+  pub newest_open : (es : List Event) → MayStand P es → (number r : ℕ) (newest : NewestRow) → IsNewest (rows_of es) number newest → IsOpenOf P es number r → newest.number ≡ r
+  newest_open es stand number r newest n h =
+      rows_differ es stand newest.number r n.row o.row n.stands o.stands (n.of_key ∙ sym h.of_key) (by begun)
+    where
+      o : IsOpenRow P es r
+      o = h.is_open
+
+      begun : MayBegin P es o.key n.row.first
+      begun =
+          let right = rows_right P es stand newest.number n.row n.stands in
+          let named : slice_get (keys_of es) number ≡ Some right.key = subst (λ k. slice_get (keys_of es) k ≡ Some right.key) n.of_key right.named in
+          let open_named : slice_get (keys_of es) number ≡ Some o.key = subst (λ k. slice_get (keys_of es) k ≡ Some o.key) h.of_key o.named in
+          subst (λ (k : Key). MayBegin P es k n.row.first) (one_there (keys_of es) number right.key o.key named open_named) right.right.begun
+
+      low : prelude_count ≤ o.row.first
+      low = let right = rows_right P es stand r o.row o.stands in (begins_low P es right.key o.row.first right.right.begun).0
+
+      most : o.row.first ≤ newest.first
+      most = n.latest o.row (contains_at (rows_of es) r o.row o.stands) h.of_key
+
+      begins : n.row.first ≡ newest.first
+      begins = n.begins
+
+      which : (a b : ℕ) → (a < b) ⊎ (b ≤ a)
+      which a b = grind arith
+
+      by : MayBegin P es o.key n.row.first → n.row.first ≡ o.row.first
+      by (inl e) = omega (arith, e, low, most, begins)
+      by (inr (past, t)) = later (which o.row.first n.row.first)
+        where
+          later : (o.row.first < n.row.first) ⊎ (n.row.first ≤ o.row.first) → n.row.first ≡ o.row.first
+          later (inl lt) = absurd (o.no_end n.row.first lt t)
+          later (inr le) = omega (arith, le, most, begins)

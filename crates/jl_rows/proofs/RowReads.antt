@@ -1,5 +1,6 @@
 -- What the words of a key's rows tell.
-use Rattle.std.proofs.Common.{◌≡◌, ◌∙◌, ap, sym, subst, ℕ, zero, suc, ◌+◌, ◌<◌, inl, inr, arith, List, length, drop, get_or, slice_get, Some}
+use Rattle.std.proofs.Common.{◌≡◌, ◌∙◌, ap, sym, subst, ℕ, zero, suc, ◌+◌, ◌<◌, ◌≤◌, inl, inr, arith, true, nat_eq, IsTrue, List, length, drop, get_or, slice_get, Some}
+use Rattle.std.specs.Prelude.{◌↔◌}
 use Rattle.std.specs.List.{Contains}
 use Rattle.std.proofs.lemmas.Bool.{eqb-true, eq-eqb}
 use Rattle.std.proofs.lemmas.List.Elements.{Contains-get_or}
@@ -12,6 +13,8 @@ use Rattle.jl_calculus.specs.Ranges.{CacheRow, keys_of, rows_of, HasNoEnd}
 use Rattle.jl_calculus.specs.Words.{IsLastWith}
 use Rattle.jl_methods.specs.Filters.{is_row_of, row_numbers}
 use Rattle.jl_methods.proofs.TouchLemmas.{number_of, number_there}
+use Rattle.jl_methods.specs.declared.newest.NewestRow.{NewestRow}
+use Rattle.jl_methods.specs.Newest.{IsNewest}
 use Rattle.jl_world.specs.declared.row_word.RowWord.TheVariants.{First, Last}
 use Rattle.jl_world.specs.Tells.{HasRowWord}
 use Rattle.jl_world.proofs.Lists.{contains_at, one_there, place_in}
@@ -108,3 +111,15 @@ pub from_place : (es : List Event) (number first : ℕ) → HasRowFrom es number
 from_place es number first h =
     let (r, at) = place_in (rows_of es) h.row h.stands in
     (r, h.row, at, row_there es number r (record { row = h.row; stands = at; of_key = h.of_key }), h.begins)
+
+-- ---- the newest row of a key
+
+pub newest_at : (es : List Event) (number : ℕ) (newest : NewestRow) → IsNewest (rows_of es) number newest → IsRowOf es number newest.number
+newest_at es number newest n = record { row = n.row; stands = n.stands; of_key = n.of_key }
+
+-- a world that is not below its first world is that of a row only where it is the same
+pub newest_from : (es : List Event) (number first : ℕ) (newest : NewestRow) → IsNewest (rows_of es) number newest → newest.first ≤ first → IsTrue (nat_eq newest.first first) ↔ HasRowFrom es number first
+newest_from es number first newest n le = (
+  λ yes. (let is : newest.first ≡ first = grind (arith, yes) in record { row = n.row; stands = contains_at (rows_of es) newest.number n.row n.stands; of_key = n.of_key; begins = n.begins ∙ is }),
+  λ h. (let most = n.latest h.row h.stands h.of_key in let begins = h.begins in let yes : nat_eq newest.first first ≡ true = grind (arith, le, most, begins) in yes),
+)

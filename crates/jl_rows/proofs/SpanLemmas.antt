@@ -1,105 +1,82 @@
--- The worlds around one, found in a walk over worlds in order.
-use Rattle.std.proofs.Common.{◌≡◌, ◌∙◌, ap, sym, subst, refl, ℕ, suc, ◌+◌, ◌-◌, ◌<◌, ◌≤◌, ◌⊎◌, inl, inr, max, arith, List, length, get_or, None, Some}
+-- The worlds around one, from how many of some worlds in order are up to it.
+use Rattle.std.proofs.Common.{◌≡◌, ◌∙◌, sym, subst, ℕ, zero, suc, ◌+◌, ◌<◌, ◌≤◌, ◌⊎◌, inl, inr, max, arith, List, length, get_or, Option, None, Some}
 use Rattle.std.specs.List.{Contains}
 use Rattle.std.specs.List.Sorted.{IsStrictlyIncreasing}
+use Rattle.std.specs.Option.{MatchOption}
 use Rattle.std.proofs.lemmas.Grind.{get_or_default_zero}
 use Rattle.jl_program.specs.Prelude.{prelude_count}
-use Rattle.jl_rows.specs.declared.span.Span.{Span}
+use Rattle.jl_methods.specs.Counted.{IsCountUpTo}
 use Rattle.jl_rows.specs.Spans.{NoneBetween, EndsSo, IsSpanAt}
 use Rattle.jl_rows.proofs.Numbers.{stands_at, in_order}
 
--- the first world, when so many of the worlds were looked at
-pub record HasFirst (ws : List ℕ) (w i first : ℕ) : Type 0 where
-  pub begun : (first ≡ prelude_count) ⊎ ((prelude_count < first) × Contains ws first)
-  pub low : first ≤ w
-  pub passed : (k : ℕ) → k < i → k < length ws → get_or ws k 0 ≤ first
-
-pub first_start : (ws : List ℕ) (w : ℕ) → prelude_count ≤ w → HasFirst ws w 0 prelude_count
-first_start ws w l = record { begun = inl refl; low = l; passed = λ k m. absurd (omega (arith, m)) }
-
-module _ (ws : List ℕ) (w i first : ℕ) (l : i < length ws) (h : HasFirst ws w i first) where
-  abbrev made : ℕ
-  made = get_or ws i 0
+module _ (ws : List ℕ) (w count first : ℕ) (ordered : IsStrictlyIncreasing ws) (base : prelude_count ≤ w) (counted : IsCountUpTo ws w count)
+    (none : count ≡ 0 → first ≡ prelude_count) (some : (k : ℕ) → count ≡ k + 1 → first ≡ max (get_or ws k 0) prelude_count) where
+  -- the first world, when so many of the worlds are up to the asked one
+  record HasFirst : Type 0 where
+    pub begun : (first ≡ prelude_count) ⊎ ((prelude_count < first) × Contains ws first)
+    pub low : first ≤ w
+    pub passed : (k : ℕ) → k < count → get_or ws k 0 ≤ first
 
   which : (a b : ℕ) → (a ≤ b) ⊎ (b < a)
   which a b = grind arith
 
-  before : (k : ℕ) → k < i + 1 → (k < i) ⊎ (k ≡ i)
-  before k lt = grind (arith, lt)
-
-  all_passed : (next : ℕ) → first ≤ next → made ≤ next → (k : ℕ) → k < i + 1 → k < length ws → get_or ws k 0 ≤ next
-  all_passed next le here k lt m = by (before k lt)
+  first_at : (n : ℕ) → count ≡ n → HasFirst
+  first_at zero e = let q = none e in record { begun = inl q; low = omega (arith, q, base); passed = λ k l. absurd (omega (arith, l, e)) }
+  first_at (suc j) e = by (which (get_or ws j 0) prelude_count)
     where
-      by : (k < i) ⊎ (k ≡ i) → get_or ws k 0 ≤ next
-      by (inl a) = let x = h.passed k a m in omega (arith, x, le)
-      by (inr e) = let x : get_or ws k 0 ≡ made = ap (λ j. get_or ws j 0) e in omega (arith, x, here)
+      at : count ≡ j + 1
+      at = omega (arith, e)
 
-  -- a world that is at most the asked one
-  pub first_next : made ≤ w → (next : ℕ) → next ≡ max first made → HasFirst ws w (i + 1) next
-  first_next le next e = by (which made first)
+      is : first ≡ max (get_or ws j 0) prelude_count
+      is = some j at
+
+      within : j < length ws
+      within = let l = counted.within in omega (arith, e, l)
+
+      up : get_or ws j 0 ≤ w
+      up = counted.low j (omega (arith, e))
+
+      before : (k : ℕ) → k < count → get_or ws k 0 ≤ get_or ws j 0
+      before k l = in_order ws k j ordered (omega (arith, l, e)) within
+
+      by : (get_or ws j 0 ≤ prelude_count) ⊎ (prelude_count < get_or ws j 0) → HasFirst
+      by (inl a) =
+          let q : first ≡ prelude_count = grind (arith, a, is) in
+          record { begun = inl q; low = omega (arith, q, base); passed = λ k l. (let m = before k l in omega (arith, m, a, q)) }
+      by (inr a) =
+          let q : first ≡ get_or ws j 0 = grind (arith, a, is) in
+          record {
+            begun = inr (omega (arith, q, a), subst (Contains ws) (sym q) (j, within, get_or_default_zero ws j (get_or ws j 0) within));
+            low = omega (arith, q, up);
+            passed = λ k l. (let m = before k l in omega (arith, m, q));
+          }
+
+  -- none of them is past the first, up to one that is below the next
+  none_to : (high : ℕ) → ((k : ℕ) → count ≤ k → k < length ws → high < get_or ws k 0) → NoneBetween ws first high
+  none_to high above d c past le = by (which count at.0)
     where
-      old : made ≤ first → HasFirst ws w (i + 1) next
-      old a =
-          let same : first ≡ next = grind (arith, a, e) in
-          subst (HasFirst ws w (i + 1)) same (record { begun = h.begun; low = h.low; passed = all_passed first (omega arith) a })
+      at : (k : ℕ) × (k < length ws) × (get_or ws k 0 ≡ d)
+      at = stands_at ws d c
 
-      -- it touches, and is past the prelude since the first is not below that
-      past : prelude_count ≤ first
-      past = from h.begun
-        where
-          from : (first ≡ prelude_count) ⊎ ((prelude_count < first) × Contains ws first) → prelude_count ≤ first
-          from (inl x) = omega (arith, x)
-          from (inr x) = omega (arith, x.0)
+      has : HasFirst
+      has = first_at count (λ i. count)
 
-      new : first < made → HasFirst ws w (i + 1) next
-      new a =
-          let same : made ≡ next = grind (arith, a, e) in
-          subst (HasFirst ws w (i + 1)) same
-          (record { begun = inr (omega (arith, past, a), (i, l, get_or_default_zero ws i made l)); low = le; passed = all_passed made (omega (arith, a)) (omega arith) })
+      by : (count ≤ at.0) ⊎ (at.0 < count) → ⊥
+      by (inl l) = let m = above at.0 l at.1 in let is = at.2 in omega (arith, m, is, le)
+      by (inr l) = let m = has.passed at.0 l in let is = at.2 in omega (arith, m, is, past)
 
-      by : (made ≤ first) ⊎ (first < made) → HasFirst ws w (i + 1) next
-      by (inl a) = old a
-      by (inr a) = new a
+  ends_so : (last : Option ℕ) → MatchOption last (length ws ≤ count) (λ n. (count < length ws) × (n + 1 ≡ get_or ws count 0)) → EndsSo ws first last
+  ends_so None l = λ d c past. none_to d (λ k m n. absurd (omega (arith, l, m, n))) d c past (omega arith)
+  ends_so (Some last) h =
+      let next : last + 1 ≡ get_or ws count 0 = h.1 in
+      let up = counted.high count (omega arith) h.0 in
+      let low = (first_at count (λ i. count)).low in (
+        omega (arith, next, up, low),
+        (count, h.0, get_or_default_zero ws count (last + 1) h.0 ∙ sym next),
+        none_to last (λ k m n. (let o = in_order ws count k ordered m n in omega (arith, o, next))),
+      )
 
-  -- a world past the asked one ends the walk
-  pub span_before : IsStrictlyIncreasing ws → w < made → (span : Span) → span.first ≡ first → span.last ≡ Some (made - 1) → IsSpanAt ws w span
-  span_before ordered lt span e f = record {
-    begun = subst (λ n. (n ≡ prelude_count) ⊎ ((prelude_count < n) × Contains ws n)) (sym e) h.begun;
-    low = omega (arith, e, h.low);
-    between = subst (λ n. NoneBetween ws n w) (sym e) (none_to w (omega (arith, lt)));
-    ends = subst (EndsSo ws span.first) (sym f) (subst (λ n. EndsSo ws n (Some (made - 1))) (sym e) (low, (i, l, there), none_to (made - 1) (omega (arith, lt))));
-  }
-    where
-      none_to : (high : ℕ) → high < made → NoneBetween ws first high
-      none_to high m d c past le = by (which (suc k) i)
-        where
-          at : (k : ℕ) × (k < length ws) × (get_or ws k 0 ≡ d)
-          at = stands_at ws d c
-
-          k : ℕ
-          k = at.0
-
-          by : (suc k ≤ i) ⊎ (i < suc k) → ⊥
-          by (inl a) = let x = h.passed k (omega (arith, a)) at.1 in omega (arith, x, at.2, past)
-          by (inr a) = let x = in_order ws i k ordered (omega (arith, a)) at.1 in omega (arith, x, at.2, le, m)
-
-      low : first ≤ made - 1
-      low = omega (arith, h.low, lt)
-
-      there : get_or ws i (made - 1 + 1) ≡ made - 1 + 1
-      there = get_or_default_zero ws i (made - 1 + 1) l ∙ omega (arith, lt)
-
--- no world is past the asked one
-pub span_open : (ws : List ℕ) (w i first : ℕ) → length ws ≤ i → HasFirst ws w i first → (span : Span) → span.first ≡ first → span.last ≡ None → IsSpanAt ws w span
-span_open ws w i first l h span e f = record {
-  begun = subst (λ n. (n ≡ prelude_count) ⊎ ((prelude_count < n) × Contains ws n)) (sym e) h.begun;
-  low = omega (arith, e, h.low);
-  between = subst (λ n. NoneBetween ws n w) (sym e) (λ d c past le. none d c past);
-  ends = subst (EndsSo ws span.first) (sym f) (subst (λ n. EndsSo ws n None) (sym e) none);
-}
-  where
-    none : (d : ℕ) → Contains ws d → first < d → ⊥
-    none d c past =
-        let (k, m, is) = stands_at ws d c in
-        let x = h.passed k (omega (arith, m, l)) m in
-        omega (arith, x, is, past)
+  pub span_is : (last : Option ℕ) → MatchOption last (length ws ≤ count) (λ n. (count < length ws) × (n + 1 ≡ get_or ws count 0)) → IsSpanAt ws w (record { first = first; last = last })
+  span_is last h =
+      let has = first_at count (λ i. count) in
+      record { begun = has.begun; low = has.low; between = none_to w counted.high; ends = ends_so last h }

@@ -1,9 +1,12 @@
 -- The definitions that stay when a later one has the same signature.
-use Rattle.std.specs.Prelude.{◌≡◌, List, [], ◌∷◌, slice_get}
+use Rattle.std.specs.Prelude.{ℕ, ◌≡◌, ◌≤◌, List, [], ◌∷◌, slice_get}
 use Rattle.std.specs.List.{Contains}
 use Rattle.jl_program.specs.declared.tree.Program.{Program}
 use Rattle.jl_calculus.specs.declared.history.Def.{Def}
+use Rattle.jl_model.specs.declared.ty.Key.{Key}
+use Rattle.jl_calculus.specs.declared.history.Event.{Event}
 use Rattle.jl_calculus.specs.Definitions.{sig_of}
+use Rattle.jl_calculus.specs.Ranges.{Touches}
 
 -- the signatures of two definitions are written alike
 abbrev pub HasSameSig : Program → Def → Def → Type 0
@@ -15,3 +18,7 @@ module _ (P : Program) where
     latest_end : AreLatest [] []
     latest_more : (d : Def) (ds es : List Def) → AreLatest ds es → AreLatest (d ∷ ds) (d ∷ es)
     replaced : (d e : Def) (ds es : List Def) → Contains ds e → HasSameSig P d e → AreLatest ds es → AreLatest (d ∷ ds) es
+
+-- a world has all definitions that touch a key
+abbrev pub HasAllTouching : Program → List Event → Key → ℕ → Type 0
+HasAllTouching P es key w = (d : ℕ) → Touches P es d key → d ≤ w

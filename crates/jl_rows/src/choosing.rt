@@ -1,6 +1,6 @@
 //! The choice for a call in a world, from the lists that are kept of its function and of its key.
 
-ghost use Rattle.std.specs.Prelude.{◌≡◌, ◌<◌, ◌∷◌, true, false, IsTrue, IfOk, MatchOption, List, Some, length, slice_get};
+ghost use Rattle.std.specs.Prelude.{ℕ, ◌≡◌, ◌<◌, ◌∷◌, true, false, IsTrue, IfOk, MatchOption, List, Some, length, slice_get};
 ghost use Rattle.std.specs.Bool.{Decides};
 ghost use Rattle.std.specs.List.{Contains};
 ghost use Rattle.std.specs.List.Sorted.{IsStrictlyIncreasing};
@@ -17,11 +17,11 @@ ghost use Rattle.jl_calculus.specs.World.{Selects};
 ghost use Rattle.jl_methods.specs.Indexed.{noted_in, IsIndex, IsIndexOf};
 ghost use Rattle.jl_subsig.specs.Side.{Every};
 ghost use Rattle.jl_rows.specs.Applying.{AreApplying};
-ghost use Rattle.jl_rows.specs.Latest.{AreLatest, HasSameSig};
+ghost use Rattle.jl_rows.specs.Latest.{AreLatest, HasSameSig, HasAllTouching};
 
 use jl_calculus::history::Def;
 use jl_match::applies;
-use jl_methods::Index;
+use jl_methods::{Index, count_up_to};
 use jl_model::ty::{Bound, Key, Written};
 use jl_program::choice::Choice;
 use jl_sig::Ready;
@@ -151,8 +151,8 @@ fn find_applicable(
     Ok(those)
 }
 
-/// The choice for a key of the history in a world. The cost is in the definitions that touch the key.
-pub fn choose_for_key(
+/// The choice for a key of the history in any world. The cost is in the definitions that touch the key.
+fn choose_in_world(
     alloc: Global,
     ready: &Ready,
     index: &Index,
@@ -165,6 +165,45 @@ pub fn choose_for_key(
 {
     let defs = index.find_applicable(alloc, key, world)?;
     let choice = choose_among(alloc, ready, defs.as_slice())?;
+    Ok(choice)
+}
+
+/// The choice for a key of the history in the worlds that have all definitions that touch it: it is made among the latest of each
+/// site, so that a definition that is made again and again costs nothing.
+fn choose_in_newest(
+    alloc: Global,
+    ready: &Ready,
+    index: &Index,
+    key: u32,
+) -> Result<Choice, AllocError>
+    requires key { key < length (noted_in index.now).keys }
+    requires index { IsIndex ready.now index.now }
+    ensures { IfOk result (λ c. (es : List Event) (k : Key) (w : ℕ) → IsIndexOf ready.now es index.now → slice_get (keys_of es) key ≡ Some k → HasAllTouching ready.now es k w → Selects ready.now es k.function k.types w c) }
+{
+    ready.valid();
+    let choice = choose_among(alloc, ready, index.latest(key))?;
+    Ok(choice)
+}
+
+/// The choice for a key of the history in a world. In the worlds that have all definitions that touch the key, the newest above
+/// all, the cost is in the sites of the function; in an older world it is in the definitions that touch the key.
+pub fn choose_for_key(
+    alloc: Global,
+    ready: &Ready,
+    index: &Index,
+    key: u32,
+    world: u32,
+) -> Result<Choice, AllocError>
+    requires key { key < length (noted_in index.now).keys }
+    requires index { IsIndex ready.now index.now }
+    ensures { IfOk result (λ c. (es : List Event) (k : Key) → IsIndexOf ready.now es index.now → slice_get (keys_of es) key ≡ Some k → Selects ready.now es k.function k.types world c) }
+{
+    let touching = index.touching(key);
+    if count_up_to(touching, world) < touching.len() {
+        let choice = choose_in_world(alloc, ready, index, key, world)?;
+        return Ok(choice);
+    }
+    let choice = choose_in_newest(alloc, ready, index, key)?;
     Ok(choice)
 }
 

@@ -9,8 +9,8 @@ use jl_cache::Cache;
 use jl_methods::Index;
 use jl_world::{BookSeat, Naming, Place, RowWord};
 
-/// The row of a key that has no end and was not cut, where there is one. The walk begins at the latest row, so that a definition
-/// that is made again and again does not walk over the rows that it ended before.
+/// The row of a key that has no end and was not cut, where there is one. Only the newest row can be one, since a row without an end
+/// begins in the last world whose definition touches the key.
 pub(crate) fn find_open<N: Naming>(
     index: &Index,
     cache: &Cache<N>,
@@ -22,21 +22,20 @@ pub(crate) fn find_open<N: Naming>(
     ensures same { book.new ≡ book.old }
     ensures found { MatchOption result (AreOpenCut N.about.program.value book.old.events key book.old.cut) (λ row. IsOpenOf N.about.program.value book.old.events key row) }
 {
-    let rows = index.rows_of(key);
-    let mut left = rows.len();
-    while left > 0 {
-        left -= 1;
-        let row = rows[left];
-        let last = cache.world().read(book, Place::Row(row, RowWord::Last));
-        if last == 0 {
-            return Some(row);
-        }
+    let Some(newest) = index.newest_row(key) else {
+        return None;
+    };
+    let last = cache
+        .world()
+        .read(book, Place::Row(newest.number, RowWord::Last));
+    if last == 0 {
+        return Some(newest.number);
     }
     None
 }
 
-/// Whether a row of a key begins in a world.
-pub(crate) fn has_row_from<N: Naming>(
+/// Whether a row of a key begins in a world. The walk begins at the latest row.
+fn has_older_row_from<N: Naming>(
     index: &Index,
     cache: &Cache<N>,
     book: &mut BookSeat<N>,
@@ -59,4 +58,25 @@ pub(crate) fn has_row_from<N: Naming>(
         }
     }
     false
+}
+
+/// Whether a row of a key begins in a world. A world that is not below the first world of the newest row is answered at once.
+pub(crate) fn has_row_from<N: Naming>(
+    index: &Index,
+    cache: &Cache<N>,
+    book: &mut BookSeat<N>,
+    key: u32,
+    first: u32,
+) -> bool
+    requires index { IsIndexOf N.about.program.value book.old.events index.now }
+    ensures same { book.new ≡ book.old }
+    ensures found { IsTrue result ↔ HasRowFrom book.old.events key first }
+{
+    let Some(newest) = index.newest_row(key) else {
+        return false;
+    };
+    if newest.first <= first {
+        return newest.first == first;
+    }
+    has_older_row_from(index, cache, book, key, first)
 }

@@ -22,6 +22,7 @@ use Rattle.jl_world.specs.declared.name.Naming as naming
 use Rattle.jl_world.specs.contracts.seats.BookSeat as seat
 use Rattle.jl_world.proofs.seats.BookSeat.TheSendSync as seats
 use Rattle.jl_methods.specs.contracts.index.Index as index
+use Rattle.jl_methods.specs.contracts.newest.NewestRow as newest
 use Rattle.jl_book.specs.contracts.pass.Pass as pass
 use Rattle.jl_book.proofs.pass.Pass.TheSendSync as passes
 use Rattle.jl_book.specs.contracts.book.Book as book
@@ -44,8 +45,11 @@ word_send = search sendable
 def_send : IsSend def.the_row
 def_send = search sendable depth 20
 
+newest_send : IsSend newest.the_row
+newest_send = search sendable depth 20
+
 index_send : IsSend index.the_row
-index_send = declared_send index.the_type (heap.the_send, (vec_send key.the_row key_send, (vec_send u32 word_send, (search (def_send, crosses, sendable) depth 20, (search (crosses, sendable) depth 20, (search (crosses, sendable) depth 20, (search (crosses, sendable) depth 20, (number_send, (option.the_send key.the_row key_send, (vec_send u32 word_send, tt))))))))))
+index_send = declared_send index.the_type (heap.the_send, (vec_send key.the_row key_send, (vec_send u32 word_send, (search (def_send, crosses, sendable) depth 20, (search (crosses, sendable) depth 20, (search (crosses, sendable) depth 20, (search (crosses, sendable) depth 20, (search (def_send, crosses, sendable) depth 20, (vec_send (option_type.the_row newest.the_row) (option.the_send newest.the_row newest_send), (number_send, (option.the_send key.the_row key_send, (vec_send def.the_row def_send, (vec_send u32 word_send, tt)))))))))))))
 
 numbers_send : IsSend numbers.the_row
 numbers_send = view_send numbers_inside.the_row _ _ _ _ (recorded_send numbers_inside.the_field.row _ _ numbers_inside.the_type.to_one (struct_send (shape numbers_inside.the_type)

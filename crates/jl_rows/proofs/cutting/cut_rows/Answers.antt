@@ -1,7 +1,8 @@
-use Rattle.std.proofs.Common.{◌≡◌, ap, subst, arith, ℕ, ◌⊎◌, ◌↔◌, List, get_or}
+use Rattle.std.proofs.Common.{◌≡◌, ap, sym, subst, arith, ℕ, ◌⊎◌, ◌↔◌, List, get_or}
 use Rattle.std.specs.List.{Contains}
 use Rattle.jl_calculus.specs.declared.history.Event.{Event}
 use Rattle.jl_world.specs.declared.view.BookView.{BookView}
+use Rattle.jl_methods.specs.Indexed.{IsIndexOf}
 use Rattle.jl_world.proofs.Bounds.{few_worlds}
 use Rattle.jl_rows.specs.Open.{IsOpenOf}
 use Rattle.jl_rows.proofs.CutLemmas.{cut_again, cut_more, all_cut}
@@ -12,6 +13,11 @@ overflow_cast-world g c =
     let P = g.N.Naming.about.program.value in
     let es = c.args.book.now.events in
     omega (arith, c.worlds-world.ensures P es c.requires.index, few_worlds P es c.requires.history.stand)
+
+pub cut_row-requires-clause-index : goal.cut_row-requires-clause-index
+cut_row-requires-clause-index g c =
+    let events : c.loop-number.book.events ≡ c.args.book.now.events = ap (λ (b : BookView). b.events) c.loop-number.invariant.same in
+    subst (λ (es : List Event). IsIndexOf g.N.Naming.about.program.value es c.args.index.now) (sym events) c.requires.index
 
 pub loop-number-preserved : goal.loop-number-preserved
 loop-number-preserved g c =

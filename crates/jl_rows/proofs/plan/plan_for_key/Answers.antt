@@ -1,11 +1,18 @@
 use Rattle.std.proofs.Common.{sym, subst, refl}
 use Rattle.jl_program.specs.declared.choice.Choice.{Choice}
+use Rattle.jl_program.specs.declared.tree.Program.{Program}
 use Rattle.jl_program.specs.declared.choice.Choice.TheVariants.{Method}
 use Rattle.jl_calculus.specs.World.{Selects}
+use Rattle.jl_methods.specs.Indexed.{IsIndexOf}
 use Rattle.jl_rows.specs.declared.plan.RowPlan.TheVariants.{NoMethod}
 use Rattle.jl_rows.specs.Plans.{IsRowPlan}
 use Rattle.jl_rows.proofs.PlanLemmas.{plan_made}
 use Rattle.jl_rows.proofs.plan.plan_for_key.Goals as goal
+
+pub choose_for_key-requires-clause-index : goal.choose_for_key-requires-clause-index
+choose_for_key-requires-clause-index g c =
+    let es = c.args.book.now.events in
+    (es, subst (λ (P : Program). IsIndexOf P es c.args.index.now) (sym c.requires.program) c.requires.index)
 
 pub returns-in-Method-clause-plan : goal.returns-in-Method-clause-plan
 returns-in-Method-clause-plan g c =

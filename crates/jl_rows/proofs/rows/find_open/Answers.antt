@@ -1,65 +1,45 @@
-use Rattle.std.proofs.Common.{◌≡◌, ◌∙◌, sym, subst, arith, ℕ, ◌+◌, ◌-◌, ◌<◌, ⊎_elim, length, get_or}
+use Rattle.std.proofs.Common.{subst}
 use Rattle.std.specs.List.{Contains}
+use Rattle.std.proofs.lemmas.Option.{slice_get_within}
 use Rattle.jl_calculus.specs.Ranges.{rows_of}
-use Rattle.jl_world.specs.declared.row_word.RowWord.TheVariants.{Last}
-use Rattle.jl_world.specs.declared.view.BookView.{BookView}
-use Rattle.jl_world.specs.Tells.{HasRowWord}
+use Rattle.jl_methods.specs.Newest.{IsNewestOf}
+use Rattle.jl_world.proofs.Lists.{contains_at}
 use Rattle.jl_rows.specs.Open.{IsOpenOf}
-use Rattle.jl_rows.proofs.Numbers.{one_before}
-use Rattle.jl_rows.proofs.RowReads.{row_in, row_at, row_there, row_known, all_looked, zero_is_open, other_is_cut}
+use Rattle.jl_rows.proofs.OpenLemmas.{newest_open}
+use Rattle.jl_rows.proofs.RowReads.{newest_at, zero_is_open, other_is_cut}
 use Rattle.jl_rows.proofs.rows.find_open.Goals as goal
+
+pub returns-in_default-clause-found : goal.returns-in_default-clause-found
+returns-in_default-clause-found g c =
+    let P = g.N.Naming.about.program.value in
+    let es = c.args.book.now.events in
+    let none = subst (IsNewestOf (rows_of es) c.args.key) c.in_default.is (c.newest_row.ensures P es c.requires.index) in
+    λ r free.
+    let o = free.is_open in
+    absurd (none o.row (contains_at (rows_of es) r o.row o.stands) free.of_key)
 
 pub read-last-requires : goal.read-last-requires
 read-last-requires g c =
     let P = g.N.Naming.about.program.value in
     let es = c.args.book.now.events in
-    let rows = c.rows_of-rows.result.now in
-    let i : ℕ = c.loop-left.left - 1 in
-    let within : i < length rows = omega (arith, c.loop-left.invariant.within, c.loop-left-test.true) in
-    subst (λ (b : BookView). get_or rows i 0 < length (rows_of b.events)) (sym c.loop-left.invariant.same)
-    (row_known es c.args.key (get_or rows i 0) (row_in es c.args.key rows i (c.rows_of-rows.ensures P es c.requires.index) within))
+    let n = subst (IsNewestOf (rows_of es) c.args.key) c.in-Some.is (c.newest_row.ensures P es c.requires.index) in
+    slice_get_within (rows_of es) c.in-Some.newest.number n.row n.stands
 
 pub returns-then-last-eq0-clause-found : goal.returns-then-last-eq0-clause-found
 returns-then-last-eq0-clause-found g c =
     let P = g.N.Naming.about.program.value in
     let es = c.args.book.now.events in
-    let rows = c.rows_of-rows.result.now in
-    let i : ℕ = c.loop-left.left - 1 in
-    let r : ℕ = get_or rows i 0 in
-    let n = c.read-last.result in
-    let within : i < length rows = omega (arith, c.loop-left.invariant.within, c.loop-left-test.true) in
-    let word = subst (λ (b : BookView). HasRowWord P b.events b.cut r Last n) c.loop-left.invariant.same c.read-last.ensures.word in
-    zero_is_open P es c.args.book.now.cut c.args.key r n c.requires.history.stand (row_at es c.args.key r (row_in es c.args.key rows i (c.rows_of-rows.ensures P es c.requires.index) within)) word c.if-last-eq0.true
-
-pub loop-left-preserved : goal.loop-left-preserved
-loop-left-preserved g c =
-    let P = g.N.Naming.about.program.value in
-    let es = c.args.book.now.events in
-    let cut = c.args.book.now.cut in
-    let key = c.args.key in
-    let rows = c.rows_of-rows.result.now in
-    let i : ℕ = c.loop-left.left - 1 in
-    let r : ℕ = get_or rows i 0 in
-    let n = c.read-last.result in
-    let within : i < length rows = omega (arith, c.loop-left.invariant.within, c.loop-left-test.true) in
-    let next : c.loop-left.left ≡ i + 1 = omega (arith, c.loop-left-test.true) in
-    let word = subst (λ (b : BookView). HasRowWord P b.events b.cut r Last n) c.loop-left.invariant.same c.read-last.ensures.word in
-    record {
-      same = c.read-last.ensures.same ∙ c.loop-left.invariant.same;
-      within = omega (arith, within);
-      ended = λ s stands free.
-          ⊎_elim
-          (λ (e : r ≡ s). subst (Contains cut) e (other_is_cut P es cut key r n word c.if-last-eq0.false (subst (IsOpenOf P es key) (sym e) free)))
-          (λ d. c.loop-left.invariant.ended s d free) (one_before rows i c.loop-left.left s within next stands);
-    }
+    let newest = c.in-Some.newest in
+    let n = subst (IsNewestOf (rows_of es) c.args.key) c.in-Some.is (c.newest_row.ensures P es c.requires.index) in
+    zero_is_open P es c.args.book.now.cut c.args.key newest.number c.read-last.result c.requires.history.stand (newest_at es c.args.key newest n) c.read-last.ensures.word c.if-last-eq0.true
 
 pub returns-clause-found : goal.returns-clause-found
 returns-clause-found g c =
     let P = g.N.Naming.about.program.value in
     let es = c.args.book.now.events in
-    let rows = c.rows_of-rows.result.now in
-    let none : c.loop-left.left ≡ 0 = omega (arith, c.loop-left-test.false) in
+    let cut = c.args.book.now.cut in
+    let newest = c.in-Some.newest in
+    let n = subst (IsNewestOf (rows_of es) c.args.key) c.in-Some.is (c.newest_row.ensures P es c.requires.index) in
     λ r free.
-    let o = free.is_open in
-    c.loop-left.invariant.ended r
-    (all_looked es c.args.key c.loop-left.left r rows (c.rows_of-rows.ensures P es c.requires.index) none (row_there es c.args.key r (record { row = o.row; stands = o.stands; of_key = free.of_key }))) free
+    let same = newest_open P es c.requires.history.stand c.args.key r newest n free in
+    subst (λ k. IsOpenOf P es c.args.key k → Contains cut k) same (other_is_cut P es cut c.args.key newest.number c.read-last.result c.read-last.ensures.word c.if-last-eq0.false) free

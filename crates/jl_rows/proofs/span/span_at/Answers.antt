@@ -1,15 +1,14 @@
-use Rattle.std.proofs.Common.{refl, arith}
-use Rattle.jl_rows.proofs.SpanLemmas.{first_next, span_before, span_open}
+use Rattle.std.proofs.Common.{arith}
+use Rattle.jl_rows.proofs.SpanLemmas.{span_is}
 use Rattle.jl_rows.proofs.span.span_at.Goals as goal
 
-pub returns-then-made-world : goal.returns-then-made-world
-returns-then-made-world c =
-    span_before c.args.worlds.now c.args.world c.loop-made.made-index c.loop-made.first c.loop-made-test.true c.loop-made.invariant c.requires.ordered c.if-made-world.true _ refl refl
+pub first_of-first-requires : goal.first_of-first-requires
+first_of-first-requires c = (c.count_up_to-count.ensures c.requires.ordered).within
 
-pub loop-made-preserved : goal.loop-made-preserved
-loop-made-preserved c =
-    first_next c.args.worlds.now c.args.world c.loop-made.made-index c.loop-made.first c.loop-made-test.true c.loop-made.invariant (omega (arith, c.if-made-world.false)) c.max-first.result c.max-first.ensures
+pub last_of-last-requires : goal.last_of-last-requires
+last_of-last-requires c l = let m = (c.count_up_to-count.ensures c.requires.ordered).high c.count_up_to-count.result (omega arith) l in omega (arith, m)
 
 pub returns : goal.returns
 returns c =
-    span_open c.args.worlds.now c.args.world c.loop-made.made-index c.loop-made.first (omega (arith, c.loop-made-test.false)) c.loop-made.invariant _ refl refl
+    span_is c.args.worlds.now c.args.world c.count_up_to-count.result c.first_of-first.result c.requires.ordered c.requires.world (c.count_up_to-count.ensures c.requires.ordered)
+    c.first_of-first.ensures.none c.first_of-first.ensures.some c.last_of-last.result c.last_of-last.ensures

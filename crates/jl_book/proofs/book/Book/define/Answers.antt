@@ -9,7 +9,7 @@ use Rattle.jl_methods.specs.Indexed.{IsIndexOf, awaited_in}
 use Rattle.jl_world.specs.declared.view.BookView.{BookView}
 use Rattle.jl_world.proofs.Bounds.{few_worlds}
 use Rattle.jl_book.specs.Books.{HasParts, at_rest}
-use Rattle.jl_book.proofs.PartLemmas.{parts_added}
+use Rattle.jl_book.proofs.PartLemmas.{parts_added, parts_kept}
 use Rattle.jl_book.proofs.PlanLemmas.{all_cut}
 use Rattle.jl_book.proofs.Pushing.{history_push}
 use Rattle.jl_book.proofs.Starts.{noted_pass}
@@ -22,6 +22,21 @@ returns-then-worlds-ge-MOST_WORLDS-clause-full g c =
     let h = c.self.invariant in
     let es = c.self.inside.seat.events in
     (λ q. omega (arith, c.worlds.ensures P es h.filters, few_worlds P es h.book.legal.stand, c.if-worlds-ge-MOST_WORLDS.true, ap world_of c.self.view_is), λ q. refl)
+
+pub invariant_of-self-in_default : goal.invariant_of-self-in_default
+invariant_of-self-in_default g c =
+    let i = c.self.inside in
+    parts_kept g.N.Naming.about i.seat.events i.seat i.events.items i.index i.keys.keys i.ends.items i.unfinished c.self.invariant c.meet.new.book c.reserve_def.new.events.items c.reserve_def.new.index i.keys.keys
+    c.meet.ensures.book c.reserve_def.ensures.events c.reserve_def.ensures.noted refl
+
+pub cut_rows-requires-clause-index : goal.cut_rows-requires-clause-index
+cut_rows-requires-clause-index g c =
+    let i = c.self.inside in
+    let kept =
+    parts_kept g.N.Naming.about i.seat.events i.seat i.events.items i.index i.keys.keys i.ends.items i.unfinished c.self.invariant c.meet.new.book c.reserve_def.new.events.items c.reserve_def.new.index i.keys.keys
+    c.meet.ensures.book c.reserve_def.ensures.events c.reserve_def.ensures.noted refl
+    in
+    kept.filters
 
 pub publish-requires-clause-cut : goal.publish-requires-clause-cut
 publish-requires-clause-cut g c =

@@ -12,7 +12,7 @@ use Rattle.jl_world.specs.Views.{grown}
 use Rattle.jl_world.proofs.Lists.{contains_at}
 use Rattle.jl_book.specs.Books.{at_rest}
 use Rattle.jl_book.proofs.Finding.{named_last}
-use Rattle.jl_book.proofs.PartLemmas.{parts_added}
+use Rattle.jl_book.proofs.PartLemmas.{parts_added, parts_kept}
 use Rattle.jl_book.proofs.Starts.{met_pass}
 use Rattle.jl_book.proofs.book.Book.key.Goals as goal
 
@@ -29,6 +29,12 @@ returns-in-Some-clause-full g c =
     let k = c.args.key.now in
     let at : slice_get (keys_of es) c.in-Some.number ≡ Some k = ap (λ ks. slice_get ks c.in-Some.number) (sym c.self.invariant.named) ∙ c.in-Some.ensures in
     (λ e. cc, λ full. absurd (full.new (subst (λ xs. Contains (keys_of xs) k) c.self.view_is (contains_at (keys_of es) c.in-Some.number k at))))
+
+pub invariant_of-self-in_default-reserve_key : goal.invariant_of-self-in_default-reserve_key
+invariant_of-self-in_default-reserve_key g c =
+    let i = c.self.inside in
+    parts_kept g.N.Naming.about i.seat.events i.seat i.events.items i.index i.keys.keys i.ends.items i.unfinished c.self.invariant c.meet.new.book c.reserve_key.new.events.items c.reserve_key.new.index
+    c.reserve_key.new.keys.keys c.meet.ensures.book c.reserve_key.ensures.events c.reserve_key.ensures.noted c.reserve_key.ensures.keys
 
 pub invariant_of-pass-then-number-most : goal.invariant_of-pass-then-number-most
 invariant_of-pass-then-number-most g c =

@@ -1,6 +1,7 @@
-use Rattle.std.proofs.Common.{◌≡◌, ◌∙◌, ap, subst, arith, length, ◌≤◌}
+use Rattle.std.proofs.Common.{◌≡◌, ◌∙◌, ap, sym, subst, arith, length, ◌≤◌}
 use Rattle.jl_calculus.specs.Ranges.{keys_of}
 use Rattle.jl_calculus.specs.World.{world_of}
+use Rattle.jl_methods.specs.Indexed.{IsIndexOf}
 use Rattle.jl_rows.specs.Plans.{IsPlanFor, with_row}
 use Rattle.jl_world.specs.declared.view.BookView.{BookView}
 use Rattle.jl_world.specs.declared.view.TaskView.{TaskView}
@@ -8,6 +9,10 @@ use Rattle.jl_world.specs.Views.{Begins}
 use Rattle.jl_world.proofs.Growth.{keys_grow, worlds_grow}
 use Rattle.jl_book.proofs.PlanLemmas.{plan_choice, plan_kept}
 use Rattle.jl_book.proofs.book.Book.resolve.Goals as goal
+
+pub plan_for_key-requires-clause-index : goal.plan_for_key-requires-clause-index
+plan_for_key-requires-clause-index g c =
+    subst (λ (b : BookView). IsIndexOf g.N.Naming.about.program.value b.events c.self.inside.index) (sym c.meet.ensures.book) c.self.invariant.filters
 
 pub plan_for_key-requires-clause-key : goal.plan_for_key-requires-clause-key
 plan_for_key-requires-clause-key g c =

@@ -1,7 +1,7 @@
 use Rattle.std.proofs.Common.{◌≡◌, ◌≤◌, ℕ, drop, length, slice_get, Some}
 use Rattle.std.specs.List.{Contains}
 use Rattle.jl_calculus.specs.Ranges.{CacheRow, rows_of}
-use Rattle.jl_rows.proofs.rows.has_row_from.Given as goal
+use Rattle.jl_rows.proofs.rows.has_older_row_from.Given as goal
 
 -- the rows that were looked at begin in other worlds
 abbrev pub invariant-loop-left : goal.invariant-loop-left
