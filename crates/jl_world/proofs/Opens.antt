@@ -56,6 +56,7 @@ module _ (about : About) (fuel : about.fuel ≤ 1000000000) (places : HasPlaces 
         notes = get_or-set_same one 1 1 0 (omega (arith, l, places));
         heads = λ k lt. get_or-set_other one 1 (head_place k) 1 0 (λ x. omega (arith, x)) ∙ get_or-set_other zs 0 (head_place k) 4294967310 0 (λ x. omega (arith, x)) ∙ zeros n (head_place k);
         rows = λ r lt. absurd (omega (arith, lt));
+        tops = λ r lt. absurd (omega (arith, lt));
         cut = λ r c. absurd (contains_none r c);
         loose = λ r w v free is. absurd cc;
       }
