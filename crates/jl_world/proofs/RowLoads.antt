@@ -1,11 +1,10 @@
 -- The loads of rows, and of any word by the book's seat, keep the rule.
-use Rattle.std.proofs.Common.{◌≡◌, ◌∙◌, ap, sym, subst, refl, ℕ, zero, suc, ◌+◌, ◌*◌, ◌<◌, ◌≤◌, ◌⊎◌, inl, inr, arith, List, [], ◌∷◌, ◌++◌, length, take, set, slice_get, length-append, Option, Some, None}
+use Rattle.std.proofs.Common.{◌≡◌, ◌∙◌, ap, sym, subst, refl, ℕ, zero, suc, ◌<◌, arith, List, [], ◌∷◌, ◌++◌, length, take, set, slice_get, Some}
 use Rattle.std.specs.List.{Contains}
 use Rattle.std.proofs.lemmas.Option.{same_Some}
 use Rattle.std.specs.Prelude.{slice_index, slice_set}
-use mathlib.Core.Option.{some, none}
-use lib.ListN.{get_elem?}
-use Rattle.atomic_table.specs.Table.{State, Me, Step, step, keeps, Allows}
+use mathlib.Core.Option.{none}
+use Rattle.atomic_table.specs.Table.{Me, Step, step, keeps, Allows}
 use Rattle.atomic_table.proofs.Lists.{set_again}
 use Rattle.jl_model.specs.declared.ty.Key.{Key}
 use Rattle.jl_program.specs.declared.tree.Program.{Program}
@@ -25,9 +24,9 @@ use Rattle.jl_world.specs.declared.view.View.{View}
 use Rattle.jl_world.specs.declared.view.View.TheVariants.{Task, Book}
 use Rattle.jl_world.specs.Places.{AreFew, AreNarrow, HasPlaces, row_place, index_of, word_count}
 use Rattle.jl_world.specs.Tops.{IsTopWord}
-use Rattle.jl_world.specs.Rule.{Now, IsOpenRow, Words, Kept, Holds}
+use Rattle.jl_world.specs.Rule.{IsOpenRow, Words, Kept, Holds}
 use Rattle.jl_world.specs.Tells.{IsWordOf, IsRowWord, HasWord, IsPlace}
-use Rattle.jl_world.specs.Views.{Begins, Fits, task_of, book_of}
+use Rattle.jl_world.specs.Views.{Begins, task_of, book_of}
 use Rattle.jl_world.proofs.Growth.{rows_grow}
 use Rattle.jl_world.proofs.Lists.{there, one_there, take_short}
 use Rattle.jl_world.proofs.Moves.{same_words}

@@ -1,9 +1,9 @@
 -- The largest first world of a key's rows: no row begins later, and it stays when rows come.
-use Rattle.std.proofs.Common.{◌≡◌, ◌∙◌, ap, sym, subst, refl, ℕ, zero, suc, ◌+◌, ◌<◌, ◌≤◌, max, arith, Bool, true, false, cond, nat_eq, List, [], ◌∷◌, ◌++◌, length, take, slice_get, length-append, Option, Some, None}
+use Rattle.std.proofs.Common.{◌≡◌, ◌∙◌, ap, sym, subst, refl, ℕ, zero, suc, ◌<◌, ◌≤◌, max, arith, Bool, true, false, cond, nat_eq, List, [], ◌∷◌, ◌++◌, length, take, slice_get, length-append, Some}
 use Rattle.std.proofs.lemmas.Option.{same_Some, slice_get_within}
 use Rattle.jl_calculus.specs.declared.history.Event.{Event}
 use Rattle.jl_calculus.specs.Ranges.{CacheRow, rows_of}
-use Rattle.jl_calculus.specs.Words.{one_past, after_last, link_of}
+use Rattle.jl_calculus.specs.Words.{one_past, link_of}
 use Rattle.jl_calculus.proofs.GrowthLemmas.{rows_append}
 use Rattle.jl_world.specs.Tops.{top_of, IsTopWord}
 use Rattle.jl_world.proofs.Growth.{agreed}

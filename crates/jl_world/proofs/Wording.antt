@@ -1,6 +1,5 @@
 -- What each store makes of the words.
-use Rattle.std.proofs.Common.{◌≡◌, ◌≢◌, ◌∙◌, ap, sym, subst, refl, ℕ, zero, suc, ◌+◌, ◌*◌, ◌<◌, ◌≤◌, max, ◌⊎◌, inl, inr, ⊎_elim, arith, Bool, true, false, cond, nat_eq, List, [], ◌∷◌, ◌++◌, length, take, slice_get, append-nil, length-append, Option, Some, None}
-use Rattle.std.specs.List.{Contains}
+use Rattle.std.proofs.Common.{◌≡◌, ◌≢◌, ◌∙◌, ap, sym, subst, refl, ℕ, suc, ◌+◌, ◌*◌, ◌<◌, ◌≤◌, max, ◌⊎◌, inl, inr, ⊎_elim, arith, Bool, true, false, cond, nat_eq, List, [], ◌∷◌, ◌++◌, length, take, slice_get, append-nil, length-append, Some}
 use Rattle.std.proofs.lemmas.List.{length-set, get_or-set_same, get_or-set_other}
 use Rattle.std.proofs.lemmas.Option.{same_Some, slice_get_within}
 use Rattle.std.specs.Prelude.{slice_index, slice_set}
@@ -9,21 +8,20 @@ use Rattle.jl_program.specs.declared.tree.Program.{Program}
 use Rattle.jl_calculus.specs.declared.history.Event.{Event}
 use Rattle.jl_calculus.specs.declared.history.Event.TheVariants as Ev
 use Rattle.jl_calculus.specs.Legal.{MayStand}
-use Rattle.jl_calculus.specs.Ranges.{CacheRow, keys_of, rows_of, HasNoEnd}
-use Rattle.jl_calculus.specs.Words.{upper, is_worldly, is_noted, is_fill_of, world_length, world_word, notes_word, link_of, fill_length, head_word, AreAllCut, IsLastWith, IsRowWords}
+use Rattle.jl_calculus.specs.Ranges.{CacheRow, keys_of, rows_of}
+use Rattle.jl_calculus.specs.Words.{upper, is_worldly, is_noted, is_fill_of, world_word, notes_word, link_of, fill_length, head_word, AreAllCut, IsLastWith, IsRowWords}
 use Rattle.jl_calculus.specs.World.{defined, world_of}
 use Rattle.jl_calculus.proofs.GrowthLemmas.{defined_append, rows_append}
 use Rattle.jl_world.specs.declared.about.About.{About}
 use Rattle.jl_world.specs.declared.row_word.RowWord.{RowWord}
 use Rattle.jl_world.specs.declared.row_word.RowWord.TheVariants.{Site, First, Last, Next, Top}
-use Rattle.jl_world.specs.declared.view.Stored.{Stored}
 use Rattle.jl_world.specs.Adds.{AreStored}
 use Rattle.jl_world.specs.Places.{world_place, notes_place, head_place, row_offset, row_place, word_count}
 use Rattle.jl_world.specs.Tops.{top_of, IsTopWord}
 use Rattle.jl_world.specs.Rule.{Now, IsOpenRow, IsRow, Words}
 use Rattle.jl_world.specs.Views.{stored_word}
-use Rattle.jl_world.proofs.Growth.{differ, agree, agreed}
-use Rattle.jl_world.proofs.Lists.{get_push, one_there, take_short, take_whole, last_hit, last_miss, contains_cons, contains_front, contains_behind, contains_none}
+use Rattle.jl_world.proofs.Growth.{agree, agreed}
+use Rattle.jl_world.proofs.Lists.{get_push, take_short, take_whole, last_miss, contains_cons, contains_front, contains_behind, contains_none}
 use Rattle.jl_world.proofs.Rights.{rows_right, named_more, row_more, begins_low, last_on, cut_ends}
 use Rattle.jl_world.proofs.TopLemmas.{top_more, top_next}
 

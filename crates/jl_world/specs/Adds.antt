@@ -1,5 +1,5 @@
 -- Which events the book's seat may add.
-use Rattle.std.specs.Prelude.{ℕ, ◌≡◌, ◌<◌, ◌≤◌, max, List, [], ◌∷◌, length, take, slice_get, Option, None, Some}
+use Rattle.std.specs.Prelude.{ℕ, ◌≡◌, ◌<◌, ◌≤◌, max, List, [], length, slice_get, Some}
 use Rattle.std.specs.List.{Contains}
 use Rattle.jl_model.specs.declared.ty.Key.{Key}
 use Rattle.jl_model.specs.declared.limits.TheConstants.{MOST_WORLDS}

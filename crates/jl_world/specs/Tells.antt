@@ -1,5 +1,5 @@
 -- What the steps tell of the words.
-use Rattle.std.specs.Prelude.{ℕ, suc, ◌+◌, ◌/◌, ◌%◌, ◌≡◌, ◌⊎◌, ◌<◌, ◌≤◌, max, List, [], ◌∷◌, length, take, slice_get, Option, None, Some}
+use Rattle.std.specs.Prelude.{ℕ, suc, ◌/◌, ◌%◌, ◌≡◌, ◌⊎◌, ◌<◌, ◌≤◌, max, List, length, take, slice_get, Some}
 use Rattle.jl_model.specs.declared.ty.Key.{Key}
 use Rattle.jl_program.specs.declared.tree.Program.{Program}
 use Rattle.jl_calculus.specs.declared.history.Event.{Event}
@@ -13,8 +13,7 @@ use Rattle.jl_world.specs.declared.row_word.Place.TheVariants as Pl
 use Rattle.jl_world.specs.declared.row_word.RowWord.{RowWord}
 use Rattle.jl_world.specs.declared.row_word.RowWord.TheVariants.{Site, First, Last, Next, Top}
 use Rattle.jl_world.specs.declared.view.TaskView.{TaskView}
-use Rattle.jl_world.specs.declared.view.BookView.{BookView}
-use Rattle.jl_world.specs.Places.{world_place, notes_place, head_place, row_place, AreFew}
+use Rattle.jl_world.specs.Places.{head_place, AreFew}
 use Rattle.jl_world.specs.Tops.{top_of, IsTopWord}
 use Rattle.jl_world.specs.Views.{Begins, looked, met}
 
