@@ -1,21 +1,23 @@
 -- A search of the rows of a key, from what was loaded of each.
-use Rattle.std.proofs.Common.{◌≡◌, ◌∙◌, ap, sym, subst, refl, ℕ, zero, suc, ◌+◌, ◌-◌, ◌<◌, ◌≤◌, ◌⊎◌, ◌↔◌, inl, inr, ⊎_elim, arith, Bool, true, false, true≢false, nat_eq, List, [], ◌∷◌, length, take, slice_get, Option, Some, None}
-use Rattle.std.specs.List.{Contains}
+use Rattle.std.proofs.Common.{◌≡◌, ◌∙◌, ap, sym, subst, refl, ℕ, zero, suc, ◌+◌, ◌<◌, ◌≤◌, ◌⊎◌, inl, inr, ⊎_elim, arith, Bool, false, true≢false, nat_eq, List, length, take, slice_get, Some}
 use Rattle.jl_model.specs.declared.ty.Key.{Key}
 use Rattle.jl_program.specs.declared.tree.Program.{Program}
 use Rattle.jl_calculus.specs.declared.history.Event.{Event}
+use Rattle.jl_calculus.specs.Legal.{MayStand}
 use Rattle.jl_calculus.specs.Learnt.{IsNamed, IsChosen, IsUncovered}
-use Rattle.jl_calculus.specs.Ranges.{CacheRow, keys_of, rows_of, Touches, Covers, HasNoEnd, EndsWith, IsCovered, MayBegin, IsRightFill, SelectsSite}
-use Rattle.jl_calculus.specs.Words.{after_last, link_of}
+use Rattle.jl_calculus.specs.Ranges.{CacheRow, keys_of, rows_of, Covers, MayBegin, IsRightFill, SelectsSite}
+use Rattle.jl_calculus.specs.Words.{link_of}
 use Rattle.jl_calculus.specs.World.{world_of}
 use Rattle.jl_calculus.proofs.BetweenLemmas.{row_tells}
 use Rattle.jl_world.specs.declared.row_word.RowWord.{RowWord}
-use Rattle.jl_world.specs.declared.row_word.RowWord.TheVariants.{Site, First, Last, Next}
+use Rattle.jl_world.specs.declared.row_word.RowWord.TheVariants.{Site, First, Last, Next, Top}
 use Rattle.jl_world.specs.declared.view.TaskView.{TaskView}
 use Rattle.jl_world.specs.Tells.{IsLastSeen, IsWordOf, IsRowWord}
+use Rattle.jl_world.specs.Tops.{top_of}
 use Rattle.jl_world.proofs.Growth.{agree, agreed}
 use Rattle.jl_world.proofs.Lists.{IsLast, one_there, contains_at, place_in, get_taken, get_whole, take_low, last_low, none_met, last_is}
-use Rattle.jl_world.proofs.Rights.{begins_low}
+use Rattle.jl_world.proofs.Rights.{begins_low, rows_right}
+use Rattle.jl_world.proofs.TopLemmas.{top_bound}
 use Rattle.jl_cache.specs.Finds.{Reaches}
 
 abbrev pub has_key : ℕ → CacheRow → Bool
@@ -106,6 +108,34 @@ module _ (P : Program) (es : List Event) (number w : ℕ) where
             ⊎_elim (λ lt. not_key number x (t.later m x (omega (arith, is, e, le)) (get_taken (rows_of es) j m x here lt)) of_x) (λ s. behind m x k here of_x named_x c s) (side m j);
       }
 
+  -- no row of the key up to this one begins later, and this one begins by the world: those that begin earlier end before it begins
+  pub tried_stop : (j : ℕ) (row : CacheRow) (key : Key) → Tried P es number w (suc j) → MayStand P es → slice_get (rows_of es) j ≡ Some row → IsNamed es number key → MayBegin P es key row.first → row.first ≤ w
+      → row.first ≡ top_of number (take (suc j) (rows_of es)) → (Covers P es key row.first w → ⊥) → Tried P es number w 0
+  tried_stop j row key tried stand at named begins low top fails = record {
+    low = omega arith;
+    row = λ i e. absurd (omega (arith, e));
+    none_yet = λ m x k le here of_x named_x c. ⊎_elim (λ lt. early m x k here of_x named_x c lt) (λ s. tried.none_yet m x k s here of_x named_x c) (side m j);
+  }
+    where
+      side : (m j : ℕ) → (m < suc j) ⊎ (suc j ≤ m)
+      side m j = grind arith
+
+      apart : (a b : ℕ) → a ≤ b → (a ≡ b) ⊎ (a < b)
+      apart a b le = grind (arith, le)
+
+      older : (m : ℕ) (x : CacheRow) → slice_get (rows_of es) m ≡ Some x → Covers P es key x.first w → x.first < row.first → MayBegin P es key row.first → ⊥
+      older m x here c lt (inl first) =
+          let right = rows_right P es stand m x here in
+          omega (arith, first, lt, (begins_low P es right.key x.first right.right.begun).0)
+      older m x here c lt (inr t) = c.going row.first lt low t.1
+
+      early : (m : ℕ) (x : CacheRow) (k : Key) → slice_get (rows_of es) m ≡ Some x → x.key ≡ number → IsNamed es number k → Covers P es k x.first w → m < suc j → ⊥
+      early m x k here of_x named_x c lt =
+          let keys_same : k ≡ key = one_there (keys_of es) number k key named_x named in
+          let covers : Covers P es key x.first w = subst (λ (y : Key). Covers P es y x.first w) keys_same c in
+          let le : x.first ≤ row.first = omega (arith, top, top_bound number (take (suc j) (rows_of es)) m x (get_taken (rows_of es) (suc j) m x here lt) of_x) in
+          ⊎_elim (λ (e : x.first ≡ row.first). fails (subst (λ n. Covers P es key n w) e covers)) (λ (l : x.first < row.first). older m x here covers l begins) (apart x.first row.first le)
+
   -- no row is left
   pub tried_all : Tried P es number w 0 → IsUncovered P es number w
   tried_all tried key named (row, c) =
@@ -116,6 +146,7 @@ module _ (P : Program) (es : List Event) (number w : ℕ) where
 
 -- the row at a link, with its key
 pub record IsAt (P : Program) (es : List Event) (number j : ℕ) : Type 0 where
+  pub stand : MayStand P es
   pub row : CacheRow
   pub at : slice_get (rows_of es) j ≡ Some row
   pub of_key : row.key ≡ number
@@ -129,7 +160,7 @@ module _ (P : Program) (es : List Event) (number w : ℕ) where
       let (row, at, of) = tried.row j refl in
       let same : h.row ≡ row = one_there (rows_of es) j h.row row h.stands at in
       let of_h : h.row.key ≡ number = ap (λ (y : CacheRow). y.key) same ∙ of in
-      record { row = h.row; at = h.stands; of_key = of_h; key = h.key; named = subst (λ k. slice_get (keys_of es) k ≡ Some h.key) of_h h.named; right = h.right }
+      record { stand = h.stand; row = h.row; at = h.stands; of_key = of_h; key = h.key; named = subst (λ k. slice_get (keys_of es) k ≡ Some h.key) of_h h.named; right = h.right }
 
   -- a word of this row
   pub word_there : (j n : ℕ) (x : RowWord) (a : IsAt P es number j) → IsRowWord P es j x n → IsWordOf P es j a.row a.key x n
@@ -163,6 +194,15 @@ module _ (P : Program) (es : List Event) (number w : ℕ) where
             (λ c. fails (omega (arith, c.begun, first_is)) (reaches_so P es a.key a.row.first last w a.right.begun low (word_there j last Last a l) c)) next_is,
         omega (arith, next_is, last_low (has_key number) (take j (rows_of es)), take_low j (rows_of es)),
       )
+
+  pub find_stop : (j first last : ℕ) → Tried P es number w (suc j) → w ≤ world_of es → IsRowWord P es j First first → IsRowWord P es j Last last → IsRowWord P es j Top first → first ≤ w
+      → (first ≤ w → Reaches last w → ⊥) → Tried P es number w 0
+  find_stop j first last tried low f l t begun fails =
+      let a = at_link j first First tried f in
+      let first_is : first ≡ a.row.first = word_there j first First a f in
+      let top : first ≡ top_of number (take (suc j) (rows_of es)) = word_there j first Top a t ∙ ap (λ k. top_of k (take (suc j) (rows_of es))) a.of_key in
+      tried_stop P es number w j a.row a.key tried a.stand a.at a.named a.right.begun (omega (arith, first_is, begun)) (sym first_is ∙ top)
+      (λ c. fails begun (reaches_so P es a.key a.row.first last w a.right.begun low (word_there j last Last a l) c))
 
 -- the same of a view that is the same
 pub told_at : (P : Program) (a b : TaskView) (j n : ℕ) (x : RowWord) → a ≡ b → IsRowWord P a.seen j x n → IsRowWord P b.seen j x n

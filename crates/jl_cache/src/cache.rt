@@ -1,18 +1,22 @@
 //! The cache over the shared words.
 
-ghost use Rattle.std.specs.Prelude.{◌≡◌, ℕ, ◌<◌, ◌≤◌, [], length, IsTrue, ◌↔◌, MatchOption};
+ghost use Rattle.std.specs.Prelude.{◌≡◌, ◌⊎◌, ℕ, ◌<◌, ◌≤◌, max, [], length, IsTrue, ◌↔◌, MatchOption};
 ghost use Rattle.jl_calculus.specs.declared.history.Event.TheVariants.{Fill};
 ghost use Rattle.jl_calculus.specs.Learnt.{IsChosen, IsUncovered};
 ghost use Rattle.jl_calculus.specs.Ranges.{keys_of, rows_of};
+ghost use Rattle.jl_calculus.specs.Words.{link_of};
 ghost use Rattle.jl_calculus.specs.World.{world_of};
 ghost use Rattle.jl_cache.specs.Finds.{HasRangeEnd, MatchFound, Reaches};
 ghost use Rattle.jl_program.specs.Prelude.{prelude_count};
 ghost use Rattle.jl_world.specs.Adds.{IsNextFill};
 ghost use Rattle.jl_world.specs.Rule.{IsOpenRow};
+ghost use Rattle.jl_world.specs.Tells.{IsRowWord};
+ghost use Rattle.jl_world.specs.Tops.{top_of};
 ghost use Rattle.jl_world.specs.Views.{Begins, cut_at, grown, met};
+ghost use Rattle.jl_world.specs.declared.row_word.RowWord.TheVariants.{Next, Top};
 
 use crate::found::{Found, Miss};
-use jl_world::{BookSeat, Naming, RowWord, TaskSeat, World};
+use jl_world::{BookSeat, Naming, Place, RowWord, TaskSeat, World};
 use std::snapshot::Snapshot;
 
 /// What the lower half of a head counts.
@@ -62,11 +66,39 @@ impl<N: Naming> Cache<N> {
                 let site = self.world.load_row(seat, row, RowWord::Site);
                 return Found::Hit(site as u32);
             }
-            let next = self.world.load_row(seat, row, RowWord::Next);
+            let next = self.next_to_try(seat, row, first, world);
             link = next as u32;
         }
         let seen = Snapshot::of(seat);
         Found::Miss(Miss { key, world, seen })
+    }
+
+    // 1 plus the next row to try after one that does not cover the world, and 0 where there is none. Where no row of the key up
+    // to this one begins later, and this one begins by the world, those that begin earlier end before this one begins.
+    fn next_to_try(&self, seat: &mut TaskSeat<N>, row: u32, first: u64, world: u32) -> u64
+        requires { row < length (rows_of seat.old.seen) }
+        ensures same { seat.new ≡ seat.old }
+        ensures next { IsRowWord N.about.program.value seat.old.seen row Next result ⊎ ((result ≡ 0) × (first ≤ world) × IsRowWord N.about.program.value seat.old.seen row Top first) }
+    {
+        let top = self.world.load_row(seat, row, RowWord::Top);
+        if top == first && first <= u64::from(world) {
+            return 0;
+        }
+        self.world.load_row(seat, row, RowWord::Next)
+    }
+
+    // The largest first world of a key's rows, with one more row that begins in this world.
+    fn top_with(&self, book: &mut BookSeat<N>, key: u32, link: u32, first: u32) -> u64
+        requires link { link ≡ link_of key (rows_of book.old.events) }
+        ensures same { book.new ≡ book.old }
+        ensures top { result ≡ max first (top_of key (rows_of book.old.events)) }
+    {
+        if link == 0 {
+            return u64::from(first);
+        }
+        let place = Place::Row(link - 1, RowWord::Top);
+        let top = self.world.read(book, place);
+        u64::from(first).max(top)
     }
 
     /// Links a row for a key, with a site that is right from its first world on, and answers its number, or None exactly
@@ -90,6 +122,7 @@ impl<N: Naming> Cache<N> {
             return None;
         }
         let head = self.world.book_head(book, key);
+        let top = self.top_with(book, key, (head % HALF) as u32, first);
         let last = u64::from(last.unwrap_or(0));
         self.world
             .store_row(book, row, RowWord::Site, u64::from(site));
@@ -97,6 +130,7 @@ impl<N: Naming> Cache<N> {
             .store_row(book, row, RowWord::First, u64::from(first));
         self.world.store_row(book, row, RowWord::Last, last);
         self.world.store_row(book, row, RowWord::Next, head % HALF);
+        self.world.store_row(book, row, RowWord::Top, top);
         self.world.store_head(book, key, site, first);
         Some(row)
     }

@@ -53,7 +53,7 @@ row_known es number r c = let h = row_at es number r c in slice_get_within (rows
 module _ (P : Program) (es : List Event) (cut : List ℕ) (number r n : ℕ) where
   -- a last world of 0 is none
   pub zero_is_open : MayStand P es → IsRowOf es number r → HasRowWord P es cut r Last n → n ≡ 0 → IsOpenOf P es number r
-  zero_is_open stand at (words, w, e) z = by w.last_word
+  zero_is_open stand at (words, w, top, e) z = by w.last_word
     where
       last_zero : words Last ≡ 0
       last_zero = sym e ∙ z
@@ -74,7 +74,7 @@ module _ (P : Program) (es : List Event) (cut : List ℕ) (number r n : ℕ) whe
 
   -- where there is one, a row without an end is cut
   pub other_is_cut : HasRowWord P es cut r Last n → (n ≡ 0 → ⊥) → IsOpenOf P es number r → Contains cut r
-  other_is_cut (words, w, e) some h = by w.last_word
+  other_is_cut (words, w, top, e) some h = by w.last_word
     where
       same : h.is_open.row ≡ w.row
       same = one_there (rows_of es) r h.is_open.row w.row h.is_open.stands w.stands
@@ -92,7 +92,7 @@ module _ (P : Program) (es : List Event) (cut : List ℕ) (number r n : ℕ) whe
 
   -- the first world of a row
   pub first_is : IsRowOf es number r → HasRowWord P es cut r First n → (first : ℕ) → n ≡ first → HasRowFrom es number first
-  first_is at (words, w, e) first f =
+  first_is at (words, w, top, e) first f =
       let same : at.row ≡ w.row = one_there (rows_of es) r at.row w.row at.stands w.stands in
       record {
         row = w.row;
@@ -102,7 +102,7 @@ module _ (P : Program) (es : List Event) (cut : List ℕ) (number r n : ℕ) whe
       }
 
   pub first_is_not : HasRowWord P es cut r First n → (first : ℕ) → (n ≡ first → ⊥) → (row : CacheRow) → slice_get (rows_of es) r ≡ Some row → row.first ≡ first → ⊥
-  first_is_not (words, w, e) first differ row stands f =
+  first_is_not (words, w, top, e) first differ row stands f =
       let same : row ≡ w.row = one_there (rows_of es) r row w.row stands w.stands in
       differ (e ∙ w.first_word ∙ ap (λ (x : CacheRow). x.first) (sym same) ∙ f)
 

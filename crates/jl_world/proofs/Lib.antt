@@ -2,6 +2,7 @@ pub mod Lists
 pub mod Growth
 pub mod Bounds
 pub mod Rights
+pub mod TopLemmas
 pub mod SeatLists
 pub mod Moves
 pub mod Wording

@@ -1,19 +1,18 @@
 -- The words at the start keep the rule.
-use Rattle.std.proofs.Common.{◌≡◌, ℕ, zero, suc, ◌+◌, ◌*◌, ◌<◌, ◌≤◌, max, List, [], ◌∷◌, length, replicate, refl, sym, ap, ◌∙◌, subst, inl, inr, arith, None, Some}
+use Rattle.std.proofs.Common.{◌≡◌, ℕ, zero, suc, ◌*◌, ◌≤◌, max, List, [], ◌∷◌, length, replicate, refl, sym, ap, ◌∙◌, subst, arith, None}
 use Rattle.std.proofs.lemmas.List.{length-set, get_or-set_same, get_or-set_other}
 use Rattle.std.specs.Prelude.{slice_index, slice_set}
 use mathlib.Core.Option.{some, some-injective, some-ne-none}
 use lib.ListN.{get_elem?}
-use Rattle.atomic_table.specs.Table.{State, opening}
+use Rattle.atomic_table.specs.Table.{opening}
 use Rattle.jl_program.specs.declared.tree.Program.{Program}
 use Rattle.jl_calculus.specs.declared.history.Event.{Event}
-use Rattle.jl_calculus.specs.declared.history.Event.TheVariants as Ev
 use Rattle.jl_calculus.specs.Legal.{MayStand}
 use Rattle.jl_world.specs.declared.about.About.{About}
 use Rattle.jl_world.specs.declared.view.View.{View}
 use Rattle.jl_world.specs.Opening.{first_words}
-use Rattle.jl_world.specs.Places.{HasPlaces, head_place, word_count}
-use Rattle.jl_world.specs.Rule.{Now, IsHistory, Words, SeatIs, Holds, first_events, first_view}
+use Rattle.jl_world.specs.Places.{HasPlaces, head_place}
+use Rattle.jl_world.specs.Rule.{Now, Words, SeatIs, Holds, first_events, first_view}
 use Rattle.jl_world.specs.Views.{Fits, begun}
 use Rattle.jl_world.proofs.Growth.{begins_self, still_true}
 use Rattle.jl_world.proofs.Lists.{contains_none}
@@ -56,6 +55,7 @@ module _ (about : About) (fuel : about.fuel ≤ 1000000000) (places : HasPlaces 
         notes = get_or-set_same one 1 1 0 (omega (arith, l, places));
         heads = λ k lt. get_or-set_other one 1 (head_place k) 1 0 (λ x. omega (arith, x)) ∙ get_or-set_other zs 0 (head_place k) 4294967310 0 (λ x. omega (arith, x)) ∙ zeros n (head_place k);
         rows = λ r lt. absurd (omega (arith, lt));
+        tops = λ r lt. absurd (omega (arith, lt));
         cut = λ r c. absurd (contains_none r c);
         loose = λ r w v free is. absurd cc;
       }

@@ -1,11 +1,10 @@
 -- The loads of rows, and of any word by the book's seat, keep the rule.
-use Rattle.std.proofs.Common.{◌≡◌, ◌∙◌, ap, sym, subst, refl, ℕ, zero, suc, ◌+◌, ◌*◌, ◌<◌, ◌≤◌, ◌⊎◌, inl, inr, arith, List, [], ◌∷◌, ◌++◌, length, take, set, slice_get, length-append, Option, Some, None}
+use Rattle.std.proofs.Common.{◌≡◌, ◌∙◌, ap, sym, subst, refl, ℕ, zero, suc, ◌<◌, arith, List, [], ◌∷◌, ◌++◌, length, take, set, slice_get, Some}
 use Rattle.std.specs.List.{Contains}
 use Rattle.std.proofs.lemmas.Option.{same_Some}
 use Rattle.std.specs.Prelude.{slice_index, slice_set}
-use mathlib.Core.Option.{some, none}
-use lib.ListN.{get_elem?}
-use Rattle.atomic_table.specs.Table.{State, Me, Step, step, keeps, Allows}
+use mathlib.Core.Option.{none}
+use Rattle.atomic_table.specs.Table.{Me, Step, step, keeps, Allows}
 use Rattle.atomic_table.proofs.Lists.{set_again}
 use Rattle.jl_model.specs.declared.ty.Key.{Key}
 use Rattle.jl_program.specs.declared.tree.Program.{Program}
@@ -18,20 +17,22 @@ use Rattle.jl_world.specs.declared.about.About.{About}
 use Rattle.jl_world.specs.declared.row_word.Place.{Place}
 use Rattle.jl_world.specs.declared.row_word.Place.TheVariants as Pl
 use Rattle.jl_world.specs.declared.row_word.RowWord.{RowWord}
-use Rattle.jl_world.specs.declared.row_word.RowWord.TheVariants.{Site, First, Last, Next}
+use Rattle.jl_world.specs.declared.row_word.RowWord.TheVariants.{Site, First, Last, Next, Top}
 use Rattle.jl_world.specs.declared.view.TaskView.{TaskView}
 use Rattle.jl_world.specs.declared.view.BookView.{BookView}
 use Rattle.jl_world.specs.declared.view.View.{View}
 use Rattle.jl_world.specs.declared.view.View.TheVariants.{Task, Book}
 use Rattle.jl_world.specs.Places.{AreFew, AreNarrow, HasPlaces, row_place, index_of, word_count}
-use Rattle.jl_world.specs.Rule.{Now, IsOpenRow, Words, Kept, Holds}
+use Rattle.jl_world.specs.Tops.{IsTopWord}
+use Rattle.jl_world.specs.Rule.{IsOpenRow, Words, Kept, Holds}
 use Rattle.jl_world.specs.Tells.{IsWordOf, IsRowWord, HasWord, IsPlace}
-use Rattle.jl_world.specs.Views.{Begins, Fits, task_of, book_of}
+use Rattle.jl_world.specs.Views.{Begins, task_of, book_of}
 use Rattle.jl_world.proofs.Growth.{rows_grow}
 use Rattle.jl_world.proofs.Lists.{there, one_there, take_short}
 use Rattle.jl_world.proofs.Moves.{same_words}
 use Rattle.jl_world.proofs.Rights.{rows_right, named_more, row_more, last_seen}
 use Rattle.jl_world.proofs.Stores.{now_of, known_now}
+use Rattle.jl_world.proofs.TopLemmas.{top_back}
 use Rattle.jl_world.proofs.Wording.{row_small}
 
 -- a row without an end, at its key
@@ -48,8 +49,8 @@ narrow_at (x ∷ xs) (suc r) row n e = narrow_at xs r row n.1 e
 
 -- a word of a row whose fill was seen
 row_word : (P : Program) (seen more : List Event) (cut : List ℕ) (r : ℕ) (words : RowWord → ℕ) (w : RowWord) → MayStand P seen → AreNarrow (rows_of (seen ++ more)) → (Contains cut r → IsOpenRow P (seen ++ more) r) → r < length (rows_of seen)
-    → IsRowWords P (seen ++ more) cut r (words Site) (words First) (words Last) (words Next) → IsRowWord P seen r w (words w)
-row_word P seen more cut r words w stand narrow free lt h =
+    → IsRowWords P (seen ++ more) cut r (words Site) (words First) (words Last) (words Next) → IsTopWord (seen ++ more) r (words Top) → IsRowWord P seen r w (words w)
+row_word P seen more cut r words w stand narrow free lt h top =
     let (row, stands) = there (rows_of seen) r lt in
     let right = rows_right P seen stand r row stands in
     let same : h.row ≡ row = one_there (rows_of (seen ++ more)) r h.row row h.stands (row_more seen more r row stands) in
@@ -59,35 +60,38 @@ row_word P seen more cut r words w stand narrow free lt h =
     subst (λ (k : Key). IsLastWith P (seen ++ more) cut r k row.first (words Last)) same_key (subst (λ (x : CacheRow). IsLastWith P (seen ++ more) cut r h.key x.first (words Last)) same h.last_word) in
     let short : take r (rows_of (seen ++ more)) ≡ take r (rows_of seen) = ap (take r) (rows_append seen more) ∙ take_short (rows_of seen) (rows_of more) r (omega (arith, lt)) in
     record {
+      stand = stand;
       row = row;
       stands = stands;
       key = right.key;
       named = right.named;
       right = right.right;
-      word = by w row right.key same
+      word = by w row right.key same stands
           (last_seen P seen more cut r right.key row.first (words Last) (λ c. open_has_none P (seen ++ more) r row right.key (row_more seen more r row stands) named (free c)) last)
           short;
     }
   where
-    by : (w : RowWord) (row : CacheRow) (key : Key) → h.row ≡ row → IsWordOf P seen r row key Last (words Last) → take r (rows_of (seen ++ more)) ≡ take r (rows_of seen) → IsWordOf P seen r row key w (words w)
-    by Site row key same last short =
+    by : (w : RowWord) (row : CacheRow) (key : Key) → h.row ≡ row → slice_get (rows_of seen) r ≡ Some row → IsWordOf P seen r row key Last (words Last) → take r (rows_of (seen ++ more)) ≡ take r (rows_of seen) → IsWordOf P seen r row key w (words w)
+    by Site row key same at last short =
         let is : words Site ≡ row.site = h.site_word ∙ ap (λ (x : CacheRow). x.site) same in
         (is, omega (arith, h.site_word, narrow_at (rows_of (seen ++ more)) r h.row narrow h.stands))
-    by First row key same last short = h.first_word ∙ ap (λ (x : CacheRow). x.first) same
-    by Last row key same last short = last
-    by Next row key same last short = h.next_word ∙ (λ i. link_of (same i).key (short i))
+    by First row key same at last short = h.first_word ∙ ap (λ (x : CacheRow). x.first) same
+    by Last row key same at last short = last
+    by Next row key same at last short = h.next_word ∙ (λ i. link_of (same i).key (short i))
+    by Top row key same at last short = top_back seen more r (words Top) row at top
 
 abbrev pub RowTells : About → Step (Unit {0}) → Me (Unit {0}) View → ℕ → Me (Unit {0}) View → Type 0
 RowTells about s me n after = (after ≡ me) × ((r : ℕ) (w : RowWord) → s.word ≡ row_place r w → r < length (rows_of (task_of me.0).seen) → IsRowWord about.program.value (task_of me.0).seen r w n)
 
 row_tells : (P : Program) (seen es : List Event) (about : About) (cut : List ℕ) (words : List ℕ) (i r : ℕ) (w : RowWord) → Begins seen es → MayStand P seen → AreNarrow (rows_of es) → ((r : ℕ) → Contains cut r → IsOpenRow P es r)
     → ((r : ℕ) → r < length (rows_of es) → IsRowWords P es cut r (slice_index words (row_place r Site)) (slice_index words (row_place r First)) (slice_index words (row_place r Last)) (slice_index words (row_place r Next)))
-    → i ≡ row_place r w → r < length (rows_of seen) → IsRowWord P seen r w (slice_index words i)
-row_tells P seen es about cut words i r w b stand narrow free rows at lt =
+    → ((r : ℕ) → r < length (rows_of es) → IsTopWord es r (slice_index words (row_place r Top))) → i ≡ row_place r w → r < length (rows_of seen) → IsRowWord P seen r w (slice_index words i)
+row_tells P seen es about cut words i r w b stand narrow free rows tops at lt =
     let low : r < length (rows_of es) = omega (arith, lt, rows_grow seen es b) in
     subst (λ (j : ℕ). IsRowWord P seen r w (slice_index words j)) (sym at)
     (row_word P seen b.0 cut r (λ x. slice_index words (row_place r x)) w stand (subst (λ xs. AreNarrow (rows_of xs)) b.1 narrow) (λ c. subst (λ xs. IsOpenRow P xs r) b.1 (free r c)) lt
-    (subst (λ xs. IsRowWords P xs cut r (slice_index words (row_place r Site)) (slice_index words (row_place r First)) (slice_index words (row_place r Last)) (slice_index words (row_place r Next))) b.1 (rows r low)))
+    (subst (λ xs. IsRowWords P xs cut r (slice_index words (row_place r Site)) (slice_index words (row_place r First)) (slice_index words (row_place r Last)) (slice_index words (row_place r Next))) b.1 (rows r low))
+    (subst (λ xs. IsTopWord xs r (slice_index words (row_place r Top))) b.1 (tops r low)))
 
 pub rows : (about : About) (slots id i : ℕ) (v : TaskView) → Allows (Holds about) slots id (Task v, []) i (λ n. n) (RowTells about (step slots i 0 0 none) (Task v, []))
 rows about slots id i v s h deep at fit =
@@ -100,7 +104,7 @@ rows about slots id i v s h deep at fit =
       keeps,
       tt,
       (h.0, h.1, subst (Kept about h.0 h.1) (sym same) h.2),
-      (refl, λ r w place lt. row_tells P v.seen h.0.events about h.0.cut s.words i r w fits.prefix fits.stand h.2.history.narrow h.2.words.cut h.2.words.rows place lt),
+      (refl, λ r w place lt. row_tells P v.seen h.0.events about h.0.cut s.words i r w fits.prefix fits.stand h.2.history.narrow h.2.words.cut h.2.words.rows h.2.words.tops place lt),
     )
 
 pub rows_as : (about name : About) (slots id i : ℕ) (me : Me (Unit {0}) View) → about ≡ name → me ≡ (Task (task_of me.0), []) → Allows (Holds about) slots id me i (λ n. n) (RowTells name (step slots i 0 0 none) me)
@@ -116,7 +120,7 @@ read_tells : (about : About) (b : BookView) (words : List ℕ) (i : ℕ) → Wor
 read_tells about b words i h Pl.World at there = ap (slice_index words) at ∙ h.world
 read_tells about b words i h Pl.Notes at there = ap (slice_index words) at ∙ h.notes
 read_tells about b words i h (Pl.Head k) at there = ap (slice_index words) at ∙ h.heads k there
-read_tells about b words i h (Pl.Row r w) at there = ((λ x. slice_index words (row_place r x)), h.rows r there, ap (slice_index words) at)
+read_tells about b words i h (Pl.Row r w) at there = ((λ x. slice_index words (row_place r x)), h.rows r there, h.tops r there, ap (slice_index words) at)
 
 pub reads : (about : About) (slots id i : ℕ) (b : BookView) → Allows (Holds about) slots id (Book b, []) i (λ n. n) (ReadTells about (step slots i 0 0 none) (Book b, []))
 reads about slots id i b s h deep at fit =

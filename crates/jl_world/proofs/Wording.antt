@@ -1,6 +1,5 @@
 -- What each store makes of the words.
-use Rattle.std.proofs.Common.{◌≡◌, ◌≢◌, ◌∙◌, ap, sym, subst, refl, ℕ, zero, suc, ◌+◌, ◌*◌, ◌<◌, ◌≤◌, ◌⊎◌, inl, inr, ⊎_elim, arith, Bool, true, false, cond, nat_eq, List, [], ◌∷◌, ◌++◌, length, take, slice_get, append-nil, length-append, Option, Some, None}
-use Rattle.std.specs.List.{Contains}
+use Rattle.std.proofs.Common.{◌≡◌, ◌≢◌, ◌∙◌, ap, sym, subst, refl, ℕ, suc, ◌+◌, ◌*◌, ◌<◌, ◌≤◌, max, ◌⊎◌, inl, inr, ⊎_elim, arith, Bool, true, false, cond, nat_eq, List, [], ◌∷◌, ◌++◌, length, take, slice_get, append-nil, length-append, Some}
 use Rattle.std.proofs.lemmas.List.{length-set, get_or-set_same, get_or-set_other}
 use Rattle.std.proofs.lemmas.Option.{same_Some, slice_get_within}
 use Rattle.std.specs.Prelude.{slice_index, slice_set}
@@ -9,21 +8,22 @@ use Rattle.jl_program.specs.declared.tree.Program.{Program}
 use Rattle.jl_calculus.specs.declared.history.Event.{Event}
 use Rattle.jl_calculus.specs.declared.history.Event.TheVariants as Ev
 use Rattle.jl_calculus.specs.Legal.{MayStand}
-use Rattle.jl_calculus.specs.Ranges.{CacheRow, keys_of, rows_of, HasNoEnd}
-use Rattle.jl_calculus.specs.Words.{upper, is_worldly, is_noted, is_fill_of, world_length, world_word, notes_word, link_of, fill_length, head_word, AreAllCut, IsLastWith, IsRowWords}
+use Rattle.jl_calculus.specs.Ranges.{CacheRow, keys_of, rows_of}
+use Rattle.jl_calculus.specs.Words.{upper, is_worldly, is_noted, is_fill_of, world_word, notes_word, link_of, fill_length, head_word, AreAllCut, IsLastWith, IsRowWords}
 use Rattle.jl_calculus.specs.World.{defined, world_of}
 use Rattle.jl_calculus.proofs.GrowthLemmas.{defined_append, rows_append}
 use Rattle.jl_world.specs.declared.about.About.{About}
 use Rattle.jl_world.specs.declared.row_word.RowWord.{RowWord}
-use Rattle.jl_world.specs.declared.row_word.RowWord.TheVariants.{Site, First, Last, Next}
-use Rattle.jl_world.specs.declared.view.Stored.{Stored}
+use Rattle.jl_world.specs.declared.row_word.RowWord.TheVariants.{Site, First, Last, Next, Top}
 use Rattle.jl_world.specs.Adds.{AreStored}
 use Rattle.jl_world.specs.Places.{world_place, notes_place, head_place, row_offset, row_place, word_count}
+use Rattle.jl_world.specs.Tops.{top_of, IsTopWord}
 use Rattle.jl_world.specs.Rule.{Now, IsOpenRow, IsRow, Words}
 use Rattle.jl_world.specs.Views.{stored_word}
-use Rattle.jl_world.proofs.Growth.{differ, agree, agreed}
-use Rattle.jl_world.proofs.Lists.{get_push, one_there, take_short, take_whole, last_hit, last_miss, contains_cons, contains_front, contains_behind, contains_none}
+use Rattle.jl_world.proofs.Growth.{agree, agreed}
+use Rattle.jl_world.proofs.Lists.{get_push, take_short, take_whole, last_miss, contains_cons, contains_front, contains_behind, contains_none}
 use Rattle.jl_world.proofs.Rights.{rows_right, named_more, row_more, begins_low, last_on, cut_ends}
+use Rattle.jl_world.proofs.TopLemmas.{top_more, top_next}
 
 here : (words : List ℕ) (i v : ℕ) → i < length words → slice_index (slice_set words i v) i ≡ v
 here words i v lt = get_or-set_same words i v 0 lt
@@ -31,17 +31,19 @@ here words i v lt = get_or-set_same words i v 0 lt
 else : (words : List ℕ) (i j v : ℕ) → j ≢ i → slice_index (slice_set words i v) j ≡ slice_index words j
 else words i j v ne = get_or-set_other words i j v 0 ne
 
-offset_low : (w : RowWord) → 4 ≤ row_offset w
+offset_low : (w : RowWord) → 3 ≤ row_offset w
 offset_low Site = omega arith
 offset_low First = omega arith
 offset_low Last = omega arith
 offset_low Next = omega arith
+offset_low Top = omega arith
 
 offset_high : (w : RowWord) → row_offset w ≤ 7
 offset_high Site = omega arith
 offset_high First = omega arith
 offset_high Last = omega arith
 offset_high Next = omega arith
+offset_high Top = omega arith
 
 -- a word of a row is in range
 pub row_small : (about : About) (r : ℕ) (w : RowWord) → r < about.rows → row_place r w < word_count about
@@ -73,6 +75,9 @@ row_kept P now words i v r ne h =
       sym (else words i (row_place r Last) v (ne Last)) j,
       sym (else words i (row_place r Next) v (ne Next)) j,
     )) h
+
+top_kept : (es : List Event) (words : List ℕ) (i v r : ℕ) → (row_place r Top ≢ i) → IsTopWord es r (slice_index words (row_place r Top)) → IsTopWord es r (slice_index (slice_set words i v) (row_place r Top))
+top_kept es words i v r ne h = subst (IsTopWord es r) (sym (else words i (row_place r Top) v ne)) h
 
 -- a row after one more event
 row_grown : (P : Program) (es : List Event) (e : Event) (cut later : List ℕ) (r a b c d : ℕ)
@@ -149,6 +154,7 @@ words_noted about now words e h uncut plain =
       heads = λ k lt. else words notes_place (head_place k) v (λ x. omega (arith, x)) ∙ h.heads k lt ∙ sym (same_head now.events e k plain.rows (plain.fills k));
       rows = λ r lt. row_kept P (then now e) words notes_place v r (notes_elsewhere r)
           (row_grown P now.events e now.cut [] r _ _ _ _ (λ row key at named last. last_kept P now.events e plain.defs r key row.first (slice_index words (row_place r Last)) (subst (λ xs. IsLastWith P now.events xs r key row.first (slice_index words (row_place r Last))) uncut last)) (h.rows r (omega (arith, lt, ap length rs))));
+      tops = λ r lt. top_kept (now.events ++ e ∷ []) words notes_place v r (notes_elsewhere r Top) (top_more now.events (e ∷ []) r _ (h.tops r (omega (arith, lt, ap length rs))));
       cut = λ r c. absurd (contains_none r c);
       loose = loose_kept about now words e notes_place v notes_elsewhere h;
     }
@@ -171,6 +177,7 @@ words_defined about now words task site stand h all =
           (row_grown P now.events e now.cut [] r _ _ _ _ (λ row key at named last.
           let right = rows_right P now.events stand r row at in
           cut_ends P now.events task site now.cut r row key _ all at named (begins_low P now.events right.key row.first right.right.begun).1 last) (h.rows r (omega (arith, lt, ap length rs))));
+      tops = λ r lt. top_kept (now.events ++ e ∷ []) words world_place v r (world_elsewhere r Top) (top_more now.events (e ∷ []) r _ (h.tops r (omega (arith, lt, ap length rs))));
       cut = λ r c. absurd (contains_none r c);
       loose = loose_kept about now words e world_place v world_elsewhere h;
     }
@@ -224,6 +231,19 @@ module _ (about : About) (now : Now) (words : List ℕ) (number site first : ℕ
         ∙ ap (link_of number) (sym (ap (take count) more_rows ∙ take_short (rows_of now.events) (new_row ∷ []) count (omega arith) ∙ take_whole (rows_of now.events)));
   }
 
+  linked_top : IsTopWord (now.events ++ filled ∷ []) count (slice_index words (row_place count Top))
+  linked_top = record {
+    row = new_row;
+    stands = ap (λ (xs : List CacheRow). slice_get xs count) more_rows ∙ get_push (rows_of now.events) new_row;
+    is = h.loose count Top (max first (top_of number (rows_of now.events))) (omega arith) stored.top_word ∙ sym (ap (λ (xs : List CacheRow). top_of number (take (suc count) xs)) more_rows ∙ top_next (rows_of now.events) new_row);
+  }
+
+  each_top : (r : ℕ) → (r < count) ⊎ (count ≡ r) → IsTopWord (now.events ++ filled ∷ []) r (slice_index filled_words (row_place r Top))
+  each_top r (inl lt) = top_kept (now.events ++ filled ∷ []) words (head_place number) filled_word r (head_elsewhere r number Top) (top_more now.events (filled ∷ []) r _ (h.tops r lt))
+  each_top r (inr same) =
+      subst (λ (q : ℕ). IsTopWord (now.events ++ filled ∷ []) q (slice_index filled_words (row_place q Top))) same
+      (top_kept (now.events ++ filled ∷ []) words (head_place number) filled_word count (head_elsewhere count number Top) linked_top)
+
   each_row : (r : ℕ) → (r < count) ⊎ (count ≡ r) → IsRow about.program.value (then_linked now filled) filled_words r
   each_row r (inl lt) = row_kept about.program.value (then_linked now filled) words (head_place number) filled_word r (head_elsewhere r number)
       (row_grown about.program.value now.events filled now.cut [] r _ _ _ _
@@ -239,6 +259,7 @@ module _ (about : About) (now : Now) (words : List ℕ) (number site first : ℕ
     notes = else words (head_place number) notes_place filled_word (λ x. omega (arith, x)) ∙ h.notes ∙ sym (last_miss is_noted now.events filled refl);
     heads = λ k lt. linked_head k lt (nat_eq number k) refl;
     rows = λ r lt. each_row r (which r count (omega (arith, lt, ap length more_rows, length-append (rows_of now.events) (new_row ∷ []))));
+    tops = λ r lt. each_top r (which r count (omega (arith, lt, ap length more_rows, length-append (rows_of now.events) (new_row ∷ []))));
     cut = λ r c. absurd (contains_none r c);
     loose = λ r w n free is. absurd cc;
   }
@@ -291,6 +312,7 @@ module _ (about : About) (now : Now) (words : List ℕ) (q : ℕ) (h : Words abo
     notes = else words (row_place q Last) notes_place (world_of now.events) (λ x. omega (arith, x)) ∙ h.notes;
     heads = λ k lt. else words (row_place q Last) (head_place k) (world_of now.events) (λ x. omega (arith, x)) ∙ h.heads k lt;
     rows = λ r lt. cut_row r lt (nat_eq q r) refl;
+    tops = λ r lt. top_kept now.events words (row_place q Last) (world_of now.events) r (λ x. omega (arith, x)) (h.tops r lt);
     cut = λ r c. ⊎_elim (λ e. subst (IsOpenRow about.program.value now.events) e open_row) (λ d. h.cut r d) (contains_cons now.cut r q c);
     loose = λ r w n free is.
         else words (row_place q Last) (row_place r w) (world_of now.events) (other_elsewhere r q Last (λ e. omega (arith, e, free, slice_get_within (rows_of now.events) q open_row.row open_row.stands)) w)
@@ -315,6 +337,7 @@ module _ (about : About) (now : Now) (words : List ℕ) (q : ℕ) (x : RowWord) 
     notes = else words (row_place q x) notes_place v (λ e. omega (arith, e, offset_low x)) ∙ h.notes;
     heads = λ k lt. else words (row_place q x) (head_place k) v (λ e. omega (arith, e, offset_low x, offset_high x)) ∙ h.heads k lt;
     rows = λ r lt. row_kept about.program.value with_stored words (row_place q x) v r (other_elsewhere r q x (λ e. omega (arith, e, lt, free))) (h.rows r lt);
+    tops = λ r lt. top_kept now.events words (row_place q x) v r (other_elsewhere r q x (λ e. omega (arith, e, lt, free)) Top) (h.tops r lt);
     cut = h.cut;
     loose = λ r w n out is. known r w n out (nat_eq (row_place q x) (row_place r w)) refl is;
   }

@@ -1,5 +1,5 @@
 -- Which events the book's seat may add.
-use Rattle.std.specs.Prelude.{ℕ, ◌≡◌, ◌<◌, ◌≤◌, List, [], ◌∷◌, length, take, slice_get, Option, None, Some}
+use Rattle.std.specs.Prelude.{ℕ, ◌≡◌, ◌<◌, ◌≤◌, max, List, [], length, slice_get, Some}
 use Rattle.std.specs.List.{Contains}
 use Rattle.jl_model.specs.declared.ty.Key.{Key}
 use Rattle.jl_model.specs.declared.limits.TheConstants.{MOST_WORLDS}
@@ -12,11 +12,12 @@ use Rattle.jl_calculus.specs.Ranges.{CacheRow, keys_of, rows_of, IsRightFill}
 use Rattle.jl_calculus.specs.Words.{upper, AreAllCut, IsLastWorld, link_of}
 use Rattle.jl_calculus.specs.World.{world_of}
 use Rattle.jl_world.specs.declared.about.About.{About}
-use Rattle.jl_world.specs.declared.row_word.RowWord.TheVariants.{Site, First, Last, Next}
+use Rattle.jl_world.specs.declared.row_word.RowWord.TheVariants.{Site, First, Last, Next, Top}
 use Rattle.jl_world.specs.declared.view.Stored.{Stored}
 use Rattle.jl_world.specs.declared.view.BookView.{BookView}
 use Rattle.jl_world.specs.declared.view.TaskView.{TaskView}
 use Rattle.jl_world.specs.Places.{row_place}
+use Rattle.jl_world.specs.Tops.{top_of}
 use Rattle.jl_world.specs.Views.{HasTask, stored_word}
 
 -- a new key, a spawn, or the end of a task
@@ -54,6 +55,7 @@ pub record AreStored (P : Program) (es : List Event) (xs : List Stored) (r numbe
   pub last_word : stored_word xs (row_place r Last) ≡ Some last
   pub last_world : IsLastWorld P es key first last
   pub next_word : stored_word xs (row_place r Next) ≡ Some (link_of number (rows_of es))
+  pub top_word : stored_word xs (row_place r Top) ≡ Some (max first (top_of number (rows_of es)))
 
 -- a fill that may come next, where there is room for it: its key is there, it is right for the key, and no earlier one has its key and
 -- its first world

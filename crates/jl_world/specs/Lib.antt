@@ -1,5 +1,6 @@
 pub mod Views
 pub mod Places
+pub mod Tops
 pub mod Rule
 pub mod Tells
 pub mod Names

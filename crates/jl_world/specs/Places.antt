@@ -1,6 +1,6 @@
--- Where the words stand: eight to a number, of which one is the head of the key of that number and four are those of its row.
+-- Where the words stand: eight to a number, of which one is the head of the key of that number and five are those of its row.
 -- The first two tell the newest world and the last note.
-use Rattle.std.specs.Prelude.{ℕ, ◌+◌, ◌*◌, ◌≡◌, ◌<◌, ◌≤◌, max, List, [], ◌∷◌, length}
+use Rattle.std.specs.Prelude.{ℕ, ◌+◌, ◌*◌, ◌<◌, ◌≤◌, max, List, [], ◌∷◌, length}
 use Rattle.jl_calculus.specs.declared.history.Event.{Event}
 use Rattle.jl_calculus.specs.declared.history.Event.TheVariants as Ev
 use Rattle.jl_calculus.specs.Ranges.{CacheRow, keys_of, rows_of}
@@ -10,7 +10,7 @@ use Rattle.jl_world.specs.declared.about.About.{About}
 use Rattle.jl_world.specs.declared.row_word.Place.{Place}
 use Rattle.jl_world.specs.declared.row_word.Place.TheVariants as Pl
 use Rattle.jl_world.specs.declared.row_word.RowWord.{RowWord}
-use Rattle.jl_world.specs.declared.row_word.RowWord.TheVariants.{Site, First, Last, Next}
+use Rattle.jl_world.specs.declared.row_word.RowWord.TheVariants.{Site, First, Last, Next, Top}
 
 abbrev pub world_place : ℕ
 world_place = 0
@@ -27,6 +27,7 @@ row_offset Site = 4
 row_offset First = 5
 row_offset Last = 6
 row_offset Next = 7
+row_offset Top = 3
 
 -- a word of a row
 abbrev pub row_place : ℕ → RowWord → ℕ

@@ -1,6 +1,6 @@
 -- The rule that the words keep between any two steps, in five facts: the words, what was seen, what was learnt, the own events
 -- of the tasks, and one seat for each task.
-use Rattle.std.specs.Prelude.{ℕ, ◌+◌, ◌*◌, ◌≡◌, ◌<◌, ◌≤◌, List, [], ◌∷◌, length, slice_index, slice_get, Option, None, Some}
+use Rattle.std.specs.Prelude.{ℕ, ◌≡◌, ◌<◌, ◌≤◌, List, [], ◌∷◌, length, slice_index, slice_get, None, Some}
 use Rattle.std.specs.List.{Contains}
 use mathlib.Core.Option.{some}
 use lib.ListN.{get_elem?}
@@ -15,11 +15,12 @@ use Rattle.jl_calculus.specs.Ranges.{CacheRow, keys_of, rows_of, HasNoEnd}
 use Rattle.jl_calculus.specs.Words.{world_word, notes_word, head_word, IsRowWords}
 use Rattle.jl_world.specs.declared.about.About.{About}
 use Rattle.jl_world.specs.declared.row_word.RowWord.{RowWord}
-use Rattle.jl_world.specs.declared.row_word.RowWord.TheVariants.{Site, First, Last, Next}
+use Rattle.jl_world.specs.declared.row_word.RowWord.TheVariants.{Site, First, Last, Next, Top}
 use Rattle.jl_world.specs.declared.view.Stored.{Stored}
 use Rattle.jl_world.specs.declared.view.View.{View}
 use Rattle.jl_world.specs.declared.view.View.TheVariants.{Nobody, Task, Book}
 use Rattle.jl_world.specs.Places.{world_place, notes_place, head_place, row_place, word_count, HasPlaces, AreFew, AreNarrow}
+use Rattle.jl_world.specs.Tops.{IsTopWord}
 use Rattle.jl_world.specs.Views.{Each, Fits, HasTask, NoTwice, begun, parts, stored_word}
 
 abbrev pub no_table : TableId
@@ -66,6 +67,7 @@ pub record Words (about : About) (now : Now) (words : List ℕ) : Type 0 where
   pub notes : slice_index words notes_place ≡ notes_word now.events
   pub heads : (k : ℕ) → k < about.keys → slice_index words (head_place k) ≡ head_word now.events k
   pub rows : (r : ℕ) → r < length (rows_of now.events) → IsRow about.program.value now words r
+  pub tops : (r : ℕ) → r < length (rows_of now.events) → IsTopWord now.events r (slice_index words (row_place r Top))
   pub cut : (r : ℕ) → Contains now.cut r → IsOpenRow about.program.value now.events r
   pub loose : (r : ℕ) (w : RowWord) (n : ℕ) → length (rows_of now.events) ≤ r → stored_word now.stored (row_place r w) ≡ Some n → slice_index words (row_place r w) ≡ n
 

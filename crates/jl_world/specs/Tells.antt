@@ -1,8 +1,9 @@
 -- What the steps tell of the words.
-use Rattle.std.specs.Prelude.{ℕ, ◌+◌, ◌/◌, ◌%◌, ◌≡◌, ◌⊎◌, ◌<◌, ◌≤◌, max, List, [], ◌∷◌, length, take, slice_get, Option, None, Some}
+use Rattle.std.specs.Prelude.{ℕ, suc, ◌/◌, ◌%◌, ◌≡◌, ◌⊎◌, ◌<◌, ◌≤◌, max, List, length, take, slice_get, Some}
 use Rattle.jl_model.specs.declared.ty.Key.{Key}
 use Rattle.jl_program.specs.declared.tree.Program.{Program}
 use Rattle.jl_calculus.specs.declared.history.Event.{Event}
+use Rattle.jl_calculus.specs.Legal.{MayStand}
 use Rattle.jl_calculus.specs.Ranges.{CacheRow, keys_of, rows_of, HasNoEnd, EndsWith, IsRightFill}
 use Rattle.jl_calculus.specs.Words.{upper, world_word, notes_word, head_word, link_of, IsRowWords}
 use Rattle.jl_calculus.specs.World.{world_of}
@@ -10,10 +11,10 @@ use Rattle.jl_world.specs.declared.about.About.{About}
 use Rattle.jl_world.specs.declared.row_word.Place.{Place}
 use Rattle.jl_world.specs.declared.row_word.Place.TheVariants as Pl
 use Rattle.jl_world.specs.declared.row_word.RowWord.{RowWord}
-use Rattle.jl_world.specs.declared.row_word.RowWord.TheVariants.{Site, First, Last, Next}
+use Rattle.jl_world.specs.declared.row_word.RowWord.TheVariants.{Site, First, Last, Next, Top}
 use Rattle.jl_world.specs.declared.view.TaskView.{TaskView}
-use Rattle.jl_world.specs.declared.view.BookView.{BookView}
-use Rattle.jl_world.specs.Places.{world_place, notes_place, head_place, row_place, AreFew}
+use Rattle.jl_world.specs.Places.{head_place, AreFew}
+use Rattle.jl_world.specs.Tops.{top_of, IsTopWord}
 use Rattle.jl_world.specs.Views.{Begins, looked, met}
 
 -- a look that found a word
@@ -43,9 +44,11 @@ module _ (P : Program) (es : List Event) where
   IsWordOf r row key First n = n ≡ row.first
   IsWordOf r row key Last n = IsLastSeen key row.first n
   IsWordOf r row key Next n = n ≡ link_of row.key (take r (rows_of es))
+  IsWordOf r row key Top n = n ≡ top_of row.key (take (suc r) (rows_of es))
 
-  -- a word of a linked row, where these events were seen
+  -- a word of a linked row, where these events of a run were seen
   pub record IsRowWord (r : ℕ) (w : RowWord) (n : ℕ) : Type 0 where
+    pub stand : MayStand P es
     pub row : CacheRow
     pub stands : slice_get (rows_of es) r ≡ Some row
     pub key : Key
@@ -55,7 +58,7 @@ module _ (P : Program) (es : List Event) where
 
 -- a word of a row now, where some rows were cut ahead
 abbrev pub HasRowWord : Program → List Event → List ℕ → ℕ → RowWord → ℕ → Type 0
-HasRowWord P es cut r w n = (words : RowWord → ℕ) × IsRowWords P es cut r (words Site) (words First) (words Last) (words Next) × (n ≡ words w)
+HasRowWord P es cut r w n = (words : RowWord → ℕ) × IsRowWords P es cut r (words Site) (words First) (words Last) (words Next) × IsTopWord es r (words Top) × (n ≡ words w)
 
 -- there is such a word
 abbrev pub IsPlace : About → List Event → Place → Type 0

@@ -3,13 +3,15 @@
 ghost use Rattle.std.specs.Prelude.{◌≡◌};
 ghost use Rattle.jl_world.specs.Places.{row_place, index_of};
 
-/// A word of a row of the cache: the site that it tells, the first and the last world that it covers, and the row before it.
+/// A word of a row of the cache: the site that it tells, the first and the last world that it covers, the row before it, and
+/// the largest first world among the rows of its key up to this one.
 #[derive(Clone, Copy, PartialEq, Eq, Debug)]
 pub enum RowWord {
     Site,
     First,
     Last,
     Next,
+    Top,
 }
 
 /// One of the words.
@@ -34,6 +36,7 @@ pub(crate) fn index_in_row(row: u32, word: RowWord) -> usize
         RowWord::First => first + 5,
         RowWord::Last => first + 6,
         RowWord::Next => first + 7,
+        RowWord::Top => first + 3,
     }
 }
 

@@ -1,13 +1,13 @@
-use Rattle.std.proofs.Common.{ℕ, suc, ◌≡◌, ◌+◌, ◌-◌, ◌%◌, ◌<◌, ◌≤◌, true≢false, refl, sym, ◌∙◌, subst, arith, length}
+use Rattle.std.proofs.Common.{ℕ, suc, ◌≡◌, ◌-◌, ◌≤◌, ⊎_elim, true≢false, refl, sym, ◌∙◌, subst, arith}
 use Rattle.jl_world.specs.declared.view.TaskView.{TaskView}
-use Rattle.jl_world.specs.declared.row_word.RowWord.TheVariants.{Site, First, Last, Next}
+use Rattle.jl_world.specs.declared.row_word.RowWord.TheVariants.{Site, First, Last, Next, Top}
 use Rattle.jl_calculus.specs.Learnt.{IsChosen, IsUncovered}
-use Rattle.jl_calculus.specs.Ranges.{rows_of}
 use Rattle.jl_calculus.specs.World.{world_of}
+use Rattle.jl_world.specs.Tells.{IsRowWord}
 use Rattle.jl_world.proofs.Growth.{worlds_grow}
 use Rattle.jl_cache.specs.Finds.{Reaches}
 use Rattle.jl_cache.proofs.Linked.{head_link}
-use Rattle.jl_cache.proofs.Tried.{Tried, tried_first, find_hit, find_on, tried_all, told_at}
+use Rattle.jl_cache.proofs.Tried.{Tried, tried_first, find_hit, find_on, find_stop, tried_all, told_at}
 use Rattle.jl_cache.proofs.cache.Cache.find.Given as given
 use Rattle.jl_cache.proofs.cache.Cache.find.Goals as goal
 
@@ -33,9 +33,9 @@ returns-then-covers-clause-found g c =
     (told_at P c.loop-link.seat at j _ First i.0 one.word) (told_at P c.load_row-first.new.seat at j _ Last (one.same ∙ i.0) two.word)
     (told_at P c.load_row-last.new.seat at j _ Site (two.same ∙ one.same ∙ i.0) three.word) yes.0 yes.1)
 
--- where the row does not cover the world, the search goes on at its next
-on : (g : given.Over) (c : goal.After-load_row-next g)
-    → Tried g.N.Naming.about.program.value c.load_head-head.new.seat.seen c.args.key c.args.world c.load_row-next.result × (c.load_row-next.result ≤ c.loop-link.link - 1)
+-- where the row does not cover the world, the search goes on at its next, or ends
+on : (g : given.Over) (c : goal.After-next_to_try-next g)
+    → Tried g.N.Naming.about.program.value c.load_head-head.new.seat.seen c.args.key c.args.world c.next_to_try-next.result × (c.next_to_try-next.result ≤ c.loop-link.link - 1)
 on g c =
     let P = g.N.Naming.about.program.value in
     let i = c.loop-link.invariant in
@@ -43,14 +43,20 @@ on g c =
     let j : ℕ = c.loop-link.link - 1 in
     let one = c.load_row-first.ensures in
     let two = c.load_row-last.ensures in
-    let three = c.load_row-next.ensures in
     let here : c.loop-link.link ≡ suc j = omega (arith, c.loop-link-test.true) in
     let low : c.args.world ≤ world_of at.seen = omega (arith, c.requires.world, worlds_grow c.args.seat.now.seen at.seen c.load_head-head.ensures.seen) in
-    find_on P at.seen c.args.key c.args.world j c.load_row-first.result c.load_row-last.result c.load_row-next.result (subst (Tried P at.seen c.args.key c.args.world) here i.1) low
-    (told_at P c.loop-link.seat at j _ First i.0 one.word)
-    (told_at P c.load_row-first.new.seat at j _ Last (one.same ∙ i.0) two.word)
-    (told_at P c.load_row-last.new.seat at j _ Next (two.same ∙ one.same ∙ i.0) three.word)
-    (λ le reach. true≢false (sym (c.covers.ensures.1 (subst (λ (w : ℕ). (c.load_row-first.result ≤ w) × Reaches c.load_row-last.result w) (sym c.from.ensures) (le, reach))) ∙ c.if-covers.false))
+    let tried = subst (Tried P at.seen c.args.key c.args.world) here i.1 in
+    let first = told_at P c.loop-link.seat at j c.load_row-first.result First i.0 one.word in
+    let last = told_at P c.load_row-first.new.seat at j c.load_row-last.result Last (one.same ∙ i.0) two.word in
+    let fails : c.load_row-first.result ≤ c.args.world → Reaches c.load_row-last.result c.args.world → ⊥ =
+    λ le reach. true≢false (sym (c.covers.ensures.1 (subst (λ (w : ℕ). (c.load_row-first.result ≤ w) × Reaches c.load_row-last.result w) (sym c.from.ensures) (le, reach))) ∙ c.if-covers.false) in
+    ⊎_elim (λ (n : IsRowWord P c.load_row-last.new.seat.seen j Next c.next_to_try-next.result).
+    find_on P at.seen c.args.key c.args.world j c.load_row-first.result c.load_row-last.result c.next_to_try-next.result tried low first last (told_at P c.load_row-last.new.seat at j _ Next (two.same ∙ one.same ∙ i.0) n) fails)
+    (λ (s : (c.next_to_try-next.result ≡ 0) × (c.load_row-first.result ≤ c.args.world) × IsRowWord P c.load_row-last.new.seat.seen j Top c.load_row-first.result). (
+      subst (Tried P at.seen c.args.key c.args.world) (sym s.0)
+          (find_stop P at.seen c.args.key c.args.world j c.load_row-first.result c.load_row-last.result tried low first last (told_at P c.load_row-last.new.seat at j _ Top (two.same ∙ one.same ∙ i.0) s.2) s.1 fails),
+      omega (arith, s.0),
+    )) c.next_to_try-next.ensures.next
 
 pub overflow_cast-link-in-loop-link : goal.overflow_cast-link-in-loop-link
 overflow_cast-link-in-loop-link g c = omega (arith, (on g c).1, c.loop-link.auto.link-fits)
@@ -59,7 +65,7 @@ pub loop-link-smaller : goal.loop-link-smaller
 loop-link-smaller g c = omega (arith, (on g c).1, c.loop-link-test.true)
 
 pub loop-link-preserved : goal.loop-link-preserved
-loop-link-preserved g c = (c.load_row-next.ensures.same ∙ c.load_row-last.ensures.same ∙ c.load_row-first.ensures.same ∙ c.loop-link.invariant.0, (on g c).0)
+loop-link-preserved g c = (c.next_to_try-next.ensures.same ∙ c.load_row-last.ensures.same ∙ c.load_row-first.ensures.same ∙ c.loop-link.invariant.0, (on g c).0)
 
 -- no row is left
 none_left : (g : given.Over) (c : goal.After-of-seen g) → IsUncovered g.N.Naming.about.program.value c.loop-link.seat.seen c.args.key c.args.world
