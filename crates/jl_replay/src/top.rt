@@ -1,6 +1,6 @@
 //! The judgement of a text.
 
-ghost use Rattle.std.specs.Prelude.{◌≡◌, ◌≤◌, ℕ, List, length, IfOk, IsTrue};
+ghost use Rattle.std.specs.Prelude.{◌≡◌, ◌≤◌, ◌↔◌, ℕ, List, length, IfOk, IsTrue};
 ghost use Rattle.jl_calculus.specs.declared.history.Event.{Event};
 ghost use Rattle.jl_calculus.specs.Legal.{IsLegal};
 ghost use Rattle.jl_report.specs.HistoryText.{history_text};
@@ -44,8 +44,7 @@ fn judge(
 
 /// Whether each definition site and each spawn place of a program has a number that may stand in a text.
 fn is_numbered(program: &Program) -> bool
-    ensures sites { IsTrue result → length program.now.sites ≤ MOST_NUMBER }
-    ensures spawns { IsTrue result → length program.now.spawns ≤ MOST_NUMBER }
+    ensures { IsTrue result ↔ ((length program.now.sites ≤ MOST_NUMBER) × (length program.now.spawns ≤ MOST_NUMBER)) }
 {
     let sites = program.sites.len() as u64;
     let spawns = program.spawns.len() as u64;
