@@ -1,5 +1,4 @@
--- Runs that a trace leads, up to a definition or a spawn: what a judge of a history asks at these events, before the task that
--- makes them has ended.
+-- Runs that a trace leads, up to a definition or a spawn, whether or not the task that makes them ends.
 use Rattle.std.specs.Prelude.{ℕ, ◌≡◌, cond, nat_eq, List, [], ◌∷◌, ◌++◌, ◌+◌, length, slice_get, Option, None, Some}
 use Rattle.jl_program.specs.declared.tree.Program.{Program}
 use Rattle.jl_program.specs.declared.tree.Start.{Start}

@@ -88,10 +88,6 @@ module _ (P : Program) (es : List Event) where
     pub no_end : HasNoEnd P es key row.first
     pub touched : SiteTouches P (slice_get P.sites site) key
 
-  -- rows that were cut ahead of the definition of a site: some of those that it will end
-  abbrev pub AreCutAhead : ℕ → List ℕ → Type 0
-  AreCutAhead site cut = (r : ℕ) → Contains cut r → IsToCut site r
-
   -- all of them
   abbrev pub AreAllCut : ℕ → List ℕ → Type 0
   AreAllCut site cut = (r : ℕ) → Contains cut r ↔ IsToCut site r

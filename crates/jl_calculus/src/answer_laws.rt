@@ -42,8 +42,8 @@ pub fn law_test_is_one()
     ensures identity { IdentityIsOne }
 {}
 
-/// For each key and each world there is one row that covers it, and its site is the chosen method's; there is no right row
-/// exactly where no method is chosen.
+/// For each key, and each world from the prelude's last on, there is one first world of the row that covers it, and the
+/// row's site is the chosen method's; there is no right row exactly where no method is chosen.
 pub fn law_row_is_one()
     ensures cover { CoverIsOne }
     ensures site { SiteIsThere }

@@ -1,6 +1,6 @@
 //! A dispatcher that leads a task along a trace.
 
-ghost use Rattle.std.specs.Prelude.{◌≡◌, ◌<◌, ◌↔◌, ◌++◌, [], ◌∷◌, IsTrue, OnOk, None, drop, length, true, false};
+ghost use Rattle.std.specs.Prelude.{◌≡◌, ◌<◌, ◌↔◌, ◌++◌, [], ◌∷◌, IsTrue, OnOk, OnErr, None, drop, length, true, false};
 ghost use Rattle.jl_program.specs.declared.value.Value.TheVariants.{Nothing};
 ghost use Rattle.jl_calculus.specs.declared.history.Outcome.TheVariants as O;
 ghost use Rattle.jl_calculus.specs.Past.{done_of};
@@ -87,6 +87,7 @@ impl<'p> Led<'p> {
     pub fn note(&mut self, event: Event) -> Result<(), AllocError>
         requires { IsPlain event }
         ensures added { OnOk result (self.new.past ≡ (self.old.past.0, self.old.past.1 ++ event ∷ [])) }
+        ensures refused { OnErr result (self.new.past ≡ self.old.past) }
     {
         self.alone = true;
         self.past.note(event)
@@ -96,6 +97,7 @@ impl<'p> Led<'p> {
     pub fn end(&mut self, task: u32, ended: Record) -> Result<(), AllocError>
         requires { IsValidOutcome self.old.past.0 ended.outcome }
         ensures added { OnOk result (self.new.past ≡ (self.old.past.0, self.old.past.1 ++ Event.Done task ended ∷ [])) }
+        ensures refused { OnErr result (self.new.past ≡ self.old.past) }
     {
         self.alone = true;
         self.past.end(task, ended)

@@ -28,7 +28,6 @@ use Rattle.jl_frames.specs.Held.{Held}
 use Rattle.jl_point.specs.declared.point.Work.{Work}
 use Rattle.jl_point.specs.declared.point.Work.TheVariants as W
 use Rattle.jl_point.specs.declared.point.Now.{Now}
-use Rattle.jl_point.specs.ValidPoint.{IsGoodPoint}
 use Rattle.jl_point.specs.Weight.{turns_left}
 use Rattle.jl_dispatcher.specs.Knows.{Knows, Looked, Refused, IsNotDone}
 use Rattle.jl_dispatcher.specs.Worlds.{IsWorld}
@@ -105,10 +104,6 @@ IsWorking (Defining fresh site xs) = Unit {0}
 IsWorking (Pieces line xs) = Unit {0}
 IsWorking Ended = ⊥
 IsWorking Lost = ⊥
-
--- the values of an expression that acts are those of a good point
-abbrev pub IsGoodActing : Program → Now → Expr → List Value → Type 0
-IsGoodActing P n e vs = (v : IsValid P) × IsGoodPoint P v.views (W.Acting e vs, n)
 
 -- the types of the variables of a site's signature, if the site is there, for arguments of these types
 abbrev pub variables_at : Program → List Ty → Option Site → List Ty

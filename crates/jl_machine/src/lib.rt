@@ -6,10 +6,8 @@ mod acts;
 mod host;
 pub mod laws;
 mod now;
-mod root;
 mod task;
 mod turns;
 
 pub use now::{LentNow, LentWork};
-pub use root::run_root;
 pub use task::{Machine, Task, Turn};

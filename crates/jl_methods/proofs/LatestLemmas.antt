@@ -1,7 +1,7 @@
 -- The latest definition of each site, when one more is made.
 use Rattle.std.proofs.Common.{◌≡◌, ◌∙◌, ap, sym, subst, refl, ℕ, ◌+◌, ◌-◌, ◌<◌, ◌≤◌, ◌⊎◌, inl, inr, arith, Bool, true, false, true≢false, not, nat_eq, cond, List, [], ◌∷◌, ◌++◌, append_assoc, append-nil, get_or}
 use Rattle.std.specs.List.{Contains, filter}
-use Rattle.std.proofs.lemmas.Bool.{eqb-true}
+use Rattle.std.proofs.lemmas.Bool.{eqb-true, eq-eqb}
 use Rattle.std.proofs.lemmas.List.Elements.{Contains-append_left, Contains-append_right, Contains-append_cases}
 use Rattle.jl_model.specs.declared.ty.Key.{Key}
 use Rattle.jl_model.specs.declared.ty.Ty.{Ty}
@@ -29,6 +29,18 @@ filter_from {X} t (y ∷ xs) x c = by (t y) c (filter_from t xs x)
     by : (b : Bool) → Contains (cond b (y ∷ filter t xs) (filter t xs)) x → (Contains (filter t xs) x → Contains xs x) → Contains (y ∷ xs) x
     by true d more = one (here_or_there y x (filter t xs) d) more
     by false d more = there y x xs (more d)
+
+filter_passes : {X : Type 0} (t : X → Bool) (xs : List X) (x : X) → Contains (filter t xs) x → t x ≡ true
+filter_passes t [] x c = absurd (none_there x [] refl c)
+filter_passes {X} t (y ∷ xs) x c = by (t y) refl c (filter_passes t xs x)
+  where
+    one : t y ≡ true → (y ≡ x) ⊎ Contains (filter t xs) x → (Contains (filter t xs) x → t x ≡ true) → t x ≡ true
+    one q (inl e) more = ap t (sym e) ∙ q
+    one q (inr d) more = more d
+
+    by : (b : Bool) → t y ≡ b → Contains (cond b (y ∷ filter t xs) (filter t xs)) x → (Contains (filter t xs) x → t x ≡ true) → t x ≡ true
+    by true q d more = one q (here_or_there y x (filter t xs) d) more
+    by false q d more = more d
 
 filter_stay : {X : Type 0} (t : X → Bool) (xs : List X) (x : X) → t x ≡ true → Contains xs x → Contains (filter t xs) x
 filter_stay t [] x e c = c
@@ -73,6 +85,14 @@ module _ (d : Def) where
       by (inl k) = inl (filter_from is_other ds x k)
       by (inr k) = inr (is_last x k)
 
+  -- of those that were there it is one of another site
+  renewed_from : (ds : List Def) (x : Def) → Contains (renewed ds d) x → (Contains ds x × (x.site ≡ d.site → ⊥)) ⊎ (d ≡ x)
+  renewed_from ds x c = by (Contains-append_cases (filter is_other ds) (d ∷ []) x c)
+    where
+      by : Contains (filter is_other ds) x ⊎ Contains (d ∷ []) x → (Contains ds x × (x.site ≡ d.site → ⊥)) ⊎ (d ≡ x)
+      by (inl k) = inl (filter_from is_other ds x k, λ e. true≢false (sym (filter_passes is_other ds x k) ∙ ap not (eq-eqb x.site d.site e)))
+      by (inr k) = inr (is_last x k)
+
   renewed_own : (ds : List Def) → Contains (renewed ds d) d
   renewed_own ds = Contains-append_right (filter is_other ds) (d ∷ []) d (here d d [] refl)
 
@@ -91,12 +111,19 @@ module _ (P : Program) (ts : List Ty) (all some : List Def) (h : AreLatestOfSite
   latest_more applies before = record {
     there = λ x c. stands x (renewed_there d some x c);
     covered = λ x c a. covers x a (Contains-append_cases all (d ∷ []) x c);
+    latest = λ x e c k a q. is_latest x e a q (renewed_from d some x c) (Contains-append_cases all (d ∷ []) e k);
     rises = push_rise 0 (filter (is_other d) some) d (omega arith) (filter_rise (is_other d) 0 some h.rises) (λ x c. before x (h.there x (filter_from (is_other d) some x c)).0);
   }
     where
       stands : (x : Def) → Contains some x ⊎ (d ≡ x) → Contains (all ++ d ∷ []) x × AppliesTo P ts x
       stands x (inl c) = let t = h.there x c in (Contains-append_left all (d ∷ []) x t.0, t.1)
       stands x (inr e) = (Contains-append_right all (d ∷ []) x (here d x [] e), subst (AppliesTo P ts) e applies)
+
+      is_latest : (x e : Def) → AppliesTo P ts e → e.site ≡ x.site → (Contains some x × (x.site ≡ d.site → ⊥)) ⊎ (d ≡ x) → Contains all e ⊎ Contains (d ∷ []) e → e.world ≤ x.world
+      is_latest x e a q (inl c) (inl k) = h.latest x e c.0 k a q
+      is_latest x e a q (inl c) (inr k) = absurd (c.1 (sym q ∙ ap (λ (z : Def). z.site) (sym (is_last d e k))))
+      is_latest x e a q (inr s) (inl k) = let w = before e k in let t : d.world ≡ x.world = ap (λ (z : Def). z.world) s in omega (arith, w, t)
+      is_latest x e a q (inr s) (inr k) = let t : e.world ≡ x.world = ap (λ (z : Def). z.world) (sym (is_last d e k) ∙ s) in omega (arith, t)
 
       keep : (x : Def) → Contains all x → (l : HasLaterOfSite some x) → (l.by.site ≡ d.site) ⊎ Contains (renewed some d) l.by → HasLaterOfSite (renewed some d) x
       keep x c l (inl s) = record { by = d; stays = renewed_own d some; site_is = sym s ∙ l.site_is; later = (let w = before x c in omega (arith, w)) }
@@ -113,12 +140,17 @@ module _ (P : Program) (ts : List Ty) (all some : List Def) (h : AreLatestOfSite
   latest_same lacks = record {
     there = λ x c. (let t = h.there x c in (Contains-append_left all (d ∷ []) x t.0, t.1));
     covered = λ x c a. covers x a (Contains-append_cases all (d ∷ []) x c);
+    latest = λ x e c k a q. is_latest x e c a q (Contains-append_cases all (d ∷ []) e k);
     rises = h.rises;
   }
     where
       covers : (x : Def) → AppliesTo P ts x → Contains all x ⊎ Contains (d ∷ []) x → HasLaterOfSite some x
       covers x a (inl c) = h.covered x c a
       covers x a (inr c) = absurd (lacks (subst (AppliesTo P ts) (sym (is_last d x c)) a))
+
+      is_latest : (x e : Def) → Contains some x → AppliesTo P ts e → e.site ≡ x.site → Contains all e ⊎ Contains (d ∷ []) e → e.world ≤ x.world
+      is_latest x e c a q (inl k) = h.latest x e c k a q
+      is_latest x e c a q (inr k) = absurd (lacks (subst (AppliesTo P ts) (sym (is_last d e k)) a))
 
 -- ---- a new key
 
@@ -153,7 +185,7 @@ latest_of_key P sites key ws p =
     latest_picked P key.types sites [] (defs_from P key.function 1 sites) [] ws 1 none (λ x c. absurd (none_there x [] refl c)) (defs_rise P key.function 1 1 sites (omega arith)) is_made p
   where
     none : AreLatestOfSites P key.types [] []
-    none = record { there = λ x c. absurd (none_there x [] refl c); covered = λ x c a. absurd (none_there x [] refl c); rises = tt }
+    none = record { there = λ x c. absurd (none_there x [] refl c); covered = λ x c a. absurd (none_there x [] refl c); latest = λ x e c k a q. absurd (none_there x [] refl c); rises = tt }
 
     is_made : (x : Def) → Contains (defs_from P key.function 1 sites) x → made P key.types sites x.world ≡ x
     is_made x c =

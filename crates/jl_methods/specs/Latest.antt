@@ -23,8 +23,9 @@ pub record HasLaterOfSite (some : List Def) (d : Def) : Type 0 where
   pub site_is : by.site ≡ d.site
   pub later : d.world ≤ by.world
 
--- these are, in order, some of the definitions that apply to types, with the latest one of each site
+-- these are, in order, the definitions that apply to types and that no later one of the same site replaced
 pub record AreLatestOfSites (P : Program) (ts : List Ty) (all some : List Def) : Type 0 where
   pub there : (d : Def) → Contains some d → Contains all d × AppliesTo P ts d
   pub covered : (d : Def) → Contains all d → AppliesTo P ts d → HasLaterOfSite some d
+  pub latest : (d e : Def) → Contains some d → Contains all e → AppliesTo P ts e → e.site ≡ d.site → e.world ≤ d.world
   pub rises : RisesFrom 0 (worlds some)
