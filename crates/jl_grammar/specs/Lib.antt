@@ -1,4 +1,5 @@
 pub mod Forms
+pub mod Goes
 pub mod Newlines
 pub mod Marks
 pub mod Texts

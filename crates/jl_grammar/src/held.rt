@@ -1,6 +1,6 @@
 //! A value whose drop is a call, so that what holds it stays small.
 
-ghost use Rattle.std.specs.Prelude.{◌≡◌};
+ghost use Rattle.std.specs.Prelude.{◌≡◌, None};
 
 use std::marker::Model;
 
@@ -43,5 +43,15 @@ impl<T> Held<T> {
     {
         let Held { inner } = self;
         inner
+    }
+}
+
+impl<T> Held<Option<T>> {
+    /// What is held, which then no longer is.
+    pub fn pull(&mut self) -> Option<T>
+        ensures taken { result ≡ self.old }
+        ensures left { self.new ≡ None }
+    {
+        self.inner.take()
     }
 }

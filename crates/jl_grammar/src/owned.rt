@@ -20,10 +20,21 @@ impl<T> Model for Owned<T> {
 }
 
 impl<T> Owned<T> {
+    ghost use Rattle.std.specs.Borrow.{Lends, sem};
+    ghost use Rattle.jl_grammar.specs.contracts.owned.Owned.{the_row};
+
     pub fn get(&self) -> &T
         ensures { result.now ≡ self.now }
     {
         &self.inner
+    }
+
+    /// The value, to change it in its block.
+    pub fn get_mut(&mut self) -> &mut T
+        ensures* writes_back { sem 𝓛 (Lends (the_row T.row) T.row self.entry result (λ w. w)) }
+        ensures value { result.now ≡ self.old }
+    {
+        self.inner.as_mut()
     }
 
     /// The value itself; its block is given back.

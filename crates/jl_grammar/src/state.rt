@@ -92,7 +92,8 @@ pub enum Lead {
     Short(Owned<Form<Head>>),
 }
 
-/// All that stands before an operand, up to the innermost form that a token of its own will end.
+/// All that stands before an operand, up to the innermost form that a token of its own will end. It is in a block of its own,
+/// in which the operators of its chain change it.
 pub struct Pending {
     pub lead: Lead,
     /// the innermost first
@@ -116,21 +117,6 @@ impl Drop for Pending {
     }
 }
 
-impl Pending {
-    /// All parts of it.
-    pub fn parts(self) -> (Lead, Stack<Outer>, Levels, bool)
-        ensures { result ≡ (self.lead, self.outer, self.levels, self.returns) }
-    {
-        let Pending {
-            lead,
-            outer,
-            levels,
-            returns,
-        } = self;
-        (lead, outer, levels, returns)
-    }
-}
-
 /// The branches of an `if` so far. The next one would be `lowered` deeper than the `if` itself.
 #[derive(Drop)]
 pub struct Branched {
@@ -145,7 +131,7 @@ pub enum Place {
     /// as an item, or as a statement of an evaluated block
     Entry,
     /// behind `@eval`
-    Evaluated(Pending, u32),
+    Evaluated(Owned<Pending>, u32),
 }
 
 /// Whose head a function's name begins: the place of the method, and whether it was begun by `function`.
@@ -167,9 +153,9 @@ pub struct Heading {
 /// What a function's name is read for.
 #[derive(Drop)]
 pub enum Purpose {
-    Call(Pending, u32),
-    Latest(Pending, u32),
-    Head(Start),
+    Call(Owned<Pending>, u32),
+    Latest(Owned<Pending>, u32),
+    Head(Owned<Start>),
 }
 
 /// What arguments are given to.
@@ -183,34 +169,34 @@ pub enum Called {
 /// Which block is open.
 #[derive(Drop)]
 pub enum BlockKind {
-    Begin(Pending, u32),
+    Begin(Owned<Pending>, u32),
     /// behind a test; the second place is that of the word before it
-    Branch(Pending, u32, Branched, u32, Form<Expr>),
-    Else(Pending, u32, Branched),
+    Branch(Owned<Pending>, u32, Branched, u32, Form<Expr>),
+    Else(Owned<Pending>, u32, Branched),
     Body(Place, Form<Head>),
 }
 
 /// Which evaluated block is open.
 #[derive(Drop)]
 pub enum EvalKind {
-    Begin(Pending, u32),
-    Quote(Pending, u32),
+    Begin(Owned<Pending>, u32),
+    Quote(Owned<Pending>, u32),
 }
 
 /// A form that is open.
 #[derive(Drop)]
 pub enum Frame {
     /// `(` before the first comma
-    Paren(Pending, u32),
+    Paren(Owned<Pending>, u32),
     /// `(` and the parts before the last comma
-    Tuple(Pending, u32, Forms<Expr>),
-    Args(Pending, u32, Owned<Called>, Forms<Expr>),
-    Fetch(Pending, u32),
-    Print(Pending, u32, bool, Forms<Piece>),
+    Tuple(Owned<Pending>, u32, Forms<Expr>),
+    Args(Owned<Pending>, u32, Owned<Called>, Forms<Expr>),
+    Fetch(Owned<Pending>, u32),
+    Print(Owned<Pending>, u32, bool, Forms<Piece>),
     /// `c ?`
-    Then(Pending, Owned<Form<Expr>>),
+    Then(Owned<Pending>, Owned<Form<Expr>>),
     /// `if` or `elseif`, by its place
-    Test(Pending, u32, Branched, u32),
+    Test(Owned<Pending>, u32, Branched, u32),
     Block(Owned<BlockKind>, Forms<Stmt>),
     Evals(EvalKind, Forms<Eval>),
 }
@@ -235,16 +221,16 @@ pub struct Fielding {
 #[derive(Drop)]
 pub enum Goal {
     /// behind `isa`
-    Isa(Pending, Form<Expr>),
+    Isa(Owned<Pending>, Form<Expr>),
     /// before `<:`
-    Left(Pending, u32),
+    Left(Owned<Pending>, u32),
     /// behind `<:`
-    Right(Pending, u32, TypeForm),
+    Right(Owned<Pending>, u32, TypeForm),
     /// a name with braces, before `(`
-    Make(Pending, u32),
-    Param(Heading, Option<Name>, u32),
-    Parent(Declaring),
-    Field(Fielding, Name),
+    Make(Owned<Pending>, u32),
+    Param(Owned<Heading>, Option<Name>, u32),
+    Parent(Owned<Declaring>),
+    Field(Owned<Fielding>, Name),
 }
 
 /// The fixed tokens behind the first word of a special form.
@@ -271,7 +257,7 @@ pub enum Point {
     /// directly behind `return`
     Returned(u32),
     /// an operand must stand here
-    Want(Pending),
+    Want(Owned<Pending>),
     /// directly behind a bracket that may be empty
     First(bool),
     /// behind the comma after a tuple's only part
@@ -281,35 +267,35 @@ pub enum Point {
     /// directly behind a string
     Texted,
     /// directly behind an operand
-    Have(Pending, Form<Expr>),
-    Dot(Pending, Form<Expr>),
-    Index(Pending, Form<Expr>),
-    Indexed(Pending, Form<Expr>, i64),
-    Due(Pending, u32, Due),
+    Have(Owned<Pending>, Form<Expr>),
+    Dot(Owned<Pending>, Form<Expr>),
+    Index(Owned<Pending>, Form<Expr>),
+    Indexed(Owned<Pending>, Form<Expr>, i64),
+    Due(Owned<Pending>, u32, Due),
     /// before the bracket that ends `eval(quote .. end`
-    Quoted(Pending, Form<Expr>),
-    AfterEval(Pending, u32),
+    Quoted(Owned<Pending>, Form<Expr>),
+    AfterEval(Owned<Pending>, u32),
     /// the name of a function must stand here
     Function(Purpose),
     Named(Purpose, Name),
     Dotted(Purpose, u32),
     Colon(Purpose, u32),
-    Known(Purpose, Callee),
-    FirstParam(Heading),
-    NextParam(Heading),
-    Param(Heading, Name),
+    Known(Purpose, Owned<Callee>),
+    FirstParam(Owned<Heading>),
+    NextParam(Owned<Heading>),
+    Param(Owned<Heading>, Name),
     /// directly behind the bracket that ends a head
-    Headed(Heading),
-    Where(Heading, TypeState),
-    Type(Goal, TypeState),
+    Headed(Owned<Heading>),
+    Where(Owned<Heading>, Owned<TypeState>),
+    Type(Owned<Goal>, Owned<TypeState>),
     /// directly behind `abstract`
     AbstractWord(u32),
     /// the name of a declaration must stand here
     DeclName(u32, bool),
-    Declared(Declaring),
-    Params(Declaring, TypeState),
-    Fields(Fielding),
-    Field(Fielding, Name),
+    Declared(Owned<Declaring>),
+    Params(Owned<Declaring>, Owned<TypeState>),
+    Fields(Owned<Fielding>),
+    Field(Owned<Fielding>, Name),
     /// directly behind an item that a token of its own has ended
     Made(Form<Item>),
     MadeMethod(Form<Method>),
@@ -320,6 +306,13 @@ pub enum Point {
 pub struct ItemsRead {
     pub items: Row<Item>,
     pub too_deep: Option<u32>,
+}
+
+/// What of a reading is not the point: the forms that are open, and the items before them.
+#[derive(Drop)]
+pub struct Reading {
+    pub stack: Stack<Frame>,
+    pub script: ItemsRead,
 }
 
 /// A reading between two tokens.

@@ -4,6 +4,8 @@ use Rattle.jl_token.specs.declared.token.Token.{Token}
 use Rattle.jl_typeread.specs.declared.sign.Sign.TheVariants as S
 use Rattle.jl_typeread.specs.Lexemes.{lexemes}
 use Rattle.jl_grammar.specs.declared.mark.Marked.{Marked}
+use Rattle.jl_grammar.specs.declared.state.Point.{Point}
+use Rattle.jl_grammar.specs.declared.state.Reading.{Reading}
 use Rattle.jl_grammar.specs.declared.state.State.{State}
 use Rattle.jl_grammar.specs.declared.tree.Script.{Script}
 use Rattle.jl_grammar.specs.Grammar.{ScriptText}
@@ -63,3 +65,12 @@ Took t s (Err (TooDeep a)) = (r : State) × (step t (Some s) ≡ Some r) × (r.s
 Took t s (Err (Syntax a)) = (step t (Some s) ≡ None) × (Syntax a ≡ wrong (wants_type s.point) t.lexeme.at)
 Took t s (Err (BadType a)) = (step t (Some s) ≡ None) × (BadType a ≡ wrong (wants_type s.point) t.lexeme.at)
 Took t s (Err Memory) = Unit {0}
+
+-- the state that is this point with the rest of the reading
+abbrev pub state_of : Point → Reading → State
+state_of p r = record { point = p; stack = r.stack; script = r.script }
+
+-- the same of a reading that is changed where it is, first so and then so
+abbrev pub TookAt : Marked → Point → Reading → Reading → Result Point SyntaxFault → Type 0
+TookAt t p before after (Ok q) = Took t (state_of p before) (Ok (state_of q after))
+TookAt t p before after (Err e) = Took t (state_of p before) (Err e)

@@ -2,15 +2,14 @@
 
 ghost use Rattle.std.specs.Prelude.{◌≡◌, Option, Some, None, Result, Err};
 ghost use Rattle.jl_typeread.specs.Reads.{EndsAlone};
-ghost use Rattle.jl_grammar.specs.Machine.{step};
-ghost use Rattle.jl_reader.specs.Answers.{Reads, UnlessMemory, IsOnly, Took, wrong};
+ghost use Rattle.jl_reader.specs.Answers.{Reads, UnlessMemory, IsOnly, TookAt, wrong};
 
 use crate::fault::SyntaxFault;
 use crate::step::{
     is_frequent, is_in_type, start, step_anywhere, step_in_type, step_often, wants_type,
 };
 use jl_grammar::mark::Marked;
-use jl_grammar::state::State;
+use jl_grammar::state::{Point, Reading};
 use jl_grammar::tree::Script;
 use jl_marks::marks::marked;
 use jl_marks::newlines::bare;
@@ -29,23 +28,28 @@ fn wrong(is_type: bool, at: u32) -> SyntaxFault
 
 /// Takes a token, or tells what is wrong with it, or that it ends an item that is too deep.
 #[inline(always)]
-fn take(alloc: Global, token: Marked, state: State) -> Result<State, SyntaxFault>
-    ensures { Took token state result }
+fn take(
+    alloc: Global,
+    token: Marked,
+    point: Point,
+    reading: &mut Reading,
+) -> Result<Point, SyntaxFault>
+    ensures { TookAt token point reading.old reading.new result }
 {
-    let is_type = wants_type(&state.point);
+    let is_type = wants_type(&point);
     let at = token.lexeme.at;
-    let taken = if is_frequent(&state.point) {
-        step_often(alloc, &token, state)
-    } else if is_in_type(&state.point) {
-        step_in_type(alloc, &token, state)
+    let taken = if is_frequent(&point) {
+        step_often(alloc, &token, point, reading)
+    } else if is_in_type(&point) {
+        step_in_type(alloc, &token, point, reading)
     } else {
-        step_anywhere(alloc, &token, state)
+        step_anywhere(alloc, &token, point, reading)
     };
     drop(token);
     match taken {
         Err(error) => Err(SyntaxFault::from(error)),
         Ok(None) => Err(wrong(is_type, at)),
-        Ok(Some(next)) => match next.script.too_deep {
+        Ok(Some(next)) => match reading.script.too_deep {
             None => Ok(next),
             Some(at) => {
                 drop(next);
@@ -69,19 +73,16 @@ pub fn read(alloc: Global, tokens: &[Token]) -> Result<Script, SyntaxFault>
 {
     let lexemes = bare(alloc, tokens)?;
     let mut left = marked(alloc, lexemes)?;
-    let mut state = start(alloc);
+    let mut reading = start(alloc);
+    let mut point = Point::Entry;
     while let Some(token) = left.pop() {
-        match take(alloc, token, state) {
-            Ok(next) => state = next,
+        match take(alloc, token, point, &mut reading) {
+            Ok(next) => point = next,
             Err(fault) => return Err(fault),
         }
     }
-    let State {
-        point,
-        stack,
-        script,
-    } = state;
     drop(point);
+    let Reading { stack, script } = reading;
     drop(stack);
     let items = script.items.into_shared(alloc)?;
     Ok(Script { items })

@@ -1,6 +1,7 @@
 //! Where a reading goes on; statements, and the words that end blocks.
 
 ghost use Rattle.std.specs.Prelude.{◌≡◌, ◌∷◌, IfOk};
+ghost use Rattle.jl_grammar.specs.Goes.{state_at};
 ghost use Rattle.jl_grammar.specs.Turns.{at, placed, returns_of, returns_in, with_stmt, with_method, with_eval, item_of, block_ends, block_elseif, block_else, block_word, evals_end, evals_word};
 
 use crate::forms::{
@@ -9,37 +10,23 @@ use crate::forms::{
 use crate::levels::fresh;
 use crate::made::{bound_item, done_item, long, method_item, short};
 use jl_grammar::owned::Owned;
-use jl_grammar::state::{
-    BlockKind, EvalKind, Form, Forms, Frame, ItemsRead, Lead, Place, Point, State,
-};
+use jl_grammar::state::{BlockKind, EvalKind, Form, Forms, Frame, Lead, Place, Point, Reading};
 use jl_grammar::tree::{Eval, Expr, Head, Item, Method, Name, Stmt};
 use jl_model::rows::Stack;
 use jl_model::ty::Bytes;
 use jl_typeread::sign::Word;
 use std::alloc::{AllocError, Global};
 
-/// The reading goes on at this point.
-pub fn at(point: Point, stack: Stack<Frame>, script: ItemsRead) -> Option<State>
-    ensures { result ≡ at point stack script }
-{
-    Some(State {
-        point,
-        stack,
-        script,
-    })
-}
-
 /// The reading goes on inside of one more form.
 pub fn inside(
     point: Point,
     frame: Frame,
-    mut stack: Stack<Frame>,
-    script: ItemsRead,
-) -> Result<Option<State>, AllocError>
-    ensures { IfOk result (λ s. s ≡ at point (frame ∷ stack) script) }
+    reading: &mut Reading,
+) -> Result<Option<Point>, AllocError>
+    ensures { IfOk result (λ p. state_at p reading.new ≡ at point (frame ∷ reading.old.stack) reading.old.script) }
 {
-    match stack.push(frame) {
-        Ok(()) => Ok(at(point, stack, script)),
+    match reading.stack.push(frame) {
+        Ok(()) => Ok(Some(point)),
         Err(error) => {
             drop(point);
             Err(error)
@@ -59,9 +46,9 @@ pub fn returns_of(kind: &BlockKind) -> bool
     ensures { result ≡ returns_of kind.now }
 {
     match kind {
-        BlockKind::Begin(pending, _) => pending.returns,
-        BlockKind::Branch(pending, ..) => pending.returns,
-        BlockKind::Else(pending, ..) => pending.returns,
+        BlockKind::Begin(pending, _) => pending.get().returns,
+        BlockKind::Branch(pending, ..) => pending.get().returns,
+        BlockKind::Else(pending, ..) => pending.get().returns,
         BlockKind::Body(..) => true,
     }
 }
@@ -151,17 +138,16 @@ fn body_ends(
     place: Place,
     head: Form<Head>,
     stmts: Forms<Stmt>,
-    stack: Stack<Frame>,
-    script: ItemsRead,
-) -> Result<Option<State>, AllocError>
-    ensures { IfOk result (λ s. s ≡ block_ends (BlockKind.Body place head) stmts stack script) }
+    reading: &mut Reading,
+) -> Result<Option<Point>, AllocError>
+    ensures { IfOk result (λ p. state_at p reading.new ≡ block_ends (BlockKind.Body place head) stmts reading.old.stack reading.old.script) }
 {
     let method = long(alloc, head, stmts)?;
     match place {
-        Place::Entry => Ok(at(Point::MadeMethod(method), stack, script)),
+        Place::Entry => Ok(Some(Point::MadeMethod(method))),
         Place::Evaluated(pending, place) => {
             let e = eval_method(alloc, place, method)?;
-            Ok(at(Point::Have(pending, e), stack, script))
+            Ok(Some(Point::Have(pending, e)))
         }
     }
 }
@@ -171,26 +157,25 @@ pub fn block_ends(
     alloc: Global,
     kind: BlockKind,
     stmts: Forms<Stmt>,
-    stack: Stack<Frame>,
-    script: ItemsRead,
-) -> Result<Option<State>, AllocError>
-    ensures { IfOk result (λ s. s ≡ block_ends kind stmts stack script) }
+    reading: &mut Reading,
+) -> Result<Option<Point>, AllocError>
+    ensures { IfOk result (λ p. state_at p reading.new ≡ block_ends kind stmts reading.old.stack reading.old.script) }
 {
     match kind {
         BlockKind::Begin(pending, place) => {
             let e = begun(alloc, place, stmts)?;
-            Ok(at(Point::Have(pending, e), stack, script))
+            Ok(Some(Point::Have(pending, e)))
         }
         BlockKind::Branch(pending, place, branched, word, test) => {
             let branched = with_branch(alloc, branched, word, test, stmts)?;
             let e = iffed(alloc, place, branched)?;
-            Ok(at(Point::Have(pending, e), stack, script))
+            Ok(Some(Point::Have(pending, e)))
         }
         BlockKind::Else(pending, place, branched) => {
             let e = iffed_else(alloc, place, branched, stmts)?;
-            Ok(at(Point::Have(pending, e), stack, script))
+            Ok(Some(Point::Have(pending, e)))
         }
-        BlockKind::Body(place, head) => body_ends(alloc, place, head, stmts, stack, script),
+        BlockKind::Body(place, head) => body_ends(alloc, place, head, stmts, reading),
     }
 }
 
@@ -200,17 +185,16 @@ pub fn block_elseif(
     place: u32,
     kind: BlockKind,
     stmts: Forms<Stmt>,
-    stack: Stack<Frame>,
-    script: ItemsRead,
-) -> Result<Option<State>, AllocError>
-    ensures { IfOk result (λ s. s ≡ block_elseif place kind stmts stack script) }
+    reading: &mut Reading,
+) -> Result<Option<Point>, AllocError>
+    ensures { IfOk result (λ p. state_at p reading.new ≡ block_elseif place kind stmts reading.old.stack reading.old.script) }
 {
     match kind {
         BlockKind::Branch(pending, start, branched, word, test) => {
             let branched = with_branch(alloc, branched, word, test, stmts)?;
-            let want = Point::Want(fresh(alloc, pending.returns));
+            let want = Point::Want(fresh(alloc, pending.get().returns)?);
             let frame = Frame::Test(pending, start, branched, place);
-            inside(want, frame, stack, script)
+            inside(want, frame, reading)
         }
         kind => {
             drop(kind);
@@ -224,16 +208,15 @@ pub fn block_else(
     alloc: Global,
     kind: BlockKind,
     stmts: Forms<Stmt>,
-    stack: Stack<Frame>,
-    script: ItemsRead,
-) -> Result<Option<State>, AllocError>
-    ensures { IfOk result (λ s. s ≡ block_else kind stmts stack script) }
+    reading: &mut Reading,
+) -> Result<Option<Point>, AllocError>
+    ensures { IfOk result (λ p. state_at p reading.new ≡ block_else kind stmts reading.old.stack reading.old.script) }
 {
     match kind {
         BlockKind::Branch(pending, place, branched, word, test) => {
             let branched = with_branch(alloc, branched, word, test, stmts)?;
             let kind = Owned::new(alloc, BlockKind::Else(pending, place, branched))?;
-            inside(Point::Entry, Frame::Block(kind, none(alloc)), stack, script)
+            inside(Point::Entry, Frame::Block(kind, none(alloc)), reading)
         }
         kind => {
             drop(kind);
@@ -249,15 +232,14 @@ pub fn block_word(
     place: u32,
     kind: BlockKind,
     stmts: Forms<Stmt>,
-    stack: Stack<Frame>,
-    script: ItemsRead,
-) -> Result<Option<State>, AllocError>
-    ensures { IfOk result (λ s. s ≡ block_word word place kind stmts stack script) }
+    reading: &mut Reading,
+) -> Result<Option<Point>, AllocError>
+    ensures { IfOk result (λ p. state_at p reading.new ≡ block_word word place kind stmts reading.old.stack reading.old.script) }
 {
     match word {
-        Word::End => block_ends(alloc, kind, stmts, stack, script),
-        Word::Elseif => block_elseif(alloc, place, kind, stmts, stack, script),
-        Word::Else => block_else(alloc, kind, stmts, stack, script),
+        Word::End => block_ends(alloc, kind, stmts, reading),
+        Word::Elseif => block_elseif(alloc, place, kind, stmts, reading),
+        Word::Else => block_else(alloc, kind, stmts, reading),
         _ => {
             drop(kind);
             Ok(None)
@@ -270,19 +252,18 @@ pub fn evals_end(
     alloc: Global,
     kind: EvalKind,
     evals: Forms<Eval>,
-    stack: Stack<Frame>,
-    script: ItemsRead,
-) -> Result<Option<State>, AllocError>
-    ensures { IfOk result (λ s. s ≡ evals_end kind evals stack script) }
+    reading: &mut Reading,
+) -> Result<Option<Point>, AllocError>
+    ensures { IfOk result (λ p. state_at p reading.new ≡ evals_end kind evals reading.old.stack reading.old.script) }
 {
     match kind {
         EvalKind::Begin(pending, place) => {
             let e = eval_block(alloc, place, evals)?;
-            Ok(at(Point::Have(pending, e), stack, script))
+            Ok(Some(Point::Have(pending, e)))
         }
         EvalKind::Quote(pending, place) => {
             let e = eval_quote(alloc, place, evals)?;
-            Ok(at(Point::Quoted(pending, e), stack, script))
+            Ok(Some(Point::Quoted(pending, e)))
         }
     }
 }
@@ -293,13 +274,12 @@ pub fn evals_word(
     word: Word,
     kind: EvalKind,
     evals: Forms<Eval>,
-    stack: Stack<Frame>,
-    script: ItemsRead,
-) -> Result<Option<State>, AllocError>
-    ensures { IfOk result (λ s. s ≡ evals_word word kind evals stack script) }
+    reading: &mut Reading,
+) -> Result<Option<Point>, AllocError>
+    ensures { IfOk result (λ p. state_at p reading.new ≡ evals_word word kind evals reading.old.stack reading.old.script) }
 {
     match word {
-        Word::End => evals_end(alloc, kind, evals, stack, script),
+        Word::End => evals_end(alloc, kind, evals, reading),
         _ => {
             drop(kind);
             Ok(None)

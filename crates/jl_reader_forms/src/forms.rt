@@ -1,6 +1,6 @@
 //! The forms of a script with their depth, as they are made. The tree of an expression that is too deep is not kept.
 
-ghost use Rattle.std.specs.Prelude.{◌≡◌, IfOk};
+ghost use Rattle.std.specs.Prelude.{◌≡◌, IfOk, OnOk};
 ghost use Rattle.jl_grammar.specs.Forms.{deeper, made, none, with, type_form, vars_form, no_vars, number, truth, nothing, name, paren, tuple, called, field, part, prefixed, infixed, isa, sub, choose, begun, spawned, eval_method, eval_block, eval_expr, eval_quote, fetched, printed, below, no_branches, with_branch, iffed, iffed_else, with_show, with_text, with_expr};
 
 use jl_grammar::owned::Owned;
@@ -57,6 +57,15 @@ pub fn with<T: Drop>(forms: Forms<T>, tree: T, depth: u32) -> Result<Forms<T>, A
         trees,
         depth: greatest.max(depth),
     })
+}
+
+/// One more tree, with its depth.
+pub fn add<T: Drop>(forms: &mut Forms<T>, tree: T, depth: u32) -> Result<(), AllocError>
+    ensures { OnOk result (forms.new ≡ with forms.old tree depth) }
+{
+    forms.trees.push(tree)?;
+    forms.depth = forms.depth.max(depth);
+    Ok(())
 }
 
 /// A written type as it was read.

@@ -1,7 +1,7 @@
-//! What stands before an operand, and what it makes of the operand where its chain ends.
+//! What stands before an operand, and what it makes of the operand where its chain ends. All that stands before it is changed where it is.
 
-ghost use Rattle.std.specs.Prelude.{◌≡◌, IfOk, None, []};
-ghost use Rattle.jl_grammar.specs.Levels.{no_levels, led, fresh, into, at_levels, all_prefixed, with_left, with_operand, as_sum, as_comparison, as_or, ended, all_ended, expression, behind_prefix, behind_term, behind_sum, behind_comparison, behind_type, behind_and, behind_or, no_left, leads};
+ghost use Rattle.std.specs.Prelude.{◌≡◌, OnOk, IfOk, None, []};
+ghost use Rattle.jl_grammar.specs.Levels.{no_levels, led, fresh, into, at_levels, all_prefixed, with_left, with_operand, as_term, as_sum, as_comparison, as_or, ended, all_ended, expression, behind_prefix, behind_term, behind_sum, behind_comparison, behind_type, behind_and, behind_or, no_left, leads};
 
 use crate::forms::{choose, eval_expr, eval_method, infixed, prefixed, spawned};
 use crate::made::short;
@@ -11,6 +11,7 @@ use jl_grammar::state::{Form, Lead, Left, Levels, Outer, Pending, PrefixAt};
 use jl_grammar::tree::{Expr, Infix};
 use jl_model::rows::Stack;
 use std::alloc::{AllocError, Global};
+use std::mem;
 
 /// Nothing stands before the operand.
 pub(crate) fn no_levels(alloc: Global) -> Levels
@@ -27,83 +28,58 @@ pub(crate) fn no_levels(alloc: Global) -> Levels
 }
 
 /// An operand behind what a statement begins with.
-pub fn led(alloc: Global, lead: Lead, returns: bool) -> Pending
-    ensures { result ≡ led lead returns }
+pub fn led(alloc: Global, lead: Lead, returns: bool) -> Result<Owned<Pending>, AllocError>
+    ensures { IfOk result (λ p. p ≡ led lead returns) }
 {
-    Pending {
+    let pending = Pending {
         lead,
         outer: Stack::new(alloc),
         levels: no_levels(alloc),
         returns,
-    }
+    };
+    Owned::new(alloc, pending)
 }
 
 /// An operand behind nothing.
-pub fn fresh(alloc: Global, returns: bool) -> Pending
-    ensures { result ≡ fresh returns }
+pub fn fresh(alloc: Global, returns: bool) -> Result<Owned<Pending>, AllocError>
+    ensures { IfOk result (λ p. p ≡ fresh returns) }
 {
     led(alloc, Lead::Plain, returns)
 }
 
 /// A form that takes all that follows it begins.
-pub fn into(
+pub fn begin_form(
     alloc: Global,
     form: Outer,
     returns: bool,
-    pending: Pending,
-) -> Result<Pending, AllocError>
-    ensures { IfOk result (λ p. p ≡ into form returns pending) }
+    pending: &mut Pending,
+) -> Result<(), AllocError>
+    ensures { OnOk result (pending.new ≡ into form returns pending.old) }
 {
-    let (lead, mut outer, levels, _) = pending.parts();
-    drop(levels);
-    outer.push(form)?;
-    Ok(Pending {
-        lead,
-        outer,
-        levels: no_levels(alloc),
-        returns,
-    })
+    pending.outer.push(form)?;
+    drop(take_levels(alloc, &mut pending.levels));
+    pending.returns = returns;
+    Ok(())
 }
 
-/// The same before the operand, but for its levels.
-pub fn at_levels(levels: Levels, pending: Pending) -> Pending
-    ensures { result ≡ at_levels levels pending }
+/// The levels, which are then empty.
+pub fn take_levels(alloc: Global, levels: &mut Levels) -> Levels
+    ensures taken { result ≡ levels.old }
+    ensures left { levels.new ≡ no_levels }
 {
-    let (lead, outer, before, returns) = pending.parts();
-    drop(before);
-    Pending {
-        lead,
-        outer,
-        levels,
-        returns,
-    }
-}
-
-/// The levels, and all else that stands before the operand.
-pub fn apart(alloc: Global, pending: Pending) -> (Levels, Pending)
-    ensures { result ≡ (pending.levels, at_levels no_levels pending) }
-{
-    let (lead, outer, levels, returns) = pending.parts();
-    let rest = Pending {
-        lead,
-        outer,
-        levels: no_levels(alloc),
-        returns,
-    };
-    (levels, rest)
+    mem::replace(levels, no_levels(alloc))
 }
 
 /// The operand with the operators before it, the innermost first.
 fn all_prefixed(
     alloc: Global,
-    prefixes: Stack<PrefixAt>,
+    prefixes: &mut Stack<PrefixAt>,
     e: Form<Expr>,
 ) -> Result<Form<Expr>, AllocError>
-    ensures { IfOk result (λ r. r ≡ all_prefixed prefixes e) }
+    ensures { IfOk result (λ r. (r ≡ all_prefixed prefixes.old e) × (prefixes.new ≡ [])) }
 {
-    let mut left = prefixes;
     let mut form = e;
-    while let Some(prefix) = left.pop() {
+    while let Some(prefix) = prefixes.pop() {
         form = prefixed(alloc, prefix, form)?;
     }
     Ok(form)
@@ -112,12 +88,12 @@ fn all_prefixed(
 /// The operand with the left operand before it, if there is one.
 fn with_left(
     alloc: Global,
-    left: Held<Option<Owned<Left>>>,
+    left: &mut Held<Option<Owned<Left>>>,
     e: Form<Expr>,
 ) -> Result<Form<Expr>, AllocError>
-    ensures { IfOk result (λ r. r ≡ with_left left e) }
+    ensures { IfOk result (λ r. (r ≡ with_left left.old e) × (left.new ≡ None)) }
 {
-    match left.take() {
+    match left.pull() {
         None => Ok(e),
         Some(before) => {
             let Left { left, operator } = before.take();
@@ -129,132 +105,95 @@ fn with_left(
 /// The same with the left operand of this operator.
 fn with_operand(
     alloc: Global,
-    left: Held<Option<Owned<Form<Expr>>>>,
+    left: &mut Held<Option<Owned<Form<Expr>>>>,
     operator: Infix,
     e: Form<Expr>,
 ) -> Result<Form<Expr>, AllocError>
-    ensures { IfOk result (λ r. r ≡ with_operand left operator e) }
+    ensures { IfOk result (λ r. (r ≡ with_operand left.old operator e) × (left.new ≡ None)) }
 {
-    match left.take() {
+    match left.pull() {
         None => Ok(e),
         Some(left) => infixed(alloc, left.take(), operator, e),
     }
 }
 
 /// The operand as a term.
-fn term_of(
-    alloc: Global,
-    term: Held<Option<Owned<Left>>>,
-    prefixes: Stack<PrefixAt>,
-    e: Form<Expr>,
-) -> Result<Form<Expr>, AllocError>
-    ensures { IfOk result (λ r. r ≡ with_left term (all_prefixed prefixes e)) }
+fn as_term(alloc: Global, levels: &mut Levels, e: Form<Expr>) -> Result<Form<Expr>, AllocError>
+    ensures { IfOk result (λ r. (r ≡ as_term levels.old e) × (levels.new ≡ record levels.old { term = None; prefixes = [] })) }
 {
-    let unary = all_prefixed(alloc, prefixes, e)?;
-    with_left(alloc, term, unary)
+    let unary = all_prefixed(alloc, &mut levels.prefixes, e)?;
+    with_left(alloc, &mut levels.term, unary)
 }
 
 /// The operand as a sum.
-fn sum_of(
+fn as_sum(alloc: Global, levels: &mut Levels, e: Form<Expr>) -> Result<Form<Expr>, AllocError>
+    ensures { IfOk result (λ r. (r ≡ as_sum levels.old e) × (levels.new ≡ record levels.old { sum = None; term = None; prefixes = [] })) }
+{
+    let term = as_term(alloc, levels, e)?;
+    with_left(alloc, &mut levels.sum, term)
+}
+
+/// The operand as a comparison.
+fn as_comparison(
     alloc: Global,
-    sum: Held<Option<Owned<Left>>>,
-    term: Held<Option<Owned<Left>>>,
-    prefixes: Stack<PrefixAt>,
+    levels: &mut Levels,
     e: Form<Expr>,
 ) -> Result<Form<Expr>, AllocError>
-    ensures { IfOk result (λ r. r ≡ with_left sum (with_left term (all_prefixed prefixes e))) }
+    ensures { IfOk result (λ r. (r ≡ as_comparison levels.old e) × (levels.new ≡ behind_type levels.old)) }
 {
-    let term = term_of(alloc, term, prefixes, e)?;
-    with_left(alloc, sum, term)
+    let sum = as_sum(alloc, levels, e)?;
+    with_left(alloc, &mut levels.comparison, sum)
 }
 
-/// The levels of a comparison behind these.
-fn above(
-    alloc: Global,
-    or: Held<Option<Owned<Form<Expr>>>>,
-    and: Held<Option<Owned<Form<Expr>>>>,
-) -> Levels
-    ensures { result ≡ behind_type (record { or = or; and = and; comparison = None; sum = None; term = None; prefixes = [] }) }
+/// The operand of `isa` as a sum. What compares with it is gone.
+pub fn summed(alloc: Global, pending: &mut Pending, e: Form<Expr>) -> Result<Form<Expr>, AllocError>
+    ensures { IfOk result (λ r. (r ≡ as_sum pending.old.levels e) × (pending.new ≡ at_levels (behind_type pending.old.levels) pending.old)) }
 {
-    Levels {
-        or,
-        and,
-        comparison: Held::new(None),
-        sum: Held::new(None),
-        term: Held::new(None),
-        prefixes: Stack::new(alloc),
-    }
+    let levels = &mut pending.levels;
+    let sum = as_sum(alloc, levels, e)?;
+    drop(levels.comparison.pull());
+    Ok(sum)
 }
 
-/// The operand as a sum, and the levels above it.
-pub fn summed(
-    alloc: Global,
-    levels: Levels,
-    e: Form<Expr>,
-) -> Result<(Levels, Form<Expr>), AllocError>
-    ensures { IfOk result (λ r. r ≡ (behind_type levels, as_sum levels e)) }
-{
-    let Levels {
-        or,
-        and,
-        sum,
-        term,
-        prefixes,
-        ..
-    } = levels;
-    let e = sum_of(alloc, sum, term, prefixes, e)?;
-    Ok((above(alloc, or, and), e))
-}
-
-/// The operand as a comparison, and the levels above it.
-fn compared_with(
-    alloc: Global,
-    levels: Levels,
-    e: Form<Expr>,
-) -> Result<(Levels, Form<Expr>), AllocError>
-    ensures { IfOk result (λ r. r ≡ (behind_type levels, as_comparison levels e)) }
-{
-    let Levels {
-        or,
-        and,
-        comparison,
-        sum,
-        term,
-        prefixes,
-    } = levels;
-    let sum = sum_of(alloc, sum, term, prefixes, e)?;
-    let e = with_left(alloc, comparison, sum)?;
-    Ok((above(alloc, or, and), e))
-}
-
-/// The operand as a comparison, and what stands before that.
+/// The operand as a comparison.
 pub fn settled(
     alloc: Global,
-    pending: Pending,
+    pending: &mut Pending,
     e: Form<Expr>,
-) -> Result<(Pending, Form<Expr>), AllocError>
-    ensures { IfOk result (λ r. r ≡ (at_levels (behind_type pending.levels) pending, as_comparison pending.levels e)) }
+) -> Result<Form<Expr>, AllocError>
+    ensures { IfOk result (λ r. (r ≡ as_comparison pending.old.levels e) × (pending.new ≡ at_levels (behind_type pending.old.levels) pending.old)) }
 {
-    let (levels, pending) = apart(alloc, pending);
-    let (levels, e) = compared_with(alloc, levels, e)?;
-    Ok((at_levels(levels, pending), e))
+    as_comparison(alloc, &mut pending.levels, e)
 }
 
 /// A comparison as a disjunction.
-pub fn as_or(alloc: Global, levels: Levels, e: Form<Expr>) -> Result<Form<Expr>, AllocError>
-    ensures { IfOk result (λ r. r ≡ as_or levels e) }
+fn as_or(alloc: Global, levels: &mut Levels, e: Form<Expr>) -> Result<Form<Expr>, AllocError>
+    ensures { IfOk result (λ r. (r ≡ as_or levels.old e) × (levels.new ≡ record levels.old { or = None; and = None })) }
 {
-    let Levels { or, and, .. } = levels;
-    let e = with_operand(alloc, and, Infix::And, e)?;
-    with_operand(alloc, or, Infix::Or, e)
+    let e = with_operand(alloc, &mut levels.and, Infix::And, e)?;
+    with_operand(alloc, &mut levels.or, Infix::Or, e)
 }
 
 /// The operand as a disjunction.
 fn whole(alloc: Global, levels: Levels, e: Form<Expr>) -> Result<Form<Expr>, AllocError>
     ensures { IfOk result (λ r. r ≡ as_or levels (as_comparison levels e)) }
 {
-    let (levels, e) = compared_with(alloc, levels, e)?;
-    as_or(alloc, levels, e)
+    let mut levels = levels;
+    let e = as_comparison(alloc, &mut levels, e)?;
+    as_or(alloc, &mut levels, e)
+}
+
+/// The test of a conditional: a comparison as a disjunction, of which nothing is left before what follows.
+pub fn test_of(
+    alloc: Global,
+    pending: &mut Pending,
+    e: Form<Expr>,
+) -> Result<Form<Expr>, AllocError>
+    ensures { IfOk result (λ r. (r ≡ as_or pending.old.levels e) × (pending.new ≡ at_levels no_levels pending.old)) }
+{
+    let test = as_or(alloc, &mut pending.levels, e)?;
+    drop(take_levels(alloc, &mut pending.levels));
+    Ok(test)
 }
 
 /// A form that ends with this expression, as a disjunction.
@@ -280,189 +219,122 @@ fn ended(alloc: Global, form: Outer, e: Form<Expr>) -> Result<Form<Expr>, AllocE
 }
 
 /// The forms that end with this expression, the innermost first.
-fn all_ended(alloc: Global, outer: Stack<Outer>, e: Form<Expr>) -> Result<Form<Expr>, AllocError>
-    ensures { IfOk result (λ r. r ≡ all_ended outer e) }
+fn all_ended(
+    alloc: Global,
+    outer: &mut Stack<Outer>,
+    e: Form<Expr>,
+) -> Result<Form<Expr>, AllocError>
+    ensures { IfOk result (λ r. r ≡ all_ended outer.old e) }
 {
-    let mut left = outer;
     let mut ending = e;
-    while let Some(form) = left.pop() {
+    while let Some(form) = outer.pop() {
         ending = ended(alloc, form, ending)?;
     }
     Ok(ending)
 }
 
 /// A comparison as the whole expression that ends with it.
-fn whole_of(
-    alloc: Global,
-    outer: Stack<Outer>,
-    levels: Levels,
-    e: Form<Expr>,
-) -> Result<Form<Expr>, AllocError>
-    ensures { IfOk result (λ r. r ≡ all_ended outer (as_or levels e)) }
+fn whole_of(alloc: Global, pending: &mut Pending, e: Form<Expr>) -> Result<Form<Expr>, AllocError>
+    ensures { IfOk result (λ r. (r ≡ expression pending.old e) × (pending.new.lead ≡ pending.old.lead)) }
 {
-    let e = as_or(alloc, levels, e)?;
-    all_ended(alloc, outer, e)
+    let e = as_or(alloc, &mut pending.levels, e)?;
+    all_ended(alloc, &mut pending.outer, e)
 }
 
 /// A comparison as the whole expression that ends with it, behind what the statement begins with.
 pub fn expression(
     alloc: Global,
-    pending: Pending,
+    pending: Owned<Pending>,
     e: Form<Expr>,
 ) -> Result<(Lead, Form<Expr>), AllocError>
     ensures { IfOk result (λ r. r ≡ (pending.lead, expression pending e)) }
 {
-    let (lead, outer, levels, _) = pending.parts();
-    match whole_of(alloc, outer, levels, e) {
-        Ok(e) => Ok((lead, e)),
-        Err(error) => {
-            drop(lead);
-            Err(error)
-        }
-    }
+    let mut pending = pending;
+    let before = pending.get_mut();
+    let e = whole_of(alloc, before, e)?;
+    let lead = mem::replace(&mut before.lead, Lead::Plain);
+    Ok((lead, e))
 }
 
-/// The levels behind an operator before an operand.
-pub fn behind_prefix(prefix: PrefixAt, levels: Levels) -> Result<Levels, AllocError>
-    ensures { IfOk result (λ r. r ≡ behind_prefix prefix levels) }
+/// An operator before an operand.
+pub fn behind_prefix(prefix: PrefixAt, pending: &mut Pending) -> Result<(), AllocError>
+    ensures { OnOk result (pending.new ≡ at_levels (behind_prefix prefix pending.old.levels) pending.old) }
 {
-    let Levels {
-        or,
-        and,
-        comparison,
-        sum,
-        term,
-        mut prefixes,
-    } = levels;
-    prefixes.push(prefix)?;
-    Ok(Levels {
-        or,
-        and,
-        comparison,
-        sum,
-        term,
-        prefixes,
-    })
+    pending.levels.prefixes.push(prefix)
 }
 
-/// The levels behind `*`, `÷` or `%`.
+/// `*`, `÷` or `%` behind an operand.
 pub fn behind_term(
     alloc: Global,
     operator: Infix,
-    levels: Levels,
+    pending: &mut Pending,
     e: Form<Expr>,
-) -> Result<Levels, AllocError>
-    ensures { IfOk result (λ r. r ≡ behind_term operator levels e) }
+) -> Result<(), AllocError>
+    ensures { OnOk result (pending.new ≡ at_levels (behind_term operator pending.old.levels e) pending.old) }
 {
-    let Levels {
-        or,
-        and,
-        comparison,
-        sum,
-        term,
-        prefixes,
-    } = levels;
-    let left = term_of(alloc, term, prefixes, e)?;
+    let levels = &mut pending.levels;
+    let left = as_term(alloc, levels, e)?;
     let term = Owned::new(alloc, Left { left, operator })?;
-    Ok(Levels {
-        or,
-        and,
-        comparison,
-        sum,
-        term: Held::new(Some(term)),
-        prefixes: Stack::new(alloc),
-    })
+    levels.term = Held::new(Some(term));
+    Ok(())
 }
 
-/// The levels behind `+` or `-`.
+/// `+` or `-` behind an operand.
 pub fn behind_sum(
     alloc: Global,
     operator: Infix,
-    levels: Levels,
+    pending: &mut Pending,
     e: Form<Expr>,
-) -> Result<Levels, AllocError>
-    ensures { IfOk result (λ r. r ≡ behind_sum operator levels e) }
+) -> Result<(), AllocError>
+    ensures { OnOk result (pending.new ≡ at_levels (behind_sum operator pending.old.levels e) pending.old) }
 {
-    let Levels {
-        or,
-        and,
-        comparison,
-        sum,
-        term,
-        prefixes,
-    } = levels;
-    let left = sum_of(alloc, sum, term, prefixes, e)?;
+    let levels = &mut pending.levels;
+    let left = as_sum(alloc, levels, e)?;
     let sum = Owned::new(alloc, Left { left, operator })?;
-    Ok(Levels {
-        or,
-        and,
-        comparison,
-        sum: Held::new(Some(sum)),
-        term: Held::new(None),
-        prefixes: Stack::new(alloc),
-    })
+    levels.sum = Held::new(Some(sum));
+    Ok(())
 }
 
-/// The levels behind the operator of a comparison.
+/// The operator of a comparison behind its left operand.
 pub fn behind_comparison(
     alloc: Global,
     operator: Infix,
-    levels: Levels,
+    pending: &mut Pending,
     e: Form<Expr>,
-) -> Result<Levels, AllocError>
-    ensures { IfOk result (λ r. r ≡ behind_comparison operator levels e) }
+) -> Result<(), AllocError>
+    ensures { OnOk result (pending.new ≡ at_levels (behind_comparison operator pending.old.levels e) pending.old) }
 {
-    let Levels {
-        or,
-        and,
-        sum,
-        term,
-        prefixes,
-        ..
-    } = levels;
-    let left = sum_of(alloc, sum, term, prefixes, e)?;
+    let levels = &mut pending.levels;
+    let left = as_sum(alloc, levels, e)?;
     let comparison = Owned::new(alloc, Left { left, operator })?;
-    Ok(Levels {
-        or,
-        and,
-        comparison: Held::new(Some(comparison)),
-        sum: Held::new(None),
-        term: Held::new(None),
-        prefixes: Stack::new(alloc),
-    })
+    levels.comparison = Held::new(Some(comparison));
+    Ok(())
 }
 
-/// The levels behind `&&`.
-pub fn behind_and(alloc: Global, levels: Levels, e: Form<Expr>) -> Result<Levels, AllocError>
-    ensures { IfOk result (λ r. r ≡ behind_and levels e) }
+/// `&&` behind a comparison.
+pub fn behind_and(alloc: Global, pending: &mut Pending, e: Form<Expr>) -> Result<(), AllocError>
+    ensures { OnOk result (pending.new ≡ at_levels (behind_and pending.old.levels e) pending.old) }
 {
-    let Levels { or, and, .. } = levels;
-    let left = with_operand(alloc, and, Infix::And, e)?;
+    let levels = &mut pending.levels;
+    let left = with_operand(alloc, &mut levels.and, Infix::And, e)?;
     let and = Owned::new(alloc, left)?;
-    Ok(Levels {
-        or,
-        and: Held::new(Some(and)),
-        comparison: Held::new(None),
-        sum: Held::new(None),
-        term: Held::new(None),
-        prefixes: Stack::new(alloc),
-    })
+    let or = levels.or.pull();
+    drop(take_levels(alloc, levels));
+    levels.or = Held::new(or);
+    levels.and = Held::new(Some(and));
+    Ok(())
 }
 
-/// The levels behind `||`.
-pub fn behind_or(alloc: Global, levels: Levels, e: Form<Expr>) -> Result<Levels, AllocError>
-    ensures { IfOk result (λ r. r ≡ behind_or levels e) }
+/// `||` behind a comparison.
+pub fn behind_or(alloc: Global, pending: &mut Pending, e: Form<Expr>) -> Result<(), AllocError>
+    ensures { OnOk result (pending.new ≡ at_levels (behind_or pending.old.levels e) pending.old) }
 {
+    let levels = &mut pending.levels;
     let left = as_or(alloc, levels, e)?;
     let or = Owned::new(alloc, left)?;
-    Ok(Levels {
-        or: Held::new(Some(or)),
-        and: Held::new(None),
-        comparison: Held::new(None),
-        sum: Held::new(None),
-        term: Held::new(None),
-        prefixes: Stack::new(alloc),
-    })
+    drop(take_levels(alloc, levels));
+    levels.or = Held::new(Some(or));
+    Ok(())
 }
 
 /// Whether no left operand stands there.

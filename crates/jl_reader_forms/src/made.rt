@@ -1,6 +1,6 @@
 //! Methods and items with their depth, as they are made; and the items of a script.
 
-ghost use Rattle.std.specs.Prelude.{◌≡◌, IfOk, None, Some, cond, nat_lt};
+ghost use Rattle.std.specs.Prelude.{◌≡◌, IfOk, OnOk, None, Some, cond, nat_lt};
 ghost use Rattle.jl_grammar.specs.Forms.{head, long, short, typed_param, header, abstracted, structured, method_item, bound_item, done_item, first_place, with_item};
 
 use crate::forms::deeper;
@@ -181,18 +181,12 @@ fn first_deep(before: Option<u32>, at: u32, depth: u32) -> Option<u32>
     }
 }
 
-/// The items and one more.
-pub fn with_item(script: ItemsRead, item: Form<Item>) -> Result<ItemsRead, AllocError>
-    ensures { IfOk result (λ r. r ≡ with_item script item) }
+/// One more item.
+pub fn with_item(script: &mut ItemsRead, item: Form<Item>) -> Result<(), AllocError>
+    ensures { OnOk result (script.new ≡ with_item script.old item) }
 {
-    let ItemsRead {
-        mut items,
-        too_deep,
-    } = script;
     let Form { tree, at, depth } = item;
-    items.push(tree.take())?;
-    Ok(ItemsRead {
-        items,
-        too_deep: first_deep(too_deep, at, depth),
-    })
+    script.items.push(tree.take())?;
+    script.too_deep = first_deep(script.too_deep, at, depth);
+    Ok(())
 }

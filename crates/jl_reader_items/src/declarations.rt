@@ -1,47 +1,43 @@
 //! Declarations of types, and what follows an item that a token of its own has ended.
 
-ghost use Rattle.std.specs.Prelude.{◌≡◌, ◌∷◌, IfOk, None};
-ghost use Rattle.jl_grammar.specs.Machine.{abstract_begins, at_abstract, at_decl, struct_ends, abstract_ends, header_as, header_ends, declared, at_declared, with_params, params_turn, field_ends, at_fields, with_field, at_field, item_made, at_made, method_made, method_ends, method_finishes, at_made_method};
+ghost use Rattle.std.specs.Prelude.{◌≡◌, IfOk, None, OnOk, Some};
+ghost use Rattle.jl_grammar.specs.Goes.{state_at};
+ghost use Rattle.jl_grammar.specs.Forms.{none};
+ghost use Rattle.jl_grammar.specs.Machine.{abstract_begins, at_abstract, at_decl, struct_ends, abstract_ends, header_as, header_ends, declared, at_declared, params_turn, field_ends, at_fields, with_field, at_field, item_made, at_made, method_made, method_ends, method_finishes, at_made_method};
 
-use jl_grammar::state::{
-    Declaring, Fielding, Form, Frame, Goal, ItemsRead, Point, State, TypeForm, VarsForm,
-};
+use jl_grammar::owned::Owned;
+use jl_grammar::state::{Declaring, Fielding, Form, Frame, Goal, Point, Reading, TypeForm};
 use jl_grammar::tree::{Field, Header, Item, Method, Name};
-use jl_model::rows::Stack;
-use jl_reader_forms::blocks::{at, evals_end, inside, placed, with_method};
-use jl_reader_forms::forms::{no_vars, none, vars_form, with};
+use jl_reader_forms::blocks::{evals_end, inside, placed, with_method};
+use jl_reader_forms::forms::{add, no_vars, none, vars_form};
 use jl_reader_forms::made::{abstracted, header, method_item, structured, with_item};
-use jl_reader_operands::follows::type_start;
+use jl_reader_operands::follows::want_type;
 use jl_token::token::Operator;
 use jl_typeread::entries::header_start;
 use jl_typeread::sign::{Sign, Word};
-use jl_typeread::state::Turn;
+use jl_typeread::state::{State as TypeState, Turn};
 use jl_typeread::tree::TypeText;
 use std::alloc::{AllocError, Global};
+use std::mem;
 
 /// The word behind `abstract`.
-fn abstract_begins(
-    is_type: bool,
-    place: u32,
-    stack: Stack<Frame>,
-    script: ItemsRead,
-) -> Option<State>
-    ensures { result ≡ abstract_begins is_type place stack script }
+fn abstract_begins(is_type: bool, place: u32, reading: &mut Reading) -> Option<Point>
+    ensures { state_at result reading.new ≡ abstract_begins is_type place reading.old.stack reading.old.script }
 {
     if is_type {
-        return at(Point::DeclName(place, false), stack, script);
+        return Some(Point::DeclName(place, false));
     }
     None
 }
 
 /// A token behind `abstract`.
-pub fn at_abstract(sign: &Sign, place: u32, stack: Stack<Frame>, script: ItemsRead) -> Option<State>
-    ensures { result ≡ at_abstract sign.now place stack script }
+pub fn at_abstract(sign: &Sign, place: u32, reading: &mut Reading) -> Option<Point>
+    ensures { state_at result reading.new ≡ at_abstract sign.now place reading.old.stack reading.old.script }
 {
     match sign {
         Sign::Name(name) => {
             let is_type = name.as_slice() == b"type".as_slice();
-            abstract_begins(is_type, place, stack, script)
+            abstract_begins(is_type, place, reading)
         }
         _ => None,
     }
@@ -49,14 +45,14 @@ pub fn at_abstract(sign: &Sign, place: u32, stack: Stack<Frame>, script: ItemsRe
 
 /// A token where the name of a declaration must stand.
 pub fn at_decl(
+    alloc: Global,
     sign: &Sign,
     next: u32,
     place: u32,
     is_struct: bool,
-    stack: Stack<Frame>,
-    script: ItemsRead,
-) -> Result<Option<State>, AllocError>
-    ensures { IfOk result (λ s. s ≡ at_decl sign.now next place is_struct stack script) }
+    reading: &mut Reading,
+) -> Result<Option<Point>, AllocError>
+    ensures { IfOk result (λ p. state_at p reading.new ≡ at_decl sign.now next place is_struct reading.old.stack reading.old.script) }
 {
     match sign {
         Sign::Name(name) => {
@@ -66,10 +62,21 @@ pub fn at_decl(
                 name: placed(next, name.copy()?),
                 params: no_vars(),
             };
-            Ok(at(Point::Declared(declaring), stack, script))
+            Ok(Some(Point::Declared(Owned::new(alloc, declaring)?)))
         }
         _ => Ok(None),
     }
+}
+
+/// The fields of a struct begin.
+fn fields_begin(alloc: Global, header: Form<Header>) -> Result<Option<Point>, AllocError>
+    ensures { IfOk result (λ p. p ≡ Some (Point.Fields (record { header = header; fields = none }))) }
+{
+    let fielding = Fielding {
+        header,
+        fields: none(alloc),
+    };
+    Ok(Some(Point::Fields(Owned::new(alloc, fielding)?)))
 }
 
 /// A token behind the head of a struct.
@@ -77,25 +84,18 @@ fn struct_ends(
     alloc: Global,
     sign: &Sign,
     header: Form<Header>,
-    stack: Stack<Frame>,
-    script: ItemsRead,
-) -> Result<Option<State>, AllocError>
-    ensures { IfOk result (λ s. s ≡ struct_ends sign.now header stack script) }
+    reading: &mut Reading,
+) -> Result<Option<Point>, AllocError>
+    ensures { IfOk result (λ p. state_at p reading.new ≡ struct_ends sign.now header reading.old.stack reading.old.script) }
 {
-    let fields = none(alloc);
     match sign {
-        Sign::Newline => Ok(at(Point::Fields(Fielding { header, fields }), stack, script)),
-        Sign::Operator(Operator::Semicolon) => {
-            Ok(at(Point::Fields(Fielding { header, fields }), stack, script))
-        }
+        Sign::Newline => fields_begin(alloc, header),
+        Sign::Operator(Operator::Semicolon) => fields_begin(alloc, header),
         Sign::Word(Word::End) => {
-            let item = structured(alloc, header, fields)?;
-            Ok(at(Point::Made(item), stack, script))
+            let item = structured(alloc, header, none(alloc))?;
+            Ok(Some(Point::Made(item)))
         }
-        _ => {
-            drop(header);
-            Ok(None)
-        }
+        _ => Ok(None),
     }
 }
 
@@ -104,20 +104,16 @@ fn abstract_ends(
     alloc: Global,
     sign: &Sign,
     header: Form<Header>,
-    stack: Stack<Frame>,
-    script: ItemsRead,
-) -> Result<Option<State>, AllocError>
-    ensures { IfOk result (λ s. s ≡ abstract_ends sign.now header stack script) }
+    reading: &mut Reading,
+) -> Result<Option<Point>, AllocError>
+    ensures { IfOk result (λ p. state_at p reading.new ≡ abstract_ends sign.now header reading.old.stack reading.old.script) }
 {
     match sign {
         Sign::Word(Word::End) => {
             let item = abstracted(alloc, header)?;
-            Ok(at(Point::Made(item), stack, script))
+            Ok(Some(Point::Made(item)))
         }
-        _ => {
-            drop(header);
-            Ok(None)
-        }
+        _ => Ok(None),
     }
 }
 
@@ -127,57 +123,51 @@ fn header_as(
     is_struct: bool,
     sign: &Sign,
     header: Form<Header>,
-    stack: Stack<Frame>,
-    script: ItemsRead,
-) -> Result<Option<State>, AllocError>
-    ensures { IfOk result (λ s. s ≡ header_as is_struct sign.now header stack script) }
+    reading: &mut Reading,
+) -> Result<Option<Point>, AllocError>
+    ensures { IfOk result (λ p. state_at p reading.new ≡ header_as is_struct sign.now header reading.old.stack reading.old.script) }
 {
     if is_struct {
-        return struct_ends(alloc, sign, header, stack, script);
+        return struct_ends(alloc, sign, header, reading);
     }
-    abstract_ends(alloc, sign, header, stack, script)
+    abstract_ends(alloc, sign, header, reading)
 }
 
 /// A token behind the name, the parameters and the supertype.
 pub(crate) fn header_ends(
     alloc: Global,
     sign: &Sign,
-    declaring: Declaring,
+    declaring: Owned<Declaring>,
     parent: Option<TypeForm>,
-    stack: Stack<Frame>,
-    script: ItemsRead,
-) -> Result<Option<State>, AllocError>
-    ensures { IfOk result (λ s. s ≡ header_ends sign.now declaring parent stack script) }
+    reading: &mut Reading,
+) -> Result<Option<Point>, AllocError>
+    ensures { IfOk result (λ p. state_at p reading.new ≡ header_ends sign.now declaring parent reading.old.stack reading.old.script) }
 {
     let Declaring {
         at,
         is_struct,
         name,
         params,
-    } = declaring;
+    } = declaring.take();
     let header = header(alloc, at, name, params, parent)?;
-    header_as(alloc, is_struct, sign, header, stack, script)
+    header_as(alloc, is_struct, sign, header, reading)
 }
 
 /// A token behind the name and the parameters.
 fn declared(
     alloc: Global,
     sign: &Sign,
-    declaring: Declaring,
-    stack: Stack<Frame>,
-    script: ItemsRead,
-) -> Result<Option<State>, AllocError>
-    ensures { IfOk result (λ s. s ≡ declared sign.now declaring stack script) }
+    declaring: Owned<Declaring>,
+    reading: &mut Reading,
+) -> Result<Option<Point>, AllocError>
+    ensures { IfOk result (λ p. state_at p reading.new ≡ declared sign.now declaring reading.old.stack reading.old.script) }
 {
     match sign {
         Sign::Operator(operator) => match operator {
-            Operator::Subtype => {
-                let point = Point::Type(Goal::Parent(declaring), type_start(alloc));
-                Ok(at(point, stack, script))
-            }
-            _ => header_ends(alloc, sign, declaring, None, stack, script),
+            Operator::Subtype => { Ok(Some(want_type(alloc, Goal::Parent(declaring))?)) }
+            _ => header_ends(alloc, sign, declaring, None, reading),
         },
-        _ => header_ends(alloc, sign, declaring, None, stack, script),
+        _ => header_ends(alloc, sign, declaring, None, reading),
     }
 }
 
@@ -185,33 +175,20 @@ fn declared(
 pub fn at_declared(
     alloc: Global,
     sign: &Sign,
-    declaring: Declaring,
-    stack: Stack<Frame>,
-    script: ItemsRead,
-) -> Result<Option<State>, AllocError>
-    ensures { IfOk result (λ s. s ≡ at_declared sign.now declaring stack script) }
+    declaring: Owned<Declaring>,
+    reading: &mut Reading,
+) -> Result<Option<Point>, AllocError>
+    ensures { IfOk result (λ p. state_at p reading.new ≡ at_declared sign.now declaring reading.old.stack reading.old.script) }
 {
     match sign {
         Sign::Operator(operator) => match operator {
             Operator::OpenBrace => {
-                let state = header_start(alloc)?;
-                Ok(at(Point::Params(declaring, state), stack, script))
+                let state = Owned::new(alloc, header_start(alloc)?)?;
+                Ok(Some(Point::Params(declaring, state)))
             }
-            _ => declared(alloc, sign, declaring, stack, script),
+            _ => declared(alloc, sign, declaring, reading),
         },
-        _ => declared(alloc, sign, declaring, stack, script),
-    }
-}
-
-/// A declaration with these parameters.
-fn with_params(declaring: Declaring, params: VarsForm) -> Declaring
-    ensures { result ≡ with_params declaring params }
-{
-    Declaring {
-        at: declaring.at,
-        is_struct: declaring.is_struct,
-        name: declaring.name,
-        params,
+        _ => declared(alloc, sign, declaring, reading),
     }
 }
 
@@ -220,17 +197,22 @@ pub fn params_turn(
     alloc: Global,
     turn: Turn,
     sign: &Sign,
-    declaring: Declaring,
-    stack: Stack<Frame>,
-    script: ItemsRead,
-) -> Result<Option<State>, AllocError>
-    ensures { IfOk result (λ s. s ≡ params_turn turn sign.now declaring stack script) }
+    declaring: Owned<Declaring>,
+    state: Owned<TypeState>,
+    reading: &mut Reading,
+) -> Result<Option<Point>, AllocError>
+    ensures { IfOk result (λ p. state_at p reading.new ≡ params_turn turn sign.now declaring reading.old.stack reading.old.script) }
 {
     match turn {
-        Turn::Goes(state) => Ok(at(Point::Params(declaring, state), stack, script)),
+        Turn::Goes(next) => {
+            let mut state = state;
+            drop(mem::replace(state.get_mut(), next));
+            Ok(Some(Point::Params(declaring, state)))
+        }
         Turn::Variables(variables) => {
-            let params = vars_form(alloc, variables)?;
-            declared(alloc, sign, with_params(declaring, params), stack, script)
+            let mut declaring = declaring;
+            declaring.get_mut().params = vars_form(alloc, variables)?;
+            declared(alloc, sign, declaring, reading)
         }
         turn => {
             drop(turn);
@@ -243,24 +225,20 @@ pub fn params_turn(
 pub(crate) fn field_ends(
     alloc: Global,
     sign: &Sign,
-    fielding: Fielding,
-    stack: Stack<Frame>,
-    script: ItemsRead,
-) -> Result<Option<State>, AllocError>
-    ensures { IfOk result (λ s. s ≡ field_ends sign.now fielding stack script) }
+    fielding: Owned<Fielding>,
+    reading: &mut Reading,
+) -> Result<Option<Point>, AllocError>
+    ensures { IfOk result (λ p. state_at p reading.new ≡ field_ends sign.now fielding reading.old.stack reading.old.script) }
 {
     match sign {
-        Sign::Newline => Ok(at(Point::Fields(fielding), stack, script)),
-        Sign::Operator(Operator::Semicolon) => Ok(at(Point::Fields(fielding), stack, script)),
+        Sign::Newline => Ok(Some(Point::Fields(fielding))),
+        Sign::Operator(Operator::Semicolon) => Ok(Some(Point::Fields(fielding))),
         Sign::Word(Word::End) => {
-            let Fielding { header, fields } = fielding;
+            let Fielding { header, fields } = fielding.take();
             let item = structured(alloc, header, fields)?;
-            Ok(at(Point::Made(item), stack, script))
+            Ok(Some(Point::Made(item)))
         }
-        _ => {
-            drop(fielding);
-            Ok(None)
-        }
+        _ => Ok(None),
     }
 }
 
@@ -269,94 +247,73 @@ pub fn at_fields(
     alloc: Global,
     sign: &Sign,
     place: u32,
-    fielding: Fielding,
-    stack: Stack<Frame>,
-    script: ItemsRead,
-) -> Result<Option<State>, AllocError>
-    ensures { IfOk result (λ s. s ≡ at_fields sign.now place fielding stack script) }
+    fielding: Owned<Fielding>,
+    reading: &mut Reading,
+) -> Result<Option<Point>, AllocError>
+    ensures { IfOk result (λ p. state_at p reading.new ≡ at_fields sign.now place fielding reading.old.stack reading.old.script) }
 {
     match sign {
         Sign::Name(name) => {
-            match name.copy() {
-                Ok(name) => Ok(at(Point::Field(fielding, placed(place, name)), stack, script)),
-                Err(error) => {
-                    drop(fielding);
-                    Err(error)
-                }
-            }
+            let name = name.copy()?;
+            Ok(Some(Point::Field(fielding, placed(place, name))))
         }
-        _ => field_ends(alloc, sign, fielding, stack, script),
+        _ => field_ends(alloc, sign, fielding, reading),
     }
 }
 
-/// A struct with one field more, of this depth.
-pub(crate) fn with_field(
-    fielding: Fielding,
+/// One more field of a struct, of this depth.
+pub(crate) fn add_field(
+    fielding: &mut Fielding,
     name: Name,
     ty: Option<TypeText>,
     depth: u32,
-) -> Result<Fielding, AllocError>
-    ensures { IfOk result (λ f. f ≡ with_field fielding name ty depth) }
+) -> Result<(), AllocError>
+    ensures { OnOk result (fielding.new ≡ with_field fielding.old name ty depth) }
 {
-    let Fielding { header, fields } = fielding;
-    match with(fields, Field { name, ty }, depth) {
-        Ok(fields) => Ok(Fielding { header, fields }),
-        Err(error) => {
-            drop(header);
-            Err(error)
-        }
-    }
+    add(&mut fielding.fields, Field { name, ty }, depth)
 }
 
 /// A token behind a field that is a name alone.
 fn name_ends(
     alloc: Global,
     sign: &Sign,
-    fielding: Fielding,
+    fielding: Owned<Fielding>,
     name: Name,
-    stack: Stack<Frame>,
-    script: ItemsRead,
-) -> Result<Option<State>, AllocError>
-    ensures { IfOk result (λ s. s ≡ field_ends sign.now (with_field fielding name None 0) stack script) }
+    reading: &mut Reading,
+) -> Result<Option<Point>, AllocError>
+    ensures { IfOk result (λ p. state_at p reading.new ≡ field_ends sign.now (with_field fielding name None 0) reading.old.stack reading.old.script) }
 {
-    let fielding = with_field(fielding, name, None, 0)?;
-    field_ends(alloc, sign, fielding, stack, script)
+    let mut fielding = fielding;
+    add_field(fielding.get_mut(), name, None, 0)?;
+    field_ends(alloc, sign, fielding, reading)
 }
 
 /// A token behind the name of a field.
 pub fn at_field(
     alloc: Global,
     sign: &Sign,
-    fielding: Fielding,
+    fielding: Owned<Fielding>,
     name: Name,
-    stack: Stack<Frame>,
-    script: ItemsRead,
-) -> Result<Option<State>, AllocError>
-    ensures { IfOk result (λ s. s ≡ at_field sign.now fielding name stack script) }
+    reading: &mut Reading,
+) -> Result<Option<Point>, AllocError>
+    ensures { IfOk result (λ p. state_at p reading.new ≡ at_field sign.now fielding name reading.old.stack reading.old.script) }
 {
     match sign {
         Sign::Operator(operator) => match operator {
-            Operator::HasType => {
-                let point = Point::Type(Goal::Field(fielding, name), type_start(alloc));
-                Ok(at(point, stack, script))
-            }
-            _ => name_ends(alloc, sign, fielding, name, stack, script),
+            Operator::HasType => { Ok(Some(want_type(alloc, Goal::Field(fielding, name))?)) }
+            _ => name_ends(alloc, sign, fielding, name, reading),
         },
-        _ => name_ends(alloc, sign, fielding, name, stack, script),
+        _ => name_ends(alloc, sign, fielding, name, reading),
     }
 }
 
 /// A separator, or the source's end, behind an item.
-fn item_made(
-    item: Form<Item>,
-    stack: Stack<Frame>,
-    script: ItemsRead,
-) -> Result<Option<State>, AllocError>
-    ensures { IfOk result (λ s. s ≡ item_made item stack script) }
+fn item_made(item: Form<Item>, reading: &mut Reading) -> Result<Option<Point>, AllocError>
+    ensures { IfOk result (λ p. state_at p reading.new ≡ item_made item reading.old.stack reading.old.script) }
 {
-    if stack.is_empty() {
-        let script = with_item(script, item)?;
-        return Ok(at(Point::Entry, stack, script));
+    if reading.stack.is_empty() {
+        with_item(&mut reading.script, item)?;
+        return Ok(Some(Point::Entry));
     }
     drop(item);
     Ok(None)
@@ -366,19 +323,15 @@ fn item_made(
 pub fn at_made(
     sign: &Sign,
     item: Form<Item>,
-    stack: Stack<Frame>,
-    script: ItemsRead,
-) -> Result<Option<State>, AllocError>
-    ensures { IfOk result (λ s. s ≡ at_made sign.now item stack script) }
+    reading: &mut Reading,
+) -> Result<Option<Point>, AllocError>
+    ensures { IfOk result (λ p. state_at p reading.new ≡ at_made sign.now item reading.old.stack reading.old.script) }
 {
     match sign {
-        Sign::Newline => item_made(item, stack, script),
-        Sign::Operator(Operator::Semicolon) => item_made(item, stack, script),
-        Sign::End => item_made(item, stack, script),
-        _ => {
-            drop(item);
-            Ok(None)
-        }
+        Sign::Newline => item_made(item, reading),
+        Sign::Operator(Operator::Semicolon) => item_made(item, reading),
+        Sign::End => item_made(item, reading),
+        _ => Ok(None),
     }
 }
 
@@ -386,24 +339,20 @@ pub fn at_made(
 fn method_made(
     alloc: Global,
     method: Form<Method>,
-    mut stack: Stack<Frame>,
-    script: ItemsRead,
-) -> Result<Option<State>, AllocError>
-    ensures { IfOk result (λ s. s ≡ method_made method stack script) }
+    reading: &mut Reading,
+) -> Result<Option<Point>, AllocError>
+    ensures { IfOk result (λ p. state_at p reading.new ≡ method_made method reading.old.stack reading.old.script) }
 {
-    match stack.pop() {
+    match reading.stack.pop() {
         None => {
             let item = method_item(alloc, method)?;
-            let script = with_item(script, item)?;
-            Ok(at(Point::Entry, stack, script))
+            with_item(&mut reading.script, item)?;
+            Ok(Some(Point::Entry))
         }
-        Some(Frame::Evals(kind, evals)) => match with_method(evals, method) {
-            Ok(evals) => inside(Point::Entry, Frame::Evals(kind, evals), stack, script),
-            Err(error) => {
-                drop(kind);
-                Err(error)
-            }
-        },
+        Some(Frame::Evals(kind, evals)) => {
+            let evals = with_method(evals, method)?;
+            inside(Point::Entry, Frame::Evals(kind, evals), reading)
+        }
         Some(frame) => {
             drop(frame);
             drop(method);
@@ -416,19 +365,15 @@ fn method_made(
 fn method_ends(
     alloc: Global,
     method: Form<Method>,
-    mut stack: Stack<Frame>,
-    script: ItemsRead,
-) -> Result<Option<State>, AllocError>
-    ensures { IfOk result (λ s. s ≡ method_ends method stack script) }
+    reading: &mut Reading,
+) -> Result<Option<Point>, AllocError>
+    ensures { IfOk result (λ p. state_at p reading.new ≡ method_ends method reading.old.stack reading.old.script) }
 {
-    match stack.pop() {
-        Some(Frame::Evals(kind, evals)) => match with_method(evals, method) {
-            Ok(evals) => evals_end(alloc, kind, evals, stack, script),
-            Err(error) => {
-                drop(kind);
-                Err(error)
-            }
-        },
+    match reading.stack.pop() {
+        Some(Frame::Evals(kind, evals)) => {
+            let evals = with_method(evals, method)?;
+            evals_end(alloc, kind, evals, reading)
+        }
         Some(frame) => {
             drop(frame);
             drop(method);
@@ -445,15 +390,14 @@ fn method_ends(
 fn method_finishes(
     alloc: Global,
     method: Form<Method>,
-    stack: Stack<Frame>,
-    script: ItemsRead,
-) -> Result<Option<State>, AllocError>
-    ensures { IfOk result (λ s. s ≡ method_finishes method stack script) }
+    reading: &mut Reading,
+) -> Result<Option<Point>, AllocError>
+    ensures { IfOk result (λ p. state_at p reading.new ≡ method_finishes method reading.old.stack reading.old.script) }
 {
-    if stack.is_empty() {
+    if reading.stack.is_empty() {
         let item = method_item(alloc, method)?;
-        let script = with_item(script, item)?;
-        return Ok(at(Point::Entry, stack, script));
+        with_item(&mut reading.script, item)?;
+        return Ok(Some(Point::Entry));
     }
     drop(method);
     Ok(None)
@@ -464,19 +408,15 @@ pub fn at_made_method(
     alloc: Global,
     sign: &Sign,
     method: Form<Method>,
-    stack: Stack<Frame>,
-    script: ItemsRead,
-) -> Result<Option<State>, AllocError>
-    ensures { IfOk result (λ s. s ≡ at_made_method sign.now method stack script) }
+    reading: &mut Reading,
+) -> Result<Option<Point>, AllocError>
+    ensures { IfOk result (λ p. state_at p reading.new ≡ at_made_method sign.now method reading.old.stack reading.old.script) }
 {
     match sign {
-        Sign::Newline => method_made(alloc, method, stack, script),
-        Sign::Operator(Operator::Semicolon) => method_made(alloc, method, stack, script),
-        Sign::Word(Word::End) => method_ends(alloc, method, stack, script),
-        Sign::End => method_finishes(alloc, method, stack, script),
-        _ => {
-            drop(method);
-            Ok(None)
-        }
+        Sign::Newline => method_made(alloc, method, reading),
+        Sign::Operator(Operator::Semicolon) => method_made(alloc, method, reading),
+        Sign::Word(Word::End) => method_ends(alloc, method, reading),
+        Sign::End => method_finishes(alloc, method, reading),
+        _ => Ok(None),
     }
 }

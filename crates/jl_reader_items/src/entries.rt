@@ -1,6 +1,7 @@
 //! Entries of a script, of a block and of an evaluated block: how they begin, bindings, and `return`.
 
 ghost use Rattle.std.specs.Prelude.{◌≡◌, ◌∷◌, IfOk, false};
+ghost use Rattle.jl_grammar.specs.Goes.{state_at};
 ghost use Rattle.jl_grammar.specs.declared.state.Frame.TheVariants.{Block};
 ghost use Rattle.jl_grammar.specs.declared.state.Place.TheVariants.{Entry};
 ghost use Rattle.jl_grammar.specs.declared.state.Point.TheVariants.{Named};
@@ -13,13 +14,12 @@ ghost use Rattle.jl_grammar.specs.Machine.{item_begins, stmt_begins, eval_begins
 use jl_grammar::mark::{Ahead, Marks, Opening};
 use jl_grammar::owned::Owned;
 use jl_grammar::state::{
-    BlockKind, EvalKind, Forms, Frame, ItemsRead, Lead, Place, Point, Purpose, Start, State,
+    BlockKind, EvalKind, Forms, Frame, Lead, Place, Point, Purpose, Reading, Start,
 };
 use jl_grammar::tree::{Eval, Name, Stmt};
-use jl_model::rows::Stack;
 use jl_model::ty::Bytes;
 use jl_reader_forms::blocks::{
-    at, block_else, block_elseif, block_ends, block_word, evals_end, inside, placed, returns_in,
+    block_else, block_elseif, block_ends, block_word, evals_end, inside, placed, returns_in,
     returns_of,
 };
 use jl_reader_forms::forms::with;
@@ -51,20 +51,20 @@ fn is_binding(opening: Opening) -> bool
 
 /// The name of a method that an entry begins with.
 fn head_begins(
+    alloc: Global,
     name: Bytes,
     place: u32,
-    stack: Stack<Frame>,
-    script: ItemsRead,
-) -> Result<Option<State>, AllocError>
-    ensures { IfOk result (λ s. s ≡ at (Named (Head (record { place = Entry; long = false; at = place })) (placed place name)) stack script) }
+    reading: &mut Reading,
+) -> Result<Option<Point>, AllocError>
+    ensures { IfOk result (λ p. state_at p reading.new ≡ at (Named (Head (record { place = Entry; long = false; at = place })) (placed place name)) reading.old.stack reading.old.script) }
 {
     let start = Start {
         place: Place::Entry,
         long: false,
         at: place,
     };
-    let point = Point::Named(Purpose::Head(start), placed(place, name));
-    Ok(at(point, stack, script))
+    let purpose = Purpose::Head(Owned::new(alloc, start)?);
+    Ok(Some(Point::Named(purpose, placed(place, name))))
 }
 
 /// The name that an item begins with.
@@ -75,19 +75,18 @@ fn item_begins(
     marks: Marks,
     name: Bytes,
     place: u32,
-    stack: Stack<Frame>,
-    script: ItemsRead,
-) -> Result<Option<State>, AllocError>
-    ensures { IfOk result (λ s. s ≡ item_begins is_method is_binding marks name place stack script) }
+    reading: &mut Reading,
+) -> Result<Option<Point>, AllocError>
+    ensures { IfOk result (λ p. state_at p reading.new ≡ item_begins is_method is_binding marks name place reading.old.stack reading.old.script) }
 {
     if is_method {
-        return head_begins(name, place, stack, script);
+        return head_begins(alloc, name, place, reading);
     }
     if is_binding {
-        return Ok(at(Point::Bound(placed(place, name)), stack, script));
+        return Ok(Some(Point::Bound(placed(place, name))));
     }
-    let pending = fresh(alloc, false);
-    names(alloc, marks, name, place, pending, stack, script)
+    let pending = fresh(alloc, false)?;
+    names(alloc, marks, name, place, pending, reading)
 }
 
 /// The name that a statement begins with.
@@ -98,16 +97,15 @@ fn stmt_begins(
     marks: Marks,
     name: Bytes,
     place: u32,
-    stack: Stack<Frame>,
-    script: ItemsRead,
-) -> Result<Option<State>, AllocError>
-    ensures { IfOk result (λ s. s ≡ stmt_begins is_binding returns marks name place stack script) }
+    reading: &mut Reading,
+) -> Result<Option<Point>, AllocError>
+    ensures { IfOk result (λ p. state_at p reading.new ≡ stmt_begins is_binding returns marks name place reading.old.stack reading.old.script) }
 {
     if is_binding {
-        return Ok(at(Point::Bound(placed(place, name)), stack, script));
+        return Ok(Some(Point::Bound(placed(place, name))));
     }
-    let pending = fresh(alloc, returns);
-    names(alloc, marks, name, place, pending, stack, script)
+    let pending = fresh(alloc, returns)?;
+    names(alloc, marks, name, place, pending, reading)
 }
 
 /// The name that an evaluated statement begins with.
@@ -117,16 +115,15 @@ fn eval_begins(
     marks: Marks,
     name: Bytes,
     place: u32,
-    stack: Stack<Frame>,
-    script: ItemsRead,
-) -> Result<Option<State>, AllocError>
-    ensures { IfOk result (λ s. s ≡ eval_begins is_method marks name place stack script) }
+    reading: &mut Reading,
+) -> Result<Option<Point>, AllocError>
+    ensures { IfOk result (λ p. state_at p reading.new ≡ eval_begins is_method marks name place reading.old.stack reading.old.script) }
 {
     if is_method {
-        return head_begins(name, place, stack, script);
+        return head_begins(alloc, name, place, reading);
     }
-    let pending = fresh(alloc, false);
-    names(alloc, marks, name, place, pending, stack, script)
+    let pending = fresh(alloc, false)?;
+    names(alloc, marks, name, place, pending, reading)
 }
 
 /// The name that an entry begins with.
@@ -135,50 +132,39 @@ fn entry_name(
     marks: Marks,
     name: Bytes,
     place: u32,
-    mut stack: Stack<Frame>,
-    script: ItemsRead,
-) -> Result<Option<State>, AllocError>
-    ensures { IfOk result (λ s. s ≡ entry_name marks name place stack script) }
+    reading: &mut Reading,
+) -> Result<Option<Point>, AllocError>
+    ensures { IfOk result (λ p. state_at p reading.new ≡ entry_name marks name place reading.old.stack reading.old.script) }
 {
     let is_method = is_method(marks.ahead);
     let is_binding = is_binding(marks.opening);
-    match stack.pop() {
-        None => item_begins(
-            alloc, is_method, is_binding, marks, name, place, stack, script,
-        ),
-        Some(Frame::Block(kind, statements)) => {
+    match reading.stack.top() {
+        None => item_begins(alloc, is_method, is_binding, marks, name, place, reading),
+        Some(Frame::Block(kind, _)) => {
             let returns = returns_of(kind.get());
-            stack.push(Frame::Block(kind, statements))?;
-            stmt_begins(
-                alloc, is_binding, returns, marks, name, place, stack, script,
-            )
+            stmt_begins(alloc, is_binding, returns, marks, name, place, reading)
         }
-        Some(Frame::Evals(kind, evals)) => {
-            stack.push(Frame::Evals(kind, evals))?;
-            eval_begins(alloc, is_method, marks, name, place, stack, script)
-        }
-        Some(frame) => {
-            drop(frame);
-            Ok(None)
-        }
+        Some(Frame::Evals(..)) => eval_begins(alloc, is_method, marks, name, place, reading),
+        Some(_) => Ok(None),
     }
 }
 
 /// `function`
 pub(crate) fn long_begins(
+    alloc: Global,
     method: Place,
     place: u32,
-    stack: Stack<Frame>,
-    script: ItemsRead,
-) -> Result<Option<State>, AllocError>
-    ensures { IfOk result (λ s. s ≡ long_begins method place stack script) }
+    reading: &mut Reading,
+) -> Result<Option<Point>, AllocError>
+    ensures { IfOk result (λ p. state_at p reading.new ≡ long_begins method place reading.old.stack reading.old.script) }
 {
     let start = Start {
         place: method,
         long: true,
         at: place,
     };
-    Ok(at(Point::Function(Purpose::Head(start)), stack, script))
+    let purpose = Purpose::Head(Owned::new(alloc, start)?);
+    Ok(Some(Point::Function(purpose)))
 }
 
 /// The reserved word that an item begins with.
@@ -186,30 +172,24 @@ fn item_word(
     alloc: Global,
     word: Word,
     place: u32,
-    stack: Stack<Frame>,
-    script: ItemsRead,
-) -> Result<Option<State>, AllocError>
-    ensures { IfOk result (λ s. s ≡ item_word word place stack script) }
+    reading: &mut Reading,
+) -> Result<Option<Point>, AllocError>
+    ensures { IfOk result (λ p. state_at p reading.new ≡ item_word word place reading.old.stack reading.old.script) }
 {
     match word {
-        Word::Abstract => Ok(at(Point::AbstractWord(place), stack, script)),
-        Word::Struct => Ok(at(Point::DeclName(place, true), stack, script)),
-        Word::Function => long_begins(Place::Entry, place, stack, script),
-        word => begins_word(alloc, word, place, fresh(alloc, false), stack, script),
+        Word::Abstract => Ok(Some(Point::AbstractWord(place))),
+        Word::Struct => Ok(Some(Point::DeclName(place, true))),
+        Word::Function => long_begins(alloc, Place::Entry, place, reading),
+        word => begins_word(alloc, word, place, fresh(alloc, false)?, reading),
     }
 }
 
 /// `return`
-fn returns(
-    allowed: bool,
-    place: u32,
-    stack: Stack<Frame>,
-    script: ItemsRead,
-) -> Result<Option<State>, AllocError>
-    ensures { IfOk result (λ s. s ≡ returns allowed place stack script) }
+fn returns(allowed: bool, place: u32, reading: &mut Reading) -> Result<Option<Point>, AllocError>
+    ensures { IfOk result (λ p. state_at p reading.new ≡ returns allowed place reading.old.stack reading.old.script) }
 {
     if allowed {
-        return Ok(at(Point::Returned(place), stack, script));
+        return Ok(Some(Point::Returned(place)));
     }
     Ok(None)
 }
@@ -221,14 +201,13 @@ fn stmt_begins_word(
     place: u32,
     kind: Owned<BlockKind>,
     statements: Forms<Stmt>,
-    mut stack: Stack<Frame>,
-    script: ItemsRead,
-) -> Result<Option<State>, AllocError>
-    ensures { IfOk result (λ s. s ≡ begins_word word place (fresh (returns_of kind)) (Block kind statements ∷ stack) script) }
+    reading: &mut Reading,
+) -> Result<Option<Point>, AllocError>
+    ensures { IfOk result (λ p. state_at p reading.new ≡ begins_word word place (fresh (returns_of kind)) (Block kind statements ∷ reading.old.stack) reading.old.script) }
 {
     let returns = returns_of(kind.get());
-    stack.push(Frame::Block(kind, statements))?;
-    begins_word(alloc, word, place, fresh(alloc, returns), stack, script)
+    reading.stack.push(Frame::Block(kind, statements))?;
+    begins_word(alloc, word, place, fresh(alloc, returns)?, reading)
 }
 
 /// The reserved word at a statement.
@@ -238,21 +217,20 @@ fn stmt_word(
     place: u32,
     kind: Owned<BlockKind>,
     statements: Forms<Stmt>,
-    mut stack: Stack<Frame>,
-    script: ItemsRead,
-) -> Result<Option<State>, AllocError>
-    ensures { IfOk result (λ s. s ≡ stmt_word word place kind statements stack script) }
+    reading: &mut Reading,
+) -> Result<Option<Point>, AllocError>
+    ensures { IfOk result (λ p. state_at p reading.new ≡ stmt_word word place kind statements reading.old.stack reading.old.script) }
 {
     match word {
-        Word::End => block_ends(alloc, kind.take(), statements, stack, script),
-        Word::Elseif => block_elseif(alloc, place, kind.take(), statements, stack, script),
-        Word::Else => block_else(alloc, kind.take(), statements, stack, script),
+        Word::End => block_ends(alloc, kind.take(), statements, reading),
+        Word::Elseif => block_elseif(alloc, place, kind.take(), statements, reading),
+        Word::Else => block_else(alloc, kind.take(), statements, reading),
         Word::Return => {
             let allowed = returns_of(kind.get());
-            stack.push(Frame::Block(kind, statements))?;
-            returns(allowed, place, stack, script)
+            reading.stack.push(Frame::Block(kind, statements))?;
+            returns(allowed, place, reading)
         }
-        word => stmt_begins_word(alloc, word, place, kind, statements, stack, script),
+        word => stmt_begins_word(alloc, word, place, kind, statements, reading),
     }
 }
 
@@ -263,20 +241,19 @@ fn eval_word(
     place: u32,
     kind: EvalKind,
     evals: Forms<Eval>,
-    mut stack: Stack<Frame>,
-    script: ItemsRead,
-) -> Result<Option<State>, AllocError>
-    ensures { IfOk result (λ s. s ≡ eval_word word place kind evals stack script) }
+    reading: &mut Reading,
+) -> Result<Option<Point>, AllocError>
+    ensures { IfOk result (λ p. state_at p reading.new ≡ eval_word word place kind evals reading.old.stack reading.old.script) }
 {
     match word {
-        Word::End => evals_end(alloc, kind, evals, stack, script),
+        Word::End => evals_end(alloc, kind, evals, reading),
         Word::Function => {
-            stack.push(Frame::Evals(kind, evals))?;
-            long_begins(Place::Entry, place, stack, script)
+            reading.stack.push(Frame::Evals(kind, evals))?;
+            long_begins(alloc, Place::Entry, place, reading)
         }
         word => {
-            stack.push(Frame::Evals(kind, evals))?;
-            begins_word(alloc, word, place, fresh(alloc, false), stack, script)
+            reading.stack.push(Frame::Evals(kind, evals))?;
+            begins_word(alloc, word, place, fresh(alloc, false)?, reading)
         }
     }
 }
@@ -286,19 +263,16 @@ fn entry_word(
     alloc: Global,
     word: Word,
     place: u32,
-    mut stack: Stack<Frame>,
-    script: ItemsRead,
-) -> Result<Option<State>, AllocError>
-    ensures { IfOk result (λ s. s ≡ entry_word word place stack script) }
+    reading: &mut Reading,
+) -> Result<Option<Point>, AllocError>
+    ensures { IfOk result (λ p. state_at p reading.new ≡ entry_word word place reading.old.stack reading.old.script) }
 {
-    match stack.pop() {
-        None => item_word(alloc, word, place, stack, script),
+    match reading.stack.pop() {
+        None => item_word(alloc, word, place, reading),
         Some(Frame::Block(kind, statements)) => {
-            stmt_word(alloc, word, place, kind, statements, stack, script)
+            stmt_word(alloc, word, place, kind, statements, reading)
         }
-        Some(Frame::Evals(kind, evals)) => {
-            eval_word(alloc, word, place, kind, evals, stack, script)
-        }
+        Some(Frame::Evals(kind, evals)) => { eval_word(alloc, word, place, kind, evals, reading) }
         Some(frame) => {
             drop(frame);
             Ok(None)
@@ -307,11 +281,11 @@ fn entry_word(
 }
 
 /// The source's end at an entry.
-fn entry_end(stack: Stack<Frame>, script: ItemsRead) -> Result<Option<State>, AllocError>
-    ensures { IfOk result (λ s. s ≡ entry_end stack script) }
+fn entry_end(reading: &mut Reading) -> Result<Option<Point>, AllocError>
+    ensures { IfOk result (λ p. state_at p reading.new ≡ entry_end reading.old.stack reading.old.script) }
 {
-    if stack.is_empty() {
-        return Ok(at(Point::Entry, stack, script));
+    if reading.stack.is_empty() {
+        return Ok(Some(Point::Entry));
     }
     Ok(None)
 }
@@ -322,16 +296,15 @@ fn entry_operator(
     operator: Operator,
     marks: Marks,
     place: u32,
-    stack: Stack<Frame>,
-    script: ItemsRead,
-) -> Result<Option<State>, AllocError>
-    ensures { IfOk result (λ s. s ≡ entry_operator operator marks place stack script) }
+    reading: &mut Reading,
+) -> Result<Option<Point>, AllocError>
+    ensures { IfOk result (λ p. state_at p reading.new ≡ entry_operator operator marks place reading.old.stack reading.old.script) }
 {
     match operator {
-        Operator::Semicolon => Ok(at(Point::Entry, stack, script)),
+        Operator::Semicolon => Ok(Some(Point::Entry)),
         operator => {
-            let pending = fresh(alloc, returns_in(&stack));
-            begins_operator(alloc, operator, marks.ahead, place, pending, stack, script)
+            let pending = fresh(alloc, returns_in(&reading.stack))?;
+            begins_operator(alloc, operator, marks.ahead, place, pending, reading)
         }
     }
 }
@@ -342,13 +315,12 @@ fn entry_begins(
     sign: &Sign,
     marks: Marks,
     place: u32,
-    stack: Stack<Frame>,
-    script: ItemsRead,
-) -> Result<Option<State>, AllocError>
-    ensures { IfOk result (λ s. s ≡ begins sign.now marks place (fresh (returns_in stack)) stack script) }
+    reading: &mut Reading,
+) -> Result<Option<Point>, AllocError>
+    ensures { IfOk result (λ p. state_at p reading.new ≡ begins sign.now marks place (fresh (returns_in reading.old.stack)) reading.old.stack reading.old.script) }
 {
-    let pending = fresh(alloc, returns_in(&stack));
-    begins(alloc, sign, marks, place, pending, stack, script)
+    let pending = fresh(alloc, returns_in(&reading.stack))?;
+    begins(alloc, sign, marks, place, pending, reading)
 }
 
 /// A token at an entry.
@@ -357,20 +329,19 @@ pub fn at_entry(
     sign: &Sign,
     marks: Marks,
     place: u32,
-    stack: Stack<Frame>,
-    script: ItemsRead,
-) -> Result<Option<State>, AllocError>
-    ensures { IfOk result (λ s. s ≡ at_entry sign.now marks place stack script) }
+    reading: &mut Reading,
+) -> Result<Option<Point>, AllocError>
+    ensures { IfOk result (λ p. state_at p reading.new ≡ at_entry sign.now marks place reading.old.stack reading.old.script) }
 {
     match sign {
-        Sign::Newline => Ok(at(Point::Entry, stack, script)),
-        Sign::Operator(operator) => entry_operator(alloc, *operator, marks, place, stack, script),
-        Sign::Word(word) => entry_word(alloc, *word, place, stack, script),
-        Sign::Name(name) => entry_name(alloc, marks, name.copy()?, place, stack, script),
-        Sign::End => entry_end(stack, script),
-        Sign::Number(_) => entry_begins(alloc, sign, marks, place, stack, script),
-        Sign::Text(_) => entry_begins(alloc, sign, marks, place, stack, script),
-        Sign::Macro(_) => entry_begins(alloc, sign, marks, place, stack, script),
+        Sign::Newline => Ok(Some(Point::Entry)),
+        Sign::Operator(operator) => entry_operator(alloc, *operator, marks, place, reading),
+        Sign::Word(word) => entry_word(alloc, *word, place, reading),
+        Sign::Name(name) => entry_name(alloc, marks, name.copy()?, place, reading),
+        Sign::End => entry_end(reading),
+        Sign::Number(_) => entry_begins(alloc, sign, marks, place, reading),
+        Sign::Text(_) => entry_begins(alloc, sign, marks, place, reading),
+        Sign::Macro(_) => entry_begins(alloc, sign, marks, place, reading),
     }
 }
 
@@ -379,32 +350,27 @@ pub fn at_bound(
     alloc: Global,
     sign: &Sign,
     name: Name,
-    stack: Stack<Frame>,
-    script: ItemsRead,
-) -> Option<State>
-    ensures { result ≡ at_bound sign.now name stack script }
+    reading: &mut Reading,
+) -> Result<Option<Point>, AllocError>
+    ensures { IfOk result (λ p. state_at p reading.new ≡ at_bound sign.now name reading.old.stack reading.old.script) }
 {
     match sign {
         Sign::Operator(Operator::Assign) => {
-            let pending = led(alloc, Lead::Bind(name), returns_in(&stack));
-            at(Point::Want(pending), stack, script)
+            let pending = led(alloc, Lead::Bind(name), returns_in(&reading.stack))?;
+            Ok(Some(Point::Want(pending)))
         }
-        _ => None,
+        _ => Ok(None),
     }
 }
 
 /// A separator behind `return`.
-fn return_separates(
-    place: u32,
-    mut stack: Stack<Frame>,
-    script: ItemsRead,
-) -> Result<Option<State>, AllocError>
-    ensures { IfOk result (λ s. s ≡ return_separates place stack script) }
+fn return_separates(place: u32, reading: &mut Reading) -> Result<Option<Point>, AllocError>
+    ensures { IfOk result (λ p. state_at p reading.new ≡ return_separates place reading.old.stack reading.old.script) }
 {
-    match stack.pop() {
+    match reading.stack.pop() {
         Some(Frame::Block(kind, statements)) => {
             let statements = with(statements, Stmt::ReturnNothing(place), 0)?;
-            inside(Point::Entry, Frame::Block(kind, statements), stack, script)
+            inside(Point::Entry, Frame::Block(kind, statements), reading)
         }
         Some(frame) => {
             drop(frame);
@@ -420,15 +386,14 @@ fn return_ends(
     word: Word,
     next: u32,
     place: u32,
-    mut stack: Stack<Frame>,
-    script: ItemsRead,
-) -> Result<Option<State>, AllocError>
-    ensures { IfOk result (λ s. s ≡ return_ends word next place stack script) }
+    reading: &mut Reading,
+) -> Result<Option<Point>, AllocError>
+    ensures { IfOk result (λ p. state_at p reading.new ≡ return_ends word next place reading.old.stack reading.old.script) }
 {
-    match stack.pop() {
+    match reading.stack.pop() {
         Some(Frame::Block(kind, statements)) => {
             let statements = with(statements, Stmt::ReturnNothing(place), 0)?;
-            block_word(alloc, word, next, kind.take(), statements, stack, script)
+            block_word(alloc, word, next, kind.take(), statements, reading)
         }
         Some(frame) => {
             drop(frame);
@@ -444,18 +409,17 @@ fn return_word(
     word: Word,
     next: u32,
     place: u32,
-    stack: Stack<Frame>,
-    script: ItemsRead,
-) -> Result<Option<State>, AllocError>
-    ensures { IfOk result (λ s. s ≡ return_word word next place stack script) }
+    reading: &mut Reading,
+) -> Result<Option<Point>, AllocError>
+    ensures { IfOk result (λ p. state_at p reading.new ≡ return_word word next place reading.old.stack reading.old.script) }
 {
     match word {
-        Word::End => return_ends(alloc, Word::End, next, place, stack, script),
-        Word::Elseif => return_ends(alloc, Word::Elseif, next, place, stack, script),
-        Word::Else => return_ends(alloc, Word::Else, next, place, stack, script),
+        Word::End => return_ends(alloc, Word::End, next, place, reading),
+        Word::Elseif => return_ends(alloc, Word::Elseif, next, place, reading),
+        Word::Else => return_ends(alloc, Word::Else, next, place, reading),
         word => {
-            let pending = led(alloc, Lead::Return(place), true);
-            begins_word(alloc, word, next, pending, stack, script)
+            let pending = led(alloc, Lead::Return(place), true)?;
+            begins_word(alloc, word, next, pending, reading)
         }
     }
 }
@@ -467,16 +431,15 @@ fn return_operator(
     marks: Marks,
     next: u32,
     place: u32,
-    stack: Stack<Frame>,
-    script: ItemsRead,
-) -> Result<Option<State>, AllocError>
-    ensures { IfOk result (λ s. s ≡ return_operator operator marks next place stack script) }
+    reading: &mut Reading,
+) -> Result<Option<Point>, AllocError>
+    ensures { IfOk result (λ p. state_at p reading.new ≡ return_operator operator marks next place reading.old.stack reading.old.script) }
 {
     match operator {
-        Operator::Semicolon => return_separates(place, stack, script),
+        Operator::Semicolon => return_separates(place, reading),
         operator => {
-            let pending = led(alloc, Lead::Return(place), true);
-            begins_operator(alloc, operator, marks.ahead, next, pending, stack, script)
+            let pending = led(alloc, Lead::Return(place), true)?;
+            begins_operator(alloc, operator, marks.ahead, next, pending, reading)
         }
     }
 }
@@ -488,20 +451,19 @@ pub fn at_returned(
     marks: Marks,
     next: u32,
     place: u32,
-    stack: Stack<Frame>,
-    script: ItemsRead,
-) -> Result<Option<State>, AllocError>
-    ensures { IfOk result (λ s. s ≡ at_returned sign.now marks next place stack script) }
+    reading: &mut Reading,
+) -> Result<Option<Point>, AllocError>
+    ensures { IfOk result (λ p. state_at p reading.new ≡ at_returned sign.now marks next place reading.old.stack reading.old.script) }
 {
     match sign {
-        Sign::Newline => return_separates(place, stack, script),
+        Sign::Newline => return_separates(place, reading),
         Sign::Operator(operator) => {
-            return_operator(alloc, *operator, marks, next, place, stack, script)
+            return_operator(alloc, *operator, marks, next, place, reading)
         }
-        Sign::Word(word) => return_word(alloc, *word, next, place, stack, script),
+        Sign::Word(word) => return_word(alloc, *word, next, place, reading),
         _ => {
-            let pending = led(alloc, Lead::Return(place), true);
-            begins(alloc, sign, marks, next, pending, stack, script)
+            let pending = led(alloc, Lead::Return(place), true)?;
+            begins(alloc, sign, marks, next, pending, reading)
         }
     }
 }

@@ -1,46 +1,47 @@
 //! Names of functions, and heads of methods.
 
-ghost use Rattle.std.specs.Prelude.{◌≡◌, ◌∷◌, IfOk, true};
+ghost use Rattle.std.specs.Prelude.{◌≡◌, ◌∷◌, IfOk, OnOk, true};
+ghost use Rattle.jl_grammar.specs.Goes.{state_at};
 ghost use Rattle.jl_grammar.specs.Forms.{none};
-ghost use Rattle.jl_grammar.specs.Turns.{at};
+ghost use Rattle.jl_grammar.specs.Turns.{at, placed};
 ghost use Rattle.jl_grammar.specs.Levels.{into};
-ghost use Rattle.jl_grammar.specs.Machine.{at_function, known_opens, known_comma, known_closes, at_known, dots, at_named, at_dotted, knows, at_colon, with_param, next_param, first_param, param_ends, at_param, defines, short_headed, headed_as, headed, where_start, at_headed, where_turn};
+ghost use Rattle.jl_grammar.specs.Machine.{at_function, known_opens, known_comma, known_closes, at_known, dots, at_named, at_dotted, knows, at_colon, with_param, next_param, first_param, param_ends, at_param, defines, short_headed, headed_as, headed, at_headed, where_turn};
 
 use crate::entries::at_entry;
 use jl_grammar::mark::Marks;
 use jl_grammar::owned::Owned;
 use jl_grammar::state::{
-    BlockKind, Called, Form, Frame, Goal, Heading, ItemsRead, Lead, Outer, Pending, Place, Point,
-    Purpose, Start, State, VarsForm,
+    BlockKind, Called, Form, Frame, Goal, Heading, Lead, Outer, Pending, Place, Point, Purpose,
+    Reading, Start, VarsForm,
 };
 use jl_grammar::tree::{Callee, Head, Name, Param};
 use jl_marks::marks::is_function;
-use jl_model::rows::Stack;
-use jl_reader_forms::blocks::{at, inside, placed};
-use jl_reader_forms::forms::{called, no_vars, none, vars_form, with};
-use jl_reader_forms::levels::{apart, fresh, into, led};
+use jl_model::ty::Bytes;
+use jl_reader_forms::blocks::{inside, placed};
+use jl_reader_forms::forms::{add, called, no_vars, none, vars_form};
+use jl_reader_forms::levels::{begin_form, fresh, led, take_levels};
 use jl_reader_forms::made::head;
-use jl_reader_operands::follows::type_start;
+use jl_reader_operands::follows::want_type;
 use jl_token::token::Operator;
 use jl_typeread::entries::where_start;
 use jl_typeread::sign::{Sign, Word};
-use jl_typeread::state::Turn;
+use jl_typeread::state::{State as TypeState, Turn};
 use std::alloc::{AllocError, Global};
+use std::mem;
 
 /// A token where the name of a function must stand.
 pub fn at_function(
     sign: &Sign,
     place: u32,
     purpose: Purpose,
-    stack: Stack<Frame>,
-    script: ItemsRead,
-) -> Result<Option<State>, AllocError>
-    ensures { IfOk result (λ s. s ≡ at_function sign.now place purpose stack script) }
+    reading: &mut Reading,
+) -> Result<Option<Point>, AllocError>
+    ensures { IfOk result (λ p. state_at p reading.new ≡ at_function sign.now place purpose reading.old.stack reading.old.script) }
 {
     match sign {
         Sign::Name(name) => {
             match name.copy() {
-                Ok(name) => Ok(at(Point::Named(purpose, placed(place, name)), stack, script)),
+                Ok(name) => Ok(Some(Point::Named(purpose, placed(place, name)))),
                 Err(error) => {
                     drop(purpose);
                     Err(error)
@@ -58,25 +59,17 @@ pub fn at_function(
 #[inline(always)]
 pub(crate) fn call_opens(
     alloc: Global,
-    pending: Pending,
+    pending: Owned<Pending>,
     place: u32,
     called: Called,
-    stack: Stack<Frame>,
-    script: ItemsRead,
-) -> Result<Option<State>, AllocError>
-    ensures { IfOk result (λ s. s ≡ at (Point.First pending.returns) (Frame.Args pending place called none ∷ stack) script) }
+    reading: &mut Reading,
+) -> Result<Option<Point>, AllocError>
+    ensures { IfOk result (λ p. state_at p reading.new ≡ at (Point.First pending.returns) (Frame.Args pending place called none ∷ reading.old.stack) reading.old.script) }
 {
-    match Owned::new(alloc, called) {
-        Ok(called) => {
-            let point = Point::First(pending.returns);
-            let frame = Frame::Args(pending, place, called, none(alloc));
-            inside(point, frame, stack, script)
-        }
-        Err(error) => {
-            drop(pending);
-            Err(error)
-        }
-    }
+    let called = Owned::new(alloc, called)?;
+    let point = Point::First(pending.get().returns);
+    let frame = Frame::Args(pending, place, called, none(alloc));
+    inside(point, frame, reading)
 }
 
 /// `(` behind a function.
@@ -85,29 +78,21 @@ fn known_opens(
     alloc: Global,
     purpose: Purpose,
     callee: Callee,
-    stack: Stack<Frame>,
-    script: ItemsRead,
-) -> Result<Option<State>, AllocError>
-    ensures { IfOk result (λ s. s ≡ known_opens purpose callee stack script) }
+    reading: &mut Reading,
+) -> Result<Option<Point>, AllocError>
+    ensures { IfOk result (λ p. state_at p reading.new ≡ known_opens purpose callee reading.old.stack reading.old.script) }
 {
     match purpose {
         Purpose::Call(pending, place) => {
-            call_opens(
-                alloc,
-                pending,
-                place,
-                Called::Function(callee),
-                stack,
-                script,
-            )
+            call_opens(alloc, pending, place, Called::Function(callee), reading)
         }
         Purpose::Head(start) => {
             let heading = Heading {
-                start,
+                start: start.take(),
                 callee,
                 params: none(alloc),
             };
-            Ok(at(Point::FirstParam(heading), stack, script))
+            Ok(Some(Point::FirstParam(Owned::new(alloc, heading)?)))
         }
         Purpose::Latest(pending, _) => {
             drop(pending);
@@ -122,24 +107,16 @@ fn known_comma(
     alloc: Global,
     purpose: Purpose,
     callee: Callee,
-    stack: Stack<Frame>,
-    script: ItemsRead,
-) -> Result<Option<State>, AllocError>
-    ensures { IfOk result (λ s. s ≡ known_comma purpose callee stack script) }
+    reading: &mut Reading,
+) -> Result<Option<Point>, AllocError>
+    ensures { IfOk result (λ p. state_at p reading.new ≡ known_comma purpose callee reading.old.stack reading.old.script) }
 {
     match purpose {
         Purpose::Latest(pending, place) => {
-            match Owned::new(alloc, Called::Latest(callee)) {
-                Ok(called) => {
-                    let point = Point::Want(fresh(alloc, pending.returns));
-                    let frame = Frame::Args(pending, place, called, none(alloc));
-                    inside(point, frame, stack, script)
-                }
-                Err(error) => {
-                    drop(pending);
-                    Err(error)
-                }
-            }
+            let called = Owned::new(alloc, Called::Latest(callee))?;
+            let point = Point::Want(fresh(alloc, pending.get().returns)?);
+            let frame = Frame::Args(pending, place, called, none(alloc));
+            inside(point, frame, reading)
         }
         purpose => {
             drop(purpose);
@@ -154,20 +131,14 @@ fn known_closes(
     alloc: Global,
     purpose: Purpose,
     callee: Callee,
-    stack: Stack<Frame>,
-    script: ItemsRead,
-) -> Result<Option<State>, AllocError>
-    ensures { IfOk result (λ s. s ≡ known_closes purpose callee stack script) }
+    reading: &mut Reading,
+) -> Result<Option<Point>, AllocError>
+    ensures { IfOk result (λ p. state_at p reading.new ≡ known_closes purpose callee reading.old.stack reading.old.script) }
 {
     match purpose {
         Purpose::Latest(pending, place) => {
-            match called(alloc, place, Called::Latest(callee), none(alloc)) {
-                Ok(call) => Ok(at(Point::Have(pending, call), stack, script)),
-                Err(error) => {
-                    drop(pending);
-                    Err(error)
-                }
-            }
+            let call = called(alloc, place, Called::Latest(callee), none(alloc))?;
+            Ok(Some(Point::Have(pending, call)))
         }
         purpose => {
             drop(purpose);
@@ -184,17 +155,14 @@ pub fn at_known(
     sign: &Sign,
     purpose: Purpose,
     callee: Callee,
-    stack: Stack<Frame>,
-    script: ItemsRead,
-) -> Result<Option<State>, AllocError>
-    ensures { IfOk result (λ s. s ≡ at_known sign.now purpose callee stack script) }
+    reading: &mut Reading,
+) -> Result<Option<Point>, AllocError>
+    ensures { IfOk result (λ p. state_at p reading.new ≡ at_known sign.now purpose callee reading.old.stack reading.old.script) }
 {
     match sign {
-        Sign::Operator(Operator::OpenParen) => known_opens(alloc, purpose, callee, stack, script),
-        Sign::Operator(Operator::Comma) => known_comma(alloc, purpose, callee, stack, script),
-        Sign::Operator(Operator::CloseParen) => {
-            known_closes(alloc, purpose, callee, stack, script)
-        }
+        Sign::Operator(Operator::OpenParen) => known_opens(alloc, purpose, callee, reading),
+        Sign::Operator(Operator::Comma) => known_comma(alloc, purpose, callee, reading),
+        Sign::Operator(Operator::CloseParen) => { known_closes(alloc, purpose, callee, reading) }
         _ => {
             drop(purpose);
             drop(callee);
@@ -208,13 +176,12 @@ fn dots(
     is_base: bool,
     purpose: Purpose,
     base: u32,
-    stack: Stack<Frame>,
-    script: ItemsRead,
-) -> Result<Option<State>, AllocError>
-    ensures { IfOk result (λ s. s ≡ dots is_base purpose base stack script) }
+    reading: &mut Reading,
+) -> Result<Option<Point>, AllocError>
+    ensures { IfOk result (λ p. state_at p reading.new ≡ dots is_base purpose base reading.old.stack reading.old.script) }
 {
     if is_base {
-        return Ok(at(Point::Dotted(purpose, base), stack, script));
+        return Ok(Some(Point::Dotted(purpose, base)));
     }
     drop(purpose);
     Ok(None)
@@ -227,46 +194,54 @@ pub fn at_named(
     sign: &Sign,
     purpose: Purpose,
     name: Name,
-    stack: Stack<Frame>,
-    script: ItemsRead,
-) -> Result<Option<State>, AllocError>
-    ensures { IfOk result (λ s. s ≡ at_named sign.now purpose name stack script) }
+    reading: &mut Reading,
+) -> Result<Option<Point>, AllocError>
+    ensures { IfOk result (λ p. state_at p reading.new ≡ at_named sign.now purpose name reading.old.stack reading.old.script) }
 {
     match sign {
         Sign::Operator(operator) => match operator {
             Operator::Dot => {
                 let is_base = name.bytes.as_slice() == b"Base".as_slice();
-                dots(is_base, purpose, name.at, stack, script)
+                dots(is_base, purpose, name.at, reading)
             }
-            _ => at_known(alloc, sign, purpose, Callee::Plain(name), stack, script),
+            _ => at_known(alloc, sign, purpose, Callee::Plain(name), reading),
         },
-        _ => at_known(alloc, sign, purpose, Callee::Plain(name), stack, script),
+        _ => at_known(alloc, sign, purpose, Callee::Plain(name), reading),
     }
+}
+
+/// The function of this name behind `Base.`.
+fn base_function(
+    alloc: Global,
+    name: &Bytes,
+    place: u32,
+    base: u32,
+) -> Result<Owned<Callee>, AllocError>
+    ensures { IfOk result (λ f. f ≡ Callee.Base base (placed place name.now)) }
+{
+    Owned::new(alloc, Callee::Base(base, placed(place, name.copy()?)))
 }
 
 /// A token behind `Base.`, which stands at the second place.
 pub fn at_dotted(
+    alloc: Global,
     sign: &Sign,
     place: u32,
     purpose: Purpose,
     base: u32,
-    stack: Stack<Frame>,
-    script: ItemsRead,
-) -> Result<Option<State>, AllocError>
-    ensures { IfOk result (λ s. s ≡ at_dotted sign.now place purpose base stack script) }
+    reading: &mut Reading,
+) -> Result<Option<Point>, AllocError>
+    ensures { IfOk result (λ p. state_at p reading.new ≡ at_dotted sign.now place purpose base reading.old.stack reading.old.script) }
 {
     match sign {
-        Sign::Name(name) => match name.copy() {
-            Ok(name) => {
-                let callee = Callee::Base(base, placed(place, name));
-                Ok(at(Point::Known(purpose, callee), stack, script))
-            }
+        Sign::Name(name) => match base_function(alloc, name, place, base) {
+            Ok(callee) => Ok(Some(Point::Known(purpose, callee))),
             Err(error) => {
                 drop(purpose);
                 Err(error)
             }
         },
-        Sign::Operator(Operator::Colon) => Ok(at(Point::Colon(purpose, base), stack, script)),
+        Sign::Operator(Operator::Colon) => Ok(Some(Point::Colon(purpose, base))),
         _ => {
             drop(purpose);
             Ok(None)
@@ -277,66 +252,55 @@ pub fn at_dotted(
 /// An operator behind `Base.:`.
 #[inline(always)]
 fn knows(
+    alloc: Global,
     is_function: bool,
     operator: Operator,
     purpose: Purpose,
     base: u32,
-    stack: Stack<Frame>,
-    script: ItemsRead,
-) -> Option<State>
-    ensures { result ≡ knows is_function operator purpose base stack script }
+    reading: &mut Reading,
+) -> Result<Option<Point>, AllocError>
+    ensures { IfOk result (λ p. state_at p reading.new ≡ knows is_function operator purpose base reading.old.stack reading.old.script) }
 {
     if is_function {
-        let callee = Callee::Operator(base, operator);
-        return at(Point::Known(purpose, callee), stack, script);
+        return match Owned::new(alloc, Callee::Operator(base, operator)) {
+            Ok(callee) => Ok(Some(Point::Known(purpose, callee))),
+            Err(error) => {
+                drop(purpose);
+                Err(error)
+            }
+        };
     }
     drop(purpose);
-    None
+    Ok(None)
 }
 
 /// A token behind `Base.:`.
 pub fn at_colon(
+    alloc: Global,
     sign: &Sign,
     purpose: Purpose,
     base: u32,
-    stack: Stack<Frame>,
-    script: ItemsRead,
-) -> Option<State>
-    ensures { result ≡ at_colon sign.now purpose base stack script }
+    reading: &mut Reading,
+) -> Result<Option<Point>, AllocError>
+    ensures { IfOk result (λ p. state_at p reading.new ≡ at_colon sign.now purpose base reading.old.stack reading.old.script) }
 {
     match sign {
         Sign::Operator(operator) => {
             let is_function = is_function(*operator);
-            knows(is_function, *operator, purpose, base, stack, script)
+            knows(alloc, is_function, *operator, purpose, base, reading)
         }
         _ => {
             drop(purpose);
-            None
+            Ok(None)
         }
     }
 }
 
-/// A head with one parameter more, of this depth.
-pub(crate) fn with_param(heading: Heading, param: Param, depth: u32) -> Result<Heading, AllocError>
-    ensures { IfOk result (λ h. h ≡ with_param heading param depth) }
+/// One more parameter of a head, of this depth.
+pub(crate) fn add_param(heading: &mut Heading, param: Param, depth: u32) -> Result<(), AllocError>
+    ensures { OnOk result (heading.new ≡ with_param heading.old param depth) }
 {
-    let Heading {
-        start,
-        callee,
-        params,
-    } = heading;
-    match with(params, param, depth) {
-        Ok(params) => Ok(Heading {
-            start,
-            callee,
-            params,
-        }),
-        Err(error) => {
-            drop(start);
-            drop(callee);
-            Err(error)
-        }
-    }
+    add(&mut heading.params, param, depth)
 }
 
 /// A token where a parameter must stand.
@@ -344,30 +308,20 @@ pub fn next_param(
     alloc: Global,
     sign: &Sign,
     place: u32,
-    heading: Heading,
-    stack: Stack<Frame>,
-    script: ItemsRead,
-) -> Result<Option<State>, AllocError>
-    ensures { IfOk result (λ s. s ≡ next_param sign.now place heading stack script) }
+    heading: Owned<Heading>,
+    reading: &mut Reading,
+) -> Result<Option<Point>, AllocError>
+    ensures { IfOk result (λ p. state_at p reading.new ≡ next_param sign.now place heading reading.old.stack reading.old.script) }
 {
     match sign {
         Sign::Name(name) => {
-            match name.copy() {
-                Ok(name) => Ok(at(Point::Param(heading, placed(place, name)), stack, script)),
-                Err(error) => {
-                    drop(heading);
-                    Err(error)
-                }
-            }
+            let name = name.copy()?;
+            Ok(Some(Point::Param(heading, placed(place, name))))
         }
         Sign::Operator(Operator::HasType) => {
-            let goal = Goal::Param(heading, None, place);
-            Ok(at(Point::Type(goal, type_start(alloc)), stack, script))
+            Ok(Some(want_type(alloc, Goal::Param(heading, None, place))?))
         }
-        _ => {
-            drop(heading);
-            Ok(None)
-        }
+        _ => Ok(None),
     }
 }
 
@@ -376,52 +330,47 @@ pub fn first_param(
     alloc: Global,
     sign: &Sign,
     place: u32,
-    heading: Heading,
-    stack: Stack<Frame>,
-    script: ItemsRead,
-) -> Result<Option<State>, AllocError>
-    ensures { IfOk result (λ s. s ≡ first_param sign.now place heading stack script) }
+    heading: Owned<Heading>,
+    reading: &mut Reading,
+) -> Result<Option<Point>, AllocError>
+    ensures { IfOk result (λ p. state_at p reading.new ≡ first_param sign.now place heading reading.old.stack reading.old.script) }
 {
     match sign {
         Sign::Operator(operator) => match operator {
-            Operator::CloseParen => Ok(at(Point::Headed(heading), stack, script)),
-            _ => next_param(alloc, sign, place, heading, stack, script),
+            Operator::CloseParen => Ok(Some(Point::Headed(heading))),
+            _ => next_param(alloc, sign, place, heading, reading),
         },
-        _ => next_param(alloc, sign, place, heading, stack, script),
+        _ => next_param(alloc, sign, place, heading, reading),
     }
 }
 
 /// A token behind a parameter.
 pub(crate) fn param_ends(
     sign: &Sign,
-    heading: Heading,
-    stack: Stack<Frame>,
-    script: ItemsRead,
-) -> Result<Option<State>, AllocError>
-    ensures { IfOk result (λ s. s ≡ param_ends sign.now heading stack script) }
+    heading: Owned<Heading>,
+    reading: &mut Reading,
+) -> Result<Option<Point>, AllocError>
+    ensures { IfOk result (λ p. state_at p reading.new ≡ param_ends sign.now heading reading.old.stack reading.old.script) }
 {
     match sign {
-        Sign::Operator(Operator::Comma) => Ok(at(Point::NextParam(heading), stack, script)),
-        Sign::Operator(Operator::CloseParen) => Ok(at(Point::Headed(heading), stack, script)),
-        _ => {
-            drop(heading);
-            Ok(None)
-        }
+        Sign::Operator(Operator::Comma) => Ok(Some(Point::NextParam(heading))),
+        Sign::Operator(Operator::CloseParen) => Ok(Some(Point::Headed(heading))),
+        _ => Ok(None),
     }
 }
 
 /// A token behind a parameter that is a name alone.
 fn name_ends(
     sign: &Sign,
-    heading: Heading,
+    heading: Owned<Heading>,
     name: Name,
-    stack: Stack<Frame>,
-    script: ItemsRead,
-) -> Result<Option<State>, AllocError>
-    ensures { IfOk result (λ s. s ≡ param_ends sign.now (with_param heading (Param.Name name) 0) stack script) }
+    reading: &mut Reading,
+) -> Result<Option<Point>, AllocError>
+    ensures { IfOk result (λ p. state_at p reading.new ≡ param_ends sign.now (with_param heading (Param.Name name) 0) reading.old.stack reading.old.script) }
 {
-    let heading = with_param(heading, Param::Name(name), 0)?;
-    param_ends(sign, heading, stack, script)
+    let mut heading = heading;
+    add_param(heading.get_mut(), Param::Name(name), 0)?;
+    param_ends(sign, heading, reading)
 }
 
 /// A token behind the name of a parameter.
@@ -429,36 +378,35 @@ pub fn at_param(
     alloc: Global,
     sign: &Sign,
     place: u32,
-    heading: Heading,
+    heading: Owned<Heading>,
     name: Name,
-    stack: Stack<Frame>,
-    script: ItemsRead,
-) -> Result<Option<State>, AllocError>
-    ensures { IfOk result (λ s. s ≡ at_param sign.now place heading name stack script) }
+    reading: &mut Reading,
+) -> Result<Option<Point>, AllocError>
+    ensures { IfOk result (λ p. state_at p reading.new ≡ at_param sign.now place heading name reading.old.stack reading.old.script) }
 {
     match sign {
         Sign::Operator(operator) => match operator {
             Operator::HasType => {
                 let goal = Goal::Param(heading, Some(name), place);
-                Ok(at(Point::Type(goal, type_start(alloc)), stack, script))
+                Ok(Some(want_type(alloc, goal)?))
             }
-            _ => name_ends(sign, heading, name, stack, script),
+            _ => name_ends(sign, heading, name, reading),
         },
-        _ => name_ends(sign, heading, name, stack, script),
+        _ => name_ends(sign, heading, name, reading),
     }
 }
 
 /// What stands before the expression of a method behind `@eval`.
-fn defining(
+fn define(
     alloc: Global,
-    pending: Pending,
+    pending: &mut Pending,
     place: u32,
     head: Owned<Form<Head>>,
-) -> Result<Pending, AllocError>
-    ensures { IfOk result (λ p. p ≡ into (Outer.Short pending.levels place head) true pending) }
+) -> Result<(), AllocError>
+    ensures { OnOk result (pending.new ≡ into (Outer.Short pending.old.levels place head) true pending.old) }
 {
-    let (levels, pending) = apart(alloc, pending);
-    into(alloc, Outer::Short(levels, place, head), true, pending)
+    let levels = take_levels(alloc, &mut pending.levels);
+    begin_form(alloc, Outer::Short(levels, place, head), true, pending)
 }
 
 /// `=` behind a head.
@@ -466,19 +414,19 @@ fn defines(
     alloc: Global,
     method: Place,
     head: Owned<Form<Head>>,
-    stack: Stack<Frame>,
-    script: ItemsRead,
-) -> Result<Option<State>, AllocError>
-    ensures { IfOk result (λ s. s ≡ defines method head stack script) }
+    reading: &mut Reading,
+) -> Result<Option<Point>, AllocError>
+    ensures { IfOk result (λ p. state_at p reading.new ≡ defines method head reading.old.stack reading.old.script) }
 {
     match method {
         Place::Entry => {
-            let pending = led(alloc, Lead::Short(head), true);
-            Ok(at(Point::Want(pending), stack, script))
+            let pending = led(alloc, Lead::Short(head), true)?;
+            Ok(Some(Point::Want(pending)))
         }
         Place::Evaluated(pending, place) => {
-            let pending = defining(alloc, pending, place, head)?;
-            Ok(at(Point::Want(pending), stack, script))
+            let mut pending = pending;
+            define(alloc, pending.get_mut(), place, head)?;
+            Ok(Some(Point::Want(pending)))
         }
     }
 }
@@ -489,24 +437,16 @@ fn short_headed(
     sign: &Sign,
     method: Place,
     head: Form<Head>,
-    stack: Stack<Frame>,
-    script: ItemsRead,
-) -> Result<Option<State>, AllocError>
-    ensures { IfOk result (λ s. s ≡ short_headed sign.now method head stack script) }
+    reading: &mut Reading,
+) -> Result<Option<Point>, AllocError>
+    ensures { IfOk result (λ p. state_at p reading.new ≡ short_headed sign.now method head reading.old.stack reading.old.script) }
 {
     match sign {
-        Sign::Operator(Operator::Assign) => match Owned::new(alloc, head) {
-            Ok(head) => defines(alloc, method, head, stack, script),
-            Err(error) => {
-                drop(method);
-                Err(error)
-            }
-        },
-        _ => {
-            drop(method);
-            drop(head);
-            Ok(None)
+        Sign::Operator(Operator::Assign) => {
+            let head = Owned::new(alloc, head)?;
+            defines(alloc, method, head, reading)
         }
+        _ => Ok(None),
     }
 }
 
@@ -519,17 +459,16 @@ fn headed_as(
     next: u32,
     method: Place,
     head: Form<Head>,
-    mut stack: Stack<Frame>,
-    script: ItemsRead,
-) -> Result<Option<State>, AllocError>
-    ensures { IfOk result (λ s. s ≡ headed_as long sign.now marks next method head stack script) }
+    reading: &mut Reading,
+) -> Result<Option<Point>, AllocError>
+    ensures { IfOk result (λ p. state_at p reading.new ≡ headed_as long sign.now marks next method head reading.old.stack reading.old.script) }
 {
     if long {
         let kind = Owned::new(alloc, BlockKind::Body(method, head))?;
-        stack.push(Frame::Block(kind, none(alloc)))?;
-        return at_entry(alloc, sign, marks, next, stack, script);
+        reading.stack.push(Frame::Block(kind, none(alloc)))?;
+        return at_entry(alloc, sign, marks, next, reading);
     }
-    short_headed(alloc, sign, method, head, stack, script)
+    short_headed(alloc, sign, method, head, reading)
 }
 
 /// A token behind a head with these variables.
@@ -538,30 +477,24 @@ fn headed(
     sign: &Sign,
     marks: Marks,
     next: u32,
-    heading: Heading,
+    heading: Owned<Heading>,
     vars: VarsForm,
-    stack: Stack<Frame>,
-    script: ItemsRead,
-) -> Result<Option<State>, AllocError>
-    ensures { IfOk result (λ s. s ≡ headed sign.now marks next heading vars stack script) }
+    reading: &mut Reading,
+) -> Result<Option<Point>, AllocError>
+    ensures { IfOk result (λ p. state_at p reading.new ≡ headed sign.now marks next heading vars reading.old.stack reading.old.script) }
 {
     let Heading {
         start,
         callee,
         params,
-    } = heading;
+    } = heading.take();
     let Start {
         place: method,
         long,
         at,
     } = start;
-    match head(alloc, at, callee, params, vars) {
-        Ok(head) => headed_as(alloc, long, sign, marks, next, method, head, stack, script),
-        Err(error) => {
-            drop(method);
-            Err(error)
-        }
-    }
+    let head = head(alloc, at, callee, params, vars)?;
+    headed_as(alloc, long, sign, marks, next, method, head, reading)
 }
 
 /// A token behind the `)` of a head.
@@ -570,18 +503,20 @@ pub fn at_headed(
     sign: &Sign,
     marks: Marks,
     next: u32,
-    heading: Heading,
-    stack: Stack<Frame>,
-    script: ItemsRead,
-) -> Result<Option<State>, AllocError>
-    ensures { IfOk result (λ s. s ≡ at_headed sign.now marks next heading stack script) }
+    heading: Owned<Heading>,
+    reading: &mut Reading,
+) -> Result<Option<Point>, AllocError>
+    ensures { IfOk result (λ p. state_at p reading.new ≡ at_headed sign.now marks next heading reading.old.stack reading.old.script) }
 {
     match sign {
         Sign::Word(word) => match word {
-            Word::Where => Ok(at(Point::Where(heading, where_start(alloc)), stack, script)),
-            _ => headed(alloc, sign, marks, next, heading, no_vars(), stack, script),
+            Word::Where => {
+                let state = Owned::new(alloc, where_start(alloc))?;
+                Ok(Some(Point::Where(heading, state)))
+            }
+            _ => headed(alloc, sign, marks, next, heading, no_vars(), reading),
         },
-        _ => headed(alloc, sign, marks, next, heading, no_vars(), stack, script),
+        _ => headed(alloc, sign, marks, next, heading, no_vars(), reading),
     }
 }
 
@@ -592,22 +527,21 @@ pub fn where_turn(
     sign: &Sign,
     marks: Marks,
     next: u32,
-    heading: Heading,
-    stack: Stack<Frame>,
-    script: ItemsRead,
-) -> Result<Option<State>, AllocError>
-    ensures { IfOk result (λ s. s ≡ where_turn turn sign.now marks next heading stack script) }
+    heading: Owned<Heading>,
+    state: Owned<TypeState>,
+    reading: &mut Reading,
+) -> Result<Option<Point>, AllocError>
+    ensures { IfOk result (λ p. state_at p reading.new ≡ where_turn turn sign.now marks next heading reading.old.stack reading.old.script) }
 {
     match turn {
-        Turn::Goes(state) => Ok(at(Point::Where(heading, state), stack, script)),
+        Turn::Goes(next) => {
+            let mut state = state;
+            drop(mem::replace(state.get_mut(), next));
+            Ok(Some(Point::Where(heading, state)))
+        }
         Turn::Variables(variables) => {
-            match vars_form(alloc, variables) {
-                Ok(vars) => headed(alloc, sign, marks, next, heading, vars, stack, script),
-                Err(error) => {
-                    drop(heading);
-                    Err(error)
-                }
-            }
+            let vars = vars_form(alloc, variables)?;
+            headed(alloc, sign, marks, next, heading, vars, reading)
         }
         turn => {
             drop(turn);

@@ -1,38 +1,39 @@
 //! Special forms: `@eval`, and the fixed tokens of the others.
 
-ghost use Rattle.std.specs.Prelude.{◌≡◌, ◌∷◌, IfOk, false};
+ghost use Rattle.std.specs.Prelude.{◌≡◌, IfOk, OnOk, false};
+ghost use Rattle.jl_grammar.specs.Goes.{state_at};
 ghost use Rattle.jl_grammar.specs.Levels.{into};
 ghost use Rattle.jl_grammar.specs.Machine.{evaluating, evaluates, evaluates_word, after_eval, due_dot, due_open, due_name, due_macro, due_quote, at_due};
 
 use crate::entries::{is_method, long_begins};
 use jl_grammar::mark::Marks;
+use jl_grammar::owned::Owned;
 use jl_grammar::state::{
-    Due, EvalKind, Frame, ItemsRead, Outer, Pending, Place, Point, Purpose, Start, State,
+    Due, EvalKind, Frame, Outer, Pending, Place, Point, Purpose, Reading, Start,
 };
-use jl_model::rows::Stack;
 use jl_model::ty::Bytes;
-use jl_reader_forms::blocks::{at, inside, placed};
+use jl_reader_forms::blocks::{inside, placed};
 use jl_reader_forms::forms::none;
-use jl_reader_forms::levels::{apart, fresh, into};
+use jl_reader_forms::levels::{begin_form, fresh, take_levels};
 use jl_reader_operands::operands::{begins, begins_word, names};
 use jl_token::token::Operator;
 use jl_typeread::sign::{Sign, Word};
 use std::alloc::{AllocError, Global};
 
 /// What stands before the expression behind `@eval`.
-fn evaluating(alloc: Global, pending: Pending, place: u32) -> Result<Pending, AllocError>
-    ensures { IfOk result (λ p. p ≡ evaluating pending place) }
+fn evaluate(alloc: Global, pending: &mut Pending, place: u32) -> Result<(), AllocError>
+    ensures { OnOk result (pending.new ≡ evaluating pending.old place) }
 {
-    let (levels, pending) = apart(alloc, pending);
-    into(alloc, Outer::Eval(levels, place), false, pending)
+    let levels = take_levels(alloc, &mut pending.levels);
+    begin_form(alloc, Outer::Eval(levels, place), false, pending)
 }
 
 /// What stands before the expression behind `Threads.@spawn`.
-fn spawning(alloc: Global, pending: Pending, place: u32) -> Result<Pending, AllocError>
-    ensures { IfOk result (λ p. p ≡ into (Outer.Spawn pending.levels place) false pending) }
+fn spawn(alloc: Global, pending: &mut Pending, place: u32) -> Result<(), AllocError>
+    ensures { OnOk result (pending.new ≡ into (Outer.Spawn pending.old.levels place) false pending.old) }
 {
-    let (levels, pending) = apart(alloc, pending);
-    into(alloc, Outer::Spawn(levels, place), false, pending)
+    let levels = take_levels(alloc, &mut pending.levels);
+    begin_form(alloc, Outer::Spawn(levels, place), false, pending)
 }
 
 /// A name behind `@eval`.
@@ -42,12 +43,11 @@ fn evaluates(
     marks: Marks,
     name: Bytes,
     next: u32,
-    pending: Pending,
+    pending: Owned<Pending>,
     place: u32,
-    stack: Stack<Frame>,
-    script: ItemsRead,
-) -> Result<Option<State>, AllocError>
-    ensures { IfOk result (λ s. s ≡ evaluates is_method marks name next pending place stack script) }
+    reading: &mut Reading,
+) -> Result<Option<Point>, AllocError>
+    ensures { IfOk result (λ p. state_at p reading.new ≡ evaluates is_method marks name next pending place reading.old.stack reading.old.script) }
 {
     if is_method {
         let start = Start {
@@ -55,11 +55,12 @@ fn evaluates(
             long: false,
             at: next,
         };
-        let point = Point::Named(Purpose::Head(start), placed(next, name));
-        return Ok(at(point, stack, script));
+        let purpose = Purpose::Head(Owned::new(alloc, start)?);
+        return Ok(Some(Point::Named(purpose, placed(next, name))));
     }
-    let pending = evaluating(alloc, pending, place)?;
-    names(alloc, marks, name, next, pending, stack, script)
+    let mut pending = pending;
+    evaluate(alloc, pending.get_mut(), place)?;
+    names(alloc, marks, name, next, pending, reading)
 }
 
 /// A reserved word behind `@eval`.
@@ -67,22 +68,22 @@ fn evaluates_word(
     alloc: Global,
     word: Word,
     next: u32,
-    pending: Pending,
+    pending: Owned<Pending>,
     place: u32,
-    stack: Stack<Frame>,
-    script: ItemsRead,
-) -> Result<Option<State>, AllocError>
-    ensures { IfOk result (λ s. s ≡ evaluates_word word next pending place stack script) }
+    reading: &mut Reading,
+) -> Result<Option<Point>, AllocError>
+    ensures { IfOk result (λ p. state_at p reading.new ≡ evaluates_word word next pending place reading.old.stack reading.old.script) }
 {
     match word {
         Word::Begin => {
             let frame = Frame::Evals(EvalKind::Begin(pending, place), none(alloc));
-            inside(Point::Entry, frame, stack, script)
+            inside(Point::Entry, frame, reading)
         }
-        Word::Function => long_begins(Place::Evaluated(pending, place), next, stack, script),
+        Word::Function => long_begins(alloc, Place::Evaluated(pending, place), next, reading),
         word => {
-            let pending = evaluating(alloc, pending, place)?;
-            begins_word(alloc, word, next, pending, stack, script)
+            let mut pending = pending;
+            evaluate(alloc, pending.get_mut(), place)?;
+            begins_word(alloc, word, next, pending, reading)
         }
     }
 }
@@ -93,30 +94,23 @@ pub fn after_eval(
     sign: &Sign,
     marks: Marks,
     next: u32,
-    pending: Pending,
+    pending: Owned<Pending>,
     place: u32,
-    stack: Stack<Frame>,
-    script: ItemsRead,
-) -> Result<Option<State>, AllocError>
-    ensures { IfOk result (λ s. s ≡ after_eval sign.now marks next pending place stack script) }
+    reading: &mut Reading,
+) -> Result<Option<Point>, AllocError>
+    ensures { IfOk result (λ p. state_at p reading.new ≡ after_eval sign.now marks next pending place reading.old.stack reading.old.script) }
 {
     match sign {
         Sign::Name(name) => {
             let is_method = is_method(marks.ahead);
-            match name.copy() {
-                Ok(name) => evaluates(
-                    alloc, is_method, marks, name, next, pending, place, stack, script,
-                ),
-                Err(error) => {
-                    drop(pending);
-                    Err(error)
-                }
-            }
+            let name = name.copy()?;
+            evaluates(alloc, is_method, marks, name, next, pending, place, reading)
         }
-        Sign::Word(word) => evaluates_word(alloc, *word, next, pending, place, stack, script),
+        Sign::Word(word) => evaluates_word(alloc, *word, next, pending, place, reading),
         _ => {
-            let pending = evaluating(alloc, pending, place)?;
-            begins(alloc, sign, marks, next, pending, stack, script)
+            let mut pending = pending;
+            evaluate(alloc, pending.get_mut(), place)?;
+            begins(alloc, sign, marks, next, pending, reading)
         }
     }
 }
@@ -124,20 +118,16 @@ pub fn after_eval(
 /// `.` as a fixed token.
 fn due_dot(
     due: Due,
-    pending: Pending,
+    pending: Owned<Pending>,
     place: u32,
-    stack: Stack<Frame>,
-    script: ItemsRead,
-) -> Result<Option<State>, AllocError>
-    ensures { IfOk result (λ s. s ≡ due_dot due pending place stack script) }
+    reading: &mut Reading,
+) -> Result<Option<Point>, AllocError>
+    ensures { IfOk result (λ p. state_at p reading.new ≡ due_dot due pending place reading.old.stack reading.old.script) }
 {
     match due {
-        Due::SpawnDot => Ok(at(Point::Due(pending, place, Due::SpawnMacro), stack, script)),
-        Due::LatestDot => Ok(at(Point::Due(pending, place, Due::LatestName), stack, script)),
-        _ => {
-            drop(pending);
-            Ok(None)
-        }
+        Due::SpawnDot => Ok(Some(Point::Due(pending, place, Due::SpawnMacro))),
+        Due::LatestDot => Ok(Some(Point::Due(pending, place, Due::LatestName))),
+        _ => Ok(None),
     }
 }
 
@@ -145,52 +135,40 @@ fn due_dot(
 fn due_open(
     alloc: Global,
     due: Due,
-    pending: Pending,
+    pending: Owned<Pending>,
     place: u32,
-    stack: Stack<Frame>,
-    script: ItemsRead,
-) -> Result<Option<State>, AllocError>
-    ensures { IfOk result (λ s. s ≡ due_open due pending place stack script) }
+    reading: &mut Reading,
+) -> Result<Option<Point>, AllocError>
+    ensures { IfOk result (λ p. state_at p reading.new ≡ due_open due pending place reading.old.stack reading.old.script) }
 {
     match due {
-        Due::LatestOpen => Ok(at(
-            Point::Function(Purpose::Latest(pending, place)),
-            stack,
-            script,
-        )),
+        Due::LatestOpen => Ok(Some(Point::Function(Purpose::Latest(pending, place)))),
         Due::FetchOpen => {
-            let point = Point::Want(fresh(alloc, pending.returns));
-            inside(point, Frame::Fetch(pending, place), stack, script)
+            let point = Point::Want(fresh(alloc, pending.get().returns)?);
+            inside(point, Frame::Fetch(pending, place), reading)
         }
         Due::PrintOpen(line) => {
-            let point = Point::First(pending.returns);
+            let point = Point::First(pending.get().returns);
             let frame = Frame::Print(pending, place, line, none(alloc));
-            inside(point, frame, stack, script)
+            inside(point, frame, reading)
         }
-        Due::QuoteOpen => Ok(at(Point::Due(pending, place, Due::QuoteWord), stack, script)),
-        _ => {
-            drop(pending);
-            Ok(None)
-        }
+        Due::QuoteOpen => Ok(Some(Point::Due(pending, place, Due::QuoteWord))),
+        _ => Ok(None),
     }
 }
 
 /// A name as a fixed token.
 fn due_name(
     due: Due,
-    pending: Pending,
+    pending: Owned<Pending>,
     place: u32,
-    stack: Stack<Frame>,
-    script: ItemsRead,
-) -> Result<Option<State>, AllocError>
-    ensures { IfOk result (λ s. s ≡ due_name due pending place stack script) }
+    reading: &mut Reading,
+) -> Result<Option<Point>, AllocError>
+    ensures { IfOk result (λ p. state_at p reading.new ≡ due_name due pending place reading.old.stack reading.old.script) }
 {
     match due {
-        Due::LatestName => Ok(at(Point::Due(pending, place, Due::LatestOpen), stack, script)),
-        _ => {
-            drop(pending);
-            Ok(None)
-        }
+        Due::LatestName => Ok(Some(Point::Due(pending, place, Due::LatestOpen))),
+        _ => Ok(None),
     }
 }
 
@@ -198,22 +176,19 @@ fn due_name(
 fn due_macro(
     alloc: Global,
     due: Due,
-    pending: Pending,
+    pending: Owned<Pending>,
     place: u32,
-    stack: Stack<Frame>,
-    script: ItemsRead,
-) -> Result<Option<State>, AllocError>
-    ensures { IfOk result (λ s. s ≡ due_macro due pending place stack script) }
+    reading: &mut Reading,
+) -> Result<Option<Point>, AllocError>
+    ensures { IfOk result (λ p. state_at p reading.new ≡ due_macro due pending place reading.old.stack reading.old.script) }
 {
     match due {
         Due::SpawnMacro => {
-            let pending = spawning(alloc, pending, place)?;
-            Ok(at(Point::Want(pending), stack, script))
+            let mut pending = pending;
+            spawn(alloc, pending.get_mut(), place)?;
+            Ok(Some(Point::Want(pending)))
         }
-        _ => {
-            drop(pending);
-            Ok(None)
-        }
+        _ => Ok(None),
     }
 }
 
@@ -221,22 +196,18 @@ fn due_macro(
 fn due_quote(
     alloc: Global,
     due: Due,
-    pending: Pending,
+    pending: Owned<Pending>,
     place: u32,
-    stack: Stack<Frame>,
-    script: ItemsRead,
-) -> Result<Option<State>, AllocError>
-    ensures { IfOk result (λ s. s ≡ due_quote due pending place stack script) }
+    reading: &mut Reading,
+) -> Result<Option<Point>, AllocError>
+    ensures { IfOk result (λ p. state_at p reading.new ≡ due_quote due pending place reading.old.stack reading.old.script) }
 {
     match due {
         Due::QuoteWord => {
             let frame = Frame::Evals(EvalKind::Quote(pending, place), none(alloc));
-            inside(Point::Entry, frame, stack, script)
+            inside(Point::Entry, frame, reading)
         }
-        _ => {
-            drop(pending);
-            Ok(None)
-        }
+        _ => Ok(None),
     }
 }
 
@@ -244,25 +215,19 @@ fn due_quote(
 pub fn at_due(
     alloc: Global,
     sign: &Sign,
-    pending: Pending,
+    pending: Owned<Pending>,
     place: u32,
     due: Due,
-    stack: Stack<Frame>,
-    script: ItemsRead,
-) -> Result<Option<State>, AllocError>
-    ensures { IfOk result (λ s. s ≡ at_due sign.now pending place due stack script) }
+    reading: &mut Reading,
+) -> Result<Option<Point>, AllocError>
+    ensures { IfOk result (λ p. state_at p reading.new ≡ at_due sign.now pending place due reading.old.stack reading.old.script) }
 {
     match sign {
-        Sign::Operator(Operator::Dot) => due_dot(due, pending, place, stack, script),
-        Sign::Operator(Operator::OpenParen) => {
-            due_open(alloc, due, pending, place, stack, script)
-        }
-        Sign::Name(_) => due_name(due, pending, place, stack, script),
-        Sign::Macro(_) => due_macro(alloc, due, pending, place, stack, script),
-        Sign::Word(Word::Quote) => due_quote(alloc, due, pending, place, stack, script),
-        _ => {
-            drop(pending);
-            Ok(None)
-        }
+        Sign::Operator(Operator::Dot) => due_dot(due, pending, place, reading),
+        Sign::Operator(Operator::OpenParen) => { due_open(alloc, due, pending, place, reading) }
+        Sign::Name(_) => due_name(due, pending, place, reading),
+        Sign::Macro(_) => due_macro(alloc, due, pending, place, reading),
+        Sign::Word(Word::Quote) => due_quote(alloc, due, pending, place, reading),
+        _ => Ok(None),
     }
 }

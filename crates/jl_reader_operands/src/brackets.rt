@@ -1,18 +1,18 @@
 //! A token between brackets that may be empty, and behind an operand's dot or square bracket.
 
-ghost use Rattle.std.specs.Prelude.{◌≡◌, ◌∷◌, IfOk};
+ghost use Rattle.std.specs.Prelude.{◌≡◌, IfOk};
+ghost use Rattle.jl_grammar.specs.Goes.{state_at};
 ghost use Rattle.jl_grammar.specs.Levels.{fresh};
 ghost use Rattle.jl_grammar.specs.Turns.{begins, first_closes, strings, at_first, again_closes, at_again, at_piece, text_closes, text_comma, at_texted, at_dot, at_index, at_indexed, at_quoted};
 
-use crate::ends::{end_call, end_print, end_tuple};
 use crate::operands::begins;
 use jl_grammar::mark::Marks;
-use jl_grammar::state::{Form, Frame, ItemsRead, Pending, Point, State};
+use jl_grammar::owned::Owned;
+use jl_grammar::state::{Form, Frame, Pending, Point, Reading};
 use jl_grammar::tree::Expr;
-use jl_model::rows::Stack;
 use jl_model::ty::Bytes;
-use jl_reader_forms::blocks::{at, inside, placed};
-use jl_reader_forms::forms::{field, none, part, with_text};
+use jl_reader_forms::blocks::{inside, placed};
+use jl_reader_forms::forms::{called, field, none, part, printed, tuple, with_text};
 use jl_reader_forms::levels::fresh;
 use jl_token::token::Operator;
 use jl_typeread::sign::Sign;
@@ -20,22 +20,21 @@ use std::alloc::{AllocError, Global};
 
 /// `)` behind a bracket that may be empty.
 #[inline(always)]
-fn first_closes(
-    alloc: Global,
-    mut stack: Stack<Frame>,
-    script: ItemsRead,
-) -> Result<Option<State>, AllocError>
-    ensures { IfOk result (λ s. s ≡ first_closes stack script) }
+fn first_closes(alloc: Global, reading: &mut Reading) -> Result<Option<Point>, AllocError>
+    ensures { IfOk result (λ p. state_at p reading.new ≡ first_closes reading.old.stack reading.old.script) }
 {
-    match stack.pop() {
+    match reading.stack.pop() {
         Some(Frame::Paren(pending, place)) => {
-            end_tuple(alloc, pending, place, none(alloc), stack, script)
+            let e = tuple(alloc, place, none(alloc))?;
+            Ok(Some(Point::Have(pending, e)))
         }
         Some(Frame::Args(pending, place, function, arguments)) => {
-            end_call(alloc, pending, place, function, arguments, stack, script)
+            let e = called(alloc, place, function.take(), arguments)?;
+            Ok(Some(Point::Have(pending, e)))
         }
         Some(Frame::Print(pending, place, line, pieces)) => {
-            end_print(alloc, pending, place, line, pieces, stack, script)
+            let e = printed(alloc, place, line, pieces)?;
+            Ok(Some(Point::Have(pending, e)))
         }
         Some(frame) => {
             drop(frame);
@@ -46,26 +45,14 @@ fn first_closes(
 }
 
 /// A string.
-fn strings(
-    place: u32,
-    text: Bytes,
-    mut stack: Stack<Frame>,
-    script: ItemsRead,
-) -> Result<Option<State>, AllocError>
-    ensures { IfOk result (λ s. s ≡ strings place text stack script) }
+fn strings(place: u32, text: Bytes, reading: &mut Reading) -> Result<Option<Point>, AllocError>
+    ensures { IfOk result (λ p. state_at p reading.new ≡ strings place text reading.old.stack reading.old.script) }
 {
-    match stack.pop() {
+    match reading.stack.pop() {
         Some(Frame::Print(pending, start, line, pieces)) => {
-            match with_text(pieces, place, text) {
-                Ok(pieces) => {
-                    let frame = Frame::Print(pending, start, line, pieces);
-                    inside(Point::Texted, frame, stack, script)
-                }
-                Err(error) => {
-                    drop(pending);
-                    Err(error)
-                }
-            }
+            let pieces = with_text(pieces, place, text)?;
+            let frame = Frame::Print(pending, start, line, pieces);
+            inside(Point::Texted, frame, reading)
         }
         Some(frame) => {
             drop(frame);
@@ -83,13 +70,12 @@ fn begins_first(
     marks: Marks,
     place: u32,
     returns: bool,
-    stack: Stack<Frame>,
-    script: ItemsRead,
-) -> Result<Option<State>, AllocError>
-    ensures { IfOk result (λ s. s ≡ begins sign.now marks place (fresh returns) stack script) }
+    reading: &mut Reading,
+) -> Result<Option<Point>, AllocError>
+    ensures { IfOk result (λ p. state_at p reading.new ≡ begins sign.now marks place (fresh returns) reading.old.stack reading.old.script) }
 {
-    let pending = fresh(alloc, returns);
-    begins(alloc, sign, marks, place, pending, stack, script)
+    let pending = fresh(alloc, returns)?;
+    begins(alloc, sign, marks, place, pending, reading)
 }
 
 /// A token directly behind a bracket that may be empty.
@@ -100,32 +86,28 @@ pub fn at_first(
     marks: Marks,
     place: u32,
     returns: bool,
-    stack: Stack<Frame>,
-    script: ItemsRead,
-) -> Result<Option<State>, AllocError>
-    ensures { IfOk result (λ s. s ≡ at_first sign.now marks place returns stack script) }
+    reading: &mut Reading,
+) -> Result<Option<Point>, AllocError>
+    ensures { IfOk result (λ p. state_at p reading.new ≡ at_first sign.now marks place returns reading.old.stack reading.old.script) }
 {
     match sign {
         Sign::Operator(operator) => match operator {
-            Operator::CloseParen => first_closes(alloc, stack, script),
-            _ => begins_first(alloc, sign, marks, place, returns, stack, script),
+            Operator::CloseParen => first_closes(alloc, reading),
+            _ => begins_first(alloc, sign, marks, place, returns, reading),
         },
-        Sign::Text(text) => strings(place, text.copy()?, stack, script),
-        _ => begins_first(alloc, sign, marks, place, returns, stack, script),
+        Sign::Text(text) => strings(place, text.copy()?, reading),
+        _ => begins_first(alloc, sign, marks, place, returns, reading),
     }
 }
 
 /// `)` behind the comma after a tuple's only part.
-fn again_closes(
-    alloc: Global,
-    mut stack: Stack<Frame>,
-    script: ItemsRead,
-) -> Result<Option<State>, AllocError>
-    ensures { IfOk result (λ s. s ≡ again_closes stack script) }
+fn again_closes(alloc: Global, reading: &mut Reading) -> Result<Option<Point>, AllocError>
+    ensures { IfOk result (λ p. state_at p reading.new ≡ again_closes reading.old.stack reading.old.script) }
 {
-    match stack.pop() {
+    match reading.stack.pop() {
         Some(Frame::Tuple(pending, place, parts)) => {
-            end_tuple(alloc, pending, place, parts, stack, script)
+            let e = tuple(alloc, place, parts)?;
+            Ok(Some(Point::Have(pending, e)))
         }
         Some(frame) => {
             drop(frame);
@@ -143,17 +125,16 @@ pub fn at_again(
     marks: Marks,
     place: u32,
     returns: bool,
-    stack: Stack<Frame>,
-    script: ItemsRead,
-) -> Result<Option<State>, AllocError>
-    ensures { IfOk result (λ s. s ≡ at_again sign.now marks place returns stack script) }
+    reading: &mut Reading,
+) -> Result<Option<Point>, AllocError>
+    ensures { IfOk result (λ p. state_at p reading.new ≡ at_again sign.now marks place returns reading.old.stack reading.old.script) }
 {
     match sign {
         Sign::Operator(operator) => match operator {
-            Operator::CloseParen => again_closes(alloc, stack, script),
-            _ => begins_first(alloc, sign, marks, place, returns, stack, script),
+            Operator::CloseParen => again_closes(alloc, reading),
+            _ => begins_first(alloc, sign, marks, place, returns, reading),
         },
-        _ => begins_first(alloc, sign, marks, place, returns, stack, script),
+        _ => begins_first(alloc, sign, marks, place, returns, reading),
     }
 }
 
@@ -164,28 +145,24 @@ pub fn at_piece(
     marks: Marks,
     place: u32,
     returns: bool,
-    stack: Stack<Frame>,
-    script: ItemsRead,
-) -> Result<Option<State>, AllocError>
-    ensures { IfOk result (λ s. s ≡ at_piece sign.now marks place returns stack script) }
+    reading: &mut Reading,
+) -> Result<Option<Point>, AllocError>
+    ensures { IfOk result (λ p. state_at p reading.new ≡ at_piece sign.now marks place returns reading.old.stack reading.old.script) }
 {
     match sign {
-        Sign::Text(text) => strings(place, text.copy()?, stack, script),
-        _ => begins_first(alloc, sign, marks, place, returns, stack, script),
+        Sign::Text(text) => strings(place, text.copy()?, reading),
+        _ => begins_first(alloc, sign, marks, place, returns, reading),
     }
 }
 
 /// `)` behind a string.
-fn text_closes(
-    alloc: Global,
-    mut stack: Stack<Frame>,
-    script: ItemsRead,
-) -> Result<Option<State>, AllocError>
-    ensures { IfOk result (λ s. s ≡ text_closes stack script) }
+fn text_closes(alloc: Global, reading: &mut Reading) -> Result<Option<Point>, AllocError>
+    ensures { IfOk result (λ p. state_at p reading.new ≡ text_closes reading.old.stack reading.old.script) }
 {
-    match stack.pop() {
+    match reading.stack.pop() {
         Some(Frame::Print(pending, place, line, pieces)) => {
-            end_print(alloc, pending, place, line, pieces, stack, script)
+            let e = printed(alloc, place, line, pieces)?;
+            Ok(Some(Point::Have(pending, e)))
         }
         Some(frame) => {
             drop(frame);
@@ -196,14 +173,14 @@ fn text_closes(
 }
 
 /// `,` behind a string.
-fn text_comma(mut stack: Stack<Frame>, script: ItemsRead) -> Result<Option<State>, AllocError>
-    ensures { IfOk result (λ s. s ≡ text_comma stack script) }
+fn text_comma(reading: &mut Reading) -> Result<Option<Point>, AllocError>
+    ensures { IfOk result (λ p. state_at p reading.new ≡ text_comma reading.old.stack reading.old.script) }
 {
-    match stack.pop() {
+    match reading.stack.pop() {
         Some(Frame::Print(pending, place, line, pieces)) => {
-            let point = Point::Piece(pending.returns);
+            let point = Point::Piece(pending.get().returns);
             let frame = Frame::Print(pending, place, line, pieces);
-            inside(point, frame, stack, script)
+            inside(point, frame, reading)
         }
         Some(frame) => {
             drop(frame);
@@ -217,14 +194,13 @@ fn text_comma(mut stack: Stack<Frame>, script: ItemsRead) -> Result<Option<State
 pub fn at_texted(
     alloc: Global,
     sign: &Sign,
-    stack: Stack<Frame>,
-    script: ItemsRead,
-) -> Result<Option<State>, AllocError>
-    ensures { IfOk result (λ s. s ≡ at_texted sign.now stack script) }
+    reading: &mut Reading,
+) -> Result<Option<Point>, AllocError>
+    ensures { IfOk result (λ p. state_at p reading.new ≡ at_texted sign.now reading.old.stack reading.old.script) }
 {
     match sign {
-        Sign::Operator(Operator::CloseParen) => text_closes(alloc, stack, script),
-        Sign::Operator(Operator::Comma) => text_comma(stack, script),
+        Sign::Operator(Operator::CloseParen) => text_closes(alloc, reading),
+        Sign::Operator(Operator::Comma) => text_comma(reading),
         _ => Ok(None),
     }
 }
@@ -234,55 +210,33 @@ pub fn at_dot(
     alloc: Global,
     sign: &Sign,
     place: u32,
-    pending: Pending,
+    pending: Owned<Pending>,
     e: Form<Expr>,
-    stack: Stack<Frame>,
-    script: ItemsRead,
-) -> Result<Option<State>, AllocError>
-    ensures { IfOk result (λ s. s ≡ at_dot sign.now place pending e stack script) }
+    reading: &mut Reading,
+) -> Result<Option<Point>, AllocError>
+    ensures { IfOk result (λ p. state_at p reading.new ≡ at_dot sign.now place pending e reading.old.stack reading.old.script) }
 {
     match sign {
-        Sign::Name(bytes) => match bytes.copy() {
-            Ok(bytes) => match field(alloc, e, placed(place, bytes)) {
-                Ok(e) => Ok(at(Point::Have(pending, e), stack, script)),
-                Err(error) => {
-                    drop(pending);
-                    Err(error)
-                }
-            },
-            Err(error) => {
-                drop(pending);
-                drop(e);
-                Err(error)
-            }
-        },
-        _ => {
-            drop(pending);
-            drop(e);
-            Ok(None)
+        Sign::Name(bytes) => {
+            let e = field(alloc, e, placed(place, bytes.copy()?))?;
+            Ok(Some(Point::Have(pending, e)))
         }
+        _ => Ok(None),
     }
 }
 
 /// A token behind `[`.
 pub fn at_index(
     sign: &Sign,
-    pending: Pending,
+    pending: Owned<Pending>,
     e: Form<Expr>,
-    stack: Stack<Frame>,
-    script: ItemsRead,
-) -> Option<State>
-    ensures { result ≡ at_index sign.now pending e stack script }
+    reading: &mut Reading,
+) -> Option<Point>
+    ensures { state_at result reading.new ≡ at_index sign.now pending e reading.old.stack reading.old.script }
 {
     match sign {
-        Sign::Number(number) if *number >= 1 => {
-            at(Point::Indexed(pending, e, *number), stack, script)
-        }
-        _ => {
-            drop(pending);
-            drop(e);
-            None
-        }
+        Sign::Number(number) if *number >= 1 => { Some(Point::Indexed(pending, e, *number)) }
+        _ => None,
     }
 }
 
@@ -290,46 +244,33 @@ pub fn at_index(
 pub fn at_indexed(
     alloc: Global,
     sign: &Sign,
-    pending: Pending,
+    pending: Owned<Pending>,
     e: Form<Expr>,
     number: i64,
-    stack: Stack<Frame>,
-    script: ItemsRead,
-) -> Result<Option<State>, AllocError>
-    ensures { IfOk result (λ s. s ≡ at_indexed sign.now pending e number stack script) }
+    reading: &mut Reading,
+) -> Result<Option<Point>, AllocError>
+    ensures { IfOk result (λ p. state_at p reading.new ≡ at_indexed sign.now pending e number reading.old.stack reading.old.script) }
 {
     match sign {
-        Sign::Operator(Operator::CloseBracket) => match part(alloc, e, number) {
-            Ok(e) => Ok(at(Point::Have(pending, e), stack, script)),
-            Err(error) => {
-                drop(pending);
-                Err(error)
-            }
-        },
-        _ => {
-            drop(pending);
-            drop(e);
-            Ok(None)
+        Sign::Operator(Operator::CloseBracket) => {
+            let e = part(alloc, e, number)?;
+            Ok(Some(Point::Have(pending, e)))
         }
+        _ => Ok(None),
     }
 }
 
 /// The token that ends `eval(quote .. end`.
 pub fn at_quoted(
     sign: &Sign,
-    pending: Pending,
+    pending: Owned<Pending>,
     e: Form<Expr>,
-    stack: Stack<Frame>,
-    script: ItemsRead,
-) -> Option<State>
-    ensures { result ≡ at_quoted sign.now pending e stack script }
+    reading: &mut Reading,
+) -> Option<Point>
+    ensures { state_at result reading.new ≡ at_quoted sign.now pending e reading.old.stack reading.old.script }
 {
     match sign {
-        Sign::Operator(Operator::CloseParen) => at(Point::Have(pending, e), stack, script),
-        _ => {
-            drop(pending);
-            drop(e);
-            None
-        }
+        Sign::Operator(Operator::CloseParen) => Some(Point::Have(pending, e)),
+        _ => None,
     }
 }

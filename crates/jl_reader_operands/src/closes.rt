@@ -1,38 +1,34 @@
 //! A token behind a whole expression.
 
-ghost use Rattle.std.specs.Prelude.{◌≡◌, ◌∷◌, IfOk, None};
+ghost use Rattle.std.specs.Prelude.{◌≡◌, ◌∷◌, IfOk, None, []};
+ghost use Rattle.jl_grammar.specs.Goes.{state_at};
 ghost use Rattle.jl_grammar.specs.Forms.{paren, tuple, called, fetched, printed, with_expr, with_show};
 ghost use Rattle.jl_grammar.specs.declared.state.Frame.TheVariants.{Paren, Tuple, Args, Print};
 ghost use Rattle.jl_grammar.specs.Turns.{at, item_ends, stmt_ends, eval_ends, separates, finishes, block_over, evals_over, words, comma, parens, colon, closes_operator, closes};
 
-use crate::ends::have;
 use jl_grammar::owned::Owned;
 use jl_grammar::state::{
-    BlockKind, Called, EvalKind, Form, Forms, Frame, ItemsRead, Lead, Outer, Pending, Point, State,
+    BlockKind, Called, EvalKind, Form, Forms, Frame, Lead, Outer, Pending, Point, Reading,
 };
 use jl_grammar::tree::{Eval, Expr, Item, Piece, Stmt};
-use jl_model::rows::Stack;
-use jl_reader_forms::blocks::{at, block_word, evals_word, inside, item_of, with_eval, with_stmt};
+use jl_reader_forms::blocks::{block_word, evals_word, inside, item_of, with_eval, with_stmt};
 use jl_reader_forms::forms::{called, fetched, none, paren, printed, tuple, with_expr, with_show};
-use jl_reader_forms::levels::{fresh, into};
+use jl_reader_forms::levels::{begin_form, fresh};
 use jl_reader_forms::made::with_item;
 use jl_token::token::Operator;
 use jl_typeread::sign::{Sign, Word};
 use std::alloc::{AllocError, Global};
 
 /// An item has ended.
-fn item_ends(
-    alloc: Global,
-    item: Option<Form<Item>>,
-    script: ItemsRead,
-) -> Result<Option<State>, AllocError>
-    ensures { IfOk result (λ s. s ≡ item_ends item script) }
+fn item_ends(item: Option<Form<Item>>, reading: &mut Reading) -> Result<Option<Point>, AllocError>
+    requires { reading.old.stack ≡ [] }
+    ensures { IfOk result (λ p. state_at p reading.new ≡ item_ends item reading.old.script) }
 {
     match item {
         None => Ok(None),
         Some(item) => {
-            let script = with_item(script, item)?;
-            Ok(at(Point::Entry, Stack::new(alloc), script))
+            with_item(&mut reading.script, item)?;
+            Ok(Some(Point::Entry))
         }
     }
 }
@@ -41,14 +37,13 @@ fn item_ends(
 fn stmt_ends(
     stmts: Option<Forms<Stmt>>,
     kind: Owned<BlockKind>,
-    stack: Stack<Frame>,
-    script: ItemsRead,
-) -> Result<Option<State>, AllocError>
-    ensures { IfOk result (λ s. s ≡ stmt_ends stmts kind stack script) }
+    reading: &mut Reading,
+) -> Result<Option<Point>, AllocError>
+    ensures { IfOk result (λ p. state_at p reading.new ≡ stmt_ends stmts kind reading.old.stack reading.old.script) }
 {
     match stmts {
         None => Ok(None),
-        Some(stmts) => inside(Point::Entry, Frame::Block(kind, stmts), stack, script),
+        Some(stmts) => inside(Point::Entry, Frame::Block(kind, stmts), reading),
     }
 }
 
@@ -56,23 +51,19 @@ fn stmt_ends(
 fn eval_ends(
     evals: Option<Forms<Eval>>,
     kind: EvalKind,
-    stack: Stack<Frame>,
-    script: ItemsRead,
-) -> Result<Option<State>, AllocError>
-    ensures { IfOk result (λ s. s ≡ eval_ends evals kind stack script) }
+    reading: &mut Reading,
+) -> Result<Option<Point>, AllocError>
+    ensures { IfOk result (λ p. state_at p reading.new ≡ eval_ends evals kind reading.old.stack reading.old.script) }
 {
     match evals {
-        None => {
-            drop(kind);
-            Ok(None)
-        }
-        Some(evals) => inside(Point::Entry, Frame::Evals(kind, evals), stack, script),
+        None => Ok(None),
+        Some(evals) => inside(Point::Entry, Frame::Evals(kind, evals), reading),
     }
 }
 
 /// Nothing goes on with these.
-fn wrong(lead: Lead, e: Form<Expr>) -> Result<Option<State>, AllocError>
-    ensures { IfOk result (λ s. s ≡ None) }
+fn wrong(lead: Lead, e: Form<Expr>) -> Result<Option<Point>, AllocError>
+    ensures { IfOk result (λ p. p ≡ None) }
 {
     drop(lead);
     drop(e);
@@ -80,8 +71,8 @@ fn wrong(lead: Lead, e: Form<Expr>) -> Result<Option<State>, AllocError>
 }
 
 /// Nothing goes on with these, in this form.
-fn wrong_in(frame: Frame, e: Form<Expr>) -> Result<Option<State>, AllocError>
-    ensures { IfOk result (λ s. s ≡ None) }
+fn wrong_in(frame: Frame, e: Form<Expr>) -> Result<Option<Point>, AllocError>
+    ensures { IfOk result (λ p. p ≡ None) }
 {
     drop(frame);
     drop(e);
@@ -93,33 +84,29 @@ fn separates(
     alloc: Global,
     lead: Lead,
     e: Form<Expr>,
-    mut stack: Stack<Frame>,
-    script: ItemsRead,
-) -> Result<Option<State>, AllocError>
-    ensures { IfOk result (λ s. s ≡ separates lead e stack script) }
+    reading: &mut Reading,
+) -> Result<Option<Point>, AllocError>
+    ensures { IfOk result (λ p. state_at p reading.new ≡ separates lead e reading.old.stack reading.old.script) }
 {
-    match stack.pop() {
+    match reading.stack.pop() {
         None => {
             let item = item_of(alloc, lead, e)?;
-            item_ends(alloc, item, script)
+            item_ends(item, reading)
         }
         Some(Frame::Test(pending, place, branched, word)) => {
             drop(lead);
             let kind = BlockKind::Branch(pending, place, branched, word, e);
             let frame = Frame::Block(Owned::new(alloc, kind)?, none(alloc));
-            inside(Point::Entry, frame, stack, script)
+            inside(Point::Entry, frame, reading)
         }
         Some(Frame::Block(kind, stmts)) => {
             let stmts = with_stmt(stmts, lead, e)?;
-            stmt_ends(stmts, kind, stack, script)
+            stmt_ends(stmts, kind, reading)
         }
-        Some(Frame::Evals(kind, evals)) => match with_eval(alloc, evals, lead, e) {
-            Ok(evals) => eval_ends(evals, kind, stack, script),
-            Err(error) => {
-                drop(kind);
-                Err(error)
-            }
-        },
+        Some(Frame::Evals(kind, evals)) => {
+            let evals = with_eval(alloc, evals, lead, e)?;
+            eval_ends(evals, kind, reading)
+        }
         Some(frame) => {
             drop(lead);
             wrong_in(frame, e)
@@ -132,15 +119,14 @@ fn finishes(
     alloc: Global,
     lead: Lead,
     e: Form<Expr>,
-    mut stack: Stack<Frame>,
-    script: ItemsRead,
-) -> Result<Option<State>, AllocError>
-    ensures { IfOk result (λ s. s ≡ finishes lead e stack script) }
+    reading: &mut Reading,
+) -> Result<Option<Point>, AllocError>
+    ensures { IfOk result (λ p. state_at p reading.new ≡ finishes lead e reading.old.stack reading.old.script) }
 {
-    match stack.pop() {
+    match reading.stack.pop() {
         None => {
             let item = item_of(alloc, lead, e)?;
-            item_ends(alloc, item, script)
+            item_ends(item, reading)
         }
         Some(frame) => {
             drop(lead);
@@ -156,14 +142,13 @@ fn block_over(
     word: Word,
     place: u32,
     kind: Owned<BlockKind>,
-    stack: Stack<Frame>,
-    script: ItemsRead,
-) -> Result<Option<State>, AllocError>
-    ensures { IfOk result (λ s. s ≡ block_over stmts word place kind stack script) }
+    reading: &mut Reading,
+) -> Result<Option<Point>, AllocError>
+    ensures { IfOk result (λ p. state_at p reading.new ≡ block_over stmts word place kind reading.old.stack reading.old.script) }
 {
     match stmts {
         None => Ok(None),
-        Some(stmts) => block_word(alloc, word, place, kind.take(), stmts, stack, script),
+        Some(stmts) => block_word(alloc, word, place, kind.take(), stmts, reading),
     }
 }
 
@@ -173,17 +158,13 @@ fn evals_over(
     evals: Option<Forms<Eval>>,
     word: Word,
     kind: EvalKind,
-    stack: Stack<Frame>,
-    script: ItemsRead,
-) -> Result<Option<State>, AllocError>
-    ensures { IfOk result (λ s. s ≡ evals_over evals word kind stack script) }
+    reading: &mut Reading,
+) -> Result<Option<Point>, AllocError>
+    ensures { IfOk result (λ p. state_at p reading.new ≡ evals_over evals word kind reading.old.stack reading.old.script) }
 {
     match evals {
-        None => {
-            drop(kind);
-            Ok(None)
-        }
-        Some(evals) => evals_word(alloc, word, kind, evals, stack, script),
+        None => Ok(None),
+        Some(evals) => evals_word(alloc, word, kind, evals, reading),
     }
 }
 
@@ -194,23 +175,19 @@ pub(crate) fn words(
     place: u32,
     lead: Lead,
     e: Form<Expr>,
-    mut stack: Stack<Frame>,
-    script: ItemsRead,
-) -> Result<Option<State>, AllocError>
-    ensures { IfOk result (λ s. s ≡ words word place lead e stack script) }
+    reading: &mut Reading,
+) -> Result<Option<Point>, AllocError>
+    ensures { IfOk result (λ p. state_at p reading.new ≡ words word place lead e reading.old.stack reading.old.script) }
 {
-    match stack.pop() {
+    match reading.stack.pop() {
         Some(Frame::Block(kind, stmts)) => {
             let stmts = with_stmt(stmts, lead, e)?;
-            block_over(alloc, stmts, word, place, kind, stack, script)
+            block_over(alloc, stmts, word, place, kind, reading)
         }
-        Some(Frame::Evals(kind, evals)) => match with_eval(alloc, evals, lead, e) {
-            Ok(evals) => evals_over(alloc, evals, word, kind, stack, script),
-            Err(error) => {
-                drop(kind);
-                Err(error)
-            }
-        },
+        Some(Frame::Evals(kind, evals)) => {
+            let evals = with_eval(alloc, evals, lead, e)?;
+            evals_over(alloc, evals, word, kind, reading)
+        }
         Some(frame) => {
             drop(lead);
             wrong_in(frame, e)
@@ -223,127 +200,88 @@ pub(crate) fn words(
 #[inline(always)]
 fn first_part(
     alloc: Global,
-    pending: Pending,
+    pending: Owned<Pending>,
     place: u32,
     e: Form<Expr>,
-    stack: Stack<Frame>,
-    script: ItemsRead,
-) -> Result<Option<State>, AllocError>
-    ensures { IfOk result (λ s. s ≡ comma e (Paren pending place ∷ stack) script) }
+    reading: &mut Reading,
+) -> Result<Option<Point>, AllocError>
+    ensures { IfOk result (λ p. state_at p reading.new ≡ comma e (Paren pending place ∷ reading.old.stack) reading.old.script) }
 {
-    let returns = pending.returns;
-    match with_expr(none(alloc), e) {
-        Ok(parts) => {
-            let frame = Frame::Tuple(pending, place, parts);
-            inside(Point::Again(returns), frame, stack, script)
-        }
-        Err(error) => {
-            drop(pending);
-            Err(error)
-        }
-    }
+    let returns = pending.get().returns;
+    let parts = with_expr(none(alloc), e)?;
+    let frame = Frame::Tuple(pending, place, parts);
+    inside(Point::Again(returns), frame, reading)
 }
 
 /// `,` behind a later part of a tuple.
 #[inline(always)]
 fn next_part(
     alloc: Global,
-    pending: Pending,
+    pending: Owned<Pending>,
     place: u32,
     parts: Forms<Expr>,
     e: Form<Expr>,
-    stack: Stack<Frame>,
-    script: ItemsRead,
-) -> Result<Option<State>, AllocError>
-    ensures { IfOk result (λ s. s ≡ comma e (Tuple pending place parts ∷ stack) script) }
+    reading: &mut Reading,
+) -> Result<Option<Point>, AllocError>
+    ensures { IfOk result (λ p. state_at p reading.new ≡ comma e (Tuple pending place parts ∷ reading.old.stack) reading.old.script) }
 {
-    let returns = pending.returns;
-    match with_expr(parts, e) {
-        Ok(parts) => {
-            let frame = Frame::Tuple(pending, place, parts);
-            inside(Point::Want(fresh(alloc, returns)), frame, stack, script)
-        }
-        Err(error) => {
-            drop(pending);
-            Err(error)
-        }
-    }
+    let want = fresh(alloc, pending.get().returns)?;
+    let parts = with_expr(parts, e)?;
+    let frame = Frame::Tuple(pending, place, parts);
+    inside(Point::Want(want), frame, reading)
 }
 
 /// `,` behind an argument.
 #[inline(always)]
 fn next_argument(
     alloc: Global,
-    pending: Pending,
+    pending: Owned<Pending>,
     place: u32,
     function: Owned<Called>,
     arguments: Forms<Expr>,
     e: Form<Expr>,
-    stack: Stack<Frame>,
-    script: ItemsRead,
-) -> Result<Option<State>, AllocError>
-    ensures { IfOk result (λ s. s ≡ comma e (Args pending place function arguments ∷ stack) script) }
+    reading: &mut Reading,
+) -> Result<Option<Point>, AllocError>
+    ensures { IfOk result (λ p. state_at p reading.new ≡ comma e (Args pending place function arguments ∷ reading.old.stack) reading.old.script) }
 {
-    let returns = pending.returns;
-    match with_expr(arguments, e) {
-        Ok(arguments) => {
-            let frame = Frame::Args(pending, place, function, arguments);
-            inside(Point::Want(fresh(alloc, returns)), frame, stack, script)
-        }
-        Err(error) => {
-            drop(pending);
-            Err(error)
-        }
-    }
+    let want = fresh(alloc, pending.get().returns)?;
+    let arguments = with_expr(arguments, e)?;
+    let frame = Frame::Args(pending, place, function, arguments);
+    inside(Point::Want(want), frame, reading)
 }
 
 /// `,` behind a piece of a `print`.
 fn next_piece(
-    pending: Pending,
+    pending: Owned<Pending>,
     place: u32,
     line: bool,
     pieces: Forms<Piece>,
     e: Form<Expr>,
-    stack: Stack<Frame>,
-    script: ItemsRead,
-) -> Result<Option<State>, AllocError>
-    ensures { IfOk result (λ s. s ≡ comma e (Print pending place line pieces ∷ stack) script) }
+    reading: &mut Reading,
+) -> Result<Option<Point>, AllocError>
+    ensures { IfOk result (λ p. state_at p reading.new ≡ comma e (Print pending place line pieces ∷ reading.old.stack) reading.old.script) }
 {
-    let returns = pending.returns;
-    match with_show(pieces, e) {
-        Ok(pieces) => {
-            let frame = Frame::Print(pending, place, line, pieces);
-            inside(Point::Piece(returns), frame, stack, script)
-        }
-        Err(error) => {
-            drop(pending);
-            Err(error)
-        }
-    }
+    let returns = pending.get().returns;
+    let pieces = with_show(pieces, e)?;
+    let frame = Frame::Print(pending, place, line, pieces);
+    inside(Point::Piece(returns), frame, reading)
 }
 
 /// `,` behind an expression.
 #[inline(always)]
-fn comma(
-    alloc: Global,
-    e: Form<Expr>,
-    mut stack: Stack<Frame>,
-    script: ItemsRead,
-) -> Result<Option<State>, AllocError>
-    ensures { IfOk result (λ s. s ≡ comma e stack script) }
+fn comma(alloc: Global, e: Form<Expr>, reading: &mut Reading) -> Result<Option<Point>, AllocError>
+    ensures { IfOk result (λ p. state_at p reading.new ≡ comma e reading.old.stack reading.old.script) }
 {
-    match stack.pop() {
-        Some(Frame::Paren(pending, place)) => {
-            first_part(alloc, pending, place, e, stack, script)
-        }
+    match reading.stack.pop() {
+        Some(Frame::Paren(pending, place)) => { first_part(alloc, pending, place, e, reading) }
         Some(Frame::Tuple(pending, place, parts)) => {
-            next_part(alloc, pending, place, parts, e, stack, script)
+            next_part(alloc, pending, place, parts, e, reading)
         }
         Some(Frame::Args(pending, place, function, arguments)) => next_argument(
-            alloc, pending, place, function, arguments, e, stack, script,
+            alloc, pending, place, function, arguments, e, reading,
         ),
         Some(Frame::Print(pending, place, line, pieces)) => {
-            next_piece(pending, place, line, pieces, e, stack, script)
+            next_piece(pending, place, line, pieces, e, reading)
         }
         Some(frame) => wrong_in(frame, e),
         None => {
@@ -353,153 +291,103 @@ fn comma(
     }
 }
 
-/// A tuple that ends with this part.
-#[inline(always)]
-fn whole_tuple(
-    alloc: Global,
-    place: u32,
-    parts: Forms<Expr>,
-    e: Form<Expr>,
-) -> Result<Form<Expr>, AllocError>
-    ensures { IfOk result (λ r. r ≡ tuple place (with_expr parts e)) }
-{
-    let parts = with_expr(parts, e)?;
-    tuple(alloc, place, parts)
-}
-
-/// Arguments that end with this one, behind what they are given to.
-#[inline(always)]
-fn whole_call(
-    alloc: Global,
-    place: u32,
-    function: Owned<Called>,
-    arguments: Forms<Expr>,
-    e: Form<Expr>,
-) -> Result<Form<Expr>, AllocError>
-    ensures { IfOk result (λ r. r ≡ called place function (with_expr arguments e)) }
-{
-    let arguments = with_expr(arguments, e)?;
-    called(alloc, place, function.take(), arguments)
-}
-
-/// A `print` that ends with this piece.
-fn whole_print(
-    alloc: Global,
-    place: u32,
-    line: bool,
-    pieces: Forms<Piece>,
-    e: Form<Expr>,
-) -> Result<Form<Expr>, AllocError>
-    ensures { IfOk result (λ r. r ≡ printed place line (with_show pieces e)) }
-{
-    let pieces = with_show(pieces, e)?;
-    printed(alloc, place, line, pieces)
-}
-
 /// `)` behind an expression in parentheses.
 #[inline(always)]
 fn end_paren(
     alloc: Global,
-    pending: Pending,
+    pending: Owned<Pending>,
     place: u32,
     e: Form<Expr>,
-    stack: Stack<Frame>,
-    script: ItemsRead,
-) -> Result<Option<State>, AllocError>
-    ensures { IfOk result (λ s. s ≡ at (Point.Have pending (paren place e)) stack script) }
+    reading: &mut Reading,
+) -> Result<Option<Point>, AllocError>
+    ensures { IfOk result (λ p. state_at p reading.new ≡ at (Point.Have pending (paren place e)) reading.old.stack reading.old.script) }
 {
-    let made = paren(alloc, place, e);
-    have(pending, made, stack, script)
+    let e = paren(alloc, place, e)?;
+    Ok(Some(Point::Have(pending, e)))
 }
 
 /// `)` behind the last part of a tuple.
 #[inline(always)]
 fn last_part(
     alloc: Global,
-    pending: Pending,
+    pending: Owned<Pending>,
     place: u32,
     parts: Forms<Expr>,
     e: Form<Expr>,
-    stack: Stack<Frame>,
-    script: ItemsRead,
-) -> Result<Option<State>, AllocError>
-    ensures { IfOk result (λ s. s ≡ at (Point.Have pending (tuple place (with_expr parts e))) stack script) }
+    reading: &mut Reading,
+) -> Result<Option<Point>, AllocError>
+    ensures { IfOk result (λ p. state_at p reading.new ≡ at (Point.Have pending (tuple place (with_expr parts e))) reading.old.stack reading.old.script) }
 {
-    let made = whole_tuple(alloc, place, parts, e);
-    have(pending, made, stack, script)
+    let parts = with_expr(parts, e)?;
+    let e = tuple(alloc, place, parts)?;
+    Ok(Some(Point::Have(pending, e)))
 }
 
 /// `)` behind the last argument.
 #[inline(always)]
 fn last_argument(
     alloc: Global,
-    pending: Pending,
+    pending: Owned<Pending>,
     place: u32,
     function: Owned<Called>,
     arguments: Forms<Expr>,
     e: Form<Expr>,
-    stack: Stack<Frame>,
-    script: ItemsRead,
-) -> Result<Option<State>, AllocError>
-    ensures { IfOk result (λ s. s ≡ at (Point.Have pending (called place function (with_expr arguments e))) stack script) }
+    reading: &mut Reading,
+) -> Result<Option<Point>, AllocError>
+    ensures { IfOk result (λ p. state_at p reading.new ≡ at (Point.Have pending (called place function (with_expr arguments e))) reading.old.stack reading.old.script) }
 {
-    let made = whole_call(alloc, place, function, arguments, e);
-    have(pending, made, stack, script)
+    let arguments = with_expr(arguments, e)?;
+    let e = called(alloc, place, function.take(), arguments)?;
+    Ok(Some(Point::Have(pending, e)))
 }
 
 /// `)` behind the task of a `fetch`.
 fn end_fetch(
     alloc: Global,
-    pending: Pending,
+    pending: Owned<Pending>,
     place: u32,
     e: Form<Expr>,
-    stack: Stack<Frame>,
-    script: ItemsRead,
-) -> Result<Option<State>, AllocError>
-    ensures { IfOk result (λ s. s ≡ at (Point.Have pending (fetched place e)) stack script) }
+    reading: &mut Reading,
+) -> Result<Option<Point>, AllocError>
+    ensures { IfOk result (λ p. state_at p reading.new ≡ at (Point.Have pending (fetched place e)) reading.old.stack reading.old.script) }
 {
-    let made = fetched(alloc, place, e);
-    have(pending, made, stack, script)
+    let e = fetched(alloc, place, e)?;
+    Ok(Some(Point::Have(pending, e)))
 }
 
 /// `)` behind the last piece of a `print`.
 fn last_piece(
     alloc: Global,
-    pending: Pending,
+    pending: Owned<Pending>,
     place: u32,
     line: bool,
     pieces: Forms<Piece>,
     e: Form<Expr>,
-    stack: Stack<Frame>,
-    script: ItemsRead,
-) -> Result<Option<State>, AllocError>
-    ensures { IfOk result (λ s. s ≡ at (Point.Have pending (printed place line (with_show pieces e))) stack script) }
+    reading: &mut Reading,
+) -> Result<Option<Point>, AllocError>
+    ensures { IfOk result (λ p. state_at p reading.new ≡ at (Point.Have pending (printed place line (with_show pieces e))) reading.old.stack reading.old.script) }
 {
-    let made = whole_print(alloc, place, line, pieces, e);
-    have(pending, made, stack, script)
+    let pieces = with_show(pieces, e)?;
+    let e = printed(alloc, place, line, pieces)?;
+    Ok(Some(Point::Have(pending, e)))
 }
 
 /// `)` behind an expression.
 #[inline(always)]
-fn parens(
-    alloc: Global,
-    e: Form<Expr>,
-    mut stack: Stack<Frame>,
-    script: ItemsRead,
-) -> Result<Option<State>, AllocError>
-    ensures { IfOk result (λ s. s ≡ parens e stack script) }
+fn parens(alloc: Global, e: Form<Expr>, reading: &mut Reading) -> Result<Option<Point>, AllocError>
+    ensures { IfOk result (λ p. state_at p reading.new ≡ parens e reading.old.stack reading.old.script) }
 {
-    match stack.pop() {
-        Some(Frame::Paren(pending, place)) => end_paren(alloc, pending, place, e, stack, script),
+    match reading.stack.pop() {
+        Some(Frame::Paren(pending, place)) => end_paren(alloc, pending, place, e, reading),
         Some(Frame::Tuple(pending, place, parts)) => {
-            last_part(alloc, pending, place, parts, e, stack, script)
+            last_part(alloc, pending, place, parts, e, reading)
         }
         Some(Frame::Args(pending, place, function, arguments)) => last_argument(
-            alloc, pending, place, function, arguments, e, stack, script,
+            alloc, pending, place, function, arguments, e, reading,
         ),
-        Some(Frame::Fetch(pending, place)) => end_fetch(alloc, pending, place, e, stack, script),
+        Some(Frame::Fetch(pending, place)) => end_fetch(alloc, pending, place, e, reading),
         Some(Frame::Print(pending, place, line, pieces)) => {
-            last_piece(alloc, pending, place, line, pieces, e, stack, script)
+            last_piece(alloc, pending, place, line, pieces, e, reading)
         }
         Some(frame) => wrong_in(frame, e),
         None => {
@@ -510,28 +398,16 @@ fn parens(
 }
 
 /// The `:` of a conditional.
-fn colon(
-    alloc: Global,
-    e: Form<Expr>,
-    mut stack: Stack<Frame>,
-    script: ItemsRead,
-) -> Result<Option<State>, AllocError>
-    ensures { IfOk result (λ s. s ≡ colon e stack script) }
+fn colon(alloc: Global, e: Form<Expr>, reading: &mut Reading) -> Result<Option<Point>, AllocError>
+    ensures { IfOk result (λ p. state_at p reading.new ≡ colon e reading.old.stack reading.old.script) }
 {
-    match stack.pop() {
+    match reading.stack.pop() {
         Some(Frame::Then(pending, test)) => {
-            let returns = pending.returns;
-            match Owned::new(alloc, e) {
-                Ok(then) => {
-                    let form = Outer::Otherwise(test, then);
-                    let pending = into(alloc, form, returns, pending)?;
-                    Ok(at(Point::Want(pending), stack, script))
-                }
-                Err(error) => {
-                    drop(pending);
-                    Err(error)
-                }
-            }
+            let mut pending = pending;
+            let returns = pending.get().returns;
+            let form = Outer::Otherwise(test, Owned::new(alloc, e)?);
+            begin_form(alloc, form, returns, pending.get_mut())?;
+            Ok(Some(Point::Want(pending)))
         }
         Some(frame) => wrong_in(frame, e),
         None => {
@@ -547,25 +423,24 @@ pub(crate) fn closes_operator(
     operator: Operator,
     lead: Lead,
     e: Form<Expr>,
-    stack: Stack<Frame>,
-    script: ItemsRead,
-) -> Result<Option<State>, AllocError>
-    ensures { IfOk result (λ s. s ≡ closes_operator operator lead e stack script) }
+    reading: &mut Reading,
+) -> Result<Option<Point>, AllocError>
+    ensures { IfOk result (λ p. state_at p reading.new ≡ closes_operator operator lead e reading.old.stack reading.old.script) }
 {
     match operator {
         Operator::Comma => {
             drop(lead);
-            comma(alloc, e, stack, script)
+            comma(alloc, e, reading)
         }
         Operator::CloseParen => {
             drop(lead);
-            parens(alloc, e, stack, script)
+            parens(alloc, e, reading)
         }
         Operator::Colon => {
             drop(lead);
-            colon(alloc, e, stack, script)
+            colon(alloc, e, reading)
         }
-        Operator::Semicolon => separates(alloc, lead, e, stack, script),
+        Operator::Semicolon => separates(alloc, lead, e, reading),
         _ => wrong(lead, e),
     }
 }
@@ -577,16 +452,15 @@ pub(crate) fn closes(
     place: u32,
     lead: Lead,
     e: Form<Expr>,
-    stack: Stack<Frame>,
-    script: ItemsRead,
-) -> Result<Option<State>, AllocError>
-    ensures { IfOk result (λ s. s ≡ closes sign.now place lead e stack script) }
+    reading: &mut Reading,
+) -> Result<Option<Point>, AllocError>
+    ensures { IfOk result (λ p. state_at p reading.new ≡ closes sign.now place lead e reading.old.stack reading.old.script) }
 {
     match sign {
-        Sign::Operator(operator) => closes_operator(alloc, *operator, lead, e, stack, script),
-        Sign::Word(word) => words(alloc, *word, place, lead, e, stack, script),
-        Sign::Newline => separates(alloc, lead, e, stack, script),
-        Sign::End => finishes(alloc, lead, e, stack, script),
+        Sign::Operator(operator) => closes_operator(alloc, *operator, lead, e, reading),
+        Sign::Word(word) => words(alloc, *word, place, lead, e, reading),
+        Sign::Newline => separates(alloc, lead, e, reading),
+        Sign::End => finishes(alloc, lead, e, reading),
         _ => wrong(lead, e),
     }
 }

@@ -1,19 +1,19 @@
 //! A token behind an operand.
 
 ghost use Rattle.std.specs.Prelude.{◌≡◌, ◌∷◌, IfOk};
+ghost use Rattle.jl_grammar.specs.Goes.{state_at};
 ghost use Rattle.jl_grammar.specs.Levels.{no_levels, fresh, at_levels, as_comparison, as_or, behind_and, behind_or, behind_comparison};
 ghost use Rattle.jl_grammar.specs.Turns.{at, unequal, compared_operator, compared, terms, sums, compares, type_start, isas, follows_operator, follows_word, follows};
 
 use crate::closes::{closes, closes_operator, words};
-use crate::ends::want;
 use jl_grammar::owned::Owned;
-use jl_grammar::state::{Form, Frame, Goal, ItemsRead, Pending, Point, State};
+use jl_grammar::state::{Form, Frame, Goal, Pending, Point, Reading};
 use jl_grammar::tree::{Expr, Infix};
 use jl_model::rows::Stack;
-use jl_reader_forms::blocks::{at, inside};
+use jl_reader_forms::blocks::inside;
 use jl_reader_forms::levels::{
-    apart, as_or, at_levels, behind_and, behind_comparison, behind_or, behind_sum, behind_term,
-    expression, fresh, settled, summed, unequal,
+    behind_and, behind_comparison, behind_or, behind_sum, behind_term, expression, fresh, settled,
+    summed, test_of, unequal,
 };
 use jl_token::token::Operator;
 use jl_typeread::sign::{Sign, Word};
@@ -24,50 +24,47 @@ use std::alloc::{AllocError, Global};
 #[inline(always)]
 fn ands(
     alloc: Global,
-    pending: Pending,
+    pending: Owned<Pending>,
     e: Form<Expr>,
-    stack: Stack<Frame>,
-    script: ItemsRead,
-) -> Result<Option<State>, AllocError>
-    ensures { IfOk result (λ s. s ≡ at (Point.Want (at_levels (behind_and pending.levels e) pending)) stack script) }
+    reading: &mut Reading,
+) -> Result<Option<Point>, AllocError>
+    ensures { IfOk result (λ p. state_at p reading.new ≡ at (Point.Want (at_levels (behind_and pending.levels e) pending)) reading.old.stack reading.old.script) }
 {
-    let (levels, pending) = apart(alloc, pending);
-    let behind = behind_and(alloc, levels, e);
-    want(pending, behind, stack, script)
+    let mut pending = pending;
+    behind_and(alloc, pending.get_mut(), e)?;
+    Ok(Some(Point::Want(pending)))
 }
 
 /// `||` behind a comparison.
 #[inline(always)]
 fn ors(
     alloc: Global,
-    pending: Pending,
+    pending: Owned<Pending>,
     e: Form<Expr>,
-    stack: Stack<Frame>,
-    script: ItemsRead,
-) -> Result<Option<State>, AllocError>
-    ensures { IfOk result (λ s. s ≡ at (Point.Want (at_levels (behind_or pending.levels e) pending)) stack script) }
+    reading: &mut Reading,
+) -> Result<Option<Point>, AllocError>
+    ensures { IfOk result (λ p. state_at p reading.new ≡ at (Point.Want (at_levels (behind_or pending.levels e) pending)) reading.old.stack reading.old.script) }
 {
-    let (levels, pending) = apart(alloc, pending);
-    let behind = behind_or(alloc, levels, e);
-    want(pending, behind, stack, script)
+    let mut pending = pending;
+    behind_or(alloc, pending.get_mut(), e)?;
+    Ok(Some(Point::Want(pending)))
 }
 
 /// The `?` of a conditional.
 #[inline(always)]
 fn chooses(
     alloc: Global,
-    pending: Pending,
+    pending: Owned<Pending>,
     e: Form<Expr>,
-    stack: Stack<Frame>,
-    script: ItemsRead,
-) -> Result<Option<State>, AllocError>
-    ensures { IfOk result (λ s. s ≡ at (Point.Want (fresh pending.returns)) (Frame.Then (at_levels no_levels pending) (as_or pending.levels e) ∷ stack) script) }
+    reading: &mut Reading,
+) -> Result<Option<Point>, AllocError>
+    ensures { IfOk result (λ p. state_at p reading.new ≡ at (Point.Want (fresh pending.returns)) (Frame.Then (at_levels no_levels pending) (as_or pending.levels e) ∷ reading.old.stack) reading.old.script) }
 {
-    let (levels, pending) = apart(alloc, pending);
-    let test = as_or(alloc, levels, e)?;
-    let returns = pending.returns;
+    let mut pending = pending;
+    let test = test_of(alloc, pending.get_mut(), e)?;
+    let want = fresh(alloc, pending.get().returns)?;
     let frame = Frame::Then(pending, Owned::new(alloc, test)?);
-    inside(Point::Want(fresh(alloc, returns)), frame, stack, script)
+    inside(Point::Want(want), frame, reading)
 }
 
 /// An operator or another mark behind a comparison.
@@ -76,20 +73,19 @@ fn compared_operator(
     alloc: Global,
     operator: Operator,
     place: u32,
-    pending: Pending,
+    pending: Owned<Pending>,
     e: Form<Expr>,
-    stack: Stack<Frame>,
-    script: ItemsRead,
-) -> Result<Option<State>, AllocError>
-    ensures { IfOk result (λ s. s ≡ compared_operator operator place pending e stack script) }
+    reading: &mut Reading,
+) -> Result<Option<Point>, AllocError>
+    ensures { IfOk result (λ p. state_at p reading.new ≡ compared_operator operator place pending e reading.old.stack reading.old.script) }
 {
     match operator {
-        Operator::And => ands(alloc, pending, e, stack, script),
-        Operator::Or => ors(alloc, pending, e, stack, script),
-        Operator::Question => chooses(alloc, pending, e, stack, script),
+        Operator::And => ands(alloc, pending, e, reading),
+        Operator::Or => ors(alloc, pending, e, reading),
+        Operator::Question => chooses(alloc, pending, e, reading),
         _ => {
             let (lead, e) = expression(alloc, pending, e)?;
-            closes_operator(alloc, operator, lead, e, stack, script)
+            closes_operator(alloc, operator, lead, e, reading)
         }
     }
 }
@@ -99,20 +95,19 @@ pub fn compared(
     alloc: Global,
     sign: &Sign,
     place: u32,
-    pending: Pending,
+    pending: Owned<Pending>,
     e: Form<Expr>,
-    stack: Stack<Frame>,
-    script: ItemsRead,
-) -> Result<Option<State>, AllocError>
-    ensures { IfOk result (λ s. s ≡ compared sign.now place pending e stack script) }
+    reading: &mut Reading,
+) -> Result<Option<Point>, AllocError>
+    ensures { IfOk result (λ p. state_at p reading.new ≡ compared sign.now place pending e reading.old.stack reading.old.script) }
 {
     match sign {
         Sign::Operator(operator) => {
-            compared_operator(alloc, *operator, place, pending, e, stack, script)
+            compared_operator(alloc, *operator, place, pending, e, reading)
         }
         _ => {
             let (lead, e) = expression(alloc, pending, e)?;
-            closes(alloc, sign, place, lead, e, stack, script)
+            closes(alloc, sign, place, lead, e, reading)
         }
     }
 }
@@ -122,16 +117,15 @@ pub fn compared(
 fn terms(
     alloc: Global,
     operator: Infix,
-    pending: Pending,
+    pending: Owned<Pending>,
     e: Form<Expr>,
-    stack: Stack<Frame>,
-    script: ItemsRead,
-) -> Result<Option<State>, AllocError>
-    ensures { IfOk result (λ s. s ≡ terms operator pending e stack script) }
+    reading: &mut Reading,
+) -> Result<Option<Point>, AllocError>
+    ensures { IfOk result (λ p. state_at p reading.new ≡ terms operator pending e reading.old.stack reading.old.script) }
 {
-    let (levels, pending) = apart(alloc, pending);
-    let behind = behind_term(alloc, operator, levels, e);
-    want(pending, behind, stack, script)
+    let mut pending = pending;
+    behind_term(alloc, operator, pending.get_mut(), e)?;
+    Ok(Some(Point::Want(pending)))
 }
 
 /// `+` or `-` behind an operand.
@@ -139,16 +133,15 @@ fn terms(
 fn sums(
     alloc: Global,
     operator: Infix,
-    pending: Pending,
+    pending: Owned<Pending>,
     e: Form<Expr>,
-    stack: Stack<Frame>,
-    script: ItemsRead,
-) -> Result<Option<State>, AllocError>
-    ensures { IfOk result (λ s. s ≡ sums operator pending e stack script) }
+    reading: &mut Reading,
+) -> Result<Option<Point>, AllocError>
+    ensures { IfOk result (λ p. state_at p reading.new ≡ sums operator pending e reading.old.stack reading.old.script) }
 {
-    let (levels, pending) = apart(alloc, pending);
-    let behind = behind_sum(alloc, operator, levels, e);
-    want(pending, behind, stack, script)
+    let mut pending = pending;
+    behind_sum(alloc, operator, pending.get_mut(), e)?;
+    Ok(Some(Point::Want(pending)))
 }
 
 /// The operator of a comparison behind its left operand.
@@ -156,35 +149,31 @@ fn sums(
 fn comparisons(
     alloc: Global,
     operator: Infix,
-    pending: Pending,
+    pending: Owned<Pending>,
     e: Form<Expr>,
-    stack: Stack<Frame>,
-    script: ItemsRead,
-) -> Result<Option<State>, AllocError>
-    ensures { IfOk result (λ s. s ≡ at (Point.Want (at_levels (behind_comparison operator pending.levels e) pending)) stack script) }
+    reading: &mut Reading,
+) -> Result<Option<Point>, AllocError>
+    ensures { IfOk result (λ p. state_at p reading.new ≡ at (Point.Want (at_levels (behind_comparison operator pending.levels e) pending)) reading.old.stack reading.old.script) }
 {
-    let (levels, pending) = apart(alloc, pending);
-    let behind = behind_comparison(alloc, operator, levels, e);
-    want(pending, behind, stack, script)
+    let mut pending = pending;
+    behind_comparison(alloc, operator, pending.get_mut(), e)?;
+    Ok(Some(Point::Want(pending)))
 }
 
 /// The operator of a comparison behind an operand. A comparison has one operator.
 fn compares(
     alloc: Global,
     operator: Infix,
-    pending: Pending,
+    pending: Owned<Pending>,
     e: Form<Expr>,
-    stack: Stack<Frame>,
-    script: ItemsRead,
-) -> Result<Option<State>, AllocError>
-    ensures { IfOk result (λ s. s ≡ compares (unequal pending.levels) operator pending e stack script) }
+    reading: &mut Reading,
+) -> Result<Option<Point>, AllocError>
+    ensures { IfOk result (λ p. state_at p reading.new ≡ compares (unequal pending.levels) operator pending e reading.old.stack reading.old.script) }
 {
-    if !unequal(&pending.levels) {
-        drop(pending);
-        drop(e);
+    if !unequal(&pending.get().levels) {
         return Ok(None);
     }
-    comparisons(alloc, operator, pending, e, stack, script)
+    comparisons(alloc, operator, pending, e, reading)
 }
 
 /// The beginning of a type.
@@ -197,25 +186,30 @@ pub fn type_start(alloc: Global) -> TypeState
     }
 }
 
+/// A type must stand next, which is read for this goal.
+pub fn want_type(alloc: Global, goal: Goal) -> Result<Point, AllocError>
+    ensures { IfOk result (λ p. p ≡ Point.Type goal type_start) }
+{
+    let goal = Owned::new(alloc, goal)?;
+    let state = Owned::new(alloc, type_start(alloc))?;
+    Ok(Point::Type(goal, state))
+}
+
 /// `isa` behind an operand.
 fn isas(
     alloc: Global,
-    pending: Pending,
+    pending: Owned<Pending>,
     e: Form<Expr>,
-    stack: Stack<Frame>,
-    script: ItemsRead,
-) -> Result<Option<State>, AllocError>
-    ensures { IfOk result (λ s. s ≡ isas (unequal pending.levels) pending e stack script) }
+    reading: &mut Reading,
+) -> Result<Option<Point>, AllocError>
+    ensures { IfOk result (λ p. state_at p reading.new ≡ isas (unequal pending.levels) pending e reading.old.stack reading.old.script) }
 {
-    if !unequal(&pending.levels) {
-        drop(pending);
-        drop(e);
+    if !unequal(&pending.get().levels) {
         return Ok(None);
     }
-    let (levels, pending) = apart(alloc, pending);
-    let (levels, e) = summed(alloc, levels, e)?;
-    let goal = Goal::Isa(at_levels(levels, pending), e);
-    Ok(at(Point::Type(goal, type_start(alloc)), stack, script))
+    let mut pending = pending;
+    let e = summed(alloc, pending.get_mut(), e)?;
+    Ok(Some(want_type(alloc, Goal::Isa(pending, e))?))
 }
 
 /// An operator or another mark that the comparison does not go on with.
@@ -224,15 +218,15 @@ fn past(
     alloc: Global,
     operator: Operator,
     place: u32,
-    pending: Pending,
+    pending: Owned<Pending>,
     e: Form<Expr>,
-    stack: Stack<Frame>,
-    script: ItemsRead,
-) -> Result<Option<State>, AllocError>
-    ensures { IfOk result (λ s. s ≡ compared_operator operator place pending (as_comparison pending.levels e) stack script) }
+    reading: &mut Reading,
+) -> Result<Option<Point>, AllocError>
+    ensures { IfOk result (λ p. state_at p reading.new ≡ compared_operator operator place pending (as_comparison pending.levels e) reading.old.stack reading.old.script) }
 {
-    let (pending, e) = settled(alloc, pending, e)?;
-    compared_operator(alloc, operator, place, pending, e, stack, script)
+    let mut pending = pending;
+    let e = settled(alloc, pending.get_mut(), e)?;
+    compared_operator(alloc, operator, place, pending, e, reading)
 }
 
 /// An operator or another mark behind an operand.
@@ -241,30 +235,29 @@ fn follows_operator(
     alloc: Global,
     operator: Operator,
     place: u32,
-    pending: Pending,
+    pending: Owned<Pending>,
     e: Form<Expr>,
-    stack: Stack<Frame>,
-    script: ItemsRead,
-) -> Result<Option<State>, AllocError>
-    ensures { IfOk result (λ s. s ≡ follows_operator operator place pending e stack script) }
+    reading: &mut Reading,
+) -> Result<Option<Point>, AllocError>
+    ensures { IfOk result (λ p. state_at p reading.new ≡ follows_operator operator place pending e reading.old.stack reading.old.script) }
 {
     match operator {
-        Operator::Dot => Ok(at(Point::Dot(pending, e), stack, script)),
-        Operator::OpenBracket => Ok(at(Point::Index(pending, e), stack, script)),
-        Operator::Times => terms(alloc, Infix::Times, pending, e, stack, script),
-        Operator::Divide => terms(alloc, Infix::Divide, pending, e, stack, script),
-        Operator::Remainder => terms(alloc, Infix::Remainder, pending, e, stack, script),
-        Operator::Plus => sums(alloc, Infix::Plus, pending, e, stack, script),
-        Operator::Minus => sums(alloc, Infix::Minus, pending, e, stack, script),
-        Operator::Equal => compares(alloc, Infix::Equal, pending, e, stack, script),
-        Operator::NotEqual => compares(alloc, Infix::NotEqual, pending, e, stack, script),
-        Operator::Less => compares(alloc, Infix::Less, pending, e, stack, script),
-        Operator::LessEqual => compares(alloc, Infix::LessEqual, pending, e, stack, script),
-        Operator::Greater => compares(alloc, Infix::Greater, pending, e, stack, script),
-        Operator::GreaterEqual => compares(alloc, Infix::GreaterEqual, pending, e, stack, script),
-        Operator::Identical => compares(alloc, Infix::Identical, pending, e, stack, script),
-        Operator::NotIdentical => compares(alloc, Infix::NotIdentical, pending, e, stack, script),
-        _ => past(alloc, operator, place, pending, e, stack, script),
+        Operator::Dot => Ok(Some(Point::Dot(pending, e))),
+        Operator::OpenBracket => Ok(Some(Point::Index(pending, e))),
+        Operator::Times => terms(alloc, Infix::Times, pending, e, reading),
+        Operator::Divide => terms(alloc, Infix::Divide, pending, e, reading),
+        Operator::Remainder => terms(alloc, Infix::Remainder, pending, e, reading),
+        Operator::Plus => sums(alloc, Infix::Plus, pending, e, reading),
+        Operator::Minus => sums(alloc, Infix::Minus, pending, e, reading),
+        Operator::Equal => compares(alloc, Infix::Equal, pending, e, reading),
+        Operator::NotEqual => compares(alloc, Infix::NotEqual, pending, e, reading),
+        Operator::Less => compares(alloc, Infix::Less, pending, e, reading),
+        Operator::LessEqual => compares(alloc, Infix::LessEqual, pending, e, reading),
+        Operator::Greater => compares(alloc, Infix::Greater, pending, e, reading),
+        Operator::GreaterEqual => compares(alloc, Infix::GreaterEqual, pending, e, reading),
+        Operator::Identical => compares(alloc, Infix::Identical, pending, e, reading),
+        Operator::NotIdentical => compares(alloc, Infix::NotIdentical, pending, e, reading),
+        _ => past(alloc, operator, place, pending, e, reading),
     }
 }
 
@@ -273,19 +266,19 @@ fn follows_word(
     alloc: Global,
     word: Word,
     place: u32,
-    pending: Pending,
+    pending: Owned<Pending>,
     e: Form<Expr>,
-    stack: Stack<Frame>,
-    script: ItemsRead,
-) -> Result<Option<State>, AllocError>
-    ensures { IfOk result (λ s. s ≡ follows_word word place pending e stack script) }
+    reading: &mut Reading,
+) -> Result<Option<Point>, AllocError>
+    ensures { IfOk result (λ p. state_at p reading.new ≡ follows_word word place pending e reading.old.stack reading.old.script) }
 {
     match word {
-        Word::Isa => isas(alloc, pending, e, stack, script),
+        Word::Isa => isas(alloc, pending, e, reading),
         _ => {
-            let (pending, e) = settled(alloc, pending, e)?;
+            let mut pending = pending;
+            let e = settled(alloc, pending.get_mut(), e)?;
             let (lead, e) = expression(alloc, pending, e)?;
-            words(alloc, word, place, lead, e, stack, script)
+            words(alloc, word, place, lead, e, reading)
         }
     }
 }
@@ -296,22 +289,22 @@ pub fn follows(
     alloc: Global,
     sign: &Sign,
     place: u32,
-    pending: Pending,
+    pending: Owned<Pending>,
     e: Form<Expr>,
-    stack: Stack<Frame>,
-    script: ItemsRead,
-) -> Result<Option<State>, AllocError>
-    ensures { IfOk result (λ s. s ≡ follows sign.now place pending e stack script) }
+    reading: &mut Reading,
+) -> Result<Option<Point>, AllocError>
+    ensures { IfOk result (λ p. state_at p reading.new ≡ follows sign.now place pending e reading.old.stack reading.old.script) }
 {
     match sign {
         Sign::Operator(operator) => {
-            follows_operator(alloc, *operator, place, pending, e, stack, script)
+            follows_operator(alloc, *operator, place, pending, e, reading)
         }
-        Sign::Word(word) => follows_word(alloc, *word, place, pending, e, stack, script),
+        Sign::Word(word) => follows_word(alloc, *word, place, pending, e, reading),
         _ => {
-            let (pending, e) = settled(alloc, pending, e)?;
+            let mut pending = pending;
+            let e = settled(alloc, pending.get_mut(), e)?;
             let (lead, e) = expression(alloc, pending, e)?;
-            closes(alloc, sign, place, lead, e, stack, script)
+            closes(alloc, sign, place, lead, e, reading)
         }
     }
 }
