@@ -22,14 +22,6 @@ use Rattle.jl_sig.proofs.SigLemmas.{expandable}
 use Rattle.jl_body.specs.TypeRefused.{BodyTypeLimit}
 use Rattle.jl_body.proofs.StaticLemmas.{own_plain}
 
--- whether there are more rows than the code makes
-pub many_rows : (ds : List Decl) (t : Written) {A : Type 0} (o : Option A) (R : A → List Listed) (r : Bool)
-    → MatchOption o (ManyRows (table_of ds) t) (λ rows. AreAllRows (table_of ds) t (R rows)) → is_some o ≡ not r → IsTrue r ↔ ManyRows (table_of ds) t
-many_rows ds t None R true h e = ((λ f. h), (λ m. refl))
-many_rows ds t None R false h e = absurd (let f : false ≡ true = e in cc)
-many_rows ds t (Some x) R true h e = absurd (let f : true ≡ false = e in cc)
-many_rows ds t (Some x) R false h e = ((λ f. absurd (let g : false ≡ true = f in cc)), (λ m. absurd (not_many (table_of ds) t (R x) h m)))
-
 -- The type t, with static parameters in it, where its parts are small.
 module _ (ds : List Decl) (declared : Declared ds) (t : Written) (known : list_all (is_known (length ds)) (types_in t) ≡ true) (placed : VariablePlace (without_statics t) → ⊥)
     (m : total (map nodes (types_in t)) ≤ 1024) (wide : HasWide (types_in t) → ⊥) (bounds : List Bound) (hs : List Given) (forms : Both (IsSmallForm ds) (bound_types t.vars) (bound_types bounds))

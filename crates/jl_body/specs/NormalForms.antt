@@ -8,7 +8,7 @@ use Rattle.jl_model.specs.SigRefusals.{arguments_in}
 use Rattle.jl_sig.specs.Forms.{IsSmallForm, AreFormed}
 use Rattle.jl_sig.specs.Parts.{all_given}
 use Rattle.jl_body.specs.TypeRefused.{BodyTypeLimit}
-use Rattle.jl_body.specs.declared.forms.Forms.{Forms}
+use Rattle.jl_sig.specs.declared.forms.Forms.{Forms}
 
 -- the type is small, and these are its bounds and its arguments without variables in normal form
 pub record AreFormsOf (ds : List Decl) (t : Written) (f : Forms) : Type 0 where

@@ -1,45 +1,21 @@
 //! The limits of a type in a body, and its bounds and arguments in normal form.
 
-ghost use Rattle.std.specs.Prelude.{◌≡◌, ◌↔◌, IsTrue, IfOk, Err, length};
+ghost use Rattle.std.specs.Prelude.{◌≡◌, IsTrue, IfOk, Err, length};
 ghost use Rattle.std.specs.List.{list_all};
-ghost use Rattle.jl_model.specs.Ancestors.{table_of};
 ghost use Rattle.jl_model.specs.Valid.{is_known};
-ghost use Rattle.jl_model.specs.SigRefusals.{types_in, ManyRows, VariablePlace};
+ghost use Rattle.jl_model.specs.SigRefusals.{types_in, VariablePlace};
 ghost use Rattle.jl_types.specs.declared.normal_form.NormFault.TheVariants.{TypeLimit};
 ghost use Rattle.jl_program.specs.BodyTypes.{without_statics};
-ghost use Rattle.jl_sig.specs.Prepared.{IsExpandable};
 ghost use Rattle.jl_body.specs.TypeRefused.{BodyTypeLimit};
 ghost use Rattle.jl_body.specs.NormalForms.{AreFormsOf};
 
-use jl_model::ty::{Bound, Bounds, Ty, Written};
-use jl_sig::arguments::{Argument, arguments_in};
-use jl_sig::forms::{normal_arguments, normal_bounds};
+use jl_model::ty::{Ty, Written};
+use jl_sig::arguments::arguments_in;
+use jl_sig::forms::{Forms, normal_arguments, normal_bounds};
+use jl_sig::has_many_rows;
 use jl_sig::limits::{have_many_nodes, have_wide};
-use jl_sig::{all_rows, kinds};
 use jl_types::{NormFault, Table};
-use std::alloc::{AllocError, Global};
-
-/// The bounds of a type, and its arguments without variables, in normal form.
-#[derive(Drop)]
-pub struct Forms {
-    pub bounds: Bounds,
-    pub arguments: Vec<Argument>,
-}
-
-/// Whether a type without static parameters has more than 256 rows. Its bounds stand in normal form beside it.
-fn has_many_rows(
-    alloc: Global,
-    table: &Table,
-    plain: &Written,
-    bounds: &[Bound],
-) -> Result<bool, AllocError>
-    requires { IsExpandable table.now plain.now bounds.now }
-    ensures { IfOk result (λ many. IsTrue many ↔ ManyRows (table_of table.now) plain.now) }
-{
-    let kinds = kinds(alloc, plain)?;
-    let rows = all_rows(alloc, table, plain, kinds.as_slice(), bounds)?;
-    Ok(rows.is_none())
-}
+use std::alloc::Global;
 
 /// The bounds and arguments of a written type in normal form; `plain` is the type without static parameters, and `types` are the
 /// types in it. `TypeLimit` comes exactly where it has more than 1,024 nodes in sum, a type in it or a part of one has more than

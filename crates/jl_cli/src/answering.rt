@@ -28,7 +28,7 @@ use jl_program::tree::Program;
 use jl_queue::{Gate, Setup};
 use jl_reader::read;
 use jl_report::status;
-use jl_resolve::program;
+use jl_resolve::{check_script, program};
 use jl_runner::run_tasks;
 use jl_sig::Ready;
 use jl_token::tokens;
@@ -113,10 +113,10 @@ fn ok_line(alloc: Global, program: &Program) -> Result<Bytes, AllocError>
 }
 
 /// What a check of a program comes to.
-fn checked(alloc: Global, ready: &Ready) -> Result<Due, AllocError>
-    ensures { IfOk result (λ due. IsResult W.Check ready.now due.status due.history due.text) }
+fn checked(alloc: Global, program: &Program) -> Result<Due, AllocError>
+    ensures { IfOk result (λ due. IsResult W.Check program.now due.status due.history due.text) }
 {
-    let text = ok_line(alloc, ready.program())?;
+    let text = ok_line(alloc, program)?;
     Ok(Due {
         status: 0,
         history: None,
@@ -124,21 +124,51 @@ fn checked(alloc: Global, ready: &Ready) -> Result<Due, AllocError>
     })
 }
 
-/// What work on a program comes to.
-fn result_of<R: Threads + Wait + Sync, G: Gate>(
+/// What a check of the script that these bytes are comes to. The program is not made ready to be run.
+fn owed_for_check(alloc: Global, bytes: &[u8], script: &Script) -> Result<Due, AllocError>
+    requires { AreScript bytes.now script.now }
+    ensures { IfOk result (λ due. IsOwed W.Check bytes.now due.status due.history due.text) }
+{
+    match check_script(alloc, script) {
+        Ok(program) => {
+            let due = checked(alloc, &program);
+            drop(program);
+            let due = due?;
+            Ok(due)
+        }
+        Err(fault) => {
+            let line = static_line(alloc, bytes, fault)?;
+            Ok(refused(line))
+        }
+    }
+}
+
+/// What a run of the script that these bytes are comes to.
+fn owed_for_run<R: Threads + Wait + Sync, G: Gate>(
     rt: &R,
     alloc: Global,
-    work: Work,
-    ready: &Ready,
+    setup: Setup,
+    telling: Telling,
+    bytes: &[u8],
+    script: &Script,
     gate: &G,
     ops: &HostOps,
 ) -> Result<Due, AllocError>
-    requires { IsSetUp work }
-    ensures { IfOk result (λ due. IsResult work ready.now due.status due.history due.text) }
+    requires script { AreScript bytes.now script.now }
+    requires setup { IsSetup setup }
+    ensures { IfOk result (λ due. IsOwed (W.Run setup telling) bytes.now due.status due.history due.text) }
 {
-    match work {
-        Work::Check => checked(alloc, ready),
-        Work::Run(setup, telling) => ran(rt, alloc, ready, setup, telling, gate, ops),
+    match program(alloc, script) {
+        Ok(ready) => {
+            let due = ran(rt, alloc, &ready, setup, telling, gate, ops);
+            drop(ready);
+            let due = due?;
+            Ok(due)
+        }
+        Err(fault) => {
+            let line = static_line(alloc, bytes, fault)?;
+            Ok(refused(line))
+        }
     }
 }
 
@@ -156,16 +186,10 @@ fn owed_for<R: Threads + Wait + Sync, G: Gate>(
     requires setup { IsSetUp work }
     ensures { IfOk result (λ due. IsOwed work bytes.now due.status due.history due.text) }
 {
-    match program(alloc, script) {
-        Ok(ready) => {
-            let due = result_of(rt, alloc, work, &ready, gate, ops);
-            drop(ready);
-            let due = due?;
-            Ok(due)
-        }
-        Err(fault) => {
-            let line = static_line(alloc, bytes, fault)?;
-            Ok(refused(line))
+    match work {
+        Work::Check => owed_for_check(alloc, bytes, script),
+        Work::Run(setup, telling) => {
+            owed_for_run(rt, alloc, setup, telling, bytes, script, gate, ops)
         }
     }
 }

@@ -1,5 +1,6 @@
 -- One declaration more.
-use Rattle.std.proofs.Common.{◌≡◌, ◌∙◌, ap, sym, refl, subst, ℕ, ◌+◌, zero, suc, add-one, arith, Bool, true, false, ◌&&◌, not, cond, nat_eq, List, [], ◌∷◌, ◌++◌, map, length, drop, take, slice_get, append_assoc, Some, None}
+use Rattle.std.proofs.Common.{◌≡◌, ◌∙◌, ap, sym, refl, subst, ℕ, ◌+◌, zero, suc, add-one, arith, Bool, true, false, ◌&&◌, ◌||◌, not, cond, nat_eq, List, [], ◌∷◌, ◌++◌, map, length, drop, take, slice_get, append_assoc, Some, None}
+use Rattle.std.specs.List.{Contains}
 use Rattle.std.proofs.lemmas.List.{length-append}
 use Rattle.std.proofs.Math.Seq.{take-length}
 use Rattle.jl_model.specs.declared.ty.Ty.{Ty}
@@ -8,9 +9,9 @@ use Rattle.jl_model.specs.declared.ty.Decl.{Decl}
 use Rattle.jl_model.specs.declared.ty.DeclKind.{DeclKind}
 use Rattle.jl_model.specs.declared.ty.Field.{Field}
 use Rattle.jl_model.specs.Kept.{IsKept}
-use Rattle.jl_model.specs.Refusals.{Declared, HasOwnVariables, IsAllowed, table_with}
+use Rattle.jl_model.specs.Refusals.{Declared, DuplicateType, HasOwnVariables, IsAllowed, table_with}
 use Rattle.jl_model.proofs.AncestorLemmas.{slice_last}
-use Rattle.jl_program.specs.Names.{is_among}
+use Rattle.jl_program.specs.Names.{same_text, is_among}
 use Rattle.jl_grammar.specs.declared.tree.Field.{Field as FieldText}
 use Rattle.jl_grammar.specs.declared.tree.Header.{Header}
 use Rattle.jl_typeread.specs.declared.tree.VarText.{VarText}
@@ -26,6 +27,7 @@ use Rattle.jl_declare.specs.declared.read.ReadDecl.{ReadDecl}
 use Rattle.jl_declare.specs.declared.state.Declarations.{Declarations}
 use Rattle.jl_declare.specs.Declaration.{fields_of, heading, outline, declaration}
 use Rattle.jl_names.specs.Numbers.{names_of}
+use Rattle.jl_names.proofs.DeclLemmas.{text_self}
 use Rattle.jl_declare.specs.Judgement.{IsJudged, told, IsAnswer, kept_in, shown, refusal_at}
 use Rattle.jl_declare.specs.Judgement as Q
 use Rattle.jl_declare.specs.Declarations.{declaring_of, with_fault, text_fault, answered, IsJudgement, IsDeclared}
@@ -92,6 +94,29 @@ same_length m n h = grind (arith, h)
 -- the table has all of them, where they are as many
 pub whole_table : (table ds : List Decl) → table ≡ take (length table) ds → nat_eq (length table) (length ds) ≡ true → table ≡ ds
 whole_table table ds e h = e ∙ ap (λ n. take n ds) (same_length (length table) (length ds) h) ∙ take-length ds
+
+-- a name that is not among those of the declarations is that of none
+not_among : (ds : List Decl) (name : List ℕ) → is_among name (names_of ds) ≡ false → Contains (map (λ (d : Decl). d.name) ds) name → ⊥
+not_among [] name h (i, l, e) = omega (arith, l)
+not_among (d ∷ ds) name h (zero, l, e) =
+    let t : same_text name d.name ≡ true = ap (same_text name) e ∙ text_self name in
+    let f : true ≡ false = sym (ap (λ b. b || is_among name (names_of ds)) t) ∙ h in cc
+not_among (d ∷ ds) name h (suc i, l, e) = not_among ds name (right (same_text name d.name) (is_among name (names_of ds)) h) (i, omega (arith, l), e)
+  where
+    right : (a b : Bool) → (a || b) ≡ false → b ≡ false
+    right true b g = let f : true ≡ false = g in cc
+    right false b g = g
+
+fresh : (a b c d : Bool) → cond a (Some (J.Refused kind.DuplicateType)) (cond b (Some J.Unjudged) (cond (not c) (Some (J.Refused kind.WrongParameterCount)) (cond d None (Some J.Unjudged)))) ≡ None → a ≡ false
+fresh true b c d e = let f : Some (J.Refused kind.DuplicateType) ≡ None = e in cc
+fresh false b c d e = refl
+
+-- where the table is asked no type of it has the name
+pub told_fresh : (table ds : List Decl) (b : Bool) (r : ReadDecl) (d : Decl) → told ds b r ≡ None → b ≡ nat_eq (length table) (length ds) → table ≡ take (length table) ds → d ≡ r.decl → DuplicateType table d → ⊥
+told_fresh table ds b r d e f t c h =
+    let w = told_none ds b r e in
+    let among = fresh (is_among r.decl.name (names_of ds)) r.reading.unknown r.whole b e in
+    not_among ds r.decl.name among (subst (λ (z : List Decl). DuplicateType z r.decl) (whole_table table ds t (sym f ∙ w.1)) (subst (DuplicateType table) c h))
 
 -- a declaration that is read behind valid ones
 pub own_read : (ds es : List Decl) (k : DeclKind) (h : Header) (fields : List FieldText) (r : ReadDecl) → r ≡ declaration ds k h fields → es ≡ ds → Declared es → r.whole ≡ true → HasOwnVariables r.decl

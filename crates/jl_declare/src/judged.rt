@@ -2,14 +2,14 @@
 
 ghost use Rattle.std.specs.Prelude.{◌≡◌, ◌++◌, [], IfOk, MatchOption};
 ghost use Rattle.jl_program.specs.Names.{is_among};
-ghost use Rattle.jl_model.specs.Refusals.{HasOwnVariables};
+ghost use Rattle.jl_model.specs.Refusals.{DuplicateType, HasOwnVariables};
 ghost use Rattle.jl_names.specs.Numbers.{names_of};
 ghost use Rattle.jl_declare.specs.Judgement.{kind_of, IsJudged, told, kept_in, shown, refusal_at};
 
 use crate::read::ReadDecl;
 use jl_model::ty::Decl;
 use jl_names::decls::{DeclList, copy_decl};
-use jl_norm::{DeclareFault, declare};
+use jl_norm::{DeclareFault, declare_new};
 use jl_types::Table;
 use jl_written::fault::{Fault, StaticKind};
 use std::alloc::{AllocError, Global};
@@ -73,13 +73,14 @@ pub fn told(decls: &DeclList, all_allowed: bool, read: &ReadDecl) -> Option<Judg
     }
 }
 
-/// What the table tells of a declaration, which is added to it where it is allowed.
+/// What the table tells of a declaration, which is added to it where it is allowed. No type of the table has its name.
 pub fn judge(alloc: Global, table: &mut Table, decl: Decl) -> Result<Judged, AllocError>
-    requires { HasOwnVariables decl }
+    requires own { HasOwnVariables decl }
+    requires fresh { DuplicateType table.old decl → ⊥ }
     ensures judged { IfOk result (λ j. IsJudged table.old decl j) }
     ensures added { IfOk result (λ j. table.new ≡ table.old ++ kept_in j) }
 {
-    match declare(alloc, table, decl) {
+    match declare_new(alloc, table, decl) {
         Ok(number) => Ok(Judged::Kept(copy_decl(table.decl(number))?)),
         Err(fault) => match kind_of(fault) {
             Some(kind) => Ok(Judged::Refused(kind)),

@@ -130,7 +130,7 @@ fn fields_of(alloc: Global, fields: &[FieldText], tys: &[Ty]) -> Result<Fields, 
     SharedList::from_vec(alloc, out)
 }
 
-/// The types of the fields of a declaration, which sees itself.
+/// The types of the fields of a declaration, which sees itself. Where it has none, it need not be seen.
 fn own_types(
     alloc: Global,
     decls: &mut DeclList,
@@ -141,6 +141,9 @@ fn own_types(
     ensures own { OnOk result (heading.new.own ≡ heading.old.own) }
     ensures kept { OnOk result (decls.new ≡ decls.old) }
 {
+    if fields.is_empty() {
+        return Ok(Row::new(alloc));
+    }
     decls.push(copy_decl(&heading.own)?)?;
     let tys = types_read(
         alloc,

@@ -11,9 +11,9 @@ ghost use Rattle.jl_judge.specs.Right.{NamesDeclared};
 ghost use Rattle.jl_judge.specs.Tell.{Tells};
 
 use jl_body::check_type;
-use jl_match::make_sig;
+use jl_match::check_sig;
 use jl_model::ty::Written;
-use jl_sig::{Sig, SigFault};
+use jl_sig::{SigFault, measure_fields};
 use jl_types::Table;
 use jl_written::fault::StaticKind;
 use std::alloc::{AllocError, Global};
@@ -44,16 +44,11 @@ pub fn signature_refusal(
     requires known { NamesDeclared table.now written.now }
     ensures { IfOk result (λ kind. SigAnswer kind table.now written.now) }
 {
-    match make_sig(alloc, table, written) {
-        Ok(sig) => {
-            drop(sig);
-            Ok(None)
-        }
-        Err(fault) => {
-            let kind = static_kind(fault)?;
-            Ok(Some(kind))
-        }
-    }
+    let Err(fault) = check_sig(alloc, table, written) else {
+        return Ok(None);
+    };
+    let kind = static_kind(fault)?;
+    Ok(Some(kind))
 }
 
 /// The first refusal of a type that is written in a body.
@@ -79,11 +74,8 @@ pub fn is_too_wide(alloc: Global, table: &Table, number: u32) -> Result<bool, Al
     requires { number < length table.now }
     ensures { IfOk result (λ b. Tells b (TypeLimit table.now (fields_of table.now number))) }
 {
-    match Sig::of_fields(alloc, table, number) {
-        Ok(sig) => {
-            drop(sig);
-            Ok(false)
-        }
+    match measure_fields(alloc, table, number) {
+        Ok(()) => Ok(false),
         Err(SigFault::TypeLimit) => Ok(true),
         Err(SigFault::Memory) => Err(AllocError),
         Err(_) => unreachable!(),

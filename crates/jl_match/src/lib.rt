@@ -3,6 +3,7 @@
 #![tactic(auto)]
 
 mod bindings;
+mod check;
 mod concrete;
 mod find;
 pub mod laws;
@@ -16,6 +17,7 @@ mod signature;
 mod values;
 
 pub use bindings::Bindings;
+pub use check::check_sig;
 pub use concrete::is_concrete;
 pub use jl_sig::{Sig, SigFault};
 pub use make::make_sig;

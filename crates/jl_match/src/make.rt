@@ -9,13 +9,10 @@ ghost use Rattle.jl_model.specs.SigRefusals.{types_in, VariablePlace, IsAllowedS
 ghost use Rattle.jl_match.specs.SigRefused.{SigRefused, IsMade};
 ghost use Rattle.jl_sig.specs.declared.fault.SigFault.TheVariants as fault;
 
-use crate::names::are_counted;
-use crate::places::are_placed;
-use jl_model::limits::MOST_ARGUMENTS;
+use crate::check::check_writing;
 use jl_model::ty::Written;
 use jl_sig::forms::{have_crossed, have_outside};
-use jl_sig::types::types_in;
-use jl_sig::{Prepared, Sig, SigFault, has_unused, prepare};
+use jl_sig::{Prepared, Sig, SigFault, prepare};
 use jl_types::{NormFault, Table};
 use std::alloc::Global;
 
@@ -29,20 +26,7 @@ pub fn make_sig(alloc: Global, table: &Table, written: &Written) -> Result<Sig, 
     ensures made { MatchResult result (λ sig. IsMade table.now written.now sig) (λ fault. SigRefused fault table.now written.now) }
 {
     table.valid();
-    if !are_placed(written) {
-        return Err(SigFault::VariablePlace);
-    }
-    let unused = has_unused(alloc, written)?;
-    if unused {
-        return Err(SigFault::UnusedVariable);
-    }
-    if written.parts.len() > MOST_ARGUMENTS {
-        return Err(SigFault::TooManyParameters);
-    }
-    let types = types_in(alloc, written)?;
-    if !are_counted(table, types.as_slice()) {
-        return Err(SigFault::WrongParameterCount);
-    }
+    check_writing(alloc, table, written)?;
     let prepared = match prepare(alloc, table, written) {
         Ok(prepared) => prepared,
         Err(NormFault::TypeLimit) => return Err(SigFault::TypeLimit),

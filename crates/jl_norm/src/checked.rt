@@ -1,6 +1,7 @@
-//! The first eight refusals of a declaration, in their order.
+//! The refusals of a declaration behind that of its name, up to that of its arguments, in their order.
 
 ghost use Rattle.std.specs.Prelude.{MatchResult};
+ghost use Rattle.jl_model.specs.Refusals.{DuplicateType};
 ghost use Rattle.jl_norm.specs.Refused.{IsBounded, Refused};
 
 use crate::fault::DeclareFault;
@@ -10,9 +11,10 @@ use jl_model::ty::Decl;
 use jl_types::Table;
 use std::alloc::Global;
 
-/// What a declaration is kept as, or the first refusal by its name, its types, its parent, its places, its size or its
-/// bounds.
+/// What a declaration whose name no earlier type has is kept as, or the first refusal by its types, its parent, its places, its
+/// size or its bounds.
 pub fn checked(alloc: Global, table: &Table, decl: &Decl) -> Result<Decl, DeclareFault>
+    requires { DuplicateType table.now decl.now → ⊥ }
     ensures { MatchResult result (λ e. IsBounded table.now decl.now e) (λ fault. Refused fault table.now decl.now) }
 {
     if let Some(fault) = written_fault(table, decl) {

@@ -20,7 +20,7 @@ mod types;
 mod variables;
 mod written;
 
-pub use declaring::declare;
+pub use declaring::{declare, declare_new};
 pub use fault::DeclareFault;
 pub use forms::norm;
 pub use jl_types::NormFault;

@@ -1,24 +1,22 @@
 //! The refusals that a declaration shows as it is written.
 
 ghost use Rattle.std.specs.Prelude.{MatchOption};
+ghost use Rattle.jl_model.specs.Refusals.{DuplicateType};
 ghost use Rattle.jl_norm.specs.Refused.{IsWellWritten, Refused};
 
 use crate::counted::is_counted_decl;
 use crate::fault::DeclareFault;
 use crate::known::is_known_decl;
-use crate::names::is_taken;
 use crate::parent::is_abstract_parent;
 use crate::places::is_placed_decl;
 use jl_model::ty::Decl;
 use jl_types::Table;
 
-/// The first refusal by the name, the types, the parent and the places in a declaration.
+/// The first refusal by the types, the parent and the places in a declaration whose name no earlier type has.
 pub fn written_fault(table: &Table, decl: &Decl) -> Option<DeclareFault>
+    requires { DuplicateType table.now decl.now → ⊥ }
     ensures { MatchOption result (IsWellWritten table.now decl.now) (λ fault. Refused fault table.now decl.now) }
 {
-    if is_taken(table, decl) {
-        return Some(DeclareFault::DuplicateType);
-    }
     if !is_known_decl(table, decl) {
         return Some(DeclareFault::UnknownType);
     }

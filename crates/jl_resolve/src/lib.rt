@@ -6,4 +6,4 @@ pub mod laws;
 mod meaning;
 
 pub use fault::{StaticFault, StaticKind};
-pub use meaning::program;
+pub use meaning::{check_script, program};

@@ -15,6 +15,7 @@ use jl_declare::known::known;
 use jl_declare::state::Declarations;
 use jl_grammar::tree::{Item, Script};
 use jl_judge::{Kept, over, right};
+use jl_program::tree::Program;
 use jl_resolve_forms::known::Known;
 use jl_resolve_walk::program::Resolved;
 use jl_resolve_walk::top::resolved;
@@ -63,15 +64,28 @@ fn come_to(alloc: Global, script: &Script) -> Result<Resolved, AllocError>
     Ok(resolved)
 }
 
-/// The program that a script means, ready to be run; or the first of its static faults: the one at the least offset, of
-/// several there the one with the least number in the table of static faults. The script must be one that the reader gives.
+/// The program that a script means, where it is not to be run, so that nothing is made of it; or the first of its static faults:
+/// the one at the least offset, of several there the one with the least number in the table of static faults. The script must be
+/// one that the reader gives.
+pub fn check_script(alloc: Global, script: &Script) -> Result<Program, StaticFault>
+    requires { FormedScript script.now }
+    ensures means { MatchResult result (λ program. IsProgramOf script.now program) (λ fault. IsRefused fault script.now) }
+    ensures valid { IfOk result IsValid }
+{
+    let Resolved { program, fault } = come_to(alloc, script)?;
+    match fault {
+        None => Ok(program),
+        Some(Fault { at, kind }) => Err(StaticFault::At { kind, at }),
+    }
+}
+
+/// The same program, ready to be run.
 pub fn program(alloc: Global, script: &Script) -> Result<Ready, StaticFault>
     requires { FormedScript script.now }
     ensures { MatchResult result (λ ready. IsProgramOf script.now ready) (λ fault. IsRefused fault script.now) }
 {
-    let Resolved { program, fault } = come_to(alloc, script)?;
-    match fault {
-        None => Ok(Ready::make(alloc, program)?),
-        Some(Fault { at, kind }) => Err(StaticFault::At { kind, at }),
+    match check_script(alloc, script) {
+        Ok(program) => Ok(Ready::make(alloc, program)?),
+        Err(fault) => Err(fault),
     }
 }

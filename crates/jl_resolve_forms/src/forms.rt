@@ -14,7 +14,6 @@ use crate::state::{Scope, State};
 use crate::types::one_type;
 use jl_grammar::tree::{Infix, Name, Prefix};
 use jl_model::limits::MOST_ARGUMENTS;
-use jl_model::rows::Share;
 use jl_model::shared::{SharedList, SharedNode};
 use jl_model::ty::{Bytes, Ty, Tys};
 use jl_program::prelude::{
@@ -67,13 +66,31 @@ pub fn prefix_code(alloc: Global, operator: Prefix, code: Code) -> Result<Code, 
 }
 
 /// A call of a function of two arguments.
-fn call_two(alloc: Global, function: u32, left: &Code, right: &Code) -> Result<Code, AllocError>
-    ensures { IfOk result (λ c. c ≡ C.Call function (left.now ∷ right.now ∷ [])) }
+fn call_two(alloc: Global, function: u32, left: Code, right: Code) -> Result<Code, AllocError>
+    ensures { IfOk result (λ c. c ≡ C.Call function (left ∷ right ∷ [])) }
 {
-    let mut arguments = Vec::new(alloc);
-    arguments.push(left.share()?)?;
-    arguments.push(right.share()?)?;
+    let arguments = vec![in alloc; left, right]?;
     Ok(Code::Call(function, SharedList::from_vec(alloc, arguments)?))
+}
+
+/// Two expressions that others hold.
+fn hold_two(
+    alloc: Global,
+    left: Code,
+    right: Code,
+) -> Result<(SharedNode<Code>, SharedNode<Code>), AllocError>
+    ensures { IfOk result (λ both. (both.0 ≡ left) × (both.1 ≡ right)) }
+{
+    match SharedNode::new(alloc, left) {
+        Ok(left) => {
+            let right = SharedNode::new(alloc, right)?;
+            Ok((left, right))
+        }
+        Err(error) => {
+            drop(right);
+            Err(error)
+        }
+    }
 }
 
 /// An operator with two operands.
@@ -81,27 +98,39 @@ fn call_two(alloc: Global, function: u32, left: &Code, right: &Code) -> Result<C
 pub fn infix_code(
     alloc: Global,
     operator: Infix,
-    left: SharedNode<Code>,
-    right: SharedNode<Code>,
+    left: Code,
+    right: Code,
 ) -> Result<Code, AllocError>
     ensures { IfOk result (λ c. c ≡ infix_code operator left right) }
 {
     match operator {
-        Infix::Or => Ok(Code::Or(left, right)),
-        Infix::And => Ok(Code::And(left, right)),
-        Infix::Equal => call_two(alloc, EQUAL, left.get(), right.get()),
-        Infix::NotEqual => call_two(alloc, NOT_EQUAL, left.get(), right.get()),
-        Infix::Less => call_two(alloc, LESS, left.get(), right.get()),
-        Infix::LessEqual => call_two(alloc, LESS_EQUAL, left.get(), right.get()),
-        Infix::Greater => call_two(alloc, GREATER, left.get(), right.get()),
-        Infix::GreaterEqual => call_two(alloc, GREATER_EQUAL, left.get(), right.get()),
-        Infix::Identical => Ok(Code::Egal(left, right, false)),
-        Infix::NotIdentical => Ok(Code::Egal(left, right, true)),
-        Infix::Plus => call_two(alloc, PLUS, left.get(), right.get()),
-        Infix::Minus => call_two(alloc, MINUS, left.get(), right.get()),
-        Infix::Times => call_two(alloc, TIMES, left.get(), right.get()),
-        Infix::Divide => call_two(alloc, DIV, left.get(), right.get()),
-        Infix::Remainder => call_two(alloc, REM, left.get(), right.get()),
+        Infix::Or => {
+            let (left, right) = hold_two(alloc, left, right)?;
+            Ok(Code::Or(left, right))
+        }
+        Infix::And => {
+            let (left, right) = hold_two(alloc, left, right)?;
+            Ok(Code::And(left, right))
+        }
+        Infix::Equal => call_two(alloc, EQUAL, left, right),
+        Infix::NotEqual => call_two(alloc, NOT_EQUAL, left, right),
+        Infix::Less => call_two(alloc, LESS, left, right),
+        Infix::LessEqual => call_two(alloc, LESS_EQUAL, left, right),
+        Infix::Greater => call_two(alloc, GREATER, left, right),
+        Infix::GreaterEqual => call_two(alloc, GREATER_EQUAL, left, right),
+        Infix::Identical => {
+            let (left, right) = hold_two(alloc, left, right)?;
+            Ok(Code::Egal(left, right, false))
+        }
+        Infix::NotIdentical => {
+            let (left, right) = hold_two(alloc, left, right)?;
+            Ok(Code::Egal(left, right, true))
+        }
+        Infix::Plus => call_two(alloc, PLUS, left, right),
+        Infix::Minus => call_two(alloc, MINUS, left, right),
+        Infix::Times => call_two(alloc, TIMES, left, right),
+        Infix::Divide => call_two(alloc, DIV, left, right),
+        Infix::Remainder => call_two(alloc, REM, left, right),
     }
 }
 

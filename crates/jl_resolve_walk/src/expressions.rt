@@ -274,7 +274,7 @@ pub fn expr<J: Judge>(
             made::prefix(alloc, *operator, code)
         }
         Expr::Infix(_, operator, left, right) => {
-            let left = made::held(alloc, expr(alloc, judge, known, scope, state, left.get()))?;
+            let left = expr(alloc, judge, known, scope, state, left.get())?;
             let right = expr(alloc, judge, known, scope, state, right.get());
             made::infix(alloc, *operator, left, right)
         }

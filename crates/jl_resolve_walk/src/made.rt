@@ -168,13 +168,18 @@ pub(crate) fn prefix(
 pub(crate) fn infix(
     alloc: Global,
     operator: Infix,
-    left: SharedNode<Code>,
+    left: Code,
     right: Result<Code, AllocError>,
 ) -> Result<Code, AllocError>
     ensures { Gives right result (λ y c. c ≡ infix_code operator left y) }
 {
-    let right = held(alloc, right)?;
-    forms::infix_code(alloc, operator, left, right)
+    match right {
+        Ok(right) => forms::infix_code(alloc, operator, left, right),
+        Err(error) => {
+            drop(left);
+            Err(error)
+        }
+    }
 }
 
 /// A test of a value's type.

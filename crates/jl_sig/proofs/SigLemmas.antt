@@ -13,7 +13,7 @@ use Rattle.jl_model.specs.Rows.{alts, free, high}
 use Rattle.jl_model.specs.Signature.{Both}
 use Rattle.jl_model.specs.Valid.{is_known, is_closed}
 use Rattle.jl_model.specs.Refusals.{Declared, bound_types, Given, given_in, given_from}
-use Rattle.jl_model.specs.SigRefusals.{types_in, arguments_in, are_placed, is_component, is_argument, TypeLimit, BoundsCrossed}
+use Rattle.jl_model.specs.SigRefusals.{types_in, arguments_in, are_placed, is_component, is_argument, TypeLimit, ManyRows, BoundsCrossed}
 use Rattle.jl_model.specs.AllRows.{Listed}
 use Rattle.jl_model.proofs.TypeInduction.{Each, by_cases}
 use Rattle.jl_model.proofs.FormLemmas.{alts-any}
@@ -187,12 +187,15 @@ module _ (ds : List Decl) (declared : Declared ds) (s : Written) (w : IsWellPlac
         (λ t c. (Contains-append_right (bound_types s.vars) s.parts t c, true_at is_component s.parts t parts_placed c));
   }
 
-  -- it is small
+  -- it is small, where there are few rows
+  pub not_limited : (ManyRows (table_of ds) s → ⊥) → TypeLimit ds s → ⊥
+  not_limited few (inl a) = omega (arith, a, m)
+  not_limited few (inr (inl b)) = wide b
+  not_limited few (inr (inr (inl c))) = no_large ds declared s (bound_types bounds) hs forms formed c
+  not_limited few (inr (inr (inr d))) = few d
+
   pub no_limit : (rs : List Listed) → AreAllRows (table_of ds) s rs → TypeLimit ds s → ⊥
-  no_limit rs h (inl a) = omega (arith, a, m)
-  no_limit rs h (inr (inl b)) = wide b
-  no_limit rs h (inr (inr (inl c))) = no_large ds declared s (bound_types bounds) hs forms formed c
-  no_limit rs h (inr (inr (inr d))) = not_many (table_of ds) s rs h d
+  no_limit rs h = not_limited (not_many (table_of ds) s rs h)
 
 -- the tests of the code
 pub few_nodes : (s : Written) (ts : List Ty) (r : Bool) → ts ≡ types_in s → (IsTrue r ↔ (1024 < total (map nodes ts))) → r ≡ false → total (map nodes (types_in s)) ≤ 1024

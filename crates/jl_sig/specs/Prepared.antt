@@ -14,10 +14,12 @@ use Rattle.jl_model.specs.Valid.{is_known, is_closed}
 use Rattle.jl_model.specs.Refusals.{bound_types}
 use Rattle.jl_model.specs.SigRefusals.{types_in, arguments_in, VariablePlace, TypeLimit, BoundsCrossed}
 use Rattle.jl_model.specs.AllRows.{Listed, ArePicks, all_rows, each_var}
+use Rattle.jl_model.specs.Counts.{nodes, total}
+use Rattle.jl_sig.specs.declared.forms.Forms.{Forms}
 use Rattle.jl_sig.specs.declared.row.SigRow.{SigRow}
 use Rattle.jl_sig.specs.declared.sig.Sig.{Sig}
 use Rattle.jl_sig.specs.declared.sig.Prepared.{Prepared}
-use Rattle.jl_sig.specs.Parts.{all_given}
+use Rattle.jl_sig.specs.Parts.{HasWide, all_given}
 use Rattle.jl_sig.specs.SigParts.{written_of, bounded_of, kept_of, diagonals_of, alternatives_of, rows_of}
 use Rattle.jl_sig.specs.Forms.{IsSmallForm, AreFormed}
 use Rattle.jl_sig.specs.Fit.{AllFit, AreKeptRows, IsKeptSignature}
@@ -46,6 +48,13 @@ pub record AreAllRows (n : Table) (s : Written) (rs : List Listed) : Type 0 wher
   pub hold : ArePicks n s picks
   pub are : rs ≡ all_rows s picks
   pub few : length rs ≤ MOST_SIGNATURE_ROWS
+
+-- it has few nodes and few alternatives, and these are its bounds and its arguments without variables in normal form
+pub record AreFormsOf (ds : List Decl) (s : Written) (f : Forms) : Type 0 where
+  pub few : total (map nodes (types_in s)) ≤ MOST_TYPE_NODES
+  pub narrow : HasWide (types_in s) → ⊥
+  pub bounds : Both (IsSmallForm ds) (bound_types s.vars) (bound_types f.bounds)
+  pub arguments : AreFormed ds (arguments_in s) (all_given f.arguments.items)
 
 -- its names are those of the table, its variables are its own, and they stand where they may
 pub record IsWellPlaced (ds : List Decl) (s : Written) : Type 0 where

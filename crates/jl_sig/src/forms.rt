@@ -18,6 +18,13 @@ use jl_types::closed::is_closed;
 use jl_types::{NormFault, Table, ground_sub, normal};
 use std::alloc::{AllocError, Global};
 
+/// The bounds of a signature or of a type in a body, and its arguments without variables, in normal form.
+#[derive(Drop)]
+pub struct Forms {
+    pub bounds: Bounds,
+    pub arguments: Vec<Argument>,
+}
+
 /// Adds a bound.
 pub(crate) fn push_bound(bounds: &mut Vec<Bound>, bound: Bound) -> Result<(), AllocError>
     ensures { OnOk result (bounds.new.items ≡ bounds.old.items ++ bound ∷ []) }

@@ -84,7 +84,7 @@ pub fn alternatives(alloc: Global, bounds: &[Bound]) -> Result<Vec<Tys>, AllocEr
 }
 
 /// Whether variables of this kind are diagonal.
-fn is_diagonal(kind: Kind) -> bool
+pub(crate) fn is_diagonal(kind: Kind) -> bool
     ensures { result ≡ is_diagonal (kind_in kind) }
 {
     match kind {

@@ -14,16 +14,14 @@ ghost use Rattle.jl_sig.specs.Built.{listed, AreKinds};
 ghost use Rattle.jl_sig.specs.SigParts.{written_of, bounded_of, kept_of, diagonals_of, alternatives_of, rows_of};
 ghost use Rattle.jl_sig.specs.Prepared.{HasOwnVariables, IsBuildable, IsWellPlaced, AreAllRows, IsKeptOf, IsSigOf, IsPrepared};
 
-use crate::arguments::{Argument, arguments_in};
+use crate::arguments::Argument;
 use crate::build::all_rows;
 use crate::fault::SigFault;
 use crate::fields::fields_of;
-use crate::forms::{normal_arguments, normal_bounds};
 use crate::kept::{alternatives, diagonals, keep_rows, keep_signature};
 use crate::kind::{Kind, kind_of};
-use crate::limits::{have_many_nodes, have_wide};
 use crate::row::SigRow;
-use crate::types::types_in;
+use crate::size::small_forms;
 use crate::usable::is_usable;
 use crate::variables::kinds;
 use jl_model::ty::{Bound, Bounds, Tys, Written};
@@ -194,13 +192,9 @@ pub fn prepare(alloc: Global, table: &Table, written: &Written) -> Result<Prepar
     ensures limit { result ≡ Err TypeLimit → TooLarge table.now written.now }
 {
     table.valid();
-    let types = types_in(alloc, written)?;
-    if have_many_nodes(types.as_slice()) || have_wide(types.as_slice()) {
-        return Err(NormFault::TypeLimit);
-    }
-    let bounds = normal_bounds(alloc, table, written.vars.as_slice())?;
-    let arguments = arguments_in(alloc, types.as_slice())?;
-    let arguments = normal_arguments(alloc, table, arguments.as_slice())?;
+    let forms = small_forms(alloc, table, written)?;
+    let bounds = forms.bounds;
+    let arguments = forms.arguments;
     let kinds = kinds(alloc, written)?;
     let rows = match all_rows(alloc, table, written, kinds.as_slice(), bounds.as_slice())? {
         Some(rows) => rows,

@@ -1,14 +1,11 @@
-use Rattle.std.proofs.Common.{◌≡◌, ◌∙◌, sym, ap, subst, true, false, arith}
-use Rattle.std.specs.List.{list_all}
+use Rattle.std.proofs.Common.{◌≡◌, ◌∙◌, sym, ap, subst, true, false}
 use Rattle.jl_model.specs.declared.ty.Written.{Written}
 use Rattle.jl_model.specs.Signature.{Both}
-use Rattle.jl_model.specs.Valid.{is_counted}
 use Rattle.jl_model.specs.Refusals.{bound_types}
 use Rattle.jl_model.specs.SigRefusals.{arguments_in, BoundsCrossed}
 use Rattle.jl_sig.specs.Parts.{all_given}
 use Rattle.jl_sig.specs.Forms.{IsSmallForm, AreFormed}
 use Rattle.jl_sig.proofs.SigLemmas.{in_order}
-use Rattle.jl_match.specs.SigRefused.{IsWellWritten}
 use Rattle.jl_match.proofs.MakeLemmas.{forms_ground, crossed_kept, crossed_written, outside_kept, outside_written, arguments_ground}
 use Rattle.jl_match.proofs.make.make_sig.Goals as goal
 
@@ -26,20 +23,15 @@ have_outside-requires c =
     let ds = c.args.table.now in
     let s = c.args.written.now in
     let p = c.in-Ok.ensures.kept in
-    let a : AreFormed ds (arguments_in s) (all_given c.as_slice-2.result.now) = subst (λ z. AreFormed ds (arguments_in s) (all_given z)) (sym c.as_slice-2.ensures.value) p.arguments in
-    arguments_ground ds c.valid.ensures (arguments_in s) c.as_slice-2.result.now a
+    let a : AreFormed ds (arguments_in s) (all_given c.as_slice.result.now) = subst (λ z. AreFormed ds (arguments_in s) (all_given z)) (sym c.as_slice.ensures.value) p.arguments in
+    arguments_ground ds c.valid.ensures (arguments_in s) c.as_slice.result.now a
 
 pub returns-then-have_crossed-clause-made : goal.returns-then-have_crossed-clause-made
 returns-then-have_crossed-clause-made c =
     let ds = c.args.table.now in
     let s = c.args.written.now in
-    let w : IsWellWritten ds s = record {
-      placed = λ h. let f : true ≡ false = sym c.if-not-are_placed.false ∙ c.are_placed.ensures ∙ h in cc;
-      used = λ h. let g = c.in_ok-unused.ensures.1 h in let f : true ≡ false = sym g ∙ c.if-unused.false in cc;
-      few = λ h. omega (arith, c.len.ensures, c.if-len-gt-MOST_ARGUMENTS.false, h);
-      counted = λ h. let f : true ≡ false = sym c.if-not-are_counted.false ∙ c.are_counted.ensures ∙ ap (list_all (is_counted ds)) (c.as_slice.ensures.value ∙ c.in_ok-types.ensures) ∙ h in cc;
-    } in
     let p = c.in-Ok.ensures.kept in
+    let w = c.in_ok-check_writing.ensures in
     let b : Both (IsSmallForm ds) (bound_types s.vars) (bound_types c.bounds.result.now) =
     subst (λ z. Both (IsSmallForm ds) (bound_types s.vars) (bound_types z)) (sym c.bounds.ensures) (subst (λ (z : Written). Both (IsSmallForm ds) (bound_types z.vars) (bound_types c.in-Ok.prepared.sig.bounded.vars)) p.written p.kept.bounds) in
     (w, p.small, crossed_written ds c.valid.ensures s.vars c.bounds.result.now b (c.have_crossed.ensures.0 c.if-have_crossed.true))
@@ -48,34 +40,24 @@ pub returns-then-have_outside-clause-made : goal.returns-then-have_outside-claus
 returns-then-have_outside-clause-made c =
     let ds = c.args.table.now in
     let s = c.args.written.now in
-    let w : IsWellWritten ds s = record {
-      placed = λ h. let f : true ≡ false = sym c.if-not-are_placed.false ∙ c.are_placed.ensures ∙ h in cc;
-      used = λ h. let g = c.in_ok-unused.ensures.1 h in let f : true ≡ false = sym g ∙ c.if-unused.false in cc;
-      few = λ h. omega (arith, c.len.ensures, c.if-len-gt-MOST_ARGUMENTS.false, h);
-      counted = λ h. let f : true ≡ false = sym c.if-not-are_counted.false ∙ c.are_counted.ensures ∙ ap (list_all (is_counted ds)) (c.as_slice.ensures.value ∙ c.in_ok-types.ensures) ∙ h in cc;
-    } in
     let p = c.in-Ok.ensures.kept in
+    let w = c.in_ok-check_writing.ensures in
     let b : Both (IsSmallForm ds) (bound_types s.vars) (bound_types c.bounds.result.now) =
     subst (λ z. Both (IsSmallForm ds) (bound_types s.vars) (bound_types z)) (sym c.bounds.ensures) (subst (λ (z : Written). Both (IsSmallForm ds) (bound_types z.vars) (bound_types c.in-Ok.prepared.sig.bounded.vars)) p.written p.kept.bounds) in
-    let a : AreFormed ds (arguments_in s) (all_given c.as_slice-2.result.now) = subst (λ z. AreFormed ds (arguments_in s) (all_given z)) (sym c.as_slice-2.ensures.value) p.arguments in
+    let a : AreFormed ds (arguments_in s) (all_given c.as_slice.result.now) = subst (λ z. AreFormed ds (arguments_in s) (all_given z)) (sym c.as_slice.ensures.value) p.arguments in
     let o : BoundsCrossed ds s → ⊥ = λ h. let g = c.have_crossed.ensures.1 (crossed_kept ds c.valid.ensures s.vars c.bounds.result.now b h) in let f : true ≡ false = sym g ∙ c.if-have_crossed.false in cc in
-    let r = outside_written ds c.valid.ensures (arguments_in s) (all_given c.as_slice-2.result.now) a (c.have_outside.ensures.0 c.if-have_outside.true) in
+    let r = outside_written ds c.valid.ensures (arguments_in s) (all_given c.as_slice.result.now) a (c.have_outside.ensures.0 c.if-have_outside.true) in
     (w, p.small, o, (r.0, r.1, r.2.0, r.2.1))
 
 pub returns-clause-made : goal.returns-clause-made
 returns-clause-made c =
     let ds = c.args.table.now in
     let s = c.args.written.now in
-    let w : IsWellWritten ds s = record {
-      placed = λ h. let f : true ≡ false = sym c.if-not-are_placed.false ∙ c.are_placed.ensures ∙ h in cc;
-      used = λ h. let g = c.in_ok-unused.ensures.1 h in let f : true ≡ false = sym g ∙ c.if-unused.false in cc;
-      few = λ h. omega (arith, c.len.ensures, c.if-len-gt-MOST_ARGUMENTS.false, h);
-      counted = λ h. let f : true ≡ false = sym c.if-not-are_counted.false ∙ c.are_counted.ensures ∙ ap (list_all (is_counted ds)) (c.as_slice.ensures.value ∙ c.in_ok-types.ensures) ∙ h in cc;
-    } in
     let p = c.in-Ok.ensures.kept in
+    let w = c.in_ok-check_writing.ensures in
     let b : Both (IsSmallForm ds) (bound_types s.vars) (bound_types c.bounds.result.now) =
     subst (λ z. Both (IsSmallForm ds) (bound_types s.vars) (bound_types z)) (sym c.bounds.ensures) (subst (λ (z : Written). Both (IsSmallForm ds) (bound_types z.vars) (bound_types c.in-Ok.prepared.sig.bounded.vars)) p.written p.kept.bounds) in
-    let a : AreFormed ds (arguments_in s) (all_given c.as_slice-2.result.now) = subst (λ z. AreFormed ds (arguments_in s) (all_given z)) (sym c.as_slice-2.ensures.value) p.arguments in
+    let a : AreFormed ds (arguments_in s) (all_given c.as_slice.result.now) = subst (λ z. AreFormed ds (arguments_in s) (all_given z)) (sym c.as_slice.ensures.value) p.arguments in
     let o : BoundsCrossed ds s → ⊥ = λ h. let g = c.have_crossed.ensures.1 (crossed_kept ds c.valid.ensures s.vars c.bounds.result.now b h) in let f : true ≡ false = sym g ∙ c.if-have_crossed.false in cc in
     record {
       allowed = record {
@@ -85,7 +67,7 @@ returns-clause-made c =
         counted = w.counted;
         small = p.small;
         ordered = o;
-        within = λ h. let g = c.have_outside.ensures.1 (outside_kept ds c.valid.ensures (arguments_in s) (all_given c.as_slice-2.result.now) a (h.0, h.1, (h.2, h.3))) in let f : true ≡ false = sym g ∙ c.if-have_outside.false in cc;
+        within = λ h. let g = c.have_outside.ensures.1 (outside_kept ds c.valid.ensures (arguments_in s) (all_given c.as_slice.result.now) a (h.0, h.1, (h.2, h.3))) in let f : true ≡ false = sym g ∙ c.if-have_outside.false in cc;
       };
       written = p.written;
       kept = in_order ds s c.in-Ok.prepared p o;

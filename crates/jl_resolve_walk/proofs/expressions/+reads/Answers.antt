@@ -221,9 +221,9 @@ expr-returns-in_ok-left-in-Infix g t c =
     let st = c.args.state.now in
     let sc = c.args.scope.now in
     let e = c.args.text.now in
-    let kept1 = (ok_at c.expr-in-Infix.result c.in_ok-left-in-Infix.ensures.0 (λ z. c.expr-in-Infix.new.scope ≡ sc) c.in_ok-left-in-Infix.ensures.1 c.expr-in-Infix.ensures.kept) in
+    let kept1 = c.in_ok-left-in-Infix.ensures.kept in
     record {
-      means = given c.expr-right.result c.infix.result _ _ _ c.infix.ensures c.expr-right.ensures.means (λ y z m d. form-Infix ts k e c.in-Infix.field-0 c.in-Infix.operator c.in-Infix.left c.in-Infix.right sc st c.expr-in-Infix.new.state c.expr-right.new.state c.in_ok-left-in-Infix.left y z c.in-Infix.is (part ts k c.in-Infix.left c.get-in-Infix.result.now c.in_ok-left-in-Infix.left c.in_ok-left-in-Infix.ensures.0 sc sc st c.expr-in-Infix.new.state c.in_ok-left-in-Infix.ensures.2 c.get-in-Infix.ensures refl (ok_at c.expr-in-Infix.result c.in_ok-left-in-Infix.ensures.0 (λ z. coded z c.expr-in-Infix.new.state ≡ expr_reads ts k c.get-in-Infix.result.now sc st) c.in_ok-left-in-Infix.ensures.1 c.expr-in-Infix.ensures.means)) (part ts k c.in-Infix.right c.get-in-Infix-2.result.now y y sc c.expr-in-Infix.new.scope c.expr-in-Infix.new.state c.expr-right.new.state refl c.get-in-Infix-2.ensures kept1 m) d);
+      means = given c.expr-right.result c.infix.result _ _ _ c.infix.ensures c.expr-right.ensures.means (λ y z m d. form-Infix ts k e c.in-Infix.field-0 c.in-Infix.operator c.in-Infix.left c.in-Infix.right sc st c.expr-in-Infix.new.state c.expr-right.new.state c.in_ok-left-in-Infix.left y z c.in-Infix.is (part ts k c.in-Infix.left c.get-in-Infix.result.now c.in_ok-left-in-Infix.left c.in_ok-left-in-Infix.left sc sc st c.expr-in-Infix.new.state refl c.get-in-Infix.ensures refl c.in_ok-left-in-Infix.ensures.means) (part ts k c.in-Infix.right c.get-in-Infix-2.result.now y y sc c.expr-in-Infix.new.scope c.expr-in-Infix.new.state c.expr-right.new.state refl c.get-in-Infix-2.ensures kept1 m) d);
       kept = given_on c.expr-right.result c.infix.result _ _ _ c.infix.ensures c.expr-right.ensures.kept (λ h. h ∙ kept1);
     }
 

@@ -1,105 +1,52 @@
-use Rattle.std.proofs.Common.{◌≡◌, ◌∙◌, sym, ap, subst, map, Err, MatchOption, inl, inr}
-use Rattle.std.specs.List.{flat_map}
-use Rattle.std.proofs.lemmas.Result.{err_from_is_err_and}
-use Rattle.jl_types.specs.declared.normal_form.NormFault.TheVariants.{TypeLimit}
+use Rattle.std.proofs.Common.{sym, subst, map, MatchOption}
 use Rattle.jl_model.specs.Ancestors.{table_of}
-use Rattle.jl_model.specs.Signature.{Both}
-use Rattle.jl_model.specs.Refusals.{bound_types, given_in}
-use Rattle.jl_model.specs.SigRefusals.{types_in, ManyRows}
+use Rattle.jl_model.specs.SigRefusals.{ManyRows}
 use Rattle.jl_sig.specs.Parts.{all_given}
 use Rattle.jl_sig.specs.Built.{listed}
-use Rattle.jl_sig.specs.Forms.{IsSmallForm, HasTooLarge, AreFormed, HasTooLargeGiven, AreKnown}
 use Rattle.jl_sig.specs.Prepared.{IsExpandable, AreAllRows}
-use Rattle.jl_sig.proofs.LimitLemmas.{closed_bounds, large_bound, large_argument}
-use Rattle.jl_sig.proofs.SigLemmas.{few_nodes, not_wide_here, buildable, no_limit, arguments_known}
+use Rattle.jl_sig.proofs.SigLemmas.{buildable, no_limit}
 use Rattle.jl_sig.proofs.sig.prepare.Goals as goal
-
-pub returns-in_err-bounds-clause-limit : goal.returns-in_err-bounds-clause-limit
-returns-in_err-bounds-clause-limit c = λ e.
-    let ds = c.args.table.now in
-    let s = c.args.written.now in
-    let p = err_from_is_err_and c.from_residual-in_err-bounds.result c.from_residual-in_err-bounds.ensures.1 in
-    let f : Err p.0 ≡ Err TypeLimit = sym p.1 ∙ e in
-    let g : p.0 ≡ TypeLimit = cc in
-    let w : c.normal_bounds.result ≡ Err TypeLimit = c.in_err-bounds.was ∙ ap (λ z. Err z) (sym p.2 ∙ g) in
-    let x = few_nodes s c.as_slice.result.now c.have_many_nodes.result (c.as_slice.ensures.value ∙ c.in_ok-types.ensures) c.have_many_nodes.ensures c.if-have_many_nodes.false in
-    let y = not_wide_here s c.as_slice-else-have_many_nodes.result.now c.have_wide.result (c.as_slice-else-have_many_nodes.ensures.value ∙ c.in_ok-types.ensures) c.have_wide.ensures c.if-have_wide.false in
-    inr (inr (inl (large_bound ds c.valid.ensures s (closed_bounds s c.requires.placed) x y (subst (λ z. HasTooLarge ds (bound_types z)) c.as_slice-2.ensures (c.normal_bounds.ensures.limit w)))))
-
-pub normal_arguments-requires : goal.normal_arguments-requires
-normal_arguments-requires c =
-    let ds = c.args.table.now in
-    let s = c.args.written.now in
-    let e = ap all_given c.as_slice-4.ensures.value ∙ c.in_ok-arguments.ensures ∙ ap (flat_map given_in) (c.as_slice-3.ensures.value ∙ c.in_ok-types.ensures) in
-    subst (AreKnown ds) (sym e) (arguments_known ds (types_in s) c.requires.known)
-
-pub returns-in_err-arguments-2-clause-limit : goal.returns-in_err-arguments-2-clause-limit
-returns-in_err-arguments-2-clause-limit c = λ e.
-    let ds = c.args.table.now in
-    let s = c.args.written.now in
-    let p = err_from_is_err_and c.from_residual-in_err-arguments-2.result c.from_residual-in_err-arguments-2.ensures.1 in
-    let f : Err p.0 ≡ Err TypeLimit = sym p.1 ∙ e in
-    let g : p.0 ≡ TypeLimit = cc in
-    let w : c.normal_arguments.result ≡ Err TypeLimit = c.in_err-arguments-2.was ∙ ap (λ z. Err z) (sym p.2 ∙ g) in
-    let x = few_nodes s c.as_slice.result.now c.have_many_nodes.result (c.as_slice.ensures.value ∙ c.in_ok-types.ensures) c.have_many_nodes.ensures c.if-have_many_nodes.false in
-    let y = not_wide_here s c.as_slice-else-have_many_nodes.result.now c.have_wide.result (c.as_slice-else-have_many_nodes.ensures.value ∙ c.in_ok-types.ensures) c.have_wide.ensures c.if-have_wide.false in
-    let q = ap all_given c.as_slice-4.ensures.value ∙ c.in_ok-arguments.ensures ∙ ap (flat_map given_in) (c.as_slice-3.ensures.value ∙ c.in_ok-types.ensures) in
-    inr (inr (inl (large_argument ds c.valid.ensures s x y (subst (HasTooLargeGiven ds) q (c.normal_arguments.ensures.limit w)))))
 
 pub all_rows-requires-clause-expandable : goal.all_rows-requires-clause-expandable
 all_rows-requires-clause-expandable c =
     let ds = c.args.table.now in
     let s = c.args.written.now in
-    let x = few_nodes s c.as_slice.result.now c.have_many_nodes.result (c.as_slice.ensures.value ∙ c.in_ok-types.ensures) c.have_many_nodes.ensures c.if-have_many_nodes.false in
-    let y = not_wide_here s c.as_slice-else-have_many_nodes.result.now c.have_wide.result (c.as_slice-else-have_many_nodes.ensures.value ∙ c.in_ok-types.ensures) c.have_wide.ensures c.if-have_wide.false in
-    let q = ap all_given c.as_slice-4.ensures.value ∙ c.in_ok-arguments.ensures ∙ ap (flat_map given_in) (c.as_slice-3.ensures.value ∙ c.in_ok-types.ensures) in
-    let b = subst (λ z. Both (IsSmallForm ds) (bound_types z) (bound_types c.in_ok-bounds.bounds)) c.as_slice-2.ensures c.in_ok-bounds.ensures.forms in
-    let a = subst (λ z. AreFormed ds z (all_given c.in_ok-arguments-2.arguments.items)) q c.in_ok-arguments-2.ensures.forms in
-    subst (IsExpandable ds s) (sym c.as_slice-6.ensures) (buildable ds c.valid.ensures s c.requires x y c.in_ok-bounds.bounds (all_given c.in_ok-arguments-2.arguments.items) b a).rows
+    let f = c.in_ok-forms.forms in
+    let h = c.in_ok-forms.ensures.forms in
+    subst (IsExpandable ds s) (sym c.as_slice-2.ensures) (buildable ds c.valid.ensures s c.requires h.few h.narrow f.bounds (all_given f.arguments.items) h.bounds h.arguments).rows
 
 pub sig_of-requires-clause-buildable : goal.sig_of-requires-clause-buildable
 sig_of-requires-clause-buildable c =
-    let ds = c.args.table.now in
-    let s = c.args.written.now in
-    let x = few_nodes s c.as_slice.result.now c.have_many_nodes.result (c.as_slice.ensures.value ∙ c.in_ok-types.ensures) c.have_many_nodes.ensures c.if-have_many_nodes.false in
-    let y = not_wide_here s c.as_slice-else-have_many_nodes.result.now c.have_wide.result (c.as_slice-else-have_many_nodes.ensures.value ∙ c.in_ok-types.ensures) c.have_wide.ensures c.if-have_wide.false in
-    let q = ap all_given c.as_slice-4.ensures.value ∙ c.in_ok-arguments.ensures ∙ ap (flat_map given_in) (c.as_slice-3.ensures.value ∙ c.in_ok-types.ensures) in
-    let b = subst (λ z. Both (IsSmallForm ds) (bound_types z) (bound_types c.in_ok-bounds.bounds)) c.as_slice-2.ensures c.in_ok-bounds.ensures.forms in
-    let a = subst (λ z. AreFormed ds z (all_given c.in_ok-arguments-2.arguments.items)) q c.in_ok-arguments-2.ensures.forms in
-    buildable ds c.valid.ensures s c.requires x y c.in_ok-bounds.bounds (all_given c.in_ok-arguments-2.arguments.items) b a
+    let f = c.in_ok-forms.forms in
+    let h = c.in_ok-forms.ensures.forms in
+    buildable c.args.table.now c.valid.ensures c.args.written.now c.requires h.few h.narrow f.bounds (all_given f.arguments.items) h.bounds h.arguments
 
 pub sig_of-requires-clause-small : goal.sig_of-requires-clause-small
 sig_of-requires-clause-small c =
     let ds = c.args.table.now in
     let s = c.args.written.now in
-    let x = few_nodes s c.as_slice.result.now c.have_many_nodes.result (c.as_slice.ensures.value ∙ c.in_ok-types.ensures) c.have_many_nodes.ensures c.if-have_many_nodes.false in
-    let y = not_wide_here s c.as_slice-else-have_many_nodes.result.now c.have_wide.result (c.as_slice-else-have_many_nodes.ensures.value ∙ c.in_ok-types.ensures) c.have_wide.ensures c.if-have_wide.false in
-    let q = ap all_given c.as_slice-4.ensures.value ∙ c.in_ok-arguments.ensures ∙ ap (flat_map given_in) (c.as_slice-3.ensures.value ∙ c.in_ok-types.ensures) in
-    let b = subst (λ z. Both (IsSmallForm ds) (bound_types z) (bound_types c.in_ok-bounds.bounds)) c.as_slice-2.ensures c.in_ok-bounds.ensures.forms in
-    let a = subst (λ z. AreFormed ds z (all_given c.in_ok-arguments-2.arguments.items)) q c.in_ok-arguments-2.ensures.forms in
+    let f = c.in_ok-forms.forms in
+    let h = c.in_ok-forms.ensures.forms in
     let r : AreAllRows (table_of ds) s (map listed c.in-Some.rows.items) = subst (λ o. MatchOption o (ManyRows (table_of ds) s) (λ rows. AreAllRows (table_of ds) s (map listed rows.items))) c.in-Some.is c.in_ok-rows.ensures in
-    no_limit ds c.valid.ensures s c.requires x y c.in_ok-bounds.bounds (all_given c.in_ok-arguments-2.arguments.items) b a (map listed c.in-Some.rows.items) r
+    no_limit ds c.valid.ensures s c.requires h.few h.narrow f.bounds (all_given f.arguments.items) h.bounds h.arguments (map listed c.in-Some.rows.items) r
 
 pub sig_of-requires-clause-rows : goal.sig_of-requires-clause-rows
 sig_of-requires-clause-rows c =
     let ds = c.args.table.now in
     let s = c.args.written.now in
     let r : AreAllRows (table_of ds) s (map listed c.in-Some.rows.items) = subst (λ o. MatchOption o (ManyRows (table_of ds) s) (λ rows. AreAllRows (table_of ds) s (map listed rows.items))) c.in-Some.is c.in_ok-rows.ensures in
-    subst (λ z. AreAllRows (table_of ds) s (map listed z)) (sym c.as_slice-8.ensures.value) r
+    subst (λ z. AreAllRows (table_of ds) s (map listed z)) (sym c.as_slice-4.ensures.value) r
 
 pub returns-clause-kept : goal.returns-clause-kept
 returns-clause-kept c =
     let ds = c.args.table.now in
     let s = c.args.written.now in
-    let x = few_nodes s c.as_slice.result.now c.have_many_nodes.result (c.as_slice.ensures.value ∙ c.in_ok-types.ensures) c.have_many_nodes.ensures c.if-have_many_nodes.false in
-    let y = not_wide_here s c.as_slice-else-have_many_nodes.result.now c.have_wide.result (c.as_slice-else-have_many_nodes.ensures.value ∙ c.in_ok-types.ensures) c.have_wide.ensures c.if-have_wide.false in
-    let q = ap all_given c.as_slice-4.ensures.value ∙ c.in_ok-arguments.ensures ∙ ap (flat_map given_in) (c.as_slice-3.ensures.value ∙ c.in_ok-types.ensures) in
-    let b = subst (λ z. Both (IsSmallForm ds) (bound_types z) (bound_types c.in_ok-bounds.bounds)) c.as_slice-2.ensures c.in_ok-bounds.ensures.forms in
-    let a = subst (λ z. AreFormed ds z (all_given c.in_ok-arguments-2.arguments.items)) q c.in_ok-arguments-2.ensures.forms in
+    let f = c.in_ok-forms.forms in
+    let h = c.in_ok-forms.ensures.forms in
     let r : AreAllRows (table_of ds) s (map listed c.in-Some.rows.items) = subst (λ o. MatchOption o (ManyRows (table_of ds) s) (λ rows. AreAllRows (table_of ds) s (map listed rows.items))) c.in-Some.is c.in_ok-rows.ensures in
     record {
       written = c.in_ok-sig.ensures.written;
       kept = c.in_ok-sig.ensures.kept;
-      arguments = a;
-      small = no_limit ds c.valid.ensures s c.requires x y c.in_ok-bounds.bounds (all_given c.in_ok-arguments-2.arguments.items) b a (map listed c.in-Some.rows.items) r;
+      arguments = h.arguments;
+      small = no_limit ds c.valid.ensures s c.requires h.few h.narrow f.bounds (all_given f.arguments.items) h.bounds h.arguments (map listed c.in-Some.rows.items) r;
     }

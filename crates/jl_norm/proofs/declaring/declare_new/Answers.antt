@@ -1,7 +1,7 @@
 use Rattle.std.proofs.Common.{◌≡◌, ap, Err, true, false}
 use Rattle.jl_model.specs.Refusals.{IsAllowed}
 use Rattle.jl_norm.proofs.ToldLemmas.{is_allowed, may_add, bounded_right, memory_refused, large_given}
-use Rattle.jl_norm.proofs.declaring.declare.Goals as goal
+use Rattle.jl_norm.proofs.declaring.declare_new.Goals as goal
 
 pub returns-then-is_too_many-clause-allowed : goal.returns-then-is_too_many-clause-allowed
 returns-then-is_too_many-clause-allowed c =
@@ -11,7 +11,7 @@ returns-then-is_too_many-clause-allowed c =
 pub add-requires : goal.add-requires
 add-requires c =
     may_add c.args.table.now c.args.decl c.in-Ok.kept c.valid.ensures c.in-Ok.ensures (λ t. let e : c.is_too_many.result ≡ true = c.is_too_many.ensures.1 t in let f : c.is_too_many.result ≡ false = c.if-is_too_many.false in cc)
-    (λ t. let e : c.has_twins.result ≡ true = c.has_twins.ensures.1 t in let f : c.has_twins.result ≡ false = c.if-has_twins.false in cc) c.requires
+    (λ t. let e : c.has_twins.result ≡ true = c.has_twins.ensures.1 t in let f : c.has_twins.result ≡ false = c.if-has_twins.false in cc) c.requires.own
 
 pub returns-clause-allowed : goal.returns-clause-allowed
 returns-clause-allowed c =

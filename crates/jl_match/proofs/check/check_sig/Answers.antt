@@ -1,0 +1,62 @@
+use Rattle.std.proofs.Common.{◌≡◌, ◌∙◌, sym, subst, true, false}
+use Rattle.jl_model.specs.Signature.{Both}
+use Rattle.jl_model.specs.Refusals.{bound_types}
+use Rattle.jl_model.specs.SigRefusals.{arguments_in, BoundsCrossed}
+use Rattle.jl_sig.specs.Parts.{all_given}
+use Rattle.jl_sig.specs.Forms.{IsSmallForm, AreFormed}
+use Rattle.jl_match.proofs.MakeLemmas.{forms_ground, crossed_kept, crossed_written, outside_kept, outside_written, arguments_ground}
+use Rattle.jl_match.proofs.check.check_sig.Goals as goal
+
+pub have_crossed-requires : goal.have_crossed-requires
+have_crossed-requires c =
+    let ds = c.args.table.now in
+    let s = c.args.written.now in
+    let p = c.in-Ok.ensures.forms in
+    let b : Both (IsSmallForm ds) (bound_types s.vars) (bound_types c.as_slice.result.now) = subst (λ z. Both (IsSmallForm ds) (bound_types s.vars) (bound_types z)) (sym c.as_slice.ensures) p.bounds in
+    forms_ground ds c.valid.ensures s.vars c.as_slice.result.now b
+
+pub have_outside-requires : goal.have_outside-requires
+have_outside-requires c =
+    let ds = c.args.table.now in
+    let s = c.args.written.now in
+    let p = c.in-Ok.ensures.forms in
+    let a : AreFormed ds (arguments_in s) (all_given c.as_slice-2.result.now) = subst (λ z. AreFormed ds (arguments_in s) (all_given z)) (sym c.as_slice-2.ensures.value) p.arguments in
+    arguments_ground ds c.valid.ensures (arguments_in s) c.as_slice-2.result.now a
+
+pub returns-then-have_crossed : goal.returns-then-have_crossed
+returns-then-have_crossed c =
+    let ds = c.args.table.now in
+    let s = c.args.written.now in
+    let p = c.in-Ok.ensures.forms in
+    let b : Both (IsSmallForm ds) (bound_types s.vars) (bound_types c.as_slice.result.now) = subst (λ z. Both (IsSmallForm ds) (bound_types s.vars) (bound_types z)) (sym c.as_slice.ensures) p.bounds in
+    (c.in_ok-check_writing.ensures, c.in-Ok.ensures.small, crossed_written ds c.valid.ensures s.vars c.as_slice.result.now b (c.have_crossed.ensures.0 c.if-have_crossed.true))
+
+pub returns-then-have_outside : goal.returns-then-have_outside
+returns-then-have_outside c =
+    let ds = c.args.table.now in
+    let s = c.args.written.now in
+    let p = c.in-Ok.ensures.forms in
+    let b : Both (IsSmallForm ds) (bound_types s.vars) (bound_types c.as_slice.result.now) = subst (λ z. Both (IsSmallForm ds) (bound_types s.vars) (bound_types z)) (sym c.as_slice.ensures) p.bounds in
+    let a : AreFormed ds (arguments_in s) (all_given c.as_slice-2.result.now) = subst (λ z. AreFormed ds (arguments_in s) (all_given z)) (sym c.as_slice-2.ensures.value) p.arguments in
+    let o : BoundsCrossed ds s → ⊥ = λ h. let g = c.have_crossed.ensures.1 (crossed_kept ds c.valid.ensures s.vars c.as_slice.result.now b h) in let f : true ≡ false = sym g ∙ c.if-have_crossed.false in cc in
+    let r = outside_written ds c.valid.ensures (arguments_in s) (all_given c.as_slice-2.result.now) a (c.have_outside.ensures.0 c.if-have_outside.true) in
+    (c.in_ok-check_writing.ensures, c.in-Ok.ensures.small, o, (r.0, r.1, r.2.0, r.2.1))
+
+pub returns : goal.returns
+returns c =
+    let ds = c.args.table.now in
+    let s = c.args.written.now in
+    let p = c.in-Ok.ensures.forms in
+    let w = c.in_ok-check_writing.ensures in
+    let b : Both (IsSmallForm ds) (bound_types s.vars) (bound_types c.as_slice.result.now) = subst (λ z. Both (IsSmallForm ds) (bound_types s.vars) (bound_types z)) (sym c.as_slice.ensures) p.bounds in
+    let a : AreFormed ds (arguments_in s) (all_given c.as_slice-2.result.now) = subst (λ z. AreFormed ds (arguments_in s) (all_given z)) (sym c.as_slice-2.ensures.value) p.arguments in
+    let o : BoundsCrossed ds s → ⊥ = λ h. let g = c.have_crossed.ensures.1 (crossed_kept ds c.valid.ensures s.vars c.as_slice.result.now b h) in let f : true ≡ false = sym g ∙ c.if-have_crossed.false in cc in
+    record {
+      placed = w.placed;
+      used = w.used;
+      few = w.few;
+      counted = w.counted;
+      small = c.in-Ok.ensures.small;
+      ordered = o;
+      within = λ h. let g = c.have_outside.ensures.1 (outside_kept ds c.valid.ensures (arguments_in s) (all_given c.as_slice-2.result.now) a (h.0, h.1, (h.2, h.3))) in let f : true ≡ false = sym g ∙ c.if-have_outside.false in cc;
+    }

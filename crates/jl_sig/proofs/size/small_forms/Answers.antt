@@ -1,0 +1,56 @@
+use Rattle.std.proofs.Common.{◌≡◌, ◌∙◌, sym, ap, subst, Err, inl, inr}
+use Rattle.std.specs.List.{flat_map}
+use Rattle.std.proofs.lemmas.Result.{err_from_is_err_and}
+use Rattle.jl_types.specs.declared.normal_form.NormFault.TheVariants.{TypeLimit}
+use Rattle.jl_model.specs.Signature.{Both}
+use Rattle.jl_model.specs.Refusals.{bound_types, given_in}
+use Rattle.jl_model.specs.SigRefusals.{types_in}
+use Rattle.jl_sig.specs.Parts.{all_given}
+use Rattle.jl_sig.specs.Forms.{IsSmallForm, HasTooLarge, AreFormed, HasTooLargeGiven, AreKnown}
+use Rattle.jl_sig.proofs.LimitLemmas.{closed_bounds, large_bound, large_argument}
+use Rattle.jl_sig.proofs.SigLemmas.{few_nodes, not_wide_here, arguments_known}
+use Rattle.jl_sig.proofs.size.small_forms.Goals as goal
+
+pub returns-in_err-bounds-clause-limit : goal.returns-in_err-bounds-clause-limit
+returns-in_err-bounds-clause-limit c = λ e.
+    let ds = c.args.table.now in
+    let s = c.args.written.now in
+    let p = err_from_is_err_and c.from_residual-in_err-bounds.result c.from_residual-in_err-bounds.ensures.1 in
+    let f : Err p.0 ≡ Err TypeLimit = sym p.1 ∙ e in
+    let g : p.0 ≡ TypeLimit = cc in
+    let w : c.normal_bounds.result ≡ Err TypeLimit = c.in_err-bounds.was ∙ ap (λ z. Err z) (sym p.2 ∙ g) in
+    let x = few_nodes s c.as_slice.result.now c.have_many_nodes.result (c.as_slice.ensures.value ∙ c.in_ok-types.ensures) c.have_many_nodes.ensures c.if-have_many_nodes.false in
+    let y = not_wide_here s c.as_slice-else-have_many_nodes.result.now c.have_wide.result (c.as_slice-else-have_many_nodes.ensures.value ∙ c.in_ok-types.ensures) c.have_wide.ensures c.if-have_wide.false in
+    inr (inr (inl (large_bound ds c.valid.ensures s (closed_bounds s c.requires.placed) x y (subst (λ z. HasTooLarge ds (bound_types z)) c.as_slice-2.ensures (c.normal_bounds.ensures.limit w)))))
+
+pub normal_arguments-requires : goal.normal_arguments-requires
+normal_arguments-requires c =
+    let ds = c.args.table.now in
+    let s = c.args.written.now in
+    let e = ap all_given c.as_slice-4.ensures.value ∙ c.in_ok-arguments.ensures ∙ ap (flat_map given_in) (c.as_slice-3.ensures.value ∙ c.in_ok-types.ensures) in
+    subst (AreKnown ds) (sym e) (arguments_known ds (types_in s) c.requires.known)
+
+pub returns-in_err-arguments-2-clause-limit : goal.returns-in_err-arguments-2-clause-limit
+returns-in_err-arguments-2-clause-limit c = λ e.
+    let ds = c.args.table.now in
+    let s = c.args.written.now in
+    let p = err_from_is_err_and c.from_residual-in_err-arguments-2.result c.from_residual-in_err-arguments-2.ensures.1 in
+    let f : Err p.0 ≡ Err TypeLimit = sym p.1 ∙ e in
+    let g : p.0 ≡ TypeLimit = cc in
+    let w : c.normal_arguments.result ≡ Err TypeLimit = c.in_err-arguments-2.was ∙ ap (λ z. Err z) (sym p.2 ∙ g) in
+    let x = few_nodes s c.as_slice.result.now c.have_many_nodes.result (c.as_slice.ensures.value ∙ c.in_ok-types.ensures) c.have_many_nodes.ensures c.if-have_many_nodes.false in
+    let y = not_wide_here s c.as_slice-else-have_many_nodes.result.now c.have_wide.result (c.as_slice-else-have_many_nodes.ensures.value ∙ c.in_ok-types.ensures) c.have_wide.ensures c.if-have_wide.false in
+    let q = ap all_given c.as_slice-4.ensures.value ∙ c.in_ok-arguments.ensures ∙ ap (flat_map given_in) (c.as_slice-3.ensures.value ∙ c.in_ok-types.ensures) in
+    inr (inr (inl (large_argument ds c.valid.ensures s x y (subst (HasTooLargeGiven ds) q (c.normal_arguments.ensures.limit w)))))
+
+pub returns-clause-forms : goal.returns-clause-forms
+returns-clause-forms c =
+    let ds = c.args.table.now in
+    let s = c.args.written.now in
+    let q = ap all_given c.as_slice-4.ensures.value ∙ c.in_ok-arguments.ensures ∙ ap (flat_map given_in) (c.as_slice-3.ensures.value ∙ c.in_ok-types.ensures) in
+    record {
+      few = few_nodes s c.as_slice.result.now c.have_many_nodes.result (c.as_slice.ensures.value ∙ c.in_ok-types.ensures) c.have_many_nodes.ensures c.if-have_many_nodes.false;
+      narrow = not_wide_here s c.as_slice-else-have_many_nodes.result.now c.have_wide.result (c.as_slice-else-have_many_nodes.ensures.value ∙ c.in_ok-types.ensures) c.have_wide.ensures c.if-have_wide.false;
+      bounds = subst (λ z. Both (IsSmallForm ds) (bound_types z) (bound_types c.in_ok-bounds.bounds)) c.as_slice-2.ensures c.in_ok-bounds.ensures.forms;
+      arguments = subst (λ z. AreFormed ds z (all_given c.in_ok-arguments-2.arguments.items)) q c.in_ok-arguments-2.ensures.forms;
+    }
