@@ -13,6 +13,7 @@ use Rattle.jl_types.proofs.DecideLemmas.{Decided}
 use Rattle.jl_body.specs.TypeRefused.{BodyTypeLimit}
 use Rattle.jl_written.specs.declared.fault.StaticKind.{StaticKind}
 use Rattle.jl_written.specs.declared.fault.StaticKind.TheVariants as kind
+use Rattle.jl_resolve_forms.specs.TypesIn.{Tests}
 use Rattle.jl_judge.specs.Right.{IsJudgedBelow}
 use Rattle.jl_judge.specs.Decision.{test_of}
 use Rattle.jl_judge.specs.BelowDecided.{judged_below_decided}
@@ -69,3 +70,7 @@ module _ (ds : List Decl) (valid : ∥ Declared ds ∥₁) where
   -- whether the signature of the fields of a declared type is too large
   unfoldable pub wide_test : ℕ → Bool
   wide_test p = cond (nat_lt p (length ds)) (holds (TypeLimit ds (fields_signature (slice_get ds p))) (λ d. limit_decided ds d (fields_signature (slice_get ds p)))) false
+
+  -- all of them
+  abbrev pub all_tests : Tests
+  all_tests = record { below = below_test; signature = signature_test; body = body_test; wide = wide_test }

@@ -29,9 +29,6 @@ pub record Tests : Type 0 where
   pub body : Written → Option StaticKind
   pub wide : ℕ → Bool
 
-abbrev pub tests : (Ty → Ty → Bool) → (Written → Option StaticKind) → (Written → Option StaticKind) → (ℕ → Bool) → Tests
-tests b s d w = record { below = b; signature = s; body = d; wide = w }
-
 -- a written type, and what is known behind it
 pub record Wrote : Type 0 where
   pub written : Written

@@ -4,7 +4,6 @@ ghost use Rattle.std.specs.Prelude.{◌≡◌, ◌∷◌, [], IfOk, length};
 ghost use Rattle.jl_program.specs.declared.tree.Stmt.TheVariants as S;
 ghost use Rattle.jl_resolve_forms.specs.Scopes.{slot_of, seen, bind};
 ghost use Rattle.jl_program.specs.declared.tree.Expr.TheViews as C;
-ghost use Rattle.jl_resolve_forms.specs.TypesIn.{tests};
 ghost use Rattle.jl_resolve_forms.specs.Expressions.{coded, codes, stated, said, local, prefix_code, infix_code, counted, latest, call, chained, inferred_refusal, part_number};
 
 use crate::judge::Judge;
@@ -138,7 +137,7 @@ fn inferred_refusal<J: Judge>(
     known: &Known,
     number: u32,
 ) -> Result<Option<StaticKind>, AllocError>
-    ensures { IfOk result (λ k. k ≡ inferred_refusal (tests (J.below judge.now) (J.signature_refusal judge.now) (J.body_refusal judge.now) (J.wide_struct judge.now)) known.now number) }
+    ensures { IfOk result (λ k. k ≡ inferred_refusal (J.tests judge.now) known.now number) }
 {
     if !known.decls.finds_parameters(number) {
         return Ok(Some(StaticKind::StaticParameterUse));
@@ -160,7 +159,7 @@ pub fn call<J: Judge>(
     called: Called,
     arguments: Codes,
 ) -> Result<Code, AllocError>
-    ensures { IfOk result (λ c. coded c state.new ≡ call (tests (J.below judge.now) (J.signature_refusal judge.now) (J.body_refusal judge.now) (J.wide_struct judge.now)) known.now at called (codes arguments state.old)) }
+    ensures { IfOk result (λ c. coded c state.new ≡ call (J.tests judge.now) known.now at called (codes arguments state.old)) }
 {
     match called {
         Called::Function(function) => {

@@ -8,7 +8,7 @@ ghost use Rattle.jl_written.specs.Reads.{types};
 ghost use Rattle.jl_written.specs.Signatures.{all_read, signature, written_of};
 ghost use Rattle.jl_resolve_forms.specs.Functions.{function_of, place_of_callee};
 ghost use Rattle.jl_resolve_forms.specs.Scopes.{seen};
-ghost use Rattle.jl_resolve_forms.specs.TypesIn.{tests, refusal};
+ghost use Rattle.jl_resolve_forms.specs.TypesIn.{refusal};
 ghost use Rattle.jl_resolve_forms.specs.Expressions.{coded, bare_scope, type_of, signature_as, parameters, static_parameter, static_parameters, signed_as, signed, opened_with, named, names_in, may_define, defined_function, if_unknown, too_many, opened_as, opened, reserved, closed};
 
 use crate::functions::{function_of, place_of_callee};
@@ -157,7 +157,7 @@ fn signature_refusal<J: Judge>(
     reading: &Reading,
     written: &Written,
 ) -> Result<Option<StaticKind>, AllocError>
-    ensures { IfOk result (λ k. k ≡ refusal (J.signature_refusal judge.now) reading.now written.now) }
+    ensures { IfOk result (λ k. k ≡ refusal (J.tests judge.now).signature reading.now written.now) }
 {
     if reading.misplaced {
         return Ok(Some(StaticKind::VariablePlace));
@@ -229,7 +229,7 @@ fn signed<J: Judge>(
     types: u32,
     head: &Head,
 ) -> Result<Signed, AllocError>
-    ensures { IfOk result (λ g. g ≡ signed (tests (J.below judge.now) (J.signature_refusal judge.now) (J.body_refusal judge.now) (J.wide_struct judge.now)) known.now types head.now) }
+    ensures { IfOk result (λ g. g ≡ signed (J.tests judge.now) known.now types head.now) }
 {
     let decls = declared_at(known, types);
     let read = signature(alloc, &decls, head.params.as_slice(), head.vars.as_slice())?;
@@ -238,7 +238,7 @@ fn signed<J: Judge>(
 }
 
 fn signed_as<J: Judge>(alloc: Global, judge: &J, read: SignatureRead) -> Result<Signed, AllocError>
-    ensures { IfOk result (λ g. g ≡ signed_as (tests (J.below judge.now) (J.signature_refusal judge.now) (J.body_refusal judge.now) (J.wide_struct judge.now)) (signature_as read)) }
+    ensures { IfOk result (λ g. g ≡ signed_as (J.tests judge.now) (signature_as read)) }
 {
     let SignatureRead {
         vars,
@@ -326,7 +326,7 @@ pub fn opened<J: Judge>(
     state: &mut State,
     head: &Head,
 ) -> Result<Opening, AllocError>
-    ensures { IfOk result (λ o. opened_as o state.new ≡ opened (tests (J.below judge.now) (J.signature_refusal judge.now) (J.body_refusal judge.now) (J.wide_struct judge.now)) known.now head.now types state.old) }
+    ensures { IfOk result (λ o. opened_as o state.new ≡ opened (J.tests judge.now) known.now head.now types state.old) }
 {
     let function = function_at(alloc, known, types, &head.callee);
     let signed = signed(alloc, judge, known, types, head)?;

@@ -3,7 +3,6 @@
 ghost use Rattle.std.specs.Prelude.{◌≡◌, ◌++◌, IfOk, OnOk, option_copied};
 ghost use Rattle.jl_program.specs.Prelude.{prelude_sites};
 ghost use Rattle.jl_resolve_forms.specs.Scopes.{seen};
-ghost use Rattle.jl_resolve_forms.specs.TypesIn.{tests};
 ghost use Rattle.jl_resolve_forms.specs.Top.{first_at, clash, clashes, top_bind};
 
 use crate::known::Known;

@@ -9,7 +9,7 @@ ghost use Rattle.jl_program.specs.declared.tree.Piece.TheVariants as P;
 ghost use Rattle.jl_program.specs.declared.tree.Stmt.TheVariants as S;
 ghost use Rattle.jl_resolve_forms.specs.Functions.{called, function_of, place_of_callee};
 ghost use Rattle.jl_resolve_forms.specs.Scopes.{bind, slot_of};
-ghost use Rattle.jl_resolve_forms.specs.TypesIn.{tests, begins};
+ghost use Rattle.jl_resolve_forms.specs.TypesIn.{begins};
 ghost use Rattle.jl_resolve_forms.specs.Expressions.{coded, codes, stated, said, defined, is_below, local, call, chained, closed, infix_code, latest, part_number, prefix_code};
 ghost use Rattle.jl_resolve_walk.specs.Steps.{Gives, begun_as, begun, ended, awaited, spawned_at, tested, started_as, started};
 
@@ -94,7 +94,7 @@ pub(crate) fn call<J: Judge>(
     callee: &Callee,
     arguments: Result<Codes, AllocError>,
 ) -> Result<Code, AllocError>
-    ensures { Gives arguments result (λ ys c. coded c state.new ≡ call (tests (J.below judge.now) (J.signature_refusal judge.now) (J.body_refusal judge.now) (J.wide_struct judge.now)) known.now (place_of_callee callee.now) (called known.now callee.now scope.now) (codes ys state.old)) }
+    ensures { Gives arguments result (λ ys c. coded c state.new ≡ call (J.tests judge.now) known.now (place_of_callee callee.now) (called known.now callee.now scope.now) (codes ys state.old)) }
 {
     let arguments = arguments?;
     let called = called(known, callee, scope);
@@ -187,7 +187,7 @@ pub(crate) fn is_a<J: Judge>(
     code: Result<Code, AllocError>,
     ty: &TypeText,
 ) -> Result<Code, AllocError>
-    ensures { Gives code result (λ y c. coded c state.new ≡ tested (tests (J.below judge.now) (J.signature_refusal judge.now) (J.body_refusal judge.now) (J.wide_struct judge.now)) known.now y ty.now scope.now state.old) }
+    ensures { Gives code result (λ y c. coded c state.new ≡ tested (J.tests judge.now) known.now y ty.now scope.now state.old) }
 {
     let code = held(alloc, code)?;
     let written = body_written(alloc, judge, known, scope, state, ty)?;
@@ -204,7 +204,7 @@ pub(crate) fn below<J: Judge>(
     left: &TypeText,
     right: &TypeText,
 ) -> Result<Code, AllocError>
-    ensures { IfOk result (λ c. coded c state.new ≡ is_below (tests (J.below judge.now) (J.signature_refusal judge.now) (J.body_refusal judge.now) (J.wide_struct judge.now)) known.now left.now right.now scope.now state.old) }
+    ensures { IfOk result (λ c. coded c state.new ≡ is_below (J.tests judge.now) known.now left.now right.now scope.now state.old) }
 {
     let left = body_written(alloc, judge, known, scope, state, left)?;
     let right = body_written(alloc, judge, known, scope, state, right)?;
@@ -253,7 +253,7 @@ pub(crate) fn begun<J: Judge>(
     state: &mut State,
     ty: &TypeText,
 ) -> Result<Option<Written>, AllocError>
-    ensures { IfOk result (λ w. begun_as w state.new ≡ begun (tests (J.below judge.now) (J.signature_refusal judge.now) (J.body_refusal judge.now) (J.wide_struct judge.now)) known.now ty.now scope.now state.old) }
+    ensures { IfOk result (λ w. begun_as w state.new ≡ begun (J.tests judge.now) known.now ty.now scope.now state.old) }
 {
     match made_struct(known, ty, scope) {
         None => Ok(None),
@@ -420,7 +420,7 @@ pub(crate) fn started<J: Judge>(
     state: &mut State,
     head: &Head,
 ) -> Result<(u32, Opening), AllocError>
-    ensures { IfOk result (λ p. started_as p.0 p.1 state.new ≡ started (tests (J.below judge.now) (J.signature_refusal judge.now) (J.body_refusal judge.now) (J.wide_struct judge.now)) known.now head.now types state.old) }
+    ensures { IfOk result (λ p. started_as p.0 p.1 state.new ≡ started (J.tests judge.now) known.now head.now types state.old) }
 {
     let opening = opened(alloc, judge, known, types, state, head)?;
     let number = reserved(state, &opening)?;

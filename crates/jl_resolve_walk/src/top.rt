@@ -3,7 +3,6 @@
 ghost use Rattle.std.specs.Prelude.{◌≡◌, ◌∷◌, ◌++◌, [], ◌+◌, drop, length, IfOk, OnOk};
 ghost use Rattle.jl_resolve_forms.specs.Expressions.{bare_scope};
 ghost use Rattle.jl_resolve_forms.specs.Scopes.{seen};
-ghost use Rattle.jl_resolve_forms.specs.TypesIn.{tests};
 ghost use Rattle.jl_resolve_forms.specs.Top.{tops, top_bind, one_top, all_top, program_as, resolved};
 ghost use Rattle.jl_resolve_walk.specs.Steps.{tops_behind, one_type_more, top_bound, resolved_as};
 
@@ -76,7 +75,7 @@ fn put_top<J: Judge>(
     out: &mut Row<Statement>,
     text: &Item,
 ) -> Result<(), AllocError>
-    ensures { OnOk result (tops out.new scope.new state.new ≡ tops_behind out.old (one_top (tests (J.below judge.now) (J.signature_refusal judge.now) (J.body_refusal judge.now) (J.wide_struct judge.now)) known.now text.now scope.old state.old)) }
+    ensures { OnOk result (tops out.new scope.new state.new ≡ tops_behind out.old (one_top (J.tests judge.now) known.now text.now scope.old state.old)) }
 {
     match text {
         Item::Abstract(_) => declared(scope),
@@ -106,7 +105,7 @@ fn all_top<J: Judge>(
     state: &mut State,
     texts: &[Item],
 ) -> Result<Items, AllocError>
-    ensures { IfOk result (λ xs. tops xs scope.new state.new ≡ all_top (tests (J.below judge.now) (J.signature_refusal judge.now) (J.body_refusal judge.now) (J.wide_struct judge.now)) known.now texts.now scope.old state.old) }
+    ensures { IfOk result (λ xs. tops xs scope.new state.new ≡ all_top (J.tests judge.now) known.now texts.now scope.old state.old) }
 {
     let mut out = Row::new(alloc);
     for text in texts {
@@ -176,7 +175,7 @@ pub fn resolved<J: Judge>(
     items: &[Item],
     fault: Option<Fault>,
 ) -> Result<Resolved, AllocError>
-    ensures { IfOk result (λ r. resolved_as r.program r.fault ≡ resolved (tests (J.below judge.now) (J.signature_refusal judge.now) (J.body_refusal judge.now) (J.wide_struct judge.now)) known.now items.now fault) }
+    ensures { IfOk result (λ r. resolved_as r.program r.fault ≡ resolved (J.tests judge.now) known.now items.now fault) }
 {
     let mut scope = bare_scope(alloc, BUILTIN_TYPES);
     let mut state = beginning(alloc, fault)?;

@@ -1,6 +1,5 @@
 use Rattle.std.proofs.Common.{◌≡◌, ◌∙◌, ap, arith, refl}
 use Rattle.jl_resolve_forms.specs.Scopes.{slot_of}
-use Rattle.jl_resolve_forms.specs.TypesIn.{tests}
 use Rattle.jl_resolve_forms.specs.Expressions.{coded, stated, shown, listed, tried, one_said, one_shown, one_evaluated, one_tried, bare_scope, part_number, expr_reads, stmt_reads, piece_reads, eval_reads, branch_reads}
 use Rattle.jl_resolve_walk.proofs.Forms.{part, form-Number, form-Bool, form-Nothing, form-Name, form-Paren, form-Tuple, form-Call, form-Make, form-Field, form-Part, form-Prefix, form-Infix, form-Isa, form-Sub, form-Choose, form-If, form-IfElse, form-Begin, form-Latest, form-Spawn, form-EvalMethod, form-EvalBlock, form-EvalExpr, form-EvalQuote, form-Fetch, form-Print}
 use Rattle.jl_resolve_walk.proofs.GivenLemmas.{given, given_on, both_given, weaker, always, ok_at}
@@ -12,7 +11,7 @@ use Rattle.jl_resolve_walk.proofs.expressions.+reads.Goals as goal
 
 pub expr-returns-in-Number : goal.expr-returns-in-Number
 expr-returns-in-Number g t c =
-    let ts = tests (g.J.Order.below c.args.judge.now) (g.J.Judge.signature_refusal c.args.judge.now) (g.J.Judge.body_refusal c.args.judge.now) (g.J.Judge.wide_struct c.args.judge.now) in
+    let ts = g.J.Judge.tests c.args.judge.now in
     let k = c.args.known.now in
     let st = c.args.state.now in
     let sc = c.args.scope.now in
@@ -24,7 +23,7 @@ expr-returns-in-Number g t c =
 
 pub expr-returns-in-Bool : goal.expr-returns-in-Bool
 expr-returns-in-Bool g t c =
-    let ts = tests (g.J.Order.below c.args.judge.now) (g.J.Judge.signature_refusal c.args.judge.now) (g.J.Judge.body_refusal c.args.judge.now) (g.J.Judge.wide_struct c.args.judge.now) in
+    let ts = g.J.Judge.tests c.args.judge.now in
     let k = c.args.known.now in
     let st = c.args.state.now in
     let sc = c.args.scope.now in
@@ -36,7 +35,7 @@ expr-returns-in-Bool g t c =
 
 pub expr-returns-in-Nothing : goal.expr-returns-in-Nothing
 expr-returns-in-Nothing g t c =
-    let ts = tests (g.J.Order.below c.args.judge.now) (g.J.Judge.signature_refusal c.args.judge.now) (g.J.Judge.body_refusal c.args.judge.now) (g.J.Judge.wide_struct c.args.judge.now) in
+    let ts = g.J.Judge.tests c.args.judge.now in
     let k = c.args.known.now in
     let st = c.args.state.now in
     let sc = c.args.scope.now in
@@ -48,7 +47,7 @@ expr-returns-in-Nothing g t c =
 
 pub expr-returns-in-Name : goal.expr-returns-in-Name
 expr-returns-in-Name g t c =
-    let ts = tests (g.J.Order.below c.args.judge.now) (g.J.Judge.signature_refusal c.args.judge.now) (g.J.Judge.body_refusal c.args.judge.now) (g.J.Judge.wide_struct c.args.judge.now) in
+    let ts = g.J.Judge.tests c.args.judge.now in
     let k = c.args.known.now in
     let st = c.args.state.now in
     let sc = c.args.scope.now in
@@ -60,7 +59,7 @@ expr-returns-in-Name g t c =
 
 pub expr-returns-in-Paren : goal.expr-returns-in-Paren
 expr-returns-in-Paren g t c =
-    let ts = tests (g.J.Order.below c.args.judge.now) (g.J.Judge.signature_refusal c.args.judge.now) (g.J.Judge.body_refusal c.args.judge.now) (g.J.Judge.wide_struct c.args.judge.now) in
+    let ts = g.J.Judge.tests c.args.judge.now in
     let k = c.args.known.now in
     let st = c.args.state.now in
     let sc = c.args.scope.now in
@@ -72,7 +71,7 @@ expr-returns-in-Paren g t c =
 
 pub expr-returns-in-Field : goal.expr-returns-in-Field
 expr-returns-in-Field g t c =
-    let ts = tests (g.J.Order.below c.args.judge.now) (g.J.Judge.signature_refusal c.args.judge.now) (g.J.Judge.body_refusal c.args.judge.now) (g.J.Judge.wide_struct c.args.judge.now) in
+    let ts = g.J.Judge.tests c.args.judge.now in
     let k = c.args.known.now in
     let st = c.args.state.now in
     let sc = c.args.scope.now in
@@ -84,7 +83,7 @@ expr-returns-in-Field g t c =
 
 pub expr-returns-in-Part : goal.expr-returns-in-Part
 expr-returns-in-Part g t c =
-    let ts = tests (g.J.Order.below c.args.judge.now) (g.J.Judge.signature_refusal c.args.judge.now) (g.J.Judge.body_refusal c.args.judge.now) (g.J.Judge.wide_struct c.args.judge.now) in
+    let ts = g.J.Judge.tests c.args.judge.now in
     let k = c.args.known.now in
     let st = c.args.state.now in
     let sc = c.args.scope.now in
@@ -96,7 +95,7 @@ expr-returns-in-Part g t c =
 
 pub expr-returns-in-Prefix : goal.expr-returns-in-Prefix
 expr-returns-in-Prefix g t c =
-    let ts = tests (g.J.Order.below c.args.judge.now) (g.J.Judge.signature_refusal c.args.judge.now) (g.J.Judge.body_refusal c.args.judge.now) (g.J.Judge.wide_struct c.args.judge.now) in
+    let ts = g.J.Judge.tests c.args.judge.now in
     let k = c.args.known.now in
     let st = c.args.state.now in
     let sc = c.args.scope.now in
@@ -108,7 +107,7 @@ expr-returns-in-Prefix g t c =
 
 pub expr-returns-in-Fetch : goal.expr-returns-in-Fetch
 expr-returns-in-Fetch g t c =
-    let ts = tests (g.J.Order.below c.args.judge.now) (g.J.Judge.signature_refusal c.args.judge.now) (g.J.Judge.body_refusal c.args.judge.now) (g.J.Judge.wide_struct c.args.judge.now) in
+    let ts = g.J.Judge.tests c.args.judge.now in
     let k = c.args.known.now in
     let st = c.args.state.now in
     let sc = c.args.scope.now in
@@ -120,7 +119,7 @@ expr-returns-in-Fetch g t c =
 
 pub expr-returns-in-Tuple : goal.expr-returns-in-Tuple
 expr-returns-in-Tuple g t c =
-    let ts = tests (g.J.Order.below c.args.judge.now) (g.J.Judge.signature_refusal c.args.judge.now) (g.J.Judge.body_refusal c.args.judge.now) (g.J.Judge.wide_struct c.args.judge.now) in
+    let ts = g.J.Judge.tests c.args.judge.now in
     let k = c.args.known.now in
     let st = c.args.state.now in
     let sc = c.args.scope.now in
@@ -132,7 +131,7 @@ expr-returns-in-Tuple g t c =
 
 pub expr-returns-in-If : goal.expr-returns-in-If
 expr-returns-in-If g t c =
-    let ts = tests (g.J.Order.below c.args.judge.now) (g.J.Judge.signature_refusal c.args.judge.now) (g.J.Judge.body_refusal c.args.judge.now) (g.J.Judge.wide_struct c.args.judge.now) in
+    let ts = g.J.Judge.tests c.args.judge.now in
     let k = c.args.known.now in
     let st = c.args.state.now in
     let sc = c.args.scope.now in
@@ -144,7 +143,7 @@ expr-returns-in-If g t c =
 
 pub expr-returns-in-EvalBlock : goal.expr-returns-in-EvalBlock
 expr-returns-in-EvalBlock g t c =
-    let ts = tests (g.J.Order.below c.args.judge.now) (g.J.Judge.signature_refusal c.args.judge.now) (g.J.Judge.body_refusal c.args.judge.now) (g.J.Judge.wide_struct c.args.judge.now) in
+    let ts = g.J.Judge.tests c.args.judge.now in
     let k = c.args.known.now in
     let st = c.args.state.now in
     let sc = c.args.scope.now in
@@ -156,7 +155,7 @@ expr-returns-in-EvalBlock g t c =
 
 pub expr-returns-in-EvalQuote : goal.expr-returns-in-EvalQuote
 expr-returns-in-EvalQuote g t c =
-    let ts = tests (g.J.Order.below c.args.judge.now) (g.J.Judge.signature_refusal c.args.judge.now) (g.J.Judge.body_refusal c.args.judge.now) (g.J.Judge.wide_struct c.args.judge.now) in
+    let ts = g.J.Judge.tests c.args.judge.now in
     let k = c.args.known.now in
     let st = c.args.state.now in
     let sc = c.args.scope.now in
@@ -168,7 +167,7 @@ expr-returns-in-EvalQuote g t c =
 
 pub expr-returns-in-Print : goal.expr-returns-in-Print
 expr-returns-in-Print g t c =
-    let ts = tests (g.J.Order.below c.args.judge.now) (g.J.Judge.signature_refusal c.args.judge.now) (g.J.Judge.body_refusal c.args.judge.now) (g.J.Judge.wide_struct c.args.judge.now) in
+    let ts = g.J.Judge.tests c.args.judge.now in
     let k = c.args.known.now in
     let st = c.args.state.now in
     let sc = c.args.scope.now in
@@ -180,7 +179,7 @@ expr-returns-in-Print g t c =
 
 pub expr-returns-in-Call : goal.expr-returns-in-Call
 expr-returns-in-Call g t c =
-    let ts = tests (g.J.Order.below c.args.judge.now) (g.J.Judge.signature_refusal c.args.judge.now) (g.J.Judge.body_refusal c.args.judge.now) (g.J.Judge.wide_struct c.args.judge.now) in
+    let ts = g.J.Judge.tests c.args.judge.now in
     let k = c.args.known.now in
     let st = c.args.state.now in
     let sc = c.args.scope.now in
@@ -192,7 +191,7 @@ expr-returns-in-Call g t c =
 
 pub expr-returns-in-Latest : goal.expr-returns-in-Latest
 expr-returns-in-Latest g t c =
-    let ts = tests (g.J.Order.below c.args.judge.now) (g.J.Judge.signature_refusal c.args.judge.now) (g.J.Judge.body_refusal c.args.judge.now) (g.J.Judge.wide_struct c.args.judge.now) in
+    let ts = g.J.Judge.tests c.args.judge.now in
     let k = c.args.known.now in
     let st = c.args.state.now in
     let sc = c.args.scope.now in
@@ -204,7 +203,7 @@ expr-returns-in-Latest g t c =
 
 pub expr-returns-in_ok-written-in-Make : goal.expr-returns-in_ok-written-in-Make
 expr-returns-in_ok-written-in-Make g t c =
-    let ts = tests (g.J.Order.below c.args.judge.now) (g.J.Judge.signature_refusal c.args.judge.now) (g.J.Judge.body_refusal c.args.judge.now) (g.J.Judge.wide_struct c.args.judge.now) in
+    let ts = g.J.Judge.tests c.args.judge.now in
     let k = c.args.known.now in
     let st = c.args.state.now in
     let sc = c.args.scope.now in
@@ -216,7 +215,7 @@ expr-returns-in_ok-written-in-Make g t c =
 
 pub expr-returns-in_ok-left-in-Infix : goal.expr-returns-in_ok-left-in-Infix
 expr-returns-in_ok-left-in-Infix g t c =
-    let ts = tests (g.J.Order.below c.args.judge.now) (g.J.Judge.signature_refusal c.args.judge.now) (g.J.Judge.body_refusal c.args.judge.now) (g.J.Judge.wide_struct c.args.judge.now) in
+    let ts = g.J.Judge.tests c.args.judge.now in
     let k = c.args.known.now in
     let st = c.args.state.now in
     let sc = c.args.scope.now in
@@ -229,7 +228,7 @@ expr-returns-in_ok-left-in-Infix g t c =
 
 pub expr-returns-in-Isa : goal.expr-returns-in-Isa
 expr-returns-in-Isa g t c =
-    let ts = tests (g.J.Order.below c.args.judge.now) (g.J.Judge.signature_refusal c.args.judge.now) (g.J.Judge.body_refusal c.args.judge.now) (g.J.Judge.wide_struct c.args.judge.now) in
+    let ts = g.J.Judge.tests c.args.judge.now in
     let k = c.args.known.now in
     let st = c.args.state.now in
     let sc = c.args.scope.now in
@@ -241,7 +240,7 @@ expr-returns-in-Isa g t c =
 
 pub expr-returns-in-Sub : goal.expr-returns-in-Sub
 expr-returns-in-Sub g t c =
-    let ts = tests (g.J.Order.below c.args.judge.now) (g.J.Judge.signature_refusal c.args.judge.now) (g.J.Judge.body_refusal c.args.judge.now) (g.J.Judge.wide_struct c.args.judge.now) in
+    let ts = g.J.Judge.tests c.args.judge.now in
     let k = c.args.known.now in
     let st = c.args.state.now in
     let sc = c.args.scope.now in
@@ -253,7 +252,7 @@ expr-returns-in-Sub g t c =
 
 pub expr-returns-in_ok-then-in-Choose : goal.expr-returns-in_ok-then-in-Choose
 expr-returns-in_ok-then-in-Choose g t c =
-    let ts = tests (g.J.Order.below c.args.judge.now) (g.J.Judge.signature_refusal c.args.judge.now) (g.J.Judge.body_refusal c.args.judge.now) (g.J.Judge.wide_struct c.args.judge.now) in
+    let ts = g.J.Judge.tests c.args.judge.now in
     let k = c.args.known.now in
     let st = c.args.state.now in
     let sc = c.args.scope.now in
@@ -267,7 +266,7 @@ expr-returns-in_ok-then-in-Choose g t c =
 
 pub expr-returns-in_ok-arms-in-IfElse : goal.expr-returns-in_ok-arms-in-IfElse
 expr-returns-in_ok-arms-in-IfElse g t c =
-    let ts = tests (g.J.Order.below c.args.judge.now) (g.J.Judge.signature_refusal c.args.judge.now) (g.J.Judge.body_refusal c.args.judge.now) (g.J.Judge.wide_struct c.args.judge.now) in
+    let ts = g.J.Judge.tests c.args.judge.now in
     let k = c.args.known.now in
     let st = c.args.state.now in
     let sc = c.args.scope.now in
@@ -279,7 +278,7 @@ expr-returns-in_ok-arms-in-IfElse g t c =
 
 pub expr-returns-in-Begin : goal.expr-returns-in-Begin
 expr-returns-in-Begin g t c =
-    let ts = tests (g.J.Order.below c.args.judge.now) (g.J.Judge.signature_refusal c.args.judge.now) (g.J.Judge.body_refusal c.args.judge.now) (g.J.Judge.wide_struct c.args.judge.now) in
+    let ts = g.J.Judge.tests c.args.judge.now in
     let k = c.args.known.now in
     let st = c.args.state.now in
     let sc = c.args.scope.now in
@@ -291,7 +290,7 @@ expr-returns-in-Begin g t c =
 
 pub expr-returns-in_ok-place-in-Spawn : goal.expr-returns-in_ok-place-in-Spawn
 expr-returns-in_ok-place-in-Spawn g t c =
-    let ts = tests (g.J.Order.below c.args.judge.now) (g.J.Judge.signature_refusal c.args.judge.now) (g.J.Judge.body_refusal c.args.judge.now) (g.J.Judge.wide_struct c.args.judge.now) in
+    let ts = g.J.Judge.tests c.args.judge.now in
     let k = c.args.known.now in
     let st = c.args.state.now in
     let sc = c.args.scope.now in
@@ -303,7 +302,7 @@ expr-returns-in_ok-place-in-Spawn g t c =
 
 pub expr-returns-in-EvalMethod : goal.expr-returns-in-EvalMethod
 expr-returns-in-EvalMethod g t c =
-    let ts = tests (g.J.Order.below c.args.judge.now) (g.J.Judge.signature_refusal c.args.judge.now) (g.J.Judge.body_refusal c.args.judge.now) (g.J.Judge.wide_struct c.args.judge.now) in
+    let ts = g.J.Judge.tests c.args.judge.now in
     let k = c.args.known.now in
     let st = c.args.state.now in
     let sc = c.args.scope.now in
@@ -315,7 +314,7 @@ expr-returns-in-EvalMethod g t c =
 
 pub expr-returns-in-EvalExpr : goal.expr-returns-in-EvalExpr
 expr-returns-in-EvalExpr g t c =
-    let ts = tests (g.J.Order.below c.args.judge.now) (g.J.Judge.signature_refusal c.args.judge.now) (g.J.Judge.body_refusal c.args.judge.now) (g.J.Judge.wide_struct c.args.judge.now) in
+    let ts = g.J.Judge.tests c.args.judge.now in
     let k = c.args.known.now in
     let st = c.args.state.now in
     let sc = c.args.scope.now in
@@ -327,7 +326,7 @@ expr-returns-in-EvalExpr g t c =
 
 pub exprs-loop-text-preserved : goal.exprs-loop-text-preserved
 exprs-loop-text-preserved g t c =
-    let ts = tests (g.J.Order.below c.args.judge.now) (g.J.Judge.signature_refusal c.args.judge.now) (g.J.Judge.body_refusal c.args.judge.now) (g.J.Judge.wide_struct c.args.judge.now) in
+    let ts = g.J.Judge.tests c.args.judge.now in
     let k = c.args.known.now in
     record {
       means = codes_step (expr_reads ts k) c.args.texts.now c.loop-text.text-index c.text-item.result c.loop-text.out c.put.new.out c.loop-text.scope c.expr.new.scope c.loop-text.state c.expr.new.state c.in_ok-put.ensures.0 _ c.loop-text.invariant.means c.loop-text-test.true c.text-item.is (ok_at c.expr.result c.in_ok-put.ensures.0 (λ z. coded z c.expr.new.state ≡ expr_reads ts k c.text-item.result c.loop-text.scope c.loop-text.state) c.in_ok-put.ensures.1 c.expr.ensures.means) (ok_at c.expr.result c.in_ok-put.ensures.0 (λ z. c.expr.new.scope ≡ c.loop-text.scope) c.in_ok-put.ensures.1 c.expr.ensures.kept) c.in_ok-put.ensures.2;
@@ -336,7 +335,7 @@ exprs-loop-text-preserved g t c =
 
 pub exprs-loop-text-init : goal.exprs-loop-text-init
 exprs-loop-text-init g t c =
-    let ts = tests (g.J.Order.below c.args.judge.now) (g.J.Judge.signature_refusal c.args.judge.now) (g.J.Judge.body_refusal c.args.judge.now) (g.J.Judge.wide_struct c.args.judge.now) in
+    let ts = g.J.Judge.tests c.args.judge.now in
     let k = c.args.known.now in
     let st = c.args.state.now in
     record {
@@ -346,7 +345,7 @@ exprs-loop-text-init g t c =
 
 pub exprs-returns : goal.exprs-returns
 exprs-returns g t c =
-    let ts = tests (g.J.Order.below c.args.judge.now) (g.J.Judge.signature_refusal c.args.judge.now) (g.J.Judge.body_refusal c.args.judge.now) (g.J.Judge.wide_struct c.args.judge.now) in
+    let ts = g.J.Judge.tests c.args.judge.now in
     let k = c.args.known.now in
     record {
       means = weaker c.into_shared.result _ _ c.into_shared.ensures (λ z d. codes_end (expr_reads ts k) c.args.texts.now c.loop-text.text-index c.loop-text.out z c.loop-text.scope c.loop-text.state _ c.loop-text.invariant.means c.loop-text-test.false d);
@@ -355,7 +354,7 @@ exprs-returns g t c =
 
 pub pieces-loop-text-preserved : goal.pieces-loop-text-preserved
 pieces-loop-text-preserved g t c =
-    let ts = tests (g.J.Order.below c.args.judge.now) (g.J.Judge.signature_refusal c.args.judge.now) (g.J.Judge.body_refusal c.args.judge.now) (g.J.Judge.wide_struct c.args.judge.now) in
+    let ts = g.J.Judge.tests c.args.judge.now in
     let k = c.args.known.now in
     record {
       means = pieces_step (piece_reads ts k) c.args.texts.now c.loop-text.text-index c.text-item.result c.loop-text.out c.put.new.out c.loop-text.scope c.piece.new.scope c.loop-text.state c.piece.new.state c.in_ok-put.ensures.0 _ c.loop-text.invariant.means c.loop-text-test.true c.text-item.is (ok_at c.piece.result c.in_ok-put.ensures.0 (λ z. shown z c.piece.new.state ≡ one_shown (piece_reads ts k c.text-item.result) c.loop-text.scope c.loop-text.state) c.in_ok-put.ensures.1 c.piece.ensures.means) (ok_at c.piece.result c.in_ok-put.ensures.0 (λ z. c.piece.new.scope ≡ c.loop-text.scope) c.in_ok-put.ensures.1 c.piece.ensures.kept) c.in_ok-put.ensures.2;
@@ -364,7 +363,7 @@ pieces-loop-text-preserved g t c =
 
 pub pieces-loop-text-init : goal.pieces-loop-text-init
 pieces-loop-text-init g t c =
-    let ts = tests (g.J.Order.below c.args.judge.now) (g.J.Judge.signature_refusal c.args.judge.now) (g.J.Judge.body_refusal c.args.judge.now) (g.J.Judge.wide_struct c.args.judge.now) in
+    let ts = g.J.Judge.tests c.args.judge.now in
     let k = c.args.known.now in
     let st = c.args.state.now in
     record {
@@ -374,7 +373,7 @@ pieces-loop-text-init g t c =
 
 pub pieces-returns : goal.pieces-returns
 pieces-returns g t c =
-    let ts = tests (g.J.Order.below c.args.judge.now) (g.J.Judge.signature_refusal c.args.judge.now) (g.J.Judge.body_refusal c.args.judge.now) (g.J.Judge.wide_struct c.args.judge.now) in
+    let ts = g.J.Judge.tests c.args.judge.now in
     let k = c.args.known.now in
     record {
       means = weaker c.into_shared.result _ _ c.into_shared.ensures (λ z d. pieces_end (piece_reads ts k) c.args.texts.now c.loop-text.text-index c.loop-text.out z c.loop-text.scope c.loop-text.state _ c.loop-text.invariant.means c.loop-text-test.false d);
@@ -383,7 +382,7 @@ pieces-returns g t c =
 
 pub branches-loop-text-preserved : goal.branches-loop-text-preserved
 branches-loop-text-preserved g t c =
-    let ts = tests (g.J.Order.below c.args.judge.now) (g.J.Judge.signature_refusal c.args.judge.now) (g.J.Judge.body_refusal c.args.judge.now) (g.J.Judge.wide_struct c.args.judge.now) in
+    let ts = g.J.Judge.tests c.args.judge.now in
     let k = c.args.known.now in
     record {
       means = arms_step (branch_reads ts k) c.args.texts.now c.loop-text.text-index c.text-item.result c.loop-text.out.items c.put_arm.new.out.items c.loop-text.scope c.branch-alloc.new.scope c.loop-text.state c.branch-alloc.new.state c.in_ok-put_arm.ensures.0 _ c.loop-text.invariant.means c.loop-text-test.true c.text-item.is (ok_at c.branch-alloc.result c.in_ok-put_arm.ensures.0 (λ z. tried z c.branch-alloc.new.state ≡ one_tried (branch_reads ts k c.text-item.result) c.loop-text.scope c.loop-text.state) c.in_ok-put_arm.ensures.1 c.branch-alloc.ensures.means) (ok_at c.branch-alloc.result c.in_ok-put_arm.ensures.0 (λ z. c.branch-alloc.new.scope ≡ c.loop-text.scope) c.in_ok-put_arm.ensures.1 c.branch-alloc.ensures.kept) c.in_ok-put_arm.ensures.2;
@@ -392,7 +391,7 @@ branches-loop-text-preserved g t c =
 
 pub branches-loop-text-init : goal.branches-loop-text-init
 branches-loop-text-init g t c =
-    let ts = tests (g.J.Order.below c.args.judge.now) (g.J.Judge.signature_refusal c.args.judge.now) (g.J.Judge.body_refusal c.args.judge.now) (g.J.Judge.wide_struct c.args.judge.now) in
+    let ts = g.J.Judge.tests c.args.judge.now in
     let k = c.args.known.now in
     let st = c.args.state.now in
     record {
@@ -402,7 +401,7 @@ branches-loop-text-init g t c =
 
 pub branches-returns : goal.branches-returns
 branches-returns g t c =
-    let ts = tests (g.J.Order.below c.args.judge.now) (g.J.Judge.signature_refusal c.args.judge.now) (g.J.Judge.body_refusal c.args.judge.now) (g.J.Judge.wide_struct c.args.judge.now) in
+    let ts = g.J.Judge.tests c.args.judge.now in
     let k = c.args.known.now in
     record {
       means = arms_end (branch_reads ts k) c.args.texts.now c.loop-text.text-index c.loop-text.out.items c.loop-text.scope c.loop-text.state _ c.loop-text.invariant.means c.loop-text-test.false;
@@ -411,39 +410,39 @@ branches-returns g t c =
 
 pub evals-loop-text-preserved : goal.evals-loop-text-preserved
 evals-loop-text-preserved g t c =
-    let ts = tests (g.J.Order.below c.args.judge.now) (g.J.Judge.signature_refusal c.args.judge.now) (g.J.Judge.body_refusal c.args.judge.now) (g.J.Judge.wide_struct c.args.judge.now) in
+    let ts = g.J.Judge.tests c.args.judge.now in
     let k = c.args.known.now in
     items_step (eval_reads ts k) c.args.texts.now c.loop-text.text-index c.text-item.result c.loop-text.out c.put.new.out c.args.types c.loop-text.state c.eval.new.state c.in_ok-put.ensures.0 _ c.loop-text.invariant c.loop-text-test.true c.text-item.is (ok_at c.eval.result c.in_ok-put.ensures.0 (λ z. listed z c.eval.new.state ≡ one_evaluated (eval_reads ts k c.text-item.result) c.args.types c.loop-text.state) c.in_ok-put.ensures.1 c.eval.ensures) c.in_ok-put.ensures.2
 
 pub evals-loop-text-init : goal.evals-loop-text-init
 evals-loop-text-init g t c =
-    let ts = tests (g.J.Order.below c.args.judge.now) (g.J.Judge.signature_refusal c.args.judge.now) (g.J.Judge.body_refusal c.args.judge.now) (g.J.Judge.wide_struct c.args.judge.now) in
+    let ts = g.J.Judge.tests c.args.judge.now in
     let k = c.args.known.now in
     let st = c.args.state.now in
     items_start (eval_reads ts k) c.args.texts.now _ c.args.types st c.new-out.ensures
 
 pub evals-returns : goal.evals-returns
 evals-returns g t c =
-    let ts = tests (g.J.Order.below c.args.judge.now) (g.J.Judge.signature_refusal c.args.judge.now) (g.J.Judge.body_refusal c.args.judge.now) (g.J.Judge.wide_struct c.args.judge.now) in
+    let ts = g.J.Judge.tests c.args.judge.now in
     let k = c.args.known.now in
     weaker c.into_shared.result _ _ c.into_shared.ensures (λ z d. items_end (eval_reads ts k) c.args.texts.now c.loop-text.text-index c.loop-text.out z c.args.types c.loop-text.state _ c.loop-text.invariant c.loop-text-test.false d)
 
 pub block-loop-text-preserved : goal.block-loop-text-preserved
 block-loop-text-preserved g t c =
-    let ts = tests (g.J.Order.below c.args.judge.now) (g.J.Judge.signature_refusal c.args.judge.now) (g.J.Judge.body_refusal c.args.judge.now) (g.J.Judge.wide_struct c.args.judge.now) in
+    let ts = g.J.Judge.tests c.args.judge.now in
     let k = c.args.known.now in
     block_step (stmt_reads ts k) c.args.texts.now c.loop-text.text-index c.text-item.result c.loop-text.out c.put.new.out c.loop-text.scope c.stmt.new.scope c.loop-text.state c.stmt.new.state c.in_ok-put.ensures.0 _ c.loop-text.invariant c.loop-text-test.true c.text-item.is (ok_at c.stmt.result c.in_ok-put.ensures.0 (λ z. stated z c.stmt.new.scope c.stmt.new.state ≡ one_said (stmt_reads ts k c.text-item.result) c.loop-text.scope c.loop-text.state) c.in_ok-put.ensures.1 c.stmt.ensures) c.in_ok-put.ensures.2
 
 pub block-loop-text-init : goal.block-loop-text-init
 block-loop-text-init g t c =
-    let ts = tests (g.J.Order.below c.args.judge.now) (g.J.Judge.signature_refusal c.args.judge.now) (g.J.Judge.body_refusal c.args.judge.now) (g.J.Judge.wide_struct c.args.judge.now) in
+    let ts = g.J.Judge.tests c.args.judge.now in
     let k = c.args.known.now in
     let st = c.args.state.now in
     block_start (stmt_reads ts k) c.args.texts.now _ c.args.scope.now st c.new-out.ensures
 
 pub block-returns : goal.block-returns
 block-returns g t c =
-    let ts = tests (g.J.Order.below c.args.judge.now) (g.J.Judge.signature_refusal c.args.judge.now) (g.J.Judge.body_refusal c.args.judge.now) (g.J.Judge.wide_struct c.args.judge.now) in
+    let ts = g.J.Judge.tests c.args.judge.now in
     let k = c.args.known.now in
     let st = c.args.state.now in
     record {
@@ -453,7 +452,7 @@ block-returns g t c =
 
 pub stmt-returns-in-Bind : goal.stmt-returns-in-Bind
 stmt-returns-in-Bind g t c =
-    let ts = tests (g.J.Order.below c.args.judge.now) (g.J.Judge.signature_refusal c.args.judge.now) (g.J.Judge.body_refusal c.args.judge.now) (g.J.Judge.wide_struct c.args.judge.now) in
+    let ts = g.J.Judge.tests c.args.judge.now in
     let k = c.args.known.now in
     let st = c.args.state.now in
     let sc = c.args.scope.now in
@@ -462,7 +461,7 @@ stmt-returns-in-Bind g t c =
 
 pub stmt-returns-in-Return : goal.stmt-returns-in-Return
 stmt-returns-in-Return g t c =
-    let ts = tests (g.J.Order.below c.args.judge.now) (g.J.Judge.signature_refusal c.args.judge.now) (g.J.Judge.body_refusal c.args.judge.now) (g.J.Judge.wide_struct c.args.judge.now) in
+    let ts = g.J.Judge.tests c.args.judge.now in
     let k = c.args.known.now in
     let st = c.args.state.now in
     let sc = c.args.scope.now in
@@ -471,7 +470,7 @@ stmt-returns-in-Return g t c =
 
 pub stmt-returns-in-ReturnNothing : goal.stmt-returns-in-ReturnNothing
 stmt-returns-in-ReturnNothing g t c =
-    let ts = tests (g.J.Order.below c.args.judge.now) (g.J.Judge.signature_refusal c.args.judge.now) (g.J.Judge.body_refusal c.args.judge.now) (g.J.Judge.wide_struct c.args.judge.now) in
+    let ts = g.J.Judge.tests c.args.judge.now in
     let k = c.args.known.now in
     let st = c.args.state.now in
     let sc = c.args.scope.now in
@@ -480,7 +479,7 @@ stmt-returns-in-ReturnNothing g t c =
 
 pub stmt-returns-in-Do : goal.stmt-returns-in-Do
 stmt-returns-in-Do g t c =
-    let ts = tests (g.J.Order.below c.args.judge.now) (g.J.Judge.signature_refusal c.args.judge.now) (g.J.Judge.body_refusal c.args.judge.now) (g.J.Judge.wide_struct c.args.judge.now) in
+    let ts = g.J.Judge.tests c.args.judge.now in
     let k = c.args.known.now in
     let st = c.args.state.now in
     let sc = c.args.scope.now in
@@ -489,7 +488,7 @@ stmt-returns-in-Do g t c =
 
 pub piece-returns-in-Text : goal.piece-returns-in-Text
 piece-returns-in-Text g t c =
-    let ts = tests (g.J.Order.below c.args.judge.now) (g.J.Judge.signature_refusal c.args.judge.now) (g.J.Judge.body_refusal c.args.judge.now) (g.J.Judge.wide_struct c.args.judge.now) in
+    let ts = g.J.Judge.tests c.args.judge.now in
     let k = c.args.known.now in
     let st = c.args.state.now in
     let sc = c.args.scope.now in
@@ -501,7 +500,7 @@ piece-returns-in-Text g t c =
 
 pub piece-returns-in-Show : goal.piece-returns-in-Show
 piece-returns-in-Show g t c =
-    let ts = tests (g.J.Order.below c.args.judge.now) (g.J.Judge.signature_refusal c.args.judge.now) (g.J.Judge.body_refusal c.args.judge.now) (g.J.Judge.wide_struct c.args.judge.now) in
+    let ts = g.J.Judge.tests c.args.judge.now in
     let k = c.args.known.now in
     let st = c.args.state.now in
     let sc = c.args.scope.now in
@@ -513,7 +512,7 @@ piece-returns-in-Show g t c =
 
 pub eval-returns-in-Method : goal.eval-returns-in-Method
 eval-returns-in-Method g t c =
-    let ts = tests (g.J.Order.below c.args.judge.now) (g.J.Judge.signature_refusal c.args.judge.now) (g.J.Judge.body_refusal c.args.judge.now) (g.J.Judge.wide_struct c.args.judge.now) in
+    let ts = g.J.Judge.tests c.args.judge.now in
     let k = c.args.known.now in
     let st = c.args.state.now in
     let e = c.args.text.now in
@@ -521,7 +520,7 @@ eval-returns-in-Method g t c =
 
 pub eval-returns-in-Do : goal.eval-returns-in-Do
 eval-returns-in-Do g t c =
-    let ts = tests (g.J.Order.below c.args.judge.now) (g.J.Judge.signature_refusal c.args.judge.now) (g.J.Judge.body_refusal c.args.judge.now) (g.J.Judge.wide_struct c.args.judge.now) in
+    let ts = g.J.Judge.tests c.args.judge.now in
     let k = c.args.known.now in
     let st = c.args.state.now in
     let e = c.args.text.now in
@@ -529,7 +528,7 @@ eval-returns-in-Do g t c =
 
 pub branch-returns : goal.branch-returns
 branch-returns g t c =
-    let ts = tests (g.J.Order.below c.args.judge.now) (g.J.Judge.signature_refusal c.args.judge.now) (g.J.Judge.body_refusal c.args.judge.now) (g.J.Judge.wide_struct c.args.judge.now) in
+    let ts = g.J.Judge.tests c.args.judge.now in
     let k = c.args.known.now in
     let st = c.args.state.now in
     let sc = c.args.scope.now in
@@ -542,7 +541,7 @@ branch-returns g t c =
 
 pub method-returns-in_ok-number-in-Long : goal.method-returns-in_ok-number-in-Long
 method-returns-in_ok-number-in-Long g t c =
-    let ts = tests (g.J.Order.below c.args.judge.now) (g.J.Judge.signature_refusal c.args.judge.now) (g.J.Judge.body_refusal c.args.judge.now) (g.J.Judge.wide_struct c.args.judge.now) in
+    let ts = g.J.Judge.tests c.args.judge.now in
     let k = c.args.known.now in
     let st = c.args.state.now in
     let e = c.args.text.now in
@@ -550,7 +549,7 @@ method-returns-in_ok-number-in-Long g t c =
 
 pub method-returns-in_ok-number-in-Short : goal.method-returns-in_ok-number-in-Short
 method-returns-in_ok-number-in-Short g t c =
-    let ts = tests (g.J.Order.below c.args.judge.now) (g.J.Judge.signature_refusal c.args.judge.now) (g.J.Judge.body_refusal c.args.judge.now) (g.J.Judge.wide_struct c.args.judge.now) in
+    let ts = g.J.Judge.tests c.args.judge.now in
     let k = c.args.known.now in
     let st = c.args.state.now in
     let e = c.args.text.now in

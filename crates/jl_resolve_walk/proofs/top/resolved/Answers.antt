@@ -1,12 +1,11 @@
 use Rattle.std.proofs.Common.{◌∙◌, ap}
-use Rattle.jl_resolve_forms.specs.TypesIn.{tests}
 use Rattle.jl_resolve_forms.specs.Expressions.{bare_scope}
 use Rattle.jl_resolve_forms.specs.Top.{Tops, all_top, program_as}
 use Rattle.jl_resolve_walk.proofs.top.resolved.Goals as goal
 
 pub returns : goal.returns
 returns g c =
-    let ts = tests (g.J.Order.below c.args.judge.now) (g.J.Judge.signature_refusal c.args.judge.now) (g.J.Judge.body_refusal c.args.judge.now) (g.J.Judge.wide_struct c.args.judge.now) in
+    let ts = g.J.Judge.tests c.args.judge.now in
     let k = c.args.known.now in
     let xs = c.args.items.now in
     c.in_ok-program.ensures
