@@ -1,5 +1,5 @@
 -- The steps of the resolver: what a part of a script becomes, by the state before it, and the state after it.
-use Rattle.std.specs.Prelude.{List, [], ◌∷◌}
+use Rattle.std.specs.Prelude.{◌≡◌, List, [], ◌∷◌, Result, IfOk}
 use Rattle.jl_resolve_forms.specs.declared.state.State.{State}
 
 -- a thing, and the state after it
@@ -36,3 +36,7 @@ traverse f (x ∷ xs) = do
   y ← f x
   ys ← traverse f xs
   pure (y ∷ ys)
+
+-- a call gives what a resolver gives, unless it fails
+abbrev pub Resolves : {A E : Type 0} → Result A E → State → Resolution A → Type 0
+Resolves result after r = IfOk result (λ x. resolution x after ≡ r)

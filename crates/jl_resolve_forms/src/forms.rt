@@ -2,7 +2,7 @@
 
 ghost use Rattle.std.specs.Prelude.{◌≡◌, ◌∷◌, [], IfOk, length};
 ghost use Rattle.jl_resolve_forms.specs.Scopes.{slot_of, bind};
-ghost use Rattle.jl_resolve_forms.specs.Resolver.{resolution};
+ghost use Rattle.jl_resolve_forms.specs.Resolver.{resolution, Resolves};
 ghost use Rattle.jl_program.specs.declared.tree.Expr.TheViews as C;
 ghost use Rattle.jl_resolve_forms.specs.Expressions.{bound, local, prefix_code, infix_code, counted, latest, call, chained, inferred_refusal, part_number};
 
@@ -159,7 +159,8 @@ pub fn call<J: Judge>(
     called: Called,
     arguments: Codes,
 ) -> Result<Code, AllocError>
-    ensures { IfOk result (λ c. resolution c state.new ≡ call (J.tests judge.now) known.now at called arguments state.old) }
+    ensures { Resolves result state.new
+        (call (J.tests judge.now) known.now at called arguments state.old) }
 {
     match called {
         Called::Function(function) => {
@@ -199,7 +200,8 @@ pub fn chained(alloc: Global, arms: Vec<Arm>, otherwise: Code) -> Result<Code, A
 
 /// A binding takes the next slot, and gives its number.
 fn placed(scope: &mut Scope, state: &mut State, name: &Name) -> Result<u32, AllocError>
-    ensures { IfOk result (λ n. (n ≡ length scope.old.slots) × (resolution scope.new state.new ≡ bind name.now scope.old state.old)) }
+    ensures { IfOk result (λ n. (n ≡ length scope.old.slots) × (resolution scope.new state.new
+        ≡ bind name.now scope.old state.old)) }
 {
     let slot = small(scope.slots.len())?;
     bind(scope, state, name)?;
@@ -213,7 +215,8 @@ pub fn bound(
     name: &Name,
     code: Code,
 ) -> Result<Stmt, AllocError>
-    ensures { IfOk result (λ x. resolution (x, scope.new) state.new ≡ bound name.now scope.old code state.old) }
+    ensures { IfOk result (λ x. resolution (x, scope.new) state.new
+        ≡ bound name.now scope.old code state.old) }
 {
     match placed(scope, state, name) {
         Ok(slot) => Ok(Stmt::Bind(slot, code)),

@@ -46,7 +46,8 @@ pub fn top_bind(
     state: &mut State,
     name: &Name,
 ) -> Result<(), AllocError>
-    ensures { OnOk result (resolution scope.new state.new ≡ top_bind known.now name.now scope.old state.old) }
+    ensures { OnOk result (resolution scope.new state.new
+        ≡ top_bind known.now name.now scope.old state.old) }
 {
     bind(scope, state, name)?;
     clashes(known, state, name);

@@ -9,7 +9,7 @@ ghost use Rattle.jl_program.specs.declared.tree.Piece.TheVariants as P;
 ghost use Rattle.jl_program.specs.declared.tree.Stmt.TheVariants as S;
 ghost use Rattle.jl_resolve_forms.specs.Functions.{called, function_of, place_of_callee};
 ghost use Rattle.jl_resolve_forms.specs.Scopes.{slot_of};
-ghost use Rattle.jl_resolve_forms.specs.Resolver.{resolution};
+ghost use Rattle.jl_resolve_forms.specs.Resolver.{resolution, Resolves};
 ghost use Rattle.jl_resolve_forms.specs.TypesIn.{begins};
 ghost use Rattle.jl_resolve_forms.specs.Expressions.{awaited, bound, is_below, local, call, chained, closed, infix_code, latest, part_number, prefix_code, spawned_at, started};
 ghost use Rattle.jl_resolve_walk.specs.Steps.{Gives, begun, ended, tested};
@@ -95,7 +95,8 @@ pub(crate) fn call<J: Judge>(
     callee: &Callee,
     arguments: Result<Codes, AllocError>,
 ) -> Result<Code, AllocError>
-    ensures { Gives arguments result (λ ys c. resolution c state.new ≡ call (J.tests judge.now) known.now (place_of_callee callee.now) (called known.now callee.now scope.now) ys state.old) }
+    ensures { Gives arguments result (λ ys c. resolution c state.new
+        ≡ call (J.tests judge.now) known.now (place_of_callee callee.now) (called known.now callee.now scope.now) ys state.old) }
 {
     let arguments = arguments?;
     let called = called(known, callee, scope);
@@ -111,7 +112,8 @@ pub(crate) fn latest(
     callee: &Callee,
     arguments: Result<Codes, AllocError>,
 ) -> Result<Code, AllocError>
-    ensures { Gives arguments result (λ ys c. resolution c state.new ≡ latest (place_of_callee callee.now) (function_of known.now callee.now scope.now) ys state.old) }
+    ensures { Gives arguments result (λ ys c. resolution c state.new
+        ≡ latest (place_of_callee callee.now) (function_of known.now callee.now scope.now) ys state.old) }
 {
     let arguments = arguments?;
     let function = function_of(known, callee, scope);
@@ -188,7 +190,8 @@ pub(crate) fn is_a<J: Judge>(
     code: Result<Code, AllocError>,
     ty: &TypeText,
 ) -> Result<Code, AllocError>
-    ensures { Gives code result (λ y c. resolution c state.new ≡ tested (J.tests judge.now) known.now y ty.now scope.now state.old) }
+    ensures { Gives code result (λ y c. resolution c state.new
+        ≡ tested (J.tests judge.now) known.now y ty.now scope.now state.old) }
 {
     let code = held(alloc, code)?;
     let written = body_written(alloc, judge, known, scope, state, ty)?;
@@ -205,7 +208,8 @@ pub(crate) fn below<J: Judge>(
     left: &TypeText,
     right: &TypeText,
 ) -> Result<Code, AllocError>
-    ensures { IfOk result (λ c. resolution c state.new ≡ is_below (J.tests judge.now) known.now left.now right.now scope.now state.old) }
+    ensures { Resolves result state.new
+        (is_below (J.tests judge.now) known.now left.now right.now scope.now state.old) }
 {
     let left = body_written(alloc, judge, known, scope, state, left)?;
     let right = body_written(alloc, judge, known, scope, state, right)?;
@@ -254,7 +258,8 @@ pub(crate) fn begun<J: Judge>(
     state: &mut State,
     ty: &TypeText,
 ) -> Result<Option<Written>, AllocError>
-    ensures { IfOk result (λ w. resolution w state.new ≡ begun (J.tests judge.now) known.now ty.now scope.now state.old) }
+    ensures { Resolves result state.new
+        (begun (J.tests judge.now) known.now ty.now scope.now state.old) }
 {
     match made_struct(known, ty, scope) {
         None => Ok(None),
@@ -273,7 +278,8 @@ pub(crate) fn ended(
     written: Option<Written>,
     arguments: Result<Codes, AllocError>,
 ) -> Result<Code, AllocError>
-    ensures { Gives arguments result (λ ys c. resolution c state.new ≡ ended (begins ty.now) written ys state.old) }
+    ensures { Gives arguments result (λ ys c. resolution c state.new
+        ≡ ended (begins ty.now) written ys state.old) }
 {
     let arguments = arguments?;
     match written {
@@ -287,7 +293,7 @@ pub(crate) fn ended(
 
 /// The next spawn place, whose expression is read behind this.
 pub(crate) fn awaited(state: &mut State) -> Result<u32, AllocError>
-    ensures { IfOk result (λ n. resolution n state.new ≡ awaited state.old) }
+    ensures { Resolves result state.new (awaited state.old) }
 {
     let place = small(state.spawns.len())?;
     state.spawns.push(Code::Nothing)?;
@@ -346,7 +352,8 @@ pub(crate) fn bound(
     name: &Name,
     code: Result<Code, AllocError>,
 ) -> Result<Statement, AllocError>
-    ensures { Gives code result (λ y x. resolution (x, scope.new) state.new ≡ bound name.now scope.old y state.old) }
+    ensures { Gives code result (λ y x. resolution (x, scope.new) state.new
+        ≡ bound name.now scope.old y state.old) }
 {
     let code = code?;
     forms::bound(scope, state, name, code)
@@ -421,7 +428,8 @@ pub(crate) fn started<J: Judge>(
     state: &mut State,
     head: &Head,
 ) -> Result<(u32, Opening), AllocError>
-    ensures { IfOk result (λ p. resolution p state.new ≡ started (J.tests judge.now) known.now head.now types state.old) }
+    ensures { Resolves result state.new
+        (started (J.tests judge.now) known.now head.now types state.old) }
 {
     let opening = opened(alloc, judge, known, types, state, head)?;
     let number = reserved(state, &opening)?;
@@ -435,7 +443,8 @@ pub(crate) fn finished(
     opening: Opening,
     code: Result<Code, AllocError>,
 ) -> Result<u32, AllocError>
-    ensures { Gives code result (λ y n. resolution n state.new ≡ resolution number (closed number opening y state.old)) }
+    ensures { Gives code result (λ y n. resolution n state.new
+        ≡ resolution number (closed number opening y state.old)) }
 {
     let code = code?;
     closed(state, number, opening, code);

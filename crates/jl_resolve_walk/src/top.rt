@@ -38,7 +38,8 @@ fn placed(
     state: &mut State,
     name: &Name,
 ) -> Result<u32, AllocError>
-    ensures { IfOk result (λ n. (n ≡ length scope.old.slots) × (resolution scope.new state.new ≡ top_bind known.now name.now scope.old state.old)) }
+    ensures { IfOk result (λ n. (n ≡ length scope.old.slots) × (resolution scope.new state.new
+        ≡ top_bind known.now name.now scope.old state.old)) }
 {
     let slot = small(scope.slots.len())?;
     top_bind(known, scope, state, name)?;
@@ -53,7 +54,8 @@ fn bound(
     name: &Name,
     code: Code,
 ) -> Result<Statement, AllocError>
-    ensures { IfOk result (λ x. resolution (x ∷ [], scope.new) state.new ≡ top_bound known.now name.now scope.old code state.old) }
+    ensures { IfOk result (λ x. resolution (x ∷ [], scope.new) state.new
+        ≡ top_bound known.now name.now scope.old code state.old) }
 {
     match placed(known, scope, state, name) {
         Ok(slot) => Ok(Statement::Bind(slot, code)),
@@ -74,7 +76,8 @@ fn put_top<J: Judge>(
     out: &mut Row<Statement>,
     text: &Item,
 ) -> Result<(), AllocError>
-    ensures { OnOk result (resolution (out.new, scope.new) state.new ≡ scoped_behind out.old (one_top (J.tests judge.now) known.now text.now scope.old state.old)) }
+    ensures { OnOk result (resolution (out.new, scope.new) state.new
+        ≡ scoped_behind out.old (one_top (J.tests judge.now) known.now text.now scope.old state.old)) }
 {
     match text {
         Item::Abstract(_) => declared(scope),
@@ -104,7 +107,8 @@ fn all_top<J: Judge>(
     state: &mut State,
     texts: &[Item],
 ) -> Result<Items, AllocError>
-    ensures { IfOk result (λ xs. resolution (xs, scope.new) state.new ≡ all_top (J.tests judge.now) known.now texts.now scope.old state.old) }
+    ensures { IfOk result (λ xs. resolution (xs, scope.new) state.new
+        ≡ all_top (J.tests judge.now) known.now texts.now scope.old state.old) }
 {
     let mut out = Row::new(alloc);
     for text in texts {
@@ -174,7 +178,8 @@ pub fn resolved<J: Judge>(
     items: &[Item],
     fault: Option<Fault>,
 ) -> Result<Resolved, AllocError>
-    ensures { IfOk result (λ r. resolved_as r.program r.fault ≡ resolved (J.tests judge.now) known.now items.now fault) }
+    ensures { IfOk result (λ r. resolved_as r.program r.fault
+        ≡ resolved (J.tests judge.now) known.now items.now fault) }
 {
     let mut scope = bare_scope(alloc, BUILTIN_TYPES);
     let mut state = beginning(alloc, fault)?;
