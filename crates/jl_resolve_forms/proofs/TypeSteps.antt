@@ -9,7 +9,6 @@ use Rattle.jl_model.specs.Valid.{params_of}
 use Rattle.jl_typeread.specs.declared.tree.ArgText.{ArgText}
 use Rattle.jl_typeread.specs.declared.tree.TypeText.{TypeText}
 use Rattle.jl_written.specs.declared.reading.Reading.{Reading}
-use Rattle.jl_written.specs.declared.reading.TypeVar.{TypeVar}
 use Rattle.jl_written.specs.Reads.{Typed, typed}
 use Rattle.jl_written.specs.Signatures.{body_type, constructor_type}
 use Rattle.jl_resolve_forms.specs.declared.known.Known.{Known}
