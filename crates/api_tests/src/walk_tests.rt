@@ -1,6 +1,6 @@
 //! A small script as a tree, and the numbers that its parts get.
 
-ghost use Rattle.std.specs.Prelude.{true, false, None};
+ghost use Rattle.std.specs.Prelude.{true, false, None, refl};
 
 use crate::holds;
 use jl_grammar::tree::{Callee, Expr, Head, Item, Method, Name, Param};
@@ -31,11 +31,14 @@ impl Order for Lenient {
 }
 
 impl Judge for Lenient {
-    ghost signature_refusal = { λ _ _. None };
+    ghost tests = { λ _. record {
+      below = λ _ _. true;
+      signature = λ _. None;
+      body = λ _. None;
+      wide = λ _. false;
+    } };
 
-    ghost body_refusal = { λ _ _. None };
-
-    ghost wide_struct = { λ _ _. false };
+    ghost same_order = { λ _. refl };
 
     fn refuses_signature(
         &self,

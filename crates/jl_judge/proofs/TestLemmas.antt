@@ -9,12 +9,11 @@ use Rattle.jl_program.specs.BodyTypes.{fields_signature, without_statics, IsAllo
 use Rattle.jl_types.proofs.DecideLemmas.{Decided}
 use Rattle.jl_sig.specs.Prepared.{HasOwnVariables}
 use Rattle.jl_body.specs.TypeRefused.{BodyTypeLimit}
-use Rattle.jl_resolve_forms.specs.TypesIn.{tests}
 use Rattle.jl_written.specs.declared.fault.StaticKind.{StaticKind}
 use Rattle.jl_judge.specs.Answers.{SigAnswer, BodyAnswer}
 use Rattle.jl_judge.specs.Right.{IsJudgedBelow, NamesDeclared, IsRight}
 use Rattle.jl_judge.specs.Tell.{Tells}
-use Rattle.jl_judge.specs.Tests.{names_declared, is_well_named, holds, below_test, signature_refusal, signature_test, body_refusal, body_test, wide_test}
+use Rattle.jl_judge.specs.Tests.{names_declared, is_well_named, holds, below_test, signature_refusal, signature_test, body_refusal, body_test, wide_test, all_tests}
 use Rattle.jl_judge.proofs.TellLemmas.{test_tells, told_same}
 use Rattle.jl_judge.specs.BelowDecided.{judged_below_decided}
 use Rattle.jl_judge.specs.SigDecided.{place_decided, unused_decided, many_decided, count_decided, limit_decided, body_limit_decided, crossed_decided, broken_decided}
@@ -126,7 +125,7 @@ module _ (ds : List Decl) (valid : ∥ Declared ds ∥₁) (declared : Declared 
   right_absent : (p : ℕ) → length ds ≤ p → wide_test ds valid p ≡ false
   right_absent p h = sym (wide_is p false (λ l. absurd (omega (arith, h, l))) (λ d. refl))
 
-  pub right : IsRight ds (tests (below_test ds valid) (signature_test ds valid) (body_test ds valid) (wide_test ds valid))
+  pub right : IsRight ds (all_tests ds valid)
   right = record {
     below = below_tells;
     signature = right_signature;

@@ -2,7 +2,6 @@
 
 ghost use Rattle.std.specs.Prelude.{◌≡◌};
 ghost use Rattle.jl_model.specs.Refusals.{Declared};
-ghost use Rattle.jl_resolve_forms.specs.TypesIn.{tests};
 ghost use Rattle.jl_judge.specs.Right.{IsRight};
 
 use crate::known::names_declared;
@@ -45,13 +44,12 @@ impl Order for TableJudge<'_> {
 }
 
 impl Judge for TableJudge<'_> {
-    ghost use Rattle.jl_judge.specs.Tests.{signature_test, body_test, wide_test};
+    ghost use Rattle.std.specs.Prelude.{refl};
+    ghost use Rattle.jl_judge.specs.Tests.{all_tests};
 
-    ghost signature_refusal = { λ s. signature_test s.table.now s.declared };
+    ghost tests = { λ s. all_tests s.table.now s.declared };
 
-    ghost body_refusal = { λ s. body_test s.table.now s.declared };
-
-    ghost wide_struct = { λ s. wide_test s.table.now s.declared };
+    ghost same_order = { λ _. refl };
 
     fn refuses_signature(
         &self,
@@ -88,7 +86,7 @@ impl Judge for TableJudge<'_> {
 
 /// That the tests over a table are right, for proofs that rest on it. It does nothing.
 pub fn right(judge: &TableJudge<'_>)
-    ensures { IsRight judge.now.table.now (tests (⟦<TableJudge<'static> as Order>⟧.below judge.now) (⟦<TableJudge<'static> as Judge>⟧.signature_refusal judge.now) (⟦<TableJudge<'static> as Judge>⟧.body_refusal judge.now) (⟦<TableJudge<'static> as Judge>⟧.wide_struct judge.now)) }
+    ensures { IsRight judge.now.table.now (⟦<TableJudge<'static> as Judge>⟧.tests judge.now) }
 {
     judge.table.valid();
 }

@@ -15,7 +15,7 @@ use std::alloc::{AllocError, Global};
 pub struct Kept<'j, J: Judge> {
     pub judge: &'j J,
     wide: Vec<bool>,
-    ghost told: { AreAnswers (J.wide_struct judge.now) wide.items },
+    ghost told: { AreAnswers (J.tests judge.now).wide wide.items },
 }
 
 impl<'j, J: Judge> Kept<'j, J> {
@@ -40,11 +40,9 @@ impl<J: Judge> Order for Kept<'_, J> {
 }
 
 impl<J: Judge> Judge for Kept<'_, J> {
-    ghost signature_refusal = { λ s. J.signature_refusal s.judge.now };
+    ghost tests = { λ s. J.tests s.judge.now };
 
-    ghost body_refusal = { λ s. J.body_refusal s.judge.now };
-
-    ghost wide_struct = { λ s. J.wide_struct s.judge.now };
+    ghost same_order = { λ s. J.same_order s.judge.now };
 
     fn refuses_signature(
         &self,

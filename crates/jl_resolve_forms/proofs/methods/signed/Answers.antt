@@ -3,13 +3,13 @@ use Rattle.jl_model.specs.declared.ty.Decl.{Decl}
 use Rattle.jl_typeread.specs.declared.tree.VarText.{VarText}
 use Rattle.jl_grammar.specs.declared.tree.Param.{Param}
 use Rattle.jl_written.specs.Signatures.{signature}
-use Rattle.jl_resolve_forms.specs.TypesIn.{tests, declared_at}
+use Rattle.jl_resolve_forms.specs.TypesIn.{declared_at}
 use Rattle.jl_resolve_forms.specs.Expressions.{signed_as, type_of}
 use Rattle.jl_resolve_forms.proofs.methods.signed.Goals as goal
 
 pub returns : goal.returns
 returns g c =
-    let t = tests (g.J.Order.below c.args.judge.now) (g.J.Judge.signature_refusal c.args.judge.now) (g.J.Judge.body_refusal c.args.judge.now) (g.J.Judge.wide_struct c.args.judge.now) in
+    let t = g.J.Judge.tests c.args.judge.now in
     let ds = declared_at c.args.known.now c.args.types in
     c.in_ok-signed.ensures
     ∙ ap (signed_as t)

@@ -1,10 +1,9 @@
-use Rattle.jl_resolve_forms.specs.TypesIn.{tests}
 use Rattle.jl_resolve_forms.proofs.TypeSteps.{body_steps}
 use Rattle.jl_resolve_forms.proofs.types.body_written.Goals as goal
 
 pub returns : goal.returns
 returns g c =
-    body_steps (tests (g.J.Order.below c.args.judge.now) (g.J.Judge.signature_refusal c.args.judge.now) (g.J.Judge.body_refusal c.args.judge.now) (g.J.Judge.wide_struct c.args.judge.now))
+    body_steps (g.J.Judge.tests c.args.judge.now)
     c.args.known.now c.args.text.now c.args.scope.now c.args.state.now c.type_at.new.state
     c.declared_at-decls.result c.begins.result c.in_ok-ty.ty c.in_ok-ty.reading c.in_ok-written.written
     c.declared_at-decls.ensures c.begins.ensures c.in_ok-ty.ensures c.in_ok-written.ensures

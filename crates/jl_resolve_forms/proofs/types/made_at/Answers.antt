@@ -1,12 +1,11 @@
 use Rattle.std.proofs.Common.{◌∙◌, ap, slice_get, refl}
 use Rattle.jl_model.specs.Valid.{params_of}
-use Rattle.jl_resolve_forms.specs.TypesIn.{tests}
 use Rattle.jl_resolve_forms.proofs.TypeSteps.{made_steps}
 use Rattle.jl_resolve_forms.proofs.types.made_at.Goals as goal
 
 pub returns : goal.returns
 returns g c =
-    made_steps (tests (g.J.Order.below c.args.judge.now) (g.J.Judge.signature_refusal c.args.judge.now) (g.J.Judge.body_refusal c.args.judge.now) (g.J.Judge.wide_struct c.args.judge.now))
+    made_steps (g.J.Judge.tests c.args.judge.now)
     c.args.known.now c.args.at c.args.number c.args.texts.now c.args.scope.now c.args.state.now c.made_type.new.state
     c.declared_at-decls.result c.params_of-bounds.result.now c.in_ok-ty.ty c.in_ok-ty.reading _ c.in_ok-written.written
     c.declared_at-decls.ensures (c.params_of-bounds.ensures ∙ ap (λ ds. params_of (slice_get ds c.args.number)) (c.as_slice.ensures ∙ c.list.ensures)) refl c.in_ok-ty.ensures c.in_ok-written.ensures

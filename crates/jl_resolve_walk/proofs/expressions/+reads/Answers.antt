@@ -1,10 +1,10 @@
 use Rattle.std.proofs.Common.{◌≡◌, ◌∙◌, ap, arith, refl}
+use Rattle.jl_resolve_forms.specs.Resolver.{resolution}
 use Rattle.jl_resolve_forms.specs.Scopes.{slot_of}
-use Rattle.jl_resolve_forms.specs.TypesIn.{tests}
-use Rattle.jl_resolve_forms.specs.Expressions.{coded, stated, shown, listed, tried, one_said, one_shown, one_evaluated, one_tried, bare_scope, part_number, expr_reads, stmt_reads, piece_reads, eval_reads, branch_reads}
+use Rattle.jl_resolve_forms.specs.Expressions.{one_said, one_shown, one_evaluated, one_tried, bare_scope, part_number, expr_reads, stmt_reads, piece_reads, eval_reads, branch_reads}
 use Rattle.jl_resolve_walk.proofs.Forms.{part, form-Number, form-Bool, form-Nothing, form-Name, form-Paren, form-Tuple, form-Call, form-Make, form-Field, form-Part, form-Prefix, form-Infix, form-Isa, form-Sub, form-Choose, form-If, form-IfElse, form-Begin, form-Latest, form-Spawn, form-EvalMethod, form-EvalBlock, form-EvalExpr, form-EvalQuote, form-Fetch, form-Print}
 use Rattle.jl_resolve_walk.proofs.GivenLemmas.{given, given_on, both_given, weaker, always, ok_at}
-use Rattle.jl_resolve_walk.proofs.Lists.{codes_step, codes_end, codes_start, pieces_step, pieces_end, pieces_start, arms_step, arms_end, arms_start, items_step, items_end, items_start, block_step, block_end, block_kept, block_start}
+use Rattle.jl_resolve_walk.proofs.Lists.{parts_step, parts_step_at, parts_end, parts_start, block_step, block_end, block_kept, block_start}
 use Rattle.jl_resolve_walk.proofs.Parts.{says-Bind, says-Return, says-ReturnNothing, says-Do, shows-Text, shows-Show, evals-Method, evals-Do, tries, method-long, method-short}
 use denote.Param.Weighed.{most}
 use Rattle.jl_grammar.specs.declared.tree.Eval.TheViews as E
@@ -12,19 +12,19 @@ use Rattle.jl_resolve_walk.proofs.expressions.+reads.Goals as goal
 
 pub expr-returns-in-Number : goal.expr-returns-in-Number
 expr-returns-in-Number g t c =
-    let ts = tests (g.J.Order.below c.args.judge.now) (g.J.Judge.signature_refusal c.args.judge.now) (g.J.Judge.body_refusal c.args.judge.now) (g.J.Judge.wide_struct c.args.judge.now) in
+    let ts = g.J.Judge.tests c.args.judge.now in
     let k = c.args.known.now in
     let st = c.args.state.now in
     let sc = c.args.scope.now in
     let e = c.args.text.now in
     record {
-      means = ap (λ z. coded z st) c.number.ensures ∙ form-Number ts k e c.in-Number.field-0 c.in-Number.number sc st c.in-Number.is;
+      means = ap (λ z. resolution z st) c.number.ensures ∙ form-Number ts k e c.in-Number.field-0 c.in-Number.number sc st c.in-Number.is;
       kept = refl;
     }
 
 pub expr-returns-in-Bool : goal.expr-returns-in-Bool
 expr-returns-in-Bool g t c =
-    let ts = tests (g.J.Order.below c.args.judge.now) (g.J.Judge.signature_refusal c.args.judge.now) (g.J.Judge.body_refusal c.args.judge.now) (g.J.Judge.wide_struct c.args.judge.now) in
+    let ts = g.J.Judge.tests c.args.judge.now in
     let k = c.args.known.now in
     let st = c.args.state.now in
     let sc = c.args.scope.now in
@@ -36,7 +36,7 @@ expr-returns-in-Bool g t c =
 
 pub expr-returns-in-Nothing : goal.expr-returns-in-Nothing
 expr-returns-in-Nothing g t c =
-    let ts = tests (g.J.Order.below c.args.judge.now) (g.J.Judge.signature_refusal c.args.judge.now) (g.J.Judge.body_refusal c.args.judge.now) (g.J.Judge.wide_struct c.args.judge.now) in
+    let ts = g.J.Judge.tests c.args.judge.now in
     let k = c.args.known.now in
     let st = c.args.state.now in
     let sc = c.args.scope.now in
@@ -48,7 +48,7 @@ expr-returns-in-Nothing g t c =
 
 pub expr-returns-in-Name : goal.expr-returns-in-Name
 expr-returns-in-Name g t c =
-    let ts = tests (g.J.Order.below c.args.judge.now) (g.J.Judge.signature_refusal c.args.judge.now) (g.J.Judge.body_refusal c.args.judge.now) (g.J.Judge.wide_struct c.args.judge.now) in
+    let ts = g.J.Judge.tests c.args.judge.now in
     let k = c.args.known.now in
     let st = c.args.state.now in
     let sc = c.args.scope.now in
@@ -60,7 +60,7 @@ expr-returns-in-Name g t c =
 
 pub expr-returns-in-Paren : goal.expr-returns-in-Paren
 expr-returns-in-Paren g t c =
-    let ts = tests (g.J.Order.below c.args.judge.now) (g.J.Judge.signature_refusal c.args.judge.now) (g.J.Judge.body_refusal c.args.judge.now) (g.J.Judge.wide_struct c.args.judge.now) in
+    let ts = g.J.Judge.tests c.args.judge.now in
     let k = c.args.known.now in
     let st = c.args.state.now in
     let sc = c.args.scope.now in
@@ -72,7 +72,7 @@ expr-returns-in-Paren g t c =
 
 pub expr-returns-in-Field : goal.expr-returns-in-Field
 expr-returns-in-Field g t c =
-    let ts = tests (g.J.Order.below c.args.judge.now) (g.J.Judge.signature_refusal c.args.judge.now) (g.J.Judge.body_refusal c.args.judge.now) (g.J.Judge.wide_struct c.args.judge.now) in
+    let ts = g.J.Judge.tests c.args.judge.now in
     let k = c.args.known.now in
     let st = c.args.state.now in
     let sc = c.args.scope.now in
@@ -84,7 +84,7 @@ expr-returns-in-Field g t c =
 
 pub expr-returns-in-Part : goal.expr-returns-in-Part
 expr-returns-in-Part g t c =
-    let ts = tests (g.J.Order.below c.args.judge.now) (g.J.Judge.signature_refusal c.args.judge.now) (g.J.Judge.body_refusal c.args.judge.now) (g.J.Judge.wide_struct c.args.judge.now) in
+    let ts = g.J.Judge.tests c.args.judge.now in
     let k = c.args.known.now in
     let st = c.args.state.now in
     let sc = c.args.scope.now in
@@ -96,7 +96,7 @@ expr-returns-in-Part g t c =
 
 pub expr-returns-in-Prefix : goal.expr-returns-in-Prefix
 expr-returns-in-Prefix g t c =
-    let ts = tests (g.J.Order.below c.args.judge.now) (g.J.Judge.signature_refusal c.args.judge.now) (g.J.Judge.body_refusal c.args.judge.now) (g.J.Judge.wide_struct c.args.judge.now) in
+    let ts = g.J.Judge.tests c.args.judge.now in
     let k = c.args.known.now in
     let st = c.args.state.now in
     let sc = c.args.scope.now in
@@ -108,7 +108,7 @@ expr-returns-in-Prefix g t c =
 
 pub expr-returns-in-Fetch : goal.expr-returns-in-Fetch
 expr-returns-in-Fetch g t c =
-    let ts = tests (g.J.Order.below c.args.judge.now) (g.J.Judge.signature_refusal c.args.judge.now) (g.J.Judge.body_refusal c.args.judge.now) (g.J.Judge.wide_struct c.args.judge.now) in
+    let ts = g.J.Judge.tests c.args.judge.now in
     let k = c.args.known.now in
     let st = c.args.state.now in
     let sc = c.args.scope.now in
@@ -120,7 +120,7 @@ expr-returns-in-Fetch g t c =
 
 pub expr-returns-in-Tuple : goal.expr-returns-in-Tuple
 expr-returns-in-Tuple g t c =
-    let ts = tests (g.J.Order.below c.args.judge.now) (g.J.Judge.signature_refusal c.args.judge.now) (g.J.Judge.body_refusal c.args.judge.now) (g.J.Judge.wide_struct c.args.judge.now) in
+    let ts = g.J.Judge.tests c.args.judge.now in
     let k = c.args.known.now in
     let st = c.args.state.now in
     let sc = c.args.scope.now in
@@ -132,7 +132,7 @@ expr-returns-in-Tuple g t c =
 
 pub expr-returns-in-If : goal.expr-returns-in-If
 expr-returns-in-If g t c =
-    let ts = tests (g.J.Order.below c.args.judge.now) (g.J.Judge.signature_refusal c.args.judge.now) (g.J.Judge.body_refusal c.args.judge.now) (g.J.Judge.wide_struct c.args.judge.now) in
+    let ts = g.J.Judge.tests c.args.judge.now in
     let k = c.args.known.now in
     let st = c.args.state.now in
     let sc = c.args.scope.now in
@@ -144,7 +144,7 @@ expr-returns-in-If g t c =
 
 pub expr-returns-in-EvalBlock : goal.expr-returns-in-EvalBlock
 expr-returns-in-EvalBlock g t c =
-    let ts = tests (g.J.Order.below c.args.judge.now) (g.J.Judge.signature_refusal c.args.judge.now) (g.J.Judge.body_refusal c.args.judge.now) (g.J.Judge.wide_struct c.args.judge.now) in
+    let ts = g.J.Judge.tests c.args.judge.now in
     let k = c.args.known.now in
     let st = c.args.state.now in
     let sc = c.args.scope.now in
@@ -156,7 +156,7 @@ expr-returns-in-EvalBlock g t c =
 
 pub expr-returns-in-EvalQuote : goal.expr-returns-in-EvalQuote
 expr-returns-in-EvalQuote g t c =
-    let ts = tests (g.J.Order.below c.args.judge.now) (g.J.Judge.signature_refusal c.args.judge.now) (g.J.Judge.body_refusal c.args.judge.now) (g.J.Judge.wide_struct c.args.judge.now) in
+    let ts = g.J.Judge.tests c.args.judge.now in
     let k = c.args.known.now in
     let st = c.args.state.now in
     let sc = c.args.scope.now in
@@ -168,7 +168,7 @@ expr-returns-in-EvalQuote g t c =
 
 pub expr-returns-in-Print : goal.expr-returns-in-Print
 expr-returns-in-Print g t c =
-    let ts = tests (g.J.Order.below c.args.judge.now) (g.J.Judge.signature_refusal c.args.judge.now) (g.J.Judge.body_refusal c.args.judge.now) (g.J.Judge.wide_struct c.args.judge.now) in
+    let ts = g.J.Judge.tests c.args.judge.now in
     let k = c.args.known.now in
     let st = c.args.state.now in
     let sc = c.args.scope.now in
@@ -180,7 +180,7 @@ expr-returns-in-Print g t c =
 
 pub expr-returns-in-Call : goal.expr-returns-in-Call
 expr-returns-in-Call g t c =
-    let ts = tests (g.J.Order.below c.args.judge.now) (g.J.Judge.signature_refusal c.args.judge.now) (g.J.Judge.body_refusal c.args.judge.now) (g.J.Judge.wide_struct c.args.judge.now) in
+    let ts = g.J.Judge.tests c.args.judge.now in
     let k = c.args.known.now in
     let st = c.args.state.now in
     let sc = c.args.scope.now in
@@ -192,7 +192,7 @@ expr-returns-in-Call g t c =
 
 pub expr-returns-in-Latest : goal.expr-returns-in-Latest
 expr-returns-in-Latest g t c =
-    let ts = tests (g.J.Order.below c.args.judge.now) (g.J.Judge.signature_refusal c.args.judge.now) (g.J.Judge.body_refusal c.args.judge.now) (g.J.Judge.wide_struct c.args.judge.now) in
+    let ts = g.J.Judge.tests c.args.judge.now in
     let k = c.args.known.now in
     let st = c.args.state.now in
     let sc = c.args.scope.now in
@@ -204,7 +204,7 @@ expr-returns-in-Latest g t c =
 
 pub expr-returns-in_ok-written-in-Make : goal.expr-returns-in_ok-written-in-Make
 expr-returns-in_ok-written-in-Make g t c =
-    let ts = tests (g.J.Order.below c.args.judge.now) (g.J.Judge.signature_refusal c.args.judge.now) (g.J.Judge.body_refusal c.args.judge.now) (g.J.Judge.wide_struct c.args.judge.now) in
+    let ts = g.J.Judge.tests c.args.judge.now in
     let k = c.args.known.now in
     let st = c.args.state.now in
     let sc = c.args.scope.now in
@@ -216,7 +216,7 @@ expr-returns-in_ok-written-in-Make g t c =
 
 pub expr-returns-in_ok-left-in-Infix : goal.expr-returns-in_ok-left-in-Infix
 expr-returns-in_ok-left-in-Infix g t c =
-    let ts = tests (g.J.Order.below c.args.judge.now) (g.J.Judge.signature_refusal c.args.judge.now) (g.J.Judge.body_refusal c.args.judge.now) (g.J.Judge.wide_struct c.args.judge.now) in
+    let ts = g.J.Judge.tests c.args.judge.now in
     let k = c.args.known.now in
     let st = c.args.state.now in
     let sc = c.args.scope.now in
@@ -229,7 +229,7 @@ expr-returns-in_ok-left-in-Infix g t c =
 
 pub expr-returns-in-Isa : goal.expr-returns-in-Isa
 expr-returns-in-Isa g t c =
-    let ts = tests (g.J.Order.below c.args.judge.now) (g.J.Judge.signature_refusal c.args.judge.now) (g.J.Judge.body_refusal c.args.judge.now) (g.J.Judge.wide_struct c.args.judge.now) in
+    let ts = g.J.Judge.tests c.args.judge.now in
     let k = c.args.known.now in
     let st = c.args.state.now in
     let sc = c.args.scope.now in
@@ -241,7 +241,7 @@ expr-returns-in-Isa g t c =
 
 pub expr-returns-in-Sub : goal.expr-returns-in-Sub
 expr-returns-in-Sub g t c =
-    let ts = tests (g.J.Order.below c.args.judge.now) (g.J.Judge.signature_refusal c.args.judge.now) (g.J.Judge.body_refusal c.args.judge.now) (g.J.Judge.wide_struct c.args.judge.now) in
+    let ts = g.J.Judge.tests c.args.judge.now in
     let k = c.args.known.now in
     let st = c.args.state.now in
     let sc = c.args.scope.now in
@@ -253,7 +253,7 @@ expr-returns-in-Sub g t c =
 
 pub expr-returns-in_ok-then-in-Choose : goal.expr-returns-in_ok-then-in-Choose
 expr-returns-in_ok-then-in-Choose g t c =
-    let ts = tests (g.J.Order.below c.args.judge.now) (g.J.Judge.signature_refusal c.args.judge.now) (g.J.Judge.body_refusal c.args.judge.now) (g.J.Judge.wide_struct c.args.judge.now) in
+    let ts = g.J.Judge.tests c.args.judge.now in
     let k = c.args.known.now in
     let st = c.args.state.now in
     let sc = c.args.scope.now in
@@ -261,13 +261,13 @@ expr-returns-in_ok-then-in-Choose g t c =
     let kept1 = (ok_at c.expr-in-Choose.result c.in_ok-test-in-Choose.ensures.0 (λ z. c.expr-in-Choose.new.scope ≡ sc) c.in_ok-test-in-Choose.ensures.1 c.expr-in-Choose.ensures.kept) in
     let kept2 = (ok_at c.expr-in-Choose-2.result c.in_ok-then-in-Choose.ensures.0 (λ z. c.expr-in-Choose-2.new.scope ≡ c.expr-in-Choose.new.scope) c.in_ok-then-in-Choose.ensures.1 c.expr-in-Choose-2.ensures.kept) ∙ kept1 in
     record {
-      means = given c.expr-or_else.result c.choose.result _ _ _ c.choose.ensures c.expr-or_else.ensures.means (λ y z m d. form-Choose ts k e c.in-Choose.field-0 c.in-Choose.test c.in-Choose.then c.in-Choose.or_else sc st c.expr-in-Choose.new.state c.expr-in-Choose-2.new.state c.expr-or_else.new.state c.in_ok-test-in-Choose.test c.in_ok-then-in-Choose.then y z c.in-Choose.is (part ts k c.in-Choose.test c.get-in-Choose.result.now c.in_ok-test-in-Choose.test c.in_ok-test-in-Choose.ensures.0 sc sc st c.expr-in-Choose.new.state c.in_ok-test-in-Choose.ensures.2 c.get-in-Choose.ensures refl (ok_at c.expr-in-Choose.result c.in_ok-test-in-Choose.ensures.0 (λ z. coded z c.expr-in-Choose.new.state ≡ expr_reads ts k c.get-in-Choose.result.now sc st) c.in_ok-test-in-Choose.ensures.1 c.expr-in-Choose.ensures.means)) (part ts k c.in-Choose.then c.get-in-Choose-2.result.now c.in_ok-then-in-Choose.then c.in_ok-then-in-Choose.ensures.0 sc c.expr-in-Choose.new.scope c.expr-in-Choose.new.state c.expr-in-Choose-2.new.state c.in_ok-then-in-Choose.ensures.2 c.get-in-Choose-2.ensures kept1 (ok_at c.expr-in-Choose-2.result c.in_ok-then-in-Choose.ensures.0 (λ z. coded z c.expr-in-Choose-2.new.state ≡ expr_reads ts k c.get-in-Choose-2.result.now c.expr-in-Choose.new.scope c.expr-in-Choose.new.state) c.in_ok-then-in-Choose.ensures.1 c.expr-in-Choose-2.ensures.means)) (part ts k c.in-Choose.or_else c.get-in-Choose-3.result.now y y sc c.expr-in-Choose-2.new.scope c.expr-in-Choose-2.new.state c.expr-or_else.new.state refl c.get-in-Choose-3.ensures kept2 m) d);
+      means = given c.expr-or_else.result c.choose.result _ _ _ c.choose.ensures c.expr-or_else.ensures.means (λ y z m d. form-Choose ts k e c.in-Choose.field-0 c.in-Choose.test c.in-Choose.then c.in-Choose.or_else sc st c.expr-in-Choose.new.state c.expr-in-Choose-2.new.state c.expr-or_else.new.state c.in_ok-test-in-Choose.test c.in_ok-then-in-Choose.then y z c.in-Choose.is (part ts k c.in-Choose.test c.get-in-Choose.result.now c.in_ok-test-in-Choose.test c.in_ok-test-in-Choose.ensures.0 sc sc st c.expr-in-Choose.new.state c.in_ok-test-in-Choose.ensures.2 c.get-in-Choose.ensures refl (ok_at c.expr-in-Choose.result c.in_ok-test-in-Choose.ensures.0 (λ z. resolution z c.expr-in-Choose.new.state ≡ expr_reads ts k c.get-in-Choose.result.now sc st) c.in_ok-test-in-Choose.ensures.1 c.expr-in-Choose.ensures.means)) (part ts k c.in-Choose.then c.get-in-Choose-2.result.now c.in_ok-then-in-Choose.then c.in_ok-then-in-Choose.ensures.0 sc c.expr-in-Choose.new.scope c.expr-in-Choose.new.state c.expr-in-Choose-2.new.state c.in_ok-then-in-Choose.ensures.2 c.get-in-Choose-2.ensures kept1 (ok_at c.expr-in-Choose-2.result c.in_ok-then-in-Choose.ensures.0 (λ z. resolution z c.expr-in-Choose-2.new.state ≡ expr_reads ts k c.get-in-Choose-2.result.now c.expr-in-Choose.new.scope c.expr-in-Choose.new.state) c.in_ok-then-in-Choose.ensures.1 c.expr-in-Choose-2.ensures.means)) (part ts k c.in-Choose.or_else c.get-in-Choose-3.result.now y y sc c.expr-in-Choose-2.new.scope c.expr-in-Choose-2.new.state c.expr-or_else.new.state refl c.get-in-Choose-3.ensures kept2 m) d);
       kept = given_on c.expr-or_else.result c.choose.result _ _ _ c.choose.ensures c.expr-or_else.ensures.kept (λ h. h ∙ kept2);
     }
 
 pub expr-returns-in_ok-arms-in-IfElse : goal.expr-returns-in_ok-arms-in-IfElse
 expr-returns-in_ok-arms-in-IfElse g t c =
-    let ts = tests (g.J.Order.below c.args.judge.now) (g.J.Judge.signature_refusal c.args.judge.now) (g.J.Judge.body_refusal c.args.judge.now) (g.J.Judge.wide_struct c.args.judge.now) in
+    let ts = g.J.Judge.tests c.args.judge.now in
     let k = c.args.known.now in
     let st = c.args.state.now in
     let sc = c.args.scope.now in
@@ -279,7 +279,7 @@ expr-returns-in_ok-arms-in-IfElse g t c =
 
 pub expr-returns-in-Begin : goal.expr-returns-in-Begin
 expr-returns-in-Begin g t c =
-    let ts = tests (g.J.Order.below c.args.judge.now) (g.J.Judge.signature_refusal c.args.judge.now) (g.J.Judge.body_refusal c.args.judge.now) (g.J.Judge.wide_struct c.args.judge.now) in
+    let ts = g.J.Judge.tests c.args.judge.now in
     let k = c.args.known.now in
     let st = c.args.state.now in
     let sc = c.args.scope.now in
@@ -291,19 +291,19 @@ expr-returns-in-Begin g t c =
 
 pub expr-returns-in_ok-place-in-Spawn : goal.expr-returns-in_ok-place-in-Spawn
 expr-returns-in_ok-place-in-Spawn g t c =
-    let ts = tests (g.J.Order.below c.args.judge.now) (g.J.Judge.signature_refusal c.args.judge.now) (g.J.Judge.body_refusal c.args.judge.now) (g.J.Judge.wide_struct c.args.judge.now) in
+    let ts = g.J.Judge.tests c.args.judge.now in
     let k = c.args.known.now in
     let st = c.args.state.now in
     let sc = c.args.scope.now in
     let e = c.args.text.now in
     record {
-      means = given c.expr-code-in-Spawn.result c.spawned_at.result _ _ _ c.spawned_at.ensures c.expr-code-in-Spawn.ensures.means (λ y z m d. form-Spawn ts k e c.in-Spawn.field-0 c.in-Spawn.inner sc st c.awaited.new.state c.expr-code-in-Spawn.new.state c.spawned_at.new.state c.in_ok-place-in-Spawn.place y z c.in-Spawn.is c.in_ok-place-in-Spawn.ensures.0 c.in_ok-place-in-Spawn.ensures.1 (part ts k c.in-Spawn.inner c.get-in-Spawn.result.now y y sc sc c.awaited.new.state c.expr-code-in-Spawn.new.state refl c.get-in-Spawn.ensures refl m) d);
+      means = given c.expr-code-in-Spawn.result c.spawned_at.result _ _ _ c.spawned_at.ensures c.expr-code-in-Spawn.ensures.means (λ y z m d. form-Spawn ts k e c.in-Spawn.field-0 c.in-Spawn.inner sc st c.awaited.new.state c.expr-code-in-Spawn.new.state c.spawned_at.new.state c.in_ok-place-in-Spawn.place y z c.in-Spawn.is c.in_ok-place-in-Spawn.ensures (part ts k c.in-Spawn.inner c.get-in-Spawn.result.now y y sc sc c.awaited.new.state c.expr-code-in-Spawn.new.state refl c.get-in-Spawn.ensures refl m) d);
       kept = given_on c.expr-code-in-Spawn.result c.spawned_at.result _ _ _ c.spawned_at.ensures c.expr-code-in-Spawn.ensures.kept (λ h. h);
     }
 
 pub expr-returns-in-EvalMethod : goal.expr-returns-in-EvalMethod
 expr-returns-in-EvalMethod g t c =
-    let ts = tests (g.J.Order.below c.args.judge.now) (g.J.Judge.signature_refusal c.args.judge.now) (g.J.Judge.body_refusal c.args.judge.now) (g.J.Judge.wide_struct c.args.judge.now) in
+    let ts = g.J.Judge.tests c.args.judge.now in
     let k = c.args.known.now in
     let st = c.args.state.now in
     let sc = c.args.scope.now in
@@ -315,7 +315,7 @@ expr-returns-in-EvalMethod g t c =
 
 pub expr-returns-in-EvalExpr : goal.expr-returns-in-EvalExpr
 expr-returns-in-EvalExpr g t c =
-    let ts = tests (g.J.Order.below c.args.judge.now) (g.J.Judge.signature_refusal c.args.judge.now) (g.J.Judge.body_refusal c.args.judge.now) (g.J.Judge.wide_struct c.args.judge.now) in
+    let ts = g.J.Judge.tests c.args.judge.now in
     let k = c.args.known.now in
     let st = c.args.state.now in
     let sc = c.args.scope.now in
@@ -327,123 +327,123 @@ expr-returns-in-EvalExpr g t c =
 
 pub exprs-loop-text-preserved : goal.exprs-loop-text-preserved
 exprs-loop-text-preserved g t c =
-    let ts = tests (g.J.Order.below c.args.judge.now) (g.J.Judge.signature_refusal c.args.judge.now) (g.J.Judge.body_refusal c.args.judge.now) (g.J.Judge.wide_struct c.args.judge.now) in
+    let ts = g.J.Judge.tests c.args.judge.now in
     let k = c.args.known.now in
     record {
-      means = codes_step (expr_reads ts k) c.args.texts.now c.loop-text.text-index c.text-item.result c.loop-text.out c.put.new.out c.loop-text.scope c.expr.new.scope c.loop-text.state c.expr.new.state c.in_ok-put.ensures.0 _ c.loop-text.invariant.means c.loop-text-test.true c.text-item.is (ok_at c.expr.result c.in_ok-put.ensures.0 (λ z. coded z c.expr.new.state ≡ expr_reads ts k c.text-item.result c.loop-text.scope c.loop-text.state) c.in_ok-put.ensures.1 c.expr.ensures.means) (ok_at c.expr.result c.in_ok-put.ensures.0 (λ z. c.expr.new.scope ≡ c.loop-text.scope) c.in_ok-put.ensures.1 c.expr.ensures.kept) c.in_ok-put.ensures.2;
+      means = parts_step_at (expr_reads ts k) (λ c x. x c) c.args.texts.now c.loop-text.text-index c.text-item.result c.loop-text.out c.put.new.out c.loop-text.scope c.expr.new.scope c.loop-text.state c.expr.new.state c.in_ok-put.ensures.0 _ c.loop-text.invariant.means c.loop-text-test.true c.text-item.is (ok_at c.expr.result c.in_ok-put.ensures.0 (λ z. resolution z c.expr.new.state ≡ expr_reads ts k c.text-item.result c.loop-text.scope c.loop-text.state) c.in_ok-put.ensures.1 c.expr.ensures.means) (ok_at c.expr.result c.in_ok-put.ensures.0 (λ z. c.expr.new.scope ≡ c.loop-text.scope) c.in_ok-put.ensures.1 c.expr.ensures.kept) c.in_ok-put.ensures.2;
       kept = (ok_at c.expr.result c.in_ok-put.ensures.0 (λ z. c.expr.new.scope ≡ c.loop-text.scope) c.in_ok-put.ensures.1 c.expr.ensures.kept) ∙ c.loop-text.invariant.kept;
     }
 
 pub exprs-loop-text-init : goal.exprs-loop-text-init
 exprs-loop-text-init g t c =
-    let ts = tests (g.J.Order.below c.args.judge.now) (g.J.Judge.signature_refusal c.args.judge.now) (g.J.Judge.body_refusal c.args.judge.now) (g.J.Judge.wide_struct c.args.judge.now) in
+    let ts = g.J.Judge.tests c.args.judge.now in
     let k = c.args.known.now in
     let st = c.args.state.now in
     record {
-      means = codes_start (expr_reads ts k) c.args.texts.now _ c.args.scope.now st c.new-out.ensures;
+      means = parts_start (expr_reads ts k) (λ x. x c.args.scope.now) c.args.texts.now _ st c.new-out.ensures;
       kept = refl;
     }
 
 pub exprs-returns : goal.exprs-returns
 exprs-returns g t c =
-    let ts = tests (g.J.Order.below c.args.judge.now) (g.J.Judge.signature_refusal c.args.judge.now) (g.J.Judge.body_refusal c.args.judge.now) (g.J.Judge.wide_struct c.args.judge.now) in
+    let ts = g.J.Judge.tests c.args.judge.now in
     let k = c.args.known.now in
     record {
-      means = weaker c.into_shared.result _ _ c.into_shared.ensures (λ z d. codes_end (expr_reads ts k) c.args.texts.now c.loop-text.text-index c.loop-text.out z c.loop-text.scope c.loop-text.state _ c.loop-text.invariant.means c.loop-text-test.false d);
+      means = weaker c.into_shared.result _ _ c.into_shared.ensures (λ z d. parts_end (expr_reads ts k) (λ x. x c.loop-text.scope) c.args.texts.now c.loop-text.text-index c.loop-text.out z c.loop-text.state _ c.loop-text.invariant.means c.loop-text-test.false d);
       kept = always c.into_shared.result _ c.loop-text.invariant.kept;
     }
 
 pub pieces-loop-text-preserved : goal.pieces-loop-text-preserved
 pieces-loop-text-preserved g t c =
-    let ts = tests (g.J.Order.below c.args.judge.now) (g.J.Judge.signature_refusal c.args.judge.now) (g.J.Judge.body_refusal c.args.judge.now) (g.J.Judge.wide_struct c.args.judge.now) in
+    let ts = g.J.Judge.tests c.args.judge.now in
     let k = c.args.known.now in
     record {
-      means = pieces_step (piece_reads ts k) c.args.texts.now c.loop-text.text-index c.text-item.result c.loop-text.out c.put.new.out c.loop-text.scope c.piece.new.scope c.loop-text.state c.piece.new.state c.in_ok-put.ensures.0 _ c.loop-text.invariant.means c.loop-text-test.true c.text-item.is (ok_at c.piece.result c.in_ok-put.ensures.0 (λ z. shown z c.piece.new.state ≡ one_shown (piece_reads ts k c.text-item.result) c.loop-text.scope c.loop-text.state) c.in_ok-put.ensures.1 c.piece.ensures.means) (ok_at c.piece.result c.in_ok-put.ensures.0 (λ z. c.piece.new.scope ≡ c.loop-text.scope) c.in_ok-put.ensures.1 c.piece.ensures.kept) c.in_ok-put.ensures.2;
+      means = parts_step_at (piece_reads ts k) (λ c x. one_shown x c) c.args.texts.now c.loop-text.text-index c.text-item.result c.loop-text.out c.put.new.out c.loop-text.scope c.piece.new.scope c.loop-text.state c.piece.new.state c.in_ok-put.ensures.0 _ c.loop-text.invariant.means c.loop-text-test.true c.text-item.is (ok_at c.piece.result c.in_ok-put.ensures.0 (λ z. resolution z c.piece.new.state ≡ one_shown (piece_reads ts k c.text-item.result) c.loop-text.scope c.loop-text.state) c.in_ok-put.ensures.1 c.piece.ensures.means) (ok_at c.piece.result c.in_ok-put.ensures.0 (λ z. c.piece.new.scope ≡ c.loop-text.scope) c.in_ok-put.ensures.1 c.piece.ensures.kept) c.in_ok-put.ensures.2;
       kept = (ok_at c.piece.result c.in_ok-put.ensures.0 (λ z. c.piece.new.scope ≡ c.loop-text.scope) c.in_ok-put.ensures.1 c.piece.ensures.kept) ∙ c.loop-text.invariant.kept;
     }
 
 pub pieces-loop-text-init : goal.pieces-loop-text-init
 pieces-loop-text-init g t c =
-    let ts = tests (g.J.Order.below c.args.judge.now) (g.J.Judge.signature_refusal c.args.judge.now) (g.J.Judge.body_refusal c.args.judge.now) (g.J.Judge.wide_struct c.args.judge.now) in
+    let ts = g.J.Judge.tests c.args.judge.now in
     let k = c.args.known.now in
     let st = c.args.state.now in
     record {
-      means = pieces_start (piece_reads ts k) c.args.texts.now _ c.args.scope.now st c.new-out.ensures;
+      means = parts_start (piece_reads ts k) (λ x. one_shown x c.args.scope.now) c.args.texts.now _ st c.new-out.ensures;
       kept = refl;
     }
 
 pub pieces-returns : goal.pieces-returns
 pieces-returns g t c =
-    let ts = tests (g.J.Order.below c.args.judge.now) (g.J.Judge.signature_refusal c.args.judge.now) (g.J.Judge.body_refusal c.args.judge.now) (g.J.Judge.wide_struct c.args.judge.now) in
+    let ts = g.J.Judge.tests c.args.judge.now in
     let k = c.args.known.now in
     record {
-      means = weaker c.into_shared.result _ _ c.into_shared.ensures (λ z d. pieces_end (piece_reads ts k) c.args.texts.now c.loop-text.text-index c.loop-text.out z c.loop-text.scope c.loop-text.state _ c.loop-text.invariant.means c.loop-text-test.false d);
+      means = weaker c.into_shared.result _ _ c.into_shared.ensures (λ z d. parts_end (piece_reads ts k) (λ x. one_shown x c.loop-text.scope) c.args.texts.now c.loop-text.text-index c.loop-text.out z c.loop-text.state _ c.loop-text.invariant.means c.loop-text-test.false d);
       kept = always c.into_shared.result _ c.loop-text.invariant.kept;
     }
 
 pub branches-loop-text-preserved : goal.branches-loop-text-preserved
 branches-loop-text-preserved g t c =
-    let ts = tests (g.J.Order.below c.args.judge.now) (g.J.Judge.signature_refusal c.args.judge.now) (g.J.Judge.body_refusal c.args.judge.now) (g.J.Judge.wide_struct c.args.judge.now) in
+    let ts = g.J.Judge.tests c.args.judge.now in
     let k = c.args.known.now in
     record {
-      means = arms_step (branch_reads ts k) c.args.texts.now c.loop-text.text-index c.text-item.result c.loop-text.out.items c.put_arm.new.out.items c.loop-text.scope c.branch-alloc.new.scope c.loop-text.state c.branch-alloc.new.state c.in_ok-put_arm.ensures.0 _ c.loop-text.invariant.means c.loop-text-test.true c.text-item.is (ok_at c.branch-alloc.result c.in_ok-put_arm.ensures.0 (λ z. tried z c.branch-alloc.new.state ≡ one_tried (branch_reads ts k c.text-item.result) c.loop-text.scope c.loop-text.state) c.in_ok-put_arm.ensures.1 c.branch-alloc.ensures.means) (ok_at c.branch-alloc.result c.in_ok-put_arm.ensures.0 (λ z. c.branch-alloc.new.scope ≡ c.loop-text.scope) c.in_ok-put_arm.ensures.1 c.branch-alloc.ensures.kept) c.in_ok-put_arm.ensures.2;
+      means = parts_step_at (branch_reads ts k) (λ c x. one_tried x c) c.args.texts.now c.loop-text.text-index c.text-item.result c.loop-text.out.items c.put_arm.new.out.items c.loop-text.scope c.branch-alloc.new.scope c.loop-text.state c.branch-alloc.new.state c.in_ok-put_arm.ensures.0 _ c.loop-text.invariant.means c.loop-text-test.true c.text-item.is (ok_at c.branch-alloc.result c.in_ok-put_arm.ensures.0 (λ z. resolution z c.branch-alloc.new.state ≡ one_tried (branch_reads ts k c.text-item.result) c.loop-text.scope c.loop-text.state) c.in_ok-put_arm.ensures.1 c.branch-alloc.ensures.means) (ok_at c.branch-alloc.result c.in_ok-put_arm.ensures.0 (λ z. c.branch-alloc.new.scope ≡ c.loop-text.scope) c.in_ok-put_arm.ensures.1 c.branch-alloc.ensures.kept) c.in_ok-put_arm.ensures.2;
       kept = (ok_at c.branch-alloc.result c.in_ok-put_arm.ensures.0 (λ z. c.branch-alloc.new.scope ≡ c.loop-text.scope) c.in_ok-put_arm.ensures.1 c.branch-alloc.ensures.kept) ∙ c.loop-text.invariant.kept;
     }
 
 pub branches-loop-text-init : goal.branches-loop-text-init
 branches-loop-text-init g t c =
-    let ts = tests (g.J.Order.below c.args.judge.now) (g.J.Judge.signature_refusal c.args.judge.now) (g.J.Judge.body_refusal c.args.judge.now) (g.J.Judge.wide_struct c.args.judge.now) in
+    let ts = g.J.Judge.tests c.args.judge.now in
     let k = c.args.known.now in
     let st = c.args.state.now in
     record {
-      means = arms_start (branch_reads ts k) c.args.texts.now _ c.args.scope.now st c.new-out.ensures.items;
+      means = parts_start (branch_reads ts k) (λ x. one_tried x c.args.scope.now) c.args.texts.now _ st c.new-out.ensures.items;
       kept = refl;
     }
 
 pub branches-returns : goal.branches-returns
 branches-returns g t c =
-    let ts = tests (g.J.Order.below c.args.judge.now) (g.J.Judge.signature_refusal c.args.judge.now) (g.J.Judge.body_refusal c.args.judge.now) (g.J.Judge.wide_struct c.args.judge.now) in
+    let ts = g.J.Judge.tests c.args.judge.now in
     let k = c.args.known.now in
     record {
-      means = arms_end (branch_reads ts k) c.args.texts.now c.loop-text.text-index c.loop-text.out.items c.loop-text.scope c.loop-text.state _ c.loop-text.invariant.means c.loop-text-test.false;
+      means = parts_end (branch_reads ts k) (λ x. one_tried x c.loop-text.scope) c.args.texts.now c.loop-text.text-index c.loop-text.out.items _ c.loop-text.state _ c.loop-text.invariant.means c.loop-text-test.false refl;
       kept = c.loop-text.invariant.kept;
     }
 
 pub evals-loop-text-preserved : goal.evals-loop-text-preserved
 evals-loop-text-preserved g t c =
-    let ts = tests (g.J.Order.below c.args.judge.now) (g.J.Judge.signature_refusal c.args.judge.now) (g.J.Judge.body_refusal c.args.judge.now) (g.J.Judge.wide_struct c.args.judge.now) in
+    let ts = g.J.Judge.tests c.args.judge.now in
     let k = c.args.known.now in
-    items_step (eval_reads ts k) c.args.texts.now c.loop-text.text-index c.text-item.result c.loop-text.out c.put.new.out c.args.types c.loop-text.state c.eval.new.state c.in_ok-put.ensures.0 _ c.loop-text.invariant c.loop-text-test.true c.text-item.is (ok_at c.eval.result c.in_ok-put.ensures.0 (λ z. listed z c.eval.new.state ≡ one_evaluated (eval_reads ts k c.text-item.result) c.args.types c.loop-text.state) c.in_ok-put.ensures.1 c.eval.ensures) c.in_ok-put.ensures.2
+    parts_step (eval_reads ts k) (λ x. one_evaluated x c.args.types) c.args.texts.now c.loop-text.text-index c.text-item.result c.loop-text.out c.put.new.out c.loop-text.state c.eval.new.state c.in_ok-put.ensures.0 _ c.loop-text.invariant c.loop-text-test.true c.text-item.is (ok_at c.eval.result c.in_ok-put.ensures.0 (λ z. resolution z c.eval.new.state ≡ one_evaluated (eval_reads ts k c.text-item.result) c.args.types c.loop-text.state) c.in_ok-put.ensures.1 c.eval.ensures) c.in_ok-put.ensures.2
 
 pub evals-loop-text-init : goal.evals-loop-text-init
 evals-loop-text-init g t c =
-    let ts = tests (g.J.Order.below c.args.judge.now) (g.J.Judge.signature_refusal c.args.judge.now) (g.J.Judge.body_refusal c.args.judge.now) (g.J.Judge.wide_struct c.args.judge.now) in
+    let ts = g.J.Judge.tests c.args.judge.now in
     let k = c.args.known.now in
     let st = c.args.state.now in
-    items_start (eval_reads ts k) c.args.texts.now _ c.args.types st c.new-out.ensures
+    parts_start (eval_reads ts k) (λ x. one_evaluated x c.args.types) c.args.texts.now _ st c.new-out.ensures
 
 pub evals-returns : goal.evals-returns
 evals-returns g t c =
-    let ts = tests (g.J.Order.below c.args.judge.now) (g.J.Judge.signature_refusal c.args.judge.now) (g.J.Judge.body_refusal c.args.judge.now) (g.J.Judge.wide_struct c.args.judge.now) in
+    let ts = g.J.Judge.tests c.args.judge.now in
     let k = c.args.known.now in
-    weaker c.into_shared.result _ _ c.into_shared.ensures (λ z d. items_end (eval_reads ts k) c.args.texts.now c.loop-text.text-index c.loop-text.out z c.args.types c.loop-text.state _ c.loop-text.invariant c.loop-text-test.false d)
+    weaker c.into_shared.result _ _ c.into_shared.ensures (λ z d. parts_end (eval_reads ts k) (λ x. one_evaluated x c.args.types) c.args.texts.now c.loop-text.text-index c.loop-text.out z c.loop-text.state _ c.loop-text.invariant c.loop-text-test.false d)
 
 pub block-loop-text-preserved : goal.block-loop-text-preserved
 block-loop-text-preserved g t c =
-    let ts = tests (g.J.Order.below c.args.judge.now) (g.J.Judge.signature_refusal c.args.judge.now) (g.J.Judge.body_refusal c.args.judge.now) (g.J.Judge.wide_struct c.args.judge.now) in
+    let ts = g.J.Judge.tests c.args.judge.now in
     let k = c.args.known.now in
-    block_step (stmt_reads ts k) c.args.texts.now c.loop-text.text-index c.text-item.result c.loop-text.out c.put.new.out c.loop-text.scope c.stmt.new.scope c.loop-text.state c.stmt.new.state c.in_ok-put.ensures.0 _ c.loop-text.invariant c.loop-text-test.true c.text-item.is (ok_at c.stmt.result c.in_ok-put.ensures.0 (λ z. stated z c.stmt.new.scope c.stmt.new.state ≡ one_said (stmt_reads ts k c.text-item.result) c.loop-text.scope c.loop-text.state) c.in_ok-put.ensures.1 c.stmt.ensures) c.in_ok-put.ensures.2
+    block_step (stmt_reads ts k) c.args.texts.now c.loop-text.text-index c.text-item.result c.loop-text.out c.put.new.out c.loop-text.scope c.stmt.new.scope c.loop-text.state c.stmt.new.state c.in_ok-put.ensures.0 _ c.loop-text.invariant c.loop-text-test.true c.text-item.is (ok_at c.stmt.result c.in_ok-put.ensures.0 (λ z. resolution (z, c.stmt.new.scope) c.stmt.new.state ≡ one_said (stmt_reads ts k c.text-item.result) c.loop-text.scope c.loop-text.state) c.in_ok-put.ensures.1 c.stmt.ensures) c.in_ok-put.ensures.2
 
 pub block-loop-text-init : goal.block-loop-text-init
 block-loop-text-init g t c =
-    let ts = tests (g.J.Order.below c.args.judge.now) (g.J.Judge.signature_refusal c.args.judge.now) (g.J.Judge.body_refusal c.args.judge.now) (g.J.Judge.wide_struct c.args.judge.now) in
+    let ts = g.J.Judge.tests c.args.judge.now in
     let k = c.args.known.now in
     let st = c.args.state.now in
     block_start (stmt_reads ts k) c.args.texts.now _ c.args.scope.now st c.new-out.ensures
 
 pub block-returns : goal.block-returns
 block-returns g t c =
-    let ts = tests (g.J.Order.below c.args.judge.now) (g.J.Judge.signature_refusal c.args.judge.now) (g.J.Judge.body_refusal c.args.judge.now) (g.J.Judge.wide_struct c.args.judge.now) in
+    let ts = g.J.Judge.tests c.args.judge.now in
     let k = c.args.known.now in
     let st = c.args.state.now in
     record {
@@ -453,7 +453,7 @@ block-returns g t c =
 
 pub stmt-returns-in-Bind : goal.stmt-returns-in-Bind
 stmt-returns-in-Bind g t c =
-    let ts = tests (g.J.Order.below c.args.judge.now) (g.J.Judge.signature_refusal c.args.judge.now) (g.J.Judge.body_refusal c.args.judge.now) (g.J.Judge.wide_struct c.args.judge.now) in
+    let ts = g.J.Judge.tests c.args.judge.now in
     let k = c.args.known.now in
     let st = c.args.state.now in
     let sc = c.args.scope.now in
@@ -462,7 +462,7 @@ stmt-returns-in-Bind g t c =
 
 pub stmt-returns-in-Return : goal.stmt-returns-in-Return
 stmt-returns-in-Return g t c =
-    let ts = tests (g.J.Order.below c.args.judge.now) (g.J.Judge.signature_refusal c.args.judge.now) (g.J.Judge.body_refusal c.args.judge.now) (g.J.Judge.wide_struct c.args.judge.now) in
+    let ts = g.J.Judge.tests c.args.judge.now in
     let k = c.args.known.now in
     let st = c.args.state.now in
     let sc = c.args.scope.now in
@@ -471,7 +471,7 @@ stmt-returns-in-Return g t c =
 
 pub stmt-returns-in-ReturnNothing : goal.stmt-returns-in-ReturnNothing
 stmt-returns-in-ReturnNothing g t c =
-    let ts = tests (g.J.Order.below c.args.judge.now) (g.J.Judge.signature_refusal c.args.judge.now) (g.J.Judge.body_refusal c.args.judge.now) (g.J.Judge.wide_struct c.args.judge.now) in
+    let ts = g.J.Judge.tests c.args.judge.now in
     let k = c.args.known.now in
     let st = c.args.state.now in
     let sc = c.args.scope.now in
@@ -480,7 +480,7 @@ stmt-returns-in-ReturnNothing g t c =
 
 pub stmt-returns-in-Do : goal.stmt-returns-in-Do
 stmt-returns-in-Do g t c =
-    let ts = tests (g.J.Order.below c.args.judge.now) (g.J.Judge.signature_refusal c.args.judge.now) (g.J.Judge.body_refusal c.args.judge.now) (g.J.Judge.wide_struct c.args.judge.now) in
+    let ts = g.J.Judge.tests c.args.judge.now in
     let k = c.args.known.now in
     let st = c.args.state.now in
     let sc = c.args.scope.now in
@@ -489,7 +489,7 @@ stmt-returns-in-Do g t c =
 
 pub piece-returns-in-Text : goal.piece-returns-in-Text
 piece-returns-in-Text g t c =
-    let ts = tests (g.J.Order.below c.args.judge.now) (g.J.Judge.signature_refusal c.args.judge.now) (g.J.Judge.body_refusal c.args.judge.now) (g.J.Judge.wide_struct c.args.judge.now) in
+    let ts = g.J.Judge.tests c.args.judge.now in
     let k = c.args.known.now in
     let st = c.args.state.now in
     let sc = c.args.scope.now in
@@ -501,7 +501,7 @@ piece-returns-in-Text g t c =
 
 pub piece-returns-in-Show : goal.piece-returns-in-Show
 piece-returns-in-Show g t c =
-    let ts = tests (g.J.Order.below c.args.judge.now) (g.J.Judge.signature_refusal c.args.judge.now) (g.J.Judge.body_refusal c.args.judge.now) (g.J.Judge.wide_struct c.args.judge.now) in
+    let ts = g.J.Judge.tests c.args.judge.now in
     let k = c.args.known.now in
     let st = c.args.state.now in
     let sc = c.args.scope.now in
@@ -513,7 +513,7 @@ piece-returns-in-Show g t c =
 
 pub eval-returns-in-Method : goal.eval-returns-in-Method
 eval-returns-in-Method g t c =
-    let ts = tests (g.J.Order.below c.args.judge.now) (g.J.Judge.signature_refusal c.args.judge.now) (g.J.Judge.body_refusal c.args.judge.now) (g.J.Judge.wide_struct c.args.judge.now) in
+    let ts = g.J.Judge.tests c.args.judge.now in
     let k = c.args.known.now in
     let st = c.args.state.now in
     let e = c.args.text.now in
@@ -521,7 +521,7 @@ eval-returns-in-Method g t c =
 
 pub eval-returns-in-Do : goal.eval-returns-in-Do
 eval-returns-in-Do g t c =
-    let ts = tests (g.J.Order.below c.args.judge.now) (g.J.Judge.signature_refusal c.args.judge.now) (g.J.Judge.body_refusal c.args.judge.now) (g.J.Judge.wide_struct c.args.judge.now) in
+    let ts = g.J.Judge.tests c.args.judge.now in
     let k = c.args.known.now in
     let st = c.args.state.now in
     let e = c.args.text.now in
@@ -529,20 +529,20 @@ eval-returns-in-Do g t c =
 
 pub branch-returns : goal.branch-returns
 branch-returns g t c =
-    let ts = tests (g.J.Order.below c.args.judge.now) (g.J.Judge.signature_refusal c.args.judge.now) (g.J.Judge.body_refusal c.args.judge.now) (g.J.Judge.wide_struct c.args.judge.now) in
+    let ts = g.J.Judge.tests c.args.judge.now in
     let k = c.args.known.now in
     let st = c.args.state.now in
     let sc = c.args.scope.now in
     let e = c.args.text.now in
     let kept1 = ok_at c.expr.result c.in_ok-test.ensures.0 (λ z. c.expr.new.scope ≡ sc) c.in_ok-test.ensures.1 c.expr.ensures.kept in
     record {
-      means = given c.block-then.result c.arm.result _ _ _ c.arm.ensures c.block-then.ensures.means (λ y z m d. tries ts k e c.as_slice.result.now sc c.expr.new.scope st c.expr.new.state c.block-then.new.state c.in_ok-test.test c.in_ok-test.ensures.0 y z c.in_ok-test.ensures.2 (ok_at c.expr.result c.in_ok-test.ensures.0 (λ z. coded z c.expr.new.state ≡ expr_reads ts k e.test sc st) c.in_ok-test.ensures.1 c.expr.ensures.means) kept1 c.as_slice.ensures m d);
+      means = given c.block-then.result c.arm.result _ _ _ c.arm.ensures c.block-then.ensures.means (λ y z m d. tries ts k e c.as_slice.result.now sc c.expr.new.scope st c.expr.new.state c.block-then.new.state c.in_ok-test.test c.in_ok-test.ensures.0 y z c.in_ok-test.ensures.2 (ok_at c.expr.result c.in_ok-test.ensures.0 (λ z. resolution z c.expr.new.state ≡ expr_reads ts k e.test sc st) c.in_ok-test.ensures.1 c.expr.ensures.means) kept1 c.as_slice.ensures m d);
       kept = given_on c.block-then.result c.arm.result _ _ _ c.arm.ensures c.block-then.ensures.kept (λ h. h ∙ kept1);
     }
 
 pub method-returns-in_ok-number-in-Long : goal.method-returns-in_ok-number-in-Long
 method-returns-in_ok-number-in-Long g t c =
-    let ts = tests (g.J.Order.below c.args.judge.now) (g.J.Judge.signature_refusal c.args.judge.now) (g.J.Judge.body_refusal c.args.judge.now) (g.J.Judge.wide_struct c.args.judge.now) in
+    let ts = g.J.Judge.tests c.args.judge.now in
     let k = c.args.known.now in
     let st = c.args.state.now in
     let e = c.args.text.now in
@@ -550,7 +550,7 @@ method-returns-in_ok-number-in-Long g t c =
 
 pub method-returns-in_ok-number-in-Short : goal.method-returns-in_ok-number-in-Short
 method-returns-in_ok-number-in-Short g t c =
-    let ts = tests (g.J.Order.below c.args.judge.now) (g.J.Judge.signature_refusal c.args.judge.now) (g.J.Judge.body_refusal c.args.judge.now) (g.J.Judge.wide_struct c.args.judge.now) in
+    let ts = g.J.Judge.tests c.args.judge.now in
     let k = c.args.known.now in
     let st = c.args.state.now in
     let e = c.args.text.now in
