@@ -29,7 +29,7 @@ returns-then-have_crossed c =
     let s = c.args.written.now in
     let p = c.in-Ok.ensures.forms in
     let b : Both (IsSmallForm ds) (bound_types s.vars) (bound_types c.as_slice.result.now) = subst (λ z. Both (IsSmallForm ds) (bound_types s.vars) (bound_types z)) (sym c.as_slice.ensures) p.bounds in
-    (c.in_ok-check_writing.ensures, c.in-Ok.ensures.small, crossed_written ds c.valid.ensures s.vars c.as_slice.result.now b (c.have_crossed.ensures.0 c.if-have_crossed.true))
+    (c.in_ok-check_writing.ensures.checked, c.in-Ok.ensures.small, crossed_written ds c.valid.ensures s.vars c.as_slice.result.now b (c.have_crossed.ensures.0 c.if-have_crossed.true))
 
 pub returns-then-have_outside : goal.returns-then-have_outside
 returns-then-have_outside c =
@@ -40,14 +40,14 @@ returns-then-have_outside c =
     let a : AreFormed ds (arguments_in s) (all_given c.as_slice-2.result.now) = subst (λ z. AreFormed ds (arguments_in s) (all_given z)) (sym c.as_slice-2.ensures.value) p.arguments in
     let o : BoundsCrossed ds s → ⊥ = λ h. let g = c.have_crossed.ensures.1 (crossed_kept ds c.valid.ensures s.vars c.as_slice.result.now b h) in let f : true ≡ false = sym g ∙ c.if-have_crossed.false in cc in
     let r = outside_written ds c.valid.ensures (arguments_in s) (all_given c.as_slice-2.result.now) a (c.have_outside.ensures.0 c.if-have_outside.true) in
-    (c.in_ok-check_writing.ensures, c.in-Ok.ensures.small, o, (r.0, r.1, r.2.0, r.2.1))
+    (c.in_ok-check_writing.ensures.checked, c.in-Ok.ensures.small, o, (r.0, r.1, r.2.0, r.2.1))
 
 pub returns : goal.returns
 returns c =
     let ds = c.args.table.now in
     let s = c.args.written.now in
     let p = c.in-Ok.ensures.forms in
-    let w = c.in_ok-check_writing.ensures in
+    let w = c.in_ok-check_writing.ensures.checked in
     let b : Both (IsSmallForm ds) (bound_types s.vars) (bound_types c.as_slice.result.now) = subst (λ z. Both (IsSmallForm ds) (bound_types s.vars) (bound_types z)) (sym c.as_slice.ensures) p.bounds in
     let a : AreFormed ds (arguments_in s) (all_given c.as_slice-2.result.now) = subst (λ z. AreFormed ds (arguments_in s) (all_given z)) (sym c.as_slice-2.ensures.value) p.arguments in
     let o : BoundsCrossed ds s → ⊥ = λ h. let g = c.have_crossed.ensures.1 (crossed_kept ds c.valid.ensures s.vars c.as_slice.result.now b h) in let f : true ≡ false = sym g ∙ c.if-have_crossed.false in cc in

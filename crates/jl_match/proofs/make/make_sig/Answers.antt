@@ -31,7 +31,7 @@ returns-then-have_crossed-clause-made c =
     let ds = c.args.table.now in
     let s = c.args.written.now in
     let p = c.in-Ok.ensures.kept in
-    let w = c.in_ok-check_writing.ensures in
+    let w = c.in_ok-check_writing.ensures.checked in
     let b : Both (IsSmallForm ds) (bound_types s.vars) (bound_types c.bounds.result.now) =
     subst (λ z. Both (IsSmallForm ds) (bound_types s.vars) (bound_types z)) (sym c.bounds.ensures) (subst (λ (z : Written). Both (IsSmallForm ds) (bound_types z.vars) (bound_types c.in-Ok.prepared.sig.bounded.vars)) p.written p.kept.bounds) in
     (w, p.small, crossed_written ds c.valid.ensures s.vars c.bounds.result.now b (c.have_crossed.ensures.0 c.if-have_crossed.true))
@@ -41,7 +41,7 @@ returns-then-have_outside-clause-made c =
     let ds = c.args.table.now in
     let s = c.args.written.now in
     let p = c.in-Ok.ensures.kept in
-    let w = c.in_ok-check_writing.ensures in
+    let w = c.in_ok-check_writing.ensures.checked in
     let b : Both (IsSmallForm ds) (bound_types s.vars) (bound_types c.bounds.result.now) =
     subst (λ z. Both (IsSmallForm ds) (bound_types s.vars) (bound_types z)) (sym c.bounds.ensures) (subst (λ (z : Written). Both (IsSmallForm ds) (bound_types z.vars) (bound_types c.in-Ok.prepared.sig.bounded.vars)) p.written p.kept.bounds) in
     let a : AreFormed ds (arguments_in s) (all_given c.as_slice.result.now) = subst (λ z. AreFormed ds (arguments_in s) (all_given z)) (sym c.as_slice.ensures.value) p.arguments in
@@ -54,7 +54,7 @@ returns-clause-made c =
     let ds = c.args.table.now in
     let s = c.args.written.now in
     let p = c.in-Ok.ensures.kept in
-    let w = c.in_ok-check_writing.ensures in
+    let w = c.in_ok-check_writing.ensures.checked in
     let b : Both (IsSmallForm ds) (bound_types s.vars) (bound_types c.bounds.result.now) =
     subst (λ z. Both (IsSmallForm ds) (bound_types s.vars) (bound_types z)) (sym c.bounds.ensures) (subst (λ (z : Written). Both (IsSmallForm ds) (bound_types z.vars) (bound_types c.in-Ok.prepared.sig.bounded.vars)) p.written p.kept.bounds) in
     let a : AreFormed ds (arguments_in s) (all_given c.as_slice.result.now) = subst (λ z. AreFormed ds (arguments_in s) (all_given z)) (sym c.as_slice.ensures.value) p.arguments in
