@@ -32,10 +32,10 @@ impl Order for Lenient {
 
 impl Judge for Lenient {
     ghost tests = { λ _. record {
-        below = λ _ _. true;
-        signature = λ _. None;
-        body = λ _. None;
-        wide = λ _. false;
+      below = λ _ _. true;
+      signature = λ _. None;
+      body = λ _. None;
+      wide = λ _. false;
     } };
 
     ghost same_order = { λ _. refl };

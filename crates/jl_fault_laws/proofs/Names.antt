@@ -25,7 +25,8 @@ use Rattle.jl_names.proofs.NumberLemmas.{text_is}
 use Rattle.jl_resolve_forms.specs.declared.known.Known.{Known}
 use Rattle.jl_resolve_forms.specs.declared.state.Scope.{Scope}
 use Rattle.jl_resolve_forms.specs.declared.state.State.{State}
-use Rattle.jl_resolve_forms.specs.Scopes.{Seen, slot_from, slot_of, note, clashing, with_slot, slotted, bind}
+use Rattle.jl_resolve_forms.specs.Resolver.{Resolution}
+use Rattle.jl_resolve_forms.specs.Scopes.{slot_from, slot_of, note, clashing, with_slot, slotted, bind}
 use Rattle.jl_resolve_forms.specs.Functions.{function_of_operator, function_of, unless_slot, if_struct, struct_named, struct_of}
 use Rattle.jl_resolve_forms.specs.TypesIn.{Tests, declared_at}
 use Rattle.jl_resolve_forms.specs.Expressions.{parameters, made_struct, static_parameter, static_parameters}
@@ -175,23 +176,23 @@ already n vs e name = by (same_text name n) refl
     by true h = ap (λ x. is_among x vs) (text_is name n h) ∙ e
     by false h = refl
 
-slotted_agrees : (n : Name) (c : Scope) (s : State) (vs : Names) → Agrees c vs → (o : Option ℕ) → slot_of c.slots n.bytes ≡ o → Agrees (slotted n c s o).scope (n.bytes ∷ vs)
+slotted_agrees : (n : Name) (c : Scope) (s : State) (vs : Names) → Agrees c vs → (o : Option ℕ) → slot_of c.slots n.bytes ≡ o → Agrees (slotted n c o s).value (n.bytes ∷ vs)
 slotted_agrees n c s vs h None e = λ name. behind_some 0 c.slots n.bytes name ∙ ap (λ b. same_text name n.bytes || b) (h name)
 slotted_agrees n c s vs h (Some i) e = λ name. behind_none 0 c.slots name ∙ h name ∙ already n.bytes vs (sym (h n.bytes) ∙ ap is_some e) name
 
-slotted_sees : (t : Tests) (k : Known) (n : Name) (c : Scope) (s : State) (v : Visible) → Sees t k c v → (o : Option ℕ) → slot_of c.slots n.bytes ≡ o → Sees t k (slotted n c s o).scope (with_name n.bytes v)
+slotted_sees : (t : Tests) (k : Known) (n : Name) (c : Scope) (s : State) (v : Visible) → Sees t k c v → (o : Option ℕ) → slot_of c.slots n.bytes ≡ o → Sees t k (slotted n c o s).value (with_name n.bytes v)
 slotted_sees t k n c s v h None e = record { slots = slotted_agrees n c s v.names h.slots None e; vars = h.vars; statics = h.statics; types = h.types }
 slotted_sees t k n c s v h (Some i) e = record { slots = slotted_agrees n c s v.names h.slots (Some i) e; vars = h.vars; statics = h.statics; types = h.types }
 
-pub bind_sees : (t : Tests) (k : Known) (n : Name) (c : Scope) (s : State) (v : Visible) → Sees t k c v → Sees t k (bind n c s).scope (with_name n.bytes v)
+pub bind_sees : (t : Tests) (k : Known) (n : Name) (c : Scope) (s : State) (v : Visible) → Sees t k c v → Sees t k (bind n c s).value (with_name n.bytes v)
 unfolding bind
 bind_sees t k n c s v h = slotted_sees t k n c (clashing n.at n.bytes s) v h (slot_of c.slots n.bytes) refl
 
-slotted_types : (n : Name) (c : Scope) (s : State) (o : Option ℕ) → (slotted n c s o).scope.types ≡ c.types
+slotted_types : (n : Name) (c : Scope) (s : State) (o : Option ℕ) → (slotted n c o s).value.types ≡ c.types
 slotted_types n c s None = refl
 slotted_types n c s (Some i) = refl
 
-pub bind_types : (n : Name) (c : Scope) (s : State) → (bind n c s).scope.types ≡ c.types
+pub bind_types : (n : Name) (c : Scope) (s : State) → (bind n c s).value.types ≡ c.types
 unfolding bind
 bind_types n c s = slotted_types n c (clashing n.at n.bytes s) (slot_of c.slots n.bytes)
 
@@ -203,7 +204,7 @@ clashing_told at name s = by (is_among name builtin_names)
     by true = one_fault (record { at = at; kind = kind.NameClash }) s.fault
     by false = nothing s.fault
 
-slotted_told : (n : Name) (c : Scope) (s : State) (o : Option ℕ) → Tells (one (is_some o) kind.Rebound n.at) s.fault (slotted n c s o).after.fault
+slotted_told : (n : Name) (c : Scope) (s : State) (o : Option ℕ) → Tells (one (is_some o) kind.Rebound n.at) s.fault (slotted n c o s).after.fault
 slotted_told n c s None = nothing s.fault
 slotted_told n c s (Some i) = one_fault (record { at = n.at; kind = kind.Rebound }) s.fault
 
@@ -220,7 +221,7 @@ bind_told t k n c s v h m =
     let z = clashing n.at n.bytes s in
     let o = slot_of c.slots n.bytes in
     let a = is_among n.bytes builtin_names in
-    let q = slotted n c z o in
+    let q = slotted n c o z in
     same _ _ s.fault q.after.fault ((λ i. one a kind.NameClash n.at ++ one (h n.bytes i) kind.Rebound n.at) ∙ two_of n.at a (is_among n.bytes v.names))
     (two (one a kind.NameClash n.at) (one (is_some o) kind.Rebound n.at) s.fault z.fault q.after.fault (clashing_told n.at n.bytes s) (slotted_told n c z o))
 
@@ -228,7 +229,7 @@ clashing_sites : (b : Bool) (at : ℕ) (s : State) → (cond b (note at kind.Nam
 clashing_sites true at s = refl
 clashing_sites false at s = refl
 
-slotted_sites : (n : Name) (c : Scope) (s : State) (o : Option ℕ) → (slotted n c s o).after.sites ≡ s.sites
+slotted_sites : (n : Name) (c : Scope) (s : State) (o : Option ℕ) → (slotted n c o s).after.sites ≡ s.sites
 slotted_sites n c s None = refl
 slotted_sites n c s (Some i) = refl
 
@@ -240,29 +241,29 @@ pub bind_adds : (t : Tests) (k : Known) (n : Name) (c : Scope) (s : State) (v : 
 bind_adds t k n c s v h = adds_alike t k (used n.at (bound n.bytes) v ∷ []) s (bind n c s).after refl (bind_sites n c s) (bind_told t k n c s v h)
 
 -- parameters
-pub params_see : (t : Tests) (k : Known) (ps : List Param) (c : Scope) (s : State) (v : Visible) → Sees t k c v → Sees t k (parameters ps c s).scope (with_names (params_of ps) v)
+pub params_see : (t : Tests) (k : Known) (ps : List Param) (c : Scope) (s : State) (v : Visible) → Sees t k c v → Sees t k (parameters ps c s).value (with_names (params_of ps) v)
 params_see t k [] c s v h = h
-params_see t k (A.Name n ∷ ps) c s v h = let b = bind n c s in params_see t k ps b.scope b.after (with_name n.bytes v) (bind_sees t k n c s v h)
-params_see t k (A.Typed n ty ∷ ps) c s v h = let b = bind n c s in params_see t k ps b.scope b.after (with_name n.bytes v) (bind_sees t k n c s v h)
+params_see t k (A.Name n ∷ ps) c s v h = let b = bind n c s in params_see t k ps b.value b.after (with_name n.bytes v) (bind_sees t k n c s v h)
+params_see t k (A.Typed n ty ∷ ps) c s v h = let b = bind n c s in params_see t k ps b.value b.after (with_name n.bytes v) (bind_sees t k n c s v h)
 params_see t k (A.Unnamed at ty ∷ ps) c s v h = params_see t k ps (with_slot None c) s v (record { slots = λ name. behind_none 0 c.slots name ∙ h.slots name; vars = h.vars; statics = h.statics; types = h.types })
 
 named_param : (t : Tests) (k : Known) (n : Name) (ps : List Param) (c : Scope) (s : State) (v : Visible) → Sees t k c v
-    → ((b : Seen) → Sees t k b.scope (with_name n.bytes v) → TellsOf t k (params_uses ps (with_name n.bytes v)) b.after.fault (parameters ps b.scope b.after).after.fault)
-    → TellsOf t k (used n.at (bound n.bytes) v ∷ params_uses ps (with_name n.bytes v)) s.fault (parameters ps (bind n c s).scope (bind n c s).after).after.fault
+    → ((b : Resolution Scope) → Sees t k b.value (with_name n.bytes v) → TellsOf t k (params_uses ps (with_name n.bytes v)) b.after.fault (parameters ps b.value b.after).after.fault)
+    → TellsOf t k (used n.at (bound n.bytes) v ∷ params_uses ps (with_name n.bytes v)) s.fault (parameters ps (bind n c s).value (bind n c s).after).after.fault
 named_param t k n ps c s v h more =
     let b = bind n c s in
-    joined t k (used n.at (bound n.bytes) v ∷ []) (params_uses ps (with_name n.bytes v)) s.fault b.after.fault (parameters ps b.scope b.after).after.fault (bind_told t k n c s v h.slots) (more b (bind_sees t k n c s v h))
+    joined t k (used n.at (bound n.bytes) v ∷ []) (params_uses ps (with_name n.bytes v)) s.fault b.after.fault (parameters ps b.value b.after).after.fault (bind_told t k n c s v h.slots) (more b (bind_sees t k n c s v h))
 
 pub params_told : (t : Tests) (k : Known) (ps : List Param) (c : Scope) (s : State) (v : Visible) → Sees t k c v → TellsOf t k (params_uses ps v) s.fault (parameters ps c s).after.fault
 params_told t k [] c s v h = λ m. nothing s.fault
-params_told t k (A.Name n ∷ ps) c s v h = named_param t k n ps c s v h (λ b. params_told t k ps b.scope b.after (with_name n.bytes v))
-params_told t k (A.Typed n ty ∷ ps) c s v h = named_param t k n ps c s v h (λ b. params_told t k ps b.scope b.after (with_name n.bytes v))
+params_told t k (A.Name n ∷ ps) c s v h = named_param t k n ps c s v h (λ b. params_told t k ps b.value b.after (with_name n.bytes v))
+params_told t k (A.Typed n ty ∷ ps) c s v h = named_param t k n ps c s v h (λ b. params_told t k ps b.value b.after (with_name n.bytes v))
 params_told t k (A.Unnamed at ty ∷ ps) c s v h = params_told t k ps (with_slot None c) s v (record { slots = λ name. behind_none 0 c.slots name ∙ h.slots name; vars = h.vars; statics = h.statics; types = h.types })
 
 pub params_sites : (ps : List Param) (c : Scope) (s : State) → (parameters ps c s).after.sites ≡ s.sites
 params_sites [] c s = refl
-params_sites (A.Name n ∷ ps) c s = let b = bind n c s in params_sites ps b.scope b.after ∙ bind_sites n c s
-params_sites (A.Typed n t ∷ ps) c s = let b = bind n c s in params_sites ps b.scope b.after ∙ bind_sites n c s
+params_sites (A.Name n ∷ ps) c s = let b = bind n c s in params_sites ps b.value b.after ∙ bind_sites n c s
+params_sites (A.Typed n t ∷ ps) c s = let b = bind n c s in params_sites ps b.value b.after ∙ bind_sites n c s
 params_sites (A.Unnamed at t ∷ ps) c s = params_sites ps (with_slot None c) s
 
 -- ---- what a name is

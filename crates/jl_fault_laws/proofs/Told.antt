@@ -6,6 +6,7 @@ use Rattle.jl_model.specs.declared.limits.TheConstants.{MOST_ARGUMENTS, MOST_SIT
 use Rattle.jl_program.specs.declared.prelude.TheConstants.{PRELUDE_SITES}
 use Rattle.jl_model.specs.Valid.{params_of as parameters_of}
 use Rattle.jl_program.specs.Names.{is_among, builtin_names}
+use Rattle.jl_program.specs.declared.tree.Expr.{Expr as Code}
 use Rattle.jl_program.specs.declared.tree.Expr.TheVariants as W
 use Rattle.jl_typeread.specs.declared.tree.TypeText.{TypeText}
 use Rattle.jl_typeread.specs.declared.tree.ArgText.TheViews.{out-TypeText}
@@ -20,10 +21,11 @@ use Rattle.jl_resolve_forms.specs.declared.known.Called.TheVariants as D
 use Rattle.jl_resolve_forms.specs.declared.state.Scope.{Scope}
 use Rattle.jl_resolve_forms.specs.declared.state.Signed.{Signed}
 use Rattle.jl_resolve_forms.specs.declared.state.State.{State}
+use Rattle.jl_resolve_forms.specs.Resolver.{Resolution}
 use Rattle.jl_resolve_forms.specs.Scopes.{slot_of, note, noted, merged, bind}
 use Rattle.jl_resolve_forms.specs.Functions.{place_of_callee, function_of, struct_of, called, called_from}
 use Rattle.jl_resolve_forms.specs.TypesIn.{Tests, declared_at, body_written, made_at, begins}
-use Rattle.jl_resolve_forms.specs.Expressions.{Reads, Defines, Says, binds, returns, does, Evaluates, defines, evaluates, Shows, writes, shows, Tries, Codes, all_coded, one_said, all_said, block_of, one_shown, all_shown, bare_scope, one_evaluated, all_evaluated, one_tried, all_tried, local, latest, counted, spawned, made_struct, made_args, call, made, is_a, is_below, signed, opened, named, may_define, if_unknown, too_many, site_limit, names_in, method, reserved, closed, site_of, inferred_refusal, parameters, static_parameters}
+use Rattle.jl_resolve_forms.specs.Expressions.{Reads, Defines, Says, binds, returns, does, Evaluates, defines, evaluates, Shows, writes, shows, Tries, all_coded, one_said, all_said, block_of, one_shown, all_shown, bare_scope, one_evaluated, all_evaluated, one_tried, all_tried, local, latest, counted, spawned, made_struct, made_args, call, made, is_a, is_below, signed, opened, named, may_define, if_unknown, too_many, site_limit, names_in, method, reserved, closed, site_of, inferred_refusal, parameters, static_parameters}
 use Rattle.jl_fault_laws.specs.Uses.{Visible, value, Use, used, Uses, Stated, each, with_names, block, bare, params_of, params_uses, type_names, names_told, if_read, makes, body_uses, built_uses, in_head, after_head, in_body, signature_uses, head_uses}
 use Rattle.jl_fault_laws.specs.Uses as U
 use Rattle.jl_fault_laws.specs.Rows.{is_taken, definitions}
@@ -86,19 +88,19 @@ module _ (t : Tests) (k : Known) where
       let y = x c s in
       adds_joined t k (u v) (each us v) s y.after (all_coded xs c y.after).after (h.0 c v s a) (all_coded_told us xs h.1 c v y.after a)
 
-  all_coded_many : (us : List Uses) (xs : List Reads) → Pairs IsTold us xs → (c : Scope) (s : State) → length (all_coded xs c s).codes ≡ length us
+  all_coded_many : (us : List Uses) (xs : List Reads) → Pairs IsTold us xs → (c : Scope) (s : State) → length (all_coded xs c s).value ≡ length us
   all_coded_many [] [] h c s = refl
   all_coded_many [] (x ∷ xs) h c s = absurd h
   all_coded_many (u ∷ us) [] h c s = absurd h
   all_coded_many (u ∷ us) (x ∷ xs) h c s = ap (λ n. suc n) (all_coded_many us xs h.1 c (x c s).after)
 
   one_said_told : (u : Stated) (x : Says) → IsToldStmt u x → (c : Scope) (v : Visible) (s : State) → Sees t k c v →
-      Adds t k (u.uses v) s (one_said x c s).after × Sees t k (one_said x c s).scope (with_names u.names v)
+      Adds t k (u.uses v) s (one_said x c s).after × Sees t k (one_said x c s).value.1 (with_names u.names v)
   one_said_told u (binds n x) h c v s a =
       let y = x c s in (
         adds_same t k (h.1 v ++ used n.at (U.bound n.bytes) v ∷ []) (u.uses v) s (bind n c y.after).after (h.2 v)
             (adds_joined t k (h.1 v) (used n.at (U.bound n.bytes) v ∷ []) s y.after (bind n c y.after).after (h.3 c v s a) (bind_adds t k n c y.after v a.slots)),
-        subst (λ ns. Sees t k (bind n c y.after).scope (with_names ns v)) (sym h.0) (bind_sees t k n c y.after v a),
+        subst (λ ns. Sees t k (bind n c y.after).value (with_names ns v)) (sym h.0) (bind_sees t k n c y.after v a),
       )
   one_said_told u (returns x) h c v s a = (h.1 c v s a, subst (λ ns. Sees t k c (with_names ns v)) (sym h.0) a)
   one_said_told u (does x) h c v s a = (h.1 c v s a, subst (λ ns. Sees t k c (with_names ns v)) (sym h.0) a)
@@ -110,7 +112,7 @@ module _ (t : Tests) (k : Known) where
   all_said_told (u ∷ us) (x ∷ xs) h c v s a =
       let y = one_said x c s in
       let r = one_said_told u x h.0 c v s a in
-      adds_joined t k (u.uses v) (block us (with_names u.names v)) s y.after (all_said xs y.scope y.after).after r.0 (all_said_told us xs h.1 y.scope (with_names u.names v) y.after r.1)
+      adds_joined t k (u.uses v) (block us (with_names u.names v)) s y.after (all_said xs y.value.1 y.after).after r.0 (all_said_told us xs h.1 y.value.1 (with_names u.names v) y.after r.1)
 
   pub block_told : (us : List Stated) (xs : List Says) → Pairs IsToldStmt us xs → IsTold (block us) (block_of xs)
   block_told us xs h c v s a = all_said_told us xs h c v s a
@@ -180,8 +182,8 @@ module _ (t : Tests) (k : Known) where
   abbrev latest_faults : ℕ → Bool → Bool → List Fault
   latest_faults at f m = (one (not f) kind.UnknownFunction at ++ one (f && m) kind.TooManyArguments at) ++ []
 
-  counted_told : (at : ℕ) (xs : Codes) → Tells (one (nat_lt MOST_ARGUMENTS (length xs.codes)) kind.TooManyArguments at) xs.after.fault (counted at xs).fault
-  counted_told at xs = by (nat_lt MOST_ARGUMENTS (length xs.codes))
+  counted_told : (at : ℕ) (xs : Resolution (List Code)) → Tells (one (nat_lt MOST_ARGUMENTS (length xs.value)) kind.TooManyArguments at) xs.after.fault (counted at xs.value xs.after).fault
+  counted_told at xs = by (nat_lt MOST_ARGUMENTS (length xs.value))
     where
       by : (b : Bool) → Tells (one b kind.TooManyArguments at) xs.after.fault (cond b (note at kind.TooManyArguments xs.after) xs.after).fault
       by true = one_fault (record { at = at; kind = kind.TooManyArguments }) xs.after.fault
@@ -190,29 +192,29 @@ module _ (t : Tests) (k : Known) where
   no_more : (fs : List Fault) → fs ≡ (fs ++ []) ++ []
   no_more fs = sym (append-nil fs) ∙ sym (append-nil (fs ++ []))
 
-  constructor_told : (at p : ℕ) (xs : Codes) (b : Bool)
-      → Tells ((given (cond b None (inferred_refusal t k p)) at ++ []) ++ []) xs.after.fault (call t k at (cond b (D.Bare p) (D.Inferred p)) xs).after.fault
+  constructor_told : (at p : ℕ) (xs : Resolution (List Code)) (b : Bool)
+      → Tells ((given (cond b None (inferred_refusal t k p)) at ++ []) ++ []) xs.after.fault (call t k at (cond b (D.Bare p) (D.Inferred p)) xs.value xs.after).after.fault
   unfolding call
   constructor_told at p xs true = nothing xs.after.fault
   constructor_told at p xs false =
       let o = inferred_refusal t k p in
       same (given o at) ((given o at ++ []) ++ []) xs.after.fault (noted at o xs.after).fault (no_more (given o at)) (noted_told at o xs.after)
 
-  called_told : (at : ℕ) (p f : Option ℕ) (xs : Codes) →
-      Tells (called_faults at p (is_some p) (is_some f) (nat_lt MOST_ARGUMENTS (length xs.codes))) xs.after.fault (call t k at (called_from k.decls p f) xs).after.fault
+  called_told : (at : ℕ) (p f : Option ℕ) (xs : Resolution (List Code)) →
+      Tells (called_faults at p (is_some p) (is_some f) (nat_lt MOST_ARGUMENTS (length xs.value))) xs.after.fault (call t k at (called_from k.decls p f) xs.value xs.after).after.fault
   unfolding call
   called_told at (Some p) f xs = constructor_told at p xs (nat_eq (length (parameters_of (slice_get k.decls p))) 0)
-  called_told at None (Some f) xs = same (one (nat_lt MOST_ARGUMENTS (length xs.codes)) kind.TooManyArguments at) (one (nat_lt MOST_ARGUMENTS (length xs.codes)) kind.TooManyArguments at ++ []) xs.after.fault (counted at xs).fault (sym (append-nil (one (nat_lt MOST_ARGUMENTS (length xs.codes)) kind.TooManyArguments at))) (counted_told at xs)
+  called_told at None (Some f) xs = same (one (nat_lt MOST_ARGUMENTS (length xs.value)) kind.TooManyArguments at) (one (nat_lt MOST_ARGUMENTS (length xs.value)) kind.TooManyArguments at ++ []) xs.after.fault (counted at xs.value xs.after).fault (sym (append-nil (one (nat_lt MOST_ARGUMENTS (length xs.value)) kind.TooManyArguments at))) (counted_told at xs)
   called_told at None None xs = one_fault (record { at = at; kind = kind.UnknownFunction }) xs.after.fault
 
-  counted_sites : (at : ℕ) (xs : Codes) → (counted at xs).sites ≡ xs.after.sites
-  counted_sites at xs = by (nat_lt MOST_ARGUMENTS (length xs.codes))
+  counted_sites : (at : ℕ) (xs : Resolution (List Code)) → (counted at xs.value xs.after).sites ≡ xs.after.sites
+  counted_sites at xs = by (nat_lt MOST_ARGUMENTS (length xs.value))
     where
       by : (b : Bool) → (cond b (note at kind.TooManyArguments xs.after) xs.after).sites ≡ xs.after.sites
       by true = refl
       by false = refl
 
-  call_sites : (at : ℕ) (d : Called) (xs : Codes) → (call t k at d xs).after.sites ≡ xs.after.sites
+  call_sites : (at : ℕ) (d : Called) (xs : Resolution (List Code)) → (call t k at d xs.value xs.after).after.sites ≡ xs.after.sites
   unfolding call
   call_sites at (D.Function f) xs = counted_sites at xs
   call_sites at (D.Bare p) xs = refl
@@ -220,39 +222,39 @@ module _ (t : Tests) (k : Known) where
   call_sites at D.Unknown xs = refl
 
   pub call_told : (f : Callee) (us : List Uses) (xs : List Reads) → Pairs IsTold us xs →
-      IsTold (λ v. each us v ++ used (place_of_callee f) (U.called f (length us)) v ∷ []) (λ c s. call t k (place_of_callee f) (called k f c) (all_coded xs c s))
+      IsTold (λ v. each us v ++ used (place_of_callee f) (U.called f (length us)) v ∷ []) (λ c s. let ys = all_coded xs c s in call t k (place_of_callee f) (called k f c) ys.value ys.after)
   unfolding called
   call_told f us xs h c v s a =
       let ys = all_coded xs c s in
       let at = place_of_callee f in
       let d = called_from k.decls (struct_of k f c) (function_of k f c) in
       let own = used at (U.called f (length us)) v ∷ [] in
-      adds_joined t k (each us v) own s ys.after (call t k at d ys).after (all_coded_told us xs h c v s a)
-      (adds_alike t k own ys.after (call t k at d ys).after refl (call_sites at d ys)
-      (λ m. same _ _ ys.after.fault (call t k at d ys).after.fault
+      adds_joined t k (each us v) own s ys.after (call t k at d ys.value ys.after).after (all_coded_told us xs h c v s a)
+      (adds_alike t k own ys.after (call t k at d ys.value ys.after).after refl (call_sites at d ys)
+      (λ m. same _ _ ys.after.fault (call t k at d ys.value ys.after).after.fault
       (λ i. called_faults at (called_at k f c v.names a.slots i) (struct_is k f c v.names a.slots i) (function_is k f c v.names a.slots i) (nat_lt MOST_ARGUMENTS (all_coded_many us xs h c s i)))
       (called_told at (struct_of k f c) (function_of k f c) ys)))
 
-  latest_of : (at : ℕ) (f : Option ℕ) (xs : Codes) → Tells (latest_faults at (is_some f) (nat_lt MOST_ARGUMENTS (length xs.codes))) xs.after.fault (latest at f xs).after.fault
+  latest_of : (at : ℕ) (f : Option ℕ) (xs : Resolution (List Code)) → Tells (latest_faults at (is_some f) (nat_lt MOST_ARGUMENTS (length xs.value))) xs.after.fault (latest at f xs.value xs.after).after.fault
   unfolding latest
-  latest_of at (Some f) xs = same (one (nat_lt MOST_ARGUMENTS (length xs.codes)) kind.TooManyArguments at) (one (nat_lt MOST_ARGUMENTS (length xs.codes)) kind.TooManyArguments at ++ []) xs.after.fault (counted at xs).fault (sym (append-nil (one (nat_lt MOST_ARGUMENTS (length xs.codes)) kind.TooManyArguments at))) (counted_told at xs)
+  latest_of at (Some f) xs = same (one (nat_lt MOST_ARGUMENTS (length xs.value)) kind.TooManyArguments at) (one (nat_lt MOST_ARGUMENTS (length xs.value)) kind.TooManyArguments at ++ []) xs.after.fault (counted at xs.value xs.after).fault (sym (append-nil (one (nat_lt MOST_ARGUMENTS (length xs.value)) kind.TooManyArguments at))) (counted_told at xs)
   latest_of at None xs = one_fault (record { at = at; kind = kind.UnknownFunction }) xs.after.fault
 
-  latest_sites : (at : ℕ) (f : Option ℕ) (xs : Codes) → (latest at f xs).after.sites ≡ xs.after.sites
+  latest_sites : (at : ℕ) (f : Option ℕ) (xs : Resolution (List Code)) → (latest at f xs.value xs.after).after.sites ≡ xs.after.sites
   unfolding latest
   latest_sites at (Some f) xs = counted_sites at xs
   latest_sites at None xs = refl
 
   pub latest_told : (f : Callee) (us : List Uses) (xs : List Reads) → Pairs IsTold us xs →
-      IsTold (λ v. each us v ++ used (place_of_callee f) (U.latest f (length us)) v ∷ []) (λ c s. latest (place_of_callee f) (function_of k f c) (all_coded xs c s))
+      IsTold (λ v. each us v ++ used (place_of_callee f) (U.latest f (length us)) v ∷ []) (λ c s. let ys = all_coded xs c s in latest (place_of_callee f) (function_of k f c) ys.value ys.after)
   latest_told f us xs h c v s a =
       let ys = all_coded xs c s in
       let at = place_of_callee f in
       let o = function_of k f c in
       let own = used at (U.latest f (length us)) v ∷ [] in
-      adds_joined t k (each us v) own s ys.after (latest at o ys).after (all_coded_told us xs h c v s a)
-      (adds_alike t k own ys.after (latest at o ys).after refl (latest_sites at o ys)
-      (λ m. same _ _ ys.after.fault (latest at o ys).after.fault (λ i. latest_faults at (function_is k f c v.names a.slots i) (nat_lt MOST_ARGUMENTS (all_coded_many us xs h c s i))) (latest_of at o ys)))
+      adds_joined t k (each us v) own s ys.after (latest at o ys.value ys.after).after (all_coded_told us xs h c v s a)
+      (adds_alike t k own ys.after (latest at o ys.value ys.after).after refl (latest_sites at o ys)
+      (λ m. same _ _ ys.after.fault (latest at o ys.value ys.after).after.fault (λ i. latest_faults at (function_is k f c v.names a.slots i) (nat_lt MOST_ARGUMENTS (all_coded_many us xs h c s i))) (latest_of at o ys)))
 
   module _ (types_told : AreTold t k) where
     -- of a name before braces, by whether it is a struct
@@ -366,7 +368,7 @@ module _ (t : Tests) (k : Known) where
     pub record Opens (h : Head) (v : Visible) (types : ℕ) (s : State) : Type 0 where
       pub sites : (opened t k h types s).after.sites ≡ s.sites
       pub tells : (n : ℕ) → length s.sites ≡ n + PRELUDE_SITES → Tells (all_faults t k n (head_uses h v)) s.fault (opened t k h types s).after.fault
-      pub sees : Sees t k (opened t k h types s).opening.scope (in_body h v)
+      pub sees : Sees t k (opened t k h types s).value.scope (in_body h v)
 
     statics_are : (types : ℕ) (h : Head) (ts : List (List ℕ)) → signed t k types h ≡ signature_at t k h ts → static_parameters (signed t k types h).sig (signed t k types h).vars ≡ statics_of t k h ts
     unfolding statics_of
@@ -414,15 +416,15 @@ module _ (t : Tests) (k : Known) where
     method_told h u x told types v s e =
         let o = opened t k h types s in
         let r = opened_told h types v s e in
-        let z = reserved o.opening o.after in
-        let y = x o.opening.scope z in
-        let body = told o.opening.scope (in_body h v) z r.sees in
+        let z = reserved o.value o.after in
+        let y = x o.value.scope z in
+        let body = told o.value.scope (in_body h v) z r.sees in
         let hs = head_uses h v in
         let us = u (in_body h v) in
         let one_site = head_counts h v in
         let l = ap (λ xs. length xs) r.sites in
-        let more = length-append o.after.sites (site_of o.opening W.Nothing ∷ []) in
-        let kept = length-set y.after.sites (length o.after.sites) (site_of o.opening y.code) in
+        let more = length-append o.after.sites (site_of o.value W.Nothing ∷ []) in
+        let kept = length-set y.after.sites (length o.after.sites) (site_of o.value y.value) in
         let b = body.sites in
         let d = definitions_append hs us in
         record {

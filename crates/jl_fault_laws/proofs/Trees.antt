@@ -258,10 +258,10 @@ module _ (t : Tests) (k : Known) (types_told : AreTold t k) where
       let y = expr_reads t k d c s in
       let b = top_bind k x c y.after in
       let us = items_uses told xs n (x.bytes ∷ vs) in
-      let z = all_top t k xs b.scope b.after in
+      let z = all_top t k xs b.value b.after in
       adds_joined t k (expr_uses d v) (top_uses told x v ++ us) s y.after z.after (expr_told false d f c v s a)
       (adds_joined t k (top_uses told x v) us y.after b.after z.after (top_told x c v y.after a.slots)
-      (items_told xs fs b.scope n (x.bytes ∷ vs) b.after (bind_sees t k x c y.after v a) (bind_types x c y.after ∙ e)))
+      (items_told xs fs b.value n (x.bytes ∷ vs) b.after (bind_sees t k x c y.after v a) (bind_types x c y.after ∙ e)))
   items_told _ (G.more_items _ xs (G.do_item d f) fs) c n vs s a e =
       let y = expr_reads t k d c s in
       adds_joined t k (expr_uses d (at_top told n vs)) (items_uses told xs n vs) s y.after (all_top t k xs c y.after).after (expr_told false d f c (at_top told n vs) s a) (items_told xs fs c n vs y.after a e)

@@ -1,5 +1,5 @@
 -- The tests of a table: each is what the valid declarations decide.
-use Rattle.std.specs.Prelude.{ℕ, Bool, false, ◌&&◌, cond, nat_lt, List, length, Option, None, Some, slice_get}
+use Rattle.std.specs.Prelude.{ℕ, Bool, false, ◌&&◌, if◌then◌else◌, nat_lt, List, length, Option, None, Some, slice_get}
 use Rattle.std.specs.List.{flat_map, list_all}
 use Rattle.jl_model.specs.declared.ty.Ty.{Ty}
 use Rattle.jl_model.specs.declared.ty.Decl.{Decl}
@@ -30,11 +30,13 @@ is_well_named ds s = list_all (λ v. nat_lt v (length s.vars)) (flat_map vars_in
 -- the first refusal that these tell, in their order
 abbrev pub first_told : Bool → Bool → Bool → Bool → Bool → Bool → Bool → Option StaticKind
 first_told place unused many count limit crossed broken =
-    cond place (Some kind.VariablePlace)
-    (cond unused (Some kind.UnusedVariable)
-    (cond many (Some kind.TooManyParameters)
-    (cond count (Some kind.WrongParameterCount)
-    (cond limit (Some kind.TypeLimit) (cond crossed (Some kind.BoundsCrossed) (cond broken (Some kind.BoundBroken) None))))))
+    if place then Some kind.VariablePlace
+    else (if unused then Some kind.UnusedVariable
+    else (if many then Some kind.TooManyParameters
+    else (if count then Some kind.WrongParameterCount
+    else (if limit then Some kind.TypeLimit
+    else (if crossed then Some kind.BoundsCrossed
+    else (if broken then Some kind.BoundBroken else None))))))
 
 module _ (ds : List Decl) (valid : ∥ Declared ds ∥₁) where
   -- whether a fact holds that the valid declarations decide
@@ -54,7 +56,7 @@ module _ (ds : List Decl) (valid : ∥ Declared ds ∥₁) where
 
   -- what refuses a signature; of one with other names nothing is said
   unfoldable pub signature_test : Written → Option StaticKind
-  signature_test s = cond (is_well_named ds s) (signature_refusal s) None
+  signature_test s = if is_well_named ds s then signature_refusal s else None
 
   -- the first refusal of a type in a body
   unfoldable pub body_refusal : Written → Option StaticKind
@@ -65,11 +67,11 @@ module _ (ds : List Decl) (valid : ∥ Declared ds ∥₁) where
 
   -- what refuses a type in a body; of one with other names nothing is said
   unfoldable pub body_test : Written → Option StaticKind
-  body_test s = cond (names_declared ds s) (body_refusal s) None
+  body_test s = if names_declared ds s then body_refusal s else None
 
   -- whether the signature of the fields of a declared type is too large
   unfoldable pub wide_test : ℕ → Bool
-  wide_test p = cond (nat_lt p (length ds)) (holds (TypeLimit ds (fields_signature (slice_get ds p))) (λ d. limit_decided ds d (fields_signature (slice_get ds p)))) false
+  wide_test p = if nat_lt p (length ds) then holds (TypeLimit ds (fields_signature (slice_get ds p))) (λ d. limit_decided ds d (fields_signature (slice_get ds p))) else false
 
   -- all of them
   abbrev pub all_tests : Tests

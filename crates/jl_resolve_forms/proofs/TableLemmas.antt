@@ -1,8 +1,8 @@
 -- What the tables of names find, by the lists.
-use Rattle.std.proofs.Common.{◌≡◌, ◌∙◌, refl, sym, ap, ℕ, ◌+◌, Bool, true, false, cond, List, [], ◌∷◌, map, Option, Some, None, is_some, ◌||◌}
+use Rattle.std.proofs.Common.{◌≡◌, ◌∙◌, refl, ap, ℕ, ◌+◌, Bool, true, false, cond, List, [], ◌∷◌, Option, Some, None, is_some, ◌||◌}
 use Rattle.jl_program.specs.Names.{same_text, is_among}
 use Rattle.jl_grammar.specs.declared.tree.Name.{Name}
-use Rattle.jl_names.specs.Numbers.{Numbered, number_in, placed, marked, named_slots}
+use Rattle.jl_names.specs.Numbers.{number_in, placed, marked, named_slots}
 use Rattle.jl_resolve_forms.specs.Scopes.{slot_from, slot_of}
 use Rattle.jl_resolve_forms.specs.Expressions.{names_in}
 use Rattle.jl_resolve_forms.specs.Top.{first_at}

@@ -9,18 +9,18 @@ use Rattle.jl_model.specs.Valid.{params_of}
 use Rattle.jl_typeread.specs.declared.tree.ArgText.{ArgText}
 use Rattle.jl_typeread.specs.declared.tree.TypeText.{TypeText}
 use Rattle.jl_written.specs.declared.reading.Reading.{Reading}
-use Rattle.jl_written.specs.declared.reading.TypeVar.{TypeVar}
 use Rattle.jl_written.specs.Reads.{Typed, typed}
 use Rattle.jl_written.specs.Signatures.{body_type, constructor_type}
 use Rattle.jl_resolve_forms.specs.declared.known.Known.{Known}
 use Rattle.jl_resolve_forms.specs.declared.state.Scope.{Scope}
 use Rattle.jl_resolve_forms.specs.declared.state.State.{State}
-use Rattle.jl_resolve_forms.specs.TypesIn.{Tests, wrote, declared_at, begins, type_at, made_type, body_written, made_at}
+use Rattle.jl_resolve_forms.specs.Resolver.{resolution}
+use Rattle.jl_resolve_forms.specs.TypesIn.{Tests, declared_at, begins, type_at, made_type, body_written, made_at}
 
 pub body_steps :
     (t : Tests) (k : Known) (text : TypeText) (c : Scope) (s s1 : State) (ds : List Decl) (at : ℕ) (ty : Ty) (r : Reading) (w : Written)
-    → ds ≡ declared_at k c.types → at ≡ begins text → typed ty r ≡ body_type ds c.statics text → wrote w s1 ≡ type_at t at (typed ty r) s
-    → wrote w s1 ≡ body_written t k text c s
+    → ds ≡ declared_at k c.types → at ≡ begins text → typed ty r ≡ body_type ds c.statics text → resolution w s1 ≡ type_at t at (typed ty r) s
+    → resolution w s1 ≡ body_written t k text c s
 unfolding body_written
 body_steps t k text c s s1 ds at ty r w e1 e2 e3 e4 =
     e4
@@ -30,8 +30,8 @@ body_steps t k text c s s1 ds at ty r w e1 e2 e3 e4 =
 pub made_steps :
     (t : Tests) (k : Known) (at p : ℕ) (xs : List ArgText) (c : Scope) (s s1 : State) (ds : List Decl) (bs : List Bound) (ty : Ty) (r : Reading) (counted : Bool) (w : Written)
     → ds ≡ declared_at k c.types → bs ≡ params_of (slice_get k.decls p) → counted ≡ nat_eq (length xs) (length bs)
-    → typed ty r ≡ constructor_type ds p bs c.statics xs → wrote w s1 ≡ made_type t at (typed ty r) counted s
-    → wrote w s1 ≡ made_at t k at p xs c s
+    → typed ty r ≡ constructor_type ds p bs c.statics xs → resolution w s1 ≡ made_type t at (typed ty r) counted s
+    → resolution w s1 ≡ made_at t k at p xs c s
 unfolding made_at
 made_steps t k at p xs c s s1 ds bs ty r counted w e1 e2 e3 e4 e5 =
     let read = e4 ∙ ap (λ (z : List Decl). constructor_type z p bs c.statics xs) e1 in

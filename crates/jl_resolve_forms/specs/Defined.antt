@@ -1,5 +1,5 @@
 -- The functions and types of a script: their names where they stand, in text order.
-use Rattle.std.specs.Prelude.{ℕ, cond, List, [], ◌∷◌, ◌++◌}
+use Rattle.std.specs.Prelude.{ℕ, if◌then◌else◌, List, [], ◌∷◌, ◌++◌}
 use Rattle.std.specs.List.{flat_map}
 use Rattle.jl_program.specs.Names.{is_among}
 use Rattle.jl_program.specs.Prelude.{prelude_functions}
@@ -123,7 +123,7 @@ types_of items = flat_map type_name items
 -- names, and then each further one that is not among those before it
 abbrev pub with_names : List (List ℕ) → List Name → List (List ℕ)
 with_names known [] = known
-with_names known (n ∷ ns) = with_names (cond (is_among n.bytes known) known (known ++ n.bytes ∷ [])) ns
+with_names known (n ∷ ns) = with_names (if is_among n.bytes known then known else (known ++ n.bytes ∷ [])) ns
 
 -- the functions: the prelude's, then those of the script in the order of their first definition
 abbrev pub functions_of : List Name → List (List ℕ)

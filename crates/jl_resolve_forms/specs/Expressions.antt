@@ -1,7 +1,7 @@
 -- What an expression, a statement, a method and an evaluated block become, and what they add (Julia manual, Functions, Control
 -- Flow, Metaprogramming, Tasks). A part is read where some slots, static parameters and types are visible; sites and spawn
 -- places have their numbers in text order, each before those in its body.
-use Rattle.std.specs.Prelude.{ℕ, true, false, cond, nat_lt, nat_le, List, [], ◌∷◌, ◌++◌, ◌+◌, map, length, Option, Some, None, slice_get, slice_set, ℤ, pos, negsuc}
+use Rattle.std.specs.Prelude.{ℕ, true, false, if◌then◌else◌, nat_lt, nat_le, List, [], ◌∷◌, ◌++◌, ◌+◌, map, length, Option, Some, None, slice_get, slice_set, ℤ, pos, negsuc}
 use Rattle.jl_model.specs.declared.limits.TheConstants.{MOST_ARGUMENTS, MOST_SITES}
 use Rattle.jl_program.specs.declared.prelude.TheConstants.{PLUS, MINUS, TIMES, DIV, REM, EQUAL, NOT_EQUAL, LESS, LESS_EQUAL, GREATER, GREATER_EQUAL, NOT, PRELUDE_SITES}
 use Rattle.jl_model.specs.declared.ty.Written.{Written}
@@ -56,72 +56,21 @@ use Rattle.jl_resolve_forms.specs.declared.state.Scope.{Scope}
 use Rattle.jl_resolve_forms.specs.declared.state.SignatureRead.{SignatureRead}
 use Rattle.jl_resolve_forms.specs.declared.state.Signed.{Signed}
 use Rattle.jl_resolve_forms.specs.declared.state.State.{State}
-use Rattle.jl_resolve_forms.specs.Scopes.{Seen, seen, slot_of, note, noted, merged, with_slot, bind}
+use Rattle.jl_resolve_forms.specs.Resolver.{Resolver, resolution, pure, modify, traverse, ◌>>=◌, ◌>>◌}
+use Rattle.jl_resolve_forms.specs.Scopes.{slot_of, note, noted, merged, with_slot, bind}
 use Rattle.jl_resolve_forms.specs.Functions.{place_of_callee, function_of, struct_named, called}
 use Rattle.jl_resolve_forms.specs.Parameters.{finds_parameters}
 use Rattle.jl_resolve_forms.specs.TypesIn.{Tests, declared_at, refusal, begins, one_type, body_written, made_at}
-
--- ---- what a part becomes
-
-pub record Coded : Type 0 where
-  pub code : Code
-  pub after : State
-
-abbrev pub coded : Code → State → Coded
-coded x s = record { code = x; after = s }
-
-pub record Codes : Type 0 where
-  pub codes : List Code
-  pub after : State
-
-abbrev pub codes : List Code → State → Codes
-codes xs s = record { codes = xs; after = s }
-
-pub record Block : Type 0 where
-  pub stmts : List Stmt
-  pub scope : Scope
-  pub after : State
-
-pub record Items : Type 0 where
-  pub items : List Item
-  pub after : State
-
-abbrev pub items : List Item → State → Items
-items xs s = record { items = xs; after = s }
-
-pub record Pieces : Type 0 where
-  pub pieces : List Piece
-  pub after : State
-
-abbrev pub pieces : List Piece → State → Pieces
-pieces xs s = record { pieces = xs; after = s }
-
--- a definition, by the number of its site
-pub record Defined : Type 0 where
-  pub site : ℕ
-  pub after : State
-
-abbrev pub defined : ℕ → State → Defined
-defined n s = record { site = n; after = s }
-
--- a test with its block
-pub record Tried : Type 0 where
-  pub arm : Arm
-  pub after : State
-
-pub record Arms : Type 0 where
-  pub arms : List Arm
-  pub after : State
 
 -- ---- the parts of a form by what they mean
 
 -- an expression
 abbrev pub Reads : Type 0
-Reads = Scope → State → Coded
+Reads = Scope → Resolver Code
 
--- a method, where so many types are declared before it
+-- a method, where so many types are declared before it: the number of its site
 abbrev pub Defines : Type 0
-Defines = ℕ → State → Defined
+Defines = ℕ → Resolver ℕ
 
 -- a statement
 pub data Says : Type 0 where
@@ -147,105 +96,77 @@ pub record Tries : Type 0 where
 -- ---- lists of parts
 
 -- expressions from left to right
-abbrev pub all_coded : List Reads → Scope → State → Codes
-all_coded [] c s = codes [] s
-all_coded (x ∷ xs) c s =
-    let y = x c s in
-    let ys = all_coded xs c y.after in
-    codes (y.code ∷ ys.codes) ys.after
-
--- a statement, and what is visible behind it
-pub record Said : Type 0 where
-  pub stmt : Stmt
-  pub scope : Scope
-  pub after : State
-
-abbrev pub said : Stmt → Seen → Said
-said x b = record { stmt = x; scope = b.scope; after = b.after }
-
-abbrev pub stated : Stmt → Scope → State → Said
-stated x c s = record { stmt = x; scope = c; after = s }
+abbrev pub all_coded : List Reads → Scope → Resolver (List Code)
+all_coded xs c = traverse (λ x. x c) xs
 
 -- a binding takes the next slot
-abbrev pub one_said : Says → Scope → State → Said
-one_said (binds n x) c s = let y = x c s in said (S.Bind (length c.slots) y.code) (bind n c y.after)
-one_said (returns x) c s = let y = x c s in said (S.Return y.code) (seen c y.after)
-one_said (does x) c s = let y = x c s in said (S.Do y.code) (seen c y.after)
+abbrev pub bound : Name → Scope → Code → Resolver (Stmt × Scope)
+bound n c y = do
+  d ← bind n c
+  pure (S.Bind (length c.slots) y, d)
 
-abbrev pub block : List Stmt → Scope → State → Block
-block xs c s = record { stmts = xs; scope = c; after = s }
+-- a statement, and what is visible after it
+abbrev pub one_said : Says → Scope → Resolver (Stmt × Scope)
+one_said (binds n x) c = do
+  y ← x c
+  bound n c y
+one_said (returns x) c = do
+  y ← x c
+  pure (S.Return y, c)
+one_said (does x) c = do
+  y ← x c
+  pure (S.Do y, c)
 
 -- statements one after another, where each sees the bindings before it
-abbrev pub all_said : List Says → Scope → State → Block
-all_said [] c s = block [] c s
-all_said (x ∷ xs) c s =
-    let y = one_said x c s in
-    let ys = all_said xs y.scope y.after in
-    block (y.stmt ∷ ys.stmts) ys.scope ys.after
+abbrev pub all_said : List Says → Scope → Resolver (List Stmt × Scope)
+all_said [] c = pure ([], c)
+all_said (x ∷ xs) c = do
+  (y, d) ← one_said x c
+  (ys, e) ← all_said xs d
+  pure (y ∷ ys, e)
 
 -- a block, whose bindings end with it
 abbrev pub block_of : List Says → Reads
-block_of xs c s = let b = all_said xs c s in coded (X.Block b.stmts) b.after
+block_of xs c = do
+  (ys, _) ← all_said xs c
+  pure (X.Block ys)
 
-pub record Shown : Type 0 where
-  pub piece : Piece
-  pub after : State
+abbrev pub one_shown : Shows → Scope → Resolver Piece
+one_shown (writes bytes) c = pure (P.Text bytes)
+one_shown (shows x) c = do
+  y ← x c
+  pure (P.Show y)
 
-abbrev pub shown : Piece → State → Shown
-shown p s = record { piece = p; after = s }
-
-abbrev pub one_shown : Shows → Scope → State → Shown
-one_shown (writes bytes) c s = shown (P.Text bytes) s
-one_shown (shows x) c s = let y = x c s in shown (P.Show y.code) y.after
-
-abbrev pub all_shown : List Shows → Scope → State → Pieces
-all_shown [] c s = pieces [] s
-all_shown (x ∷ xs) c s =
-    let y = one_shown x c s in
-    let ys = all_shown xs c y.after in
-    pieces (y.piece ∷ ys.pieces) ys.after
+abbrev pub all_shown : List Shows → Scope → Resolver (List Piece)
+all_shown xs c = traverse (λ x. one_shown x c) xs
 
 -- an evaluated statement sees neither slots nor static parameters
 abbrev pub bare_scope : ℕ → Scope
 bare_scope types = record { slots = []; statics = []; types = types }
 
-pub record Listed : Type 0 where
-  pub item : Item
-  pub after : State
+abbrev pub one_evaluated : Evaluates → ℕ → Resolver Item
+one_evaluated (defines m) types = do
+  n ← m types
+  pure (I.Define n)
+one_evaluated (evaluates x) types = do
+  y ← x (bare_scope types)
+  pure (I.Do y)
 
-abbrev pub listed : Item → State → Listed
-listed i s = record { item = i; after = s }
+abbrev pub all_evaluated : List Evaluates → ℕ → Resolver (List Item)
+all_evaluated xs types = traverse (λ x. one_evaluated x types) xs
 
-abbrev pub one_evaluated : Evaluates → ℕ → State → Listed
-one_evaluated (defines m) types s = let y = m types s in listed (I.Define y.site) y.after
-one_evaluated (evaluates x) types s = let y = x (bare_scope types) s in listed (I.Do y.code) y.after
+-- a test of an `if` with its block
+abbrev pub arm : Code → Code → Arm
+arm x y = record { test = x; then = y }
 
-abbrev pub all_evaluated : List Evaluates → ℕ → State → Items
-all_evaluated [] types s = items [] s
-all_evaluated (x ∷ xs) types s =
-    let y = one_evaluated x types s in
-    let ys = all_evaluated xs types y.after in
-    items (y.item ∷ ys.items) ys.after
+abbrev pub one_tried : Tries → Scope → Resolver Arm
+one_tried b c = do
+  x ← b.test c
+  y ← block_of b.block c
+  pure (arm x y)
 
--- the tests of an `if` with their blocks
-abbrev pub tried : Arm → State → Tried
-tried a s = record { arm = a; after = s }
-
-abbrev pub one_tried : Tries → Scope → State → Tried
-one_tried b c s =
-    let y = b.test c s in
-    let z = block_of b.block c y.after in
-    tried (record { test = y.code; then = z.code }) z.after
-
-abbrev pub arms : List Arm → State → Arms
-arms xs s = record { arms = xs; after = s }
-
-abbrev pub all_tried : List Tries → Scope → State → Arms
-all_tried [] c s = arms [] s
-all_tried (b ∷ bs) c s =
-    let y = one_tried b c s in
-    let ys = all_tried bs c y.after in
-    arms (y.arm ∷ ys.arms) ys.after
+abbrev pub all_tried : List Tries → Scope → Resolver (List Arm)
+all_tried bs c = traverse (λ b. one_tried b c) bs
 
 -- an `elseif` is an `if` in the branch where it stands
 abbrev pub chained : List Arm → Code → Code
@@ -254,13 +175,17 @@ chained (a ∷ as_) e = X.If a.test a.then (chained as_ e)
 
 -- ---- forms
 
-abbrev pub evaluated : Items → Coded
-evaluated xs = coded (X.Eval xs.items) xs.after
+abbrev pub evaluated : List Evaluates → Reads
+evaluated xs c = do
+  ys ← all_evaluated xs c.types
+  pure (X.Eval ys)
 
 -- a name that is used as a value
-unfoldable pub local : ℕ → Option ℕ → State → Coded
-local at None s = coded W.Nothing (note at kind.UnknownName s)
-local at (Some slot) s = coded (W.Local slot) s
+unfoldable pub local : ℕ → Option ℕ → Resolver Code
+local at None = do
+  modify (note at kind.UnknownName)
+  pure W.Nothing
+local at (Some slot) = pure (W.Local slot)
 
 unfoldable pub prefix_code : Prefix → Code → Code
 prefix_code R.Minus x = X.Call MINUS (x ∷ [])
@@ -284,28 +209,37 @@ infix_code N.Divide x y = X.Call DIV (x ∷ y ∷ [])
 infix_code N.Remainder x y = X.Call REM (x ∷ y ∷ [])
 
 -- a counted call has at most 8 arguments
-abbrev pub counted : ℕ → Codes → State
-counted at xs = cond (nat_lt MOST_ARGUMENTS (length xs.codes)) (note at kind.TooManyArguments xs.after) xs.after
+abbrev pub counted : ℕ → List Code → State → State
+counted at xs s = if nat_lt MOST_ARGUMENTS (length xs) then note at kind.TooManyArguments s else s
 
 -- the call of `invokelatest`
-unfoldable pub latest : ℕ → Option ℕ → Codes → Coded
-latest at (Some f) xs = coded (X.Latest f xs.codes) (counted at xs)
-latest at None xs = coded W.Nothing (note at kind.UnknownFunction xs.after)
+unfoldable pub latest : ℕ → Option ℕ → List Code → Resolver Code
+latest at (Some f) xs = do
+  modify (counted at xs)
+  pure (X.Latest f xs)
+latest at None xs = do
+  modify (note at kind.UnknownFunction)
+  pure W.Nothing
+
+-- the next spawn place: its number, and the state in which its expression is read
+abbrev pub awaited : Resolver ℕ
+awaited s = resolution (length s.spawns) (record s { spawns = s.spawns ++ W.Nothing ∷ [] })
+
+-- the expression of a spawn place
+abbrev pub spawned_at : ℕ → Code → Resolver Code
+spawned_at n y s = resolution (W.Spawn n) (record s { spawns = slice_set s.spawns n y })
 
 -- the spawn place of a task has its number before those in its expression
 unfoldable pub spawned : Reads → Reads
-spawned x c s =
-    let y = x c (record s { spawns = s.spawns ++ W.Nothing ∷ [] }) in
-    coded (W.Spawn (length s.spawns)) (record y.after { spawns = slice_set y.after.spawns (length s.spawns) y.code })
+spawned x c = do
+  n ← awaited
+  y ← x c
+  spawned_at n y
 
 -- the number of a part, which is at least 1
 unfoldable pub part_number : ℤ → ℕ
 part_number (pos n) = n
 part_number (negsuc n) = 0
-
--- what stands behind `else`
-abbrev pub or_else : List Arm → Coded → Coded
-or_else as_ x = coded (chained as_ x.code) x.after
 
 -- the struct of an explicit constructor, and the arguments in its braces
 abbrev pub made_struct : Known → TypeText-F ArgText TypeText VarText → Scope → Option ℕ
@@ -326,11 +260,15 @@ type_of (A.Typed n t) = Some t
 type_of (A.Unnamed at t) = Some t
 
 -- parameters have the slots from 0 on; an unnamed one binds nothing
-abbrev pub parameters : List Param → Scope → State → Seen
-parameters [] c s = seen c s
-parameters (A.Name n ∷ ps) c s = let b = bind n c s in parameters ps b.scope b.after
-parameters (A.Typed n t ∷ ps) c s = let b = bind n c s in parameters ps b.scope b.after
-parameters (A.Unnamed at t ∷ ps) c s = parameters ps (with_slot None c) s
+abbrev pub parameters : List Param → Scope → Resolver Scope
+parameters [] c = pure c
+parameters (A.Name n ∷ ps) c = do
+  d ← bind n c
+  parameters ps d
+parameters (A.Typed n t ∷ ps) c = do
+  d ← bind n c
+  parameters ps d
+parameters (A.Unnamed at t ∷ ps) c = parameters ps (with_slot None c)
 
 -- a static parameter, with whether it is usable in the body (Julia manual, Methods)
 abbrev pub static_parameter : Written → TypeVar → TypeVar
@@ -344,7 +282,7 @@ names_in ns = map (λ (n : Name). n.bytes) ns
 
 -- a function has no built-in name, unless `Base.` stands before it, and not that of a type of the script
 abbrev pub may_define : Known → Callee → Option StaticKind
-may_define k (C.Plain n) = cond (is_among n.bytes builtin_names) (Some kind.NameClash) (cond (is_among n.bytes (names_in k.types)) (Some kind.NameClash) None)
+may_define k (C.Plain n) = if is_among n.bytes builtin_names then Some kind.NameClash else (if is_among n.bytes (names_in k.types) then Some kind.NameClash else None)
 may_define k (C.Base at n) = None
 may_define k (C.Operator at o) = None
 
@@ -362,29 +300,25 @@ abbrev pub site_limit : ℕ
 site_limit = MOST_SITES + PRELUDE_SITES
 
 abbrev pub too_many : State → Option StaticKind
-too_many s = cond (nat_le site_limit (length s.sites)) (Some kind.TooManySites) None
+too_many s = if nat_le site_limit (length s.sites) then Some kind.TooManySites else None
 
 abbrev pub signature_as : SignatureRead → Signature
 signature_as r = record { vars = r.vars; types = record { tys = r.types; after = r.reading } }
 
--- a method up to its body, and what is known behind that
-pub record Opened : Type 0 where
-  pub opening : Opening
-  pub after : State
-
-abbrev pub opened_as : Opening → State → Opened
-opened_as o s = record { opening = o; after = s }
-
 abbrev pub site_of : Opening → Code → Site
 site_of o x = record { function = o.function; sig = o.sig; body = x }
 
--- the next site, whose body is read behind this
+-- the next site, whose body is read after this
 unfoldable pub reserved : Opening → State → State
 reserved o s = record s { sites = s.sites ++ site_of o W.Nothing ∷ [] }
 
+-- its number
+abbrev pub next_site : Opening → Resolver ℕ
+next_site o s = resolution (length s.sites) (reserved o s)
+
 -- the body of a site
-unfoldable pub closed : ℕ → Opening → Coded → State
-closed n o x = record x.after { sites = slice_set x.after.sites n (site_of o x.code) }
+unfoldable pub closed : ℕ → Opening → Code → State → State
+closed n o x s = record s { sites = slice_set s.sites n (site_of o x) }
 
 -- the signature of a method
 abbrev pub signed_as : Tests → Signature → Signed
@@ -393,10 +327,13 @@ signed_as t sg =
     record { vars = sg.vars; sig = w; fault = sg.types.after.fault; refusal = refusal t.signature sg.types.after w }
 
 -- what a body sees: the slots of its parameters, and the static parameters
-abbrev pub opened_with : ℕ → ℕ → Signed → List Param → State → Opened
-opened_with f types g ps s =
-    let b = parameters ps (record { slots = []; statics = static_parameters g.sig g.vars; types = types }) s in
-    opened_as (record { function = f; sig = g.sig; scope = b.scope }) b.after
+abbrev pub opening : ℕ → Signed → Scope → Opening
+opening f g c = record { function = f; sig = g.sig; scope = c }
+
+abbrev pub opened_with : ℕ → ℕ → Signed → List Param → Resolver Opening
+opened_with f types g ps = do
+  c ← parameters ps (record { slots = []; statics = static_parameters g.sig g.vars; types = types })
+  pure (opening f g c)
 
 -- the faults at the name of a method: its function, its signature, and its number
 abbrev pub named : Known → ℕ → Callee → Option ℕ → Signed → State → State
@@ -408,95 +345,133 @@ named k at callee f g s =
 module _ (t : Tests) (k : Known) where
   -- a call of a function or a constructor
   abbrev pub inferred_refusal : ℕ → Option StaticKind
-  inferred_refusal p = cond (finds_parameters (slice_get k.decls p)) (cond (t.wide p) (Some kind.TypeLimit) None) (Some kind.StaticParameterUse)
+  inferred_refusal p = if finds_parameters (slice_get k.decls p) then (if t.wide p then Some kind.TypeLimit else None) else Some kind.StaticParameterUse
 
-  unfoldable pub call : ℕ → Called → Codes → Coded
-  call at (D.Function f) xs = coded (X.Call f xs.codes) (counted at xs)
-  call at (D.Bare p) xs = coded (X.Make (one_type (nominal p) []) xs.codes) xs.after
-  call at (D.Inferred p) xs = coded (X.Infer p xs.codes) (noted at (inferred_refusal p) xs.after)
-  call at D.Unknown xs = coded W.Nothing (note at kind.UnknownFunction xs.after)
+  unfoldable pub call : ℕ → Called → List Code → Resolver Code
+  call at (D.Function f) xs = do
+    modify (counted at xs)
+    pure (X.Call f xs)
+  call at (D.Bare p) xs = pure (X.Make (one_type (nominal p) []) xs)
+  call at (D.Inferred p) xs = do
+    modify (noted at (inferred_refusal p))
+    pure (X.Infer p xs)
+  call at D.Unknown xs = do
+    modify (note at kind.UnknownFunction)
+    pure W.Nothing
 
   -- an explicit constructor: its struct is one of the script
   unfoldable pub made : ℕ → Option ℕ → List ArgText → List Reads → Reads
-  made at None args xs c s = coded W.Nothing (note at kind.UnknownFunction (all_coded xs c s).after)
-  made at (Some p) args xs c s =
-      let w = made_at t k at p args c s in
-      let ys = all_coded xs c w.after in
-      coded (X.Make w.written ys.codes) ys.after
+  made at None args xs c = do
+    _ ← all_coded xs c
+    modify (note at kind.UnknownFunction)
+    pure W.Nothing
+  made at (Some p) args xs c = do
+    w ← made_at t k at p args c
+    ys ← all_coded xs c
+    pure (X.Make w ys)
 
   abbrev pub is_a : Reads → TypeText → Reads
-  is_a x ty c s =
-      let y = x c s in
-      let w = body_written t k ty c y.after in
-      coded (X.Isa y.code w.written) w.after
+  is_a x ty c = do
+    y ← x c
+    w ← body_written t k ty c
+    pure (X.Isa y w)
 
   abbrev pub is_below : TypeText → TypeText → Reads
-  is_below a b c s =
-      let v = body_written t k a c s in
-      let w = body_written t k b c v.after in
-      coded (W.Sub v.written w.written) w.after
+  is_below a b c = do
+    v ← body_written t k a c
+    w ← body_written t k b c
+    pure (W.Sub v w)
 
   abbrev pub signed : ℕ → Head → Signed
   signed types h = signed_as t (signature (declared_at k types) (map type_of h.params) h.vars)
 
-  unfoldable pub opened : Head → ℕ → State → Opened
-  opened h types s =
-      let f = function_of k h.callee (bare_scope types) in
-      let g = signed types h in
-      opened_with (defined_function f) types g h.params (named k (place_of_callee h.callee) h.callee f g s)
+  -- a method up to its body
+  unfoldable pub opened : Head → ℕ → Resolver Opening
+  opened h types = do
+    let f = function_of k h.callee (bare_scope types)
+    let g = signed types h
+    modify (named k (place_of_callee h.callee) h.callee f g)
+    opened_with (defined_function f) types g h.params
+
+  -- a method up to its body, with the number of its site
+  abbrev pub started : Head → ℕ → Resolver (ℕ × Opening)
+  started h types = do
+    o ← opened h types
+    n ← next_site o
+    pure (n, o)
 
   -- the site of a method has its number before those in its body
   abbrev pub method : Head → Reads → Defines
-  method h body types s =
-      let o = opened h types s in
-      let y = body o.opening.scope (reserved o.opening o.after) in
-      defined (length o.after.sites) (closed (length o.after.sites) o.opening y)
+  method h body types = do
+    (n, o) ← started h types
+    y ← body o.scope
+    modify (closed n o y)
+    pure n
 
   abbrev pub expr_step : Expr-F Evaluates Reads Defines Shows Says Tries → Reads
-  expr_step (F.Number at n) c s = coded (W.Int n) s
-  expr_step (F.Bool at b) c s = coded (W.Bool b) s
-  expr_step (F.Nothing at) c s = coded W.Nothing s
-  expr_step (F.Name at n) c s = local at (slot_of c.slots n) s
-  expr_step (F.Paren at x) c s = x c s
-  expr_step (F.Tuple at xs) c s = let ys = all_coded xs c s in coded (X.Parts ys.codes) ys.after
-  expr_step (F.Call at f xs) c s = call (place_of_callee f) (called k f c) (all_coded xs c s)
-  expr_step (F.Make at ty xs) c s = made (begins ty) (made_struct k (out-TypeText ty) c) (made_args (out-TypeText ty)) xs c s
-  expr_step (F.Field at x n) c s = let y = x c s in coded (X.Field y.code n.bytes) y.after
-  expr_step (F.Part at x n) c s = let y = x c s in coded (X.Part y.code (part_number n)) y.after
-  expr_step (F.Prefix at o x) c s = let y = x c s in coded (prefix_code o y.code) y.after
-  expr_step (F.Infix at o a b) c s =
-      let x = a c s in
-      let y = b c x.after in
-      coded (infix_code o x.code y.code) y.after
-  expr_step (F.Isa at x ty) c s = is_a x ty c s
-  expr_step (F.Sub at a b) c s = is_below a b c s
-  expr_step (F.Choose at q a b) c s =
-      let z = q c s in
-      let x = a c z.after in
-      let y = b c x.after in
-      coded (X.If z.code x.code y.code) y.after
-  expr_step (F.If at bs) c s = let ys = all_tried bs c s in coded (chained ys.arms W.Nothing) ys.after
-  expr_step (F.IfElse at bs ss) c s =
-      let ys = all_tried bs c s in
-      or_else ys.arms (block_of ss c ys.after)
-  expr_step (F.Begin at ss) c s = block_of ss c s
-  expr_step (F.Latest at f xs) c s = latest (place_of_callee f) (function_of k f c) (all_coded xs c s)
-  expr_step (F.Spawn at x) c s = spawned x c s
-  expr_step (F.EvalMethod at m) c s = evaluated (all_evaluated (defines m ∷ []) c.types s)
-  expr_step (F.EvalBlock at xs) c s = evaluated (all_evaluated xs c.types s)
-  expr_step (F.EvalExpr at x) c s = evaluated (all_evaluated (evaluates x ∷ []) c.types s)
-  expr_step (F.EvalQuote at xs) c s = evaluated (all_evaluated xs c.types s)
-  expr_step (F.Fetch at x) c s = let y = x c s in coded (X.Fetch y.code) y.after
-  expr_step (F.Print at line ps) c s = let ys = all_shown ps c s in coded (X.Print ys.pieces line) ys.after
+  expr_step (F.Number at n) c = pure (W.Int n)
+  expr_step (F.Bool at b) c = pure (W.Bool b)
+  expr_step (F.Nothing at) c = pure W.Nothing
+  expr_step (F.Name at n) c = local at (slot_of c.slots n)
+  expr_step (F.Paren at x) c = x c
+  expr_step (F.Tuple at xs) c = do
+    ys ← all_coded xs c
+    pure (X.Parts ys)
+  expr_step (F.Call at f xs) c = do
+    ys ← all_coded xs c
+    call (place_of_callee f) (called k f c) ys
+  expr_step (F.Make at ty xs) c = made (begins ty) (made_struct k (out-TypeText ty) c) (made_args (out-TypeText ty)) xs c
+  expr_step (F.Field at x n) c = do
+    y ← x c
+    pure (X.Field y n.bytes)
+  expr_step (F.Part at x n) c = do
+    y ← x c
+    pure (X.Part y (part_number n))
+  expr_step (F.Prefix at o x) c = do
+    y ← x c
+    pure (prefix_code o y)
+  expr_step (F.Infix at o a b) c = do
+    x ← a c
+    y ← b c
+    pure (infix_code o x y)
+  expr_step (F.Isa at x ty) c = is_a x ty c
+  expr_step (F.Sub at a b) c = is_below a b c
+  expr_step (F.Choose at q a b) c = do
+    z ← q c
+    x ← a c
+    y ← b c
+    pure (X.If z x y)
+  expr_step (F.If at bs) c = do
+    ys ← all_tried bs c
+    pure (chained ys W.Nothing)
+  expr_step (F.IfElse at bs ss) c = do
+    ys ← all_tried bs c
+    z ← block_of ss c
+    pure (chained ys z)
+  expr_step (F.Begin at ss) c = block_of ss c
+  expr_step (F.Latest at f xs) c = do
+    ys ← all_coded xs c
+    latest (place_of_callee f) (function_of k f c) ys
+  expr_step (F.Spawn at x) c = spawned x c
+  expr_step (F.EvalMethod at m) c = evaluated (defines m ∷ []) c
+  expr_step (F.EvalBlock at xs) c = evaluated xs c
+  expr_step (F.EvalExpr at x) c = evaluated (evaluates x ∷ []) c
+  expr_step (F.EvalQuote at xs) c = evaluated xs c
+  expr_step (F.Fetch at x) c = do
+    y ← x c
+    pure (X.Fetch y)
+  expr_step (F.Print at line ps) c = do
+    ys ← all_shown ps c
+    pure (X.Print ys line)
 
   abbrev pub method_step : Method-F Evaluates Reads Defines Shows Says Tries → Defines
-  method_step (F.Long at h ss) types s = method h (block_of ss) types s
-  method_step (F.Short at h x) types s = method h x types s
+  method_step (F.Long at h ss) types = method h (block_of ss) types
+  method_step (F.Short at h x) types = method h x types
 
   abbrev pub stmt_step : Stmt-F Evaluates Reads Defines Shows Says Tries → Says
   stmt_step (F.Bind n x) = binds n x
   stmt_step (F.Return at x) = returns x
-  stmt_step (F.ReturnNothing at) = returns (λ c s. coded W.Nothing s)
+  stmt_step (F.ReturnNothing at) = returns (λ c. pure W.Nothing)
   stmt_step (F.Stmt::Do x) = does x
 
   abbrev pub eval_step : Eval-F Evaluates Reads Defines Shows Says Tries → Evaluates

@@ -1,5 +1,5 @@
 -- What a called name is (Julia manual, Functions; Constructors).
-use Rattle.std.specs.Prelude.{ℕ, ◌&&◌, cond, nat_le, nat_eq, List, map, length, Option, Some, None, slice_get}
+use Rattle.std.specs.Prelude.{ℕ, ◌&&◌, if◌then◌else◌, nat_le, nat_eq, List, map, length, Option, Some, None, slice_get}
 use Rattle.jl_model.specs.declared.builtin.TheConstants.{BUILTIN_TYPES}
 use Rattle.jl_program.specs.declared.prelude.TheConstants.{PLUS, MINUS, TIMES, DIV, REM, EQUAL, NOT_EQUAL, LESS, LESS_EQUAL, GREATER, GREATER_EQUAL, NOT}
 use Rattle.jl_model.specs.declared.ty.Decl.{Decl}
@@ -53,7 +53,7 @@ function_of k (C.Operator at o) c = function_of_operator o
 -- the declared struct of a name: a built-in type has no constructor
 abbrev pub if_struct : List Decl → Option ℕ → Option ℕ
 if_struct ds None = None
-if_struct ds (Some p) = cond (nat_le BUILTIN_TYPES p && is_struct_kind (slice_get ds p)) (Some p) None
+if_struct ds (Some p) = if nat_le BUILTIN_TYPES p && is_struct_kind (slice_get ds p) then Some p else None
 
 unfoldable pub struct_named : Known → List ℕ → Scope → Option ℕ
 struct_named k name c = unless_slot (slot_of c.slots name) (if_struct k.decls (place_of (map (λ (d : Decl). d.name) k.decls) name))
@@ -65,7 +65,7 @@ struct_of k (C.Operator at o) c = None
 
 -- a constructor is explicit where the struct has no parameters, and inferred otherwise
 abbrev pub constructor : List Decl → ℕ → Called
-constructor ds p = cond (nat_eq (length (params_of (slice_get ds p))) 0) (D.Bare p) (D.Inferred p)
+constructor ds p = if nat_eq (length (params_of (slice_get ds p))) 0 then D.Bare p else D.Inferred p
 
 abbrev pub called_from : List Decl → Option ℕ → Option ℕ → Called
 called_from ds (Some p) f = constructor ds p

@@ -1,3 +1,4 @@
+pub mod Resolver
 pub mod Scopes
 pub mod Functions
 pub mod Parameters

@@ -1,5 +1,5 @@
 -- Types that are written in bodies, and in explicit constructors.
-use Rattle.std.specs.Prelude.{ℕ, Bool, ◌||◌, not, cond, nat_eq, List, [], ◌∷◌, take, length, Option, Some, None, slice_get}
+use Rattle.std.specs.Prelude.{ℕ, Bool, ◌||◌, not, if◌then◌else◌, nat_eq, List, [], ◌∷◌, take, length, Option, Some, None, slice_get}
 use Rattle.jl_model.specs.declared.ty.Ty.{Ty}
 use Rattle.jl_model.specs.declared.ty.Bound.{Bound}
 use Rattle.jl_model.specs.declared.ty.Decl.{Decl}
@@ -18,7 +18,7 @@ use Rattle.jl_written.specs.Reads.{Typed}
 use Rattle.jl_written.specs.Signatures.{adopted, body_type, constructor_type}
 use Rattle.jl_resolve_forms.specs.declared.known.Known.{Known}
 use Rattle.jl_resolve_forms.specs.declared.state.Scope.{Scope}
-use Rattle.jl_resolve_forms.specs.declared.state.State.{State}
+use Rattle.jl_resolve_forms.specs.Resolver.{Resolver, pure, modify, ◌>>◌}
 use Rattle.jl_resolve_forms.specs.Scopes.{noted, merged}
 
 -- What is asked of the table of declarations: whether a declared upper bound is below a bound; what refuses a signature, and a
@@ -29,14 +29,6 @@ pub record Tests : Type 0 where
   pub body : Written → Option StaticKind
   pub wide : ℕ → Bool
 
--- a written type, and what is known behind it
-pub record Wrote : Type 0 where
-  pub written : Written
-  pub after : State
-
-abbrev pub wrote : Written → State → Wrote
-wrote w s = record { written = w; after = s }
-
 -- the types that are declared before a place
 abbrev pub declared_at : Known → ℕ → List Decl
 declared_at k types = take types k.decls
@@ -44,7 +36,7 @@ declared_at k types = take types k.decls
 -- What refuses a written type or signature: a variable that is brought in an invariant place of another nominal type, which
 -- the text tells alone; or, where each name in it means something, what refuses it as a term.
 abbrev pub refusal : (Written → Option StaticKind) → Reading → Written → Option StaticKind
-refusal test r w = cond r.misplaced (Some kind.VariablePlace) (cond r.unclear None (test w))
+refusal test r w = if r.misplaced then Some kind.VariablePlace else (if r.unclear then None else test w)
 
 -- where a type begins
 abbrev pub begins_layer : TypeText-F ArgText TypeText VarText → ℕ
@@ -61,28 +53,32 @@ one_type t vars = record { vars = vars; parts = t ∷ [] }
 -- in an explicit constructor all arguments are written, and none is a fresh variable
 abbrev pub made_refusal : (Written → Option StaticKind) → Bool → Reading → Written → Option StaticKind
 made_refusal test counted r w =
-    cond r.misplaced (Some kind.VariablePlace)
-    (cond (not (nat_eq (length r.vars) 0) || not counted) (Some kind.WrongParameterCount) (cond r.unclear None (test w)))
+    if r.misplaced then Some kind.VariablePlace
+    else (if not (nat_eq (length r.vars) 0) || not counted then Some kind.WrongParameterCount else (if r.unclear then None else test w))
 
 -- a type in a body, which begins here
-abbrev pub type_at : Tests → ℕ → Typed → State → Wrote
-type_at t at ty s =
-    let w = one_type ty.ty (adopted t.below ty.after.places ty.after.vars) in
-    wrote w (noted at (refusal t.body ty.after w) (merged ty.after.fault s))
+abbrev pub type_at : Tests → ℕ → Typed → Resolver Written
+type_at t at ty = do
+  let w = one_type ty.ty (adopted t.below ty.after.places ty.after.vars)
+  modify (merged ty.after.fault)
+  modify (noted at (refusal t.body ty.after w))
+  pure w
 
 -- the type of an explicit constructor, which begins here, where its arguments are as many as declared or not
-abbrev pub made_type : Tests → ℕ → Typed → Bool → State → Wrote
-made_type t at ty counted s =
-    let w = one_type ty.ty [] in
-    wrote w (noted at (made_refusal t.body counted ty.after w) (merged ty.after.fault s))
+abbrev pub made_type : Tests → ℕ → Typed → Bool → Resolver Written
+made_type t at ty counted = do
+  let w = one_type ty.ty []
+  modify (merged ty.after.fault)
+  modify (noted at (made_refusal t.body counted ty.after w))
+  pure w
 
 module _ (t : Tests) (k : Known) where
   -- a type in a body
-  unfoldable pub body_written : TypeText → Scope → State → Wrote
-  body_written text c s = type_at t (begins text) (body_type (declared_at k c.types) c.statics text) s
+  unfoldable pub body_written : TypeText → Scope → Resolver Written
+  body_written text c = type_at t (begins text) (body_type (declared_at k c.types) c.statics text)
 
   -- the type of an explicit constructor, whose struct has number p
-  unfoldable pub made_at : ℕ → ℕ → List ArgText → Scope → State → Wrote
-  made_at at p xs c s =
+  unfoldable pub made_at : ℕ → ℕ → List ArgText → Scope → Resolver Written
+  made_at at p xs c =
       let bs = params_of (slice_get k.decls p) in
-      made_type t at (constructor_type (declared_at k c.types) p bs c.statics xs) (nat_eq (length xs) (length bs)) s
+      made_type t at (constructor_type (declared_at k c.types) p bs c.statics xs) (nat_eq (length xs) (length bs))

@@ -1,10 +1,10 @@
 //! What a form becomes, once its parts are read.
 
 ghost use Rattle.std.specs.Prelude.{◌≡◌, ◌∷◌, [], IfOk, length};
-ghost use Rattle.jl_program.specs.declared.tree.Stmt.TheVariants as S;
-ghost use Rattle.jl_resolve_forms.specs.Scopes.{slot_of, seen, bind};
+ghost use Rattle.jl_resolve_forms.specs.Scopes.{slot_of, bind};
+ghost use Rattle.jl_resolve_forms.specs.Resolver.{resolution, Resolves};
 ghost use Rattle.jl_program.specs.declared.tree.Expr.TheViews as C;
-ghost use Rattle.jl_resolve_forms.specs.Expressions.{coded, codes, stated, said, local, prefix_code, infix_code, counted, latest, call, chained, inferred_refusal, part_number};
+ghost use Rattle.jl_resolve_forms.specs.Expressions.{bound, local, prefix_code, infix_code, counted, latest, call, chained, inferred_refusal, part_number};
 
 use crate::judge::Judge;
 use crate::known::{Arm, Called, Known};
@@ -27,7 +27,7 @@ use std::alloc::{AllocError, Global};
 /// A name that is used as a value, by its slot.
 #[tactic(auto, unfolding(crate::specs::Expressions::local))]
 pub fn local(state: &mut State, at: u32, slot: Option<u32>) -> Code
-    ensures { coded result state.new ≡ local at slot state.old }
+    ensures { resolution result state.new ≡ local at slot state.old }
 {
     match slot {
         None => {
@@ -106,7 +106,7 @@ pub fn infix_code(
 
 /// A counted call has at most 8 arguments.
 fn counted(state: &mut State, at: u32, arguments: &Codes)
-    ensures { state.new ≡ counted at (codes arguments.now state.old) }
+    ensures { state.new ≡ counted at arguments.now state.old }
 {
     if arguments.len() > MOST_ARGUMENTS {
         note(state, at, StaticKind::TooManyArguments);
@@ -116,7 +116,7 @@ fn counted(state: &mut State, at: u32, arguments: &Codes)
 /// The call of `invokelatest`.
 #[tactic(auto, unfolding(crate::specs::Expressions::latest))]
 pub fn latest(state: &mut State, at: u32, function: Option<u32>, arguments: Codes) -> Code
-    ensures { coded result state.new ≡ latest at function (codes arguments state.old) }
+    ensures { resolution result state.new ≡ latest at function arguments state.old }
 {
     match function {
         Some(function) => {
@@ -159,7 +159,8 @@ pub fn call<J: Judge>(
     called: Called,
     arguments: Codes,
 ) -> Result<Code, AllocError>
-    ensures { IfOk result (λ c. coded c state.new ≡ call (J.tests judge.now) known.now at called (codes arguments state.old)) }
+    ensures { Resolves result state.new
+        (call (J.tests judge.now) known.now at called arguments state.old) }
 {
     match called {
         Called::Function(function) => {
@@ -199,7 +200,8 @@ pub fn chained(alloc: Global, arms: Vec<Arm>, otherwise: Code) -> Result<Code, A
 
 /// A binding takes the next slot, and gives its number.
 fn placed(scope: &mut Scope, state: &mut State, name: &Name) -> Result<u32, AllocError>
-    ensures { IfOk result (λ n. (n ≡ length scope.old.slots) × (seen scope.new state.new ≡ bind name.now scope.old state.old)) }
+    ensures { IfOk result (λ n. (n ≡ length scope.old.slots) × (resolution scope.new state.new
+        ≡ bind name.now scope.old state.old)) }
 {
     let slot = small(scope.slots.len())?;
     bind(scope, state, name)?;
@@ -213,7 +215,8 @@ pub fn bound(
     name: &Name,
     code: Code,
 ) -> Result<Stmt, AllocError>
-    ensures { IfOk result (λ x. stated x scope.new state.new ≡ said (S.Bind (length scope.old.slots) code) (bind name.now scope.old state.old)) }
+    ensures { IfOk result (λ x. resolution (x, scope.new) state.new
+        ≡ bound name.now scope.old code state.old) }
 {
     match placed(scope, state, name) {
         Ok(slot) => Ok(Stmt::Bind(slot, code)),

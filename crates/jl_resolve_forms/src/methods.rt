@@ -7,9 +7,9 @@ ghost use Rattle.jl_program.specs.Names.{is_among};
 ghost use Rattle.jl_written.specs.Reads.{types};
 ghost use Rattle.jl_written.specs.Signatures.{all_read, signature, written_of};
 ghost use Rattle.jl_resolve_forms.specs.Functions.{function_of, place_of_callee};
-ghost use Rattle.jl_resolve_forms.specs.Scopes.{seen};
+ghost use Rattle.jl_resolve_forms.specs.Resolver.{resolution, Resolves};
 ghost use Rattle.jl_resolve_forms.specs.TypesIn.{refusal};
-ghost use Rattle.jl_resolve_forms.specs.Expressions.{coded, bare_scope, type_of, signature_as, parameters, static_parameter, static_parameters, signed_as, signed, opened_with, named, names_in, may_define, defined_function, if_unknown, too_many, opened_as, opened, reserved, closed};
+ghost use Rattle.jl_resolve_forms.specs.Expressions.{bare_scope, type_of, signature_as, parameters, static_parameter, static_parameters, signed_as, signed, opened_with, named, names_in, may_define, defined_function, if_unknown, too_many, opened, next_site, closed};
 
 use crate::functions::{function_of, place_of_callee};
 use crate::judge::Judge;
@@ -112,7 +112,8 @@ fn all_read(
     reading: &mut Reading,
     params: &[Param],
 ) -> Result<Tys, AllocError>
-    ensures means { IfOk result (λ ts. types ts reading.new ≡ all_read around.now.decls.now (map type_of params.now) (around.now.statics ++ vars.old) reading.old) }
+    ensures means { IfOk result (λ ts. types ts reading.new
+        ≡ all_read around.now.decls.now (map type_of params.now) (around.now.statics ++ vars.old) reading.old) }
     ensures kept { OnOk result (vars.new ≡ vars.old) }
 {
     let mut tys = Row::new(alloc);
@@ -209,7 +210,7 @@ fn static_parameters(
 
 /// Parameters have the slots from 0 on; an unnamed one binds nothing.
 fn parameters(scope: &mut Scope, state: &mut State, params: &[Param]) -> Result<(), AllocError>
-    ensures { OnOk result (seen scope.new state.new ≡ parameters params.now scope.old state.old) }
+    ensures { OnOk result (resolution scope.new state.new ≡ parameters params.now scope.old state.old) }
 {
     for param in params {
         match param {
@@ -280,7 +281,8 @@ fn name_checked(
     function: Option<u32>,
     signed: &Signed,
 )
-    ensures { state.new ≡ named known.now (place_of_callee callee.now) callee.now function signed.now state.old }
+    ensures { state.new
+        ≡ named known.now (place_of_callee callee.now) callee.now function signed.now state.old }
 {
     let at = place_of_callee(callee);
     noted(state, at, if_unknown(function));
@@ -300,7 +302,7 @@ fn opened_with(
     signed: Signed,
     params: &[Param],
 ) -> Result<Opening, AllocError>
-    ensures { IfOk result (λ o. opened_as o state.new ≡ opened_with function types signed params.now state.old) }
+    ensures { Resolves result state.new (opened_with function types signed params.now state.old) }
 {
     let statics = static_parameters(alloc, &signed.sig, signed.vars.as_slice())?;
     let mut scope = Scope {
@@ -326,7 +328,8 @@ pub fn opened<J: Judge>(
     state: &mut State,
     head: &Head,
 ) -> Result<Opening, AllocError>
-    ensures { IfOk result (λ o. opened_as o state.new ≡ opened (J.tests judge.now) known.now head.now types state.old) }
+    ensures { Resolves result state.new
+        (opened (J.tests judge.now) known.now head.now types state.old) }
 {
     let function = function_at(alloc, known, types, &head.callee);
     let signed = signed(alloc, judge, known, types, head)?;
@@ -339,7 +342,7 @@ pub fn opened<J: Judge>(
 /// The next site, whose body is read behind this.
 #[tactic(auto, unfolding(crate::specs::Expressions::reserved))]
 pub fn reserved(state: &mut State, opening: &Opening) -> Result<u32, AllocError>
-    ensures { IfOk result (λ n. (n ≡ length state.old.sites) × (state.new ≡ reserved opening.now state.old)) }
+    ensures { Resolves result state.new (next_site opening.now state.old) }
 {
     let number = small(state.sites.len())?;
     state.sites.push(Site {
@@ -353,7 +356,7 @@ pub fn reserved(state: &mut State, opening: &Opening) -> Result<u32, AllocError>
 /// The body of a site.
 #[tactic(auto, unfolding(crate::specs::Expressions::closed))]
 pub fn closed(state: &mut State, number: u32, opening: Opening, code: Code)
-    ensures { state.new ≡ closed number opening (coded code state.old) }
+    ensures { state.new ≡ closed number opening code state.old }
 {
     let Opening {
         function,

@@ -1,7 +1,8 @@
 //! What is visible at a place, and what a part of the text adds to it.
 
 ghost use Rattle.std.specs.Prelude.{◌≡◌, OnOk, Some, None};
-ghost use Rattle.jl_resolve_forms.specs.Scopes.{slot_of, note, noted, merged, clashing, seen, slotted, with_slot, bind};
+ghost use Rattle.jl_resolve_forms.specs.Resolver.{resolution};
+ghost use Rattle.jl_resolve_forms.specs.Scopes.{slot_of, note, noted, merged, clashing, slotted, with_slot, bind};
 
 use crate::state::{Scope, State};
 use jl_grammar::tree::Name;
@@ -64,7 +65,7 @@ fn push_named(scope: &mut Scope, name: Bytes) -> Result<(), AllocError>
 /// A name takes the next slot; where it is visible already the slot has no name.
 #[tactic(auto, unfolding(crate::specs::Scopes::bind))]
 pub fn bind(scope: &mut Scope, state: &mut State, name: &Name) -> Result<(), AllocError>
-    ensures { OnOk result (seen scope.new state.new ≡ bind name.now scope.old state.old) }
+    ensures { OnOk result (resolution scope.new state.new ≡ bind name.now scope.old state.old) }
 {
     if is_builtin(name.bytes.as_slice()) {
         note(state, name.at, StaticKind::NameClash);

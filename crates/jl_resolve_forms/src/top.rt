@@ -2,7 +2,7 @@
 
 ghost use Rattle.std.specs.Prelude.{◌≡◌, ◌++◌, IfOk, OnOk, option_copied};
 ghost use Rattle.jl_program.specs.Prelude.{prelude_sites};
-ghost use Rattle.jl_resolve_forms.specs.Scopes.{seen};
+ghost use Rattle.jl_resolve_forms.specs.Resolver.{resolution};
 ghost use Rattle.jl_resolve_forms.specs.Top.{first_at, clash, clashes, top_bind};
 
 use crate::known::Known;
@@ -46,7 +46,8 @@ pub fn top_bind(
     state: &mut State,
     name: &Name,
 ) -> Result<(), AllocError>
-    ensures { OnOk result (seen scope.new state.new ≡ top_bind known.now name.now scope.old state.old) }
+    ensures { OnOk result (resolution scope.new state.new
+        ≡ top_bind known.now name.now scope.old state.old) }
 {
     bind(scope, state, name)?;
     clashes(known, state, name);

@@ -3,9 +3,10 @@
 ghost use Rattle.std.specs.Prelude.{◌≡◌, ◌∷◌, [], ◌==◌, length, take, IfOk, Bool, slice_get};
 ghost use Rattle.jl_model.specs.Valid.{params_of};
 ghost use Rattle.jl_written.specs.Reads.{typed};
+ghost use Rattle.jl_resolve_forms.specs.Resolver.{Resolves};
 ghost use Rattle.jl_resolve_forms.specs.Expressions.{made_struct, made_args};
 ghost use Rattle.jl_typeread.specs.declared.tree.ArgText.TheViews.{out-TypeText};
-ghost use Rattle.jl_resolve_forms.specs.TypesIn.{wrote, declared_at, begins, one_type, refusal, made_refusal, type_at, body_written, made_type, made_at};
+ghost use Rattle.jl_resolve_forms.specs.TypesIn.{declared_at, begins, one_type, refusal, made_refusal, type_at, body_written, made_type, made_at};
 
 use crate::functions::struct_named;
 use crate::judge::Judge;
@@ -100,7 +101,8 @@ fn type_at<J: Judge>(
     ty: Ty,
     reading: &Reading,
 ) -> Result<Written, AllocError>
-    ensures { IfOk result (λ w. wrote w state.new ≡ type_at (J.tests judge.now) at (typed ty reading.now) state.old) }
+    ensures { Resolves result state.new
+        (type_at (J.tests judge.now) at (typed ty reading.now) state.old) }
 {
     let vars = adopted(
         alloc,
@@ -124,7 +126,8 @@ pub fn body_written<J: Judge>(
     state: &mut State,
     text: &TypeText,
 ) -> Result<Written, AllocError>
-    ensures { IfOk result (λ w. wrote w state.new ≡ body_written (J.tests judge.now) known.now text.now scope.now state.old) }
+    ensures { Resolves result state.new
+        (body_written (J.tests judge.now) known.now text.now scope.now state.old) }
 {
     let decls = declared_at(known, scope.types);
     let (ty, reading) = body_type(alloc, &decls, &scope.statics, text)?;
@@ -142,7 +145,8 @@ fn made_type<J: Judge>(
     reading: &Reading,
     counted: bool,
 ) -> Result<Written, AllocError>
-    ensures { IfOk result (λ w. wrote w state.new ≡ made_type (J.tests judge.now) at (typed ty reading.now) counted state.old) }
+    ensures { Resolves result state.new
+        (made_type (J.tests judge.now) at (typed ty reading.now) counted state.old) }
 {
     let written = one_type(alloc, ty, SharedList::empty())?;
     let refusal = made_refusal(alloc, judge, counted, reading, &written)?;
@@ -172,7 +176,8 @@ pub fn made_at<J: Judge>(
     number: u32,
     texts: &[ArgText],
 ) -> Result<Written, AllocError>
-    ensures { IfOk result (λ w. wrote w state.new ≡ made_at (J.tests judge.now) known.now at number texts.now scope.now state.old) }
+    ensures { Resolves result state.new
+        (made_at (J.tests judge.now) known.now at number texts.now scope.now state.old) }
 {
     let decls = declared_at(known, scope.types);
     let bounds = params_of(known.decls.list().as_slice(), number);

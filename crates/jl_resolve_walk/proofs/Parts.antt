@@ -1,5 +1,5 @@
 -- What a statement, a piece of a print, a branch, a statement of an evaluated block and a method are read as, once their parts are read.
-use Rattle.std.proofs.Common.{◌≡◌, ◌∙◌, ap, sym, ℕ, List, length, map}
+use Rattle.std.proofs.Common.{◌≡◌, ◌∙◌, ap, sym, ℕ, List, map}
 use Rattle.jl_program.specs.declared.tree.Expr.{Expr as Code}
 use Rattle.jl_program.specs.declared.tree.Expr.TheVariants as W
 use Rattle.jl_program.specs.declared.tree.Item.{Item}
@@ -25,10 +25,9 @@ use Rattle.jl_resolve_forms.specs.declared.known.Known.{Known}
 use Rattle.jl_resolve_forms.specs.declared.state.Opening.{Opening}
 use Rattle.jl_resolve_forms.specs.declared.state.Scope.{Scope}
 use Rattle.jl_resolve_forms.specs.declared.state.State.{State}
-use Rattle.jl_resolve_forms.specs.Scopes.{bind}
 use Rattle.jl_resolve_forms.specs.TypesIn.{Tests}
-use Rattle.jl_resolve_forms.specs.Expressions.{Reads, Coded, coded, Defined, defined, said, stated, shown, listed, tried, one_said, one_shown, one_evaluated, one_tried, block_of, bare_scope, closed, method, expr_reads, method_reads, stmt_reads, eval_reads, piece_reads, branch_reads}
-use Rattle.jl_resolve_walk.specs.Steps.{Started, started_as, started}
+use Rattle.jl_resolve_forms.specs.Resolver.{Resolution, resolution}
+use Rattle.jl_resolve_forms.specs.Expressions.{Reads, bound, arm, started, one_said, one_shown, one_evaluated, one_tried, block_of, bare_scope, closed, method, expr_reads, method_reads, stmt_reads, eval_reads, piece_reads, branch_reads}
 use Rattle.jl_resolve_walk.proofs.Layers as L
 
 module _ (t : Tests) (k : Known) where
@@ -36,88 +35,88 @@ module _ (t : Tests) (k : Known) where
   R = expr_reads t k
 
   pub says-Bind : (text : Stmt) (n : Name) (x : Expr) (c c1 c2 : Scope) (s s1 s2 : State) (y : Code) (z : Statement)
-      → text ≡ SV.Bind n x → c1 ≡ c → coded y s1 ≡ R x c s → stated z c2 s2 ≡ said (S.Bind (length c1.slots) y) (bind n c1 s1)
-      → stated z c2 s2 ≡ one_said (stmt_reads t k text) c s
+      → text ≡ SV.Bind n x → c1 ≡ c → resolution y s1 ≡ R x c s → resolution (z, c2) s2 ≡ bound n c1 y s1
+      → resolution (z, c2) s2 ≡ one_said (stmt_reads t k text) c s
   says-Bind text n x c c1 c2 s s1 s2 y z is h m made =
       made
-      ∙ ap (λ (a : Scope). said (S.Bind (length a.slots) y) (bind n a s1)) h
-      ∙ ap (λ (p : Coded). said (S.Bind (length c.slots) p.code) (bind n c p.after)) m
+      ∙ ap (λ (a : Scope). bound n a y s1) h
+      ∙ ap (λ (p : Resolution Code). bound n c p.value p.after) m
       ∙ ap (λ a. one_said a c s) (sym (ap (stmt_reads t k) is ∙ L.stmt-Bind t k n x))
 
   pub says-Return : (text : Stmt) (at : ℕ) (x : Expr) (c c1 : Scope) (s s1 : State) (y : Code) (z : Statement)
-      → text ≡ SV.Return at x → c1 ≡ c → coded y s1 ≡ R x c s → z ≡ S.Return y → stated z c1 s1 ≡ one_said (stmt_reads t k text) c s
+      → text ≡ SV.Return at x → c1 ≡ c → resolution y s1 ≡ R x c s → z ≡ S.Return y → resolution (z, c1) s1 ≡ one_said (stmt_reads t k text) c s
   says-Return text at x c c1 s s1 y z is h m made =
-      ap (λ a. stated a c1 s1) made ∙
-      ap (λ a. stated (S.Return y) a s1) h
-      ∙ ap (λ (p : Coded). stated (S.Return p.code) c p.after) m
+      ap (λ a. resolution (a, c1) s1) made ∙
+      ap (λ a. resolution (S.Return y, a) s1) h
+      ∙ ap (λ (p : Resolution Code). resolution (S.Return p.value, c) p.after) m
       ∙ ap (λ a. one_said a c s) (sym (ap (stmt_reads t k) is ∙ L.stmt-Return t k at x))
 
   pub says-ReturnNothing : (text : Stmt) (at : ℕ) (c : Scope) (s : State)
-      → text ≡ SV.ReturnNothing at → stated (S.Return W.Nothing) c s ≡ one_said (stmt_reads t k text) c s
+      → text ≡ SV.ReturnNothing at → resolution (S.Return W.Nothing, c) s ≡ one_said (stmt_reads t k text) c s
   says-ReturnNothing text at c s is = ap (λ a. one_said a c s) (sym (ap (stmt_reads t k) is ∙ L.stmt-ReturnNothing t k at))
 
   pub says-Do : (text : Stmt) (x : Expr) (c c1 : Scope) (s s1 : State) (y : Code) (z : Statement)
-      → text ≡ SV.Do x → c1 ≡ c → coded y s1 ≡ R x c s → z ≡ S.Do y → stated z c1 s1 ≡ one_said (stmt_reads t k text) c s
+      → text ≡ SV.Do x → c1 ≡ c → resolution y s1 ≡ R x c s → z ≡ S.Do y → resolution (z, c1) s1 ≡ one_said (stmt_reads t k text) c s
   says-Do text x c c1 s s1 y z is h m made =
-      ap (λ a. stated a c1 s1) made ∙
-      ap (λ a. stated (S.Do y) a s1) h
-      ∙ ap (λ (p : Coded). stated (S.Do p.code) c p.after) m
+      ap (λ a. resolution (a, c1) s1) made ∙
+      ap (λ a. resolution (S.Do y, a) s1) h
+      ∙ ap (λ (p : Resolution Code). resolution (S.Do p.value, c) p.after) m
       ∙ ap (λ a. one_said a c s) (sym (ap (stmt_reads t k) is ∙ L.stmt-Do t k x))
 
   pub shows-Text : (text : Piece) (at : ℕ) (b : List ℕ) (c : Scope) (s : State) (z : Shown)
-      → text ≡ PV.Text at b → z ≡ P.Text b → shown z s ≡ one_shown (piece_reads t k text) c s
+      → text ≡ PV.Text at b → z ≡ P.Text b → resolution z s ≡ one_shown (piece_reads t k text) c s
   shows-Text text at b c s z is e =
-      ap (λ a. shown a s) e ∙ ap (λ a. one_shown a c s) (sym (ap (piece_reads t k) is ∙ L.piece-Text t k at b))
+      ap (λ a. resolution a s) e ∙ ap (λ a. one_shown a c s) (sym (ap (piece_reads t k) is ∙ L.piece-Text t k at b))
 
   pub shows-Show : (text : Piece) (x : Expr) (c : Scope) (s s1 : State) (y : Code) (z : Shown)
-      → text ≡ PV.Show x → coded y s1 ≡ R x c s → z ≡ P.Show y → shown z s1 ≡ one_shown (piece_reads t k text) c s
+      → text ≡ PV.Show x → resolution y s1 ≡ R x c s → z ≡ P.Show y → resolution z s1 ≡ one_shown (piece_reads t k text) c s
   shows-Show text x c s s1 y z is m made =
-      ap (λ a. shown a s1) made ∙
-      ap (λ (p : Coded). shown (P.Show p.code) p.after) m
+      ap (λ a. resolution a s1) made ∙
+      ap (λ (p : Resolution Code). resolution (P.Show p.value) p.after) m
       ∙ ap (λ a. one_shown a c s) (sym (ap (piece_reads t k) is ∙ L.piece-Show t k x))
 
   pub evals-Method : (text : Eval) (m : Method) (types : ℕ) (s s1 : State) (n : ℕ) (z : Item)
-      → text ≡ EV.Method m → defined n s1 ≡ method_reads t k m types s → z ≡ I.Define n → listed z s1 ≡ one_evaluated (eval_reads t k text) types s
+      → text ≡ EV.Method m → resolution n s1 ≡ method_reads t k m types s → z ≡ I.Define n → resolution z s1 ≡ one_evaluated (eval_reads t k text) types s
   evals-Method text m types s s1 n z is e made =
-      ap (λ a. listed a s1) made ∙
-      ap (λ (p : Defined). listed (I.Define p.site) p.after) e
+      ap (λ a. resolution a s1) made ∙
+      ap (λ (p : Resolution ℕ). resolution (I.Define p.value) p.after) e
       ∙ ap (λ a. one_evaluated a types s) (sym (ap (eval_reads t k) is ∙ L.eval-Method t k m))
 
   pub evals-Do : (text : Eval) (x : Expr) (types : ℕ) (s s1 : State) (y : Code) (z : Item)
-      → text ≡ EV.Do x → coded y s1 ≡ R x (bare_scope types) s → z ≡ I.Do y → listed z s1 ≡ one_evaluated (eval_reads t k text) types s
+      → text ≡ EV.Do x → resolution y s1 ≡ R x (bare_scope types) s → z ≡ I.Do y → resolution z s1 ≡ one_evaluated (eval_reads t k text) types s
   evals-Do text x types s s1 y z is m made =
-      ap (λ a. listed a s1) made ∙
-      ap (λ (p : Coded). listed (I.Do p.code) p.after) m
+      ap (λ a. resolution a s1) made ∙
+      ap (λ (p : Resolution Code). resolution (I.Do p.value) p.after) m
       ∙ ap (λ a. one_evaluated a types s) (sym (ap (eval_reads t k) is ∙ L.eval-Do t k x))
 
   pub tries : (b : Branch) (ss : List Stmt) (c c1 : Scope) (s s1 s2 : State) (n x y : Code) (z : Arm)
-      → n ≡ x → coded x s1 ≡ R b.test c s → c1 ≡ c → ss ≡ b.block → coded y s2 ≡ block_of (map (stmt_reads t k) ss) c1 s1 → z ≡ record { test = n; then = y }
-      → tried z s2 ≡ one_tried (branch_reads t k b) c s
+      → n ≡ x → resolution x s1 ≡ R b.test c s → c1 ≡ c → ss ≡ b.block → resolution y s2 ≡ block_of (map (stmt_reads t k) ss) c1 s1 → z ≡ arm n y
+      → resolution z s2 ≡ one_tried (branch_reads t k b) c s
   tries b ss c c1 s s1 s2 n x y z e1 p h g q made =
-      ap (λ a. tried a s2) made
-      ∙ ap (λ a. tried (record { test = a; then = y }) s2) e1
-      ∙ ap (λ (a : Coded). tried (record { test = x; then = a.code }) a.after) (q ∙ ap (λ a. block_of (map (stmt_reads t k) a) c1 s1) g ∙ ap (λ a. block_of (map (stmt_reads t k) b.block) a s1) h)
-      ∙ ap (λ (a : Coded). tried (record { test = a.code; then = (block_of (map (stmt_reads t k) b.block) c a.after).code }) (block_of (map (stmt_reads t k) b.block) c a.after).after) p
+      ap (λ a. resolution a s2) made
+      ∙ ap (λ a. resolution (arm a y) s2) e1
+      ∙ ap (λ (a : Resolution Code). resolution (arm x a.value) a.after) (q ∙ ap (λ a. block_of (map (stmt_reads t k) a) c1 s1) g ∙ ap (λ a. block_of (map (stmt_reads t k) b.block) a s1) h)
+      ∙ ap (λ (a : Resolution Code). resolution (arm a.value (block_of (map (stmt_reads t k) b.block) c a.after).value) (block_of (map (stmt_reads t k) b.block) c a.after).after) p
       ∙ ap (λ a. one_tried a c s) (sym (L.branch-is t k b))
 
   -- a method, whose body is read where its opening says
   method_is : (h : Head) (body : Reads) (types : ℕ) (o : Opening) (c1 : Scope) (s s1 s2 s3 : State) (n r : ℕ) (y : Code)
-      → started_as n o s1 ≡ started t k h types s → c1 ≡ o.scope → coded y s2 ≡ body o.scope s1 → defined r s3 ≡ defined n (closed n (record o { scope = c1 }) (coded y s2))
-      → defined r s3 ≡ method t k h body types s
+      → resolution (n, o) s1 ≡ started t k h types s → c1 ≡ o.scope → resolution y s2 ≡ body o.scope s1 → resolution r s3 ≡ resolution n (closed n (record o { scope = c1 }) y s2)
+      → resolution r s3 ≡ method t k h body types s
   method_is h body types o c1 s s1 s2 s3 n r y b kept m made =
-      made ∙ ap (λ a. defined n a) (ap (λ a. closed n (record o { scope = a }) (coded y s2)) kept ∙ ap (λ a. closed n o a) m)
-      ∙ ap (λ (p : Started). defined p.site (closed p.site p.opening (body p.opening.scope p.after))) b
+      made ∙ ap (λ a. resolution n a) (ap (λ a. closed n (record o { scope = a }) y s2) kept ∙ ap (λ (a : Resolution Code). closed n o a.value a.after) m)
+      ∙ ap (λ (p : Resolution (ℕ × Opening)). resolution p.value.0 (closed p.value.0 p.value.1 (body p.value.1.scope p.after).value (body p.value.1.scope p.after).after)) b
 
   pub method-long : (text : Method) (at : ℕ) (h : Head) (ss ss1 : List Stmt) (types : ℕ) (o : Opening) (c1 : Scope) (s s1 s2 s3 : State) (n r : ℕ) (y : Code)
-      → text ≡ E.Long at h ss → started_as n o s1 ≡ started t k h types s → ss1 ≡ ss → c1 ≡ o.scope → coded y s2 ≡ block_of (map (stmt_reads t k) ss1) o.scope s1
-      → defined r s3 ≡ defined n (closed n (record o { scope = c1 }) (coded y s2)) → defined r s3 ≡ method_reads t k text types s
+      → text ≡ E.Long at h ss → resolution (n, o) s1 ≡ started t k h types s → ss1 ≡ ss → c1 ≡ o.scope → resolution y s2 ≡ block_of (map (stmt_reads t k) ss1) o.scope s1
+      → resolution r s3 ≡ resolution n (closed n (record o { scope = c1 }) y s2) → resolution r s3 ≡ method_reads t k text types s
   method-long text at h ss ss1 types o c1 s s1 s2 s3 n r y is b g kept m made =
       method_is h (block_of (map (stmt_reads t k) ss)) types o c1 s s1 s2 s3 n r y b kept (m ∙ ap (λ a. block_of (map (stmt_reads t k) a) o.scope s1) g) made
       ∙ ap (λ a. a types s) (sym (ap (method_reads t k) is ∙ L.method-Long t k at h ss))
 
   pub method-short : (text : Method) (at : ℕ) (h : Head) (x x1 : Expr) (types : ℕ) (o : Opening) (c1 : Scope) (s s1 s2 s3 : State) (n r : ℕ) (y : Code)
-      → text ≡ E.Short at h x → started_as n o s1 ≡ started t k h types s → x1 ≡ x → c1 ≡ o.scope → coded y s2 ≡ R x1 o.scope s1
-      → defined r s3 ≡ defined n (closed n (record o { scope = c1 }) (coded y s2)) → defined r s3 ≡ method_reads t k text types s
+      → text ≡ E.Short at h x → resolution (n, o) s1 ≡ started t k h types s → x1 ≡ x → c1 ≡ o.scope → resolution y s2 ≡ R x1 o.scope s1
+      → resolution r s3 ≡ resolution n (closed n (record o { scope = c1 }) y s2) → resolution r s3 ≡ method_reads t k text types s
   method-short text at h x x1 types o c1 s s1 s2 s3 n r y is b g kept m made =
       method_is h (R x) types o c1 s s1 s2 s3 n r y b kept (m ∙ ap (λ a. R a o.scope s1) g) made
       ∙ ap (λ a. a types s) (sym (ap (method_reads t k) is ∙ L.method-Short t k at h x))

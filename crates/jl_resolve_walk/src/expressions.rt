@@ -1,7 +1,8 @@
 //! The walk over the tree of a script: what each part becomes, where some slots, static parameters and types are visible.
 
 ghost use Rattle.std.specs.Prelude.{◌≡◌, map, IfOk, OnOk};
-ghost use Rattle.jl_resolve_forms.specs.Expressions.{coded, codes, stated, shown, pieces, listed, items, tried, arms, defined, one_said, one_shown, one_evaluated, one_tried, all_coded, all_shown, all_evaluated, all_tried, block_of, expr_reads, stmt_reads, piece_reads, eval_reads, branch_reads, method_reads};
+ghost use Rattle.jl_resolve_forms.specs.Resolver.{resolution, Resolves};
+ghost use Rattle.jl_resolve_forms.specs.Expressions.{one_said, one_shown, one_evaluated, one_tried, all_coded, all_shown, all_evaluated, all_tried, block_of, expr_reads, stmt_reads, piece_reads, eval_reads, branch_reads, method_reads};
 
 use crate::made;
 use jl_grammar::tree::{Branch, Eval, Expr, Method, Piece, Stmt};
@@ -25,7 +26,8 @@ fn exprs<J: Judge>(
     state: &mut State,
     texts: &[Expr],
 ) -> Result<Codes, AllocError>
-    ensures means { IfOk result (λ xs. codes xs state.new ≡ all_coded (map (expr_reads (J.tests judge.now) known.now) texts.now) scope.old state.old) }
+    ensures means { Resolves result state.new
+        (all_coded (map (expr_reads (J.tests judge.now) known.now) texts.now) scope.old state.old) }
     ensures kept { OnOk result (scope.new ≡ scope.old) }
 {
     let mut out = Row::new(alloc);
@@ -45,7 +47,8 @@ fn block<J: Judge>(
     state: &mut State,
     texts: &[Stmt],
 ) -> Result<Code, AllocError>
-    ensures means { IfOk result (λ c. coded c state.new ≡ block_of (map (stmt_reads (J.tests judge.now) known.now) texts.now) scope.old state.old) }
+    ensures means { Resolves result state.new
+        (block_of (map (stmt_reads (J.tests judge.now) known.now) texts.now) scope.old state.old) }
     ensures kept { OnOk result (scope.new ≡ scope.old) }
 {
     let visible = scope.slots.len();
@@ -66,7 +69,8 @@ fn pieces<J: Judge>(
     state: &mut State,
     texts: &[Piece],
 ) -> Result<Showns, AllocError>
-    ensures means { IfOk result (λ xs. pieces xs state.new ≡ all_shown (map (piece_reads (J.tests judge.now) known.now) texts.now) scope.old state.old) }
+    ensures means { Resolves result state.new
+        (all_shown (map (piece_reads (J.tests judge.now) known.now) texts.now) scope.old state.old) }
     ensures kept { OnOk result (scope.new ≡ scope.old) }
 {
     let mut out = Row::new(alloc);
@@ -86,7 +90,8 @@ fn evals<J: Judge>(
     state: &mut State,
     texts: &[Eval],
 ) -> Result<Items, AllocError>
-    ensures { IfOk result (λ xs. items xs state.new ≡ all_evaluated (map (eval_reads (J.tests judge.now) known.now) texts.now) types state.old) }
+    ensures { Resolves result state.new
+        (all_evaluated (map (eval_reads (J.tests judge.now) known.now) texts.now) types state.old) }
 {
     let mut out = Row::new(alloc);
     for text in texts {
@@ -105,7 +110,8 @@ fn branches<J: Judge>(
     state: &mut State,
     texts: &[Branch],
 ) -> Result<Vec<Arm>, AllocError>
-    ensures means { IfOk result (λ xs. arms xs.items state.new ≡ all_tried (map (branch_reads (J.tests judge.now) known.now) texts.now) scope.old state.old) }
+    ensures means { IfOk result (λ xs. resolution xs.items state.new
+        ≡ all_tried (map (branch_reads (J.tests judge.now) known.now) texts.now) scope.old state.old) }
     ensures kept { OnOk result (scope.new ≡ scope.old) }
 {
     let mut out = Vec::new(alloc);
@@ -125,7 +131,8 @@ fn stmt<J: Judge>(
     state: &mut State,
     text: &Stmt,
 ) -> Result<Statement, AllocError>
-    ensures { IfOk result (λ x. stated x scope.new state.new ≡ one_said (stmt_reads (J.tests judge.now) known.now text.now) scope.old state.old) }
+    ensures { IfOk result (λ x. resolution (x, scope.new) state.new
+        ≡ one_said (stmt_reads (J.tests judge.now) known.now text.now) scope.old state.old) }
 {
     match text {
         Stmt::Bind(name, value) => {
@@ -148,7 +155,8 @@ fn piece<J: Judge>(
     state: &mut State,
     text: &Piece,
 ) -> Result<Shown, AllocError>
-    ensures means { IfOk result (λ p. shown p state.new ≡ one_shown (piece_reads (J.tests judge.now) known.now text.now) scope.old state.old) }
+    ensures means { Resolves result state.new
+        (one_shown (piece_reads (J.tests judge.now) known.now text.now) scope.old state.old) }
     ensures kept { OnOk result (scope.new ≡ scope.old) }
 {
     match text {
@@ -167,7 +175,8 @@ fn eval<J: Judge>(
     state: &mut State,
     text: &Eval,
 ) -> Result<Item, AllocError>
-    ensures { IfOk result (λ x. listed x state.new ≡ one_evaluated (eval_reads (J.tests judge.now) known.now text.now) types state.old) }
+    ensures { Resolves result state.new
+        (one_evaluated (eval_reads (J.tests judge.now) known.now text.now) types state.old) }
 {
     match text {
         Eval::Method(text) => made::define(method(alloc, judge, known, types, state, text)),
@@ -188,7 +197,8 @@ fn branch<J: Judge>(
     state: &mut State,
     text: &Branch,
 ) -> Result<Arm, AllocError>
-    ensures means { IfOk result (λ a. tried a state.new ≡ one_tried (branch_reads (J.tests judge.now) known.now text.now) scope.old state.old) }
+    ensures means { Resolves result state.new
+        (one_tried (branch_reads (J.tests judge.now) known.now text.now) scope.old state.old) }
     ensures kept { OnOk result (scope.new ≡ scope.old) }
 {
     let test = made::held(alloc, expr(alloc, judge, known, scope, state, &text.test))?;
@@ -206,7 +216,8 @@ pub fn method<J: Judge>(
     state: &mut State,
     text: &Method,
 ) -> Result<u32, AllocError>
-    ensures { IfOk result (λ n. defined n state.new ≡ method_reads (J.tests judge.now) known.now text.now types state.old) }
+    ensures { Resolves result state.new
+        (method_reads (J.tests judge.now) known.now text.now types state.old) }
 {
     match text {
         Method::Long(_, head, body) => {
@@ -239,7 +250,8 @@ pub fn expr<J: Judge>(
     state: &mut State,
     text: &Expr,
 ) -> Result<Code, AllocError>
-    ensures means { IfOk result (λ c. coded c state.new ≡ expr_reads (J.tests judge.now) known.now text.now scope.old state.old) }
+    ensures means { Resolves result state.new
+        (expr_reads (J.tests judge.now) known.now text.now scope.old state.old) }
     ensures kept { OnOk result (scope.new ≡ scope.old) }
 {
     match text {

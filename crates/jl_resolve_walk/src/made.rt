@@ -1,17 +1,18 @@
 //! What a form becomes, once its parts are read: the steps of the walk that go to no other part. Where a part could not be
 //! read for want of memory, neither is the form.
 
-ghost use Rattle.std.specs.Prelude.{◌≡◌, ◌∷◌, ◌++◌, [], IfOk, OnOk, length, take};
+ghost use Rattle.std.specs.Prelude.{◌≡◌, ◌∷◌, ◌++◌, [], IfOk, OnOk, take};
 ghost use Rattle.jl_program.specs.declared.tree.Expr.TheViews as C;
 ghost use Rattle.jl_program.specs.declared.tree.Expr.TheVariants as W;
 ghost use Rattle.jl_program.specs.declared.tree.Item.TheVariants as I;
 ghost use Rattle.jl_program.specs.declared.tree.Piece.TheVariants as P;
 ghost use Rattle.jl_program.specs.declared.tree.Stmt.TheVariants as S;
 ghost use Rattle.jl_resolve_forms.specs.Functions.{called, function_of, place_of_callee};
-ghost use Rattle.jl_resolve_forms.specs.Scopes.{bind, slot_of};
+ghost use Rattle.jl_resolve_forms.specs.Scopes.{slot_of};
+ghost use Rattle.jl_resolve_forms.specs.Resolver.{resolution, Resolves};
 ghost use Rattle.jl_resolve_forms.specs.TypesIn.{begins};
-ghost use Rattle.jl_resolve_forms.specs.Expressions.{coded, codes, stated, said, defined, is_below, local, call, chained, closed, infix_code, latest, part_number, prefix_code};
-ghost use Rattle.jl_resolve_walk.specs.Steps.{Gives, begun_as, begun, ended, awaited, spawned_at, tested, started_as, started};
+ghost use Rattle.jl_resolve_forms.specs.Expressions.{awaited, bound, is_below, local, call, chained, closed, infix_code, latest, part_number, prefix_code, spawned_at, started};
+ghost use Rattle.jl_resolve_walk.specs.Steps.{Gives, begun, ended, tested};
 
 use jl_grammar::tree::{Callee, Head, Infix, Name, Prefix};
 use jl_model::rows::Row;
@@ -70,7 +71,7 @@ pub(crate) fn number(number: &i64) -> Code
 
 /// A name that is used as a value.
 pub(crate) fn name(scope: &Scope, state: &mut State, at: u32, name: &Bytes) -> Code
-    ensures { coded result state.new ≡ local at (slot_of scope.now.slots name.now) state.old }
+    ensures { resolution result state.new ≡ local at (slot_of scope.now.slots name.now) state.old }
 {
     let slot = forms::visible_slot(scope, name);
     forms::local(state, at, slot)
@@ -94,7 +95,8 @@ pub(crate) fn call<J: Judge>(
     callee: &Callee,
     arguments: Result<Codes, AllocError>,
 ) -> Result<Code, AllocError>
-    ensures { Gives arguments result (λ ys c. coded c state.new ≡ call (J.tests judge.now) known.now (place_of_callee callee.now) (called known.now callee.now scope.now) (codes ys state.old)) }
+    ensures { Gives arguments result (λ ys c. resolution c state.new
+        ≡ call (J.tests judge.now) known.now (place_of_callee callee.now) (called known.now callee.now scope.now) ys state.old) }
 {
     let arguments = arguments?;
     let called = called(known, callee, scope);
@@ -110,7 +112,8 @@ pub(crate) fn latest(
     callee: &Callee,
     arguments: Result<Codes, AllocError>,
 ) -> Result<Code, AllocError>
-    ensures { Gives arguments result (λ ys c. coded c state.new ≡ latest (place_of_callee callee.now) (function_of known.now callee.now scope.now) (codes ys state.old)) }
+    ensures { Gives arguments result (λ ys c. resolution c state.new
+        ≡ latest (place_of_callee callee.now) (function_of known.now callee.now scope.now) ys state.old) }
 {
     let arguments = arguments?;
     let function = function_of(known, callee, scope);
@@ -187,7 +190,8 @@ pub(crate) fn is_a<J: Judge>(
     code: Result<Code, AllocError>,
     ty: &TypeText,
 ) -> Result<Code, AllocError>
-    ensures { Gives code result (λ y c. coded c state.new ≡ tested (J.tests judge.now) known.now y ty.now scope.now state.old) }
+    ensures { Gives code result (λ y c. resolution c state.new
+        ≡ tested (J.tests judge.now) known.now y ty.now scope.now state.old) }
 {
     let code = held(alloc, code)?;
     let written = body_written(alloc, judge, known, scope, state, ty)?;
@@ -204,7 +208,8 @@ pub(crate) fn below<J: Judge>(
     left: &TypeText,
     right: &TypeText,
 ) -> Result<Code, AllocError>
-    ensures { IfOk result (λ c. coded c state.new ≡ is_below (J.tests judge.now) known.now left.now right.now scope.now state.old) }
+    ensures { Resolves result state.new
+        (is_below (J.tests judge.now) known.now left.now right.now scope.now state.old) }
 {
     let left = body_written(alloc, judge, known, scope, state, left)?;
     let right = body_written(alloc, judge, known, scope, state, right)?;
@@ -253,7 +258,8 @@ pub(crate) fn begun<J: Judge>(
     state: &mut State,
     ty: &TypeText,
 ) -> Result<Option<Written>, AllocError>
-    ensures { IfOk result (λ w. begun_as w state.new ≡ begun (J.tests judge.now) known.now ty.now scope.now state.old) }
+    ensures { Resolves result state.new
+        (begun (J.tests judge.now) known.now ty.now scope.now state.old) }
 {
     match made_struct(known, ty, scope) {
         None => Ok(None),
@@ -272,7 +278,8 @@ pub(crate) fn ended(
     written: Option<Written>,
     arguments: Result<Codes, AllocError>,
 ) -> Result<Code, AllocError>
-    ensures { Gives arguments result (λ ys c. coded c state.new ≡ ended (begins ty.now) written (codes ys state.old)) }
+    ensures { Gives arguments result (λ ys c. resolution c state.new
+        ≡ ended (begins ty.now) written ys state.old) }
 {
     let arguments = arguments?;
     match written {
@@ -286,7 +293,7 @@ pub(crate) fn ended(
 
 /// The next spawn place, whose expression is read behind this.
 pub(crate) fn awaited(state: &mut State) -> Result<u32, AllocError>
-    ensures { IfOk result (λ n. (n ≡ length state.old.spawns) × (state.new ≡ awaited state.old)) }
+    ensures { Resolves result state.new (awaited state.old) }
 {
     let place = small(state.spawns.len())?;
     state.spawns.push(Code::Nothing)?;
@@ -299,7 +306,7 @@ pub(crate) fn spawned_at(
     place: u32,
     code: Result<Code, AllocError>,
 ) -> Result<Code, AllocError>
-    ensures { Gives code result (λ y c. coded c state.new ≡ spawned_at place (coded y state.old)) }
+    ensures { Gives code result (λ y c. resolution c state.new ≡ spawned_at place y state.old) }
 {
     let code = code?;
     state.spawns.set(place as usize, code);
@@ -345,7 +352,8 @@ pub(crate) fn bound(
     name: &Name,
     code: Result<Code, AllocError>,
 ) -> Result<Statement, AllocError>
-    ensures { Gives code result (λ y x. stated x scope.new state.new ≡ said (S.Bind (length scope.old.slots) y) (bind name.now scope.old state.old)) }
+    ensures { Gives code result (λ y x. resolution (x, scope.new) state.new
+        ≡ bound name.now scope.old y state.old) }
 {
     let code = code?;
     forms::bound(scope, state, name, code)
@@ -420,7 +428,8 @@ pub(crate) fn started<J: Judge>(
     state: &mut State,
     head: &Head,
 ) -> Result<(u32, Opening), AllocError>
-    ensures { IfOk result (λ p. started_as p.0 p.1 state.new ≡ started (J.tests judge.now) known.now head.now types state.old) }
+    ensures { Resolves result state.new
+        (started (J.tests judge.now) known.now head.now types state.old) }
 {
     let opening = opened(alloc, judge, known, types, state, head)?;
     let number = reserved(state, &opening)?;
@@ -434,7 +443,8 @@ pub(crate) fn finished(
     opening: Opening,
     code: Result<Code, AllocError>,
 ) -> Result<u32, AllocError>
-    ensures { Gives code result (λ y n. defined n state.new ≡ defined number (closed number opening (coded y state.old))) }
+    ensures { Gives code result (λ y n. resolution n state.new
+        ≡ resolution number (closed number opening y state.old)) }
 {
     let code = code?;
     closed(state, number, opening, code);

@@ -1,10 +1,9 @@
 //! The statements at the top, and the program of a script whose declarations are known.
 
 ghost use Rattle.std.specs.Prelude.{◌≡◌, ◌∷◌, ◌++◌, [], ◌+◌, drop, length, IfOk, OnOk};
-ghost use Rattle.jl_resolve_forms.specs.Expressions.{bare_scope};
-ghost use Rattle.jl_resolve_forms.specs.Scopes.{seen};
-ghost use Rattle.jl_resolve_forms.specs.Top.{tops, top_bind, one_top, all_top, program_as, resolved};
-ghost use Rattle.jl_resolve_walk.specs.Steps.{tops_behind, one_type_more, top_bound, resolved_as};
+ghost use Rattle.jl_resolve_forms.specs.Resolver.{resolution};
+ghost use Rattle.jl_resolve_forms.specs.Top.{top_bind, top_bound, one_top, all_top, program_as, resolved};
+ghost use Rattle.jl_resolve_walk.specs.Steps.{scoped_behind, one_type_more, resolved_as};
 
 use crate::beginning::beginning;
 use crate::expressions::{expr, method};
@@ -39,7 +38,8 @@ fn placed(
     state: &mut State,
     name: &Name,
 ) -> Result<u32, AllocError>
-    ensures { IfOk result (λ n. (n ≡ length scope.old.slots) × (seen scope.new state.new ≡ top_bind known.now name.now scope.old state.old)) }
+    ensures { IfOk result (λ n. (n ≡ length scope.old.slots) × (resolution scope.new state.new
+        ≡ top_bind known.now name.now scope.old state.old)) }
 {
     let slot = small(scope.slots.len())?;
     top_bind(known, scope, state, name)?;
@@ -54,7 +54,8 @@ fn bound(
     name: &Name,
     code: Code,
 ) -> Result<Statement, AllocError>
-    ensures { IfOk result (λ x. tops (x ∷ []) scope.new state.new ≡ top_bound known.now name.now code scope.old state.old) }
+    ensures { IfOk result (λ x. resolution (x ∷ [], scope.new) state.new
+        ≡ top_bound known.now name.now scope.old code state.old) }
 {
     match placed(known, scope, state, name) {
         Ok(slot) => Ok(Statement::Bind(slot, code)),
@@ -75,7 +76,8 @@ fn put_top<J: Judge>(
     out: &mut Row<Statement>,
     text: &Item,
 ) -> Result<(), AllocError>
-    ensures { OnOk result (tops out.new scope.new state.new ≡ tops_behind out.old (one_top (J.tests judge.now) known.now text.now scope.old state.old)) }
+    ensures { OnOk result (resolution (out.new, scope.new) state.new
+        ≡ scoped_behind out.old (one_top (J.tests judge.now) known.now text.now scope.old state.old)) }
 {
     match text {
         Item::Abstract(_) => declared(scope),
@@ -105,7 +107,8 @@ fn all_top<J: Judge>(
     state: &mut State,
     texts: &[Item],
 ) -> Result<Items, AllocError>
-    ensures { IfOk result (λ xs. tops xs scope.new state.new ≡ all_top (J.tests judge.now) known.now texts.now scope.old state.old) }
+    ensures { IfOk result (λ xs. resolution (xs, scope.new) state.new
+        ≡ all_top (J.tests judge.now) known.now texts.now scope.old state.old) }
 {
     let mut out = Row::new(alloc);
     for text in texts {
@@ -146,7 +149,7 @@ fn program_as(
     state: State,
     top: Items,
 ) -> Result<Resolved, AllocError>
-    ensures { IfOk result (λ r. resolved_as r.program r.fault ≡ program_as known.now (tops top (bare_scope BUILTIN_TYPES) state)) }
+    ensures { IfOk result (λ r. resolved_as r.program r.fault ≡ program_as known.now top state) }
 {
     let State {
         sites,
@@ -175,7 +178,8 @@ pub fn resolved<J: Judge>(
     items: &[Item],
     fault: Option<Fault>,
 ) -> Result<Resolved, AllocError>
-    ensures { IfOk result (λ r. resolved_as r.program r.fault ≡ resolved (J.tests judge.now) known.now items.now fault) }
+    ensures { IfOk result (λ r. resolved_as r.program r.fault
+        ≡ resolved (J.tests judge.now) known.now items.now fault) }
 {
     let mut scope = bare_scope(alloc, BUILTIN_TYPES);
     let mut state = beginning(alloc, fault)?;

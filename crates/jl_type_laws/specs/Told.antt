@@ -8,11 +8,13 @@ use Rattle.jl_model.specs.Valid.{is_known}
 use Rattle.jl_program.specs.BodyTypes.{is_seen, is_made}
 use Rattle.jl_program.specs.Scope.{in_body}
 use Rattle.jl_grammar.specs.declared.tree.Head.{Head}
+use Rattle.jl_model.specs.declared.ty.Written.{Written}
 use Rattle.jl_written.specs.declared.reading.TypeVar.{TypeVar}
 use Rattle.jl_resolve_forms.specs.declared.state.Signed.{Signed}
 use Rattle.jl_resolve_forms.specs.declared.state.State.{State}
 use Rattle.jl_resolve_forms.specs.Expressions.{static_parameters}
-use Rattle.jl_resolve_forms.specs.TypesIn.{Tests, Wrote}
+use Rattle.jl_resolve_forms.specs.Resolver.{Resolution}
+use Rattle.jl_resolve_forms.specs.TypesIn.{Tests}
 use Rattle.jl_type_laws.specs.Carried.{Visible, WhereUsable}
 
 -- each static parameter that a body may use is flagged
@@ -21,15 +23,15 @@ StaticsFit flags vs = Visible (WhereUsable (λ n. get_or flags n false ≡ true)
 
 -- A type in a body, read from the state s on: no fault stands before it, it may stand where these static parameters are
 -- visible, and nothing refuses it.
-pub record IsSeenType (t : Tests) (ds : List Decl) (flags : List Bool) (s : State) (w : Wrote) : Type 0 where
+pub record IsSeenType (t : Tests) (ds : List Decl) (flags : List Bool) (s : State) (w : Resolution Written) : Type 0 where
   pub unfaulted : s.fault ≡ None
-  pub seen : IsTrue (is_seen ds flags w.written)
-  pub allowed : t.body w.written ≡ None
+  pub seen : IsTrue (is_seen ds flags w.value)
+  pub allowed : t.body w.value ≡ None
 
 -- the type of an explicit constructor: such a type, and one of a declared struct without variables of its own
-pub record IsMadeType (t : Tests) (ds : List Decl) (flags : List Bool) (s : State) (w : Wrote) : Type 0 where
+pub record IsMadeType (t : Tests) (ds : List Decl) (flags : List Bool) (s : State) (w : Resolution Written) : Type 0 where
   pub type : IsSeenType t ds flags s w
-  pub made : IsTrue (is_made ds w.written)
+  pub made : IsTrue (is_made ds w.value)
 
 -- A signature: it has no variables but its own, names types of the program, nothing refuses it, it has a type for each
 -- parameter, and what a body may use of its variables is flagged there.

@@ -38,17 +38,17 @@ view_behind (binds n x) v = one_more v
 view_behind (returns x) v = v
 view_behind (does x) v = v
 
-said_sees : (x : Says) (c : Scope) (s : State) (v : View) → Sees c v → Sees (one_said x c s).scope (view_behind x v)
+said_sees : (x : Says) (c : Scope) (s : State) (v : View) → Sees c v → Sees (one_said x c s).value.1 (view_behind x v)
 said_sees (binds n x) c s v see = bind_sees n c (x c s).after v see
 said_sees (returns x) c s v see = see
 said_sees (does x) c s v see = see
 
 behind_is :
     (P : Program) (all : List View) (x : Says) (c : Scope) (s : State) (v : View) (r : Bool) (least : ℕ)
-    → cond (stmt_of P all (one_said x c s).stmt).binds (bound (standing v r least)) (standing v r least) ≡ standing (view_behind x v) r least
-behind_is P all (binds n x) c s v r least = ap (λ (z : Statement). cond z.binds (bound (standing v r least)) (standing v r least)) (valid-bind P all (length c.slots) (x c s).code)
-behind_is P all (returns x) c s v r least = ap (λ (z : Statement). cond z.binds (bound (standing v r least)) (standing v r least)) (valid-return P all (x c s).code)
-behind_is P all (does x) c s v r least = ap (λ (z : Statement). cond z.binds (bound (standing v r least)) (standing v r least)) (valid-do P all (x c s).code)
+    → cond (stmt_of P all (one_said x c s).value.0).binds (bound (standing v r least)) (standing v r least) ≡ standing (view_behind x v) r least
+behind_is P all (binds n x) c s v r least = ap (λ (z : Statement). cond z.binds (bound (standing v r least)) (standing v r least)) (valid-bind P all (length c.slots) (x c s).value)
+behind_is P all (returns x) c s v r least = ap (λ (z : Statement). cond z.binds (bound (standing v r least)) (standing v r least)) (valid-return P all (x c s).value)
+behind_is P all (does x) c s v r least = ap (λ (z : Statement). cond z.binds (bound (standing v r least)) (standing v r least)) (valid-do P all (x c s).value)
 
 -- the tests of statements, of tests with their blocks, of pieces and of evaluated statements
 abbrev pub stmts_pass : Program → List View → List Stmt → Standing → Bool
@@ -135,77 +135,77 @@ module _ (t : Tests) (k : Known) where
 
   one_said_good :
       (r : Bool) (ns : List Name) (x : Says) → IsGoodStmt k r ns x → (c : Scope) (v : View) (s : State) → Sees c v → (one_said x c s).after.fault ≡ None
-      → Adds k s (one_said x c s).after ns (got_stmt (one_said x c s).stmt) (λ P all. Passes v r (length s.spawns) (stmt_of P all (one_said x c s).stmt).valid)
+      → Adds k s (one_said x c s).after ns (got_stmt (one_said x c s).value.0) (λ P all. Passes v r (length s.spawns) (stmt_of P all (one_said x c s).value.0).valid)
   one_said_good r ns (binds n x) good c v s see e =
       let y = x c s in
       let b = bind n c y.after in
       let same = bind_same n c y.after e in
-      let Holds : Program → List View → Type 0 = λ P all. Passes v r (length s.spawns) (stmt_of P all (S.Bind (length c.slots) y.code)).valid in
+      let Holds : Program → List View → Type 0 = λ P all. Passes v r (length s.spawns) (stmt_of P all (S.Bind (length c.slots) y.value)).valid in
       let i = length c.slots in
-      ends_at k s y.after b.after ns (got_stmt (S.Bind i y.code)) Holds same
-      (got_is k s y.after ns (got_in y.code) (got_stmt (S.Bind i y.code)) Holds (bind_got i y.code)
-      (told k s y.after ns (got_in y.code) (IsCode v r (length s.spawns) y.code) Holds (good c v s see (clean y.after b.after e same))
-      (λ P all f a. by_statement v r (length s.spawns) (stmt_of P all (S.Bind (length c.slots) y.code)) (valid_stmt P all (V.Stmt::Bind (length c.slots) (is_valid_expr P all y.code)))
-      (valid-bind P all (length c.slots) y.code) (λ least l. and (nat_eq (length c.slots) v.slots) _ (eq-eqb (length c.slots) v.slots see.slots) (a least l)))))
+      ends_at k s y.after b.after ns (got_stmt (S.Bind i y.value)) Holds same
+      (got_is k s y.after ns (got_in y.value) (got_stmt (S.Bind i y.value)) Holds (bind_got i y.value)
+      (told k s y.after ns (got_in y.value) (IsCode v r (length s.spawns) y.value) Holds (good c v s see (clean y.after b.after e same))
+      (λ P all f a. by_statement v r (length s.spawns) (stmt_of P all (S.Bind (length c.slots) y.value)) (valid_stmt P all (V.Stmt::Bind (length c.slots) (is_valid_expr P all y.value)))
+      (valid-bind P all (length c.slots) y.value) (λ least l. and (nat_eq (length c.slots) v.slots) _ (eq-eqb (length c.slots) v.slots see.slots) (a least l)))))
   one_said_good r ns (returns x) good c v s see e =
       let y = x c s in
-      let Holds : Program → List View → Type 0 = λ P all. Passes v r (length s.spawns) (stmt_of P all (S.Return y.code)).valid in
-      got_is k s y.after ns (got_in y.code) (got_stmt (S.Return y.code)) Holds (return_got y.code)
-      (told k s y.after ns (got_in y.code) (IsCode v r (length s.spawns) y.code) Holds (good.1 c v s see e)
-      (λ P all f a. by_statement v r (length s.spawns) (stmt_of P all (S.Return y.code)) (valid_stmt P all (V.Return (is_valid_expr P all y.code))) (valid-return P all y.code)
+      let Holds : Program → List View → Type 0 = λ P all. Passes v r (length s.spawns) (stmt_of P all (S.Return y.value)).valid in
+      got_is k s y.after ns (got_in y.value) (got_stmt (S.Return y.value)) Holds (return_got y.value)
+      (told k s y.after ns (got_in y.value) (IsCode v r (length s.spawns) y.value) Holds (good.1 c v s see e)
+      (λ P all f a. by_statement v r (length s.spawns) (stmt_of P all (S.Return y.value)) (valid_stmt P all (V.Return (is_valid_expr P all y.value))) (valid-return P all y.value)
       (λ least l. and r _ good.0 (a least l))))
   one_said_good r ns (does x) good c v s see e =
       let y = x c s in
-      let Holds : Program → List View → Type 0 = λ P all. Passes v r (length s.spawns) (stmt_of P all (S.Do y.code)).valid in
-      got_is k s y.after ns (got_in y.code) (got_stmt (S.Do y.code)) Holds (do_got y.code)
-      (told k s y.after ns (got_in y.code) (IsCode v r (length s.spawns) y.code) Holds (good c v s see e)
-      (λ P all f a. by_statement v r (length s.spawns) (stmt_of P all (S.Do y.code)) (valid_stmt P all (V.Stmt::Do (is_valid_expr P all y.code))) (valid-do P all y.code) a))
+      let Holds : Program → List View → Type 0 = λ P all. Passes v r (length s.spawns) (stmt_of P all (S.Do y.value)).valid in
+      got_is k s y.after ns (got_in y.value) (got_stmt (S.Do y.value)) Holds (do_got y.value)
+      (told k s y.after ns (got_in y.value) (IsCode v r (length s.spawns) y.value) Holds (good c v s see e)
+      (λ P all f a. by_statement v r (length s.spawns) (stmt_of P all (S.Do y.value)) (valid_stmt P all (V.Stmt::Do (is_valid_expr P all y.value))) (valid-do P all y.value) a))
 
   pub all_said_good :
       (r : Bool) (nss : List (List Name)) (xs : List Says) → Each (IsGoodStmt k r) nss xs → (c : Scope) (v : View) (s : State) → Sees c v → (all_said xs c s).after.fault ≡ None
-      → Adds k s (all_said xs c s).after (flat_map (λ n. n) nss) (got_stmts (all_said xs c s).stmts) (λ P all. Passes v r (length s.spawns) (stmts_pass P all (all_said xs c s).stmts))
+      → Adds k s (all_said xs c s).after (flat_map (λ n. n) nss) (got_stmts (all_said xs c s).value.0) (λ P all. Passes v r (length s.spawns) (stmts_pass P all (all_said xs c s).value.0))
   all_said_good r [] [] h c v s see e = nothing k s (λ P all. Passes v r (length s.spawns) (stmts_pass P all [])) e (λ P all f least l. refl)
   all_said_good r [] (x ∷ xs) h c v s see e = absurd h
   all_said_good r (ns ∷ nss) [] h c v s see e = absurd h
   all_said_good r (ns ∷ nss) (x ∷ xs) h c v s see e =
       let y = one_said x c s in
-      let ys = all_said xs y.scope y.after in
+      let ys = all_said xs y.value.1 y.after in
       let w = view_behind x v in
-      let A : Program → List View → Type 0 = λ P all. Passes v r (length s.spawns) (stmt_of P all y.stmt).valid in
-      let B : Program → List View → Type 0 = λ P all. Passes w r (length y.after.spawns) (stmts_pass P all ys.stmts) in
-      let rest = all_said_good r nss xs h.1 y.scope w y.after (said_sees x c s v see) e in
+      let A : Program → List View → Type 0 = λ P all. Passes v r (length s.spawns) (stmt_of P all y.value.0).valid in
+      let B : Program → List View → Type 0 = λ P all. Passes w r (length y.after.spawns) (stmts_pass P all ys.value.0) in
+      let rest = all_said_good r nss xs h.1 y.value.1 w y.after (said_sees x c s v see) e in
       let first = one_said_good r ns x h.0 c v s see rest.clean in
-      told k s ys.after (ns ++ flat_map (λ n. n) nss) (got_stmts (y.stmt ∷ ys.stmts)) (λ P all. A P all × B P all) (λ P all. Passes v r (length s.spawns) (stmts_pass P all (y.stmt ∷ ys.stmts)))
-      (both k s y.after ys.after ns (flat_map (λ n. n) nss) (got_stmt y.stmt) (got_stmts ys.stmts) A B first rest)
+      told k s ys.after (ns ++ flat_map (λ n. n) nss) (got_stmts (y.value.0 ∷ ys.value.0)) (λ P all. A P all × B P all) (λ P all. Passes v r (length s.spawns) (stmts_pass P all (y.value.0 ∷ ys.value.0)))
+      (both k s y.after ys.after ns (flat_map (λ n. n) nss) (got_stmt y.value.0) (got_stmts ys.value.0) A B first rest)
       (λ P all f a least l.
       let here = standing v r least in
-      let one = stmt_of P all y.stmt in
-      and (one.valid here) (in_turn (map (stmt_of P all) ys.stmts) (cond one.binds (bound here) here)) (a.0 least l)
-      (ap (in_turn (map (stmt_of P all) ys.stmts)) (behind_is P all x c s v r least) ∙ a.1 least (omega (arith, l, more_spawns k s y.after ns (got_stmt y.stmt) A first))))
+      let one = stmt_of P all y.value.0 in
+      and (one.valid here) (in_turn (map (stmt_of P all) ys.value.0) (cond one.binds (bound here) here)) (a.0 least l)
+      (ap (in_turn (map (stmt_of P all) ys.value.0)) (behind_is P all x c s v r least) ∙ a.1 least (omega (arith, l, more_spawns k s y.after ns (got_stmt y.value.0) A first))))
 
   pub block_good : (r : Bool) (nss : List (List Name)) (xs : List Says) → Each (IsGoodStmt k r) nss xs → IsGood k r (flat_map (λ n. n) nss) (block_of xs)
   block_good r nss xs h c v s see e =
       let b = all_said xs c s in
-      formed k s b.after (flat_map (λ n. n) nss) (got_stmts b.stmts) (X.Block b.stmts) (λ P all. Passes v r (length s.spawns) (stmts_pass P all b.stmts)) (IsCode v r (length s.spawns) (X.Block b.stmts))
-      (got_at (V.Block b.stmts) (X.Block b.stmts) (X.rolls-Block b.stmts))
+      formed k s b.after (flat_map (λ n. n) nss) (got_stmts b.value.0) (X.Block b.value.0) (λ P all. Passes v r (length s.spawns) (stmts_pass P all b.value.0)) (IsCode v r (length s.spawns) (X.Block b.value.0))
+      (got_at (V.Block b.value.0) (X.Block b.value.0) (X.rolls-Block b.value.0))
       (all_said_good r nss xs h c v s see e)
-      (λ P all f a. by_layer v r (length s.spawns) (is_valid_expr P all (X.Block b.stmts)) (valid_step P all (V.Block (map (stmt_of P all) b.stmts))) (valid-block P all b.stmts) a)
+      (λ P all f a. by_layer v r (length s.spawns) (is_valid_expr P all (X.Block b.value.0)) (valid_step P all (V.Block (map (stmt_of P all) b.value.0))) (valid-block P all b.value.0) a)
 
   -- ---- tests with their blocks
 
   one_tried_good :
       (r : Bool) (ns : List Name) (b : Tries) → IsGoodBranch k r ns b → (c : Scope) (v : View) (s : State) → Sees c v → (one_tried b c s).after.fault ≡ None
-      → Adds k s (one_tried b c s).after ns (got_arm (one_tried b c s).arm) (λ P all. Passes v r (length s.spawns) (λ p. is_valid_expr P all (one_tried b c s).arm.test p && is_valid_expr P all (one_tried b c s).arm.then p))
+      → Adds k s (one_tried b c s).after ns (got_arm (one_tried b c s).value) (λ P all. Passes v r (length s.spawns) (λ p. is_valid_expr P all (one_tried b c s).value.test p && is_valid_expr P all (one_tried b c s).value.then p))
   one_tried_good r ns b good c v s see e =
       let y = b.test c s in
       let z = block_of b.block c y.after in
       let rest = block_good r good.of_block b.block good.block c v y.after see e in
-      names_are k s z.after (good.of_test ++ flat_map (λ n. n) good.of_block) ns (got_both (got_in y.code) (got_in z.code)) (λ P all. Passes v r (length s.spawns) (λ p. is_valid_expr P all y.code p && is_valid_expr P all z.code p)) good.is
-      (two k v r s y.after z.after good.of_test (flat_map (λ n. n) good.of_block) (got_in y.code) (got_in z.code) (λ P all. is_valid_expr P all y.code) (λ P all. is_valid_expr P all z.code) (good.test c v s see rest.clean) rest)
+      names_are k s z.after (good.of_test ++ flat_map (λ n. n) good.of_block) ns (got_both (got_in y.value) (got_in z.value)) (λ P all. Passes v r (length s.spawns) (λ p. is_valid_expr P all y.value p && is_valid_expr P all z.value p)) good.is
+      (two k v r s y.after z.after good.of_test (flat_map (λ n. n) good.of_block) (got_in y.value) (got_in z.value) (λ P all. is_valid_expr P all y.value) (λ P all. is_valid_expr P all z.value) (good.test c v s see rest.clean) rest)
 
   pub all_tried_good :
       (r : Bool) (nss : List (List Name)) (bs : List Tries) → Each (IsGoodBranch k r) nss bs → (c : Scope) (v : View) (s : State) → Sees c v → (all_tried bs c s).after.fault ≡ None
-      → Adds k s (all_tried bs c s).after (flat_map (λ n. n) nss) (got_arms (all_tried bs c s).arms) (λ P all. Passes v r (length s.spawns) (arms_pass P all (all_tried bs c s).arms))
+      → Adds k s (all_tried bs c s).after (flat_map (λ n. n) nss) (got_arms (all_tried bs c s).value) (λ P all. Passes v r (length s.spawns) (arms_pass P all (all_tried bs c s).value))
   all_tried_good r [] [] h c v s see e = nothing k s (λ P all. Passes v r (length s.spawns) (arms_pass P all [])) e (λ P all f least l. refl)
   all_tried_good r [] (x ∷ xs) h c v s see e = absurd h
   all_tried_good r (ns ∷ nss) [] h c v s see e = absurd h
@@ -213,7 +213,7 @@ module _ (t : Tests) (k : Known) where
       let y = one_tried b c s in
       let ys = all_tried bs c y.after in
       let rest = all_tried_good r nss bs h.1 c v y.after see e in
-      two k v r s y.after ys.after ns (flat_map (λ n. n) nss) (got_arm y.arm) (got_arms ys.arms) (λ P all p. is_valid_expr P all y.arm.test p && is_valid_expr P all y.arm.then p) (λ P all. arms_pass P all ys.arms)
+      two k v r s y.after ys.after ns (flat_map (λ n. n) nss) (got_arm y.value) (got_arms ys.value) (λ P all p. is_valid_expr P all y.value.test p && is_valid_expr P all y.value.then p) (λ P all. arms_pass P all ys.value)
       (one_tried_good r ns b h.0 c v s see rest.clean) rest
 
   chained_passes :
@@ -229,11 +229,11 @@ module _ (t : Tests) (k : Known) where
   pub if_end : (r : Bool) (at : ℕ) (nss : List (List Name)) (bs : List Tries) → Each (IsGoodBranch k r) nss bs → IsGood k r (flat_map (λ n. n) nss) (expr_step t k (F.If at bs))
   if_end r at nss bs h c v s see e =
       let ys = all_tried bs c s in
-      let behind : Got → Got = λ z. got_both (got_arms ys.arms) z in
-      formed k s ys.after (flat_map (λ n. n) nss) (got_arms ys.arms) (chained ys.arms W.Nothing) (λ P all. Passes v r (length s.spawns) (arms_pass P all ys.arms)) (IsCode v r (length s.spawns) (chained ys.arms W.Nothing))
-      (chained_got t k ys.arms W.Nothing ∙ ap behind nothing_got ∙ nil_behind (got_arms ys.arms))
+      let behind : Got → Got = λ z. got_both (got_arms ys.value) z in
+      formed k s ys.after (flat_map (λ n. n) nss) (got_arms ys.value) (chained ys.value W.Nothing) (λ P all. Passes v r (length s.spawns) (arms_pass P all ys.value)) (IsCode v r (length s.spawns) (chained ys.value W.Nothing))
+      (chained_got t k ys.value W.Nothing ∙ ap behind nothing_got ∙ nil_behind (got_arms ys.value))
       (all_tried_good r nss bs h c v s see e)
-      (λ P all f a. chained_passes P all v r (length s.spawns) ys.arms W.Nothing a
+      (λ P all f a. chained_passes P all v r (length s.spawns) ys.value W.Nothing a
       (by_layer v r (length s.spawns) (is_valid_expr P all W.Nothing) (valid_step P all V.Nothing) (valid-nothing P all) (λ least l. refl)))
 
   pub if_else :
@@ -245,32 +245,32 @@ module _ (t : Tests) (k : Known) where
       let ys = all_tried bs c s in
       let z = block_of xs c ys.after in
       let rest = block_good r mss xs g c v ys.after see e in
-      formed k s z.after (ns ++ ms) (got_both (got_arms ys.arms) (got_in z.code)) (chained ys.arms z.code) (λ P all. Passes v r (length s.spawns) (λ p. arms_pass P all ys.arms p && is_valid_expr P all z.code p))
-      (IsCode v r (length s.spawns) (chained ys.arms z.code)) (chained_got t k ys.arms z.code)
-      (two k v r s ys.after z.after ns ms (got_arms ys.arms) (got_in z.code) (λ P all. arms_pass P all ys.arms) (λ P all. is_valid_expr P all z.code) (all_tried_good r nss bs h c v s see rest.clean) rest)
-      (λ P all f a. chained_passes P all v r (length s.spawns) ys.arms z.code
-      (λ least l. left (arms_pass P all ys.arms (standing v r least)) (is_valid_expr P all z.code (standing v r least)) (a least l))
-      (λ least l. right (arms_pass P all ys.arms (standing v r least)) (is_valid_expr P all z.code (standing v r least)) (a least l)))
+      formed k s z.after (ns ++ ms) (got_both (got_arms ys.value) (got_in z.value)) (chained ys.value z.value) (λ P all. Passes v r (length s.spawns) (λ p. arms_pass P all ys.value p && is_valid_expr P all z.value p))
+      (IsCode v r (length s.spawns) (chained ys.value z.value)) (chained_got t k ys.value z.value)
+      (two k v r s ys.after z.after ns ms (got_arms ys.value) (got_in z.value) (λ P all. arms_pass P all ys.value) (λ P all. is_valid_expr P all z.value) (all_tried_good r nss bs h c v s see rest.clean) rest)
+      (λ P all f a. chained_passes P all v r (length s.spawns) ys.value z.value
+      (λ least l. left (arms_pass P all ys.value (standing v r least)) (is_valid_expr P all z.value (standing v r least)) (a least l))
+      (λ least l. right (arms_pass P all ys.value (standing v r least)) (is_valid_expr P all z.value (standing v r least)) (a least l)))
 
   -- ---- prints
 
   one_shown_good :
       (r : Bool) (ns : List Name) (x : Shows) → IsGoodPiece k r ns x → (c : Scope) (v : View) (s : State) → Sees c v → (one_shown x c s).after.fault ≡ None
-      → Adds k s (one_shown x c s).after ns (got_piece (one_shown x c s).piece) (λ P all. Passes v r (length s.spawns) (is_valid_piece P all (one_shown x c s).piece))
+      → Adds k s (one_shown x c s).after ns (got_piece (one_shown x c s).value) (λ P all. Passes v r (length s.spawns) (is_valid_piece P all (one_shown x c s).value))
   one_shown_good r ns (writes bytes) good c v s see e =
       let Holds : Program → List View → Type 0 = λ P all. Passes v r (length s.spawns) (is_valid_piece P all (Q.Text bytes)) in
       names_are k s s [] ns (got_piece (Q.Text bytes)) Holds good.0
       (got_is k s s [] no_got (got_piece (Q.Text bytes)) Holds (text_got bytes) (nothing k s Holds e (λ P all f. by_layer v r (length s.spawns) (is_valid_piece P all (Q.Text bytes)) (valid_text_step P all (V.Text bytes)) (valid-text P all bytes) (λ least l. good.1))))
   one_shown_good r ns (shows x) good c v s see e =
       let y = x c s in
-      let Holds : Program → List View → Type 0 = λ P all. Passes v r (length s.spawns) (is_valid_piece P all (Q.Show y.code)) in
-      got_is k s y.after ns (got_in y.code) (got_piece (Q.Show y.code)) Holds (show_got y.code)
-      (told k s y.after ns (got_in y.code) (IsCode v r (length s.spawns) y.code) Holds (good c v s see e)
-      (λ P all f a. by_layer v r (length s.spawns) (is_valid_piece P all (Q.Show y.code)) (is_valid_expr P all y.code) (valid-show P all y.code) a))
+      let Holds : Program → List View → Type 0 = λ P all. Passes v r (length s.spawns) (is_valid_piece P all (Q.Show y.value)) in
+      got_is k s y.after ns (got_in y.value) (got_piece (Q.Show y.value)) Holds (show_got y.value)
+      (told k s y.after ns (got_in y.value) (IsCode v r (length s.spawns) y.value) Holds (good c v s see e)
+      (λ P all f a. by_layer v r (length s.spawns) (is_valid_piece P all (Q.Show y.value)) (is_valid_expr P all y.value) (valid-show P all y.value) a))
 
   all_shown_good :
       (r : Bool) (nss : List (List Name)) (xs : List Shows) → Each (IsGoodPiece k r) nss xs → (c : Scope) (v : View) (s : State) → Sees c v → (all_shown xs c s).after.fault ≡ None
-      → Adds k s (all_shown xs c s).after (flat_map (λ n. n) nss) (got_pieces (all_shown xs c s).pieces) (λ P all. Passes v r (length s.spawns) (pieces_pass P all (all_shown xs c s).pieces))
+      → Adds k s (all_shown xs c s).after (flat_map (λ n. n) nss) (got_pieces (all_shown xs c s).value) (λ P all. Passes v r (length s.spawns) (pieces_pass P all (all_shown xs c s).value))
   all_shown_good r [] [] h c v s see e = nothing k s (λ P all. Passes v r (length s.spawns) (pieces_pass P all [])) e (λ P all f least l. refl)
   all_shown_good r [] (x ∷ xs) h c v s see e = absurd h
   all_shown_good r (ns ∷ nss) [] h c v s see e = absurd h
@@ -278,15 +278,15 @@ module _ (t : Tests) (k : Known) where
       let y = one_shown x c s in
       let ys = all_shown xs c y.after in
       let rest = all_shown_good r nss xs h.1 c v y.after see e in
-      two k v r s y.after ys.after ns (flat_map (λ n. n) nss) (got_piece y.piece) (got_pieces ys.pieces) (λ P all. is_valid_piece P all y.piece) (λ P all. pieces_pass P all ys.pieces) (one_shown_good r ns x h.0 c v s see rest.clean) rest
+      two k v r s y.after ys.after ns (flat_map (λ n. n) nss) (got_piece y.value) (got_pieces ys.value) (λ P all. is_valid_piece P all y.value) (λ P all. pieces_pass P all ys.value) (one_shown_good r ns x h.0 c v s see rest.clean) rest
 
   pub print : (r : Bool) (at : ℕ) (line : Bool) (nss : List (List Name)) (xs : List Shows) → Each (IsGoodPiece k r) nss xs → IsGood k r (flat_map (λ n. n) nss) (expr_step t k (F.Print at line xs))
   print r at line nss xs h c v s see e =
       let ys = all_shown xs c s in
-      formed k s ys.after (flat_map (λ n. n) nss) (got_pieces ys.pieces) (X.Print ys.pieces line) (λ P all. Passes v r (length s.spawns) (pieces_pass P all ys.pieces)) (IsCode v r (length s.spawns) (X.Print ys.pieces line))
-      (got_at (V.Print ys.pieces line) (X.Print ys.pieces line) (X.rolls-Print ys.pieces line))
+      formed k s ys.after (flat_map (λ n. n) nss) (got_pieces ys.value) (X.Print ys.value line) (λ P all. Passes v r (length s.spawns) (pieces_pass P all ys.value)) (IsCode v r (length s.spawns) (X.Print ys.value line))
+      (got_at (V.Print ys.value line) (X.Print ys.value line) (X.rolls-Print ys.value line))
       (all_shown_good r nss xs h c v s see e)
-      (λ P all f a. by_layer v r (length s.spawns) (is_valid_expr P all (X.Print ys.pieces line)) (valid_step P all (V.Print (map (is_valid_piece P all) ys.pieces) line)) (valid-print P all ys.pieces line) a)
+      (λ P all f a. by_layer v r (length s.spawns) (is_valid_expr P all (X.Print ys.value line)) (valid_step P all (V.Print (map (is_valid_piece P all) ys.value) line)) (valid-print P all ys.value line) a)
 
   -- ---- evaluated blocks
 
@@ -298,24 +298,24 @@ module _ (t : Tests) (k : Known) where
 
   one_evaluated_good :
       (r : Bool) (v : View) (ns : List Name) (x : Evaluates) → IsGoodEval k ns x → (types : ℕ) (s : State) → (one_evaluated x types s).after.fault ≡ None
-      → Adds k s (one_evaluated x types s).after ns (got_item (one_evaluated x types s).item) (λ P all. Passes v r (length s.spawns) (item_passes P all (one_evaluated x types s).item))
+      → Adds k s (one_evaluated x types s).after ns (got_item (one_evaluated x types s).value) (λ P all. Passes v r (length s.spawns) (item_passes P all (one_evaluated x types s).value))
   one_evaluated_good r v ns (defines m) good types s e =
       let y = m types s in
-      let Holds : Program → List View → Type 0 = λ P all. Passes v r (length s.spawns) (item_passes P all (I.Define y.site)) in
-      got_is k s y.after ns no_got (got_item (I.Define y.site)) Holds (define_got y.site)
-      (told k s y.after ns no_got (IsSite k y.site) Holds (good types s e)
-      (λ P all f a. by_item v r (length s.spawns) (item_of P all (I.Define y.site)) (valid_item P all (V.Define y.site)) (valid-define P all y.site)
-      (λ least l. and (nat_le prelude_count y.site) (nat_lt y.site (length P.sites)) (le-leb prelude_count y.site a.0) (lt-ltb y.site (length P.sites) a.1))))
+      let Holds : Program → List View → Type 0 = λ P all. Passes v r (length s.spawns) (item_passes P all (I.Define y.value)) in
+      got_is k s y.after ns no_got (got_item (I.Define y.value)) Holds (define_got y.value)
+      (told k s y.after ns no_got (IsSite k y.value) Holds (good types s e)
+      (λ P all f a. by_item v r (length s.spawns) (item_of P all (I.Define y.value)) (valid_item P all (V.Define y.value)) (valid-define P all y.value)
+      (λ least l. and (nat_le prelude_count y.value) (nat_lt y.value (length P.sites)) (le-leb prelude_count y.value a.0) (lt-ltb y.value (length P.sites) a.1))))
   one_evaluated_good r v ns (evaluates x) good types s e =
       let y = x (bare_scope types) s in
-      let Holds : Program → List View → Type 0 = λ P all. Passes v r (length s.spawns) (item_passes P all (I.Do y.code)) in
-      got_is k s y.after ns (got_in y.code) (got_item (I.Do y.code)) Holds (top_do_got y.code)
-      (told k s y.after ns (got_in y.code) (IsCode nothing_seen false (length s.spawns) y.code) Holds (good (bare_scope types) nothing_seen s (bare_sees types) e)
-      (λ P all f a. by_item v r (length s.spawns) (item_of P all (I.Do y.code)) (valid_item P all (V.Item::Do (is_valid_expr P all y.code))) (valid-top-do P all y.code) a))
+      let Holds : Program → List View → Type 0 = λ P all. Passes v r (length s.spawns) (item_passes P all (I.Do y.value)) in
+      got_is k s y.after ns (got_in y.value) (got_item (I.Do y.value)) Holds (top_do_got y.value)
+      (told k s y.after ns (got_in y.value) (IsCode nothing_seen false (length s.spawns) y.value) Holds (good (bare_scope types) nothing_seen s (bare_sees types) e)
+      (λ P all f a. by_item v r (length s.spawns) (item_of P all (I.Do y.value)) (valid_item P all (V.Item::Do (is_valid_expr P all y.value))) (valid-top-do P all y.value) a))
 
   all_evaluated_good :
       (r : Bool) (v : View) (nss : List (List Name)) (xs : List Evaluates) → Each (IsGoodEval k) nss xs → (types : ℕ) (s : State) → (all_evaluated xs types s).after.fault ≡ None
-      → Adds k s (all_evaluated xs types s).after (flat_map (λ n. n) nss) (got_items (all_evaluated xs types s).items) (λ P all. Passes v r (length s.spawns) (items_pass P all (all_evaluated xs types s).items))
+      → Adds k s (all_evaluated xs types s).after (flat_map (λ n. n) nss) (got_items (all_evaluated xs types s).value) (λ P all. Passes v r (length s.spawns) (items_pass P all (all_evaluated xs types s).value))
   all_evaluated_good r v [] [] h types s e = nothing k s (λ P all. Passes v r (length s.spawns) (items_pass P all [])) e (λ P all f least l. refl)
   all_evaluated_good r v [] (x ∷ xs) h types s e = absurd h
   all_evaluated_good r v (ns ∷ nss) [] h types s e = absurd h
@@ -323,17 +323,17 @@ module _ (t : Tests) (k : Known) where
       let y = one_evaluated x types s in
       let ys = all_evaluated xs types y.after in
       let rest = all_evaluated_good r v nss xs h.1 types y.after e in
-      two k v r s y.after ys.after ns (flat_map (λ n. n) nss) (got_item y.item) (got_items ys.items) (λ P all. item_passes P all y.item) (λ P all. items_pass P all ys.items) (one_evaluated_good r v ns x h.0 types s rest.clean) rest
+      two k v r s y.after ys.after ns (flat_map (λ n. n) nss) (got_item y.value) (got_items ys.value) (λ P all. item_passes P all y.value) (λ P all. items_pass P all ys.value) (one_evaluated_good r v ns x h.0 types s rest.clean) rest
 
   pub evaluated_good :
-      (r : Bool) (nss : List (List Name)) (xs : List Evaluates) → Each (IsGoodEval k) nss xs → (c : Scope) (v : View) (s : State) → (evaluated (all_evaluated xs c.types s)).after.fault ≡ None
-      → Adds k s (all_evaluated xs c.types s).after (flat_map (λ n. n) nss) (got_in (X.Eval (all_evaluated xs c.types s).items)) (IsCode v r (length s.spawns) (X.Eval (all_evaluated xs c.types s).items))
+      (r : Bool) (nss : List (List Name)) (xs : List Evaluates) → Each (IsGoodEval k) nss xs → (c : Scope) (v : View) (s : State) → (evaluated xs c s).after.fault ≡ None
+      → Adds k s (all_evaluated xs c.types s).after (flat_map (λ n. n) nss) (got_in (X.Eval (all_evaluated xs c.types s).value)) (IsCode v r (length s.spawns) (X.Eval (all_evaluated xs c.types s).value))
   evaluated_good r nss xs h c v s e =
       let ys = all_evaluated xs c.types s in
-      formed k s ys.after (flat_map (λ n. n) nss) (got_items ys.items) (X.Eval ys.items) (λ P all. Passes v r (length s.spawns) (items_pass P all ys.items)) (IsCode v r (length s.spawns) (X.Eval ys.items))
-      (got_at (V.Eval ys.items) (X.Eval ys.items) (X.rolls-Eval ys.items))
+      formed k s ys.after (flat_map (λ n. n) nss) (got_items ys.value) (X.Eval ys.value) (λ P all. Passes v r (length s.spawns) (items_pass P all ys.value)) (IsCode v r (length s.spawns) (X.Eval ys.value))
+      (got_at (V.Eval ys.value) (X.Eval ys.value) (X.rolls-Eval ys.value))
       (all_evaluated_good r v nss xs h c.types s e)
-      (λ P all f a. by_layer v r (length s.spawns) (is_valid_expr P all (X.Eval ys.items)) (valid_step P all (V.Eval (map (item_of P all) ys.items))) (valid-eval P all ys.items) a)
+      (λ P all f a. by_layer v r (length s.spawns) (is_valid_expr P all (X.Eval ys.value)) (valid_step P all (V.Eval (map (item_of P all) ys.value))) (valid-eval P all ys.value) a)
 
   pub eval_block : (r : Bool) (at : ℕ) (nss : List (List Name)) (xs : List Evaluates) → Each (IsGoodEval k) nss xs → IsGood k r (flat_map (λ n. n) nss) (expr_step t k (F.EvalBlock at xs))
   eval_block r at nss xs h c v s see e = evaluated_good r nss xs h c v s e
@@ -341,11 +341,11 @@ module _ (t : Tests) (k : Known) where
   pub eval_quote : (r : Bool) (at : ℕ) (nss : List (List Name)) (xs : List Evaluates) → Each (IsGoodEval k) nss xs → IsGood k r (flat_map (λ n. n) nss) (expr_step t k (F.EvalQuote at xs))
   eval_quote r at nss xs h c v s see e = evaluated_good r nss xs h c v s e
 
-  one_only : (r : Bool) (ns : List Name) (x : Evaluates) → IsGoodEval k ns x → (c : Scope) (v : View) (s : State) → (evaluated (all_evaluated (x ∷ []) c.types s)).after.fault ≡ None
-      → Adds k s (all_evaluated (x ∷ []) c.types s).after ns (got_in (X.Eval (all_evaluated (x ∷ []) c.types s).items)) (IsCode v r (length s.spawns) (X.Eval (all_evaluated (x ∷ []) c.types s).items))
+  one_only : (r : Bool) (ns : List Name) (x : Evaluates) → IsGoodEval k ns x → (c : Scope) (v : View) (s : State) → (evaluated (x ∷ []) c s).after.fault ≡ None
+      → Adds k s (all_evaluated (x ∷ []) c.types s).after ns (got_in (X.Eval (all_evaluated (x ∷ []) c.types s).value)) (IsCode v r (length s.spawns) (X.Eval (all_evaluated (x ∷ []) c.types s).value))
   one_only r ns x h c v s e =
       let ys = all_evaluated (x ∷ []) c.types s in
-      names_are k s ys.after (ns ++ []) ns (got_in (X.Eval ys.items)) (IsCode v r (length s.spawns) (X.Eval ys.items)) (sym (append-nil ns)) (evaluated_good r (ns ∷ []) (x ∷ []) (h, tt) c v s e)
+      names_are k s ys.after (ns ++ []) ns (got_in (X.Eval ys.value)) (IsCode v r (length s.spawns) (X.Eval ys.value)) (sym (append-nil ns)) (evaluated_good r (ns ∷ []) (x ∷ []) (h, tt) c v s e)
 
   pub eval_method : (r : Bool) (at : ℕ) (ns : List Name) (m : Defines) → IsGoodMethod k ns m → IsGood k r ns (expr_step t k (F.EvalMethod at m))
   eval_method r at ns m h c v s see e = one_only r ns (defines m) h c v s e

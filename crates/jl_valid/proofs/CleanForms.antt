@@ -4,15 +4,17 @@ use Rattle.jl_typeread.specs.declared.tree.ArgText.{ArgText}
 use Rattle.jl_typeread.specs.declared.tree.TypeText.{TypeText}
 use Rattle.jl_grammar.specs.declared.tree.Head.{Head}
 use Rattle.jl_written.specs.declared.fault.StaticKind.TheVariants as kind
+use Rattle.jl_program.specs.declared.tree.Expr.{Expr as Code}
 use Rattle.jl_resolve_forms.specs.declared.known.Known.{Known}
 use Rattle.jl_resolve_forms.specs.declared.known.Called.{Called}
 use Rattle.jl_resolve_forms.specs.declared.known.Called.TheVariants as D
 use Rattle.jl_resolve_forms.specs.declared.state.Scope.{Scope}
 use Rattle.jl_resolve_forms.specs.declared.state.State.{State}
+use Rattle.jl_resolve_forms.specs.Resolver.{Resolution}
 use Rattle.jl_resolve_forms.specs.Functions.{place_of_callee, function_of}
 use Rattle.jl_resolve_forms.specs.Scopes.{bind}
 use Rattle.jl_resolve_forms.specs.TypesIn.{Tests, body_written, made_at}
-use Rattle.jl_resolve_forms.specs.Expressions.{Reads, Defines, Codes, Says, binds, returns, does, Evaluates, defines, evaluates, Shows, writes, shows, Tries, all_coded, all_said, block_of, all_shown, bare_scope, all_evaluated, one_tried, all_tried, counted, call, latest, local, made, spawned, reserved, closed, opened, method, inferred_refusal, signed, named, is_a, is_below, static_parameters, parameters}
+use Rattle.jl_resolve_forms.specs.Expressions.{Reads, Defines, Says, binds, returns, does, Evaluates, defines, evaluates, Shows, writes, shows, Tries, all_coded, all_said, block_of, all_shown, bare_scope, all_evaluated, one_tried, all_tried, counted, call, latest, local, made, spawned, reserved, closed, opened, method, inferred_refusal, signed, named, is_a, is_below, static_parameters, parameters}
 use Rattle.jl_valid.specs.Adds.{Every}
 use Rattle.jl_valid.proofs.FaultLemmas.{no_note, noted_same, test_same, clean}
 use Rattle.jl_valid.proofs.PlaceForms.{names_none, parameters_same}
@@ -52,7 +54,7 @@ said_clean [] h c s e = e
 said_clean (binds n x ∷ xs) h c s e =
     let y = x c s in
     let b = bind n c y.after in
-    let rest = said_clean xs h.1 b.scope b.after e in
+    let rest = said_clean xs h.1 b.value b.after e in
     h.0 c s (clean y.after b.after rest (bind_same n c y.after rest))
 said_clean (returns x ∷ xs) h c s e = h.0 c s (said_clean xs h.1 c (x c s).after e)
 said_clean (does x ∷ xs) h c s e = h.0 c s (said_clean xs h.1 c (x c s).after e)
@@ -74,15 +76,15 @@ evaluated_clean [] h types s e = e
 evaluated_clean (defines m ∷ xs) h types s e = h.0 types s (evaluated_clean xs h.1 types (m types s).after e)
 evaluated_clean (evaluates x ∷ xs) h types s e = h.0 (bare_scope types) s (evaluated_clean xs h.1 types (x (bare_scope types) s).after e)
 
-counted_clean : (at : ℕ) (ys : Codes) → (counted at ys).fault ≡ None → ys.after.fault ≡ None
-counted_clean at ys e = clean ys.after (counted at ys) e (test_same (nat_lt 8 (length ys.codes)) at kind.TooManyArguments ys.after e)
+counted_clean : (at : ℕ) (ys : Resolution (List Code)) → (counted at ys.value ys.after).fault ≡ None → ys.after.fault ≡ None
+counted_clean at ys e = clean ys.after (counted at ys.value ys.after) e (test_same (nat_lt 8 (length ys.value)) at kind.TooManyArguments ys.after e)
 
 pub local_clean : (at : ℕ) (o : Option ℕ) (s : State) → (local at o s).after.fault ≡ None → s.fault ≡ None
 unfolding local
 local_clean at None s e = absurd (no_note at kind.UnknownName s e)
 local_clean at (Some slot) s e = e
 
-pub latest_clean : (at : ℕ) (o : Option ℕ) (ys : Codes) → (latest at o ys).after.fault ≡ None → ys.after.fault ≡ None
+pub latest_clean : (at : ℕ) (o : Option ℕ) (ys : Resolution (List Code)) → (latest at o ys.value ys.after).after.fault ≡ None → ys.after.fault ≡ None
 unfolding latest
 latest_clean at (Some f) ys e = counted_clean at ys e
 latest_clean at None ys e = absurd (no_note at kind.UnknownFunction ys.after e)
@@ -92,7 +94,7 @@ unfolding spawned
 spawned_clean x h c s e = h c _ e
 
 module _ (t : Tests) (k : Known) where
-  pub call_clean : (at : ℕ) (d : Called) (ys : Codes) → (call t k at d ys).after.fault ≡ None → ys.after.fault ≡ None
+  pub call_clean : (at : ℕ) (d : Called) (ys : Resolution (List Code)) → (call t k at d ys.value ys.after).after.fault ≡ None → ys.after.fault ≡ None
   unfolding call
   call_clean at (D.Function f) ys e = counted_clean at ys e
   call_clean at (D.Bare p) ys e = e
@@ -130,4 +132,4 @@ module _ (t : Tests) (k : Known) where
   unfolding reserved closed
   method_clean h x good types s e =
       let o = opened t k h types s in
-      opened_clean h types s (good o.opening.scope (reserved o.opening o.after) e)
+      opened_clean h types s (good o.value.scope (reserved o.value o.after) e)

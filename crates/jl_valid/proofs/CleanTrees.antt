@@ -184,7 +184,7 @@ module _ (t : Tests) (k : Known) where
   tops_clean _ G.no_items c s e = e
   tops_clean _ (G.more_items x xs f fs) c s e =
       let y = one_top t k x c s in
-      top_clean x f c s (tops_clean xs fs y.scope y.after e)
+      top_clean x f c s (tops_clean xs fs y.value.1 y.after e)
 
   -- a program without a fault begins without one
   pub begins_clean : (items : List Item) (f : Option Fault) → FormedItems items → (resolved t k items f).fault ≡ None → f ≡ None

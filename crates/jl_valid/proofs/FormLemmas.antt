@@ -102,7 +102,7 @@ module _ (t : Tests) (k : Known) where
   pub nothing_at : (r : Bool) (at : ℕ) → IsGood k r [] (expr_step t k (F.Nothing at))
   nothing_at r at c v s see e = leaf r v s W.Nothing nothing_got e (λ P all f. by_layer v r (length s.spawns) (is_valid_expr P all W.Nothing) (valid_step P all V.Nothing) (valid-nothing P all) (λ least l. refl))
 
-  local_at : (r : Bool) (at : ℕ) (v : View) (s : State) (o : Option ℕ) → ((j : ℕ) → o ≡ Some j → j < v.slots) → (local at o s).after.fault ≡ None → Adds k s (local at o s).after [] (got_in (local at o s).code) (IsCode v r (length s.spawns) (local at o s).code)
+  local_at : (r : Bool) (at : ℕ) (v : View) (s : State) (o : Option ℕ) → ((j : ℕ) → o ≡ Some j → j < v.slots) → (local at o s).after.fault ≡ None → Adds k s (local at o s).after [] (got_in (local at o s).value) (IsCode v r (length s.spawns) (local at o s).value)
   unfolding local
   local_at r at v s None h e = absurd (no_note at kind.UnknownName s e)
   local_at r at v s (Some j) h e =
@@ -115,10 +115,10 @@ module _ (t : Tests) (k : Known) where
   module _ (r : Bool) (ns : List Name) (x : Reads) (make : Code → Code) where
     pub around :
         ((y : Code) → got_in (make y) ≡ got_in y) → ((P : Program) (all : List View) (v : View) (n m : ℕ) (y : Code) → Fits k m P → IsCode v r n y P all → IsCode v r n (make y) P all)
-        → IsGood k r ns x → (c : Scope) (v : View) (s : State) → Sees c v → (x c s).after.fault ≡ None → Adds k s (x c s).after ns (got_in (make (x c s).code)) (IsCode v r (length s.spawns) (make (x c s).code))
+        → IsGood k r ns x → (c : Scope) (v : View) (s : State) → Sees c v → (x c s).after.fault ≡ None → Adds k s (x c s).after ns (got_in (make (x c s).value)) (IsCode v r (length s.spawns) (make (x c s).value))
     around g h good c v s see e =
-        formed k s (x c s).after ns (got_in (x c s).code) (make (x c s).code) (IsCode v r (length s.spawns) (x c s).code) (IsCode v r (length s.spawns) (make (x c s).code)) (g (x c s).code) (good c v s see e)
-        (λ P all f a. h P all v (length s.spawns) (length (x c s).after.sites) (x c s).code f a)
+        formed k s (x c s).after ns (got_in (x c s).value) (make (x c s).value) (IsCode v r (length s.spawns) (x c s).value) (IsCode v r (length s.spawns) (make (x c s).value)) (g (x c s).value) (good c v s see e)
+        (λ P all f a. h P all v (length s.spawns) (length (x c s).after.sites) (x c s).value f a)
 
   pub field : (r : Bool) (at : ℕ) (ns : List Name) (x : Reads) (n : Name) → IsTrue (is_field_name n.bytes) → IsGood k r ns x → IsGood k r ns (expr_step t k (F.Field at x n))
   field r at ns x n h good = around r ns x (λ y. X.Field y n.bytes) (λ y. got_at (V.Field y n.bytes) (X.Field y n.bytes) (X.rolls-Field y n.bytes))
@@ -172,11 +172,11 @@ module _ (t : Tests) (k : Known) where
   -- two expressions, the one behind the other
   pub pair_adds :
       (r : Bool) (ns ms : List Name) (x y : Reads) → IsGood k r ns x → IsGood k r ms y → (c : Scope) (v : View) (s : State) → Sees c v → (y c (x c s).after).after.fault ≡ None
-      → Adds k s (y c (x c s).after).after (ns ++ ms) (got_both (got_in (x c s).code) (got_in (y c (x c s).after).code))
-      (λ P all. Passes v r (length s.spawns) (λ p. is_valid_expr P all (x c s).code p && is_valid_expr P all (y c (x c s).after).code p))
+      → Adds k s (y c (x c s).after).after (ns ++ ms) (got_both (got_in (x c s).value) (got_in (y c (x c s).after).value))
+      (λ P all. Passes v r (length s.spawns) (λ p. is_valid_expr P all (x c s).value p && is_valid_expr P all (y c (x c s).after).value p))
   pair_adds r ns ms x y good other c v s see e =
       let m = (x c s).after in
-      two k v r s m (y c m).after ns ms (got_in (x c s).code) (got_in (y c m).code) (λ P all. is_valid_expr P all (x c s).code) (λ P all. is_valid_expr P all (y c m).code)
+      two k v r s m (y c m).after ns ms (got_in (x c s).value) (got_in (y c m).value) (λ P all. is_valid_expr P all (x c s).value) (λ P all. is_valid_expr P all (y c m).value)
       (good c v s see (clean_of k r ms y other c m e)) (other c v m see e)
 
   infix_passes :
@@ -202,8 +202,8 @@ module _ (t : Tests) (k : Known) where
   pub infixed : IsKnown k → (r : Bool) (at : ℕ) (ns ms : List Name) (o : Infix) (x y : Reads) → IsGood k r ns x → IsGood k r ms y → IsGood k r (ns ++ ms) (expr_step t k (F.Infix at o x y))
   infixed h r at ns ms o x y good other c v s see e =
       let m = (x c s).after in
-      let a = (x c s).code in
-      let b = (y c m).code in
+      let a = (x c s).value in
+      let b = (y c m).value in
       formed k s (y c m).after (ns ++ ms) (got_both (got_in a) (got_in b)) (infix_code o a b) (λ P all. Passes v r (length s.spawns) (λ p. is_valid_expr P all a p && is_valid_expr P all b p)) (IsCode v r (length s.spawns) (infix_code o a b)) (infix_got o a b)
       (pair_adds r ns ms x y good other c v s see e) (λ P all f p. infix_passes h P all v r (length s.spawns) (length (y c m).after.sites) o a b f p)
 
@@ -225,9 +225,9 @@ module _ (t : Tests) (k : Known) where
   choose r at ns ms ls x y z good other last c v s see e =
       let m = (x c s).after in
       let i = (y c m).after in
-      let a = (x c s).code in
-      let b = (y c m).code in
-      let d = (z c i).code in
+      let a = (x c s).value in
+      let b = (y c m).value in
+      let d = (z c i).value in
       formed k s (z c i).after ((ns ++ ms) ++ ls) (got_both (got_both (got_in a) (got_in b)) (got_in d)) (X.If a b d)
       (λ P all. Passes v r (length s.spawns) (λ p. (is_valid_expr P all a p && is_valid_expr P all b p) && is_valid_expr P all d p)) (IsCode v r (length s.spawns) (X.If a b d)) (if_got a b d)
       (two k v r s i (z c i).after (ns ++ ms) ls (got_both (got_in a) (got_in b)) (got_in d) (λ P all p. is_valid_expr P all a p && is_valid_expr P all b p) (λ P all. is_valid_expr P all d)
@@ -237,20 +237,20 @@ module _ (t : Tests) (k : Known) where
   -- expressions from left to right
   pub all_good :
       (r : Bool) (nss : List (List Name)) (xs : List Reads) → Each (IsGood k r) nss xs → (c : Scope) (v : View) (s : State) → Sees c v → (all_coded xs c s).after.fault ≡ None
-      → Adds k s (all_coded xs c s).after (flat_map (λ n. n) nss) (got_codes (all_coded xs c s).codes) (λ P all. Passes v r (length s.spawns) (codes_pass P all (all_coded xs c s).codes))
+      → Adds k s (all_coded xs c s).after (flat_map (λ n. n) nss) (got_codes (all_coded xs c s).value) (λ P all. Passes v r (length s.spawns) (codes_pass P all (all_coded xs c s).value))
   all_good r [] [] h c v s see e = nothing k s (λ P all. Passes v r (length s.spawns) (codes_pass P all [])) e (λ P all f least l. refl)
   all_good r [] (x ∷ xs) h c v s see e = absurd h
   all_good r (ns ∷ nss) [] h c v s see e = absurd h
   all_good r (ns ∷ nss) (x ∷ xs) h c v s see e =
       let m = (x c s).after in
       let rest = all_good r nss xs h.1 c v m see e in
-      two k v r s m (all_coded xs c m).after ns (flat_map (λ n. n) nss) (got_in (x c s).code) (got_codes (all_coded xs c m).codes) (λ P all. is_valid_expr P all (x c s).code) (λ P all. codes_pass P all (all_coded xs c m).codes)
+      two k v r s m (all_coded xs c m).after ns (flat_map (λ n. n) nss) (got_in (x c s).value) (got_codes (all_coded xs c m).value) (λ P all. is_valid_expr P all (x c s).value) (λ P all. codes_pass P all (all_coded xs c m).value)
       (h.0 c v s see rest.clean) rest
 
   pub tuple : (r : Bool) (at : ℕ) (nss : List (List Name)) (xs : List Reads) → Each (IsGood k r) nss xs → IsGood k r (flat_map (λ n. n) nss) (expr_step t k (F.Tuple at xs))
   tuple r at nss xs h c v s see e =
       let ys = all_coded xs c s in
-      formed k s ys.after (flat_map (λ n. n) nss) (got_codes ys.codes) (X.Parts ys.codes) (λ P all. Passes v r (length s.spawns) (codes_pass P all ys.codes)) (IsCode v r (length s.spawns) (X.Parts ys.codes))
-      (got_at (V.Parts ys.codes) (X.Parts ys.codes) (X.rolls-Parts ys.codes))
+      formed k s ys.after (flat_map (λ n. n) nss) (got_codes ys.value) (X.Parts ys.value) (λ P all. Passes v r (length s.spawns) (codes_pass P all ys.value)) (IsCode v r (length s.spawns) (X.Parts ys.value))
+      (got_at (V.Parts ys.value) (X.Parts ys.value) (X.rolls-Parts ys.value))
       (all_good r nss xs h c v s see e)
-      (λ P all f a. by_layer v r (length s.spawns) (is_valid_expr P all (X.Parts ys.codes)) (valid_step P all (V.Parts (map (is_valid_expr P all) ys.codes))) (valid-parts P all ys.codes) a)
+      (λ P all f a. by_layer v r (length s.spawns) (is_valid_expr P all (X.Parts ys.value)) (valid_step P all (V.Parts (map (is_valid_expr P all) ys.value))) (valid-parts P all ys.value) a)

@@ -32,11 +32,12 @@ use Rattle.jl_resolve_forms.specs.declared.state.Opening.{Opening}
 use Rattle.jl_resolve_forms.specs.declared.state.Scope.{Scope}
 use Rattle.jl_resolve_forms.specs.declared.state.Signed.{Signed}
 use Rattle.jl_resolve_forms.specs.declared.state.State.{State}
+use Rattle.jl_resolve_forms.specs.Resolver.{Resolution}
 use Rattle.jl_resolve_forms.specs.Defined.{own_name}
 use Rattle.jl_resolve_forms.specs.Functions.{place_of_callee, function_of}
 use Rattle.jl_resolve_forms.specs.Scopes.{noted, merged, with_slot, bind}
 use Rattle.jl_resolve_forms.specs.TypesIn.{Tests, declared_at}
-use Rattle.jl_resolve_forms.specs.Expressions.{Reads, Coded, Says, block_of, bare_scope, spawned, type_of, parameters, static_parameters, names_in, may_define, defined_function, if_unknown, too_many, site_of, reserved, closed, signed, named, opened, method, method_step, expr_step}
+use Rattle.jl_resolve_forms.specs.Expressions.{Reads, Says, block_of, bare_scope, spawned, type_of, parameters, static_parameters, names_in, may_define, defined_function, if_unknown, too_many, site_of, reserved, closed, signed, named, opened, method, method_step, expr_step}
 use Rattle.jl_type_laws.proofs.OrderLemmas.{ordered_count}
 use Rattle.jl_valid.specs.Adds.{got, no_got, got_in, got_codes, bodies, stands, Gathers, Every, IsFree, Views, Within, Adds}
 use Rattle.jl_valid.specs.Parts.{Sees, IsCode, flags_of, IsGood, IsSite, IsGoodMethod, IsGoodStmt, Each, IsKnown, IsGoodName, IsGoodHead}
@@ -139,14 +140,14 @@ module _ (t : Tests) (k : Known) where
     abbrev begun : State
     begun = record s { spawns = s.spawns ++ W.Nothing ∷ [] }
 
-    abbrev read : Coded
+    abbrev read : Resolution Code
     read = x c begun
 
     abbrev ended : State
-    ended = record read.after { spawns = slice_set read.after.spawns (length s.spawns) read.code }
+    ended = record read.after { spawns = slice_set read.after.spawns (length s.spawns) read.value }
 
     module _ (e : read.after.fault ≡ None) where
-      inner : Adds k begun read.after ns (got_in read.code) (IsCode v false (length begun.spawns) read.code)
+      inner : Adds k begun read.after ns (got_in read.value) (IsCode v false (length begun.spawns) read.value)
       inner = good c v begun see e
 
       next : length begun.spawns ≡ length s.spawns + 1
@@ -162,25 +163,25 @@ module _ (t : Tests) (k : Known) where
           (λ least l. and (nat_lt n (length all)) _ (lt-ltb n (length all) (view_within all n v inner.views w))
           (and (nat_le least n) _ (le-leb least n l) (ap (λ u. same_view u v) (view_at all n v inner.views w) ∙ same_view_self v)))
 
-      spawns_set : ended.spawns ≡ s.spawns ++ read.code ∷ inner.spawns
-      spawns_set = set_placed s.spawns inner.spawns read.after.spawns W.Nothing read.code inner.spawns_are
+      spawns_set : ended.spawns ≡ s.spawns ++ read.value ∷ inner.spawns
+      spawns_set = set_placed s.spawns inner.spawns read.after.spawns W.Nothing read.value inner.spawns_are
 
       same_spawns : length ended.spawns ≡ length read.after.spawns
-      same_spawns = omega (arith, ap length spawns_set, length-append s.spawns (read.code ∷ inner.spawns), ap length inner.spawns_are, length-append begun.spawns inner.spawns, next)
+      same_spawns = omega (arith, ap length spawns_set, length-append s.spawns (read.value ∷ inner.spawns), ap length inner.spawns_are, length-append begun.spawns inner.spawns, next)
 
       some_spawn : length s.spawns < length ended.spawns
-      some_spawn = omega (arith, ap length spawns_set, length-append s.spawns (read.code ∷ inner.spawns))
+      some_spawn = omega (arith, ap length spawns_set, length-append s.spawns (read.value ∷ inner.spawns))
 
-      stands_once : Gathers k (length s.spawns) (length ended.spawns) inner.sites (read.code ∷ inner.spawns) (got (length s.spawns ∷ []) [] [])
-      stands_once = gathers_spawn k (length s.spawns) (length ended.spawns) inner.sites inner.spawns read.code some_spawn
-          (subst (λ m. Gathers k (length s.spawns + 1) m inner.sites inner.spawns (got_in read.code)) (sym same_spawns)
-          (subst (λ n. Gathers k n (length read.after.spawns) inner.sites inner.spawns (got_in read.code)) next inner.gathers))
+      stands_once : Gathers k (length s.spawns) (length ended.spawns) inner.sites (read.value ∷ inner.spawns) (got (length s.spawns ∷ []) [] [])
+      stands_once = gathers_spawn k (length s.spawns) (length ended.spawns) inner.sites inner.spawns read.value some_spawn
+          (subst (λ m. Gathers k (length s.spawns + 1) m inner.sites inner.spawns (got_in read.value)) (sym same_spawns)
+          (subst (λ n. Gathers k n (length read.after.spawns) inner.sites inner.spawns (got_in read.value)) next inner.gathers))
 
       pub spawn_adds : Adds k s ended ns (got (length s.spawns ∷ []) [] []) (IsCode v r (length s.spawns) (W.Spawn (length s.spawns)))
       spawn_adds = record {
         clean = inner.clean;
         sites = inner.sites;
-        spawns = read.code ∷ inner.spawns;
+        spawns = read.value ∷ inner.spawns;
         views = v ∷ inner.views;
         sites_are = inner.sites_are;
         spawns_are = spawns_set;
@@ -188,7 +189,7 @@ module _ (t : Tests) (k : Known) where
         free = inner.free;
         gathers = stands_once;
         valid = λ P all w. inner.valid P all (within P all w);
-        tasks = λ P all w. and (is_valid_expr P all read.code (in_task (length s.spawns) v)) (are_valid_tasks P all (length s.spawns + 1) inner.views inner.spawns)
+        tasks = λ P all w. and (is_valid_expr P all read.value (in_task (length s.spawns) v)) (are_valid_tasks P all (length s.spawns + 1) inner.views inner.spawns)
             (inner.holds P all (within P all w) (length s.spawns + 1) (omega (arith, next)))
             (subst (λ n. are_valid_tasks P all n inner.views inner.spawns ≡ true) next (inner.tasks P all (within P all w)));
         holds = λ P all w. place_passes P all w.seen;
@@ -206,12 +207,12 @@ module _ (t : Tests) (k : Known) where
   parameters_same [] c s e = refl
   parameters_same (A.Name n ∷ ps) c s e =
       let b = bind n c s in
-      let rest = parameters_same ps b.scope b.after e in
-      rest ∙ bind_same n c s (clean b.after (parameters ps b.scope b.after).after e rest)
+      let rest = parameters_same ps b.value b.after e in
+      rest ∙ bind_same n c s (clean b.after (parameters ps b.value b.after).after e rest)
   parameters_same (A.Typed n ty ∷ ps) c s e =
       let b = bind n c s in
-      let rest = parameters_same ps b.scope b.after e in
-      rest ∙ bind_same n c s (clean b.after (parameters ps b.scope b.after).after e rest)
+      let rest = parameters_same ps b.value b.after e in
+      rest ∙ bind_same n c s (clean b.after (parameters ps b.value b.after).after e rest)
   parameters_same (A.Unnamed at ty ∷ ps) c s e = parameters_same ps (with_slot None c) s e
 
   abbrev more_slots : View → ℕ → View
@@ -220,16 +221,16 @@ module _ (t : Tests) (k : Known) where
   same_slots : (c : Scope) (v : View) (n m : ℕ) → n ≡ m → Sees c (record { slots = n; statics = v.statics }) → Sees c (record { slots = m; statics = v.statics })
   same_slots c v n m e h = record { slots = h.slots ∙ e; statics = h.statics }
 
-  parameters_see : (ps : List Param) (c : Scope) (s : State) (v : View) → Sees c v → Sees (parameters ps c s).scope (more_slots v (length ps))
+  parameters_see : (ps : List Param) (c : Scope) (s : State) (v : View) → Sees c v → Sees (parameters ps c s).value (more_slots v (length ps))
   parameters_see [] c s v see = same_slots c v v.slots (v.slots + 0) (omega arith) see
   parameters_see (A.Name n ∷ ps) c s v see =
       let b = bind n c s in
-      same_slots (parameters ps b.scope b.after).scope v (v.slots + 1 + length ps) (v.slots + suc (length ps)) (omega arith) (parameters_see ps b.scope b.after (one_more v) (bind_sees n c s v see))
+      same_slots (parameters ps b.value b.after).value v (v.slots + 1 + length ps) (v.slots + suc (length ps)) (omega arith) (parameters_see ps b.value b.after (one_more v) (bind_sees n c s v see))
   parameters_see (A.Typed n ty ∷ ps) c s v see =
       let b = bind n c s in
-      same_slots (parameters ps b.scope b.after).scope v (v.slots + 1 + length ps) (v.slots + suc (length ps)) (omega arith) (parameters_see ps b.scope b.after (one_more v) (bind_sees n c s v see))
+      same_slots (parameters ps b.value b.after).value v (v.slots + 1 + length ps) (v.slots + suc (length ps)) (omega arith) (parameters_see ps b.value b.after (one_more v) (bind_sees n c s v see))
   parameters_see (A.Unnamed at ty ∷ ps) c s v see =
-      same_slots (parameters ps (with_slot None c) s).scope v (v.slots + 1 + length ps) (v.slots + suc (length ps)) (omega arith) (parameters_see ps (with_slot None c) s (one_more v) (sees_slot None c v see))
+      same_slots (parameters ps (with_slot None c) s).value v (v.slots + 1 + length ps) (v.slots + suc (length ps)) (omega arith) (parameters_see ps (with_slot None c) s (one_more v) (sees_slot None c v see))
 
   -- a signature has a type for each parameter
   as_many_types : (ds : List Decl) (ts : List (Option TypeText)) (vs : List TypeVar) (r : Reading) → length (all_read ds ts vs r).tys ≡ length ts
@@ -300,9 +301,9 @@ module _ (t : Tests) (k : Known) where
   -- a method up to its body
   record Opens (h : Head) (types : ℕ) (s : State) : Type 0 where
     same : (opened t k h types s).after ≡ s
-    function : (opened t k h types s).opening.function < length k.functions
-    signature : IsValidSig k.decls (opened t k h types s).opening.sig
-    sees : Sees (opened t k h types s).opening.scope (in_body (opened t k h types s).opening.sig).view
+    function : (opened t k h types s).value.function < length k.functions
+    signature : IsValidSig k.decls (opened t k h types s).value.sig
+    sees : Sees (opened t k h types s).value.scope (in_body (opened t k h types s).value.sig).view
     free : Every IsFree (own_name h.callee)
 
   opens : IsKnown k → (h : Head) → IsGoodHead k t h → (types : ℕ) (s : State) → (opened t k h types s).after.fault ≡ None → Opens h types s
@@ -322,7 +323,7 @@ module _ (t : Tests) (k : Known) where
         same = first ∙ names.same;
         function = function_within f names.found (function_there k known h.callee (bare_scope types));
         signature = sig.valid;
-        sees = same_slots b.scope none (0 + length h.params) (length g.sig.parts) (omega (arith, as_many_parts types h)) (parameters_see h.params c z none starts);
+        sees = same_slots b.value none (0 + length h.params) (length g.sig.parts) (omega (arith, as_many_parts types h)) (parameters_see h.params c z none starts);
         free = own_free h.callee names.may head.name;
       }
 
@@ -332,21 +333,21 @@ module _ (t : Tests) (k : Known) where
     abbrev opening : State
     opening = record s { sites = s.sites ++ site_of o W.Nothing ∷ [] }
 
-    abbrev body : Coded
+    abbrev body : Resolution Code
     body = x o.scope opening
 
     abbrev closing : State
-    closing = record body.after { sites = slice_set body.after.sites (length s.sites) (site_of o body.code) }
+    closing = record body.after { sites = slice_set body.after.sites (length s.sites) (site_of o body.value) }
 
     module _ (e : body.after.fault ≡ None) where
-      held : Adds k opening body.after ns (got_in body.code) (IsCode (in_body o.sig).view true (length s.spawns) body.code)
+      held : Adds k opening body.after ns (got_in body.value) (IsCode (in_body o.sig).view true (length s.spawns) body.value)
       held = good o.scope (in_body o.sig).view opening see e
 
-      sites_set : closing.sites ≡ s.sites ++ site_of o body.code ∷ held.sites
-      sites_set = set_placed s.sites held.sites body.after.sites (site_of o W.Nothing) (site_of o body.code) held.sites_are
+      sites_set : closing.sites ≡ s.sites ++ site_of o body.value ∷ held.sites
+      sites_set = set_placed s.sites held.sites body.after.sites (site_of o W.Nothing) (site_of o body.value) held.sites_are
 
       same_count : length closing.sites ≡ length body.after.sites
-      same_count = omega (arith, ap length sites_set, length-append s.sites (site_of o body.code ∷ held.sites), ap length held.sites_are, length-append (s.sites ++ site_of o W.Nothing ∷ []) held.sites, length-append s.sites (site_of o W.Nothing ∷ []))
+      same_count = omega (arith, ap length sites_set, length-append s.sites (site_of o body.value ∷ held.sites), ap length held.sites_are, length-append (s.sites ++ site_of o W.Nothing ∷ []) held.sites, length-append s.sites (site_of o W.Nothing ∷ []))
 
       inside : (P : Program) (all : List View) → Within k s closing held.views P all → Within k opening body.after held.views P all
       inside P all w = record {
@@ -355,7 +356,7 @@ module _ (t : Tests) (k : Known) where
         prelude = omega (arith, w.prelude, one_longer s.sites (site_of o W.Nothing));
       }
 
-      site_valid : (P : Program) (all : List View) → Within k s closing held.views P all → IsValidSite P all (site_of o body.code)
+      site_valid : (P : Program) (all : List View) → Within k s closing held.views P all → IsValidSite P all (site_of o body.value)
       site_valid P all w = record {
         function = omega (arith, function, ap length w.fits.functions);
         signature = subst (λ ds. IsValidSig ds o.sig) (sym w.fits.types) signature;
@@ -363,19 +364,19 @@ module _ (t : Tests) (k : Known) where
       }
 
       site_there : (P : Program) (all : List View) → Within k s closing held.views P all → IsSite k (length s.sites) P all
-      site_there P all w = (w.prelude, omega (arith, w.fits.count, ap length sites_set, length-append s.sites (site_of o body.code ∷ held.sites)))
+      site_there P all w = (w.prelude, omega (arith, w.fits.count, ap length sites_set, length-append s.sites (site_of o body.value ∷ held.sites)))
 
       body_adds : (own : List Name) → Every IsFree own → Adds k s closing (own ++ ns) no_got (IsSite k (length s.sites))
       body_adds own free = record {
         clean = held.clean;
-        sites = site_of o body.code ∷ held.sites;
+        sites = site_of o body.value ∷ held.sites;
         spawns = held.spawns;
         views = held.views;
         sites_are = sites_set;
         spawns_are = held.spawns_are;
         as_many = held.as_many;
         free = every_append IsFree own ns free held.free;
-        gathers = gathers_site k (length s.spawns) (length closing.spawns) held.sites held.spawns (site_of o body.code) held.gathers;
+        gathers = gathers_site k (length s.spawns) (length closing.spawns) held.sites held.spawns (site_of o body.value) held.gathers;
         valid = λ P all w. (site_valid P all w, held.valid P all (inside P all w));
         tasks = λ P all w. held.tasks P all (inside P all w);
         holds = λ P all w. site_there P all w;
@@ -385,10 +386,10 @@ module _ (t : Tests) (k : Known) where
   unfolding reserved closed
   method_good known h head ns x good types s e =
       let o = opened t k h types s in
-      let first = clean_of k true ns x good o.opening.scope (reserved o.opening o.after) e in
+      let first = clean_of k true ns x good o.value.scope (reserved o.value o.after) e in
       let facts = opens known h head types s first in
-      let adds = body_adds ns x good o.opening o.after facts.function facts.signature facts.sees e (own_name h.callee) facts.free in
-      subst (λ (z : State). Adds k z (method t k h x types s).after (own_name h.callee ++ ns) no_got (IsSite k (method t k h x types s).site)) facts.same adds
+      let adds = body_adds ns x good o.value o.after facts.function facts.signature facts.sees e (own_name h.callee) facts.free in
+      subst (λ (z : State). Adds k z (method t k h x types s).after (own_name h.callee ++ ns) no_got (IsSite k (method t k h x types s).value)) facts.same adds
 
   pub long : IsKnown k → (at : ℕ) (h : Head) → IsGoodHead k t h → (nss : List (List Name)) (xs : List Says) → Each (IsGoodStmt k true) nss xs → IsGoodMethod k (own_name h.callee ++ flat_map (λ n. n) nss) (method_step t k (F.Long at h xs))
   long known at h head nss xs good = method_good known h head (flat_map (λ n. n) nss) (block_of xs) (block_good t k true nss xs good)

@@ -60,15 +60,15 @@ one_more v = record { slots = v.slots + 1; statics = v.statics }
 pub sees_slot : (o : Option (List ℕ)) (c : Scope) (v : View) → Sees c v → Sees (with_slot o c) (one_more v)
 sees_slot o c v h = record { slots = omega (arith, length-append c.slots (o ∷ []), h.slots); statics = h.statics }
 
-slotted_sees : (n : Name) (c : Scope) (s : State) (o : Option ℕ) (v : View) → Sees c v → Sees (slotted n c s o).scope (one_more v)
+slotted_sees : (n : Name) (c : Scope) (s : State) (o : Option ℕ) (v : View) → Sees c v → Sees (slotted n c o s).value (one_more v)
 slotted_sees n c s None v h = sees_slot (Some n.bytes) c v h
 slotted_sees n c s (Some i) v h = sees_slot None c v h
 
-pub bind_sees : (n : Name) (c : Scope) (s : State) (v : View) → Sees c v → Sees (bind n c s).scope (one_more v)
+pub bind_sees : (n : Name) (c : Scope) (s : State) (v : View) → Sees c v → Sees (bind n c s).value (one_more v)
 unfolding bind
 bind_sees n c s v h = slotted_sees n c (clashing n.at n.bytes s) (slot_of c.slots n.bytes) v h
 
-slotted_same : (n : Name) (c : Scope) (s : State) (o : Option ℕ) → (slotted n c s o).after.fault ≡ None → (slotted n c s o).after ≡ s
+slotted_same : (n : Name) (c : Scope) (s : State) (o : Option ℕ) → (slotted n c o s).after.fault ≡ None → (slotted n c o s).after ≡ s
 slotted_same n c s None e = refl
 slotted_same n c s (Some i) e = absurd (no_note n.at kind.Rebound s e)
 

@@ -82,7 +82,7 @@ items_append : (xs ys : List Code) → got_items (xs ++ ys) ≡ got_both (got_it
 items_append xs ys = λ i. got (flat_append (of_item own_place) xs ys i) (flat_append (of_item own_types) xs ys i) (flat_append (of_item own_struct) xs ys i)
 
 module _ (t : Tests) (k : Known) (known : IsKnown k) (laws : TypeLaws t k) where
-  item_sees : (x : Item) (c : Scope) (s : State) (v : View) → Sees c v → Sees (one_top t k x c s).scope (view_behind x v)
+  item_sees : (x : Item) (c : Scope) (s : State) (v : View) → Sees c v → Sees (one_top t k x c s).value.1 (view_behind x v)
   item_sees (N.Abstract a) c s v see = record { slots = see.slots; statics = see.statics }
   item_sees (N.Struct x) c s v see = record { slots = see.slots; statics = see.statics }
   item_sees (N.Method m) c s v see = see
@@ -100,56 +100,56 @@ module _ (t : Tests) (k : Known) (known : IsKnown k) (laws : TypeLaws t k) where
 
   one_top_good :
       (x : Item) → FormedItem x → (c : Scope) (v : View) (s : State) → Sees c v → (one_top t k x c s).after.fault ≡ None
-      → Adds k s (one_top t k x c s).after (in_item x) (got_items (one_top t k x c s).items) (Leads v (view_behind x v) (length s.spawns) (one_top t k x c s).items)
+      → Adds k s (one_top t k x c s).after (in_item x) (got_items (one_top t k x c s).value.0) (Leads v (view_behind x v) (length s.spawns) (one_top t k x c s).value.0)
   one_top_good _ (G.abstract_item h f) c v s see e = nothing k s (Leads v v (length s.spawns) []) e (λ P all f least l rest r. r)
   one_top_good _ (G.struct_item h fs f g) c v s see e = nothing k s (Leads v v (length s.spawns) []) e (λ P all f least l rest r. r)
   one_top_good _ (G.method_item m f) c v s see e =
       let y = method_reads t k m c.types s in
-      let Holds = Leads v v (length s.spawns) (I.Define y.site ∷ []) in
-      got_is k s y.after (in_method m) no_got (got_items (I.Define y.site ∷ [])) Holds (nil_behind (got_item (I.Define y.site)) ∙ define_got y.site)
-      (told k s y.after (in_method m) no_got (IsSite k y.site) Holds (method_good t k known laws m f c.types s e)
-      (λ P all fit a. leads_one P all (I.Define y.site) (valid_item P all (V.Define y.site)) v v (length s.spawns) (valid-define P all y.site)
-      (λ least l. and (nat_le prelude_count y.site) (nat_lt y.site (length P.sites)) (le-leb prelude_count y.site a.0) (lt-ltb y.site (length P.sites) a.1))
+      let Holds = Leads v v (length s.spawns) (I.Define y.value ∷ []) in
+      got_is k s y.after (in_method m) no_got (got_items (I.Define y.value ∷ [])) Holds (nil_behind (got_item (I.Define y.value)) ∙ define_got y.value)
+      (told k s y.after (in_method m) no_got (IsSite k y.value) Holds (method_good t k known laws m f c.types s e)
+      (λ P all fit a. leads_one P all (I.Define y.value) (valid_item P all (V.Define y.value)) v v (length s.spawns) (valid-define P all y.value)
+      (λ least l. and (nat_le prelude_count y.value) (nat_lt y.value (length P.sites)) (le-leb prelude_count y.value a.0) (lt-ltb y.value (length P.sites) a.1))
       (λ least. refl)))
   one_top_good _ (G.bind_item n x is f) c v s see e =
       let y = expr_reads t k x c s in
       let b = top_bind k n c y.after in
       let same = top_bind_same k n c y.after e in
-      let Holds = Leads v (one_more v) (length s.spawns) (I.Bind (length c.slots) y.code ∷ []) in
-      let i = I.Bind (length c.slots) y.code in
+      let Holds = Leads v (one_more v) (length s.spawns) (I.Bind (length c.slots) y.value ∷ []) in
+      let i = I.Bind (length c.slots) y.value in
       ends_at k s y.after b.after (in_expr x) (got_items (i ∷ [])) Holds same
-      (got_is k s y.after (in_expr x) (got_in y.code) (got_items (i ∷ [])) Holds (nil_behind (got_item i) ∙ top_bind_got (length c.slots) y.code)
-      (told k s y.after (in_expr x) (got_in y.code) (IsCode v false (length s.spawns) y.code) Holds (expr_good t k known laws false x f c v s see (clean y.after b.after e same))
-      (λ P all fit a. leads_one P all (I.Bind (length c.slots) y.code) (valid_item P all (V.Item::Bind (length c.slots) (is_valid_expr P all y.code))) v (one_more v) (length s.spawns)
-      (valid-top-bind P all (length c.slots) y.code)
+      (got_is k s y.after (in_expr x) (got_in y.value) (got_items (i ∷ [])) Holds (nil_behind (got_item i) ∙ top_bind_got (length c.slots) y.value)
+      (told k s y.after (in_expr x) (got_in y.value) (IsCode v false (length s.spawns) y.value) Holds (expr_good t k known laws false x f c v s see (clean y.after b.after e same))
+      (λ P all fit a. leads_one P all (I.Bind (length c.slots) y.value) (valid_item P all (V.Item::Bind (length c.slots) (is_valid_expr P all y.value))) v (one_more v) (length s.spawns)
+      (valid-top-bind P all (length c.slots) y.value)
       (λ least l. and (nat_eq (length c.slots) v.slots) _ (eq-eqb (length c.slots) v.slots see.slots) (a least l))
       (λ least. refl))))
   one_top_good _ (G.do_item x f) c v s see e =
       let y = expr_reads t k x c s in
-      let Holds = Leads v v (length s.spawns) (I.Do y.code ∷ []) in
-      got_is k s y.after (in_expr x) (got_in y.code) (got_items (I.Do y.code ∷ [])) Holds (nil_behind (got_item (I.Do y.code)) ∙ top_do_got y.code)
-      (told k s y.after (in_expr x) (got_in y.code) (IsCode v false (length s.spawns) y.code) Holds (expr_good t k known laws false x f c v s see e)
-      (λ P all fit a. leads_one P all (I.Do y.code) (valid_item P all (V.Item::Do (is_valid_expr P all y.code))) v v (length s.spawns) (valid-top-do P all y.code) a (λ least. refl)))
+      let Holds = Leads v v (length s.spawns) (I.Do y.value ∷ []) in
+      got_is k s y.after (in_expr x) (got_in y.value) (got_items (I.Do y.value ∷ [])) Holds (nil_behind (got_item (I.Do y.value)) ∙ top_do_got y.value)
+      (told k s y.after (in_expr x) (got_in y.value) (IsCode v false (length s.spawns) y.value) Holds (expr_good t k known laws false x f c v s see e)
+      (λ P all fit a. leads_one P all (I.Do y.value) (valid_item P all (V.Item::Do (is_valid_expr P all y.value))) v v (length s.spawns) (valid-top-do P all y.value) a (λ least. refl)))
 
   pub all_top_good :
       (xs : List Item) → FormedItems xs → (c : Scope) (v : View) (s : State) → Sees c v → (all_top t k xs c s).after.fault ≡ None
-      → Adds k s (all_top t k xs c s).after (methods_of xs) (got_items (all_top t k xs c s).items) (λ P all. Passes v false (length s.spawns) (are_valid_items P all (all_top t k xs c s).items))
+      → Adds k s (all_top t k xs c s).after (methods_of xs) (got_items (all_top t k xs c s).value.0) (λ P all. Passes v false (length s.spawns) (are_valid_items P all (all_top t k xs c s).value.0))
   all_top_good _ G.no_items c v s see e = nothing k s (λ P all. Passes v false (length s.spawns) (are_valid_items P all [])) e (λ P all f least l. refl)
   all_top_good _ (G.more_items x xs f fs) c v s see e =
       let y = one_top t k x c s in
-      let ys = all_top t k xs y.scope y.after in
+      let ys = all_top t k xs y.value.1 y.after in
       let w = view_behind x v in
-      let A = Leads v w (length s.spawns) y.items in
-      let B : Program → List View → Type 0 = λ P all. Passes w false (length y.after.spawns) (are_valid_items P all ys.items) in
-      let rest = all_top_good xs fs y.scope w y.after (item_sees x c s v see) e in
+      let A = Leads v w (length s.spawns) y.value.0 in
+      let B : Program → List View → Type 0 = λ P all. Passes w false (length y.after.spawns) (are_valid_items P all ys.value.0) in
+      let rest = all_top_good xs fs y.value.1 w y.after (item_sees x c s v see) e in
       let first = one_top_good x f c v s see rest.clean in
-      let Holds : Program → List View → Type 0 = λ P all. Passes v false (length s.spawns) (are_valid_items P all (y.items ++ ys.items)) in
-      got_is k s ys.after (in_item x ++ methods_of xs) (got_both (got_items y.items) (got_items ys.items)) (got_items (y.items ++ ys.items)) Holds (items_append y.items ys.items)
-      (told k s ys.after (in_item x ++ methods_of xs) (got_both (got_items y.items) (got_items ys.items)) (λ P all. A P all × B P all) Holds
-      (both k s y.after ys.after (in_item x) (methods_of xs) (got_items y.items) (got_items ys.items) A B first rest)
+      let Holds : Program → List View → Type 0 = λ P all. Passes v false (length s.spawns) (are_valid_items P all (y.value.0 ++ ys.value.0)) in
+      got_is k s ys.after (in_item x ++ methods_of xs) (got_both (got_items y.value.0) (got_items ys.value.0)) (got_items (y.value.0 ++ ys.value.0)) Holds (items_append y.value.0 ys.value.0)
+      (told k s ys.after (in_item x ++ methods_of xs) (got_both (got_items y.value.0) (got_items ys.value.0)) (λ P all. A P all × B P all) Holds
+      (both k s y.after ys.after (in_item x) (methods_of xs) (got_items y.value.0) (got_items ys.value.0) A B first rest)
       (λ P all fit a least l.
-      ap (λ (zs : List Statement). in_turn zs (standing v false least)) (map-append (item_of P all) y.items ys.items)
-      ∙ a.0 least l (map (item_of P all) ys.items) (a.1 least (omega (arith, l, more_spawns k s y.after (in_item x) (got_items y.items) A first)))))
+      ap (λ (zs : List Statement). in_turn zs (standing v false least)) (map-append (item_of P all) y.value.0 ys.value.0)
+      ∙ a.0 least l (map (item_of P all) ys.value.0) (a.1 least (omega (arith, l, more_spawns k s y.after (in_item x) (got_items y.value.0) A first)))))
 
 -- ---- the program
 

@@ -39,11 +39,12 @@ use Rattle.jl_resolve_forms.specs.declared.known.Called.{Called}
 use Rattle.jl_resolve_forms.specs.declared.known.Called.TheVariants as D
 use Rattle.jl_resolve_forms.specs.declared.state.Scope.{Scope}
 use Rattle.jl_resolve_forms.specs.declared.state.State.{State}
+use Rattle.jl_resolve_forms.specs.Resolver.{Resolution}
 use Rattle.jl_resolve_forms.specs.Scopes.{slot_of, noted, merged}
 use Rattle.jl_resolve_forms.specs.Functions.{function_of_operator, place_of_callee, unless_slot, function_of, if_struct, struct_named, struct_of, constructor, called_from, called}
 use Rattle.jl_resolve_forms.specs.Parameters.{finds_parameters}
 use Rattle.jl_resolve_forms.specs.TypesIn.{Tests, declared_at, refusal, begins, one_type, made_refusal, type_at, made_type, body_written, made_at}
-use Rattle.jl_resolve_forms.specs.Expressions.{Reads, Codes, all_coded, counted, latest, inferred_refusal, call, made_struct, made_args, made, expr_step}
+use Rattle.jl_resolve_forms.specs.Expressions.{Reads, all_coded, counted, latest, inferred_refusal, call, made_struct, made_args, made, expr_step}
 use Rattle.jl_valid.specs.Adds.{got, no_got, got_both, got_in, got_codes, Fits, Adds}
 use Rattle.jl_valid.specs.Parts.{Sees, standing, Passes, IsCode, IsGood, Each, IsKnown, IsGoodType, AreGoodArgs}
 use Rattle.jl_valid.proofs.FaultLemmas.{no_note, noted_none, noted_same, merged_same, test_false, test_same, clean}
@@ -221,13 +222,13 @@ module _ (t : Tests) (k : Known) where
       let w = body_written t k ty c y.after in
       let same = body_same t k ty c y.after e in
       let seen = typed c v y.after see e in
-      let own = got [] (w.written ∷ []) [] in
-      ends_at k s y.after w.after ns (got_in (X.Isa y.code w.written)) (IsCode v r (length s.spawns) (X.Isa y.code w.written)) same
-      (formed k s y.after ns (got_both own (got_in y.code)) (X.Isa y.code w.written) (IsCode v r (length s.spawns) y.code) (IsCode v r (length s.spawns) (X.Isa y.code w.written))
-      (got_at (V.Isa y.code w.written) (X.Isa y.code w.written) (X.rolls-Isa y.code w.written))
-      (with_own k s y.after ns own (got_in y.code) (IsCode v r (length s.spawns) y.code) refl (record { types = (seen.allowed, tt); structs = tt }) (good c v s see (clean y.after w.after e same)))
-      (λ P all f a. by_layer v r (length s.spawns) (is_valid_expr P all (X.Isa y.code w.written)) (valid_step P all (V.Isa (is_valid_expr P all y.code) w.written)) (valid-isa P all y.code w.written)
-      (λ least l. and (is_valid_expr P all y.code (standing v r least)) _ (a least l) (ap (λ ds. is_seen ds v.statics w.written) f.types ∙ seen.seen))))
+      let own = got [] (w.value ∷ []) [] in
+      ends_at k s y.after w.after ns (got_in (X.Isa y.value w.value)) (IsCode v r (length s.spawns) (X.Isa y.value w.value)) same
+      (formed k s y.after ns (got_both own (got_in y.value)) (X.Isa y.value w.value) (IsCode v r (length s.spawns) y.value) (IsCode v r (length s.spawns) (X.Isa y.value w.value))
+      (got_at (V.Isa y.value w.value) (X.Isa y.value w.value) (X.rolls-Isa y.value w.value))
+      (with_own k s y.after ns own (got_in y.value) (IsCode v r (length s.spawns) y.value) refl (record { types = (seen.allowed, tt); structs = tt }) (good c v s see (clean y.after w.after e same)))
+      (λ P all f a. by_layer v r (length s.spawns) (is_valid_expr P all (X.Isa y.value w.value)) (valid_step P all (V.Isa (is_valid_expr P all y.value) w.value)) (valid-isa P all y.value w.value)
+      (λ least l. and (is_valid_expr P all y.value (standing v r least)) _ (a least l) (ap (λ ds. is_seen ds v.statics w.value) f.types ∙ seen.seen))))
 
   pub sub : (r : Bool) (at : ℕ) (a b : TypeText) → IsGoodType k t a → IsGoodType k t b → IsGood k r [] (expr_step t k (F.Sub at a b))
   sub r at a b good other c v s see e =
@@ -238,45 +239,45 @@ module _ (t : Tests) (k : Known) where
       let first = body_same t k a c s none in
       let low = good c v s see none in
       let high = other c v y.after see e in
-      let own = got [] (y.written ∷ w.written ∷ []) [] in
-      let Holds = IsCode v r (length s.spawns) (W.Sub y.written w.written) in
-      ends_at k s s w.after [] (got_in (W.Sub y.written w.written)) Holds (same ∙ first)
-      (got_is k s s [] (got_both own no_got) (got_in (W.Sub y.written w.written)) Holds (got_at (V.Sub y.written w.written) (W.Sub y.written w.written) (X.rolls-Sub y.written w.written))
+      let own = got [] (y.value ∷ w.value ∷ []) [] in
+      let Holds = IsCode v r (length s.spawns) (W.Sub y.value w.value) in
+      ends_at k s s w.after [] (got_in (W.Sub y.value w.value)) Holds (same ∙ first)
+      (got_is k s s [] (got_both own no_got) (got_in (W.Sub y.value w.value)) Holds (got_at (V.Sub y.value w.value) (W.Sub y.value w.value) (X.rolls-Sub y.value w.value))
       (with_own k s s [] own no_got Holds refl (record { types = (low.allowed, (high.allowed, tt)); structs = tt })
       (nothing k s Holds (clean s y.after none first)
-      (λ P all f. by_layer v r (length s.spawns) (is_valid_expr P all (W.Sub y.written w.written)) (valid_step P all (V.Sub y.written w.written)) (valid-sub P all y.written w.written)
-      (λ least l. and (is_seen (all_types P) v.statics y.written) _ (ap (λ ds. is_seen ds v.statics y.written) f.types ∙ low.seen)
-      (ap (λ ds. is_seen ds v.statics w.written) f.types ∙ high.seen))))))
+      (λ P all f. by_layer v r (length s.spawns) (is_valid_expr P all (W.Sub y.value w.value)) (valid_step P all (V.Sub y.value w.value)) (valid-sub P all y.value w.value)
+      (λ least l. and (is_seen (all_types P) v.statics y.value) _ (ap (λ ds. is_seen ds v.statics y.value) f.types ∙ low.seen)
+      (ap (λ ds. is_seen ds v.statics w.value) f.types ∙ high.seen))))))
 
   -- ---- calls
 
-  module _ (r : Bool) (ns : List Name) (v : View) (s : State) (ys : Codes) where
+  module _ (r : Bool) (ns : List Name) (v : View) (s : State) (ys : Resolution (List Code)) where
     abbrev Given : Type 0
-    Given = ys.after.fault ≡ None → Adds k s ys.after ns (got_codes ys.codes) (λ P all. Passes v r (length s.spawns) (codes_pass P all ys.codes))
+    Given = ys.after.fault ≡ None → Adds k s ys.after ns (got_codes ys.value) (λ P all. Passes v r (length s.spawns) (codes_pass P all ys.value))
 
     -- a counted call has at most 8 arguments
     counted_adds :
-        (at : ℕ) (x : Code) → got_in x ≡ got_codes ys.codes → Given → (counted at ys).fault ≡ None
-        → ((P : Program) (all : List View) → Fits k (length ys.after.sites) P → length ys.codes ≤ 8 → Passes v r (length s.spawns) (codes_pass P all ys.codes) → IsCode v r (length s.spawns) x P all)
-        → Adds k s (counted at ys) ns (got_in x) (IsCode v r (length s.spawns) x)
+        (at : ℕ) (x : Code) → got_in x ≡ got_codes ys.value → Given → (counted at ys.value ys.after).fault ≡ None
+        → ((P : Program) (all : List View) → Fits k (length ys.after.sites) P → length ys.value ≤ 8 → Passes v r (length s.spawns) (codes_pass P all ys.value) → IsCode v r (length s.spawns) x P all)
+        → Adds k s (counted at ys.value ys.after) ns (got_in x) (IsCode v r (length s.spawns) x)
     counted_adds at x stands g e h =
-        let same = test_same (nat_lt 8 (length ys.codes)) at kind.TooManyArguments ys.after e in
-        let few = ltb-false 8 (length ys.codes) (test_false (nat_lt 8 (length ys.codes)) at kind.TooManyArguments ys.after e) in
-        ends_at k s ys.after (counted at ys) ns (got_in x) (IsCode v r (length s.spawns) x) same
-        (formed k s ys.after ns (got_codes ys.codes) x (λ P all. Passes v r (length s.spawns) (codes_pass P all ys.codes)) (IsCode v r (length s.spawns) x) stands (g (clean ys.after (counted at ys) e same))
+        let same = test_same (nat_lt 8 (length ys.value)) at kind.TooManyArguments ys.after e in
+        let few = ltb-false 8 (length ys.value) (test_false (nat_lt 8 (length ys.value)) at kind.TooManyArguments ys.after e) in
+        ends_at k s ys.after (counted at ys.value ys.after) ns (got_in x) (IsCode v r (length s.spawns) x) same
+        (formed k s ys.after ns (got_codes ys.value) x (λ P all. Passes v r (length s.spawns) (codes_pass P all ys.value)) (IsCode v r (length s.spawns) x) stands (g (clean ys.after (counted at ys.value ys.after) e same))
         (λ P all f a. h P all f few a))
 
-    call_adds : ((p : ℕ) → is_struct k.decls p ≡ true → t.wide p ≡ false → IsSmallStruct k.decls p) → (at : ℕ) (d : Called) → IsThere k d → Given → (call t k at d ys).after.fault ≡ None → Adds k s (call t k at d ys).after ns (got_in (call t k at d ys).code) (IsCode v r (length s.spawns) (call t k at d ys).code)
+    call_adds : ((p : ℕ) → is_struct k.decls p ≡ true → t.wide p ≡ false → IsSmallStruct k.decls p) → (at : ℕ) (d : Called) → IsThere k d → Given → (call t k at d ys.value ys.after).after.fault ≡ None → Adds k s (call t k at d ys.value ys.after).after ns (got_in (call t k at d ys.value ys.after).value) (IsCode v r (length s.spawns) (call t k at d ys.value ys.after).value)
     unfolding call
-    call_adds small at (D.Function f) there g e = counted_adds at (X.Call f ys.codes) (got_at (V.Call f ys.codes) (X.Call f ys.codes) (X.rolls-Call f ys.codes)) g e (λ P all fit few a. call_passes t k P all v r (length s.spawns) (length ys.after.sites) f ys.codes fit there few a)
+    call_adds small at (D.Function f) there g e = counted_adds at (X.Call f ys.value) (got_at (V.Call f ys.value) (X.Call f ys.value) (X.rolls-Call f ys.value)) g e (λ P all fit few a. call_passes t k P all v r (length s.spawns) (length ys.after.sites) f ys.value fit there few a)
     call_adds small at (D.Bare p) there g e =
         let w = one_type (nominal p) [] in
         let own = got [] (w ∷ []) [] in
-        let Before : Program → List View → Type 0 = λ P all. Passes v r (length s.spawns) (codes_pass P all ys.codes) in
-        formed k s ys.after ns (got_both own (got_codes ys.codes)) (X.Make w ys.codes) Before (IsCode v r (length s.spawns) (X.Make w ys.codes))
-        (got_at (V.Make w ys.codes) (X.Make w ys.codes) (X.rolls-Make w ys.codes))
-        (with_own k s ys.after ns own (got_codes ys.codes) Before refl (record { types = (bare_allowed k.decls p there.1, tt); structs = tt }) (g e))
-        (λ P all f a. make_passes P all v r (length s.spawns) (length ys.after.sites) (one_type (nominal p) []) ys.codes f (bare_seen k.decls v.statics p there.0) (bare_made k.decls p there.0) a)
+        let Before : Program → List View → Type 0 = λ P all. Passes v r (length s.spawns) (codes_pass P all ys.value) in
+        formed k s ys.after ns (got_both own (got_codes ys.value)) (X.Make w ys.value) Before (IsCode v r (length s.spawns) (X.Make w ys.value))
+        (got_at (V.Make w ys.value) (X.Make w ys.value) (X.rolls-Make w ys.value))
+        (with_own k s ys.after ns own (got_codes ys.value) Before refl (record { types = (bare_allowed k.decls p there.1, tt); structs = tt }) (g e))
+        (λ P all f a. make_passes P all v r (length s.spawns) (length ys.after.sites) (one_type (nominal p) []) ys.value f (bare_seen k.decls v.statics p there.0) (bare_made k.decls p there.0) a)
     call_adds small at (D.Inferred p) there g e =
         let o = inferred_refusal t k p in
         let same = noted_same at o ys.after e in
@@ -284,17 +285,17 @@ module _ (t : Tests) (k : Known) where
         let inferable = and (is_struct k.decls p) (finds_variables (fields_of (slice_get k.decls p))) there.0 (finds (slice_get k.decls p) there.1 found) in
         let narrow = narrow_from (finds_parameters (slice_get k.decls p)) (t.wide p) found (noted_none at o ys.after e) in
         let own = got [] [] (p ∷ []) in
-        let Before : Program → List View → Type 0 = λ P all. Passes v r (length s.spawns) (codes_pass P all ys.codes) in
-        ends_at k s ys.after (noted at o ys.after) ns (got_in (X.Infer p ys.codes)) (IsCode v r (length s.spawns) (X.Infer p ys.codes)) same
-        (formed k s ys.after ns (got_both own (got_codes ys.codes)) (X.Infer p ys.codes) Before (IsCode v r (length s.spawns) (X.Infer p ys.codes))
-        (got_at (V.Infer p ys.codes) (X.Infer p ys.codes) (X.rolls-Infer p ys.codes))
-        (with_own k s ys.after ns own (got_codes ys.codes) Before refl (record { types = tt; structs = (small p there.0 narrow, tt) }) (g (clean ys.after (noted at o ys.after) e same)))
-        (λ P all f a. infer_passes P all v r (length s.spawns) (length ys.after.sites) p ys.codes f inferable a))
+        let Before : Program → List View → Type 0 = λ P all. Passes v r (length s.spawns) (codes_pass P all ys.value) in
+        ends_at k s ys.after (noted at o ys.after) ns (got_in (X.Infer p ys.value)) (IsCode v r (length s.spawns) (X.Infer p ys.value)) same
+        (formed k s ys.after ns (got_both own (got_codes ys.value)) (X.Infer p ys.value) Before (IsCode v r (length s.spawns) (X.Infer p ys.value))
+        (got_at (V.Infer p ys.value) (X.Infer p ys.value) (X.rolls-Infer p ys.value))
+        (with_own k s ys.after ns own (got_codes ys.value) Before refl (record { types = tt; structs = (small p there.0 narrow, tt) }) (g (clean ys.after (noted at o ys.after) e same)))
+        (λ P all f a. infer_passes P all v r (length s.spawns) (length ys.after.sites) p ys.value f inferable a))
     call_adds small at D.Unknown there g e = absurd (no_note at kind.UnknownFunction ys.after e)
 
-    latest_adds : (at : ℕ) (o : Option ℕ) → ((f : ℕ) → o ≡ Some f → f < length k.functions) → Given → (latest at o ys).after.fault ≡ None → Adds k s (latest at o ys).after ns (got_in (latest at o ys).code) (IsCode v r (length s.spawns) (latest at o ys).code)
+    latest_adds : (at : ℕ) (o : Option ℕ) → ((f : ℕ) → o ≡ Some f → f < length k.functions) → Given → (latest at o ys.value ys.after).after.fault ≡ None → Adds k s (latest at o ys.value ys.after).after ns (got_in (latest at o ys.value ys.after).value) (IsCode v r (length s.spawns) (latest at o ys.value ys.after).value)
     unfolding latest
-    latest_adds at (Some f) there g e = counted_adds at (X.Latest f ys.codes) (got_at (V.Latest f ys.codes) (X.Latest f ys.codes) (X.rolls-Latest f ys.codes)) g e (λ P all fit few a. latest_passes t k P all v r (length s.spawns) (length ys.after.sites) f ys.codes fit (there f refl) few a)
+    latest_adds at (Some f) there g e = counted_adds at (X.Latest f ys.value) (got_at (V.Latest f ys.value) (X.Latest f ys.value) (X.rolls-Latest f ys.value)) g e (λ P all fit few a. latest_passes t k P all v r (length s.spawns) (length ys.after.sites) f ys.value fit (there f refl) few a)
     latest_adds at None there g e = absurd (no_note at kind.UnknownFunction ys.after e)
 
   pub call_good : IsKnown k → ((p : ℕ) → is_struct k.decls p ≡ true → t.wide p ≡ false → IsSmallStruct k.decls p) → (r : Bool) (at : ℕ) (f : Callee) (nss : List (List Name)) (xs : List Reads) → Each (IsGood k r) nss xs → IsGood k r (flat_map (λ n. n) nss) (expr_step t k (F.Call at f xs))
@@ -310,7 +311,7 @@ module _ (t : Tests) (k : Known) where
   made_adds :
       (r : Bool) (at : ℕ) (o : Option ℕ) (args : List ArgText) (nss : List (List Name)) (xs : List Reads) (c : Scope) (v : View) (s : State)
       → ((p : ℕ) → o ≡ Some p → is_struct k.decls p ≡ true) → AreGoodArgs k t args → Each (IsGood k r) nss xs → Sees c v → (made t k at o args xs c s).after.fault ≡ None
-      → Adds k s (made t k at o args xs c s).after (flat_map (λ n. n) nss) (got_in (made t k at o args xs c s).code) (IsCode v r (length s.spawns) (made t k at o args xs c s).code)
+      → Adds k s (made t k at o args xs c s).after (flat_map (λ n. n) nss) (got_in (made t k at o args xs c s).value) (IsCode v r (length s.spawns) (made t k at o args xs c s).value)
   unfolding made
   made_adds r at None args nss xs c v s there typed good see e = absurd (no_note at kind.UnknownFunction (all_coded xs c s).after e)
   made_adds r at (Some p) args nss xs c v s there typed good see e =
@@ -319,14 +320,14 @@ module _ (t : Tests) (k : Known) where
       let rest = all_good t k r nss xs good c v w.after see e in
       let same = made_same t k at p args c s rest.clean in
       let given = typed at p c v s see (there p refl) rest.clean in
-      let from : Adds k s ys.after (flat_map (λ n. n) nss) (got_codes ys.codes) (λ P all. Passes v r (length s.spawns) (codes_pass P all ys.codes)) =
-      subst (λ (z : State). Adds k z ys.after (flat_map (λ n. n) nss) (got_codes ys.codes) (λ P all. Passes v r (length z.spawns) (codes_pass P all ys.codes))) same rest in
-      let own = got [] (w.written ∷ []) [] in
-      let Before : Program → List View → Type 0 = λ P all. Passes v r (length s.spawns) (codes_pass P all ys.codes) in
-      formed k s ys.after (flat_map (λ n. n) nss) (got_both own (got_codes ys.codes)) (X.Make w.written ys.codes) Before (IsCode v r (length s.spawns) (X.Make w.written ys.codes))
-      (got_at (V.Make w.written ys.codes) (X.Make w.written ys.codes) (X.rolls-Make w.written ys.codes))
-      (with_own k s ys.after (flat_map (λ n. n) nss) own (got_codes ys.codes) Before refl (record { types = (given.allowed, tt); structs = tt }) from)
-      (λ P all f a. make_passes P all v r (length s.spawns) (length ys.after.sites) w.written ys.codes f given.seen given.made a)
+      let from : Adds k s ys.after (flat_map (λ n. n) nss) (got_codes ys.value) (λ P all. Passes v r (length s.spawns) (codes_pass P all ys.value)) =
+      subst (λ (z : State). Adds k z ys.after (flat_map (λ n. n) nss) (got_codes ys.value) (λ P all. Passes v r (length z.spawns) (codes_pass P all ys.value))) same rest in
+      let own = got [] (w.value ∷ []) [] in
+      let Before : Program → List View → Type 0 = λ P all. Passes v r (length s.spawns) (codes_pass P all ys.value) in
+      formed k s ys.after (flat_map (λ n. n) nss) (got_both own (got_codes ys.value)) (X.Make w.value ys.value) Before (IsCode v r (length s.spawns) (X.Make w.value ys.value))
+      (got_at (V.Make w.value ys.value) (X.Make w.value ys.value) (X.rolls-Make w.value ys.value))
+      (with_own k s ys.after (flat_map (λ n. n) nss) own (got_codes ys.value) Before refl (record { types = (given.allowed, tt); structs = tt }) from)
+      (λ P all f a. make_passes P all v r (length s.spawns) (length ys.after.sites) w.value ys.value f given.seen given.made a)
 
   struct_there : (l : T.TypeText-F ArgText TypeText VarText) (c : Scope) (p : ℕ) → made_struct k l c ≡ Some p → is_struct k.decls p ≡ true
   struct_there (T.Name at name) c p e = named_struct k name c p e

@@ -63,14 +63,14 @@ module _ (k : Known) where
   -- an expression, where a `return` may stand or not, with the names of the functions that are defined in it
   abbrev pub IsGood : Bool → List Name → Reads → Type 0
   IsGood r names x = (c : Scope) (v : View) (s : State) → Sees c v → (x c s).after.fault ≡ None
-      → Adds k s (x c s).after names (got_in (x c s).code) (IsCode v r (length s.spawns) (x c s).code)
+      → Adds k s (x c s).after names (got_in (x c s).value) (IsCode v r (length s.spawns) (x c s).value)
 
   -- a definition, whose site is there
   abbrev pub IsSite : ℕ → Program → List View → Type 0
   IsSite site P all = (prelude_count ≤ site) × (site < length P.sites)
 
   abbrev pub IsGoodMethod : List Name → Defines → Type 0
-  IsGoodMethod names x = (types : ℕ) (s : State) → (x types s).after.fault ≡ None → Adds k s (x types s).after names no_got (IsSite (x types s).site)
+  IsGoodMethod names x = (types : ℕ) (s : State) → (x types s).after.fault ≡ None → Adds k s (x types s).after names no_got (IsSite (x types s).value)
 
   -- a statement
   abbrev pub IsGoodStmt : Bool → List Name → Says → Type 0
@@ -99,17 +99,17 @@ module _ (k : Known) where
   module _ (t : Tests) where
     -- a type in a body: it is allowed, and names what is visible
     pub record IsWrittenIn (c : Scope) (v : View) (text : TypeText) (s : State) : Type 0 where
-      pub seen : IsTrue (is_seen k.decls v.statics (body_written t k text c s).written)
-      pub allowed : IsAllowedType k.decls (body_written t k text c s).written
+      pub seen : IsTrue (is_seen k.decls v.statics (body_written t k text c s).value)
+      pub allowed : IsAllowedType k.decls (body_written t k text c s).value
 
     abbrev pub IsGoodType : TypeText → Type 0
     IsGoodType text = (c : Scope) (v : View) (s : State) → Sees c v → (body_written t k text c s).after.fault ≡ None → IsWrittenIn c v text s
 
     -- the arguments in the braces of an explicit constructor
     pub record IsMadeOf (c : Scope) (v : View) (at p : ℕ) (args : List ArgText) (s : State) : Type 0 where
-      pub seen : IsTrue (is_seen k.decls v.statics (made_at t k at p args c s).written)
-      pub made : IsTrue (is_made k.decls (made_at t k at p args c s).written)
-      pub allowed : IsAllowedType k.decls (made_at t k at p args c s).written
+      pub seen : IsTrue (is_seen k.decls v.statics (made_at t k at p args c s).value)
+      pub made : IsTrue (is_made k.decls (made_at t k at p args c s).value)
+      pub allowed : IsAllowedType k.decls (made_at t k at p args c s).value
 
     abbrev pub AreGoodArgs : List ArgText → Type 0
     AreGoodArgs args = (at p : ℕ) (c : Scope) (v : View) (s : State) → Sees c v → IsTrue (is_struct k.decls p) → (made_at t k at p args c s).after.fault ≡ None → IsMadeOf c v at p args s

@@ -1,9 +1,10 @@
 use Rattle.std.proofs.Common.{◌≡◌, ◌∙◌, ap, arith, refl}
+use Rattle.jl_resolve_forms.specs.Resolver.{resolution}
 use Rattle.jl_resolve_forms.specs.Scopes.{slot_of}
-use Rattle.jl_resolve_forms.specs.Expressions.{coded, stated, shown, listed, tried, one_said, one_shown, one_evaluated, one_tried, bare_scope, part_number, expr_reads, stmt_reads, piece_reads, eval_reads, branch_reads}
+use Rattle.jl_resolve_forms.specs.Expressions.{one_said, one_shown, one_evaluated, one_tried, bare_scope, part_number, expr_reads, stmt_reads, piece_reads, eval_reads, branch_reads}
 use Rattle.jl_resolve_walk.proofs.Forms.{part, form-Number, form-Bool, form-Nothing, form-Name, form-Paren, form-Tuple, form-Call, form-Make, form-Field, form-Part, form-Prefix, form-Infix, form-Isa, form-Sub, form-Choose, form-If, form-IfElse, form-Begin, form-Latest, form-Spawn, form-EvalMethod, form-EvalBlock, form-EvalExpr, form-EvalQuote, form-Fetch, form-Print}
 use Rattle.jl_resolve_walk.proofs.GivenLemmas.{given, given_on, both_given, weaker, always, ok_at}
-use Rattle.jl_resolve_walk.proofs.Lists.{codes_step, codes_end, codes_start, pieces_step, pieces_end, pieces_start, arms_step, arms_end, arms_start, items_step, items_end, items_start, block_step, block_end, block_kept, block_start}
+use Rattle.jl_resolve_walk.proofs.Lists.{parts_step, parts_step_at, parts_end, parts_start, block_step, block_end, block_kept, block_start}
 use Rattle.jl_resolve_walk.proofs.Parts.{says-Bind, says-Return, says-ReturnNothing, says-Do, shows-Text, shows-Show, evals-Method, evals-Do, tries, method-long, method-short}
 use denote.Param.Weighed.{most}
 use Rattle.jl_grammar.specs.declared.tree.Eval.TheViews as E
@@ -17,7 +18,7 @@ expr-returns-in-Number g t c =
     let sc = c.args.scope.now in
     let e = c.args.text.now in
     record {
-      means = ap (λ z. coded z st) c.number.ensures ∙ form-Number ts k e c.in-Number.field-0 c.in-Number.number sc st c.in-Number.is;
+      means = ap (λ z. resolution z st) c.number.ensures ∙ form-Number ts k e c.in-Number.field-0 c.in-Number.number sc st c.in-Number.is;
       kept = refl;
     }
 
@@ -222,7 +223,7 @@ expr-returns-in_ok-left-in-Infix g t c =
     let e = c.args.text.now in
     let kept1 = (ok_at c.expr-in-Infix.result c.in_ok-left-in-Infix.ensures.0 (λ z. c.expr-in-Infix.new.scope ≡ sc) c.in_ok-left-in-Infix.ensures.1 c.expr-in-Infix.ensures.kept) in
     record {
-      means = given c.expr-right.result c.infix.result _ _ _ c.infix.ensures c.expr-right.ensures.means (λ y z m d. form-Infix ts k e c.in-Infix.field-0 c.in-Infix.operator c.in-Infix.left c.in-Infix.right sc st c.expr-in-Infix.new.state c.expr-right.new.state c.in_ok-left-in-Infix.left y z c.in-Infix.is (part ts k c.in-Infix.left c.get-in-Infix.result.now c.in_ok-left-in-Infix.left c.in_ok-left-in-Infix.ensures.0 sc sc st c.expr-in-Infix.new.state c.in_ok-left-in-Infix.ensures.2 c.get-in-Infix.ensures refl (ok_at c.expr-in-Infix.result c.in_ok-left-in-Infix.ensures.0 (λ z. coded z c.expr-in-Infix.new.state ≡ expr_reads ts k c.get-in-Infix.result.now sc st) c.in_ok-left-in-Infix.ensures.1 c.expr-in-Infix.ensures.means)) (part ts k c.in-Infix.right c.get-in-Infix-2.result.now y y sc c.expr-in-Infix.new.scope c.expr-in-Infix.new.state c.expr-right.new.state refl c.get-in-Infix-2.ensures kept1 m) d);
+      means = given c.expr-right.result c.infix.result _ _ _ c.infix.ensures c.expr-right.ensures.means (λ y z m d. form-Infix ts k e c.in-Infix.field-0 c.in-Infix.operator c.in-Infix.left c.in-Infix.right sc st c.expr-in-Infix.new.state c.expr-right.new.state c.in_ok-left-in-Infix.left y z c.in-Infix.is (part ts k c.in-Infix.left c.get-in-Infix.result.now c.in_ok-left-in-Infix.left c.in_ok-left-in-Infix.ensures.0 sc sc st c.expr-in-Infix.new.state c.in_ok-left-in-Infix.ensures.2 c.get-in-Infix.ensures refl (ok_at c.expr-in-Infix.result c.in_ok-left-in-Infix.ensures.0 (λ z. resolution z c.expr-in-Infix.new.state ≡ expr_reads ts k c.get-in-Infix.result.now sc st) c.in_ok-left-in-Infix.ensures.1 c.expr-in-Infix.ensures.means)) (part ts k c.in-Infix.right c.get-in-Infix-2.result.now y y sc c.expr-in-Infix.new.scope c.expr-in-Infix.new.state c.expr-right.new.state refl c.get-in-Infix-2.ensures kept1 m) d);
       kept = given_on c.expr-right.result c.infix.result _ _ _ c.infix.ensures c.expr-right.ensures.kept (λ h. h ∙ kept1);
     }
 
@@ -260,7 +261,7 @@ expr-returns-in_ok-then-in-Choose g t c =
     let kept1 = (ok_at c.expr-in-Choose.result c.in_ok-test-in-Choose.ensures.0 (λ z. c.expr-in-Choose.new.scope ≡ sc) c.in_ok-test-in-Choose.ensures.1 c.expr-in-Choose.ensures.kept) in
     let kept2 = (ok_at c.expr-in-Choose-2.result c.in_ok-then-in-Choose.ensures.0 (λ z. c.expr-in-Choose-2.new.scope ≡ c.expr-in-Choose.new.scope) c.in_ok-then-in-Choose.ensures.1 c.expr-in-Choose-2.ensures.kept) ∙ kept1 in
     record {
-      means = given c.expr-or_else.result c.choose.result _ _ _ c.choose.ensures c.expr-or_else.ensures.means (λ y z m d. form-Choose ts k e c.in-Choose.field-0 c.in-Choose.test c.in-Choose.then c.in-Choose.or_else sc st c.expr-in-Choose.new.state c.expr-in-Choose-2.new.state c.expr-or_else.new.state c.in_ok-test-in-Choose.test c.in_ok-then-in-Choose.then y z c.in-Choose.is (part ts k c.in-Choose.test c.get-in-Choose.result.now c.in_ok-test-in-Choose.test c.in_ok-test-in-Choose.ensures.0 sc sc st c.expr-in-Choose.new.state c.in_ok-test-in-Choose.ensures.2 c.get-in-Choose.ensures refl (ok_at c.expr-in-Choose.result c.in_ok-test-in-Choose.ensures.0 (λ z. coded z c.expr-in-Choose.new.state ≡ expr_reads ts k c.get-in-Choose.result.now sc st) c.in_ok-test-in-Choose.ensures.1 c.expr-in-Choose.ensures.means)) (part ts k c.in-Choose.then c.get-in-Choose-2.result.now c.in_ok-then-in-Choose.then c.in_ok-then-in-Choose.ensures.0 sc c.expr-in-Choose.new.scope c.expr-in-Choose.new.state c.expr-in-Choose-2.new.state c.in_ok-then-in-Choose.ensures.2 c.get-in-Choose-2.ensures kept1 (ok_at c.expr-in-Choose-2.result c.in_ok-then-in-Choose.ensures.0 (λ z. coded z c.expr-in-Choose-2.new.state ≡ expr_reads ts k c.get-in-Choose-2.result.now c.expr-in-Choose.new.scope c.expr-in-Choose.new.state) c.in_ok-then-in-Choose.ensures.1 c.expr-in-Choose-2.ensures.means)) (part ts k c.in-Choose.or_else c.get-in-Choose-3.result.now y y sc c.expr-in-Choose-2.new.scope c.expr-in-Choose-2.new.state c.expr-or_else.new.state refl c.get-in-Choose-3.ensures kept2 m) d);
+      means = given c.expr-or_else.result c.choose.result _ _ _ c.choose.ensures c.expr-or_else.ensures.means (λ y z m d. form-Choose ts k e c.in-Choose.field-0 c.in-Choose.test c.in-Choose.then c.in-Choose.or_else sc st c.expr-in-Choose.new.state c.expr-in-Choose-2.new.state c.expr-or_else.new.state c.in_ok-test-in-Choose.test c.in_ok-then-in-Choose.then y z c.in-Choose.is (part ts k c.in-Choose.test c.get-in-Choose.result.now c.in_ok-test-in-Choose.test c.in_ok-test-in-Choose.ensures.0 sc sc st c.expr-in-Choose.new.state c.in_ok-test-in-Choose.ensures.2 c.get-in-Choose.ensures refl (ok_at c.expr-in-Choose.result c.in_ok-test-in-Choose.ensures.0 (λ z. resolution z c.expr-in-Choose.new.state ≡ expr_reads ts k c.get-in-Choose.result.now sc st) c.in_ok-test-in-Choose.ensures.1 c.expr-in-Choose.ensures.means)) (part ts k c.in-Choose.then c.get-in-Choose-2.result.now c.in_ok-then-in-Choose.then c.in_ok-then-in-Choose.ensures.0 sc c.expr-in-Choose.new.scope c.expr-in-Choose.new.state c.expr-in-Choose-2.new.state c.in_ok-then-in-Choose.ensures.2 c.get-in-Choose-2.ensures kept1 (ok_at c.expr-in-Choose-2.result c.in_ok-then-in-Choose.ensures.0 (λ z. resolution z c.expr-in-Choose-2.new.state ≡ expr_reads ts k c.get-in-Choose-2.result.now c.expr-in-Choose.new.scope c.expr-in-Choose.new.state) c.in_ok-then-in-Choose.ensures.1 c.expr-in-Choose-2.ensures.means)) (part ts k c.in-Choose.or_else c.get-in-Choose-3.result.now y y sc c.expr-in-Choose-2.new.scope c.expr-in-Choose-2.new.state c.expr-or_else.new.state refl c.get-in-Choose-3.ensures kept2 m) d);
       kept = given_on c.expr-or_else.result c.choose.result _ _ _ c.choose.ensures c.expr-or_else.ensures.kept (λ h. h ∙ kept2);
     }
 
@@ -296,7 +297,7 @@ expr-returns-in_ok-place-in-Spawn g t c =
     let sc = c.args.scope.now in
     let e = c.args.text.now in
     record {
-      means = given c.expr-code-in-Spawn.result c.spawned_at.result _ _ _ c.spawned_at.ensures c.expr-code-in-Spawn.ensures.means (λ y z m d. form-Spawn ts k e c.in-Spawn.field-0 c.in-Spawn.inner sc st c.awaited.new.state c.expr-code-in-Spawn.new.state c.spawned_at.new.state c.in_ok-place-in-Spawn.place y z c.in-Spawn.is c.in_ok-place-in-Spawn.ensures.0 c.in_ok-place-in-Spawn.ensures.1 (part ts k c.in-Spawn.inner c.get-in-Spawn.result.now y y sc sc c.awaited.new.state c.expr-code-in-Spawn.new.state refl c.get-in-Spawn.ensures refl m) d);
+      means = given c.expr-code-in-Spawn.result c.spawned_at.result _ _ _ c.spawned_at.ensures c.expr-code-in-Spawn.ensures.means (λ y z m d. form-Spawn ts k e c.in-Spawn.field-0 c.in-Spawn.inner sc st c.awaited.new.state c.expr-code-in-Spawn.new.state c.spawned_at.new.state c.in_ok-place-in-Spawn.place y z c.in-Spawn.is c.in_ok-place-in-Spawn.ensures (part ts k c.in-Spawn.inner c.get-in-Spawn.result.now y y sc sc c.awaited.new.state c.expr-code-in-Spawn.new.state refl c.get-in-Spawn.ensures refl m) d);
       kept = given_on c.expr-code-in-Spawn.result c.spawned_at.result _ _ _ c.spawned_at.ensures c.expr-code-in-Spawn.ensures.kept (λ h. h);
     }
 
@@ -329,7 +330,7 @@ exprs-loop-text-preserved g t c =
     let ts = g.J.Judge.tests c.args.judge.now in
     let k = c.args.known.now in
     record {
-      means = codes_step (expr_reads ts k) c.args.texts.now c.loop-text.text-index c.text-item.result c.loop-text.out c.put.new.out c.loop-text.scope c.expr.new.scope c.loop-text.state c.expr.new.state c.in_ok-put.ensures.0 _ c.loop-text.invariant.means c.loop-text-test.true c.text-item.is (ok_at c.expr.result c.in_ok-put.ensures.0 (λ z. coded z c.expr.new.state ≡ expr_reads ts k c.text-item.result c.loop-text.scope c.loop-text.state) c.in_ok-put.ensures.1 c.expr.ensures.means) (ok_at c.expr.result c.in_ok-put.ensures.0 (λ z. c.expr.new.scope ≡ c.loop-text.scope) c.in_ok-put.ensures.1 c.expr.ensures.kept) c.in_ok-put.ensures.2;
+      means = parts_step_at (expr_reads ts k) (λ c x. x c) c.args.texts.now c.loop-text.text-index c.text-item.result c.loop-text.out c.put.new.out c.loop-text.scope c.expr.new.scope c.loop-text.state c.expr.new.state c.in_ok-put.ensures.0 _ c.loop-text.invariant.means c.loop-text-test.true c.text-item.is (ok_at c.expr.result c.in_ok-put.ensures.0 (λ z. resolution z c.expr.new.state ≡ expr_reads ts k c.text-item.result c.loop-text.scope c.loop-text.state) c.in_ok-put.ensures.1 c.expr.ensures.means) (ok_at c.expr.result c.in_ok-put.ensures.0 (λ z. c.expr.new.scope ≡ c.loop-text.scope) c.in_ok-put.ensures.1 c.expr.ensures.kept) c.in_ok-put.ensures.2;
       kept = (ok_at c.expr.result c.in_ok-put.ensures.0 (λ z. c.expr.new.scope ≡ c.loop-text.scope) c.in_ok-put.ensures.1 c.expr.ensures.kept) ∙ c.loop-text.invariant.kept;
     }
 
@@ -339,7 +340,7 @@ exprs-loop-text-init g t c =
     let k = c.args.known.now in
     let st = c.args.state.now in
     record {
-      means = codes_start (expr_reads ts k) c.args.texts.now _ c.args.scope.now st c.new-out.ensures;
+      means = parts_start (expr_reads ts k) (λ x. x c.args.scope.now) c.args.texts.now _ st c.new-out.ensures;
       kept = refl;
     }
 
@@ -348,7 +349,7 @@ exprs-returns g t c =
     let ts = g.J.Judge.tests c.args.judge.now in
     let k = c.args.known.now in
     record {
-      means = weaker c.into_shared.result _ _ c.into_shared.ensures (λ z d. codes_end (expr_reads ts k) c.args.texts.now c.loop-text.text-index c.loop-text.out z c.loop-text.scope c.loop-text.state _ c.loop-text.invariant.means c.loop-text-test.false d);
+      means = weaker c.into_shared.result _ _ c.into_shared.ensures (λ z d. parts_end (expr_reads ts k) (λ x. x c.loop-text.scope) c.args.texts.now c.loop-text.text-index c.loop-text.out z c.loop-text.state _ c.loop-text.invariant.means c.loop-text-test.false d);
       kept = always c.into_shared.result _ c.loop-text.invariant.kept;
     }
 
@@ -357,7 +358,7 @@ pieces-loop-text-preserved g t c =
     let ts = g.J.Judge.tests c.args.judge.now in
     let k = c.args.known.now in
     record {
-      means = pieces_step (piece_reads ts k) c.args.texts.now c.loop-text.text-index c.text-item.result c.loop-text.out c.put.new.out c.loop-text.scope c.piece.new.scope c.loop-text.state c.piece.new.state c.in_ok-put.ensures.0 _ c.loop-text.invariant.means c.loop-text-test.true c.text-item.is (ok_at c.piece.result c.in_ok-put.ensures.0 (λ z. shown z c.piece.new.state ≡ one_shown (piece_reads ts k c.text-item.result) c.loop-text.scope c.loop-text.state) c.in_ok-put.ensures.1 c.piece.ensures.means) (ok_at c.piece.result c.in_ok-put.ensures.0 (λ z. c.piece.new.scope ≡ c.loop-text.scope) c.in_ok-put.ensures.1 c.piece.ensures.kept) c.in_ok-put.ensures.2;
+      means = parts_step_at (piece_reads ts k) (λ c x. one_shown x c) c.args.texts.now c.loop-text.text-index c.text-item.result c.loop-text.out c.put.new.out c.loop-text.scope c.piece.new.scope c.loop-text.state c.piece.new.state c.in_ok-put.ensures.0 _ c.loop-text.invariant.means c.loop-text-test.true c.text-item.is (ok_at c.piece.result c.in_ok-put.ensures.0 (λ z. resolution z c.piece.new.state ≡ one_shown (piece_reads ts k c.text-item.result) c.loop-text.scope c.loop-text.state) c.in_ok-put.ensures.1 c.piece.ensures.means) (ok_at c.piece.result c.in_ok-put.ensures.0 (λ z. c.piece.new.scope ≡ c.loop-text.scope) c.in_ok-put.ensures.1 c.piece.ensures.kept) c.in_ok-put.ensures.2;
       kept = (ok_at c.piece.result c.in_ok-put.ensures.0 (λ z. c.piece.new.scope ≡ c.loop-text.scope) c.in_ok-put.ensures.1 c.piece.ensures.kept) ∙ c.loop-text.invariant.kept;
     }
 
@@ -367,7 +368,7 @@ pieces-loop-text-init g t c =
     let k = c.args.known.now in
     let st = c.args.state.now in
     record {
-      means = pieces_start (piece_reads ts k) c.args.texts.now _ c.args.scope.now st c.new-out.ensures;
+      means = parts_start (piece_reads ts k) (λ x. one_shown x c.args.scope.now) c.args.texts.now _ st c.new-out.ensures;
       kept = refl;
     }
 
@@ -376,7 +377,7 @@ pieces-returns g t c =
     let ts = g.J.Judge.tests c.args.judge.now in
     let k = c.args.known.now in
     record {
-      means = weaker c.into_shared.result _ _ c.into_shared.ensures (λ z d. pieces_end (piece_reads ts k) c.args.texts.now c.loop-text.text-index c.loop-text.out z c.loop-text.scope c.loop-text.state _ c.loop-text.invariant.means c.loop-text-test.false d);
+      means = weaker c.into_shared.result _ _ c.into_shared.ensures (λ z d. parts_end (piece_reads ts k) (λ x. one_shown x c.loop-text.scope) c.args.texts.now c.loop-text.text-index c.loop-text.out z c.loop-text.state _ c.loop-text.invariant.means c.loop-text-test.false d);
       kept = always c.into_shared.result _ c.loop-text.invariant.kept;
     }
 
@@ -385,7 +386,7 @@ branches-loop-text-preserved g t c =
     let ts = g.J.Judge.tests c.args.judge.now in
     let k = c.args.known.now in
     record {
-      means = arms_step (branch_reads ts k) c.args.texts.now c.loop-text.text-index c.text-item.result c.loop-text.out.items c.put_arm.new.out.items c.loop-text.scope c.branch-alloc.new.scope c.loop-text.state c.branch-alloc.new.state c.in_ok-put_arm.ensures.0 _ c.loop-text.invariant.means c.loop-text-test.true c.text-item.is (ok_at c.branch-alloc.result c.in_ok-put_arm.ensures.0 (λ z. tried z c.branch-alloc.new.state ≡ one_tried (branch_reads ts k c.text-item.result) c.loop-text.scope c.loop-text.state) c.in_ok-put_arm.ensures.1 c.branch-alloc.ensures.means) (ok_at c.branch-alloc.result c.in_ok-put_arm.ensures.0 (λ z. c.branch-alloc.new.scope ≡ c.loop-text.scope) c.in_ok-put_arm.ensures.1 c.branch-alloc.ensures.kept) c.in_ok-put_arm.ensures.2;
+      means = parts_step_at (branch_reads ts k) (λ c x. one_tried x c) c.args.texts.now c.loop-text.text-index c.text-item.result c.loop-text.out.items c.put_arm.new.out.items c.loop-text.scope c.branch-alloc.new.scope c.loop-text.state c.branch-alloc.new.state c.in_ok-put_arm.ensures.0 _ c.loop-text.invariant.means c.loop-text-test.true c.text-item.is (ok_at c.branch-alloc.result c.in_ok-put_arm.ensures.0 (λ z. resolution z c.branch-alloc.new.state ≡ one_tried (branch_reads ts k c.text-item.result) c.loop-text.scope c.loop-text.state) c.in_ok-put_arm.ensures.1 c.branch-alloc.ensures.means) (ok_at c.branch-alloc.result c.in_ok-put_arm.ensures.0 (λ z. c.branch-alloc.new.scope ≡ c.loop-text.scope) c.in_ok-put_arm.ensures.1 c.branch-alloc.ensures.kept) c.in_ok-put_arm.ensures.2;
       kept = (ok_at c.branch-alloc.result c.in_ok-put_arm.ensures.0 (λ z. c.branch-alloc.new.scope ≡ c.loop-text.scope) c.in_ok-put_arm.ensures.1 c.branch-alloc.ensures.kept) ∙ c.loop-text.invariant.kept;
     }
 
@@ -395,7 +396,7 @@ branches-loop-text-init g t c =
     let k = c.args.known.now in
     let st = c.args.state.now in
     record {
-      means = arms_start (branch_reads ts k) c.args.texts.now _ c.args.scope.now st c.new-out.ensures.items;
+      means = parts_start (branch_reads ts k) (λ x. one_tried x c.args.scope.now) c.args.texts.now _ st c.new-out.ensures.items;
       kept = refl;
     }
 
@@ -404,7 +405,7 @@ branches-returns g t c =
     let ts = g.J.Judge.tests c.args.judge.now in
     let k = c.args.known.now in
     record {
-      means = arms_end (branch_reads ts k) c.args.texts.now c.loop-text.text-index c.loop-text.out.items c.loop-text.scope c.loop-text.state _ c.loop-text.invariant.means c.loop-text-test.false;
+      means = parts_end (branch_reads ts k) (λ x. one_tried x c.loop-text.scope) c.args.texts.now c.loop-text.text-index c.loop-text.out.items _ c.loop-text.state _ c.loop-text.invariant.means c.loop-text-test.false refl;
       kept = c.loop-text.invariant.kept;
     }
 
@@ -412,26 +413,26 @@ pub evals-loop-text-preserved : goal.evals-loop-text-preserved
 evals-loop-text-preserved g t c =
     let ts = g.J.Judge.tests c.args.judge.now in
     let k = c.args.known.now in
-    items_step (eval_reads ts k) c.args.texts.now c.loop-text.text-index c.text-item.result c.loop-text.out c.put.new.out c.args.types c.loop-text.state c.eval.new.state c.in_ok-put.ensures.0 _ c.loop-text.invariant c.loop-text-test.true c.text-item.is (ok_at c.eval.result c.in_ok-put.ensures.0 (λ z. listed z c.eval.new.state ≡ one_evaluated (eval_reads ts k c.text-item.result) c.args.types c.loop-text.state) c.in_ok-put.ensures.1 c.eval.ensures) c.in_ok-put.ensures.2
+    parts_step (eval_reads ts k) (λ x. one_evaluated x c.args.types) c.args.texts.now c.loop-text.text-index c.text-item.result c.loop-text.out c.put.new.out c.loop-text.state c.eval.new.state c.in_ok-put.ensures.0 _ c.loop-text.invariant c.loop-text-test.true c.text-item.is (ok_at c.eval.result c.in_ok-put.ensures.0 (λ z. resolution z c.eval.new.state ≡ one_evaluated (eval_reads ts k c.text-item.result) c.args.types c.loop-text.state) c.in_ok-put.ensures.1 c.eval.ensures) c.in_ok-put.ensures.2
 
 pub evals-loop-text-init : goal.evals-loop-text-init
 evals-loop-text-init g t c =
     let ts = g.J.Judge.tests c.args.judge.now in
     let k = c.args.known.now in
     let st = c.args.state.now in
-    items_start (eval_reads ts k) c.args.texts.now _ c.args.types st c.new-out.ensures
+    parts_start (eval_reads ts k) (λ x. one_evaluated x c.args.types) c.args.texts.now _ st c.new-out.ensures
 
 pub evals-returns : goal.evals-returns
 evals-returns g t c =
     let ts = g.J.Judge.tests c.args.judge.now in
     let k = c.args.known.now in
-    weaker c.into_shared.result _ _ c.into_shared.ensures (λ z d. items_end (eval_reads ts k) c.args.texts.now c.loop-text.text-index c.loop-text.out z c.args.types c.loop-text.state _ c.loop-text.invariant c.loop-text-test.false d)
+    weaker c.into_shared.result _ _ c.into_shared.ensures (λ z d. parts_end (eval_reads ts k) (λ x. one_evaluated x c.args.types) c.args.texts.now c.loop-text.text-index c.loop-text.out z c.loop-text.state _ c.loop-text.invariant c.loop-text-test.false d)
 
 pub block-loop-text-preserved : goal.block-loop-text-preserved
 block-loop-text-preserved g t c =
     let ts = g.J.Judge.tests c.args.judge.now in
     let k = c.args.known.now in
-    block_step (stmt_reads ts k) c.args.texts.now c.loop-text.text-index c.text-item.result c.loop-text.out c.put.new.out c.loop-text.scope c.stmt.new.scope c.loop-text.state c.stmt.new.state c.in_ok-put.ensures.0 _ c.loop-text.invariant c.loop-text-test.true c.text-item.is (ok_at c.stmt.result c.in_ok-put.ensures.0 (λ z. stated z c.stmt.new.scope c.stmt.new.state ≡ one_said (stmt_reads ts k c.text-item.result) c.loop-text.scope c.loop-text.state) c.in_ok-put.ensures.1 c.stmt.ensures) c.in_ok-put.ensures.2
+    block_step (stmt_reads ts k) c.args.texts.now c.loop-text.text-index c.text-item.result c.loop-text.out c.put.new.out c.loop-text.scope c.stmt.new.scope c.loop-text.state c.stmt.new.state c.in_ok-put.ensures.0 _ c.loop-text.invariant c.loop-text-test.true c.text-item.is (ok_at c.stmt.result c.in_ok-put.ensures.0 (λ z. resolution (z, c.stmt.new.scope) c.stmt.new.state ≡ one_said (stmt_reads ts k c.text-item.result) c.loop-text.scope c.loop-text.state) c.in_ok-put.ensures.1 c.stmt.ensures) c.in_ok-put.ensures.2
 
 pub block-loop-text-init : goal.block-loop-text-init
 block-loop-text-init g t c =
@@ -535,7 +536,7 @@ branch-returns g t c =
     let e = c.args.text.now in
     let kept1 = ok_at c.expr.result c.in_ok-test.ensures.0 (λ z. c.expr.new.scope ≡ sc) c.in_ok-test.ensures.1 c.expr.ensures.kept in
     record {
-      means = given c.block-then.result c.arm.result _ _ _ c.arm.ensures c.block-then.ensures.means (λ y z m d. tries ts k e c.as_slice.result.now sc c.expr.new.scope st c.expr.new.state c.block-then.new.state c.in_ok-test.test c.in_ok-test.ensures.0 y z c.in_ok-test.ensures.2 (ok_at c.expr.result c.in_ok-test.ensures.0 (λ z. coded z c.expr.new.state ≡ expr_reads ts k e.test sc st) c.in_ok-test.ensures.1 c.expr.ensures.means) kept1 c.as_slice.ensures m d);
+      means = given c.block-then.result c.arm.result _ _ _ c.arm.ensures c.block-then.ensures.means (λ y z m d. tries ts k e c.as_slice.result.now sc c.expr.new.scope st c.expr.new.state c.block-then.new.state c.in_ok-test.test c.in_ok-test.ensures.0 y z c.in_ok-test.ensures.2 (ok_at c.expr.result c.in_ok-test.ensures.0 (λ z. resolution z c.expr.new.state ≡ expr_reads ts k e.test sc st) c.in_ok-test.ensures.1 c.expr.ensures.means) kept1 c.as_slice.ensures m d);
       kept = given_on c.block-then.result c.arm.result _ _ _ c.arm.ensures c.block-then.ensures.kept (λ h. h ∙ kept1);
     }
 

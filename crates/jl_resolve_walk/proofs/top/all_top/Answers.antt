@@ -1,13 +1,13 @@
 use Rattle.std.proofs.Common.{ap}
 use Rattle.jl_resolve_forms.specs.Top.{all_top}
-use Rattle.jl_resolve_walk.specs.Steps.{tops_behind}
+use Rattle.jl_resolve_walk.specs.Steps.{scoped_behind}
 use Rattle.jl_resolve_walk.proofs.Tops.{tops_step, tops_end}
 use Rattle.jl_resolve_walk.proofs.top.all_top.Goals as goal
 
 pub loop-text-init : goal.loop-text-init
 loop-text-init g c =
     let ts = g.J.Judge.tests c.args.judge.now in
-    ap (λ z. tops_behind z (all_top ts c.args.known.now c.args.texts.now c.args.scope.now c.args.state.now)) c.new-out.ensures
+    ap (λ z. scoped_behind z (all_top ts c.args.known.now c.args.texts.now c.args.scope.now c.args.state.now)) c.new-out.ensures
 
 pub loop-text-preserved : goal.loop-text-preserved
 loop-text-preserved g c =
