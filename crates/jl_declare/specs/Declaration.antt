@@ -1,5 +1,5 @@
 -- A declaration as it is read (Julia manual, Types: Abstract Types, Composite Types, Parametric Types).
-use Rattle.std.specs.Prelude.{ℕ, ◌&&◌, not, cond, nat_eq, List, [], ◌∷◌, ◌++◌, map, length}
+use Rattle.std.specs.Prelude.{ℕ, ◌&&◌, not, if◌then◌else◌, nat_eq, List, [], ◌∷◌, ◌++◌, map, length}
 use Rattle.jl_model.specs.declared.ty.Ty.{Ty}
 use Rattle.jl_model.specs.declared.ty.Ty.TheVariants as W
 use Rattle.jl_model.specs.declared.ty.Decl.{Decl}
@@ -46,4 +46,4 @@ declaration ds k h fields =
     let x = heading ds k h in
     let ts = all_read (ds ++ x.own ∷ []) (map (λ (f : FieldText). f.ty) fields) x.vars x.reading in
     let whole = nat_eq (length ts.after.vars) (length h.params) in
-    record { decl = cond (whole && not ts.after.unknown) (record x.own { fields = fields_of fields ts.tys }) (outline k h); reading = ts.after; whole = whole }
+    record { decl = if whole && not ts.after.unknown then record x.own { fields = fields_of fields ts.tys } else outline k h; reading = ts.after; whole = whole }

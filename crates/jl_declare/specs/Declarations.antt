@@ -1,5 +1,5 @@
 -- The declarations of a script, in text order (Julia manual, Types: Abstract Types, Composite Types, Parametric Types).
-use Rattle.std.specs.Prelude.{ℕ, ◌+◌, ◌≡◌, cond, nat_eq, take, List, [], ◌∷◌, ◌++◌, length, Option, Some, None}
+use Rattle.std.specs.Prelude.{ℕ, ◌+◌, ◌≡◌, if◌then◌else◌, nat_eq, take, List, [], ◌∷◌, ◌++◌, length, Option, Some, None}
 use Rattle.jl_model.specs.declared.ty.Decl.{Decl}
 use Rattle.jl_model.specs.declared.ty.DeclKind.{DeclKind}
 use Rattle.jl_model.specs.declared.ty.DeclKind.TheVariants.{Abstract, Struct}
@@ -40,7 +40,7 @@ with_fault f (Some g) = first_of f g
 
 -- a declared name is no built-in one
 abbrev pub named_fault : ℕ → List ℕ → Option Fault
-named_fault at name = cond (is_among name builtin_names) (Some (record { at = at; kind = kind.NameClash })) None
+named_fault at name = if is_among name builtin_names then Some (record { at = at; kind = kind.NameClash }) else None
 
 -- the faults of the name and of the types that are written
 abbrev pub text_fault : Name → ReadDecl → Option Fault → Option Fault

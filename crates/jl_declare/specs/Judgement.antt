@@ -1,5 +1,5 @@
 -- What is answered for a declaration (Julia manual, Types).
-use Rattle.std.specs.Prelude.{◌≡◌, Bool, not, cond, List, [], ◌∷◌, Option, Some, None, ℕ}
+use Rattle.std.specs.Prelude.{◌≡◌, Bool, not, if◌then◌else◌, List, [], ◌∷◌, Option, Some, None, ℕ}
 use Rattle.jl_model.specs.declared.ty.Decl.{Decl}
 use Rattle.jl_model.specs.Kept.{IsKept}
 use Rattle.jl_model.specs.Refusals.{IsAllowed, table_with}
@@ -39,10 +39,10 @@ pub data IsJudged (ds : List Decl) (d : Decl) : Judged → Type 0 where
 -- before are allowed.
 abbrev pub told : List Decl → Bool → ReadDecl → Option Judged
 told ds all_allowed r =
-    cond (is_among r.decl.name (names_of ds)) (Some (J.Refused kind.DuplicateType))
-    (cond r.reading.unknown (Some J.Unjudged)
-    (cond (not r.whole) (Some (J.Refused kind.WrongParameterCount))
-    (cond all_allowed None (Some J.Unjudged))))
+    if is_among r.decl.name (names_of ds) then Some (J.Refused kind.DuplicateType)
+    else (if r.reading.unknown then Some J.Unjudged
+    else (if not r.whole then Some (J.Refused kind.WrongParameterCount)
+    else (if all_allowed then None else Some J.Unjudged)))
 
 -- what is told, or else what the declarations before tell
 abbrev pub IsAnswer : List Decl → Decl → Option Judged → Judged → Type 0

@@ -1,5 +1,5 @@
 -- Rows of the table of static faults: of which use of a name each holds (docs/LANGUAGE.md, Faults of a script).
-use Rattle.std.specs.Prelude.{ℕ, suc, Bool, true, false, ◌&&◌, ◌||◌, not, cond, nat_lt, nat_le, List, [], ◌∷◌, ◌++◌, Option, Some, None, ◌≡◌}
+use Rattle.std.specs.Prelude.{ℕ, suc, Bool, true, false, ◌&&◌, ◌||◌, not, if◌then◌else◌, nat_lt, nat_le, List, [], ◌∷◌, ◌++◌, Option, Some, None, ◌≡◌}
 use Rattle.jl_model.specs.declared.limits.TheConstants.{MOST_ARGUMENTS, MOST_SITES}
 use Rattle.jl_model.specs.declared.ty.Written.{Written}
 use Rattle.jl_program.specs.Names.{is_among, builtin_names}
@@ -92,7 +92,7 @@ is_definition _ = false
 -- how many methods these uses define
 abbrev pub definitions : List Use → ℕ
 definitions [] = 0
-definitions (u ∷ us) = cond (is_definition u.how) (suc (definitions us)) (definitions us)
+definitions (u ∷ us) = if is_definition u.how then suc (definitions us) else definitions us
 
 -- TooManySites: a method is defined where so many are defined before that no more may be
 abbrev pub too_many_sites : How → ℕ → Bool

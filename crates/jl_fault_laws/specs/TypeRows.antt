@@ -1,6 +1,6 @@
 -- Rows of types in the table of static faults: what refuses a signature, a type in a body and a constructor, and which type variables a
 -- body may not use (docs/LANGUAGE.md, Faults of a script).
-use Rattle.std.specs.Prelude.{ℕ, Bool, false, ◌&&◌, ◌||◌, not, cond, nat_eq, List, [], ◌∷◌, ◌++◌, map, take, length, Option, Some, None, slice_get, ◌≡◌}
+use Rattle.std.specs.Prelude.{ℕ, Bool, false, ◌&&◌, ◌||◌, not, if◌then◌else◌, nat_eq, List, [], ◌∷◌, ◌++◌, map, take, length, Option, Some, None, slice_get, ◌≡◌}
 use Rattle.jl_model.specs.declared.ty.Decl.{Decl}
 use Rattle.jl_model.specs.Valid.{params_of}
 use Rattle.jl_program.specs.Names.{is_among}
@@ -34,7 +34,7 @@ declared_before k types = take (length types) k.decls
 
 -- the struct of a name that no variable hides
 abbrev pub struct_at : Known → List ℕ → Names → Option ℕ
-struct_at k n vs = cond (is_among n vs) None (if_struct k.decls (place_of (type_names k.decls) n))
+struct_at k n vs = if is_among n vs then None else if_struct k.decls (place_of (type_names k.decls) n)
 
 -- the struct that a call names
 abbrev pub struct_called : Known → Callee → Names → Option ℕ
@@ -64,11 +64,11 @@ any_hides (u ∷ us) = hides u || any_hides us
 
 -- what is answered, where none of these uses hides it
 abbrev pub unless_hidden : List Use → Option StaticKind → Option StaticKind
-unless_hidden us o = cond (any_hides us) None o
+unless_hidden us o = if any_hides us then None else o
 
 -- a variable that is brought where none may be comes first
 abbrev pub unless_misplaced : Bool → Option StaticKind → Option StaticKind
-unless_misplaced misplaced o = cond misplaced (Some kind.VariablePlace) o
+unless_misplaced misplaced o = if misplaced then Some kind.VariablePlace else o
 
 module _ (t : Tests) (k : Known) where
   -- what the signature of a method means after these types
@@ -111,20 +111,20 @@ module _ (t : Tests) (k : Known) where
       let bs = params_of (slice_get k.decls p) in
       let ty = constructor_type (declared_before k v.types) p bs (statics_at v) xs in
       unless_misplaced ty.after.misplaced
-      (cond (not (nat_eq (length ty.after.vars) 0) || not (nat_eq (length xs) (length bs))) (Some kind.WrongParameterCount)
-      (unless_hidden (each (map arg_uses xs) v) (t.body (one_type ty.ty []))))
+      (if not (nat_eq (length ty.after.vars) 0) || not (nat_eq (length xs) (length bs)) then Some kind.WrongParameterCount
+      else unless_hidden (each (map arg_uses xs) v) (t.body (one_type ty.ty [])))
 
   -- what refuses a struct that is called without braces: where it has parameters, these are inferred
   abbrev pub call_refusal : Option ℕ → Option StaticKind
   call_refusal None = None
-  call_refusal (Some p) = cond (nat_eq (length (params_of (slice_get k.decls p))) 0) None (inferred_refusal t k p)
+  call_refusal (Some p) = if nat_eq (length (params_of (slice_get k.decls p))) 0 then None else inferred_refusal t k p
 
   -- what refuses a use for its types
   abbrev pub refused_by : How → Visible → Option StaticKind
   refused_by (called f n) v = call_refusal (struct_called k f v.names)
   refused_by (built text) v = built_refusal (struct_built k (out-TypeText text) v.names) (made_args (out-TypeText text)) v
   refused_by (defined h) v = signature_refusal h v
-  refused_by (plain_type n) v = cond (is_barred n v) (Some kind.StaticParameterUse) None
+  refused_by (plain_type n) v = if is_barred n v then Some kind.StaticParameterUse else None
   refused_by (written text) v = type_refusal text v
   refused_by _ v = None
 

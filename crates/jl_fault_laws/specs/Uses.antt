@@ -1,7 +1,7 @@
 -- The uses of names in a script, each with what is visible there (Julia manual, Scope of Variables; Types): where a name is a
 -- value, where a function or a constructor is called, where a method is added to a function, where a name stands for a type,
 -- and where a variable, a type variable or a type gets its name. Neither faults nor slots nor code are named here.
-use Rattle.std.specs.Prelude.{ℕ, ◌+◌, max, Bool, false, ◌&&◌, ◌||◌, not, cond, codes, List, [], ◌∷◌, ◌++◌, map, take, length, Option, Some, None, is_some}
+use Rattle.std.specs.Prelude.{ℕ, ◌+◌, max, Bool, false, ◌&&◌, ◌||◌, not, if◌then◌else◌, codes, List, [], ◌∷◌, ◌++◌, map, take, length, Option, Some, None, is_some}
 use Rattle.jl_model.specs.declared.ty.Decl.{Decl}
 use Rattle.jl_program.specs.Names.{same_text, is_among}
 use Rattle.jl_typeread.specs.declared.tree.ArgText.{ArgText}
@@ -167,7 +167,7 @@ takes_braces n v = not (is_among n v.vars) && (not (same_text n (codes "Any")) &
 
 -- where the name is no type, what stands in its braces is not read
 abbrev pub if_read : Bool → List Use → List Use
-if_read b us = cond b us []
+if_read b us = if b then us else []
 
 -- a type variable: where it stands, its name, and the uses in its bounds
 pub record Brings : Type 0 where

@@ -1,5 +1,5 @@
 -- The tests tell what they are for.
-use Rattle.std.proofs.Common.{◌≡◌, ◌∙◌, sym, subst, refl, ℕ, ◌<◌, ◌≤◌, arith, Bool, true, false, ◌&&◌, cond, nat_lt, IsTrue, List, length, Option, None, Some, slice_get}
+use Rattle.std.proofs.Common.{◌≡◌, ◌∙◌, sym, subst, refl, ℕ, ◌<◌, ◌≤◌, arith, Bool, true, false, ◌&&◌, cond, nat_lt, IsTrue, List, length, Option, None, slice_get}
 use Rattle.jl_model.specs.declared.ty.Ty.{Ty}
 use Rattle.jl_model.specs.declared.ty.Decl.{Decl}
 use Rattle.jl_model.specs.declared.ty.Written.{Written}

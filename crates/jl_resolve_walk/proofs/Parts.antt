@@ -1,5 +1,5 @@
 -- What a statement, a piece of a print, a branch, a statement of an evaluated block and a method are read as, once their parts are read.
-use Rattle.std.proofs.Common.{◌≡◌, ◌∙◌, ap, sym, ℕ, List, length, map}
+use Rattle.std.proofs.Common.{◌≡◌, ◌∙◌, ap, sym, ℕ, List, map}
 use Rattle.jl_program.specs.declared.tree.Expr.{Expr as Code}
 use Rattle.jl_program.specs.declared.tree.Expr.TheVariants as W
 use Rattle.jl_program.specs.declared.tree.Item.{Item}

@@ -17,7 +17,7 @@ use Rattle.jl_written.specs.declared.reading.Reading.{Reading}
 use Rattle.jl_written.specs.declared.reading.Swap.{Swap}
 use Rattle.jl_written.specs.Reads.{Types, Typed}
 use Rattle.jl_written.specs.TextOrder.{moved, is_in, moved_from, all_moved, counted_from, text_places, number_in, renumbered, renumbered_bound, renumbered_place, arranged, ordered_by, one_ordered_by}
-use Rattle.jl_type_laws.specs.Carried.{Passes, vars_pass, AllHave, BoundHas, BoundsHave, PlacesHave, ReadingHas}
+use Rattle.jl_type_laws.specs.Carried.{Passes, vars_pass, AllHave, BoundsHave, PlacesHave, ReadingHas}
 use Rattle.jl_type_laws.specs.Grown.{SwapsFit}
 use Rattle.jl_type_laws.proofs.AdoptLemmas.{set_has}
 use Rattle.jl_type_laws.proofs.CarryLemmas.{all_flat}

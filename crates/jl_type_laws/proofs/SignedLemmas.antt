@@ -1,5 +1,5 @@
 -- The signatures of methods: where no fault stands they are good, and fit what their bodies see.
-use Rattle.std.proofs.Common.{◌≡◌, ◌∙◌, sym, ap, refl, ℕ, zero, suc, ◌+◌, ◌<◌, arith, Bool, true, false, nat_lt, List, [], ◌∷◌, ◌++◌, map, length, Option, None}
+use Rattle.std.proofs.Common.{◌≡◌, ◌∙◌, sym, ap, refl, ℕ, suc, ◌+◌, ◌<◌, arith, Bool, true, false, nat_lt, List, [], ◌∷◌, ◌++◌, map, length, Option, None}
 use Rattle.std.specs.List.{flat_map, list_all}
 use Rattle.jl_model.specs.declared.ty.Bound.{Bound}
 use Rattle.jl_model.specs.declared.ty.Decl.{Decl}
