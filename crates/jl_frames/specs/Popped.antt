@@ -32,7 +32,7 @@ Popped (Some (L.Block base kept)) old new = Off (Fr.Block new.env) new.env old.b
 Popped (Some (L.AfterItem fresh w x xs)) old new = Gone (Fr.AfterItem x.now fresh w xs.now) old new
 Popped (Some (L.Evaluated s)) old new = Off (Fr.Evaluated new.env new.bindings) new.env new.bindings old.open_values old.open_text old new
 Popped (Some (L.Showing line begin xs)) old new = (text : List ℕ) × Off (Fr.Showing text xs.now line) old.env old.bindings old.open_values (text ++ old.open_text) old new
-Popped (Some (L.Body w k s)) old new = Off (Fr.Body w k new.env new.bindings) new.env new.bindings old.open_values old.open_text old new
+Popped (Some (L.Body w s k)) old new = Off (Fr.Body w k new.env new.bindings) new.env new.bindings old.open_values old.open_text old new
 
 -- a frame lets a `return` pass: what was kept for it is dropped, except what was kept for a body
 abbrev pub Passed : Option Flat → Held → Held → Type 0
@@ -45,4 +45,4 @@ Passed (Some (L.Block base kept)) old new = (env : List Value) × Gone (Fr.Block
 Passed (Some (L.AfterItem fresh w x xs)) old new = Gone (Fr.AfterItem x.now fresh w xs.now) old new
 Passed (Some (L.Evaluated s)) old new = (env : List Value) × (bindings : List Ty) × Gone (Fr.Evaluated env bindings) old new
 Passed (Some (L.Showing line begin xs)) old new = (text : List ℕ) × Off (Fr.Showing text xs.now line) old.env old.bindings old.open_values [] old new
-Passed (Some (L.Body w k s)) old new = Off (Fr.Body w k new.env new.bindings) new.env new.bindings old.open_values old.open_text old new
+Passed (Some (L.Body w s k)) old new = Off (Fr.Body w k new.env new.bindings) new.env new.bindings old.open_values old.open_text old new

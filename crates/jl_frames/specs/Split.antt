@@ -20,7 +20,7 @@ split (L.Block base kept ∷ fs) vs ss ts bs = Fr.Block (drop base ss) ∷ split
 split (L.AfterItem fresh w x xs ∷ fs) vs ss ts bs = Fr.AfterItem x.now fresh w xs.now ∷ split fs vs ss ts bs
 split (L.Evaluated s ∷ fs) vs ss ts bs = Fr.Evaluated (drop s.base ss) (drop s.types_base ts) ∷ split fs vs (take s.kept ss) (take s.types_kept ts) bs
 split (L.Showing line begin xs ∷ fs) vs ss ts bs = Fr.Showing (drop begin bs) xs.now line ∷ split fs vs ss ts (take begin bs)
-split (L.Body w k s ∷ fs) vs ss ts bs = Fr.Body w k (drop s.base ss) (drop s.types_base ts) ∷ split fs vs (take s.kept ss) (take s.types_kept ts) bs
+split (L.Body w s k ∷ fs) vs ss ts bs = Fr.Body w k (drop s.base ss) (drop s.types_base ts) ∷ split fs vs (take s.kept ss) (take s.types_kept ts) bs
 
 -- the places of a scope lie within so many slots and so many types
 pub record IsScope (s : Scope) (slots types : ℕ) : Type 0 where
@@ -44,7 +44,7 @@ Fits (L.Block base kept ∷ fs) values slots types text = (base ≤ slots) × (k
 Fits (L.AfterItem fresh w x xs ∷ fs) values slots types text = Fits fs values slots types text
 Fits (L.Evaluated s ∷ fs) values slots types text = IsScope s slots types × Fits fs values s.kept s.types_kept text
 Fits (L.Showing line begin xs ∷ fs) values slots types text = (begin ≤ text) × Fits fs values slots types begin
-Fits (L.Body w k s ∷ fs) values slots types text = IsScope s slots types × Fits fs values s.kept s.types_kept text
+Fits (L.Body w s k ∷ fs) values slots types text = IsScope s slots types × Fits fs values s.kept s.types_kept text
 
 abbrev pub held_of : List Flat → List Value → List Value → List Ty → List ℕ → ℕ → Scope → ℕ → Held
 held_of fs vs ss ts bs from s text_from = record {

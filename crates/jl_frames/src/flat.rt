@@ -53,6 +53,7 @@ pub enum Flat<'p> {
     Evaluated(Scope),
     /// A `print`: whether a newline follows its pieces, where its text begins, and the pieces that are left.
     Showing(bool, u32, &'p [Piece]),
-    /// A method's body: the caller's world, the calls that could still be open there, and its scope.
-    Body(u32, u32, Scope),
+    /// A method's body: the caller's world, its scope, and the calls that could still be open there. In this order the places of all frames
+    /// begin at the same bytes, and a frame is moved by words.
+    Body(u32, Scope, u32),
 }

@@ -5,6 +5,7 @@ ghost use Rattle.jl_program.specs.declared.value.Value.TheVariants.{Nothing};
 ghost use Rattle.jl_frames.specs.Held.{nothing_held, with_open, opens, IsOne};
 
 use crate::flat::{Flat, Scope};
+use crate::place::put_on_top;
 use crate::scopes::drop_above;
 use jl_model::rows::Row;
 use jl_model::ty::Ty;
@@ -42,6 +43,14 @@ impl<'p> Model for Frames<'p> {
     ghost view = { held };
 
     ghost invariant = { IsWhole };
+}
+
+/// An equal value, whose parts are shared.
+#[inline(never)]
+fn copy_value(value: &Value) -> Result<Value, AllocError>
+    ensures { IfOk result (λ copy. copy ≡ value.now) }
+{
+    value.copy()
 }
 
 impl<'p> Frames<'p> {
@@ -93,17 +102,18 @@ impl<'p> Frames<'p> {
     pub fn push(&mut self, value: Value) -> Result<(), AllocError>
         ensures { OnOk result (self.new ≡ opens self.old value) }
     {
-        self.values.push(value)?;
+        put_on_top(&mut self.values, value)?;
         Ok(())
     }
 
-    /// The value of a slot.
+    /// The value of a slot. A number is copied apart from the others, which are copied out of line.
     #[inline(always)]
     fn local(&self, slot: u32) -> Result<Value, AllocError>
         ensures { IfOk result (λ v. v ≡ get_or self.now.env slot Nothing) }
     {
         match self.env().get(slot as usize) {
-            Some(value) => value.copy(),
+            Some(Value::Int(number)) => Ok(Value::Int(*number)),
+            Some(value) => copy_value(value),
             None => Ok(Value::Nothing),
         }
     }

@@ -1,6 +1,6 @@
-//! Places on a stack.
+//! Stacks: places on them, and what is put on top.
 
-ghost use Rattle.std.specs.Prelude.{◌≡◌, IfOk};
+ghost use Rattle.std.specs.Prelude.{◌≡◌, ◌≤◌, ◌++◌, ◌∷◌, [], IfOk, OnOk, OnErr, length};
 
 use std::alloc::AllocError;
 
@@ -8,8 +8,28 @@ use std::alloc::AllocError;
 pub(crate) fn place(length: usize) -> Result<u32, AllocError>
     ensures { IfOk result (λ place. place ≡ length) }
 {
-    if length > u32::MAX as usize {
-        return Err(AllocError);
+    match u32::try_from(length) {
+        Ok(place) => Ok(place),
+        Err(_) => Err(AllocError),
     }
-    Ok(length as u32)
+}
+
+/// An entry is put on top of a stack. Room is made first: where a push fails it hands the entry back, and the place of that is cleared at
+/// each push.
+#[inline(always)]
+pub(crate) fn put_on_top<T: Drop>(stack: &mut Vec<T>, entry: T) -> Result<(), AllocError>
+    ensures pushed { OnOk result (stack.new.items ≡ stack.old.items ++ entry ∷ []) }
+    ensures grown { length stack.old.items ≤ length stack.new.items }
+    ensures kept { OnErr result (stack.new.items ≡ stack.old.items) }
+{
+    match stack.reserve(1) {
+        Ok(()) => {
+            stack.push_reserved(entry);
+            Ok(())
+        }
+        Err(error) => {
+            drop(entry);
+            Err(error)
+        }
+    }
 }

@@ -6,7 +6,7 @@ ghost use Rattle.jl_frames.specs.Held.{with_scope, starts, enters, binds, first_
 
 use crate::flat::{Flat, Scope};
 use crate::frames::Frames;
-use crate::place::place;
+use crate::place::{place, put_on_top};
 use jl_model::ty::Ty;
 use jl_program::value::Value;
 use std::alloc::AllocError;
@@ -21,7 +21,7 @@ fn move_last(values: &mut Vec<Value>, slots: &mut Vec<Value>) -> Result<(), Allo
 {
     match values.pop() {
         Some(value) => {
-            slots.push(value)?;
+            put_on_top(slots, value)?;
             Ok(())
         }
         None => unreachable!(),
@@ -65,7 +65,7 @@ fn push_copies(slots: &mut Vec<Value>, base: usize, count: usize) -> Result<(), 
 {
     for i in 0..count {
         let value = slots[base + i].copy()?;
-        slots.push(value)?;
+        put_on_top(slots, value)?;
     }
     Ok(())
 }
@@ -77,7 +77,7 @@ fn push_types(types: &mut Vec<Ty>, statics: &[Ty]) -> Result<(), AllocError>
     ensures grown { length types.old.items ≤ length types.new.items }
 {
     for ty in statics {
-        types.push(ty.copy()?)?;
+        put_on_top(types, ty.copy()?)?;
     }
     Ok(())
 }
@@ -118,10 +118,11 @@ pub(crate) fn drop_above(values: &mut Vec<Value>, from: usize)
 /// The slots and the types that no frame keeps are dropped.
 #[inline(always)]
 pub(crate) fn drop_own(slots: &mut Vec<Value>, types: &mut Vec<Ty>, scope: Scope)
+    requires kept { scope.kept ≤ length slots.old.items }
     ensures slots { slots.new.items ≡ take scope.kept slots.old.items }
     ensures types { types.new.items ≡ take scope.types_kept types.old.items }
 {
-    slots.truncate(scope.kept as usize);
+    drop_above(slots, scope.kept as usize);
     types.truncate(scope.types_kept as usize);
 }
 
@@ -134,7 +135,7 @@ impl<'p> Frames<'p> {
         let above = Scope::above(self.slots.len(), self.types.len())?;
         move_values(&mut self.values, self.from as usize, &mut self.slots)?;
         push_types(&mut self.types, statics)?;
-        self.flat.push(Flat::Body(world, room, self.scope))?;
+        put_on_top(&mut self.flat, Flat::Body(world, self.scope, room))?;
         self.scope = above;
         Ok(())
     }
@@ -168,7 +169,7 @@ impl<'p> Frames<'p> {
     fn push_slot(&mut self, value: Value) -> Result<(), AllocError>
         ensures { OnOk result (self.new ≡ with_scope self.old (self.old.env ++ value ∷ []) self.old.bindings) }
     {
-        self.slots.push(value)?;
+        put_on_top(&mut self.slots, value)?;
         Ok(())
     }
 

@@ -27,37 +27,39 @@ impl<'p> Frames<'p> {
         match self.flat.pop() {
             None => None,
             Some(flat) => match flat {
-                Flat::Args(from, _, _) => {
+                Flat::Args(from, expr, rest) => {
                     self.from = from;
-                    Some(flat)
+                    Some(Flat::Args(from, expr, rest))
                 }
-                Flat::Second(from, _, _) => {
+                Flat::Second(from, expr, second) => {
                     self.from = from;
-                    Some(flat)
+                    Some(Flat::Second(from, expr, second))
                 }
-                Flat::Testing(_) => Some(flat),
-                Flat::AfterStmt(_, _) => Some(flat),
+                Flat::Testing(expr) => Some(Flat::Testing(expr)),
+                Flat::AfterStmt(stmt, rest) => Some(Flat::AfterStmt(stmt, rest)),
                 Flat::Block(base, kept) => {
                     let around = self.scope.kept as usize;
                     self.slots.truncate(around);
                     self.scope.base = base;
                     self.scope.kept = kept;
-                    Some(flat)
+                    Some(Flat::Block(base, kept))
                 }
-                Flat::AfterItem(_, _, _, _) => Some(flat),
+                Flat::AfterItem(fresh, world, item, rest) => Some(Flat::AfterItem(
+                    fresh, world, item, rest,
+                )),
                 Flat::Evaluated(scope) => {
                     drop_own(&mut self.slots, &mut self.types, self.scope);
                     self.scope = scope;
-                    Some(flat)
+                    Some(Flat::Evaluated(scope))
                 }
-                Flat::Showing(_, begin, _) => {
+                Flat::Showing(line, begin, rest) => {
                     self.text_from = begin;
-                    Some(flat)
+                    Some(Flat::Showing(line, begin, rest))
                 }
-                Flat::Body(_, _, scope) => {
+                Flat::Body(world, scope, room) => {
                     drop_own(&mut self.slots, &mut self.types, self.scope);
                     self.scope = scope;
-                    Some(flat)
+                    Some(Flat::Body(world, scope, room))
                 }
             },
         }
@@ -98,7 +100,7 @@ impl<'p> Frames<'p> {
                     self.text_from = begin;
                     Some(flat)
                 }
-                Flat::Body(_, _, scope) => {
+                Flat::Body(_, scope, _) => {
                     drop_own(&mut self.slots, &mut self.types, self.scope);
                     self.scope = scope;
                     Some(flat)

@@ -6,7 +6,7 @@ ghost use Rattle.jl_frames.specs.Held.{waits, waits_args, waits_text, evaluates}
 
 use crate::flat::{Flat, Scope};
 use crate::frames::Frames;
-use crate::place::place;
+use crate::place::{place, put_on_top};
 use jl_program::tree::{Expr, Item, Piece, Stmt};
 use std::alloc::AllocError;
 
@@ -17,7 +17,7 @@ impl<'p> Frames<'p> {
         ensures { OnOk result (self.new ≡ waits_args self.old expr.now rest.now) }
     {
         let from = place(self.values.len())?;
-        self.flat.push(Flat::Args(self.from, expr, rest))?;
+        put_on_top(&mut self.flat, Flat::Args(self.from, expr, rest))?;
         self.from = from;
         Ok(())
     }
@@ -28,7 +28,7 @@ impl<'p> Frames<'p> {
         ensures { OnOk result (self.new ≡ waits_args self.old expr.now (second.now ∷ [])) }
     {
         let from = place(self.values.len())?;
-        self.flat.push(Flat::Second(self.from, expr, second))?;
+        put_on_top(&mut self.flat, Flat::Second(self.from, expr, second))?;
         self.from = from;
         Ok(())
     }
@@ -38,7 +38,7 @@ impl<'p> Frames<'p> {
     pub fn wait_test(&mut self, expr: &'p Expr) -> Result<(), AllocError>
         ensures { OnOk result (self.new ≡ waits self.old (Fr.Testing expr.now)) }
     {
-        self.flat.push(Flat::Testing(expr))?;
+        put_on_top(&mut self.flat, Flat::Testing(expr))?;
         Ok(())
     }
 
@@ -47,7 +47,7 @@ impl<'p> Frames<'p> {
     pub fn wait_stmt(&mut self, stmt: &'p Stmt, rest: &'p [Stmt]) -> Result<(), AllocError>
         ensures { OnOk result (self.new ≡ waits self.old (Fr.AfterStmt stmt.now rest.now)) }
     {
-        self.flat.push(Flat::AfterStmt(stmt, rest))?;
+        put_on_top(&mut self.flat, Flat::AfterStmt(stmt, rest))?;
         Ok(())
     }
 
@@ -57,8 +57,10 @@ impl<'p> Frames<'p> {
         ensures { OnOk result (self.new ≡ waits self.old (Fr.Block self.old.env)) }
     {
         let kept = place(self.slots.len())?;
-        self.flat
-            .push(Flat::Block(self.scope.base, self.scope.kept))?;
+        put_on_top(
+            &mut self.flat,
+            Flat::Block(self.scope.base, self.scope.kept),
+        )?;
         self.scope.kept = kept;
         Ok(())
     }
@@ -74,7 +76,7 @@ impl<'p> Frames<'p> {
     ) -> Result<(), AllocError>
         ensures { OnOk result (self.new ≡ waits self.old (Fr.AfterItem item.now fresh world rest.now)) }
     {
-        self.flat.push(Flat::AfterItem(fresh, world, item, rest))?;
+        put_on_top(&mut self.flat, Flat::AfterItem(fresh, world, item, rest))?;
         Ok(())
     }
 
@@ -83,7 +85,7 @@ impl<'p> Frames<'p> {
         ensures { OnOk result (self.new ≡ evaluates self.old) }
     {
         let above = Scope::above(self.slots.len(), self.types.len())?;
-        self.flat.push(Flat::Evaluated(self.scope))?;
+        put_on_top(&mut self.flat, Flat::Evaluated(self.scope))?;
         self.scope = above;
         Ok(())
     }
@@ -93,8 +95,7 @@ impl<'p> Frames<'p> {
         ensures { OnOk result (self.new ≡ waits_text self.old rest.now newline) }
     {
         let text_from = place(self.text.len())?;
-        self.flat
-            .push(Flat::Showing(newline, self.text_from, rest))?;
+        put_on_top(&mut self.flat, Flat::Showing(newline, self.text_from, rest))?;
         self.text_from = text_from;
         Ok(())
     }

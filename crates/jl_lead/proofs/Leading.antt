@@ -9,7 +9,7 @@ use Rattle.jl_calculus.specs.Run.{Question}
 use Rattle.jl_dispatcher.specs.Knows.{Knows, Claim}
 use Rattle.jl_fit.specs.Asks.{Job, Asks, Tells, Follows, StartsJoin}
 use Rattle.jl_machine.specs.declared.now.LentWork.{LentWork}
-use Rattle.jl_machine.specs.declared.now.LentWork.TheVariants.{Eval, Give, Leave, Acting, Calling, Stmts, Items, Defining, Pieces, Ended, Lost}
+use Rattle.jl_machine.specs.declared.now.LentWork.TheVariants.{Eval, Give, Leave, Acting, Calling, Items, Defining, Pieces, Ended, Lost}
 use Rattle.jl_machine.specs.declared.task.Task.{Task}
 use Rattle.jl_machine.specs.declared.task.Machine.{Machine}
 use Rattle.jl_machine.specs.Steps.{IsAt, FitsAt, MachineFits, IsLost, job_with, fuel_of, trace_of}
@@ -29,7 +29,6 @@ at_work P fuel k Give t g f = f
 at_work P fuel k Leave t g f = f
 at_work P fuel k (Acting x) t g f = f
 at_work P fuel k (Calling h w) t g f = f
-at_work P fuel k (Stmts xs) t g f = f
 at_work P fuel k (Items fresh xs) t g f = f
 at_work P fuel k (Defining fresh site xs) t g f = f
 at_work P fuel k (Pieces line xs) t g f = f

@@ -1,5 +1,5 @@
 -- A form whose parts have values: what is known of it where it answers by itself, and that its answer is a step.
-use Rattle.std.proofs.Common.{◌≡◌, refl, sym, ap, ◌∙◌, subst, ℕ, zero, suc, List, [], ◌∷◌, map, length, get_or, Option, None, Some, Result, Ok, Err, IfOk, IsTrue}
+use Rattle.std.proofs.Common.{◌≡◌, refl, sym, ap, ◌∙◌, subst, ℕ, List, [], ◌∷◌, map, length, Result, Ok, Err, IfOk, Bool}
 use Rattle.std.specs.declared.alloc.AllocError.{AllocError}
 use Rattle.jl_model.specs.declared.ty.Decl.{Decl}
 use Rattle.jl_model.specs.declared.ty.Ty.{Ty}
@@ -19,7 +19,7 @@ use Rattle.jl_program.specs.Meaning.{datum}
 use Rattle.jl_program.specs.Scope.{all_types}
 use Rattle.jl_program.specs.ValidValue.{AllValid}
 use Rattle.jl_calculus.specs.declared.history.Outcome.{Outcome}
-use Rattle.jl_calculus.specs.Answers.{Answer, IsSingle}
+use Rattle.jl_calculus.specs.Answers.{IsSingle}
 use Rattle.jl_calculus.specs.Operations.{make_tuple, make_written, make_inferred, test_type, test_order}
 use Rattle.jl_calculus.proofs.AnswerLemmas.{tuple_once, inferred_once, written_once, test_once, order_once, same_once}
 use Rattle.jl_operations.specs.Conditions.{IsWrittenIn, IsMadeIn, IsInferredIn}
@@ -27,8 +27,7 @@ use Rattle.jl_frames.specs.Held.{IsOne}
 use Rattle.jl_point.specs.declared.point.Work.TheVariants as W
 use Rattle.jl_point.specs.Operated.{exactly, operation_of}
 use Rattle.jl_point.specs.Point.{value_at}
-use Rattle.jl_point.specs.ValidPoint.{AreMany, parts_of, IsGoodPoint}
-use Rattle.jl_point.proofs.AskedLemmas.{Acts, acts_of, acting_data, acted_good, call_good, make_asks, isa_asks, sub_asks, infer_asks, static_where, IsWrittenWhere}
+use Rattle.jl_point.proofs.AskedLemmas.{acts_of, acting_data, acted_good, call_good, make_asks, isa_asks, sub_asks, infer_asks, static_where, IsWrittenWhere}
 use Rattle.jl_dispatcher.specs.Knows.{Knows}
 use Rattle.jl_fit.specs.Fits.{Fitting}
 use Rattle.jl_fit.proofs.KnownLemmas.{answered_mentions, operated_mentions}
@@ -38,9 +37,9 @@ use Rattle.jl_machine.specs.declared.now.LentNow.{LentNow}
 use Rattle.jl_machine.specs.declared.now.LentWork.{LentWork}
 use Rattle.jl_machine.specs.declared.task.Task.{Task}
 use Rattle.jl_machine.specs.Acting.{MayAct, IsOperation}
-use Rattle.jl_machine.specs.Lent.{now_of, Reaches}
+use Rattle.jl_machine.specs.Lent.{now_of, Reaches, after_answer}
 use Rattle.jl_machine.specs.Steps.{progress_of, LentSteps}
-use Rattle.jl_machine.proofs.Stepping.{lent_ok, knows_turn}
+use Rattle.jl_machine.proofs.Stepping.{lent_is, knows_turn}
 use Rattle.jl_calculus.specs.ValidHistory.{IsValidOutcome}
 use Rattle.jl_point.specs.Turns.{answered}
 
@@ -135,12 +134,13 @@ module _ (k : Knows) (P : Program) (t : Task) (e : Expr) (eP : P ≡ k.program) 
   pub may_act : MayAct P t.now.frames.bindings e vs
   may_act = subst (λ Q. MayAct Q t.now.frames.bindings e vs) (sym eP) (record { valid = h.valid; now = now_of t.now; bound = refl; good = h.good })
 
-  pub lent_operated : (r : Result LentWork AllocError) (o : Outcome) (n : LentNow) → IsOperation (out-Expr e) → operation_of (all_types P) t.now.frames.bindings (out-Expr e) vs o → IsValidOutcome P o
-      → IfOk r (λ work. Reaches work n (answered o, now_of t.now)) → IfOk r (λ work. LentSteps k (W.Acting e vs) t k work (record t { now = n }))
-  lent_operated r o n form answer valid reach =
+  pub lent_operated : (r : Result Bool AllocError) (o : Outcome) (n : LentNow) → IsOperation (out-Expr e) → operation_of (all_types P) t.now.frames.bindings (out-Expr e) vs o → IsValidOutcome P o
+      → IfOk r (λ goes. Reaches (after_answer goes) n (answered o, now_of t.now)) → IfOk r (λ goes. LentSteps k (W.Acting e vs) t k (after_answer goes) (record t { now = n }))
+  lent_operated (Err x) o n form answer valid reach = tt
+  lent_operated (Ok goes) o n form answer valid reach =
       let answer' = subst (λ Q. operation_of (all_types Q) t.now.frames.bindings (out-Expr e) vs o) eP answer in
       let valid' = subst (λ Q. IsValidOutcome Q o) eP valid in
-      lent_ok r k k (W.Acting e vs) t t n (answered o, now_of t.now) reach
+      lent_is (after_answer goes) k k (W.Acting e vs) t t n (answered o, now_of t.now) reach
       (step_operated k (progress_of t) e vs o h (acted_good k.program h.valid.views e vs (now_of t.now) o h.good valid')
       (operation_once (all_types k.program) h.valid.decls t.now.frames.bindings (out-Expr e) vs form) answer')
       (knows_turn k (W.Acting e vs) t (answered o, now_of t.now) (λ K m. answered_mentions K (now_of t.now) m.env m.stack o (operated_mentions K (all_types k.program) t.now.frames.bindings (out-Expr e) vs o m.work answer')))

@@ -1,5 +1,5 @@
 -- A question to the dispatcher is a step of the machine's task.
-use Rattle.std.proofs.Common.{◌≡◌, refl, sym, ap, ◌∙◌, subst, ℕ, zero, suc, ◌+◌, ◌-◌, ◌<◌, ◌≤◌, Bool, true, false, List, [], ◌∷◌, ◌++◌, map, length, take, drop, get_or, Option, None, Some, Result, Ok, Err, IfOk, arith, append-nil}
+use Rattle.std.proofs.Common.{◌≡◌, refl, sym, ap, ◌∙◌, subst, ℕ, ◌-◌, ◌<◌, ◌≤◌, Bool, true, false, List, [], ◌∷◌, ◌++◌, map, length, take, drop, get_or, None, Some, Result, Ok, IfOk, arith, append-nil}
 use Rattle.std.proofs.lemmas.List.{take_rest}
 use Rattle.std.specs.declared.alloc.AllocError.{AllocError}
 use Rattle.jl_program.specs.declared.fault.Fault.TheVariants.{WorldLimit, TaskLimit, NotTask}
@@ -47,7 +47,7 @@ use Rattle.jl_machine.specs.declared.now.LentWork.{LentWork}
 use Rattle.jl_machine.specs.declared.now.LentWork.TheVariants as L
 use Rattle.jl_machine.specs.declared.task.Task.{Task}
 use Rattle.jl_machine.specs.Fetched.{task_of}
-use Rattle.jl_machine.specs.Lent.{now_of, work_of, given_value, IsClosed, IsGiven, Reaches}
+use Rattle.jl_machine.specs.Lent.{now_of, given_value, IsGiven, Reaches}
 use Rattle.jl_machine.specs.Steps.{progress_of, KnowsOn, LentSteps, LentWaits, HasLooked}
 use Rattle.jl_machine.proofs.Stepping.{MentionsNoMore, KnowsAt, knows_turn, lent_is, lent_ok}
 

@@ -1,5 +1,5 @@
 -- What the choice of a method asks for and tells, where the code chooses.
-use Rattle.std.proofs.Common.{◌≡◌, refl, sym, ap, ◌∙◌, subst, ℕ, zero, suc, ◌<◌, ◌≤◌, Bool, true, ◌&&◌, List, [], ◌∷◌, ◌++◌, map, length, slice_get, Option, None, Some, arith, IsTrue}
+use Rattle.std.proofs.Common.{◌≡◌, refl, sym, ap, ◌∙◌, subst, ℕ, zero, suc, ◌<◌, List, [], ◌∷◌, ◌++◌, map, length, slice_get, Some, arith}
 use Rattle.std.specs.List.{All, flat_map, list_all}
 use Rattle.std.proofs.lemmas.Bool.{and_from}
 use Rattle.std.proofs.lemmas.List.Elements.{All-head, All-tail}
@@ -10,7 +10,7 @@ use Rattle.jl_model.specs.declared.ty.Written.{Written}
 use Rattle.jl_model.specs.Ancestors.{table_of}
 use Rattle.jl_model.specs.Bindings.{binding, bindings}
 use Rattle.jl_model.specs.AllRows.{each_var}
-use Rattle.jl_model.specs.Normal.{none, more}
+use Rattle.jl_model.specs.Normal.{more}
 use Rattle.jl_model.specs.Rows.{vars_in}
 use Rattle.jl_model.specs.Signature.{Applicable}
 use Rattle.jl_model.specs.Subtype.{opaque, is_concrete}
@@ -21,12 +21,11 @@ use Rattle.jl_program.specs.declared.tree.Site.{Site}
 use Rattle.jl_program.specs.declared.value.Value.{Value}
 use Rattle.jl_program.specs.Scope.{all_types, types_of}
 use Rattle.jl_program.specs.TypeOf.{type_of}
-use Rattle.jl_program.specs.Valid.{IsValid}
 use Rattle.jl_program.specs.ValidValue.{IsValueType}
 use Rattle.jl_calculus.specs.declared.history.Event.{Event}
 use Rattle.jl_calculus.specs.Kept.{Keeps}
 use Rattle.jl_calculus.specs.Legal.{IsKeyOf}
-use Rattle.jl_calculus.specs.World.{Selects, site_of}
+use Rattle.jl_calculus.specs.World.{Selects}
 use Rattle.jl_sig.specs.Readied.{sigs_of}
 use Rattle.jl_match.specs.KeptRow.{AreConcrete}
 use Rattle.jl_match.proofs.ArgumentTypes.{no_arguments}
@@ -34,7 +33,7 @@ use Rattle.jl_match.proofs.ComponentLemmas.{none_of}
 use Rattle.jl_point.specs.declared.point.Work.TheVariants as W
 use Rattle.jl_point.proofs.AskedLemmas.{call_key}
 use Rattle.jl_point.proofs.SelectedLemmas.{IsSelected}
-use Rattle.jl_dispatcher.specs.Knows.{Knows, Asked, IsRight, IsOfSite, IsMethod}
+use Rattle.jl_dispatcher.specs.Knows.{Knows, Asked, IsRight, IsOfSite}
 use Rattle.jl_fit.specs.Fits.{Progress, Fitting}
 use Rattle.jl_fit.proofs.Calling.{of_site}
 use Rattle.jl_machine.specs.Steps.{AppliesAt, variables_at}

@@ -65,6 +65,22 @@ pub once_more : (k : Knows) (first : LentWork) (t : Task) (work : LentWork) (t' 
 once_more k first t work t' (inl e) next t'' m = inr (subst (λ (q : LentWork × Task). Moves k (work_of q.0 q.1.now) q.1 next t'') (λ i. (e.0 i, e.1 i)) m)
 once_more k first t work t' (inr g) next t'' m = inr (record { step = after k k (work_of first t.now) t work t' g.step next t'' m; trace = m.trace ∙ g.trace })
 
+-- what goes on, and what goes on after it
+pub goes_further : (k : Knows) (first : LentWork) (t : Task) (work : LentWork) (t' : Task) → GoesOn k first t work t' → (last : LentWork) (t'' : Task) → GoesOn k work t' last t'' → GoesOn k first t last t''
+goes_further k first t work t' g last t'' (inl e) = subst (λ (q : LentWork × Task). GoesOn k first t q.0 q.1) (λ i. (sym e.0 i, sym e.1 i)) g
+goes_further k first t work t' g last t'' (inr m) = once_more k first t work t' g last t'' m
+
+-- fewer turns are left after what goes on and one step more
+pub on_fewer : (k : Knows) (work : LentWork) (t : Task) (last : LentWork) (t' : Task) → GoesOn k work t last t' → (next : LentWork) (t'' : Task) → Moves k (work_of last t'.now) t' next t''
+    → turns_left k.program t''.fuel t''.calls (work_of next t''.now) (now_of t''.now) < turns_left k.program t.fuel t.calls (work_of work t.now) (now_of t.now)
+on_fewer k work t last t' (inl e) next t'' m =
+    subst (λ (q : LentWork × Task). turns_left k.program t''.fuel t''.calls (work_of next t''.now) (now_of t''.now) < turns_left k.program q.1.fuel q.1.calls (work_of q.0 q.1.now) (now_of q.1.now))
+    (λ i. (e.0 i, e.1 i)) (moves_fewer k (work_of last t'.now) t' next t'' m)
+on_fewer k work t last t' (inr g) next t'' m =
+    let a = moves_fewer k (work_of work t.now) t last t' g in
+    let b = moves_fewer k (work_of last t'.now) t' next t'' m in
+    omega (arith, a, b)
+
 -- what goes on fits, and what is open there is as it should be
 pub on_fits : (k : Knows) (first : LentWork) (t : Task) (work : LentWork) (t' : Task) → GoesOn k first t work t' → Fitting k (work_of first t.now) (progress_of t) → Fitting k (work_of work t'.now) (progress_of t')
 on_fits k first t work t' (inl e) f = subst (λ (q : LentWork × Task). Fitting k (work_of q.0 q.1.now) (progress_of q.1)) (λ i. (sym e.0 i, sym e.1 i)) f

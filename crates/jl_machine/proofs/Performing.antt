@@ -1,13 +1,11 @@
 -- What a site of the script does is its body.
-use Rattle.std.proofs.Common.{◌≡◌, ℕ, ◌≤◌, ◌<◌, List, Option, None, Some, Result, Ok, Err, IfOk, cond, refl, sym, ap, ◌∙◌, subst, slice_get, get_or, map, length, zero, suc, arith, [], ◌∷◌}
+use Rattle.std.proofs.Common.{◌≡◌, ℕ, ◌≤◌, ◌<◌, List, Option, Some, Result, IfOk, cond, refl, sym, ap, ◌∙◌, subst, slice_get, get_or, map, length, zero, suc, arith, [], ◌∷◌}
 use Rattle.std.proofs.lemmas.Bool.{le-ltb, lt-ltb}
 use Rattle.std.specs.declared.alloc.AllocError.{AllocError}
 use Rattle.jl_model.specs.declared.ty.Ty.{Ty}
 use Rattle.jl_program.specs.declared.value.Value.{Value}
 use Rattle.jl_program.specs.declared.tree.Site.{Site}
-use Rattle.jl_program.specs.declared.tree.Expr.{Expr}
 use Rattle.jl_program.specs.declared.tree.Program.{Program}
-use Rattle.jl_program.specs.Prelude.{prelude_count}
 use Rattle.jl_program.specs.TypeOf.{type_of}
 use Rattle.jl_calculus.specs.Run.{operation, code_of, body_of, operates}
 use Rattle.jl_point.specs.declared.point.Now.{Now}
@@ -15,7 +13,7 @@ use Rattle.jl_point.specs.Operated.{performed}
 use Rattle.jl_point.specs.Turns.{answered, entered}
 use Rattle.jl_machine.specs.declared.now.LentNow.{LentNow}
 use Rattle.jl_machine.specs.declared.now.LentWork.{LentWork}
-use Rattle.jl_machine.specs.Lent.{now_of, Reaches}
+use Rattle.jl_machine.specs.Lent.{Reaches}
 use Rattle.jl_machine.specs.Steps.{variables_at}
 
 -- a site of the prelude is an operation, and one past it is code

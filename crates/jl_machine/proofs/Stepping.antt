@@ -1,26 +1,18 @@
 -- From what the machine's code answers to a step of its task.
-use Rattle.std.proofs.Common.{◌≡◌, refl, sym, ap, ◌∙◌, subst, ℕ, zero, suc, ◌+◌, ◌-◌, ◌<◌, ◌≤◌, Bool, List, [], ◌∷◌, ◌++◌, map, length, take, drop, get_or, slice_get, Option, None, Some, Result, Ok, Err, IfOk, arith}
+use Rattle.std.proofs.Common.{◌≡◌, refl, sym, ap, ◌∙◌, subst, ℕ, zero, suc, ◌+◌, ◌<◌, ◌≤◌, Bool, List, [], ◌∷◌, map, length, slice_get, Option, None, Some, Result, Ok, Err, IfOk, arith}
 use Rattle.std.specs.declared.alloc.AllocError.{AllocError}
 use Rattle.jl_model.specs.declared.ty.Ty.{Ty}
 use Rattle.jl_program.specs.declared.choice.Choice.TheVariants as C
-use Rattle.jl_program.specs.declared.fault.Fault.TheVariants.{NoMethod, Ambiguous, FuelSpent, StackLimit, WorldLimit, TaskLimit}
-use Rattle.jl_program.specs.declared.tree.Expr.{Expr, out-Expr}
-use Rattle.jl_program.specs.declared.tree.Expr.TheOpen as F
-use Rattle.jl_program.specs.declared.tree.Item.{Item, out-Item}
-use Rattle.jl_program.specs.declared.tree.Stmt.{Stmt}
+use Rattle.jl_program.specs.declared.fault.Fault.TheVariants.{NoMethod, Ambiguous, FuelSpent, StackLimit}
+use Rattle.jl_program.specs.declared.tree.Expr.{Expr}
 use Rattle.jl_program.specs.declared.tree.Piece.{Piece}
 use Rattle.jl_program.specs.declared.tree.Program.{Program}
 use Rattle.jl_program.specs.declared.tree.Site.{Site}
-use Rattle.jl_program.specs.declared.tree.Start.{Start}
 use Rattle.jl_program.specs.declared.value.Value.{Value}
-use Rattle.jl_program.specs.declared.value.Value.TheVariants as V
 use Rattle.jl_program.specs.TypeOf.{type_of}
 use Rattle.jl_program.specs.Valid.{IsValid}
 use Rattle.jl_calculus.specs.declared.history.Event.{Event}
-use Rattle.jl_calculus.specs.declared.history.Outcome.{Outcome}
 use Rattle.jl_calculus.specs.declared.history.Outcome.TheVariants as O
-use Rattle.jl_calculus.specs.declared.history.TraceItem.{TraceItem}
-use Rattle.jl_calculus.specs.declared.history.TraceItem.TheVariants.{Look, Def, Spawn, Fetch, WorldFull, TaskFull}
 use Rattle.jl_calculus.specs.Kept.{Keeps}
 use Rattle.jl_calculus.specs.Run.{Body, operation, code, body_of}
 use Rattle.jl_calculus.specs.World.{Selects, site_of}
@@ -28,27 +20,25 @@ use Rattle.jl_point.specs.declared.point.Work.{Work}
 use Rattle.jl_point.specs.declared.point.Work.TheVariants as W
 use Rattle.jl_point.specs.declared.point.Now.{Now}
 use Rattle.jl_point.specs.Operated.{performed}
-use Rattle.jl_point.specs.Skip.{skip_begun, skip_given}
-use Rattle.jl_point.specs.Turns.{Point, answered, left, go_pieces, go_stmts, looked_item, start_of}
+use Rattle.jl_point.specs.Turns.{Point, left, go_pieces}
 use Rattle.jl_point.specs.ValidPoint.{IsGoodPoint}
-use Rattle.jl_point.proofs.AskedLemmas.{no_method_valid, ambiguous_valid, fuel_spent_valid, stack_limit_valid, world_limit_valid, task_limit_valid, ended_good, call_is, call_good, call_key, latest_good, operated_good}
-use Rattle.jl_point.proofs.EnteredKept.{spawn_good}
+use Rattle.jl_point.proofs.AskedLemmas.{no_method_valid, ambiguous_valid, fuel_spent_valid, stack_limit_valid, ended_good, call_is, operated_good}
 use Rattle.jl_point.proofs.SelectedLemmas.{IsSelected, selected, selected_good}
-use Rattle.jl_point.proofs.TurnsKept.{left_good, pieces_good, stmts_good}
+use Rattle.jl_point.proofs.TurnsKept.{left_good, pieces_good}
 use Rattle.jl_dispatcher.specs.Knows.{Knows, Asked, IsRight, IsOfSite, IsMethod, variables_of}
 use Rattle.jl_fit.specs.Fits.{Fitting, IsKnowing, Steps}
 use Rattle.jl_fit.specs.Known.{PointMentions}
 use Rattle.jl_fit.proofs.KnowingSteps.{knows_on}
-use Rattle.jl_fit.proofs.KnownLemmas.{begun_mentions, next_mentions, left_mentions, pieces_mention, stmts_mention, ended_mentions, performed_mentions}
-use Rattle.jl_fit.proofs.Calling.{step_spent, step_deep, step_none, step_ambiguous, step_method, of_site, acting_call, step_acting}
-use Rattle.jl_fit.proofs.Skipping.{step_skip_begun, step_skip_given}
-use Rattle.jl_fit.proofs.Turning.{step_left, step_pieces, step_stmts, step_end}
+use Rattle.jl_fit.proofs.KnownLemmas.{left_mentions, pieces_mention, ended_mentions, performed_mentions}
+use Rattle.jl_fit.proofs.Calling.{step_spent, step_deep, step_none, step_ambiguous, step_method}
+use Rattle.jl_fit.proofs.Turning.{step_left, step_pieces}
 use Rattle.jl_machine.specs.declared.now.LentNow.{LentNow}
 use Rattle.jl_machine.specs.declared.now.LentWork.{LentWork}
-use Rattle.jl_machine.specs.declared.now.LentWork.TheVariants as L
 use Rattle.jl_machine.specs.declared.task.Task.{Task}
-use Rattle.jl_machine.specs.Lent.{now_of, work_of, given_value, IsGiven, Reaches}
-use Rattle.jl_machine.specs.Steps.{progress_of, KnowsOn, LentSteps, AppliesAt, variables_at}
+use Rattle.jl_machine.specs.Lent.{now_of, Reaches}
+use Rattle.jl_machine.specs.Onward.{onward_begun, onward_given}
+use Rattle.jl_machine.specs.Steps.{progress_of, LentSteps, AppliesAt, variables_at}
+use Rattle.jl_machine.proofs.Onward.{gets_onward_begun, gets_onward_given}
 
 -- where each task that is mentioned then was mentioned before
 abbrev pub MentionsNoMore : Point → Point → Type 1
@@ -79,16 +69,18 @@ lent_ok (Err x) k k' w t t' n p h s knows = tt
 
 -- ---- turns of the machine's own
 
-pub lent_begun : (r : Result LentWork AllocError) (k : Knows) (t : Task) (e : Expr) (n : LentNow) → IfOk r (λ work. Reaches work n (skip_begun e (now_of t.now))) → Fitting k (W.Eval e) (progress_of t) → IfOk r (λ work. LentSteps k (W.Eval e) t k work (record t { now = n }))
+pub lent_begun : (r : Result LentWork AllocError) (k : Knows) (t : Task) (e : Expr) (n : LentNow) → IfOk r (λ work. Reaches work n (onward_begun e (now_of t.now))) → Fitting k (W.Eval e) (progress_of t) → IfOk r (λ work. LentSteps k (W.Eval e) t k work (record t { now = n }))
 lent_begun r k t e n h f =
-    let p = skip_begun e (now_of t.now) in
-    lent_ok r k k (W.Eval e) t t n p h (step_skip_begun k (progress_of t) e f) (knows_turn k (W.Eval e) t p (λ K m. begun_mentions K e (now_of t.now) m))
+    let g = gets_onward_begun k (progress_of t) e f in
+    let p = onward_begun e (now_of t.now) in
+    lent_ok r k k (W.Eval e) t t n p h g.steps (knows_turn k (W.Eval e) t p g.mentions)
 
-pub lent_given : (r : Result LentWork AllocError) (k : Knows) (t : Task) (P : Program) (v : Value) (n : LentNow) → P ≡ k.program → IfOk r (λ work. Reaches work n (skip_given P t.now.frames.stack v (now_of t.now))) → Fitting k (W.Give v) (progress_of t) → IfOk r (λ work. LentSteps k (W.Give v) t k work (record t { now = n }))
+pub lent_given : (r : Result LentWork AllocError) (k : Knows) (t : Task) (P : Program) (v : Value) (n : LentNow) → P ≡ k.program → IfOk r (λ work. Reaches work n (onward_given P t.now.frames.stack v (now_of t.now))) → Fitting k (W.Give v) (progress_of t) → IfOk r (λ work. LentSteps k (W.Give v) t k work (record t { now = n }))
 lent_given r k t P v n eP h f =
-    let p = skip_given k.program t.now.frames.stack v (now_of t.now) in
-    lent_ok r k k (W.Give v) t t n p (subst (λ Q. IfOk r (λ work. Reaches work n (skip_given Q t.now.frames.stack v (now_of t.now)))) eP h) (step_skip_given k (progress_of t) v f)
-    (knows_turn k (W.Give v) t p (λ K m. next_mentions K k.program t.now.frames.stack v (now_of t.now) refl m))
+    let g = gets_onward_given k (progress_of t) v f in
+    let p = onward_given k.program t.now.frames.stack v (now_of t.now) in
+    lent_ok r k k (W.Give v) t t n p (subst (λ Q. IfOk r (λ work. Reaches work n (onward_given Q t.now.frames.stack v (now_of t.now)))) eP h) g.steps
+    (knows_turn k (W.Give v) t p g.mentions)
 
 pub lent_left : (work : LentWork) (k : Knows) (t : Task) (v : Value) (n : LentNow) → Reaches work n (left t.now.frames.stack v (now_of t.now)) → Fitting k (W.Leave v) (progress_of t) → LentSteps k (W.Leave v) t k work (record t { now = n })
 lent_left work k t v n h f =
@@ -101,12 +93,6 @@ lent_pieces r k t text xs line n h f =
     let p = go_pieces text xs line (now_of t.now) in
     lent_ok r k k (W.Pieces text xs line) t t n p h (step_pieces k (progress_of t) text xs line f (pieces_good k.program f.valid.views text xs line (now_of t.now) f.good))
     (knows_turn k (W.Pieces text xs line) t p (λ K m. pieces_mention K text xs line (now_of t.now) m))
-
-pub lent_stmts : (r : Result LentWork AllocError) (k : Knows) (t : Task) (xs : List Stmt) (v : Value) (n : LentNow) → IfOk r (λ work. Reaches work n (go_stmts xs v (now_of t.now))) → Fitting k (W.Stmts xs v) (progress_of t) → IfOk r (λ work. LentSteps k (W.Stmts xs v) t k work (record t { now = n }))
-lent_stmts r k t xs v n h f =
-    let p = go_stmts xs v (now_of t.now) in
-    lent_ok r k k (W.Stmts xs v) t t n p h (step_stmts k (progress_of t) xs v f (stmts_good k.program f.valid.views xs v (now_of t.now) f.good))
-    (knows_turn k (W.Stmts xs v) t p (λ K m. stmts_mention K xs v (now_of t.now) m))
 
 -- ---- calls
 

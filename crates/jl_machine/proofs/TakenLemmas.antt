@@ -1,5 +1,5 @@
 -- Where an operation of the prelude is chosen for values, they are values that it takes.
-use Rattle.std.proofs.Common.{◌≡◌, ◌∙◌, inl, inr, refl, sym, ap, subst, ℕ, ℤ, pos, zero, suc, ◌<◌, ◌≤◌, arith, Bool, true, false, nat_le, IsTrue, List, [], ◌∷◌, ◌++◌, map, length, take, get_or, Option, None, Some, slice_get}
+use Rattle.std.proofs.Common.{◌≡◌, ◌∙◌, inl, inr, refl, sym, ap, subst, ℕ, ℤ, zero, suc, ◌<◌, arith, Bool, true, false, nat_le, IsTrue, List, [], ◌∷◌, map, length, take, get_or, Option, None, Some, slice_get}
 use Rattle.std.specs.Int.{w64}
 use Rattle.std.specs.Prelude.{FitsSigned}
 use Rattle.std.specs.List.{Contains}
@@ -8,16 +8,16 @@ use Rattle.jl_model.specs.declared.ty.Ty.TheOpen as L
 use Rattle.jl_model.specs.declared.ty.Ty.TheViews.{rolls-Nominal, outs-Nominal, outs-Tuple}
 use Rattle.jl_model.specs.declared.ty.Ty.TheFolds.{para-roll-Ty}
 use Rattle.jl_model.specs.declared.ty.Decl.{Decl}
-use Rattle.jl_model.specs.Ancestors.{named, table_of, is_struct_kind, builtin_types}
+use Rattle.jl_model.specs.Ancestors.{named, table_of}
 use Rattle.jl_model.specs.Normal.{IsNormal, nominal, none}
 use Rattle.jl_model.specs.Refusals.{Declared}
-use Rattle.jl_model.specs.Rows.{choices, forms, forms_step, components, place_of, kind, root}
+use Rattle.jl_model.specs.Rows.{choices, forms, forms_step, place_of, kind, root}
 use Rattle.jl_model.specs.Signature.{Applicable, Both, both_end, both_more}
 use Rattle.jl_model.specs.Subtype.{opaque, put, Below}
 use Rattle.jl_model.proofs.DeclaredLemmas.{declared_lawful}
 use Rattle.jl_model.proofs.FormLemmas.{put-nominal}
 use Rattle.jl_model.proofs.NormalLemmas.{normal_same}
-use Rattle.jl_match.proofs.ConcreteLemmas.{Concrete, concrete-nominal, concrete_turns}
+use Rattle.jl_match.proofs.ConcreteLemmas.{concrete-nominal, concrete_turns}
 use Rattle.jl_program.specs.declared.datum.Datum.{Datum, out-Datum}
 use Rattle.jl_program.specs.declared.datum.Datum.TheOpen as D
 use Rattle.jl_program.specs.declared.datum.Datum.TheViews.{out-roll-Datum}

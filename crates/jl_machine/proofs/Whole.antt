@@ -1,6 +1,5 @@
 -- A machine's step, its beginning and its end.
-use Rattle.std.proofs.Common.{◌≡◌, refl, sym, ap, ◌∙◌, subst, ℕ, zero, suc, ◌<◌, ◌≤◌, ◌+◌, ◌*◌, get_or, List, [], ◌∷◌, ◌++◌, map, length, Option, None, Some, Result, Ok, Err, IfOk, slice_get, false, arith}
-use Rattle.jl_model.specs.declared.ty.Ty.{Ty}
+use Rattle.std.proofs.Common.{◌≡◌, refl, sym, ap, ◌∙◌, subst, ℕ, zero, suc, ◌<◌, ◌≤◌, ◌+◌, ◌*◌, get_or, List, [], ◌∷◌, ◌++◌, map, length, None, Some, Result, Ok, Err, IfOk, slice_get, false, arith}
 use Rattle.jl_model.specs.declared.ty.Decl.{Decl}
 use Rattle.jl_program.specs.Scope.{all_types}
 use Rattle.jl_program.specs.declared.tree.Expr.{Expr}
@@ -14,16 +13,13 @@ use Rattle.jl_program.specs.Meaning.{datum, value_of}
 use Rattle.jl_calculus.proofs.ValueLemmas.{value_back}
 use Rattle.jl_frames.specs.Held.{Held, nothing_held, with_open, starts}
 use Rattle.jl_program.specs.Valid.{IsValid}
-use Rattle.jl_calculus.specs.declared.history.Event.{Event}
 use Rattle.jl_calculus.specs.declared.history.Outcome.{Outcome}
 use Rattle.jl_calculus.specs.declared.history.Record.{Record}
 use Rattle.jl_calculus.specs.declared.history.TraceItem.{TraceItem}
 use Rattle.jl_calculus.specs.Run.{setting_of, Run}
-use Rattle.jl_calculus.specs.ValidStart.{IsValidStart}
 use Rattle.jl_point.specs.declared.point.Work.{Work}
 use Rattle.jl_point.specs.declared.point.Work.TheVariants as W
 use Rattle.jl_point.specs.declared.point.Now.{Now}
-use Rattle.jl_point.specs.Turns.{Point}
 use Rattle.jl_point.specs.ValidPoint.{IsGoodPoint}
 use Rattle.jl_point.specs.Weight.{turns_left}
 use Rattle.jl_point.specs.Worlds.{IsWithin}
@@ -32,21 +28,20 @@ use Rattle.jl_point.specs.Size.{program_size}
 use Rattle.jl_point.proofs.SizeLemmas.{root_few, task_few}
 use Rattle.jl_point.proofs.EnteredKept.{root_good, task_good}
 use Rattle.jl_dispatcher.specs.Knows.{Knows, Refused}
-use Rattle.jl_dispatcher.specs.Worlds.{IsWorld}
 use Rattle.jl_fit.specs.Asks.{Job, Over, Ending, RunsTo, FinishesTo, Tells}
-use Rattle.jl_fit.specs.Fits.{Progress, FitsWith, IsKnowing, Fitting, Steps, IsFresh, IsRunOf, job_of}
+use Rattle.jl_fit.specs.Fits.{Progress, FitsWith, IsKnowing, Fitting, IsFresh, IsRunOf, job_of}
 use Rattle.jl_fit.specs.Known.{IsKnown, AreFetchesKnown, AllMention, PointMentions}
 use Rattle.jl_fit.proofs.KnownLemmas.{nothing_mentions}
 use Rattle.jl_fit.proofs.KnowingSteps.{knows_on, begins_known}
 use Rattle.jl_fit.proofs.Fitting.{grown}
 use Rattle.jl_fit.proofs.Traces.{append_nil}
 use Rattle.jl_machine.specs.declared.now.LentWork.{LentWork}
-use Rattle.jl_machine.specs.declared.now.LentWork.TheVariants.{Eval, Give, Leave, Acting, Calling, Stmts, Items, Defining, Pieces, Ended, Lost}
+use Rattle.jl_machine.specs.declared.now.LentWork.TheVariants.{Eval, Give, Leave, Acting, Calling, Items, Defining, Pieces, Ended, Lost}
 use Rattle.jl_machine.specs.declared.task.Task.{Task}
 use Rattle.jl_machine.specs.declared.task.Machine.{Machine}
 use Rattle.jl_machine.specs.declared.task.Turn.TheVariants as T
 use Rattle.jl_machine.specs.Lent.{now_of, work_of, IsSettled}
-use Rattle.jl_machine.specs.Steps.{progress_of, LentSteps, LentWaits, IsWorking, job_with, IsAt, FitsAt, TypesAt, MachineFits, fuel_of, turns_of, KnowsTasks, IsLost, IsNewAt, first_now, IsNewRoot, IsNewTask, IsFirst, HasEnded, RootFits, TaskFits, LostFits, EndedRuns, GrownFits}
+use Rattle.jl_machine.specs.Steps.{progress_of, LentSteps, LentWaits, IsWorking, job_with, IsAt, FitsAt, TypesAt, MachineFits, turns_of, KnowsTasks, IsNewAt, first_now, IsNewRoot, IsNewTask, IsFirst, HasEnded, RootFits, TaskFits, LostFits, EndedRuns, GrownFits}
 
 -- ---- by what comes next
 
@@ -58,7 +53,6 @@ working Give e l = tt
 working Leave e l = tt
 working (Acting x) e l = tt
 working (Calling f w) e l = tt
-working (Stmts xs) e l = tt
 working (Items fresh xs) e l = tt
 working (Defining fresh site xs) e l = tt
 working (Pieces line xs) e l = tt
@@ -72,7 +66,6 @@ fits_at P fuel k Give t w f = f
 fits_at P fuel k Leave t w f = f
 fits_at P fuel k (Acting x) t w f = f
 fits_at P fuel k (Calling g u) t w f = f
-fits_at P fuel k (Stmts xs) t w f = f
 fits_at P fuel k (Items fresh xs) t w f = f
 fits_at P fuel k (Defining fresh site xs) t w f = f
 fits_at P fuel k (Pieces line xs) t w f = f
@@ -86,7 +79,6 @@ at_fits P fuel k Give t f = f
 at_fits P fuel k Leave t f = f
 at_fits P fuel k (Acting x) t f = f
 at_fits P fuel k (Calling g u) t f = f
-at_fits P fuel k (Stmts xs) t f = f
 at_fits P fuel k (Items fresh xs) t f = f
 at_fits P fuel k (Defining fresh site xs) t f = f
 at_fits P fuel k (Pieces line xs) t f = f
@@ -100,7 +92,6 @@ types_at P Give ds e = e
 types_at P Leave ds e = e
 types_at P (Acting x) ds e = e
 types_at P (Calling g u) ds e = e
-types_at P (Stmts xs) ds e = e
 types_at P (Items fresh xs) ds e = e
 types_at P (Defining fresh site xs) ds e = e
 types_at P (Pieces line xs) ds e = e
@@ -113,7 +104,6 @@ types_are P Give ds w h = h
 types_are P Leave ds w h = h
 types_are P (Acting x) ds w h = h
 types_are P (Calling g u) ds w h = h
-types_are P (Stmts xs) ds w h = h
 types_are P (Items fresh xs) ds w h = h
 types_are P (Defining fresh site xs) ds w h = h
 types_are P (Pieces line xs) ds w h = h
@@ -187,7 +177,6 @@ ended_known P fuel k Give t e f = absurd (cc)
 ended_known P fuel k Leave t e f = absurd (cc)
 ended_known P fuel k (Acting x) t e f = absurd (cc)
 ended_known P fuel k (Calling g u) t e f = absurd (cc)
-ended_known P fuel k (Stmts xs) t e f = absurd (cc)
 ended_known P fuel k (Items fresh xs) t e f = absurd (cc)
 ended_known P fuel k (Defining fresh site xs) t e f = absurd (cc)
 ended_known P fuel k (Pieces line xs) t e f = absurd (cc)
@@ -303,7 +292,6 @@ grown_fits P fuel k k' Give t r f = grown_at P fuel k k' Give t r f
 grown_fits P fuel k k' Leave t r f = grown_at P fuel k k' Leave t r f
 grown_fits P fuel k k' (Acting x) t r f = grown_at P fuel k k' (Acting x) t r f
 grown_fits P fuel k k' (Calling g u) t r f = grown_at P fuel k k' (Calling g u) t r f
-grown_fits P fuel k k' (Stmts xs) t r f = grown_at P fuel k k' (Stmts xs) t r f
 grown_fits P fuel k k' (Items fresh xs) t r f = grown_at P fuel k k' (Items fresh xs) t r f
 grown_fits P fuel k k' (Defining fresh site xs) t r f = grown_at P fuel k k' (Defining fresh site xs) t r f
 grown_fits P fuel k k' (Pieces line xs) t r f = grown_at P fuel k k' (Pieces line xs) t r f
@@ -348,7 +336,6 @@ ended_work P fuel k Give t o e f = absurd (cc)
 ended_work P fuel k Leave t o e f = absurd (cc)
 ended_work P fuel k (Acting x) t o e f = absurd (cc)
 ended_work P fuel k (Calling g u) t o e f = absurd (cc)
-ended_work P fuel k (Stmts xs) t o e f = absurd (cc)
 ended_work P fuel k (Items fresh xs) t o e f = absurd (cc)
 ended_work P fuel k (Defining fresh site xs) t o e f = absurd (cc)
 ended_work P fuel k (Pieces line xs) t o e f = absurd (cc)

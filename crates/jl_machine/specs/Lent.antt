@@ -1,5 +1,5 @@
 -- What a machine over a lent program stands for: a point of the calculus.
-use Rattle.std.specs.Prelude.{◌≡◌, ℕ, List, [], ◌∷◌}
+use Rattle.std.specs.Prelude.{◌≡◌, [], Bool, true, false}
 use Rattle.jl_program.specs.declared.value.Value.{Value}
 use Rattle.jl_point.specs.declared.point.Work.{Work}
 use Rattle.jl_point.specs.declared.point.Work.TheVariants as W
@@ -8,7 +8,7 @@ use Rattle.jl_point.specs.Turns.{Point}
 use Rattle.jl_frames.specs.Held.{Held, first_value, IsOne}
 use Rattle.jl_machine.specs.declared.now.LentNow.{LentNow}
 use Rattle.jl_machine.specs.declared.now.LentWork.{LentWork}
-use Rattle.jl_machine.specs.declared.now.LentWork.TheVariants.{Eval, Give, Leave, Acting, Calling, Stmts, Items, Defining, Pieces, Ended, Lost}
+use Rattle.jl_machine.specs.declared.now.LentWork.TheVariants.{Eval, Give, Leave, Acting, Calling, Items, Defining, Pieces, Ended, Lost}
 
 abbrev pub now_of : LentNow → Now
 now_of n = record { world = n.world; room = n.room; env = n.frames.env; bindings = n.frames.bindings; stack = n.frames.stack; out = n.out }
@@ -24,7 +24,6 @@ work_of Give n = W.Give (given_value n)
 work_of Leave n = W.Leave (given_value n)
 work_of (Acting e) n = W.Acting e.now n.frames.open_values
 work_of (Calling f w) n = W.Calling f w n.frames.open_values
-work_of (Stmts xs) n = W.Stmts xs.now (given_value n)
 work_of (Items fresh xs) n = W.Items fresh xs.now (given_value n)
 work_of (Defining fresh site xs) n = W.Defining site fresh xs.now
 work_of (Pieces line xs) n = W.Pieces n.frames.open_text xs.now line
@@ -51,7 +50,6 @@ IsSettled Give n = IsGiven n.frames
 IsSettled Leave n = IsGiven n.frames
 IsSettled (Acting e) n = n.frames.open_text ≡ []
 IsSettled (Calling f w) n = n.frames.open_text ≡ []
-IsSettled (Stmts xs) n = IsGiven n.frames
 IsSettled (Items fresh xs) n = IsGiven n.frames
 IsSettled (Defining fresh site xs) n = IsClosed n.frames
 IsSettled (Pieces line xs) n = n.frames.open_values ≡ []
@@ -62,3 +60,8 @@ IsSettled Lost n = Unit {0}
 pub record Reaches (work : LentWork) (n : LentNow) (p : Point) : Type 0 where
   pub point : point_of work n ≡ p
   pub settled : IsSettled work n
+
+-- what comes next after an answer: a value is given, or the task has ended
+abbrev pub after_answer : Bool → LentWork
+after_answer true = Give
+after_answer false = Ended

@@ -1,4 +1,5 @@
 pub mod Lent
+pub mod Onward
 pub mod Leafed
 pub mod Fetched
 pub mod Acting

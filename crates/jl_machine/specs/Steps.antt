@@ -5,7 +5,7 @@ use Rattle.jl_model.specs.declared.ty.Decl.{Decl}
 use Rattle.jl_model.specs.Bindings.{bindings}
 use Rattle.jl_model.specs.Signature.{Applicable}
 use Rattle.jl_program.specs.declared.prelude.TheConstants.{FIRST_WORLD}
-use Rattle.jl_program.specs.declared.tree.Expr.{Expr, out-Expr}
+use Rattle.jl_program.specs.declared.tree.Expr.{Expr}
 use Rattle.jl_program.specs.declared.tree.Program.{Program}
 use Rattle.jl_program.specs.declared.tree.Site.{Site}
 use Rattle.jl_program.specs.declared.tree.Start.{Start}
@@ -13,17 +13,12 @@ use Rattle.jl_program.specs.declared.value.Value.{Value}
 use Rattle.jl_program.specs.declared.value.Value.TheVariants as V
 use Rattle.jl_program.specs.Meaning.{value_of}
 use Rattle.jl_program.specs.Scope.{all_types, types_of}
-use Rattle.jl_program.specs.TypeOf.{type_of}
 use Rattle.jl_program.specs.Valid.{IsValid}
-use Rattle.jl_calculus.specs.declared.history.Outcome.{Outcome}
 use Rattle.jl_calculus.specs.declared.history.Record.{Record}
 use Rattle.jl_calculus.specs.declared.history.TraceItem.{TraceItem}
 use Rattle.jl_calculus.specs.declared.history.TraceItem.TheVariants.{Look}
 use Rattle.jl_calculus.specs.Run.{open_calls}
-use Rattle.jl_calculus.specs.ValidHistory.{IsValidOutcome}
 use Rattle.jl_calculus.specs.ValidStart.{IsValidStart}
-use Rattle.jl_point.specs.Operated.{operation_of}
-use Rattle.jl_point.specs.Turns.{answered}
 use Rattle.jl_frames.specs.Held.{Held}
 use Rattle.jl_point.specs.declared.point.Work.{Work}
 use Rattle.jl_point.specs.declared.point.Work.TheVariants as W
@@ -34,16 +29,15 @@ use Rattle.jl_dispatcher.specs.Worlds.{IsWorld}
 use Rattle.jl_fit.specs.Asks.{Job}
 use Rattle.jl_fit.specs.Fits.{Progress, FitsWith, IsKnowing, Steps, Waits, IsFresh, IsRunOf}
 use Rattle.jl_fit.specs.Known.{IsKnown, AreFetchesKnown}
-use Rattle.jl_machine.specs.declared.now.LentNow.{LentNow}
 use Rattle.jl_machine.specs.declared.now.LentWork.{LentWork}
-use Rattle.jl_machine.specs.declared.now.LentWork.TheVariants.{Eval, Give, Leave, Acting, Calling, Stmts, Items, Defining, Pieces, Ended, Lost}
+use Rattle.jl_machine.specs.declared.now.LentWork.TheVariants.{Eval, Give, Leave, Acting, Calling, Items, Defining, Pieces, Ended, Lost}
 use Rattle.jl_machine.specs.declared.task.Task.{Task}
 use Rattle.jl_machine.specs.declared.task.Machine.{Machine}
 use Rattle.jl_machine.specs.declared.task.Next.{Next}
 use Rattle.jl_machine.specs.declared.task.Next.TheVariants as N
 use Rattle.jl_machine.specs.declared.task.Turn.{Turn}
 use Rattle.jl_machine.specs.declared.task.Turn.TheVariants as T
-use Rattle.jl_machine.specs.Lent.{now_of, work_of, IsSettled, Reaches}
+use Rattle.jl_machine.specs.Lent.{now_of, work_of, IsSettled}
 
 -- as far as a task has come
 abbrev pub progress_of : Task → Progress
@@ -98,7 +92,6 @@ IsWorking Give = Unit {0}
 IsWorking Leave = Unit {0}
 IsWorking (Acting e) = Unit {0}
 IsWorking (Calling f w) = Unit {0}
-IsWorking (Stmts xs) = Unit {0}
 IsWorking (Items fresh xs) = Unit {0}
 IsWorking (Defining fresh site xs) = Unit {0}
 IsWorking (Pieces line xs) = Unit {0}
@@ -135,7 +128,6 @@ FitsAt P fuel k Give t = IsAt P fuel k Give t
 FitsAt P fuel k Leave t = IsAt P fuel k Leave t
 FitsAt P fuel k (Acting e) t = IsAt P fuel k (Acting e) t
 FitsAt P fuel k (Calling f w) t = IsAt P fuel k (Calling f w) t
-FitsAt P fuel k (Stmts xs) t = IsAt P fuel k (Stmts xs) t
 FitsAt P fuel k (Items fresh xs) t = IsAt P fuel k (Items fresh xs) t
 FitsAt P fuel k (Defining fresh site xs) t = IsAt P fuel k (Defining fresh site xs) t
 FitsAt P fuel k (Pieces line xs) t = IsAt P fuel k (Pieces line xs) t

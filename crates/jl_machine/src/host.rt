@@ -7,9 +7,7 @@ ghost use Rattle.jl_calculus.specs.Run.{number_of, operates};
 ghost use Rattle.jl_host.specs.Replies.{outcome_of};
 ghost use Rattle.jl_machine.specs.Taken.{IsTakenBy};
 
-use jl_calculus::history::Outcome;
 use jl_host::{HostOps, OpReply};
-use jl_program::fault::Fault;
 use jl_program::value::Value;
 
 /// A number as an operation sees it: a truth value is 1 or 0.
@@ -35,26 +33,14 @@ fn number_at(values: &[Value], place: usize) -> i64
     }
 }
 
-/// A reply as the outcome of a call.
+/// What an operation of the prelude replies for the arguments that it takes. No outcome is made of it, which would be moved through memory.
 #[inline(always)]
-fn outcome_of(reply: OpReply) -> Outcome
-    ensures { result ≡ outcome_of reply }
-{
-    match reply {
-        OpReply::Int(n) => Outcome::Value(Value::Int(n)),
-        OpReply::Bool(b) => Outcome::Value(Value::Bool(b)),
-        OpReply::DivideError => Outcome::Error(Fault::DivideError),
-    }
-}
-
-/// What an operation of the prelude gives for the arguments that it takes.
-#[inline(always)]
-pub(crate) fn operate(ops: &HostOps, operation: u32, values: &[Value]) -> Outcome
+pub(crate) fn operate(ops: &HostOps, operation: u32, values: &[Value]) -> OpReply
     requires there { operation < PRELUDE_SITES }
     requires taken { IsTakenBy operation values.now }
-    ensures { result ≡ operates operation values.now }
+    ensures { outcome_of result ≡ operates operation values.now }
 {
     let first = number_at(values, 0);
     let second = number_at(values, 1);
-    outcome_of(ops.call(operation as u8, first, second))
+    ops.call(operation as u8, first, second)
 }

@@ -3,8 +3,10 @@
 #![tactic(auto)]
 
 mod acts;
+mod alone;
 mod host;
 pub mod laws;
+mod machine;
 mod now;
 mod task;
 mod turns;

@@ -1,9 +1,11 @@
 //! What comes next in a lent program, and what a turn of the machine's own may change.
 
+ghost use Rattle.std.specs.Prelude.{◌≡◌, MatchOption};
+
 use jl_calculus::history::Outcome;
 use jl_frames::Frames;
 use jl_model::rows::Row;
-use jl_program::tree::{Expr, Item, Piece, Stmt};
+use jl_program::tree::{Expr, Item, Piece};
 
 /// What comes next. It names no value: a value that is given is the one open value, the values of an expression whose parts are evaluated are
 /// the open ones, and an outcome stands beside.
@@ -17,8 +19,6 @@ pub enum LentWork<'p> {
     Acting(&'p Expr),
     /// A call of a function in a world, whose arguments are the open values.
     Calling(u32, u32),
-    /// The statements of a block that are left. The value of the one before is open.
-    Stmts(&'p [Stmt]),
     /// Whether each statement sees no names, and the statements at the top or of an evaluated block that are left. The value of the one
     /// before is open.
     Items(bool, &'p [Item]),
@@ -29,6 +29,22 @@ pub enum LentWork<'p> {
     Ended,
     /// After want of memory.
     Lost,
+}
+
+impl<'p> LentWork<'p> {
+    /// The same, if it is one of those that come most often. It is made anew: then the compiler knows that a loop over these keeps nothing but
+    /// which it is and an expression.
+    #[inline(always)]
+    pub(crate) fn often(self) -> Option<LentWork<'p>>
+        ensures { MatchOption result (Unit {0}) (λ same. same ≡ self.entry) }
+    {
+        match self {
+            LentWork::Eval(expr) => Some(LentWork::Eval(expr)),
+            LentWork::Give => Some(LentWork::Give),
+            LentWork::Acting(expr) => Some(LentWork::Acting(expr)),
+            _ => None,
+        }
+    }
 }
 
 /// What a turn of the machine's own may change, but for what comes next.

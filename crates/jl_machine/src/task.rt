@@ -1,46 +1,35 @@
 //! One task over a lent program, and its turns.
 
-ghost use Rattle.std.specs.Prelude.{◌≡◌, ◌<◌, ◌≤◌, ◌+◌, ◌*◌, [], ◌∷◌, ◌++◌, IfOk, OnOk, OnErr, IsErr, MatchOption, map, length, slice_get};
+ghost use Rattle.std.specs.Prelude.{◌≡◌, ◌<◌, ◌+◌, ◌*◌, [], IfOk, map, length, slice_get};
 ghost use Rattle.jl_model.specs.Bindings.{bindings};
 ghost use Rattle.jl_model.specs.declared.ty.Ty.{Ty};
 ghost use Rattle.jl_program.specs.declared.tree.Expr.{out-Expr};
 ghost use Rattle.jl_program.specs.declared.tree.Expr.TheOpen as F;
-ghost use Rattle.jl_program.specs.declared.tree.Item.TheVariants as I;
-ghost use Rattle.jl_program.specs.declared.value.Value.TheVariants as V;
 ghost use Rattle.jl_program.specs.Scope.{all_types};
 ghost use Rattle.jl_match.specs.KeptRow.{AreConcrete};
 ghost use Rattle.jl_program.specs.Meaning.{datum};
 ghost use Rattle.jl_program.specs.TypeOf.{type_of};
-ghost use Rattle.jl_program.specs.Valid.{IsValid};
-ghost use Rattle.jl_calculus.specs.Run.{body_of};
-ghost use Rattle.jl_frames.specs.Held.{IsOne, first_value, with_open};
+ghost use Rattle.jl_frames.specs.Held.{IsOne, first_value};
 ghost use Rattle.jl_point.specs.declared.point.Work.TheVariants as W;
-ghost use Rattle.jl_point.specs.Operated.{performed};
-ghost use Rattle.jl_point.specs.Turns.{answered};
 ghost use Rattle.jl_fit.specs.Fits.{looks_of, Fitting};
-ghost use Rattle.jl_fit.specs.Asks.{Tells, Follows};
-ghost use Rattle.jl_machine.specs.Lent.{now_of, work_of, given_value, IsClosed, IsGiven, IsSettled, Reaches};
+ghost use Rattle.jl_machine.specs.Lent.{now_of, work_of, given_value, IsClosed, IsGiven, IsSettled, Reaches, after_answer};
 ghost use Rattle.jl_machine.specs.Acting.{IsOperation};
 ghost use Rattle.jl_machine.specs.Fetched.{task_of};
 ghost use Rattle.jl_fit.specs.Fits.{fetched_outcome};
-ghost use Rattle.jl_point.specs.Size.{program_size};
-ghost use Rattle.jl_machine.specs.Steps.{fuel_of, trace_of, turns_of, job_with, MachineFits, TurnSays, WaitsRightly, KnowsTasks, IsLost, IsEnded, IsNewRoot, IsNewTask, HasEnded, IsRecordOf, IsFirst, progress_of, LentSteps, LentWaits, Goes, HasLooked, IsWorking, MayMove, GoesOn, variables_at, AppliesAt};
+ghost use Rattle.jl_machine.specs.Steps.{progress_of, LentSteps, Goes, HasLooked, IsWorking, variables_at, AppliesAt};
 
 use crate::now::{LentNow, LentWork};
 use crate::{acts, turns};
-use jl_calculus::history::{DefineFault, FetchFault, Outcome, Record, SpawnFault, TraceItem};
+use jl_calculus::history::{DefineFault, FetchFault, Outcome, SpawnFault, TraceItem};
 use jl_dispatcher::{Dispatcher, Recall};
-use jl_frames::Frames;
 use jl_host::HostOps;
 use jl_match::applies;
-use jl_model::limits::MOST_OPEN_CALLS;
 use jl_model::rows::Row;
-use jl_model::shared::{SharedList, SharedNode};
+use jl_model::shared::SharedList;
 use jl_model::ty::{Key, Ty, Tys};
 use jl_operations::Memo;
 use jl_program::choice::Choice;
 use jl_program::fault::Fault;
-use jl_program::prelude::FIRST_WORLD;
 use jl_program::tree::{Expr, Item, Start};
 use jl_program::value::{Value, Values};
 use jl_sig::Ready;
@@ -50,19 +39,19 @@ use std::alloc::{AllocError, Global};
 /// One task, as far as it has come, but for what comes next.
 #[derive(Drop)]
 pub struct Task<'p> {
-    alloc: Global,
-    fuel: u64,
-    trace: Row<TraceItem>,
-    calls: u64,
-    now: LentNow<'p>,
+    pub(crate) alloc: Global,
+    pub(crate) fuel: u64,
+    pub(crate) trace: Row<TraceItem>,
+    pub(crate) calls: u64,
+    pub(crate) now: LentNow<'p>,
 }
 
 /// One task, as far as it has come: what it does next, what it has prepared of written types, and all else.
 #[derive(Drop)]
 pub struct Machine<'p> {
-    task: Task<'p>,
-    work: LentWork<'p>,
-    memo: Memo,
+    pub(crate) task: Task<'p>,
+    pub(crate) work: LentWork<'p>,
+    pub(crate) memo: Memo,
 }
 
 /// What a turn leads to.
@@ -78,7 +67,7 @@ pub enum Turn {
 
 /// What comes after a turn.
 #[derive(Clone, Copy)]
-enum Next<'p> {
+pub(crate) enum Next<'p> {
     Go(LentWork<'p>),
     /// The task waits for another one.
     Wait(u32),
@@ -394,7 +383,8 @@ impl<'p> Task<'p> {
                     let at = with.seen();
                     self.trace.push(TraceItem::Fetch { task, outcome, at })?;
                     self.now.frames.clear();
-                    Ok(Next::Go(turns::answer(&mut self.now, answer)?))
+                    let goes = turns::answer(&mut self.now, answer)?;
+                    Ok(Next::Go(turns::after_answer(goes)))
                 }
                 Err(FetchFault::NotYet) => Ok(Next::Wait(task)),
                 Err(FetchFault::Memory) => Err(AllocError),
@@ -404,19 +394,19 @@ impl<'p> Task<'p> {
 
     /// A form that asks nobody has its answer.
     #[inline(never)]
-    fn operate<D: Recall>(
+    pub(crate) fn operate<D: Recall>(
         &mut self,
         ready: &Ready,
         memo: &mut Memo,
         with: &D,
         expr: &'p Expr,
-    ) -> Result<LentWork<'p>, AllocError>
+    ) -> Result<bool, AllocError>
         requires types { memo.old ≡ all_types ready.now }
         requires fits { Fitting (D.knows with.now) (W.Acting expr.now self.old.now.frames.open_values) (progress_of self.old) }
         requires program { ready.now ≡ (D.knows with.now).program }
         requires form { IsOperation (out-Expr expr.now) }
         requires settled { self.old.now.frames.open_text ≡ [] }
-        ensures steps { IfOk result (λ work. LentSteps (D.knows with.now) (W.Acting expr.now self.old.now.frames.open_values) self.old (D.knows with.now) work self.new) }
+        ensures steps { IfOk result (λ goes. LentSteps (D.knows with.now) (W.Acting expr.now self.old.now.frames.open_values) self.old (D.knows with.now) (after_answer goes) self.new) }
         ensures trace { self.new.trace ≡ self.old.trace }
         ensures types { memo.new ≡ memo.old }
     {
@@ -454,10 +444,12 @@ impl<'p> Task<'p> {
             Expr::Spawn(place) => Ok(Next::Go(self.spawn(with, expr, *place)?)),
             Expr::Fetch(_) => self.fetch(ready, with, expr),
             Expr::Make(_, _) | Expr::Infer(_, _) | Expr::Parts(_) | Expr::Field(_, _) => {
-                Ok(Next::Go(self.operate(ready, memo, with, expr)?))
+                let goes = self.operate(ready, memo, with, expr)?;
+                Ok(Next::Go(turns::after_answer(goes)))
             }
             Expr::Part(_, _) | Expr::Egal(_, _, _) | Expr::Isa(_, _) | Expr::Sub(_, _) => {
-                Ok(Next::Go(self.operate(ready, memo, with, expr)?))
+                let goes = self.operate(ready, memo, with, expr)?;
+                Ok(Next::Go(turns::after_answer(goes)))
             }
             Expr::Int(_) | Expr::Bool(_) | Expr::Nothing | Expr::Local(_) => unreachable!(),
             Expr::If(_, _, _) | Expr::And(_, _) | Expr::Or(_, _) => unreachable!(),
@@ -465,153 +457,9 @@ impl<'p> Task<'p> {
         }
     }
 
-    /// A call whose arguments are the open values, where its method is remembered. Nothing is answered where it is not, or where no call is
-    /// left or too many are open.
-    #[inline(always)]
-    fn recall<D: Recall>(
-        &mut self,
-        ready: &'p Ready,
-        ops: &HostOps,
-        with: &D,
-        function: u32,
-        world: u32,
-    ) -> Result<Option<LentWork<'p>>, AllocError>
-        requires fits { Fitting (D.knows with.now) (W.Calling function world self.old.now.frames.open_values) (progress_of self.old) }
-        requires program { ready.now ≡ (D.knows with.now).program }
-        requires settled { self.old.now.frames.open_text ≡ [] }
-        ensures { IfOk result (λ next. MayMove (D.knows with.now) (W.Calling function world self.old.now.frames.open_values) self.old next self.new) }
-    {
-        if self.calls >= self.fuel {
-            return Ok(None);
-        }
-        if self.now.room == 0 {
-            return Ok(None);
-        }
-        match with.recall(function, self.now.frames.open_values(), world) {
-            Some(found) => {
-                self.calls += 1;
-                let work = turns::perform(
-                    &mut self.now,
-                    ready,
-                    ops,
-                    found.site,
-                    world,
-                    found.statics,
-                )?;
-                Ok(Some(work))
-            }
-            None => Ok(None),
-        }
-    }
-
-    /// An expression acts, whose parts are the open values, where it asks nobody.
-    #[inline(always)]
-    fn act_alone<D: Recall>(
-        &mut self,
-        ready: &'p Ready,
-        memo: &mut Memo,
-        ops: &HostOps,
-        with: &D,
-        expr: &'p Expr,
-    ) -> Result<Option<LentWork<'p>>, AllocError>
-        requires types { memo.old ≡ all_types ready.now }
-        requires fits { Fitting (D.knows with.now) (W.Acting expr.now self.old.now.frames.open_values) (progress_of self.old) }
-        requires program { ready.now ≡ (D.knows with.now).program }
-        requires settled { self.old.now.frames.open_text ≡ [] }
-        ensures moves { IfOk result (λ next. MayMove (D.knows with.now) (W.Acting expr.now self.old.now.frames.open_values) self.old next self.new) }
-        ensures types { memo.new ≡ memo.old }
-    {
-        match expr {
-            Expr::Call(function, _) => {
-                let world = self.now.world;
-                let next = self.recall(ready, ops, with, *function, world)?;
-                Ok(next)
-            }
-            Expr::Make(_, _) | Expr::Infer(_, _) | Expr::Parts(_) | Expr::Field(_, _) => {
-                let work = self.operate(ready, memo, with, expr)?;
-                Ok(Some(work))
-            }
-            Expr::Part(_, _) | Expr::Egal(_, _, _) | Expr::Isa(_, _) | Expr::Sub(_, _) => {
-                let work = self.operate(ready, memo, with, expr)?;
-                Ok(Some(work))
-            }
-            _ => Ok(None),
-        }
-    }
-
-    /// A turn that asks nobody. Nothing is answered where what comes next asks, or the task has ended.
-    #[inline(always)]
-    fn turn_alone<D: Recall>(
-        &mut self,
-        ready: &'p Ready,
-        memo: &mut Memo,
-        ops: &HostOps,
-        with: &D,
-        work: LentWork<'p>,
-    ) -> Result<Option<LentWork<'p>>, AllocError>
-        requires types { memo.old ≡ all_types ready.now }
-        requires fits { Fitting (D.knows with.now) (work_of work self.old.now) (progress_of self.old) }
-        requires program { ready.now ≡ (D.knows with.now).program }
-        requires settled { IsSettled work self.old.now }
-        ensures moves { IfOk result (λ next. MayMove (D.knows with.now) (work_of work.entry self.old.now) self.old next self.new) }
-        ensures types { memo.new ≡ memo.old }
-    {
-        match work {
-            LentWork::Eval(expr) => {
-                let next = turns::begin(&mut self.now, expr)?;
-                Ok(Some(next))
-            }
-            LentWork::Give => {
-                let next = turns::give(ready, &mut self.now)?;
-                Ok(Some(next))
-            }
-            LentWork::Leave => Ok(Some(turns::leave(&mut self.now))),
-            LentWork::Acting(expr) => {
-                let next = self.act_alone(ready, memo, ops, with, expr)?;
-                Ok(next)
-            }
-            LentWork::Stmts(stmts) => {
-                let next = turns::go_stmts(&mut self.now, stmts)?;
-                Ok(Some(next))
-            }
-            LentWork::Pieces(line, pieces) => {
-                let next = turns::go_pieces(&mut self.now, pieces, line)?;
-                Ok(Some(next))
-            }
-            _ => Ok(None),
-        }
-    }
-
-    /// Turns that ask nobody, as many as there are. What comes next is kept in registers between them, where a turn of its own writes it
-    /// into the machine and reads it again.
-    #[inline(always)]
-    fn go_on<D: Recall>(
-        &mut self,
-        ready: &'p Ready,
-        memo: &mut Memo,
-        ops: &HostOps,
-        with: &D,
-        first: LentWork<'p>,
-    ) -> Result<LentWork<'p>, AllocError>
-        requires types { memo.old ≡ all_types ready.now }
-        requires fits { Fitting (D.knows with.now) (work_of first self.old.now) (progress_of self.old) }
-        requires program { ready.now ≡ (D.knows with.now).program }
-        requires settled { IsSettled first self.old.now }
-        ensures on { IfOk result (λ last. GoesOn (D.knows with.now) first.entry self.old last self.new) }
-        ensures types { memo.new ≡ memo.old }
-    {
-        let mut work = first;
-        'alone: loop {
-            match self.turn_alone(ready, memo, ops, with, work)? {
-                Some(next) => work = next,
-                None => return Ok(work),
-            }
-        }
-    }
-
     /// One turn: what comes next, and what comes after it. It is out of line, so that the turns that ask nobody are a loop of their own.
     #[inline(never)]
-    fn turn<D: Recall>(
+    pub(crate) fn turn<D: Recall>(
         &mut self,
         ready: &'p Ready,
         memo: &mut Memo,
@@ -635,7 +483,6 @@ impl<'p> Task<'p> {
             LentWork::Calling(function, world) => {
                 Ok(Next::Go(self.call(ready, ops, with, function, world)?))
             }
-            LentWork::Stmts(stmts) => Ok(Next::Go(turns::go_stmts(&mut self.now, stmts)?)),
             LentWork::Items(fresh, items) => Ok(Next::Go(self.go_items(with, fresh, items)?)),
             LentWork::Defining(fresh, site, rest) => {
                 Ok(Next::Go(self.define(with, fresh, site, rest)?))
@@ -646,172 +493,5 @@ impl<'p> Task<'p> {
             LentWork::Ended => unreachable!(),
             LentWork::Lost => unreachable!(),
         }
-    }
-}
-
-impl<'p> Task<'p> {
-    /// What the task did.
-    fn into_record(self) -> Result<Record, AllocError>
-        ensures { IfOk result (λ r. IsRecordOf r self.entry) }
-    {
-        let Task {
-            alloc,
-            trace,
-            calls,
-            now,
-            ..
-        } = self;
-        let LentNow { out, outcome, .. } = now;
-        let outcome = SharedNode::new(alloc, outcome)?;
-        let output = out.into_shared(alloc)?;
-        let trace = trace.into_shared(alloc)?;
-        Ok(Record {
-            trace,
-            outcome,
-            output,
-            calls,
-        })
-    }
-}
-
-/// A task that has done nothing yet, in a world.
-fn first_task<'p>(alloc: Global, fuel: u64, world: u32, frames: Frames<'p>) -> Task<'p>
-    ensures { IsFirst fuel world frames.entry result }
-{
-    let now = LentNow {
-        world,
-        room: MOST_OPEN_CALLS,
-        frames,
-        out: Row::new(alloc),
-        outcome: Outcome::Value(Value::Nothing),
-    };
-    Task {
-        alloc,
-        fuel,
-        trace: Row::new(alloc),
-        calls: 0,
-        now,
-    }
-}
-
-/// Opens these values, above those that are open.
-fn push_all(frames: &mut Frames<'_>, values: &[Value]) -> Result<(), AllocError>
-    ensures { OnOk result (frames.new ≡ with_open frames.old (frames.old.open_values ++ values.now)) }
-{
-    for value in values {
-        frames.push(value.copy()?)?;
-    }
-    Ok(())
-}
-
-/// The root of a program, which has done nothing yet.
-fn new_root<'p>(alloc: Global, ready: &'p Ready, fuel: u64) -> Result<Machine<'p>, AllocError>
-    ensures { IfOk result (λ m. IsNewRoot ready.now fuel m) }
-{
-    let mut frames = Frames::new(alloc);
-    frames.push(Value::Nothing)?;
-    let task = first_task(alloc, fuel, FIRST_WORLD, frames);
-    let work = LentWork::Items(false, ready.program().top.as_slice());
-    let memo = Memo::new(alloc, ready.table());
-    Ok(Machine { task, work, memo })
-}
-
-/// A task from a start, which has done nothing yet.
-fn new_task<'p>(
-    alloc: Global,
-    ready: &'p Ready,
-    start: &Start,
-    fuel: u64,
-) -> Result<Machine<'p>, AllocError>
-    requires { start.now.spawn < length ready.now.spawns }
-    ensures { IfOk result (λ m. IsNewTask ready.now start.now fuel m) }
-{
-    let mut frames = Frames::new(alloc);
-    push_all(&mut frames, start.env.as_slice())?;
-    frames.start(start.bindings.as_slice())?;
-    let task = first_task(alloc, fuel, start.world, frames);
-    let expr = &ready.program().spawns.as_slice()[start.spawn as usize];
-    let work = LentWork::Eval(expr);
-    let memo = Memo::new(alloc, ready.table());
-    Ok(Machine { task, work, memo })
-}
-
-impl<'p> Machine<'p> {
-    /// The root of a program, which has done nothing yet and may make so many calls. The bound of its turns is in
-    /// proportion to the size of the program, for each of the calls and once besides.
-    pub fn root(alloc: Global, ready: &'p Ready, fuel: u64) -> Result<Machine<'p>, AllocError>
-        ensures begun { IfOk result (λ m. IsNewRoot ready.now fuel m) }
-        ensures turns { IfOk result (λ m. turns_of ready.now m ≤ 4 * (fuel + 1) * (program_size ready.now + 1)) }
-    {
-        let machine = new_root(alloc, ready, fuel)?;
-        Ok(machine)
-    }
-
-    /// A task from a start, which has done nothing yet and may make so many calls. Its turns are bounded as the root's.
-    pub fn start(
-        alloc: Global,
-        ready: &'p Ready,
-        start: &Start,
-        fuel: u64,
-    ) -> Result<Machine<'p>, AllocError>
-        requires place { start.now.spawn < length ready.now.spawns }
-        ensures begun { IfOk result (λ m. IsNewTask ready.now start.now fuel m) }
-        ensures turns { IfOk result (λ m. turns_of ready.now m ≤ 4 * (fuel + 1) * (program_size ready.now + 1)) }
-    {
-        let machine = new_task(alloc, ready, start, fuel)?;
-        Ok(machine)
-    }
-
-    /// One turn, and those after it that ask nobody. It keeps that the machine fits its dispatcher, leaves fewer turns, and adds at most one
-    /// item to the trace, which answers what the task asked there. It fetches and waits for tasks alone that it knows: those that its start mentions, that it
-    /// spawned, or that an outcome mentions that it fetched before. `NeedFetch` comes exactly where the dispatcher answered that a task
-    /// has not ended yet (`waits`), and the machine is then as it was. After out of memory the machine is lost: it answers so at each
-    /// later turn.
-    #[inline(always)]
-    pub fn step<D: Recall>(
-        &mut self,
-        ready: &'p Ready,
-        ops: &HostOps,
-        with: &mut D,
-    ) -> Result<Turn, AllocError>
-        requires { MachineFits ready.now (fuel_of self.old) (D.knows with.old) self.old }
-        ensures fits { MachineFits ready.now (fuel_of self.new) (D.knows with.new) self.new }
-        ensures turn { IfOk result (λ turn. TurnSays ready.now self.old self.new turn) }
-        ensures waits { IfOk result (λ turn. WaitsRightly (D.knows with.new) turn) }
-        ensures fuel { IfOk result (λ _. fuel_of self.new ≡ fuel_of self.old) }
-        ensures tells { IfOk result (λ _. Tells (job_with ready.now (fuel_of self.old) (D.knows with.old)) (D.knows with.old) (trace_of self.old) (D.knows with.new) (trace_of self.new)) }
-        ensures knows { IfOk result (λ turn. KnowsTasks (D.knows with.old).start (trace_of self.old) (trace_of self.new) turn) }
-        ensures follows { IfOk result (λ _. Follows (D.knows with.old) (trace_of self.old) (D.knows with.new) (trace_of self.new)) }
-        ensures lost { OnErr result (IsLost self.new) }
-        ensures kept { OnOk result (IsLost self.new → ⊥) }
-        ensures still { IsLost self.old → IsErr result }
-    {
-        match self.work {
-            LentWork::Lost => Err(AllocError),
-            LentWork::Ended => Ok(Turn::Done),
-            work => {
-                self.work = LentWork::Lost;
-                match self.task.turn(ready, &mut self.memo, ops, with, work)? {
-                    Next::Go(next) => {
-                        let last = self.task.go_on(ready, &mut self.memo, ops, with, next)?;
-                        self.work = last;
-                        Ok(Turn::Again)
-                    }
-                    Next::Wait(task) => {
-                        self.work = work;
-                        Ok(Turn::NeedFetch(task))
-                    }
-                }
-            }
-        }
-    }
-
-    /// What the task did, after its last turn.
-    pub fn record(self) -> Result<Record, AllocError>
-        requires { IsEnded self }
-        ensures { IfOk result (λ r. HasEnded r self.entry) }
-    {
-        let Machine { task, .. } = self;
-        task.into_record()
     }
 }

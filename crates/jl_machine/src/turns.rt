@@ -1,31 +1,34 @@
 //! What the machine does by itself. Each of these answers what comes next. They are inlined into the loop of a run: at a call the place
 //! of a result is cleared first, and the result is copied.
 
-ghost use Rattle.std.specs.Prelude.{◌≡◌, ◌<◌, [], ◌∷◌, IfOk, length, map, slice_get};
+ghost use Rattle.std.specs.Prelude.{◌≡◌, ◌<◌, [], ◌∷◌, IfOk, OnOk, length, map, slice_get};
 ghost use Rattle.jl_program.specs.declared.tree.Expr.{out-Expr};
 ghost use Rattle.jl_program.specs.declared.tree.Stmt.{out-Stmt};
 ghost use Rattle.jl_program.specs.declared.tree.Item.{out-Item};
 ghost use Rattle.jl_program.specs.declared.value.Value.TheVariants as V;
 ghost use Rattle.jl_program.specs.declared.fault.Fault.TheVariants as E;
 ghost use Rattle.jl_calculus.specs.declared.history.Outcome.TheVariants as O;
-ghost use Rattle.jl_frames.specs.Held.{IsOne, first_value};
+ghost use Rattle.jl_frames.specs.Held.{first_value};
 ghost use Rattle.jl_point.specs.declared.point.Work.TheVariants as W;
-ghost use Rattle.jl_point.specs.Turns.{go_pieces, go_stmts, tested, after_stmt, after_item, left, answered, entered, looked_item};
-ghost use Rattle.jl_point.specs.Skip.{leaf, skip_args, skip_begun, skip_given};
-ghost use Rattle.jl_machine.specs.Lent.{now_of, given_value, IsClosed, IsGiven, Reaches};
+ghost use Rattle.jl_point.specs.Turns.{expr_in, go_pieces, go_stmts, tested, refused_test, after_item, left, answered, entered, looked_item};
+ghost use Rattle.jl_point.specs.Skip.{leaf, skip_args};
+ghost use Rattle.jl_machine.specs.Onward.{onward_begun, onward_stmt, onward_given};
+ghost use Rattle.jl_machine.specs.declared.now.LentWork.TheVariants as L;
+ghost use Rattle.jl_machine.specs.Lent.{now_of, given_value, IsClosed, IsGiven, Reaches, after_answer};
 ghost use Rattle.jl_machine.specs.Leafed.{Leafed, truth_of};
 ghost use Rattle.jl_machine.specs.Steps.{variables_at};
 ghost use Rattle.jl_machine.specs.Taken.{IsTakenBy, MayPerform};
 ghost use Rattle.jl_program.specs.declared.prelude.TheConstants.{PRELUDE_SITES};
 ghost use Rattle.jl_program.specs.TypeOf.{type_of};
 ghost use Rattle.jl_calculus.specs.Run.{body_of, operates};
+ghost use Rattle.jl_host.specs.Replies.{outcome_of};
 ghost use Rattle.jl_point.specs.Operated.{performed};
 
 use crate::host::operate;
 use crate::now::{LentNow, LentWork};
 use jl_calculus::history::Outcome;
 use jl_frames::{Flat, Frames};
-use jl_host::HostOps;
+use jl_host::{HostOps, OpReply};
 use jl_model::ty::Ty;
 use jl_program::fault::Fault;
 use jl_program::prelude::PRELUDE_SITES;
@@ -122,12 +125,20 @@ fn go_both<'p>(
     Ok(LentWork::Eval(left))
 }
 
+/// Keeps how the task ends.
+#[inline(never)]
+fn keep_outcome(now: &mut LentNow<'_>, outcome: Outcome)
+    ensures { Reaches L.Ended now.new (W.Ended outcome, now_of now.old) }
+{
+    drop(mem::replace(&mut now.outcome, outcome));
+}
+
 /// The task ends.
 #[inline(never)]
 pub(crate) fn end<'p>(now: &mut LentNow<'p>, outcome: Outcome) -> LentWork<'p>
     ensures { Reaches result now.new (W.Ended outcome, now_of now.old) }
 {
-    drop(mem::replace(&mut now.outcome, outcome));
+    keep_outcome(now, outcome);
     LentWork::Ended
 }
 
@@ -147,11 +158,72 @@ pub(crate) fn end_deep<'p>(now: &mut LentNow<'p>) -> LentWork<'p>
     end(now, Outcome::Error(Fault::StackLimit))
 }
 
-/// An expression is begun.
+/// The task ends with the one open value. It is out of line: at each turn the places of a value and an outcome would be cleared.
+#[inline(never)]
+fn end_given(now: &mut LentNow<'_>)
+    requires { IsGiven now.old.frames }
+    ensures { Reaches L.Ended now.new (W.Ended (O.Value (given_value now.old)), now_of now.old) }
+{
+    let value = now.frames.take_one();
+    keep_outcome(now, Outcome::Value(value));
+}
+
+/// The task ends, since a condition is no truth value: the one open value.
+#[inline(never)]
+fn end_untested(ready: &Ready, now: &mut LentNow<'_>) -> Result<(), AllocError>
+    requires { IsGiven now.old.frames }
+    ensures { OnOk result (Reaches L.Ended now.new (refused_test (given_value now.old) (now_of now.old))) }
+{
+    let value = now.frames.take_one();
+    let ty = type_of(ready.table(), &value).copy()?;
+    drop(value);
+    keep_outcome(now, Outcome::Error(Fault::NotBool(ty)));
+    Ok(())
+}
+
+/// The task ends, since a number is divided by 0, or the quotient does not fit.
+#[inline(never)]
+fn end_divided(now: &mut LentNow<'_>)
+    ensures { Reaches L.Ended now.new (W.Ended (O.Error E.DivideError), now_of now.old) }
+{
+    keep_outcome(now, Outcome::Error(Fault::DivideError));
+}
+
+/// The expression of a statement.
+#[inline(always)]
+fn expr_in<'p>(stmt: &'p Stmt) -> &'p Expr
+    ensures { result.now ≡ expr_in (out-Stmt stmt.now) }
+{
+    match stmt {
+        Stmt::Bind(_, expr) => expr,
+        Stmt::Do(expr) => expr,
+        Stmt::Return(expr) => expr,
+    }
+}
+
+/// The first statement of a block is begun, or the block is empty.
+#[inline(always)]
+fn begin_stmts<'p>(now: &mut LentNow<'p>, stmts: &'p [Stmt]) -> Result<LentWork<'p>, AllocError>
+    requires { IsClosed now.old.frames }
+    ensures { IfOk result (λ work. Reaches work now.new (go_stmts stmts.now V.Nothing (now_of now.old))) }
+{
+    match stmts {
+        [] => {
+            now.frames.push(Value::Nothing)?;
+            Ok(LentWork::Give)
+        }
+        [stmt, rest @ ..] => {
+            now.frames.wait_stmt(stmt, rest)?;
+            Ok(LentWork::Eval(expr_in(stmt)))
+        }
+    }
+}
+
+/// An expression is begun, and of a block its first statement.
 #[inline(always)]
 pub(crate) fn begin<'p>(now: &mut LentNow<'p>, expr: &'p Expr) -> Result<LentWork<'p>, AllocError>
     requires { IsClosed now.old.frames }
-    ensures { IfOk result (λ work. Reaches work now.new (skip_begun expr.now (now_of now.old))) }
+    ensures { IfOk result (λ work. Reaches work now.new (onward_begun expr.now (now_of now.old))) }
 {
     if push_leaf(&mut now.frames, expr)? {
         return Ok(LentWork::Give);
@@ -172,8 +244,7 @@ pub(crate) fn begin<'p>(now: &mut LentNow<'p>, expr: &'p Expr) -> Result<LentWor
         Expr::Sub(_, _) | Expr::Spawn(_) => Ok(LentWork::Acting(expr)),
         Expr::Block(stmts) => {
             now.frames.wait_block()?;
-            now.frames.push(Value::Nothing)?;
-            Ok(LentWork::Stmts(stmts.as_slice()))
+            begin_stmts(now, stmts.as_slice())
         }
         Expr::Eval(items) => {
             now.frames.wait_eval()?;
@@ -207,10 +278,8 @@ fn branch<'p>(
 {
     match truth_of(now.frames.open_values()) {
         None => {
-            let value = now.frames.take_one();
-            let ty = type_of(ready.table(), &value).copy()?;
-            drop(value);
-            Ok(end(now, Outcome::Error(Fault::NotBool(ty))))
+            end_untested(ready, now)?;
+            Ok(LentWork::Ended)
         }
         Some(truth) => match expr {
             Expr::If(_, yes, no) => {
@@ -239,7 +308,23 @@ fn branch<'p>(
     }
 }
 
-/// A statement of a block has its value, which is open.
+/// The next statement of a block, or its end: the value of the one before is open.
+#[inline(always)]
+fn go_stmts<'p>(now: &mut LentNow<'p>, stmts: &'p [Stmt]) -> Result<LentWork<'p>, AllocError>
+    requires { IsGiven now.old.frames }
+    ensures { IfOk result (λ work. Reaches work now.new (go_stmts stmts.now (given_value now.old) (now_of now.old))) }
+{
+    match stmts {
+        [] => Ok(LentWork::Give),
+        [stmt, rest @ ..] => {
+            now.frames.clear();
+            now.frames.wait_stmt(stmt, rest)?;
+            Ok(LentWork::Eval(expr_in(stmt)))
+        }
+    }
+}
+
+/// A statement of a block has its value, which is open, and the next one is begun.
 #[inline(always)]
 fn after_stmt<'p>(
     now: &mut LentNow<'p>,
@@ -247,14 +332,14 @@ fn after_stmt<'p>(
     rest: &'p [Stmt],
 ) -> Result<LentWork<'p>, AllocError>
     requires { IsGiven now.old.frames }
-    ensures { IfOk result (λ work. Reaches work now.new (after_stmt (out-Stmt stmt.now) rest.now (given_value now.old) (now_of now.old))) }
+    ensures { IfOk result (λ work. Reaches work now.new (onward_stmt (out-Stmt stmt.now) rest.now (given_value now.old) (now_of now.old))) }
 {
     match stmt {
         Stmt::Bind(slot, _) => {
             now.frames.bind(*slot)?;
-            Ok(LentWork::Stmts(rest))
+            go_stmts(now, rest)
         }
-        Stmt::Do(_) => Ok(LentWork::Stmts(rest)),
+        Stmt::Do(_) => go_stmts(now, rest),
         Stmt::Return(_) => Ok(LentWork::Leave),
     }
 }
@@ -284,12 +369,12 @@ fn after_item<'p>(
 #[inline(always)]
 pub(crate) fn give<'p>(ready: &'p Ready, now: &mut LentNow<'p>) -> Result<LentWork<'p>, AllocError>
     requires { IsGiven now.old.frames }
-    ensures { IfOk result (λ work. Reaches work now.new (skip_given ready.now now.old.frames.stack (given_value now.old) (now_of now.old))) }
+    ensures { IfOk result (λ work. Reaches work now.new (onward_given ready.now now.old.frames.stack (given_value now.old) (now_of now.old))) }
 {
     match now.frames.take() {
         None => {
-            let value = now.frames.take_one();
-            Ok(end(now, Outcome::Value(value)))
+            end_given(now);
+            Ok(LentWork::Ended)
         }
         Some(flat) => match flat {
             Flat::Args(_, expr, rest) => go_args(now, expr, rest),
@@ -306,7 +391,7 @@ pub(crate) fn give<'p>(ready: &'p Ready, now: &mut LentNow<'p>) -> Result<LentWo
                 now.frames.show(ready.program())?;
                 Ok(LentWork::Pieces(line, rest))
             }
-            Flat::Body(world, room, _) => {
+            Flat::Body(world, _, room) => {
                 now.world = world;
                 now.room = room;
                 Ok(LentWork::Give)
@@ -323,15 +408,15 @@ pub(crate) fn leave<'p>(now: &mut LentNow<'p>) -> LentWork<'p>
 {
     match now.frames.pass() {
         None => {
-            let value = now.frames.take_one();
-            end(now, Outcome::Value(value))
+            end_given(now);
+            LentWork::Ended
         }
         Some(flat) => match flat {
             Flat::AfterItem(_, world, _, _) => {
                 now.world = world;
                 LentWork::Leave
             }
-            Flat::Body(world, room, _) => {
+            Flat::Body(world, _, room) => {
                 now.world = world;
                 now.room = room;
                 LentWork::Give
@@ -376,44 +461,54 @@ pub(crate) fn go_pieces<'p>(
     }
 }
 
-/// The next statement of a block, or its end: the value of the one before is open.
+/// What an operation answers: nothing is open. It tells whether a value is given, which needs no place in memory at a call.
 #[inline(always)]
-pub(crate) fn go_stmts<'p>(
-    now: &mut LentNow<'p>,
-    stmts: &'p [Stmt],
-) -> Result<LentWork<'p>, AllocError>
-    requires { IsGiven now.old.frames }
-    ensures { IfOk result (λ work. Reaches work now.new (go_stmts stmts.now (given_value now.old) (now_of now.old))) }
-{
-    match stmts {
-        [] => Ok(LentWork::Give),
-        [stmt, rest @ ..] => {
-            now.frames.clear();
-            now.frames.wait_stmt(stmt, rest)?;
-            match stmt {
-                Stmt::Bind(_, expr) => Ok(LentWork::Eval(expr)),
-                Stmt::Do(expr) => Ok(LentWork::Eval(expr)),
-                Stmt::Return(expr) => Ok(LentWork::Eval(expr)),
-            }
-        }
-    }
-}
-
-/// What an operation answers: nothing is open.
-#[inline(always)]
-pub(crate) fn answer<'p>(
-    now: &mut LentNow<'p>,
-    outcome: Outcome,
-) -> Result<LentWork<'p>, AllocError>
+pub(crate) fn answer(now: &mut LentNow<'_>, outcome: Outcome) -> Result<bool, AllocError>
     requires { IsClosed now.old.frames }
-    ensures { IfOk result (λ work. Reaches work now.new (answered outcome, now_of now.old)) }
+    ensures { IfOk result (λ goes. Reaches (after_answer goes) now.new (answered outcome, now_of now.old)) }
 {
     match outcome {
         Outcome::Value(value) => {
             now.frames.push(value)?;
+            Ok(true)
+        }
+        Outcome::Error(fault) => {
+            keep_outcome(now, Outcome::Error(fault));
+            Ok(false)
+        }
+    }
+}
+
+/// What comes next after an answer.
+#[inline(always)]
+pub(crate) fn after_answer<'p>(goes: bool) -> LentWork<'p>
+    ensures { result ≡ after_answer goes }
+{
+    if goes {
+        return LentWork::Give;
+    }
+    LentWork::Ended
+}
+
+/// What an operation of the prelude replied: nothing is open.
+#[inline(always)]
+fn take_reply<'p>(now: &mut LentNow<'p>, reply: OpReply) -> Result<LentWork<'p>, AllocError>
+    requires { IsClosed now.old.frames }
+    ensures { IfOk result (λ work. Reaches work now.new (answered (outcome_of reply), now_of now.old)) }
+{
+    match reply {
+        OpReply::Int(number) => {
+            now.frames.push(Value::Int(number))?;
             Ok(LentWork::Give)
         }
-        Outcome::Error(fault) => Ok(end(now, Outcome::Error(fault))),
+        OpReply::Bool(truth) => {
+            now.frames.push(Value::Bool(truth))?;
+            Ok(LentWork::Give)
+        }
+        OpReply::DivideError => {
+            end_divided(now);
+            Ok(LentWork::Ended)
+        }
     }
 }
 
@@ -429,9 +524,9 @@ fn operation<'p>(
     requires taken { IsTakenBy site now.old.frames.open_values }
     ensures { IfOk result (λ work. Reaches work now.new (answered (operates site now.old.frames.open_values), now_of now.old)) }
 {
-    let outcome = operate(ops, site, now.frames.open_values());
+    let reply = operate(ops, site, now.frames.open_values());
     now.frames.clear();
-    answer(now, outcome)
+    take_reply(now, reply)
 }
 
 /// A method's body is begun, in a world and with these types for its static parameters. Its arguments are the open values.

@@ -44,14 +44,25 @@ fn number_of(ty: &Ty) -> u32 {
     }
 }
 
-/// The number of the type of a value.
-fn number_of_value(value: &Value) -> u32 {
+/// The number of the type of a value that is neither a number nor a struct. It is out of line, so that the others need no jump by a table.
+#[inline(never)]
+fn number_of_other(value: &Value) -> u32 {
     match value {
         Value::Int(_) => INT64,
         Value::Bool(_) => BOOL,
         Value::Nothing => NOTHING,
         Value::Task(_) => TASK,
         Value::Tuple(made) | Value::Struct(made) => number_of(&made.get().ty),
+    }
+}
+
+/// The number of the type of a value.
+#[inline(always)]
+fn number_of_value(value: &Value) -> u32 {
+    match value {
+        Value::Int(_) => INT64,
+        Value::Struct(made) => number_of(&made.get().ty),
+        _ => number_of_other(value),
     }
 }
 
@@ -94,9 +105,9 @@ fn is_named(ty: &Ty, number: u32) -> bool
     }
 }
 
-/// Whether a type is that of a value.
-#[inline(always)]
-fn is_type_of(ty: &Ty, value: &Value) -> bool
+/// Whether a type is that of a value that is no number. It is out of line, as `number_of_other` is.
+#[inline(never)]
+fn is_type_of_other(ty: &Ty, value: &Value) -> bool
     ensures { IsTrue result → type_of value.now ≡ ty.now }
 {
     match value {
@@ -105,6 +116,17 @@ fn is_type_of(ty: &Ty, value: &Value) -> bool
         Value::Nothing => is_named(ty, NOTHING),
         Value::Task(_) => is_named(ty, TASK),
         Value::Tuple(made) | Value::Struct(made) => same(&made.get().ty, ty),
+    }
+}
+
+/// Whether a type is that of a value.
+#[inline(always)]
+fn is_type_of(ty: &Ty, value: &Value) -> bool
+    ensures { IsTrue result → type_of value.now ≡ ty.now }
+{
+    match value {
+        Value::Int(_) => is_named(ty, INT64),
+        _ => is_type_of_other(ty, value),
     }
 }
 

@@ -14,7 +14,7 @@ use Rattle.jl_point.specs.declared.point.Work.TheVariants as W
 use Rattle.jl_dispatcher.specs.Knows.{Knows}
 use Rattle.jl_fit.specs.Fits.{AllLearnt, IsFresh, IsRunOf}
 use Rattle.jl_machine.specs.declared.now.LentWork.{LentWork}
-use Rattle.jl_machine.specs.declared.now.LentWork.TheVariants.{Eval, Give, Leave, Acting, Calling, Stmts, Items, Defining, Pieces, Ended, Lost}
+use Rattle.jl_machine.specs.declared.now.LentWork.TheVariants.{Eval, Give, Leave, Acting, Calling, Items, Defining, Pieces, Ended, Lost}
 use Rattle.jl_machine.specs.declared.task.Machine.{Machine}
 use Rattle.jl_machine.specs.declared.task.Task.{Task}
 use Rattle.jl_machine.specs.Lent.{work_of}
@@ -46,7 +46,6 @@ valid_work P fuel k Give t o e f = absurd (cc)
 valid_work P fuel k Leave t o e f = absurd (cc)
 valid_work P fuel k (Acting x) t o e f = absurd (cc)
 valid_work P fuel k (Calling g u) t o e f = absurd (cc)
-valid_work P fuel k (Stmts xs) t o e f = absurd (cc)
 valid_work P fuel k (Items fresh xs) t o e f = absurd (cc)
 valid_work P fuel k (Defining fresh site xs) t o e f = absurd (cc)
 valid_work P fuel k (Pieces line xs) t o e f = absurd (cc)

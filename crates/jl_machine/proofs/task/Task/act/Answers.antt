@@ -1,4 +1,4 @@
-use Rattle.std.proofs.Common.{◌≡◌, ◌∙◌, ap}
+use Rattle.std.proofs.Common.{◌∙◌, ap}
 use Rattle.jl_program.specs.declared.tree.Expr.{out-Expr}
 use Rattle.jl_program.specs.declared.tree.Expr.TheViews as V
 use Rattle.jl_machine.proofs.Acting.{call_fits, fetch_one}

@@ -1,9 +1,7 @@
-use Rattle.std.proofs.Common.{◌≡◌, ◌∙◌, sym, ap, subst, List, map}
-use Rattle.jl_model.specs.declared.ty.Ty.{Ty}
+use Rattle.std.proofs.Common.{◌≡◌, ◌∙◌, ap, map}
 use Rattle.jl_program.specs.TypeOf.{type_of}
-use Rattle.jl_dispatcher.specs.Knows.{IsOfSite}
 use Rattle.jl_machine.proofs.Choosing.{key_is, concrete_is, chosen_there, chosen_below, chosen_applies, chosen_later, kept_later, asked_twice}
-use Rattle.jl_machine.proofs.Stepping.{lent_none, lent_ambiguous, lent_is, lent_method_is}
+use Rattle.jl_machine.proofs.Stepping.{lent_none, lent_ambiguous, lent_method_is}
 use Rattle.jl_machine.proofs.TakenLemmas.{chosen_taken}
 use Rattle.jl_machine.proofs.task.Task.choose.Goals as goal
 

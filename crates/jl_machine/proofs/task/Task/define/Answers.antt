@@ -1,4 +1,4 @@
-use Rattle.std.proofs.Common.{◌≡◌, ◌∙◌, ap, sym, ◌∷◌, ◌++◌, [], Err}
+use Rattle.std.proofs.Common.{◌≡◌, ◌∙◌, ap, ◌∷◌, ◌++◌, [], Err}
 use Rattle.jl_program.specs.declared.value.Value.TheVariants as V
 use Rattle.jl_frames.specs.Held.{Held, with_open}
 use Rattle.jl_machine.proofs.Asking.{lent_made, knows_made, lent_worlds_full}

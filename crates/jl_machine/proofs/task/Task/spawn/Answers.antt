@@ -1,5 +1,4 @@
-use Rattle.std.proofs.Common.{◌≡◌, ◌∙◌, ap, sym, subst, ◌∷◌, ◌++◌, [], Err}
-use Rattle.jl_program.specs.declared.tree.Start.{Start}
+use Rattle.std.proofs.Common.{◌≡◌, ◌∙◌, ap, ◌∷◌, ◌++◌, [], Err}
 use Rattle.jl_program.specs.declared.value.Value.TheVariants as V
 use Rattle.jl_frames.specs.Held.{Held, with_open}
 use Rattle.jl_machine.proofs.Asking.{lent_spawned, knows_spawned, lent_tasks_full, start_valid, spawned_of}

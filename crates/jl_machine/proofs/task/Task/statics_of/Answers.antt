@@ -1,5 +1,4 @@
-use Rattle.std.proofs.Common.{◌≡◌, ◌∙◌, sym, ap, length}
-use Rattle.jl_model.specs.Signature.{Applicable}
+use Rattle.std.proofs.Common.{◌∙◌, sym, ap, length}
 use Rattle.jl_model.specs.Bindings.{bindings}
 use Rattle.jl_sig.specs.SigParts.{written_of}
 use Rattle.jl_model.specs.Ancestors.{table_of}

@@ -1,5 +1,5 @@
 use Rattle.std.proofs.Common.{Ok}
-use Rattle.jl_machine.proofs.Stepping.{lent_begun, lent_given, lent_left, lent_stmts, lent_pieces}
+use Rattle.jl_machine.proofs.Stepping.{lent_begun, lent_given, lent_left, lent_pieces}
 use Rattle.jl_machine.proofs.task.Task.turn.Goals as goal
 
 pub returns-in_ok-begin-in-Eval-clause-goes : goal.returns-in_ok-begin-in-Eval-clause-goes
@@ -12,10 +12,6 @@ returns-in_ok-give-in-Give-clause-goes g c =
 
 pub returns-in-Leave-clause-goes : goal.returns-in-Leave-clause-goes
 returns-in-Leave-clause-goes g c = rw c.in-Leave.is (lent_left c.leave.result _ c.args.self.now _ c.leave.new.now c.leave.ensures (rw c.in-Leave.is at c.requires.fits))
-
-pub returns-in_ok-go_stmts-in-Stmts-clause-goes : goal.returns-in_ok-go_stmts-in-Stmts-clause-goes
-returns-in_ok-go_stmts-in-Stmts-clause-goes g c =
-    rw c.in-Stmts.is (lent_stmts (Ok c.in_ok-go_stmts-in-Stmts.field-0) _ c.args.self.now c.in-Stmts.stmts.now _ c.go_stmts.new.now c.in_ok-go_stmts-in-Stmts.ensures (rw c.in-Stmts.is at c.requires.fits))
 
 pub returns-in_ok-go_pieces-in-Pieces-clause-goes : goal.returns-in_ok-go_pieces-in-Pieces-clause-goes
 returns-in_ok-go_pieces-in-Pieces-clause-goes g c =

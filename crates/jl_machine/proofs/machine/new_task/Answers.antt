@@ -1,8 +1,8 @@
-use Rattle.std.proofs.Common.{◌≡◌, ◌∙◌, ap, refl, ◌++◌, length}
+use Rattle.std.proofs.Common.{◌∙◌, ap, refl, ◌++◌}
 use Rattle.jl_program.specs.declared.tree.Program.{Program}
-use Rattle.jl_frames.specs.Held.{Held, nothing_held, with_open, starts}
+use Rattle.jl_frames.specs.Held.{Held, with_open, starts}
 use Rattle.jl_machine.proofs.Whole.{new_task_is, there_is}
-use Rattle.jl_machine.proofs.task.new_task.Goals as goal
+use Rattle.jl_machine.proofs.machine.new_task.Goals as goal
 
 pub returns : goal.returns
 returns c =
