@@ -69,7 +69,7 @@ pub fn at_decl(
 }
 
 /// The fields of a struct begin.
-fn fields_begin(alloc: Global, header: Form<Header>) -> Result<Option<Point>, AllocError>
+fn begin_fields(alloc: Global, header: Form<Header>) -> Result<Option<Point>, AllocError>
     ensures { IfOk result (λ p. p ≡ Some (Point.Fields (record { header = header; fields = none }))) }
 {
     let fielding = Fielding {
@@ -89,8 +89,8 @@ fn struct_ends(
     ensures { IfOk result (λ p. state_at p reading.new ≡ struct_ends sign.now header reading.old.stack reading.old.script) }
 {
     match sign {
-        Sign::Newline => fields_begin(alloc, header),
-        Sign::Operator(Operator::Semicolon) => fields_begin(alloc, header),
+        Sign::Newline => begin_fields(alloc, header),
+        Sign::Operator(Operator::Semicolon) => begin_fields(alloc, header),
         Sign::Word(Word::End) => {
             let item = structured(alloc, header, none(alloc))?;
             Ok(Some(Point::Made(item)))
