@@ -16,8 +16,7 @@ ghost use Rattle.jl_formed.specs.Formed.{FormedExpr, FormedScript};
 /// no item is too deep.
 #[tactic(none)]
 pub fn law_formed()
-    ensures { (bytes : List ℕ) (tokens : List Token) (ts : Text) (end : Spot) (s : Script)
-        → ReadsSource bytes (Ok tokens) → text (lexemes tokens) ≡ ts ++ tok End end ∷ []
+    ensures { (bytes : List ℕ) (tokens : List Token) (ts : Text) (end : Spot) (s : Script) → ReadsSource bytes (Ok tokens) → text (lexemes tokens) ≡ ts ++ tok End end ∷ []
         → ScriptText (record { items = s.items; too_deep = None }) ts → FormedScript s }
 {}
 

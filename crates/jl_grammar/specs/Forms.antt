@@ -1,6 +1,6 @@
 -- The forms of a script with their depth. A form without forms in it has depth 1, any other 1 more than the greatest
 -- depth of the forms directly in it. Above the limit the depth is one more than the limit, and the tree of an expression is not kept.
-use Rattle.std.specs.Prelude.{ℕ, ℤ, Bool, true, false, min, max, ◌+◌, ◌-◌, if◌then◌else◌, nat_lt, List, [], ◌∷◌, ◌++◌, Option, Some, None}
+use Rattle.std.specs.Prelude.{ℕ, ℤ, Bool, true, false, min, max, ◌+◌, ◌-◌, cond, nat_lt, List, [], ◌∷◌, ◌++◌, Option, Some, None}
 use Rattle.jl_model.specs.declared.limits.TheConstants.{MOST_ITEM_DEPTH}
 use Rattle.jl_token.specs.declared.token.Operator.{Operator}
 use Rattle.jl_typeread.specs.declared.tree.TypeText.{TypeText}
@@ -48,7 +48,7 @@ deeper d = min d MOST_ITEM_DEPTH + 1
 
 -- an expression of this depth
 abbrev pub made : ℕ → ℕ → Expr → Form Expr
-made at d e = record { tree = (if nat_lt MOST_ITEM_DEPTH d then W.Nothing at else e); at = at; depth = d }
+made at d e = record { tree = cond (nat_lt MOST_ITEM_DEPTH d) (W.Nothing at) e; at = at; depth = d }
 
 -- no trees, and one more
 abbrev pub none : {A : Type 0} → Forms A
@@ -227,4 +227,4 @@ abbrev pub no_items : ItemsRead
 no_items = record { items = []; too_deep = None }
 
 abbrev pub with_item : ItemsRead → Form Item → ItemsRead
-with_item xs x = record { items = xs.items ++ x.tree ∷ []; too_deep = first_place xs.too_deep (if nat_lt MOST_ITEM_DEPTH x.depth then Some x.at else None) }
+with_item xs x = record { items = xs.items ++ x.tree ∷ []; too_deep = first_place xs.too_deep (cond (nat_lt MOST_ITEM_DEPTH x.depth) (Some x.at) None) }

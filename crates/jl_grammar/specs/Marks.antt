@@ -1,5 +1,5 @@
 -- The marks that choose between the rules. They look ahead, and are a function of the tokens alone.
-use Rattle.std.specs.Prelude.{ℕ, Bool, true, false, ◌&&◌, ◌||◌, if◌then◌else◌, codes, bytes_eq, List, [], ◌∷◌, map, Option, Some, None}
+use Rattle.std.specs.Prelude.{ℕ, Bool, true, false, ◌&&◌, ◌||◌, cond, codes, bytes_eq, List, [], ◌∷◌, map, Option, Some, None}
 use Rattle.jl_token.specs.declared.token.Operator.{Operator}
 use Rattle.jl_token.specs.declared.token.Operator.TheVariants as op
 use Rattle.jl_typeread.specs.declared.sign.Lexeme.{Lexeme}
@@ -46,7 +46,7 @@ same _ _ = false
 
 abbrev pub past : Mate → (List Shape → Option (List Sign)) → Shape → List Shape → Option (List Sign)
 past (Opens s) go c cs = go (s ∷ c ∷ cs)
-past (Closes s) go c cs = if same s c then go cs else None
+past (Closes s) go c cs = cond (same s c) (go cs) None
 past Neither go c cs = go (c ∷ cs)
 
 -- what follows the brackets that end these open ones, the innermost first; none where another bracket comes first
@@ -127,7 +127,7 @@ is_base n = bytes_eq n (codes "Base")
 
 -- what follows the parameters, behind `Base.:`
 abbrev pub colon_head : List Sign → Option (List Sign)
-colon_head (S.Operator o ∷ ss) = if is_function o then round ss else None
+colon_head (S.Operator o ∷ ss) = cond (is_function o) (round ss) None
 colon_head _ = None
 
 -- what follows the parameters, behind `Base.`
@@ -160,17 +160,14 @@ begins_left (S.Name n ∷ ss) = compares (told ss) || compares (told_behind (cur
 begins_left ss = compares (told_behind (round ss))
 
 abbrev pub ahead : List Sign → Ahead
-ahead ss = if begins_head ss then A.Method else if begins_left ss then A.Sub else A.Nothing
+ahead ss = cond (begins_head ss) A.Method (cond (begins_left ss) A.Sub A.Nothing)
 
 -- ---- the first words of the special forms
 
 abbrev pub named_call : List ℕ → Opening
 named_call n =
-    if bytes_eq n (codes "eval") then O.Quote
-    else if bytes_eq n (codes "fetch") then O.Fetch
-    else if bytes_eq n (codes "println") then O.Println
-    else if bytes_eq n (codes "print") then O.Print
-    else O.Call
+    cond (bytes_eq n (codes "eval")) O.Quote (cond (bytes_eq n (codes "fetch")) O.Fetch
+    (cond (bytes_eq n (codes "println")) O.Println (cond (bytes_eq n (codes "print")) O.Print O.Call)))
 
 -- `(` follows
 abbrev pub is_paren : Operator → Bool
@@ -183,7 +180,7 @@ calls _ = false
 
 -- behind `Base.` and a name
 abbrev pub base_call : Bool → List ℕ → Opening
-base_call true n = if bytes_eq n (codes "invokelatest") then O.Latest else O.Call
+base_call true n = cond (bytes_eq n (codes "invokelatest")) O.Latest O.Call
 base_call false n = O.Plain
 
 abbrev pub base_operator : Operator → Opening
@@ -198,7 +195,7 @@ base_opening _ = O.Plain
 
 -- behind `Threads.`
 abbrev pub threads_opening : List Sign → Opening
-threads_opening (S.Macro n ∷ ss) = if bytes_eq n (codes "spawn") then O.Spawn else O.Plain
+threads_opening (S.Macro n ∷ ss) = cond (bytes_eq n (codes "spawn")) O.Spawn O.Plain
 threads_opening _ = O.Plain
 
 -- what stands behind a name
@@ -218,7 +215,7 @@ abbrev pub opening_of : Named → List ℕ → Opening
 opening_of D.Called n = named_call n
 opening_of D.Makes n = O.Make
 opening_of D.Binds n = O.Binding
-opening_of (D.Dotted x y) n = if is_base n then x else if bytes_eq n (codes "Threads") then y else O.Plain
+opening_of (D.Dotted x y) n = cond (is_base n) x (cond (bytes_eq n (codes "Threads")) y O.Plain)
 opening_of D.Alone n = O.Plain
 
 abbrev pub opening : List Sign → Opening

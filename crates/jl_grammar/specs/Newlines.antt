@@ -1,6 +1,6 @@
 -- The newlines that are no tokens: between brackets, unless a block was opened in them that is not yet ended, and behind a
 -- binary operator, `,`, `=`, `?`, `<:`, `>:` and the `:` of a conditional.
-use Rattle.std.specs.Prelude.{Bool, true, false, not, if◌then◌else◌, List, [], ◌∷◌, ◌++◌}
+use Rattle.std.specs.Prelude.{Bool, true, false, not, cond, List, [], ◌∷◌, ◌++◌}
 use Rattle.jl_token.specs.declared.token.Operator.{Operator}
 use Rattle.jl_token.specs.declared.token.Operator.TheVariants as op
 use Rattle.jl_typeread.specs.declared.sign.Lexeme.{Lexeme}
@@ -98,7 +98,7 @@ behind (S.Name n) ns p = Ends
 behind (S.Number n) ns p = Ends
 behind (S.Text t) ns p = Ends
 behind (S.Macro n) ns p = Other
-behind S.Newline ns p = if is_dropped ns p then p else Other
+behind S.Newline ns p = cond (is_dropped ns p) p Other
 behind S.End ns p = Other
 
 -- the grammar sees this token
@@ -108,7 +108,7 @@ is_shown _ ns p = true
 
 -- what of a token the grammar sees
 abbrev pub shown : Lexeme → List Around → Previous → List Lexeme
-shown l ns p = if is_shown l.sign ns p then l ∷ [] else []
+shown l ns p = cond (is_shown l.sign ns p) (l ∷ []) []
 
 -- the tokens that the grammar sees
 abbrev pub bare_from : List Around → Previous → List Lexeme → List Lexeme

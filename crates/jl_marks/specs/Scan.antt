@@ -1,5 +1,5 @@
 -- The marks in one pass from the right: what is known of the tokens behind a token.
-use Rattle.std.specs.Prelude.{if◌then◌else◌, List, [], ◌∷◌}
+use Rattle.std.specs.Prelude.{cond, List, [], ◌∷◌}
 use Rattle.jl_typeread.specs.declared.sign.Lexeme.{Lexeme}
 use Rattle.jl_typeread.specs.declared.sign.Sign.{Sign}
 use Rattle.jl_marks.specs.declared.scan.Closing.{Closing}
@@ -16,7 +16,7 @@ use Rattle.jl_grammar.specs.Marks.{mate, same, behind, round, curly, told, told_
 -- the closing brackets that are left to the left of an opening one
 abbrev pub popped : Shape → List Closing → List Closing
 popped c [] = []
-popped c (Ends d f ∷ ks) = if same d c then ks else Wrong ∷ []
+popped c (Ends d f ∷ ks) = cond (same d c) ks (Wrong ∷ [])
 popped c (Wrong ∷ ks) = Wrong ∷ []
 
 -- the closing brackets with one token more, behind which this follows
@@ -33,7 +33,7 @@ closing_of (s ∷ ss) = closing_by (mate s) (told ss) (closing_of ss)
 -- what follows the bracket that ends an open one
 abbrev pub answer : Shape → List Closing → Follows
 answer c [] = F.Other
-answer c (Ends d f ∷ ks) = if same d c then f else F.Other
+answer c (Ends d f ∷ ks) = cond (same d c) f F.Other
 answer c (Wrong ∷ ks) = F.Other
 
 abbrev pub answer_of : Mate → List Closing → Follows

@@ -1,6 +1,6 @@
 //! The marks of the tokens: one pass from the right, which keeps of the tokens behind a token what its marks ask.
 
-ghost use Rattle.std.specs.Prelude.{◌≡◌, ◌∷◌, [], List, IfOk, if◌then◌else◌};
+ghost use Rattle.std.specs.Prelude.{◌≡◌, ◌∷◌, [], List, IfOk, cond};
 ghost use Rattle.jl_typeread.specs.declared.sign.Lexeme.{Lexeme};
 ghost use Rattle.jl_typeread.specs.declared.sign.Sign.{Sign};
 ghost use Rattle.jl_grammar.specs.Marks.{mate, mate_of, same, round, curly, told, told_sign, told_behind, defines, compares, is_function, is_base, colon_head, dot_head, base_head, begins_head, begins_left, ahead, named_call, calls, base_call, base_opening, threads_opening, after_name, opening_of, opening, marks_of, marked};
@@ -386,7 +386,7 @@ fn nearer(sign: &Sign, near: Near, over: Follows) -> Near
 
 /// What is told by the token behind a matching bracket.
 fn ahead(begins_head: bool, begins_left: bool) -> Ahead
-    ensures { result ≡ (if begins_head then Ahead.Method else if begins_left then Ahead.Sub else Ahead.Nothing) }
+    ensures { result ≡ cond begins_head Ahead.Method (cond begins_left Ahead.Sub Ahead.Nothing) }
 {
     if begins_head {
         return Ahead::Method;

@@ -1,6 +1,6 @@
 //! The tokens that the grammar sees: all but the newlines that are no tokens.
 
-ghost use Rattle.std.specs.Prelude.{◌≡◌, ◌∷◌, ◌++◌, [], IfOk, OnOk, if◌then◌else◌, map};
+ghost use Rattle.std.specs.Prelude.{◌≡◌, ◌∷◌, ◌++◌, [], IfOk, OnOk, cond, map};
 ghost use Rattle.jl_typeread.specs.Lexemes.{lexeme_of};
 ghost use Rattle.jl_grammar.specs.Newlines.{closed, inside_operator, inside_word, inside, behind_binary, behind_colon, behind, behind_operator, behind_word, in_bracket, is_dropped, is_shown, bare};
 
@@ -171,7 +171,7 @@ fn is_shown(sign: &Sign, around: &Stack<Around>, previous: Previous) -> bool
 
 /// One token more, if the grammar sees it.
 fn show(lexemes: &mut Vec<Lexeme>, lexeme: Lexeme, is_shown: bool) -> Result<(), AllocError>
-    ensures { OnOk result (lexemes.new.items ≡ lexemes.old.items ++ (if is_shown then lexeme ∷ [] else [])) }
+    ensures { OnOk result (lexemes.new.items ≡ lexemes.old.items ++ cond is_shown (lexeme ∷ []) []) }
 {
     if is_shown {
         lexemes.push(lexeme)?;

@@ -1,5 +1,5 @@
 -- Names with numbers, and the first number of a name.
-use Rattle.std.specs.Prelude.{ℕ, ◌+◌, if◌then◌else◌, List, [], ◌∷◌, ◌++◌, map, Option, Some, None, is_some}
+use Rattle.std.specs.Prelude.{ℕ, ◌+◌, cond, List, [], ◌∷◌, ◌++◌, map, Option, Some, None, is_some}
 use Rattle.jl_program.specs.Names.{same_text}
 use Rattle.jl_grammar.specs.declared.tree.Name.{Name}
 use Rattle.jl_model.specs.declared.ty.Decl.{Decl}
@@ -11,20 +11,20 @@ Numbered = List ℕ × ℕ
 -- the first number of a name
 abbrev pub number_in : List Numbered → List ℕ → Option ℕ
 number_in [] name = None
-number_in (e ∷ es) name = if same_text name e.0 then Some e.1 else number_in es name
+number_in (e ∷ es) name = cond (same_text name e.0) (Some e.1) (number_in es name)
 
 -- one more name, unless it has a number
 abbrev pub with_number : List Numbered → Numbered → List Numbered
-with_number es e = if is_some (number_in es e.0) then es else es ++ e ∷ []
+with_number es e = cond (is_some (number_in es e.0)) es (es ++ e ∷ [])
 
 -- another number for a name that has one
 abbrev pub renumbered : List Numbered → Numbered → List Numbered
 renumbered [] e = []
-renumbered (x ∷ xs) e = if same_text e.0 x.0 then (x.0, e.1) ∷ xs else x ∷ renumbered xs e
+renumbered (x ∷ xs) e = cond (same_text e.0 x.0) ((x.0, e.1) ∷ xs) (x ∷ renumbered xs e)
 
 -- one more name, or another number for one that has a number
 abbrev pub with_newer : List Numbered → Numbered → List Numbered
-with_newer es e = if is_some (number_in es e.0) then renumbered es e else es ++ e ∷ []
+with_newer es e = cond (is_some (number_in es e.0)) (renumbered es e) (es ++ e ∷ [])
 
 -- names one after another, behind others
 abbrev pub firsts_after : List Numbered → List Numbered → List Numbered

@@ -1,7 +1,7 @@
 -- The text that tokens are printed by: each with a space behind it, but a newline alone. A negative number that does not
 -- stand in a prefix place, as behind a macro word, would be an operator and a number, so a newline stands before it, which
 -- is no token in brackets.
-use Rattle.std.specs.Prelude.{ℕ, ℤ, pos, negsuc, ◌≡◌, ◌<◌, ◌^◌, Bool, true, false, not, ◌&&◌, ◌||◌, ◌==◌, if◌then◌else◌, codes, List, [], ◌∷◌, ◌++◌, None, IsUtf8}
+use Rattle.std.specs.Prelude.{ℕ, ℤ, pos, negsuc, ◌≡◌, ◌<◌, ◌^◌, Bool, true, false, not, ◌&&◌, ◌||◌, ◌==◌, cond, codes, List, [], ◌∷◌, ◌++◌, None, IsUtf8}
 use Rattle.std.proofs.Math.Utf8.{scalars}
 use Rattle.std.specs.Fmt.{signed_decimal}
 use Rattle.std.specs.Str.{encode_utf8_all}
@@ -42,7 +42,7 @@ is_special b = (b == 34) || (b == 92) || (b == 36)
 
 -- a byte of a string, behind a backslash where it would not stand for itself
 abbrev pub escaped_byte : ℕ → List ℕ
-escaped_byte b = if is_special b then 92 ∷ b ∷ [] else b ∷ []
+escaped_byte b = cond (is_special b) (92 ∷ b ∷ []) (b ∷ [])
 
 -- the bytes of a string between its quotes
 abbrev pub escaped : List ℕ → List ℕ
@@ -90,7 +90,7 @@ is_prefix s = false
 
 -- what stands before a token, in a prefix place or not
 abbrev pub gap : Bool → Sign → List ℕ
-gap free s = if is_negative s && not free then 10 ∷ [] else []
+gap free s = cond (is_negative s && not free) (10 ∷ []) []
 
 -- the text of tokens, in a prefix place or not
 abbrev pub text_from : Bool → List Sign → List ℕ
@@ -128,7 +128,7 @@ IsSpellable S.End = ⊥
 -- the tokens of the text, the newlines before negative numbers among them
 abbrev pub spread : Bool → List Sign → List Sign
 spread free [] = []
-spread free (s ∷ ss) = if is_negative s && not free then S.Newline ∷ s ∷ spread (is_prefix s) ss else s ∷ spread (is_prefix s) ss
+spread free (s ∷ ss) = cond (is_negative s && not free) (S.Newline ∷ s ∷ spread (is_prefix s) ss) (s ∷ spread (is_prefix s) ss)
 
 -- ---- newlines
 

@@ -29,8 +29,7 @@ fn script_text(alloc: Global, script: &Script) -> Result<Bytes, AllocError>
 /// itself, it reads as the same script, places aside. The one error is want of memory.
 pub fn print(alloc: Global, script: &Script) -> Result<Bytes, AllocError>
     ensures text { IfOk result (λ text. text ≡ text_of (script_signs script.now)) }
-    ensures reads_back { (source : List ℕ) → IsSource source script.now
-        → IfOk result (λ text. length text ≤ MOST_SOURCE_BYTES → ReadsBack text script.now) }
+    ensures reads_back { (source : List ℕ) → IsSource source script.now → IfOk result (λ text. length text ≤ MOST_SOURCE_BYTES → ReadsBack text script.now) }
 {
     script_text(alloc, script)
 }

@@ -1,5 +1,5 @@
 -- The depth of a written type, and trees beside their depth.
-use Rattle.std.specs.Prelude.{ℕ, ◌+◌, max, if◌then◌else◌, nat_lt, nat_le, List, [], ◌∷◌, ◌++◌, map}
+use Rattle.std.specs.Prelude.{ℕ, ◌+◌, max, cond, nat_lt, nat_le, List, [], ◌∷◌, ◌++◌, map}
 use Rattle.jl_model.specs.declared.limits.TheConstants.{MOST_TYPE_DEPTH}
 use Rattle.jl_typeread.specs.declared.tree.TypeText.{TypeText}
 use Rattle.jl_typeread.specs.declared.tree.ArgText.{ArgText}
@@ -68,7 +68,7 @@ depth_limit = MOST_TYPE_DEPTH
 
 -- a tree of this depth, where that is within the limit
 abbrev pub held : {X : Type 0} → ℕ → X → Deep X
-held d x = if nat_le d depth_limit then Built x d else TooDeep
+held d x = cond (nat_le d depth_limit) (Built x d) TooDeep
 
 -- a type with its depth
 abbrev pub held_type : TypeText → Deep TypeText
@@ -88,12 +88,12 @@ held_variables vs = held (variables_depth vs) vs
 
 -- one level more around a tree
 abbrev pub around : {X Y : Type 0} → (X → Y) → Deep X → Deep Y
-around f (Built x d) = if nat_lt d depth_limit then Built (f x) (d + 1) else TooDeep
+around f (Built x d) = cond (nat_lt d depth_limit) (Built (f x) (d + 1)) TooDeep
 around f TooDeep = TooDeep
 
 -- one level more around two trees
 abbrev pub around_both : {X Y Z : Type 0} → (X → Y → Z) → Deep X → Deep Y → Deep Z
-around_both f (Built x d) (Built y e) = if nat_lt (max d e) depth_limit then Built (f x y) (max d e + 1) else TooDeep
+around_both f (Built x d) (Built y e) = cond (nat_lt (max d e) depth_limit) (Built (f x y) (max d e + 1)) TooDeep
 around_both f (Built x d) TooDeep = TooDeep
 around_both f TooDeep y = TooDeep
 

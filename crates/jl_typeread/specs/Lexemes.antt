@@ -1,5 +1,5 @@
 -- What the grammars see of a token.
-use Rattle.std.specs.Prelude.{ℕ, Bool, if◌then◌else◌, codes, bytes_eq, List, [], ◌∷◌, map, Option, Some, None}
+use Rattle.std.specs.Prelude.{ℕ, Bool, cond, codes, bytes_eq, List, [], ◌∷◌, map, Option, Some, None}
 use Rattle.std.specs.List.{list_any}
 use Rattle.jl_token.specs.declared.token.Token.{Token}
 use Rattle.jl_token.specs.declared.token.TokenKind.{TokenKind}
@@ -23,27 +23,27 @@ is_unruled w = list_any (λ u. bytes_eq u w) unruled_words
 -- the reserved words that begin a form
 abbrev pub opening : List ℕ → Option Word
 opening w =
-    if bytes_eq w (codes "abstract") then Some word.Abstract
-    else if bytes_eq w (codes "struct") then Some word.Struct
-    else if bytes_eq w (codes "function") then Some word.Function
-    else if bytes_eq w (codes "if") then Some word.If
-    else if bytes_eq w (codes "begin") then Some word.Begin
-    else if bytes_eq w (codes "quote") then Some word.Quote
-    else if bytes_eq w (codes "return") then Some word.Return
-    else if bytes_eq w (codes "where") then Some word.Where
-    else None
+    cond (bytes_eq w (codes "abstract")) (Some word.Abstract) (
+    cond (bytes_eq w (codes "struct")) (Some word.Struct) (
+    cond (bytes_eq w (codes "function")) (Some word.Function) (
+    cond (bytes_eq w (codes "if")) (Some word.If) (
+    cond (bytes_eq w (codes "begin")) (Some word.Begin) (
+    cond (bytes_eq w (codes "quote")) (Some word.Quote) (
+    cond (bytes_eq w (codes "return")) (Some word.Return) (
+    cond (bytes_eq w (codes "where")) (Some word.Where) (
+    None))))))))
 
 -- the other reserved words with a rule
 abbrev pub closing : List ℕ → Option Word
 closing w =
-    if bytes_eq w (codes "end") then Some word.End
-    else if bytes_eq w (codes "elseif") then Some word.Elseif
-    else if bytes_eq w (codes "else") then Some word.Else
-    else if bytes_eq w (codes "true") then Some word.True
-    else if bytes_eq w (codes "false") then Some word.False
-    else if bytes_eq w (codes "nothing") then Some word.Nothing
-    else if bytes_eq w (codes "isa") then Some word.Isa
-    else None
+    cond (bytes_eq w (codes "end")) (Some word.End) (
+    cond (bytes_eq w (codes "elseif")) (Some word.Elseif) (
+    cond (bytes_eq w (codes "else")) (Some word.Else) (
+    cond (bytes_eq w (codes "true")) (Some word.True) (
+    cond (bytes_eq w (codes "false")) (Some word.False) (
+    cond (bytes_eq w (codes "nothing")) (Some word.Nothing) (
+    cond (bytes_eq w (codes "isa")) (Some word.Isa) (
+    None)))))))
 
 -- the first of two answers that is one
 abbrev pub first_of : Option Word → Option Word → Option Word
@@ -52,7 +52,7 @@ first_of None other = other
 
 -- the reserved word that these bytes are
 abbrev pub reserved : List ℕ → Option Word
-reserved w = first_of (opening w) (first_of (closing w) (if is_unruled w then Some word.Unruled else None))
+reserved w = first_of (opening w) (first_of (closing w) (cond (is_unruled w) (Some word.Unruled) None))
 
 -- a reserved word, or the name of these bytes
 abbrev pub named_as : Option Word → List ℕ → Sign

@@ -1,5 +1,5 @@
 -- What reading a type answers. Between the brackets of a type a newline is no token.
-use Rattle.std.specs.Prelude.{◌≡◌, ℕ, zero, suc, ◌+◌, ◌-◌, ◌≤◌, ◌<◌, Bool, true, false, if◌then◌else◌, List, [], ◌∷◌, ◌++◌, length, Option, Some, None, Result, Ok, Err}
+use Rattle.std.specs.Prelude.{◌≡◌, ℕ, zero, suc, ◌+◌, ◌-◌, ◌≤◌, ◌<◌, Bool, true, false, cond, List, [], ◌∷◌, ◌++◌, length, Option, Some, None, Result, Ok, Err}
 use Rattle.jl_token.specs.declared.token.Operator.TheVariants as op
 use Rattle.jl_token.specs.declared.token.Token.{Token}
 use Rattle.jl_token.specs.declared.token.TokenKind.TheVariants as kind
@@ -33,7 +33,7 @@ is_passed (suc n) s = false
 
 -- what of a token the grammar sees
 abbrev pub shown : ℕ → Lexeme → List Lexeme
-shown n l = if is_passed n l.sign then [] else l ∷ []
+shown n l = cond (is_passed n l.sign) [] (l ∷ [])
 
 -- what of a text the grammar sees, where so many brackets are open before it
 abbrev pub bare : ℕ → List Lexeme → List Lexeme

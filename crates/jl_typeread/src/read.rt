@@ -121,6 +121,5 @@ pub fn read_type(
 
 /// A text of a type within the limit of depth is no other type.
 pub fn one_type()
-    ensures { (t u : TypeText) (ts : List Lexeme)
-        → IsType t ts → IsType u ts → type_depth t ≤ depth_limit → t ≡ u }
+    ensures { (t u : TypeText) (ts : List Lexeme) → IsType t ts → IsType u ts → type_depth t ≤ depth_limit → t ≡ u }
 {}

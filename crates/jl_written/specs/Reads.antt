@@ -2,7 +2,7 @@
 -- Types). A type, an argument and a variable are read from left to right, the variables of a `where` before the type in front
 -- of it, which names them: each gives what it means, and what is known behind it. A variable has the number of those that were
 -- read before it; `TextOrder` gives it the one that it has in the text.
-use Rattle.std.specs.Prelude.{ℕ, Bool, true, false, ◌||◌, ◌&&◌, if◌then◌else◌, nat_lt, List, [], ◌∷◌, ◌++◌, length, drop, Option, Some, None, slice_get}
+use Rattle.std.specs.Prelude.{ℕ, Bool, true, false, ◌||◌, ◌&&◌, cond, nat_lt, List, [], ◌∷◌, ◌++◌, length, drop, Option, Some, None, slice_get}
 use Rattle.jl_model.specs.declared.ty.Ty.{Ty, out-Ty}
 use Rattle.jl_model.specs.declared.ty.Ty.TheOpen.{Ty-F}
 use Rattle.jl_model.specs.declared.ty.Ty.TheOpen as L
@@ -72,7 +72,7 @@ unknown at r = record { ty = W.Any; after = record (note at kind.UnknownType r) 
 
 -- a variable of the signature that no body may use
 abbrev pub used : ℕ → Bool → Reading → Reading
-used at usable r = if usable then r else note at kind.StaticParameterUse r
+used at usable r = cond usable r (note at kind.StaticParameterUse r)
 
 -- a variable is brought at a place that is `inside` an argument of a nominal type, or not
 abbrev pub brought : Bool → Reading → Reading
@@ -163,7 +163,7 @@ bound_name at name b vars r o = record {
 
 -- a built-in name is bound
 abbrev pub guarded : ℕ → List ℕ → Reading → Reading
-guarded at name r = if is_among name builtin_names then note at kind.NameClash r else r
+guarded at name r = cond (is_among name builtin_names) (note at kind.NameClash r) r
 
 abbrev pub bind : VarReads → List TypeVar → Bool → Reading → Scoped
 bind v vars inside r =
@@ -183,7 +183,7 @@ where_at (v ∷ vs) inside r = brought inside r
 -- In the text, the variables that were read from `start` to `middle` come after those that were read from `middle` until now.
 abbrev pub swapped : ℕ → ℕ → Reading → Reading
 swapped start middle r =
-    if nat_lt start middle && nat_lt middle (length r.vars) then record r { swaps = r.swaps ++ record { start = start; middle = middle; stop = length r.vars } ∷ [] } else r
+    cond (nat_lt start middle && nat_lt middle (length r.vars)) (record r { swaps = r.swaps ++ record { start = start; middle = middle; stop = length r.vars } ∷ [] }) r
 
 -- a type with the variables of its `where`, which end with it, and come after those of the type
 abbrev pub within : TypeReads → List VarReads → List TypeVar → Bool → Reading → Typed

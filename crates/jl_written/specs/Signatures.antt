@@ -1,5 +1,5 @@
 -- What the types of a signature, of a body and of a declaration mean.
-use Rattle.std.specs.Prelude.{ℕ, ◌+◌, ◌^◌, ◌≤◌, Bool, false, if◌then◌else◌, nat_lt, List, [], ◌∷◌, map, length, Option, Some, None, slice_index_or, slice_set}
+use Rattle.std.specs.Prelude.{ℕ, ◌+◌, ◌^◌, ◌≤◌, Bool, false, cond, nat_lt, List, [], ◌∷◌, map, length, Option, Some, None, get_or, slice_set}
 use Rattle.jl_model.specs.declared.ty.Ty.{Ty}
 use Rattle.jl_model.specs.declared.ty.Ty.TheVariants as W
 use Rattle.jl_model.specs.declared.ty.Bound.{Bound}
@@ -35,10 +35,10 @@ all_bound ds vs vars r = bind_all (map (var_reads ds) vs) vars false r
 -- The step for the declared bounds, where `below` tells whether a declared upper bound is below a bound: at each place in
 -- text order, the declared bound becomes the upper bound of the variable where it is below that.
 abbrev pub with_high : List Bound → ℕ → Ty → List Bound
-with_high bs v t = slice_set bs v (record { low = (slice_index_or bs v free).low; high = t })
+with_high bs v t = slice_set bs v (record { low = (get_or bs v free).low; high = t })
 
 abbrev pub adopted_at : (Ty → Ty → Bool) → Place → List Bound → List Bound
-adopted_at below p bs = if nat_lt p.var (length bs) then (if below p.high (slice_index_or bs p.var free).high then with_high bs p.var p.high else bs) else bs
+adopted_at below p bs = cond (nat_lt p.var (length bs)) (cond (below p.high (get_or bs p.var free).high) (with_high bs p.var p.high) bs) bs
 
 abbrev pub adopted : (Ty → Ty → Bool) → List Place → List Bound → List Bound
 adopted below [] bs = bs

@@ -1,6 +1,6 @@
 -- The order of the variables of a signature, or of a type in a body: that of the text. A `where` is read before the type in front of
 -- it, so its variables change places with those of that type.
-use Rattle.std.specs.Prelude.{ℕ, suc, ◌+◌, ◌-◌, Bool, ◌&&◌, not, if◌then◌else◌, nat_lt, List, [], ◌∷◌, map, length, slice_index_or, slice_set}
+use Rattle.std.specs.Prelude.{ℕ, suc, ◌+◌, ◌-◌, Bool, ◌&&◌, not, cond, nat_lt, List, [], ◌∷◌, map, length, get_or, slice_set}
 use Rattle.jl_model.specs.declared.ty.Ty.{Ty}
 use Rattle.jl_model.specs.declared.ty.Ty.TheVariants as W
 use Rattle.jl_model.specs.declared.ty.Bound.{Bound}
@@ -13,10 +13,9 @@ use Rattle.jl_written.specs.Reads.{Types, Typed}
 -- where the variable at this place stands after a swap
 abbrev pub moved : Swap → ℕ → ℕ
 moved s p =
-    if nat_lt p s.start then p
-    else if nat_lt p s.middle then s.stop - (s.middle - p)
-    else if nat_lt p s.stop then p - (s.middle - s.start)
-    else p
+    cond (nat_lt p s.start) p
+    (cond (nat_lt p s.middle) (s.stop - (s.middle - p))
+    (cond (nat_lt p s.stop) (p - (s.middle - s.start)) p))
 
 -- a swap concerns the variables that were read from its start to its stop
 abbrev pub is_in : Swap → ℕ → Bool
@@ -25,7 +24,7 @@ is_in s v = not (nat_lt v s.start) && nat_lt v s.stop
 -- the places of the variables from v on after a swap
 abbrev pub moved_from : Swap → ℕ → List ℕ → List ℕ
 moved_from s v [] = []
-moved_from s v (p ∷ ps) = (if is_in s v then moved s p else p) ∷ moved_from s (v + 1) ps
+moved_from s v (p ∷ ps) = cond (is_in s v) (moved s p) p ∷ moved_from s (v + 1) ps
 
 abbrev pub all_moved : List Swap → List ℕ → List ℕ
 all_moved [] ps = ps
@@ -42,7 +41,7 @@ text_places r = all_moved r.swaps (counted_from 0 r.vars)
 
 -- a variable that is none of these, as a static parameter, keeps its number
 abbrev pub number_in : List ℕ → ℕ → ℕ
-number_in ps v = slice_index_or ps v v
+number_in ps v = get_or ps v v
 
 abbrev pub renumbered : List ℕ → Ty → Ty
 renumbered ps = put (λ v. W.Var (number_in ps v))
