@@ -1,6 +1,6 @@
 //! Names with numbers, each name once.
 
-ghost use Rattle.std.specs.Prelude.{◌≡◌, ◌≤◌, ◌^◌, [], ◌+◌, ◌-◌, take, length, IfOk, OnOk, OnErr, None};
+ghost use Rattle.std.specs.Prelude.{◌≡◌, ◌≤◌, ◌^◌, [], ◌+◌, ◌-◌, take, length, IfOk, OnOk, OnErr};
 ghost use Rattle.jl_names.specs.Numbers.{number_in, with_number, renumbered, with_newer};
 
 use indexmap::IndexMap;
@@ -54,17 +54,6 @@ impl NameMap {
         self.numbers.get(name).copied()
     }
 
-    /// One more name, which has no number yet, with its number.
-    fn append(&mut self, name: &[u8], number: u32) -> Result<(), AllocError>
-        requires { number_in self.old name.now ≡ None }
-        ensures added { OnOk result (self.new ≡ with_number self.old (name.now, number)) }
-        ensures refused { OnErr result (self.new ≡ self.old) }
-    {
-        let key = Vec::from_slice(self.alloc, name)?;
-        self.numbers.insert(key, number)?;
-        Ok(())
-    }
-
     /// One more name with its number; a name that has one keeps it.
     pub fn add(&mut self, name: &[u8], number: u32) -> Result<(), AllocError>
         ensures added { OnOk result (self.new ≡ with_number self.old (name.now, number)) }
@@ -73,7 +62,9 @@ impl NameMap {
         if self.find(name).is_some() {
             return Ok(());
         }
-        self.append(name, number)
+        let key = Vec::from_slice(self.alloc, name)?;
+        self.numbers.insert(key, number)?;
+        Ok(())
     }
 
     /// Another number for a name. A name that has none stays without.
@@ -91,7 +82,7 @@ impl NameMap {
         ensures refused { OnErr result (self.new ≡ self.old) }
     {
         if self.find(name).is_none() {
-            return self.append(name, number);
+            return self.add(name, number);
         }
         self.renumber(name, number);
         Ok(())

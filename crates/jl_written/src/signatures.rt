@@ -3,7 +3,7 @@
 ghost use Rattle.std.specs.Prelude.{◌≡◌, ◌+◌, OnOk, IfOk, Bool, false};
 ghost use Rattle.jl_model.specs.declared.ty.Ty.{Ty};
 ghost use Rattle.jl_written.specs.Reads.{typed, unread, type_reads};
-ghost use Rattle.jl_written.specs.Signatures.{adopted_at, adopted, shifted, body_type, constructor_type};
+ghost use Rattle.jl_written.specs.Signatures.{adopted_at, adopted, width_of, body_type, constructor_type};
 
 use crate::notes::copy_bounds;
 use crate::reading::{Place, Reading};
@@ -78,29 +78,28 @@ pub fn adopted<O: Order>(
     Ok(bounds)
 }
 
-/// What a type in a body means, in the order in which its variables are read, where the static parameters of the method have the
-/// numbers from `width` on.
-fn read_behind(
+/// How many variables a type in a body brings.
+fn width_of(
     alloc: Global,
     decls: &FirstDecls<'_>,
     statics: &TypeVars,
-    width: usize,
     text: &TypeText,
-) -> Result<(Ty, Reading), AllocError>
-    ensures { IfOk result (λ r. typed r.0 r.1 ≡ type_reads decls.now text.now (shifted width statics.now) false unread) }
+) -> Result<usize, AllocError>
+    ensures { IfOk result (λ n. n ≡ width_of decls.now statics.now text.now) }
 {
     let around = Around {
         decls,
-        statics: Statics::behind(statics, width)?,
+        statics: Statics::behind(statics, 0)?,
     };
     let mut vars = TypeVars::new(alloc);
     let mut state = unread(alloc);
     let ty = read_type(alloc, &around, &mut vars, &mut state, text, false)?;
-    Ok((ty, state))
+    drop(ty);
+    Ok(state.vars.len())
 }
 
 /// What a type in a body means, with its variables in text order, and what is known behind it. A static parameter of the
-/// method has the number of the type's own variables, and its own after that. So the text is read again where it has both.
+/// method has the number of the type's own variables, and its own after that.
 pub fn body_type(
     alloc: Global,
     decls: &FirstDecls<'_>,
@@ -109,15 +108,14 @@ pub fn body_type(
 ) -> Result<(Ty, Reading), AllocError>
     ensures { IfOk result (λ r. typed r.0 r.1 ≡ body_type decls.now statics.now text.now) }
 {
-    let first = read_behind(alloc, decls, statics, 0, text)?;
-    let width = first.1.vars.len();
-    let read = if width == 0 || statics.len() == 0 {
-        first
-    } else {
-        drop(first);
-        read_behind(alloc, decls, statics, width, text)?
+    let width = width_of(alloc, decls, statics, text)?;
+    let around = Around {
+        decls,
+        statics: Statics::behind(statics, width)?,
     };
-    let (ty, mut state) = read;
+    let mut vars = TypeVars::new(alloc);
+    let mut state = unread(alloc);
+    let ty = read_type(alloc, &around, &mut vars, &mut state, text, false)?;
     let ty = order_type(alloc, &mut state, ty)?;
     Ok((ty, state))
 }
