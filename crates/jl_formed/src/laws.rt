@@ -3,7 +3,7 @@
 ghost use Rattle.std.specs.Prelude.{Bool, false, ℕ, List, [], ◌∷◌, ◌++◌, ◌≡◌, None, Ok};
 ghost use Rattle.jl_token.specs.declared.token.Token.{Token};
 ghost use Rattle.jl_token.specs.Grammar.{ReadsSource};
-ghost use Rattle.jl_typeread.specs.declared.sign.Sign.TheVariants.{End};
+ghost use Rattle.jl_typeread.specs.declared.terminal.Terminal.TheVariants.{End};
 ghost use Rattle.jl_typeread.specs.Lexemes.{lexemes};
 ghost use Rattle.jl_grammar.specs.declared.tree.Expr.{Expr};
 ghost use Rattle.jl_grammar.specs.declared.tree.Script.{Script};

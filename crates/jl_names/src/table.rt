@@ -1,14 +1,14 @@
 //! Names with numbers, each name once.
 
 ghost use Rattle.std.specs.Prelude.{◌≡◌, ◌≤◌, ◌^◌, [], ◌+◌, ◌-◌, take, length, IfOk, OnOk, OnErr, None};
-ghost use Rattle.jl_names.specs.Numbers.{number_in, with_number, renumbered, with_newer};
+ghost use Rattle.jl_names.specs.Numbers.{number_in, with_number, renumber, with_newer};
 
 use indexmap::IndexMap;
 use std::alloc::{AllocError, Global};
 use std::marker::Model;
 
 /// The number of a place. The one error, which stands for want of memory, comes exactly from 2^32 on.
-pub(crate) fn small(place: usize) -> Result<u32, AllocError>
+pub(crate) fn to_u32(place: usize) -> Result<u32, AllocError>
     ensures number { IfOk result (λ n. n ≡ place) }
     ensures limit { OnErr result (2 ^ 32 ≤ place) }
 {
@@ -78,7 +78,7 @@ impl NameMap {
 
     /// Another number for a name. A name that has none stays without.
     pub fn renumber(&mut self, name: &[u8], number: u32)
-        ensures { self.new ≡ renumbered self.old (name.now, number) }
+        ensures { self.new ≡ renumber self.old (name.now, number) }
     {
         if let Some(old) = self.numbers.get_mut(name) {
             *old = number;

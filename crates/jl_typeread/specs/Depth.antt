@@ -98,19 +98,19 @@ around_both f (Built x d) TooDeep = TooDeep
 around_both f TooDeep y = TooDeep
 
 -- a tree of the same depth
-abbrev pub mapped : {X Y : Type 0} → (X → Y) → Deep X → Deep Y
-mapped f (Built x d) = Built (f x) d
-mapped f TooDeep = TooDeep
+abbrev pub map_deep : {X Y : Type 0} → (X → Y) → Deep X → Deep Y
+map_deep f (Built x d) = Built (f x) d
+map_deep f TooDeep = TooDeep
 
 -- two trees side by side
-abbrev pub joined : {X Y Z : Type 0} → (X → Y → Z) → Deep X → Deep Y → Deep Z
-joined f (Built x d) (Built y e) = Built (f x y) (max d e)
-joined f (Built x d) TooDeep = TooDeep
-joined f TooDeep y = TooDeep
+abbrev pub join_deep : {X Y Z : Type 0} → (X → Y → Z) → Deep X → Deep Y → Deep Z
+join_deep f (Built x d) (Built y e) = Built (f x y) (max d e)
+join_deep f (Built x d) TooDeep = TooDeep
+join_deep f TooDeep y = TooDeep
 
 -- a name alone
-abbrev pub plain : ℕ → List ℕ → Deep TypeText
-plain at name = Built (T.Name at name) 1
+abbrev pub plain_type : ℕ → List ℕ → Deep TypeText
+plain_type at name = Built (T.Name at name) 1
 
 -- no arguments
 abbrev pub no_arguments : Deep (List ArgText)
@@ -128,15 +128,15 @@ argument (mark.Above at) t = A.Above at t
 
 -- the arguments and one more
 abbrev pub with_argument : Deep (List ArgText) → Mark → Deep TypeText → Deep (List ArgText)
-with_argument arguments m t = joined (λ xs x. xs ++ argument m x ∷ []) arguments t
+with_argument arguments m t = join_deep (λ xs x. xs ++ argument m x ∷ []) arguments t
 
 -- the variables and one more
 abbrev pub with_variable : Deep (List VarText) → Deep VarText → Deep (List VarText)
-with_variable variables v = joined (λ xs x. xs ++ x ∷ []) variables v
+with_variable variables v = join_deep (λ xs x. xs ++ x ∷ []) variables v
 
 -- a name with its arguments
-abbrev pub applied : ℕ → List ℕ → Deep (List ArgText) → Deep TypeText
-applied at name arguments = around (W.Applied at name) arguments
+abbrev pub applied_type : ℕ → List ℕ → Deep (List ArgText) → Deep TypeText
+applied_type at name arguments = around (W.Applied at name) arguments
 
 -- a type in parentheses, with its variables
 abbrev pub paren : ℕ → Deep TypeText → Deep (List VarText) → Deep TypeText
@@ -144,12 +144,12 @@ paren at t variables = around_both (W.Paren at) t variables
 
 -- a variable with an upper bound
 abbrev pub below_bound : ℕ → List ℕ → Deep TypeText → Deep VarText
-below_bound at name t = mapped (V.Below at name) t
+below_bound at name t = map_deep (V.Below at name) t
 
 -- a variable with a lower bound
 abbrev pub above_bound : ℕ → List ℕ → Deep TypeText → Deep VarText
-above_bound at name t = mapped (V.Above at name) t
+above_bound at name t = map_deep (V.Above at name) t
 
 -- a variable with both bounds
 abbrev pub between_bound : Deep TypeText → ℕ → List ℕ → Deep TypeText → Deep VarText
-between_bound low at name high = joined (λ l h. V.Between l at name h) low high
+between_bound low at name high = join_deep (λ l h. V.Between l at name h) low high

@@ -47,5 +47,5 @@ var_or None n = n
 var_or (Some v) n = Variable v.number v.usable
 
 -- a visible type variable hides a declared type of its name
-abbrev pub named : List Decl → List TypeVar → List ℕ → Named
-named ds vars name = var_or (var_of vars name) (word_of ds name)
+abbrev pub meaning_of : List Decl → List TypeVar → List ℕ → Named
+meaning_of ds vars name = var_or (var_of vars name) (word_of ds name)
