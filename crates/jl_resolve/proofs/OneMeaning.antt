@@ -1,5 +1,5 @@
 -- A script comes to one program and one first fault.
-use Rattle.std.proofs.Common.{◌≡◌, ◌∙◌, sym, ap, subst, ℕ, List, take, Option, Some, None}
+use Rattle.std.proofs.Common.{◌≡◌, ◌∙◌, sym, ap, subst, ℕ, take, Option, Some, None}
 use Rattle.jl_program.specs.declared.tree.Program.{Program}
 use Rattle.jl_grammar.specs.declared.tree.Script.{Script}
 use Rattle.jl_written.specs.declared.fault.Fault.{Fault}

@@ -1,5 +1,5 @@
 -- The program that a script means, and its first static fault.
-use Rattle.std.specs.Prelude.{ℕ, ◌≡◌, List, take, Option, Some, None}
+use Rattle.std.specs.Prelude.{ℕ, ◌≡◌, take, Option, Some, None}
 use Rattle.jl_program.specs.declared.tree.Program.{Program}
 use Rattle.jl_grammar.specs.declared.tree.Script.{Script}
 use Rattle.jl_written.specs.declared.fault.StaticKind.{StaticKind}
