@@ -94,7 +94,7 @@ fn step_bracket(
     told: NextToken,
     mut closing: Stack<Closing>,
 ) -> Result<(NextToken, Stack<Closing>), AllocError>
-    ensures { IfOk result (λ r. r ≡ (answer_of mate closing, closing_by mate next_of closing)) }
+    ensures { IfOk result (λ r. r ≡ (answer_of mate closing, closing_by mate told closing)) }
 {
     match mate {
         Mate::Opens(shape) => open_bracket(alloc, shape, closing),
@@ -279,11 +279,11 @@ fn base_call(is_call: bool, name: &[u8]) -> Opening
 }
 
 /// What this token begins behind `Base.`.
-fn base_opening(terminal: &Terminal, is_call: bool) -> Opening
-    ensures { (ss : List Terminal) → is_call ≡ is_call ss → result ≡ base_opening (terminal.now ∷ ss) }
+fn base_opening(terminal: &Terminal, calls: bool) -> Opening
+    ensures { (ss : List Terminal) → calls ≡ is_call ss → result ≡ base_opening (terminal.now ∷ ss) }
 {
     match terminal {
-        Terminal::Name(name) => base_call(is_call, name.as_slice()),
+        Terminal::Name(name) => base_call(calls, name.as_slice()),
         Terminal::Operator(Operator::Colon) => Opening::Call,
         _ => Opening::Plain,
     }
@@ -387,7 +387,7 @@ fn nearer(terminal: &Terminal, near: Near, over: NextToken) -> Near
 
 /// What is told by the token behind a matching bracket.
 fn ahead(begins_head: bool, begins_left: bool) -> Ahead
-    ensures { result ≡ (if is_head_start then Ahead.Method else if is_left_start then Ahead.Sub else Ahead.Nothing) }
+    ensures { result ≡ (if begins_head then Ahead.Method else if begins_left then Ahead.Sub else Ahead.Nothing) }
 {
     if begins_head {
         return Ahead::Method;

@@ -99,7 +99,7 @@ fn begin_stmt(
     place: u32,
     reading: &mut Reading,
 ) -> Result<Option<Point>, AllocError>
-    ensures { IfOk result (λ p. state_at p reading.new ≡ begin_stmt is_binding begin_return marks name place reading.old.stack reading.old.script) }
+    ensures { IfOk result (λ p. state_at p reading.new ≡ begin_stmt is_binding returns marks name place reading.old.stack reading.old.script) }
 {
     if is_binding {
         return Ok(Some(Point::Bound(name_at(place, name))));

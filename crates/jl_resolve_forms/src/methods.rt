@@ -286,7 +286,7 @@ fn check_name(
     signed: &Signed,
 )
     ensures { state.new
-        ≡ check_name known.now (place_of_callee callee.now) callee.now function method_signature.now state.old }
+        ≡ check_name known.now (place_of_callee callee.now) callee.now function signed.now state.old }
 {
     let at = place_of_callee(callee);
     note_if(state, at, if_unknown(function));
@@ -306,7 +306,7 @@ fn open_body(
     signed: Signed,
     params: &[Param],
 ) -> Result<Opening, AllocError>
-    ensures { Resolves result state.new (open_body function types method_signature params.now state.old) }
+    ensures { Resolves result state.new (open_body function types signed params.now state.old) }
 {
     let statics = static_parameters(alloc, &signed.sig, signed.vars.as_slice())?;
     let mut scope = Scope {
