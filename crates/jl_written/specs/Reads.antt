@@ -120,7 +120,7 @@ bounded b r = record { bound = b; after = r }
 pub record VarReads : Type 0 where
   pub at : ℕ
   pub name : List ℕ
-  pub read_bounds : List TypeVar → Bool → Reading → Bounded
+  pub bounds : List TypeVar → Bool → Reading → Bounded
 
 -- the arguments of a nominal type, with their declared bounds: all in an invariant place
 abbrev pub read_arguments : List Bound → List ArgReads → List TypeVar → Bool → Reading → Types
