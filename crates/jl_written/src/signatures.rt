@@ -3,7 +3,7 @@
 ghost use Rattle.std.specs.Prelude.{◌≡◌, ◌+◌, OnOk, IfOk, Bool, false};
 ghost use Rattle.jl_model.specs.declared.ty.Ty.{Ty};
 ghost use Rattle.jl_written.specs.Reads.{typed, no_reading, type_reads};
-ghost use Rattle.jl_written.specs.Signatures.{adopt_bound, adopt_bounds, shifted, body_type, constructor_type};
+ghost use Rattle.jl_written.specs.Signatures.{adopt_bound, adopt_bounds, shifted, width_of, body_type, constructor_type};
 
 use crate::notes::copy_bounds;
 use crate::reading::{Place, Reading};
@@ -99,8 +99,31 @@ fn read_behind(
     Ok((ty, state))
 }
 
+/// The same, where the static parameters have the numbers behind those of the type's own variables. The text is read again only
+/// where it has both.
+fn read_whole(
+    alloc: Global,
+    decls: &FirstDecls<'_>,
+    statics: &TypeVars,
+    text: &TypeText,
+) -> Result<(Ty, Reading), AllocError>
+    ensures { IfOk result (λ r. typed r.0 r.1 ≡ type_reads decls.now text.now (shifted (width_of decls.now statics.now text.now) statics.now) false no_reading) }
+{
+    let first = read_behind(alloc, decls, statics, 0, text)?;
+    let width = first.1.vars.len();
+    if width == 0 {
+        return Ok(first);
+    }
+    if statics.len() == 0 {
+        return Ok(first);
+    }
+    drop(first);
+    let read = read_behind(alloc, decls, statics, width, text)?;
+    Ok(read)
+}
+
 /// What a type in a body means, with its variables in text order, and what is known behind it. A static parameter of the
-/// method has the number of the type's own variables, and its own after that. So the text is read again where it has both.
+/// method has the number of the type's own variables, and its own after that.
 pub fn body_type(
     alloc: Global,
     decls: &FirstDecls<'_>,
@@ -109,15 +132,7 @@ pub fn body_type(
 ) -> Result<(Ty, Reading), AllocError>
     ensures { IfOk result (λ r. typed r.0 r.1 ≡ body_type decls.now statics.now text.now) }
 {
-    let first = read_behind(alloc, decls, statics, 0, text)?;
-    let width = first.1.vars.len();
-    let read = if width == 0 || statics.len() == 0 {
-        first
-    } else {
-        drop(first);
-        read_behind(alloc, decls, statics, width, text)?
-    };
-    let (ty, mut state) = read;
+    let (ty, mut state) = read_whole(alloc, decls, statics, text)?;
     let ty = order_type(alloc, &mut state, ty)?;
     Ok((ty, state))
 }
