@@ -2,7 +2,7 @@
 
 use crate::holds;
 use jl_declare::declarations::declarations;
-use jl_declare::known::known;
+use jl_declare::known::known_of;
 use jl_declare::state::Declarations;
 use jl_grammar::tree::{Item, Script};
 use jl_model::shared::SharedList;
@@ -138,7 +138,7 @@ fn sizes_known(known: Known) -> (usize, usize) {
 fn counts(alloc: Global, items: &[Item]) -> Result<(usize, usize), AllocError> {
     let Declarations { table, decls, .. } = declarations(alloc, items)?;
     drop(table);
-    let known = known(alloc, items, decls)?;
+    let known = known_of(alloc, items, decls)?;
     Ok(sizes_known(known))
 }
 

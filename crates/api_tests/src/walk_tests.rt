@@ -14,7 +14,7 @@ use jl_resolve_forms::judge::Judge;
 use jl_resolve_forms::known::Known;
 use jl_resolve_forms::known_decls::KnownDecls;
 use jl_resolve_walk::program::Resolved;
-use jl_resolve_walk::top::resolved;
+use jl_resolve_walk::top::resolve;
 use jl_written::fault::StaticKind;
 use jl_written::signatures::Order;
 use std::alloc::{AllocError, Global};
@@ -172,7 +172,7 @@ fn items(alloc: Global) -> Result<Vec<Item>, AllocError> {
 fn program(alloc: Global) -> Result<Resolved, AllocError> {
     let items = items(alloc)?;
     let known = known(alloc)?;
-    let program = resolved(alloc, &Lenient, &known, items.as_slice(), None);
+    let program = resolve(alloc, &Lenient, &known, items.as_slice(), None);
     drop(known);
     drop(items);
     program

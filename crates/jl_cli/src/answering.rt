@@ -70,7 +70,7 @@ pub(crate) fn script(alloc: Global, bytes: &[u8]) -> Result<Result<Script, Bytes
 }
 
 /// What a run of a program comes to.
-fn ran<R: Threads + Wait + Sync, G: Gate>(
+fn run_source<R: Threads + Wait + Sync, G: Gate>(
     rt: &R,
     alloc: Global,
     ready: &Ready,
@@ -160,7 +160,7 @@ fn owed_for_run<R: Threads + Wait + Sync, G: Gate>(
 {
     match program(alloc, script) {
         Ok(ready) => {
-            let due = ran(rt, alloc, &ready, setup, telling, gate, ops);
+            let due = run_source(rt, alloc, &ready, setup, telling, gate, ops);
             drop(ready);
             let due = due?;
             Ok(due)
@@ -195,7 +195,7 @@ fn owed_for<R: Threads + Wait + Sync, G: Gate>(
 }
 
 /// What work on these bytes comes to.
-fn owed<R: Threads + Wait + Sync, G: Gate>(
+fn owe<R: Threads + Wait + Sync, G: Gate>(
     rt: &R,
     alloc: Global,
     work: Work,
@@ -230,7 +230,7 @@ fn generated<R: Threads + Wait + Sync, G: Gate>(
     ensures { IfOk result (λ due. IsOwed (W.Run setup (T.Summary n)) (script_text n) due.status due.history due.text) }
 {
     let text = script_of(alloc, n)?;
-    owed(
+    owe(
         rt,
         alloc,
         Work::Run(setup, Telling::Summary(n)),
@@ -256,13 +256,13 @@ pub(crate) fn answer<R: Threads + Wait + Sync, G: Gate>(
     match command {
         Command::Run(threads, fuel) => {
             let work = Work::Run(Setup::with_whole_cache(threads, fuel), Telling::Text);
-            owed(rt, alloc, work, bytes, gate, ops)
+            owe(rt, alloc, work, bytes, gate, ops)
         }
         Command::Trace(threads, fuel) => {
             let work = Work::Run(Setup::with_whole_cache(threads, fuel), Telling::Trace);
-            owed(rt, alloc, work, bytes, gate, ops)
+            owe(rt, alloc, work, bytes, gate, ops)
         }
-        Command::Check => owed(rt, alloc, Work::Check, bytes, gate, ops),
+        Command::Check => owe(rt, alloc, Work::Check, bytes, gate, ops),
         Command::Replay => replayed(alloc, bytes, ops),
         Command::Gen(n, threads, fuel) => {
             let setup = Setup::with_whole_cache(threads, fuel);

@@ -18,8 +18,8 @@ use Rattle.jl_declare.specs.declared.judged.Judged.TheVariants as J
 use Rattle.jl_declare.specs.declared.state.Declarations.{Declarations}
 use Rattle.jl_declare.specs.Declaration.{declaration}
 use Rattle.jl_names.specs.Numbers.{names_of}
-use Rattle.jl_declare.specs.Judgement.{IsJudged, kept, refused, IsAnswer, kept_in, shown, refusal_at}
-use Rattle.jl_declare.specs.Declarations.{Declaring, declaring_of, no_declaration, with_fault, named_fault, text_fault, IsDeclared, DeclaresOne, Declares}
+use Rattle.jl_declare.specs.Judgement.{IsJudged, kept, refused, IsAnswer, kept_in, keep_shown, refusal_at}
+use Rattle.jl_declare.specs.Declarations.{Declaring, declaring_of, no_declaration, with_fault, name_fault, text_fault, IsDeclared, DeclaresOne, Declares}
 use Rattle.jl_declare.proofs.Unknown.{first_some, declaration_named}
 
 -- all declarations are allowed
@@ -54,13 +54,13 @@ one_allowed k h fields st new x n =
     let j = x.0 in
     let e = x.2 in
     let p = with_none (text_fault h.name r st.fault) (refusal_at h.name.at j) (sym (ap (λ (z : Declaring). z.fault) e) ∙ n) in
-    let q = with_none (with_fault st.fault (named_fault h.name.at h.name.bytes)) r.reading.fault p.0 in
-    let s = with_none st.fault (named_fault h.name.at h.name.bytes) q.0 in (
+    let q = with_none (with_fault st.fault (name_fault h.name.at h.name.bytes)) r.reading.fault p.0 in
+    let s = with_none st.fault (name_fault h.name.at h.name.bytes) q.0 in (
       s.0,
       λ all.
           let one = answer_one (is_among r.decl.name (names_of st.decls)) r.reading.unknown r.whole (nat_eq st.allowed (length st.decls)) h.name.at st.decls r.decl j x.1
           (declaration_named st.decls k h fields q.1) (same_true st.allowed (length st.decls) all) p.1 in
-          ap (λ (z : Declaring). z.allowed) e ∙ ap (λ m. st.allowed + m) one ∙ ap (λ m. m + 1) all ∙ sym (length-append st.decls (shown j r.decl ∷ [])) ∙ sym (ap (λ (z : Declaring). length z.decls) e),
+          ap (λ (z : Declaring). z.allowed) e ∙ ap (λ m. st.allowed + m) one ∙ ap (λ m. m + 1) all ∙ sym (length-append st.decls (keep_shown j r.decl ∷ [])) ∙ sym (ap (λ (z : Declaring). length z.decls) e),
     )
 
 item_allowed : (x : Item) (st new : Declaring) → DeclaresOne x st new → new.fault ≡ None → (st.fault ≡ None) × (AllAllowed st → AllAllowed new)

@@ -17,10 +17,10 @@ use Rattle.jl_declare.specs.declared.judged.Judged.TheVariants as J
 use Rattle.jl_declare.specs.declared.read.ReadDecl.{ReadDecl}
 use Rattle.jl_declare.specs.Declaration.{declaration}
 use Rattle.jl_names.specs.Numbers.{names_of}
-use Rattle.jl_declare.specs.Judgement.{IsJudged, kept, refused, told, IsAnswer}
-use Rattle.jl_declare.specs.Declarations.{Declaring, no_declaration, text_fault, answered, IsJudgement, IsDeclared, DeclaresOne, Declares}
+use Rattle.jl_declare.specs.Judgement.{IsJudged, kept, refused, tell_alone, IsAnswer}
+use Rattle.jl_declare.specs.Declarations.{Declaring, no_declaration, text_fault, add_answer, IsJudgement, IsDeclared, DeclaresOne, Declares}
 use Rattle.jl_declare.proofs.Owned.{own_variables}
-use Rattle.jl_declare.proofs.StepLemmas.{told_none}
+use Rattle.jl_declare.proofs.StepLemmas.{tell_alone_none}
 use Rattle.jl_declare.proofs.OneAnswer.{kept_ready, judged_same}
 
 -- no more are allowed than there are, and where all are, they are valid
@@ -33,12 +33,12 @@ same_length m n h = grind (arith, h)
 
 -- ONE ANSWER
 one_answer : (st : Declaring) (r : ReadDecl) → Sound st → (i j : Judged) → IsJudgement st r i → IsJudgement st r j → i ≡ j
-one_answer st r s i j a b = go (told st.decls (nat_eq st.allowed (length st.decls)) r) refl a b
+one_answer st r s i j a b = go (tell_alone st.decls (nat_eq st.allowed (length st.decls)) r) refl a b
   where
-    go : (o : Option Judged) → told st.decls (nat_eq st.allowed (length st.decls)) r ≡ o → IsAnswer st.decls r.decl o i → IsAnswer st.decls r.decl o j → i ≡ j
+    go : (o : Option Judged) → tell_alone st.decls (nat_eq st.allowed (length st.decls)) r ≡ o → IsAnswer st.decls r.decl o i → IsAnswer st.decls r.decl o j → i ≡ j
     go (Some t) e p q = p ∙ sym q
     go None e p q =
-        let all = same_length st.allowed (length st.decls) (told_none st.decls (nat_eq st.allowed (length st.decls)) r e).1 in
+        let all = same_length st.allowed (length st.decls) (tell_alone_none st.decls (nat_eq st.allowed (length st.decls)) r e).1 in
         judged_same st.decls r.decl (s.valid all) i j p q
 
 -- A DECLARATION MORE
@@ -55,7 +55,7 @@ judged_is ds d e j (refused f l i r) h = let g : J.Refused l ≡ J.Kept e = h in
 
 -- what is kept was asked of the table, and is ready
 more_valid : (st : Declaring) (k : DeclKind) (h : Header) (fields : List FieldText) (e : Decl) → Sound st → IsJudgement st (declaration st.decls k h fields) (J.Kept e) → Declared (st.decls ++ e ∷ [])
-more_valid st k h fields e s a = go (told ds all r) refl a
+more_valid st k h fields e s a = go (tell_alone ds all r) refl a
   where
     ds : List Decl
     ds = st.decls
@@ -66,16 +66,16 @@ more_valid st k h fields e s a = go (told ds all r) refl a
     all : Bool
     all = nat_eq st.allowed (length ds)
 
-    go : (o : Option Judged) → told ds all r ≡ o → IsAnswer ds r.decl o (J.Kept e) → Declared (ds ++ e ∷ [])
+    go : (o : Option Judged) → tell_alone ds all r ≡ o → IsAnswer ds r.decl o (J.Kept e) → Declared (ds ++ e ∷ [])
     go (Some t) i p = absurd (never_kept (is_among r.decl.name (names_of ds)) r.reading.unknown r.whole all e (i ∙ ap (λ z. Some z) (sym p)))
     go None i p =
-        let n = told_none ds all r i in
+        let n = tell_alone_none ds all r i in
         let v = s.valid (same_length st.allowed (length ds) n.1) in
         let q = judged_is ds r.decl e (J.Kept e) p refl in
         added ds e v (kept_ready ds r.decl e v (own_variables ds v k h fields n.0) q.0 q.1)
 
 sound_answer : (st : Declaring) (k : DeclKind) (h : Header) (fields : List FieldText) (j : Judged) → Sound st → IsJudgement st (declaration st.decls k h fields) j
-    → (let r = declaration st.decls k h fields in Sound (answered h.name.at j r.decl st.decls st.allowed (text_fault h.name r st.fault)))
+    → (let r = declaration st.decls k h fields in Sound (add_answer h.name.at j r.decl st.decls st.allowed (text_fault h.name r st.fault)))
 sound_answer st k h fields (J.Kept e) s a =
     let l = length-append st.decls (e ∷ []) in
     let w = s.within in
@@ -96,7 +96,7 @@ declared_same : (k : DeclKind) (h : Header) (fields : List FieldText) (st m n : 
 declared_same k h fields st m n s x y =
     let r = declaration st.decls k h fields in
     let same = one_answer st r s x.0 y.0 x.1 y.1 in (
-      x.2 ∙ ap (λ j. answered h.name.at j r.decl st.decls st.allowed (text_fault h.name r st.fault)) same ∙ sym y.2,
+      x.2 ∙ ap (λ j. add_answer h.name.at j r.decl st.decls st.allowed (text_fault h.name r st.fault)) same ∙ sym y.2,
       subst Sound (sym x.2) (sound_answer st k h fields x.0 s x.1),
     )
 

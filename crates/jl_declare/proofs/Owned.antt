@@ -17,7 +17,7 @@ use Rattle.jl_grammar.specs.declared.tree.Field.{Field as FieldText}
 use Rattle.jl_grammar.specs.declared.tree.Header.{Header}
 use Rattle.jl_typeread.specs.declared.tree.TypeText.{TypeText}
 use Rattle.jl_typeread.specs.declared.tree.VarText.{VarText}
-use Rattle.jl_written.specs.Reads.{unread}
+use Rattle.jl_written.specs.Reads.{no_reading}
 use Rattle.jl_written.specs.Signatures.{all_bound, all_read, option_reads}
 use Rattle.jl_type_laws.specs.Carried.{vars_pass}
 use Rattle.jl_type_laws.proofs.CarryLemmas.{lt_true, all_join, all_flat}
@@ -71,13 +71,13 @@ module _ (ds : List Decl) (declared : Declared ds) (kind : DeclKind) (h : Header
 
   abbrev Tys : List Ty
   Tys =
-      let s = all_bound ds h.params [] unread in
+      let s = all_bound ds h.params [] no_reading in
       let p = option_reads ds h.parent s.vars s.after in
       (all_read (ds ++ Make s.after.vars p.ty ∷ []) Texts s.vars p.after).tys
 
   abbrev Term : Decl
   Term =
-      let s = all_bound ds h.params [] unread in
+      let s = all_bound ds h.params [] no_reading in
       record (Make s.after.vars (option_reads ds h.parent s.vars s.after).ty) { fields = fields_of fields Tys }
 
   term_own : (declaration ds kind h fields).whole ≡ true → HasOwnVariables Term

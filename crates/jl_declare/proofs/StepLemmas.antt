@@ -18,7 +18,7 @@ use Rattle.jl_typeread.specs.declared.tree.VarText.{VarText}
 use Rattle.jl_written.specs.declared.fault.StaticKind.TheVariants as kind
 use Rattle.jl_written.specs.declared.reading.Reading.{Reading}
 use Rattle.jl_written.specs.declared.reading.TypeVar.{TypeVar}
-use Rattle.jl_written.specs.Reads.{Types, Typed, Scoped, types, typed, scoped, unread, bind_all, var_reads}
+use Rattle.jl_written.specs.Reads.{Types, Typed, Scoped, types, typed, scoped, no_reading, bind_all, var_reads}
 use Rattle.jl_written.specs.Signatures.{all_read, option_reads}
 use Rattle.jl_declare.specs.declared.judged.Judged.{Judged}
 use Rattle.jl_declare.specs.declared.judged.Judged.TheVariants as J
@@ -28,9 +28,9 @@ use Rattle.jl_declare.specs.declared.state.Declarations.{Declarations}
 use Rattle.jl_declare.specs.Declaration.{fields_of, heading, outline, declaration}
 use Rattle.jl_names.specs.Numbers.{names_of}
 use Rattle.jl_names.proofs.DeclLemmas.{text_self}
-use Rattle.jl_declare.specs.Judgement.{IsJudged, told, IsAnswer, kept_in, shown, refusal_at}
+use Rattle.jl_declare.specs.Judgement.{IsJudged, tell_alone, IsAnswer, kept_in, keep_shown, refusal_at}
 use Rattle.jl_declare.specs.Judgement as Q
-use Rattle.jl_declare.specs.Declarations.{declaring_of, with_fault, text_fault, answered, IsJudgement, IsDeclared}
+use Rattle.jl_declare.specs.Declarations.{declaring_of, with_fault, text_fault, add_answer, IsJudgement, IsDeclared}
 use Rattle.jl_declare.proofs.Owned.{own_variables}
 
 some_same : {X : Type 0} (x y : X) → Some x ≡ Some y → x ≡ y
@@ -44,7 +44,7 @@ slice_drop (y ∷ ys) (suc i) x e = rw add-one (rw add-one at (slice_drop ys i x
 -- a declaration up to its fields, step by step
 pub heading_is :
     (ds ds1 : List Decl) (k : DeclKind) (h : Header) (statics vars vars1 vars2 : List TypeVar) (r r1 r2 : Reading) (texts : List VarText) (bs : List Bound) (parent : Ty) (name : List ℕ) (fields : List Field)
-    → ds1 ≡ ds → statics ≡ [] → vars ≡ [] → r ≡ unread → texts ≡ h.params → scoped (statics ++ vars1) r1 ≡ bind_all (map (var_reads ds1) texts) (statics ++ vars) false r
+    → ds1 ≡ ds → statics ≡ [] → vars ≡ [] → r ≡ no_reading → texts ≡ h.params → scoped (statics ++ vars1) r1 ≡ bind_all (map (var_reads ds1) texts) (statics ++ vars) false r
     → bs ≡ r1.vars → typed parent r2 ≡ option_reads ds1 h.parent (statics ++ vars1) r1 → vars2 ≡ vars1 → name ≡ h.name.bytes → fields ≡ []
     → (let x : Heading = record { vars = vars2; own = record { name = name; kind = k; params = bs; parent = parent; fields = fields }; reading = r2 } in x) ≡ heading ds k h
 heading_is ds ds1 k h statics vars vars1 vars2 r r1 r2 texts bs parent name fields d e v u t b p o w n f =
@@ -58,7 +58,7 @@ heading_is ds ds1 k h statics vars vars1 vars2 r r1 r2 texts bs parent name fiel
     of : List TypeVar → List ℕ → List Bound → Ty → List Field → Reading → Heading
     of vs m cs q fs s = record { vars = vs; own = record { name = m; kind = k; params = cs; parent = q; fields = fs }; reading = s }
 
-    bound : scoped vars1 r1 ≡ bind_all (map (var_reads ds) h.params) [] false unread
+    bound : scoped vars1 r1 ≡ bind_all (map (var_reads ds) h.params) [] false no_reading
     bound =
         sym (ap (λ (z : List TypeVar). scoped (z ++ vars1) r1) e) ∙ b
         ∙ ap (λ (z : List Decl). bind_all (map (var_reads z) texts) (statics ++ vars) false r) d
@@ -85,8 +85,8 @@ asked false false true true e = (refl, refl)
 asked false false true false e = let f : Some J.Unjudged ≡ None = e in cc
 asked false false false d e = let f : Some (J.Refused kind.WrongParameterCount) ≡ None = e in cc
 
-pub told_none : (ds : List Decl) (b : Bool) (r : ReadDecl) → told ds b r ≡ None → (r.whole ≡ true) × (b ≡ true)
-told_none ds b r e = asked (is_among r.decl.name (names_of ds)) r.reading.unknown r.whole b e
+pub tell_alone_none : (ds : List Decl) (b : Bool) (r : ReadDecl) → tell_alone ds b r ≡ None → (r.whole ≡ true) × (b ≡ true)
+tell_alone_none ds b r e = asked (is_among r.decl.name (names_of ds)) r.reading.unknown r.whole b e
 
 same_length : (m n : ℕ) → nat_eq m n ≡ true → m ≡ n
 same_length m n h = grind (arith, h)
@@ -112,9 +112,9 @@ fresh true b c d e = let f : Some (J.Refused kind.DuplicateType) ≡ None = e in
 fresh false b c d e = refl
 
 -- where the table is asked no type of it has the name
-pub told_fresh : (table ds : List Decl) (b : Bool) (r : ReadDecl) (d : Decl) → told ds b r ≡ None → b ≡ nat_eq (length table) (length ds) → table ≡ take (length table) ds → d ≡ r.decl → DuplicateType table d → ⊥
-told_fresh table ds b r d e f t c h =
-    let w = told_none ds b r e in
+pub tell_alone_fresh : (table ds : List Decl) (b : Bool) (r : ReadDecl) (d : Decl) → tell_alone ds b r ≡ None → b ≡ nat_eq (length table) (length ds) → table ≡ take (length table) ds → d ≡ r.decl → DuplicateType table d → ⊥
+tell_alone_fresh table ds b r d e f t c h =
+    let w = tell_alone_none ds b r e in
     let among = fresh (is_among r.decl.name (names_of ds)) r.reading.unknown r.whole b e in
     not_among ds r.decl.name among (subst (λ (z : List Decl). DuplicateType z r.decl) (whole_table table ds t (sym f ∙ w.1)) (subst (DuplicateType table) c h))
 
@@ -144,14 +144,14 @@ read_is ds k h fields x own full d tys slice fs r m n e t o s f i c a b =
 
 pub declared_is : (k : DeclKind) (h : Header) (fields : List FieldText) (old new : Declarations) (r : ReadDecl) (j : Judged)
     → r ≡ declaration old.decls k h fields
-    → IsAnswer old.decls r.decl (told old.decls (nat_eq (length old.table) (length old.decls)) r) j
+    → IsAnswer old.decls r.decl (tell_alone old.decls (nat_eq (length old.table) (length old.decls)) r) j
     → new.table ≡ old.table ++ kept_in j
-    → new.decls ≡ old.decls ++ shown j r.decl ∷ []
+    → new.decls ≡ old.decls ++ keep_shown j r.decl ∷ []
     → new.fault ≡ with_fault (text_fault h.name r old.fault) (refusal_at h.name.at j)
     → IsDeclared k h fields (declaring_of old) (declaring_of new)
 declared_is k h fields old new r j e a t d f =
     let l : length new.table ≡ length old.table + length (kept_in j) = ap (λ (z : List Decl). length z) t ∙ length-append old.table (kept_in j) in
-    subst (λ (z : ReadDecl). (i : Judged) × IsJudgement (declaring_of old) z i × (declaring_of new ≡ answered h.name.at i z.decl old.decls (length old.table) (text_fault h.name z old.fault))) e
+    subst (λ (z : ReadDecl). (i : Judged) × IsJudgement (declaring_of old) z i × (declaring_of new ≡ add_answer h.name.at i z.decl old.decls (length old.table) (text_fault h.name z old.fault))) e
     (j, a, λ i. record { decls = d i; allowed = l i; fault = f i })
 
 -- the next one of a list is pushed behind those before it

@@ -10,7 +10,7 @@ use Rattle.jl_model.specs.Rows.{free}
 use Rattle.jl_grammar.specs.declared.tree.Field.{Field as FieldText}
 use Rattle.jl_grammar.specs.declared.tree.Header.{Header}
 use Rattle.jl_typeread.specs.declared.tree.VarText.{VarText}
-use Rattle.jl_written.specs.Reads.{unread}
+use Rattle.jl_written.specs.Reads.{no_reading}
 use Rattle.jl_written.specs.Signatures.{all_read, all_bound, option_reads}
 use Rattle.jl_declare.specs.declared.read.Heading.{Heading}
 use Rattle.jl_declare.specs.declared.read.ReadDecl.{ReadDecl}
@@ -24,7 +24,7 @@ fields_of (f ∷ fs) (t ∷ ts) = record { name = f.name.bytes; ty = t } ∷ fie
 -- up to its fields: its parameters are visible from their own place on, and it sees the declarations before it
 abbrev pub heading : List Decl → DeclKind → Header → Heading
 heading ds k h =
-    let s = all_bound ds h.params [] unread in
+    let s = all_bound ds h.params [] no_reading in
     let p = option_reads ds h.parent s.vars s.after in
     record { vars = s.vars; own = record { name = h.name.bytes; kind = k; params = s.after.vars; parent = p.ty; fields = [] }; reading = p.after }
 

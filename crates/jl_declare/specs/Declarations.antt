@@ -17,7 +17,7 @@ use Rattle.jl_declare.specs.declared.state.Declarations.{Declarations}
 use Rattle.jl_declare.specs.declared.judged.Judged.{Judged}
 use Rattle.jl_declare.specs.declared.read.ReadDecl.{ReadDecl}
 use Rattle.jl_declare.specs.Declaration.{declaration}
-use Rattle.jl_declare.specs.Judgement.{told, IsAnswer, kept_in, shown, refusal_at}
+use Rattle.jl_declare.specs.Judgement.{tell_alone, IsAnswer, kept_in, keep_shown, refusal_at}
 
 -- the declarations so far, how many of them from the first on are allowed, and the first fault
 pub record Declaring : Type 0 where
@@ -39,26 +39,26 @@ with_fault f None = f
 with_fault f (Some g) = first_of f g
 
 -- a declared name is no built-in one
-abbrev pub named_fault : ℕ → List ℕ → Option Fault
-named_fault at name = if is_among name builtin_names then Some (record { at = at; kind = kind.NameClash }) else None
+abbrev pub name_fault : ℕ → List ℕ → Option Fault
+name_fault at name = if is_among name builtin_names then Some (record { at = at; kind = kind.NameClash }) else None
 
 -- the faults of the name and of the types that are written
 abbrev pub text_fault : Name → ReadDecl → Option Fault → Option Fault
-text_fault n r f = with_fault (with_fault f (named_fault n.at n.bytes)) r.reading.fault
+text_fault n r f = with_fault (with_fault f (name_fault n.at n.bytes)) r.reading.fault
 
 -- a declaration is added, for which this is answered
-abbrev pub answered : ℕ → Judged → Decl → List Decl → ℕ → Option Fault → Declaring
-answered at j d ds n f = record { decls = ds ++ shown j d ∷ []; allowed = n + length (kept_in j); fault = with_fault f (refusal_at at j) }
+abbrev pub add_answer : ℕ → Judged → Decl → List Decl → ℕ → Option Fault → Declaring
+add_answer at j d ds n f = record { decls = ds ++ keep_shown j d ∷ []; allowed = n + length (kept_in j); fault = with_fault f (refusal_at at j) }
 
 -- what is answered for a declaration behind others
 abbrev pub IsJudgement : Declaring → ReadDecl → Judged → Type 0
-IsJudgement st r j = IsAnswer st.decls r.decl (told st.decls (nat_eq st.allowed (length st.decls)) r) j
+IsJudgement st r j = IsAnswer st.decls r.decl (tell_alone st.decls (nat_eq st.allowed (length st.decls)) r) j
 
 -- one declaration more
 abbrev pub IsDeclared : DeclKind → Header → List FieldText → Declaring → Declaring → Type 0
 IsDeclared k h fields st new =
     let r = declaration st.decls k h fields in
-    (j : Judged) × IsJudgement st r j × (new ≡ answered h.name.at j r.decl st.decls st.allowed (text_fault h.name r st.fault))
+    (j : Judged) × IsJudgement st r j × (new ≡ add_answer h.name.at j r.decl st.decls st.allowed (text_fault h.name r st.fault))
 
 -- an item: what is no declaration adds none
 abbrev pub DeclaresOne : Item → Declaring → Declaring → Type 0

@@ -37,8 +37,8 @@ pub data IsJudged (ds : List Decl) (d : Decl) : Judged → Type 0 where
 -- What is told without a look into the table, where all declarations before are allowed or not: the name alone tells the
 -- first refusal, and the text the third. The others are asked only where each name means something and all declarations
 -- before are allowed.
-abbrev pub told : List Decl → Bool → ReadDecl → Option Judged
-told ds all_allowed r =
+abbrev pub tell_alone : List Decl → Bool → ReadDecl → Option Judged
+tell_alone ds all_allowed r =
     if is_among r.decl.name (names_of ds) then Some (J.Refused kind.DuplicateType)
     else (if r.reading.unknown then Some J.Unjudged
     else (if not r.whole then Some (J.Refused kind.WrongParameterCount)
@@ -56,10 +56,10 @@ kept_in (J.Refused k) = []
 kept_in J.Unjudged = []
 
 -- a declaration that is kept stands as it is kept, and every other as it is read or outlined
-abbrev pub shown : Judged → Decl → Decl
-shown (J.Kept e) d = e
-shown (J.Refused k) d = d
-shown J.Unjudged d = d
+abbrev pub keep_shown : Judged → Decl → Decl
+keep_shown (J.Kept e) d = e
+keep_shown (J.Refused k) d = d
+keep_shown J.Unjudged d = d
 
 -- a refusal stands at the declared name
 abbrev pub refusal_at : ℕ → Judged → Option Fault

@@ -2,10 +2,10 @@
 
 ghost use Rattle.std.specs.Prelude.{◌≡◌, ◌++◌, ◌∷◌, [], take, true, nat_eq, length, None, IfOk, OnOk};
 ghost use Rattle.jl_model.specs.Refusals.{Declared, HasOwnVariables};
-ghost use Rattle.jl_declare.specs.Judgement.{told, IsAnswer, kept_in, shown};
-ghost use Rattle.jl_declare.specs.Declarations.{declaring_of, no_declaration, with_fault, named_fault, text_fault, IsDeclared, DeclaresOne, Declares, HasAllowed};
+ghost use Rattle.jl_declare.specs.Judgement.{tell_alone, IsAnswer, kept_in, keep_shown};
+ghost use Rattle.jl_declare.specs.Declarations.{declaring_of, no_declaration, with_fault, name_fault, text_fault, IsDeclared, DeclaresOne, Declares, HasAllowed};
 
-use crate::judged::{Judged, judge, refusal_at, shown, told};
+use crate::judged::{Judged, judge, keep_shown, refusal_at, tell_alone};
 use crate::read::{ReadDecl, read};
 use crate::state::Declarations;
 use jl_grammar::tree::{Field as FieldText, Header, Item, Name};
@@ -45,8 +45,8 @@ fn with_fault(known: Option<Fault>, fault: Option<Fault>) -> Option<Fault>
 }
 
 /// That a built-in name is declared.
-fn named_fault(at: u32, name: &[u8]) -> Option<Fault>
-    ensures { result ≡ named_fault at name.now }
+fn name_fault(at: u32, name: &[u8]) -> Option<Fault>
+    ensures { result ≡ name_fault at name.now }
 {
     if is_builtin(name) {
         Some(Fault {
@@ -62,7 +62,7 @@ fn named_fault(at: u32, name: &[u8]) -> Option<Fault>
 fn text_fault(name: &Name, read: &ReadDecl, known: Option<Fault>) -> Option<Fault>
     ensures { result ≡ text_fault name.now read.now known }
 {
-    let named = named_fault(name.at, name.bytes.as_slice());
+    let named = name_fault(name.at, name.bytes.as_slice());
     with_fault(with_fault(known, named), read.reading.fault)
 }
 
@@ -75,13 +75,13 @@ fn judgement(
 ) -> Result<Judged, AllocError>
     requires table { table.old ≡ take (length table.old) decls.now }
     requires own { Declared decls.now → read.now.whole ≡ true → HasOwnVariables read.now.decl }
-    ensures judged { IfOk result (λ j. IsAnswer decls.now read.now.decl (told decls.now (nat_eq (length table.old) (length decls.now)) read.now) j) }
+    ensures judged { IfOk result (λ j. IsAnswer decls.now read.now.decl (tell_alone decls.now (nat_eq (length table.old) (length decls.now)) read.now) j) }
     ensures added { IfOk result (λ j. table.new ≡ table.old ++ kept_in j) }
-    ensures table { IfOk result (λ j. table.new ≡ take (length table.new) (decls.now ++ shown j read.now.decl ∷ [])) }
+    ensures table { IfOk result (λ j. table.new ≡ take (length table.new) (decls.now ++ keep_shown j read.now.decl ∷ [])) }
 {
     let all_allowed = table.count() as usize == decls.len();
     table.valid();
-    match told(decls, all_allowed, read) {
+    match tell_alone(decls, all_allowed, read) {
         Some(judged) => Ok(judged),
         None => {
             let judged = judge(alloc, table, copy_decl(&read.decl)?)?;
@@ -106,7 +106,7 @@ fn add(
     let judged = judgement(alloc, &mut state.table, &state.decls, &read)?;
     let fault = text_fault(&header.name, &read, state.fault);
     state.fault = with_fault(fault, refusal_at(header.name.at, &judged));
-    state.decls.push(shown(judged, read.decl))?;
+    state.decls.push(keep_shown(judged, read.decl))?;
     Ok(())
 }
 

@@ -4,7 +4,7 @@ ghost use Rattle.std.specs.Prelude.{◌≡◌, ◌++◌, [], IfOk, MatchOption};
 ghost use Rattle.jl_program.specs.Names.{is_among};
 ghost use Rattle.jl_model.specs.Refusals.{DuplicateType, HasOwnVariables};
 ghost use Rattle.jl_names.specs.Numbers.{names_of};
-ghost use Rattle.jl_declare.specs.Judgement.{kind_of, IsJudged, told, kept_in, shown, refusal_at};
+ghost use Rattle.jl_declare.specs.Judgement.{kind_of, IsJudged, tell_alone, kept_in, keep_shown, refusal_at};
 
 use crate::read::ReadDecl;
 use jl_model::ty::Decl;
@@ -53,8 +53,8 @@ fn is_declared(decls: &DeclList, name: &[u8]) -> bool
 }
 
 /// What is told without a look into the table.
-pub fn told(decls: &DeclList, all_allowed: bool, read: &ReadDecl) -> Option<Judged>
-    ensures means { result ≡ told decls.now all_allowed read.now }
+pub fn tell_alone(decls: &DeclList, all_allowed: bool, read: &ReadDecl) -> Option<Judged>
+    ensures means { result ≡ tell_alone decls.now all_allowed read.now }
     ensures nothing { MatchOption result (Unit {0}) (λ j. kept_in j ≡ []) }
 {
     if is_declared(decls, read.decl.name.as_slice()) {
@@ -90,8 +90,8 @@ pub fn judge(alloc: Global, table: &mut Table, decl: Decl) -> Result<Judged, All
 }
 
 /// A declaration as it stands behind the answer.
-pub fn shown(judged: Judged, decl: Decl) -> Decl
-    ensures { result ≡ shown judged decl }
+pub fn keep_shown(judged: Judged, decl: Decl) -> Decl
+    ensures { result ≡ keep_shown judged decl }
 {
     match judged {
         Judged::Kept(kept) => kept,

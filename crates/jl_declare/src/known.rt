@@ -37,7 +37,7 @@ fn texts(alloc: Global, words: &[&str]) -> Result<NameList, AllocError>
 
 /// What is known of a script with these declarations: its functions, the prelude's first, and the names that it gives to
 /// functions and types.
-pub fn known(alloc: Global, items: &[Item], decls: DeclList) -> Result<Known, AllocError>
+pub fn known_of(alloc: Global, items: &[Item], decls: DeclList) -> Result<Known, AllocError>
     ensures { IfOk result (λ k. k ≡ known_of items.now decls) }
 {
     let methods = methods_of(alloc, items)?;

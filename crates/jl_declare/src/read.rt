@@ -15,10 +15,10 @@ use jl_model::shared::SharedList;
 use jl_model::ty::{Bound, Bounds, Bytes, Decl, DeclKind, Field, Fields, Ty, Tys};
 use jl_names::decls::{DeclList, FirstDecls, copy_decl};
 use jl_typeread::tree::{TypeText, VarText};
-use jl_written::names::small;
+use jl_written::names::to_u32;
 use jl_written::reading::Reading;
 use jl_written::reads::{bind_all, read_type};
-use jl_written::signatures::unread;
+use jl_written::signatures::no_reading;
 use jl_written::vars::{Around, TypeVars};
 use std::alloc::{AllocError, Global};
 
@@ -40,7 +40,7 @@ pub struct ReadDecl {
 }
 
 /// A type that may be left out.
-fn option_read(
+fn read_option(
     alloc: Global,
     around: &Around<'_>,
     vars: &mut TypeVars,
@@ -67,11 +67,11 @@ fn read_heading(
 {
     let around = Around::top(decls);
     let mut vars = TypeVars::new(alloc);
-    let mut reading = unread(alloc);
+    let mut reading = no_reading(alloc);
     let texts = header.params.as_slice();
     bind_all(alloc, &around, &mut vars, &mut reading, texts, false)?;
     let params = copy_bounds(alloc, reading.vars.as_slice())?;
-    let parent = option_read(alloc, &around, &mut vars, &mut reading, &header.parent)?;
+    let parent = read_option(alloc, &around, &mut vars, &mut reading, &header.parent)?;
     let own = Decl {
         name: header.name.bytes.copy()?,
         kind,
@@ -83,7 +83,7 @@ fn read_heading(
 }
 
 /// The types of fields.
-fn types_read(
+fn read_types(
     alloc: Global,
     around: &Around<'_>,
     vars: &mut TypeVars,
@@ -95,14 +95,14 @@ fn types_read(
 {
     let mut tys = Row::new(alloc);
     for field in fields {
-        let ty = option_read(alloc, around, vars, reading, &field.ty)?;
+        let ty = read_option(alloc, around, vars, reading, &field.ty)?;
         tys.push(ty)?;
     }
     Ok(tys)
 }
 
 /// All but the first.
-fn behind_first(tys: &[Ty]) -> &[Ty]
+fn after_first(tys: &[Ty]) -> &[Ty]
     ensures { result.now ≡ drop 1 tys.now }
 {
     match tys {
@@ -125,7 +125,7 @@ fn fields_of(alloc: Global, fields: &[FieldText], tys: &[Ty]) -> Result<Fields, 
                 ty: ty.copy()?,
             })?,
         }
-        left = behind_first(left);
+        left = after_first(left);
     }
     SharedList::from_vec(alloc, out)
 }
@@ -145,7 +145,7 @@ fn own_types(
         return Ok(Row::new(alloc));
     }
     decls.push(copy_decl(&heading.own)?)?;
-    let tys = types_read(
+    let tys = read_types(
         alloc,
         &Around::top(&decls.all()),
         &mut heading.vars,
@@ -191,7 +191,7 @@ fn param_fields(alloc: Global, name: &Bytes, params: &[Bound]) -> Result<Fields,
     for (number, _) in params.iter().enumerate() {
         out.push(Field {
             name: name.copy()?,
-            ty: Ty::Var(small(number)?),
+            ty: Ty::Var(to_u32(number)?),
         })?;
     }
     SharedList::from_vec(alloc, out)

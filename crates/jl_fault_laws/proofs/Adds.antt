@@ -5,7 +5,7 @@ use Rattle.jl_written.specs.declared.fault.Fault.{Fault}
 use Rattle.jl_written.specs.declared.fault.StaticKind.{StaticKind}
 use Rattle.jl_resolve_forms.specs.declared.known.Known.{Known}
 use Rattle.jl_resolve_forms.specs.declared.state.State.{State}
-use Rattle.jl_resolve_forms.specs.Scopes.{noted, merged}
+use Rattle.jl_resolve_forms.specs.Scopes.{note_if, merge_fault}
 use Rattle.jl_resolve_forms.specs.TypesIn.{Tests}
 use Rattle.jl_fault_laws.specs.Uses.{Use}
 use Rattle.jl_fault_laws.specs.Rows.{definitions}
@@ -40,10 +40,10 @@ pub adds_same : (t : Tests) (k : Known) (us vs : List Use) (s z : State) → us 
 adds_same t k us vs s z e h = subst (λ x. Adds t k x s z) e h
 
 -- a fault adds no site
-pub noted_same : (at : ℕ) (o : Option StaticKind) (s : State) → (noted at o s).sites ≡ s.sites
-noted_same at None s = refl
-noted_same at (Some k) s = refl
+pub note_if_same : (at : ℕ) (o : Option StaticKind) (s : State) → (note_if at o s).sites ≡ s.sites
+note_if_same at None s = refl
+note_if_same at (Some k) s = refl
 
-pub merged_same : (o : Option Fault) (s : State) → (merged o s).sites ≡ s.sites
-merged_same None s = refl
-merged_same (Some f) s = refl
+pub merge_fault_same : (o : Option Fault) (s : State) → (merge_fault o s).sites ≡ s.sites
+merge_fault_same None s = refl
+merge_fault_same (Some f) s = refl

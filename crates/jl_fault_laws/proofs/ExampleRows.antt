@@ -25,7 +25,7 @@ use Rattle.jl_written.specs.declared.fault.Fault.{Fault}
 use Rattle.jl_written.specs.declared.fault.StaticKind.TheVariants as kind
 use Rattle.jl_fault_laws.specs.Uses.{Names, Visible, Use, Uses, Stated, Brings, ScriptNames, names_told, used, value, plain_type, written, at_top, top_uses, brought, with_vars, type_uses, var_uses, body_uses, uses_of}
 use Rattle.jl_fault_laws.specs.Uses as U
-use Rattle.jl_resolve_forms.specs.TypesIn.{Tests, begins}
+use Rattle.jl_resolve_forms.specs.TypesIn.{Tests, start_of}
 use Rattle.jl_fault_laws.specs.Rows.{HoldsAt, definitions}
 use Rattle.jl_fault_laws.specs.TypeRows.{RefusedAt}
 use Rattle.jl_fault_laws.specs.Examples.{f, g, x, y, S, R, T, name_at, one_at, known, head, with_line, good, with_unknown_name, with_unknown_function, with_many_arguments, with_unknown_type, with_two_variables, with_function_name, with_two_bindings, with_built_in, known_struct, with_inferred, method_at, lines, fault}
@@ -133,10 +133,10 @@ arguments_row = one_holds with_many_arguments (fault 13 kind.TooManyArguments) (
 
 -- with a type on the line
 abbrev with_type : TypeText → Uses → Uses
-with_type t u v = used (begins t) (written t) v ∷ u v
+with_type t u v = used (start_of t) (written t) v ∷ u v
 
 isa_is : (t : TypeText) (u : Uses) → type_uses t ≡ u → expr_uses (E.Isa 13 (one_at 13) t) ≡ with_type t u
-isa_is t u h = isa_uses 13 (one_at 13) t ∙ (λ i v. number_uses 13 (pos 1) i v ++ used (begins t) (written t) v ∷ h i v)
+isa_is t u h = isa_uses 13 (one_at 13) t ∙ (λ i v. number_uses 13 (pos 1) i v ++ used (start_of t) (written t) v ∷ h i v)
 
 pub type_row : HoldsAt known with_unknown_type (fault 19 kind.UnknownType)
 type_row =

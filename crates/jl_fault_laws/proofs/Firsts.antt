@@ -4,7 +4,7 @@ use Rattle.jl_written.specs.declared.fault.Fault.{Fault}
 use Rattle.jl_written.specs.declared.fault.StaticKind.{StaticKind}
 use Rattle.jl_written.specs.Answered.{comes_before, first_of}
 use Rattle.jl_resolve_forms.specs.declared.state.State.{State}
-use Rattle.jl_resolve_forms.specs.Scopes.{noted}
+use Rattle.jl_resolve_forms.specs.Scopes.{note_if}
 
 -- it is one of a list
 abbrev pub In : {A : Type 0} → A → List A → Type 0
@@ -85,9 +85,9 @@ abbrev pub given : Option StaticKind → ℕ → List Fault
 given None at = []
 given (Some k) at = record { at = at; kind = k } ∷ []
 
-pub noted_told : (at : ℕ) (o : Option StaticKind) (s : State) → Tells (given o at) s.fault (noted at o s).fault
-noted_told at None s = nothing s.fault
-noted_told at (Some k) s = one_fault (record { at = at; kind = k }) s.fault
+pub note_if_told : (at : ℕ) (o : Option StaticKind) (s : State) → Tells (given o at) s.fault (note_if at o s).fault
+note_if_told at None s = nothing s.fault
+note_if_told at (Some k) s = one_fault (record { at = at; kind = k }) s.fault
 
 -- ---- what the first of all tells
 

@@ -20,12 +20,12 @@ use Rattle.jl_written.specs.declared.reading.Named.TheVariants as N
 use Rattle.jl_written.specs.declared.reading.Reading.{Reading}
 use Rattle.jl_written.specs.declared.reading.Swap.{Swap}
 use Rattle.jl_written.specs.declared.reading.TypeVar.{TypeVar}
-use Rattle.jl_written.specs.Meaning.{place_of, var_of, var_or, named}
+use Rattle.jl_written.specs.Meaning.{place_of, var_of, var_or, meaning_of}
 use Rattle.jl_written.specs.Meaning as M
-use Rattle.jl_written.specs.Reads.{Typed, Types, TypeReads, ArgReads, VarReads, note, unknown, missing, fresh, placed_layer, placed, arguments, members, rebound, guarded, bind, bind_all, where_at, within, plain, applied, type_reads, arg_reads, var_reads}
+use Rattle.jl_written.specs.Reads.{Typed, Types, TypeReads, ArgReads, VarReads, note, note_unknown, missing_arguments, fresh_variable, note_place_of, note_place, read_arguments, read_members, rebound, note_builtin, bind, bind_all, bind_where, within, read_plain, read_applied, type_reads, arg_reads, var_reads}
 use Rattle.jl_written.specs.Reads as R
 use Rattle.jl_written.specs.Signatures.{option_reads, all_read, all_bound}
-use Rattle.jl_written.specs.TextOrder.{ordered_by, one_ordered_by}
+use Rattle.jl_written.specs.TextOrder.{reorder_types, reorder_type}
 use Rattle.jl_resolve_forms.specs.declared.known.Known.{Known}
 use Rattle.jl_resolve_forms.specs.TypesIn.{Tests}
 use Rattle.jl_type_laws.proofs.TextInduction.{EachText, TextCases, by_type, by_arg, by_var}
@@ -68,24 +68,24 @@ same_clear r z e = e ∙ or_false r.unclear
 pub both_clear : (us vs : List Use) (r y z : Reading) → Clears us r y → Clears vs y z → Clears (us ++ vs) r z
 both_clear us vs r y z a b = b ∙ ap (λ x. x || any_hides vs) a ∙ or_or r.unclear (any_hides us) (any_hides vs) ∙ ap (λ x. r.unclear || x) (sym (any_append us vs))
 
-missing_clear : (bs : List Bound) (inside : Bool) (r : Reading) → (missing bs inside r).after.unclear ≡ r.unclear
-missing_clear [] inside r = refl
-missing_clear (b ∷ bs) inside r = missing_clear bs inside (fresh b inside r).after
+missing_arguments_clear : (bs : List Bound) (inside : Bool) (r : Reading) → (missing_arguments bs inside r).after.unclear ≡ r.unclear
+missing_arguments_clear [] inside r = refl
+missing_arguments_clear (b ∷ bs) inside r = missing_arguments_clear bs inside (fresh_variable b inside r).after
 
-layer_clear : (high : Ty) (l : Ty-F Ty) (r : Reading) → (placed_layer high l r).unclear ≡ r.unclear
+layer_clear : (high : Ty) (l : Ty-F Ty) (r : Reading) → (note_place_of high l r).unclear ≡ r.unclear
 layer_clear high (L.Var v) r = refl
 layer_clear high _ r = refl
 
-placed_clear : (bs : List Bound) (t : Ty) (r : Reading) → (placed bs t r).unclear ≡ r.unclear
-placed_clear [] t r = refl
-placed_clear (b ∷ bs) t r = layer_clear b.high (out-Ty t) r
+note_place_clear : (bs : List Bound) (t : Ty) (r : Reading) → (note_place bs t r).unclear ≡ r.unclear
+note_place_clear [] t r = refl
+note_place_clear (b ∷ bs) t r = layer_clear b.high (out-Ty t) r
 
-used_clear : (at : ℕ) (b : Bool) (r : Reading) → (R.used at b r).unclear ≡ r.unclear
-used_clear at true r = refl
-used_clear at false r = refl
+note_use_clear : (at : ℕ) (b : Bool) (r : Reading) → (R.note_use at b r).unclear ≡ r.unclear
+note_use_clear at true r = refl
+note_use_clear at false r = refl
 
-guarded_clear : (at : ℕ) (name : List ℕ) (r : Reading) → (guarded at name r).unclear ≡ r.unclear
-guarded_clear at name r = by (is_among name builtin_names)
+note_builtin_clear : (at : ℕ) (name : List ℕ) (r : Reading) → (note_builtin at name r).unclear ≡ r.unclear
+note_builtin_clear at name r = by (is_among name builtin_names)
   where
     by : (b : Bool) → (cond b (note at kind.NameClash r) r).unclear ≡ r.unclear
     by true = refl
@@ -95,22 +95,22 @@ rebound_clear : (at : ℕ) (o : Option TypeVar) (r : Reading) → (rebound at o 
 rebound_clear at None r = or_false r.unclear
 rebound_clear at (Some v) r = or_true r.unclear
 
-where_clear : (vs : List VarReads) (inside : Bool) (r : Reading) → (where_at vs inside r).unclear ≡ r.unclear
+where_clear : (vs : List VarReads) (inside : Bool) (r : Reading) → (bind_where vs inside r).unclear ≡ r.unclear
 where_clear [] inside r = refl
 where_clear (v ∷ vs) inside r = refl
 
-swapped_clear : (start middle : ℕ) (r : Reading) → (R.swapped start middle r).unclear ≡ r.unclear
-swapped_clear start middle r = by (nat_lt start middle && nat_lt middle (length r.vars)) (record { start = start; middle = middle; stop = length r.vars })
+swap_clear : (start middle : ℕ) (r : Reading) → (R.swap start middle r).unclear ≡ r.unclear
+swap_clear start middle r = by (nat_lt start middle && nat_lt middle (length r.vars)) (record { start = start; middle = middle; stop = length r.vars })
   where
     by : (b : Bool) (s : Swap) → (cond b (record r { swaps = r.swaps ++ s ∷ [] }) r).unclear ≡ r.unclear
     by true s = refl
     by false s = refl
 
-pub ordered_clear : (ss : List Swap) (ts : Types) → (ordered_by ss ts).after.unclear ≡ ts.after.unclear
+pub ordered_clear : (ss : List Swap) (ts : Types) → (reorder_types ss ts).after.unclear ≡ ts.after.unclear
 ordered_clear [] ts = refl
 ordered_clear (s ∷ ss) ts = refl
 
-pub one_ordered_clear : (ss : List Swap) (t : Typed) → (one_ordered_by ss t).after.unclear ≡ t.after.unclear
+pub one_ordered_clear : (ss : List Swap) (t : Typed) → (reorder_type ss t).after.unclear ≡ t.after.unclear
 one_ordered_clear [] t = refl
 one_ordered_clear (s ∷ ss) t = refl
 
@@ -125,69 +125,69 @@ module _ (tests : Tests) (k : Known) (ds : List Decl) where
     pub name : b.name ≡ x.name
     pub bounds : (vars : List TypeVar) (v : Visible) (inside : Bool) (r : Reading) → Knows tests k vars v → type_names ds ≡ v.types → Clears (b.uses v) r (x.bounds vars inside r).after
 
-  arguments_clear : (us : List Uses) (xs : List ArgReads) → Pairs IsArg us xs → (bs : List Bound) (vars : List TypeVar) (v : Visible) (inside : Bool) (r : Reading) → Knows tests k vars v → type_names ds ≡ v.types
-      → Clears (each us v) r (arguments bs xs vars inside r).after
-  arguments_clear [] [] p bs vars v inside r h e = same_clear r (missing bs inside r).after (missing_clear bs inside r)
-  arguments_clear [] (x ∷ xs) p bs vars v inside r h e = absurd p
-  arguments_clear (u ∷ us) [] p bs vars v inside r h e = absurd p
-  arguments_clear (u ∷ us) (x ∷ xs) p bs vars v inside r h e =
+  read_arguments_clear : (us : List Uses) (xs : List ArgReads) → Pairs IsArg us xs → (bs : List Bound) (vars : List TypeVar) (v : Visible) (inside : Bool) (r : Reading) → Knows tests k vars v → type_names ds ≡ v.types
+      → Clears (each us v) r (read_arguments bs xs vars inside r).after
+  read_arguments_clear [] [] p bs vars v inside r h e = same_clear r (missing_arguments bs inside r).after (missing_arguments_clear bs inside r)
+  read_arguments_clear [] (x ∷ xs) p bs vars v inside r h e = absurd p
+  read_arguments_clear (u ∷ us) [] p bs vars v inside r h e = absurd p
+  read_arguments_clear (u ∷ us) (x ∷ xs) p bs vars v inside r h e =
       let t = x vars inside true r in
-      let z = placed bs t.ty t.after in
-      both_clear (u v) (each us v) r z (arguments (drop 1 bs) xs vars inside z).after (placed_clear bs t.ty t.after ∙ p.0 vars v inside true r h e) (arguments_clear us xs p.1 (drop 1 bs) vars v inside z h e)
+      let z = note_place bs t.ty t.after in
+      both_clear (u v) (each us v) r z (read_arguments (drop 1 bs) xs vars inside z).after (note_place_clear bs t.ty t.after ∙ p.0 vars v inside true r h e) (read_arguments_clear us xs p.1 (drop 1 bs) vars v inside z h e)
 
-  members_clear : (us : List Uses) (xs : List ArgReads) → Pairs IsArg us xs → (vars : List TypeVar) (v : Visible) (inside : Bool) (r : Reading) → Knows tests k vars v → type_names ds ≡ v.types
-      → Clears (each us v) r (members xs vars inside r).after
-  members_clear [] [] p vars v inside r h e = same_clear r r refl
-  members_clear [] (x ∷ xs) p vars v inside r h e = absurd p
-  members_clear (u ∷ us) [] p vars v inside r h e = absurd p
-  members_clear (u ∷ us) (x ∷ xs) p vars v inside r h e =
+  read_members_clear : (us : List Uses) (xs : List ArgReads) → Pairs IsArg us xs → (vars : List TypeVar) (v : Visible) (inside : Bool) (r : Reading) → Knows tests k vars v → type_names ds ≡ v.types
+      → Clears (each us v) r (read_members xs vars inside r).after
+  read_members_clear [] [] p vars v inside r h e = same_clear r r refl
+  read_members_clear [] (x ∷ xs) p vars v inside r h e = absurd p
+  read_members_clear (u ∷ us) [] p vars v inside r h e = absurd p
+  read_members_clear (u ∷ us) (x ∷ xs) p vars v inside r h e =
       let t = x vars inside inside r in
-      both_clear (u v) (each us v) r t.after (members xs vars inside t.after).after (p.0 vars v inside inside r h e) (members_clear us xs p.1 vars v inside t.after h e)
+      both_clear (u v) (each us v) r t.after (read_members xs vars inside t.after).after (p.0 vars v inside inside r h e) (read_members_clear us xs p.1 vars v inside t.after h e)
 
   -- by what the name is, as in `Texts`
-  plain_by : (at : ℕ) (o : Option TypeVar) (a b c d : Bool) (p : Option ℕ) (inside : Bool) (r : Reading) →
-      (plain ds at (var_or o (cond a N.Any (cond b N.Union (cond c N.Tuple (cond d (N.Nominal INT64) (M.nominal_of p)))))) inside r).after.unclear
+  read_plain_by : (at : ℕ) (o : Option TypeVar) (a b c d : Bool) (p : Option ℕ) (inside : Bool) (r : Reading) →
+      (read_plain ds at (var_or o (cond a N.Any (cond b N.Union (cond c N.Tuple (cond d (N.Nominal INT64) (M.nominal_of p)))))) inside r).after.unclear
       ≡ (r.unclear || ((not (is_some o || (a || (not (b || c) && (d || is_some p)))) || false) || false))
-  plain_by at (Some x) a b c d p inside r = used_clear at x.usable r ∙ or_false r.unclear
-  plain_by at None true b c d p inside r = or_false r.unclear
-  plain_by at None false true c d p inside r = or_true r.unclear
-  plain_by at None false false true d p inside r = or_true r.unclear
-  plain_by at None false false false true p inside r = missing_clear (params_of (slice_get ds INT64)) inside r ∙ or_false r.unclear
-  plain_by at None false false false false (Some n) inside r = missing_clear (params_of (slice_get ds n)) inside r ∙ or_false r.unclear
-  plain_by at None false false false false None inside r = or_true r.unclear
+  read_plain_by at (Some x) a b c d p inside r = note_use_clear at x.usable r ∙ or_false r.unclear
+  read_plain_by at None true b c d p inside r = or_false r.unclear
+  read_plain_by at None false true c d p inside r = or_true r.unclear
+  read_plain_by at None false false true d p inside r = or_true r.unclear
+  read_plain_by at None false false false true p inside r = missing_arguments_clear (params_of (slice_get ds INT64)) inside r ∙ or_false r.unclear
+  read_plain_by at None false false false false (Some n) inside r = missing_arguments_clear (params_of (slice_get ds n)) inside r ∙ or_false r.unclear
+  read_plain_by at None false false false false None inside r = or_true r.unclear
 
-  plain_clear : (at : ℕ) (n : List ℕ) → IsType (λ v. used at (plain_type n) v ∷ []) (λ vars inside r. plain ds at (named ds vars n) inside r)
-  plain_clear at n vars v inside r h e =
+  read_plain_clear : (at : ℕ) (n : List ℕ) → IsType (λ v. used at (plain_type n) v ∷ []) (λ vars inside r. read_plain ds at (meaning_of ds vars n) inside r)
+  read_plain_clear at n vars v inside r h e =
       let a = same_text n (codes "Any") in
       let b = same_text n (codes "Union") in
       let c = same_text n (codes "Tuple") in
       let d = same_text n (codes "Int") in
       let p = place_of (type_names ds) n in
       let q = place_found 0 (type_names ds) n ∙ ap (λ ns. is_among n ns) e in
-      plain_by at (var_of vars n) a b c d p inside r ∙ (λ i. r.unclear || ((not (h.names n i || (a || (not (b || c) && (d || q i)))) || false) || false))
+      read_plain_by at (var_of vars n) a b c d p inside r ∙ (λ i. r.unclear || ((not (h.names n i || (a || (not (b || c) && (d || q i)))) || false) || false))
 
-  applied_by : (at : ℕ) (us : List Uses) (xs : List ArgReads) → Pairs IsArg us xs → (o : Option TypeVar) (a b c d : Bool) (p : Option ℕ) (vars : List TypeVar) (v : Visible) (inside : Bool) (r : Reading)
+  read_applied_by : (at : ℕ) (us : List Uses) (xs : List ArgReads) → Pairs IsArg us xs → (o : Option TypeVar) (a b c d : Bool) (p : Option ℕ) (vars : List TypeVar) (v : Visible) (inside : Bool) (r : Reading)
       → Knows tests k vars v → type_names ds ≡ v.types
-      → (applied ds at (var_or o (cond a N.Any (cond b N.Union (cond c N.Tuple (cond d (N.Nominal INT64) (M.nominal_of p)))))) xs vars inside r).after.unclear
+      → (read_applied ds at (var_or o (cond a N.Any (cond b N.Union (cond c N.Tuple (cond d (N.Nominal INT64) (M.nominal_of p)))))) xs vars inside r).after.unclear
       ≡ (r.unclear || ((not (not (is_some o) && (not a && (b || (c || (d || is_some p))))) || false) || any_hides (if_read (not (is_some o) && (not a && (b || (c || (d || is_some p))))) (each us v))))
-  applied_by at us xs l (Some x) a b c d p vars v inside r h e = or_true r.unclear
-  applied_by at us xs l None true b c d p vars v inside r h e = or_true r.unclear
-  applied_by at us xs l None false true c d p vars v inside r h e = members_clear us xs l vars v inside r h e
-  applied_by at us xs l None false false true d p vars v inside r h e = members_clear us xs l vars v inside r h e
-  applied_by at us xs l None false false false true p vars v inside r h e = arguments_clear us xs l (params_of (slice_get ds INT64)) vars v inside r h e
-  applied_by at us xs l None false false false false (Some n) vars v inside r h e = arguments_clear us xs l (params_of (slice_get ds n)) vars v inside r h e
-  applied_by at us xs l None false false false false None vars v inside r h e = or_true r.unclear
+  read_applied_by at us xs l (Some x) a b c d p vars v inside r h e = or_true r.unclear
+  read_applied_by at us xs l None true b c d p vars v inside r h e = or_true r.unclear
+  read_applied_by at us xs l None false true c d p vars v inside r h e = read_members_clear us xs l vars v inside r h e
+  read_applied_by at us xs l None false false true d p vars v inside r h e = read_members_clear us xs l vars v inside r h e
+  read_applied_by at us xs l None false false false true p vars v inside r h e = read_arguments_clear us xs l (params_of (slice_get ds INT64)) vars v inside r h e
+  read_applied_by at us xs l None false false false false (Some n) vars v inside r h e = read_arguments_clear us xs l (params_of (slice_get ds n)) vars v inside r h e
+  read_applied_by at us xs l None false false false false None vars v inside r h e = or_true r.unclear
 
-  applied_clear : (at : ℕ) (n : List ℕ) (us : List Uses) (xs : List ArgReads) → Pairs IsArg us xs
-      → IsType (λ v. used at (braced_type n) v ∷ if_read (U.takes_braces n v) (each us v)) (λ vars inside r. applied ds at (named ds vars n) xs vars inside r)
-  applied_clear at n us xs l vars v inside r h e =
+  read_applied_clear : (at : ℕ) (n : List ℕ) (us : List Uses) (xs : List ArgReads) → Pairs IsArg us xs
+      → IsType (λ v. used at (braced_type n) v ∷ if_read (U.takes_braces n v) (each us v)) (λ vars inside r. read_applied ds at (meaning_of ds vars n) xs vars inside r)
+  read_applied_clear at n us xs l vars v inside r h e =
       let a = same_text n (codes "Any") in
       let b = same_text n (codes "Union") in
       let c = same_text n (codes "Tuple") in
       let d = same_text n (codes "Int") in
       let p = place_of (type_names ds) n in
       let q = place_found 0 (type_names ds) n ∙ ap (λ ns. is_among n ns) e in
-      applied_by at us xs l (var_of vars n) a b c d p vars v inside r h e
+      read_applied_by at us xs l (var_of vars n) a b c d p vars v inside r h e
       ∙ (λ i. r.unclear || ((not (not (h.names n i) && (not a && (b || (c || (d || q i))))) || false) || any_hides (if_read (not (h.names n i) && (not a && (b || (c || (d || q i))))) (each us v))))
 
   -- ---- variables
@@ -197,14 +197,14 @@ module _ (tests : Tests) (k : Known) (ds : List Decl) where
   bind_clear b x l vars v inside r h e =
       let y = x.bounds vars inside r in
       let o = var_of vars x.name in
-      let g = guarded x.at x.name y.after in
+      let g = note_builtin x.at x.name y.after in
       let z = rebound x.at o g in
       let own = used b.at (type_variable b.name) v ∷ [] in
       let last : z.unclear ≡ (y.after.unclear || any_hides own) =
-      rebound_clear x.at o g ∙ (λ i. guarded_clear x.at x.name y.after i || h.names x.name i) ∙ ap (λ n. y.after.unclear || is_among n v.vars) (sym l.name)
+      rebound_clear x.at o g ∙ (λ i. note_builtin_clear x.at x.name y.after i || h.names x.name i) ∙ ap (λ n. y.after.unclear || is_among n v.vars) (sym l.name)
       ∙ ap (λ c. y.after.unclear || c) (or_false (is_among b.name v.vars)) in (
         both_clear (b.uses v) own r y.after z (l.bounds vars v inside r h e) last,
-        subst (λ n. Knows tests k (bind x vars inside r).vars (with_var n v)) (sym l.name) (one_more tests k vars v (record { name = x.name; number = length (guarded x.at x.name y.after).vars; usable = true }) refl h),
+        subst (λ n. Knows tests k (bind x vars inside r).vars (with_var n v)) (sym l.name) (one_more tests k vars v (record { name = x.name; number = length (note_builtin x.at x.name y.after).vars; usable = true }) refl h),
       )
 
   brought_clear : (bs : List Brings) (xs : List VarReads) → Pairs IsVar bs xs → (vars : List TypeVar) (v : Visible) (inside : Bool) (r : Reading) → Knows tests k vars v → type_names ds ≡ v.types
@@ -220,11 +220,11 @@ module _ (tests : Tests) (k : Known) (ds : List Decl) where
 
   within_clear : (u : Uses) (t : TypeReads) → IsType u t → (bs : List Brings) (xs : List VarReads) → Pairs IsVar bs xs → IsType (λ v. brought bs v ++ u (with_vars bs v)) (within t xs)
   within_clear u t l bs xs p vars v inside r h e =
-      let w = where_at xs inside r in
+      let w = bind_where xs inside r in
       let s = bind_all xs vars inside w in
       let q = brought_clear bs xs p vars v inside w h e in
       let z = t s.vars inside s.after in
-      swapped_clear (length r.vars) (length s.after.vars) z.after
+      swap_clear (length r.vars) (length s.after.vars) z.after
       ∙ both_clear (brought bs v) (u (with_vars bs v)) r s.after z.after (q.0 ∙ ap (λ b. b || any_hides (brought bs v)) (where_clear xs inside r)) (l s.vars (with_vars bs v) inside s.after q.1 e)
 
   -- ---- a text is clear where its layer is
@@ -252,8 +252,8 @@ module _ (tests : Tests) (k : Known) (ds : List Decl) where
 
   cases : TextCases (λ t. IsArg (arg_uses t) (arg_reads ds t)) (λ t. IsType (type_uses t) (type_reads ds t)) (λ t. IsVar (var_uses t) (var_reads ds t))
   cases = record {
-    name = λ at n. text_at (F.Name at n) (plain_clear at n);
-    applied = λ at n xs l. text_at (F.Applied at n xs) (applied_clear at n (map arg_uses xs) (map (arg_reads ds) xs) (each_pairs IsArg arg_uses (arg_reads ds) xs l));
+    name = λ at n. text_at (F.Name at n) (read_plain_clear at n);
+    applied = λ at n xs l. text_at (F.Applied at n xs) (read_applied_clear at n (map arg_uses xs) (map (arg_reads ds) xs) (each_pairs IsArg arg_uses (arg_reads ds) xs l));
     paren = λ at t vs l p. text_at (F.Paren at t vs) (within_clear (type_uses t) (type_reads ds t) l (map var_uses vs) (map (var_reads ds) vs) (each_pairs IsVar var_uses (var_reads ds) vs p));
     exact = λ t l. arg_at (F.Exact t) (λ vars v outer inner r h e. l vars v inner r h e);
     below_ = λ at t l. arg_at (F.ArgText::Below at t) (λ vars v outer inner r h e. l vars v inner r h e);
@@ -294,6 +294,6 @@ module _ (tests : Tests) (k : Known) (ds : List Decl) where
   bound_clear vs vars v r h e = brought_clear (map var_uses vs) (map (var_reads ds) vs) (each_pairs IsVar var_uses (var_reads ds) vs (each_all (λ x. IsVar (var_uses x) (var_reads ds x)) var_clear vs)) vars v false r h e
 
   pub args_clear : (xs : List ArgText) (bs : List Bound) (vars : List TypeVar) (v : Visible) (r : Reading) → Knows tests k vars v → type_names ds ≡ v.types
-      → Clears (each (map arg_uses xs) v) r (arguments bs (map (arg_reads ds) xs) vars false r).after
+      → Clears (each (map arg_uses xs) v) r (read_arguments bs (map (arg_reads ds) xs) vars false r).after
   args_clear xs bs vars v r h e =
-      arguments_clear (map arg_uses xs) (map (arg_reads ds) xs) (each_pairs IsArg arg_uses (arg_reads ds) xs (each_all (λ x. IsArg (arg_uses x) (arg_reads ds x)) arg_clear xs)) bs vars v false r h e
+      read_arguments_clear (map arg_uses xs) (map (arg_reads ds) xs) (each_pairs IsArg arg_uses (arg_reads ds) xs (each_all (λ x. IsArg (arg_uses x) (arg_reads ds x)) arg_clear xs)) bs vars v false r h e

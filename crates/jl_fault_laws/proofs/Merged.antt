@@ -3,7 +3,7 @@ use Rattle.std.proofs.Common.{Bool, true, false, true≢false, cond, List, [], �
 use Rattle.jl_written.specs.declared.fault.Fault.{Fault}
 use Rattle.jl_written.specs.Answered.{comes_before, first_of}
 use Rattle.jl_resolve_forms.specs.declared.state.State.{State}
-use Rattle.jl_resolve_forms.specs.Scopes.{merged}
+use Rattle.jl_resolve_forms.specs.Scopes.{merge_fault}
 use Rattle.jl_fault_laws.proofs.Firsts.{firsts, Tells}
 use Rattle.jl_fault_laws.proofs.Order.{passes, neither}
 
@@ -42,9 +42,9 @@ merges o p (f ∷ fs) = ap (λ x. firsts x fs) (step o p f) ∙ merges o (first_
 pub merge_told : (fs : List Fault) (o p : Option Fault) → Tells fs None p → Tells fs o (merge o p)
 merge_told fs o p h = record { found = h.found; is = ap (λ x. merge o x) h.is ∙ sym (merges o None h.found); only = λ g i. h.only g i; all = λ g i. h.all g i }
 
-merged_is : (o : Option Fault) (s : State) → merge s.fault o ≡ (merged o s).fault
-merged_is None s = refl
-merged_is (Some f) s = refl
+merge_fault_is : (o : Option Fault) (s : State) → merge s.fault o ≡ (merge_fault o s).fault
+merge_fault_is None s = refl
+merge_fault_is (Some f) s = refl
 
-pub merged_told : (fs : List Fault) (o : Option Fault) (s : State) → Tells fs None o → Tells fs s.fault (merged o s).fault
-merged_told fs o s h = let q = merge_told fs s.fault o h in record { found = q.found; is = sym (merged_is o s) ∙ q.is; only = λ g i. q.only g i; all = λ g i. q.all g i }
+pub merge_fault_told : (fs : List Fault) (o : Option Fault) (s : State) → Tells fs None o → Tells fs s.fault (merge_fault o s).fault
+merge_fault_told fs o s h = let q = merge_told fs s.fault o h in record { found = q.found; is = sym (merge_fault_is o s) ∙ q.is; only = λ g i. q.only g i; all = λ g i. q.all g i }

@@ -26,10 +26,10 @@ use Rattle.jl_resolve_forms.specs.declared.known.Known.{Known}
 use Rattle.jl_resolve_forms.specs.declared.state.Scope.{Scope}
 use Rattle.jl_resolve_forms.specs.declared.state.State.{State}
 use Rattle.jl_resolve_forms.specs.Resolver.{Resolution}
-use Rattle.jl_resolve_forms.specs.Scopes.{slot_from, slot_of, note, clashing, with_slot, slotted, bind}
+use Rattle.jl_resolve_forms.specs.Scopes.{slot_from, slot_of, note, clashing, with_slot, take_slot, bind}
 use Rattle.jl_resolve_forms.specs.Functions.{function_of_operator, function_of, unless_slot, if_struct, struct_named, struct_of}
 use Rattle.jl_resolve_forms.specs.TypesIn.{Tests, declared_at}
-use Rattle.jl_resolve_forms.specs.Expressions.{parameters, made_struct, static_parameter, static_parameters}
+use Rattle.jl_resolve_forms.specs.Expressions.{parameters, make_struct, static_parameter, static_parameters}
 use Rattle.jl_fault_laws.specs.Uses.{Names, Visible, bound, used, with_name, with_names, with_var, params_of, params_uses, type_names, names_told, makes_layer}
 use Rattle.jl_fault_laws.specs.Rows.{is_struct, has_function}
 use Rattle.jl_fault_laws.specs.TypeRows.{declared_before, struct_at, struct_called, struct_built, is_idle, statics_at}
@@ -176,25 +176,25 @@ already n vs e name = by (same_text name n) refl
     by true h = ap (λ x. is_among x vs) (text_is name n h) ∙ e
     by false h = refl
 
-slotted_agrees : (n : Name) (c : Scope) (s : State) (vs : Names) → Agrees c vs → (o : Option ℕ) → slot_of c.slots n.bytes ≡ o → Agrees (slotted n c o s).value (n.bytes ∷ vs)
-slotted_agrees n c s vs h None e = λ name. behind_some 0 c.slots n.bytes name ∙ ap (λ b. same_text name n.bytes || b) (h name)
-slotted_agrees n c s vs h (Some i) e = λ name. behind_none 0 c.slots name ∙ h name ∙ already n.bytes vs (sym (h n.bytes) ∙ ap is_some e) name
+take_slot_agrees : (n : Name) (c : Scope) (s : State) (vs : Names) → Agrees c vs → (o : Option ℕ) → slot_of c.slots n.bytes ≡ o → Agrees (take_slot n c o s).value (n.bytes ∷ vs)
+take_slot_agrees n c s vs h None e = λ name. behind_some 0 c.slots n.bytes name ∙ ap (λ b. same_text name n.bytes || b) (h name)
+take_slot_agrees n c s vs h (Some i) e = λ name. behind_none 0 c.slots name ∙ h name ∙ already n.bytes vs (sym (h n.bytes) ∙ ap is_some e) name
 
-slotted_sees : (t : Tests) (k : Known) (n : Name) (c : Scope) (s : State) (v : Visible) → Sees t k c v → (o : Option ℕ) → slot_of c.slots n.bytes ≡ o → Sees t k (slotted n c o s).value (with_name n.bytes v)
-slotted_sees t k n c s v h None e = record { slots = slotted_agrees n c s v.names h.slots None e; vars = h.vars; statics = h.statics; types = h.types }
-slotted_sees t k n c s v h (Some i) e = record { slots = slotted_agrees n c s v.names h.slots (Some i) e; vars = h.vars; statics = h.statics; types = h.types }
+take_slot_sees : (t : Tests) (k : Known) (n : Name) (c : Scope) (s : State) (v : Visible) → Sees t k c v → (o : Option ℕ) → slot_of c.slots n.bytes ≡ o → Sees t k (take_slot n c o s).value (with_name n.bytes v)
+take_slot_sees t k n c s v h None e = record { slots = take_slot_agrees n c s v.names h.slots None e; vars = h.vars; statics = h.statics; types = h.types }
+take_slot_sees t k n c s v h (Some i) e = record { slots = take_slot_agrees n c s v.names h.slots (Some i) e; vars = h.vars; statics = h.statics; types = h.types }
 
 pub bind_sees : (t : Tests) (k : Known) (n : Name) (c : Scope) (s : State) (v : Visible) → Sees t k c v → Sees t k (bind n c s).value (with_name n.bytes v)
 unfolding bind
-bind_sees t k n c s v h = slotted_sees t k n c (clashing n.at n.bytes s) v h (slot_of c.slots n.bytes) refl
+bind_sees t k n c s v h = take_slot_sees t k n c (clashing n.at n.bytes s) v h (slot_of c.slots n.bytes) refl
 
-slotted_types : (n : Name) (c : Scope) (s : State) (o : Option ℕ) → (slotted n c o s).value.types ≡ c.types
-slotted_types n c s None = refl
-slotted_types n c s (Some i) = refl
+take_slot_types : (n : Name) (c : Scope) (s : State) (o : Option ℕ) → (take_slot n c o s).value.types ≡ c.types
+take_slot_types n c s None = refl
+take_slot_types n c s (Some i) = refl
 
 pub bind_types : (n : Name) (c : Scope) (s : State) → (bind n c s).value.types ≡ c.types
 unfolding bind
-bind_types n c s = slotted_types n c (clashing n.at n.bytes s) (slot_of c.slots n.bytes)
+bind_types n c s = take_slot_types n c (clashing n.at n.bytes s) (slot_of c.slots n.bytes)
 
 -- what is told of a binding
 clashing_told : (at : ℕ) (name : List ℕ) (s : State) → Tells (one (is_among name builtin_names) kind.NameClash at) s.fault (clashing at name s).fault
@@ -204,9 +204,9 @@ clashing_told at name s = by (is_among name builtin_names)
     by true = one_fault (record { at = at; kind = kind.NameClash }) s.fault
     by false = nothing s.fault
 
-slotted_told : (n : Name) (c : Scope) (s : State) (o : Option ℕ) → Tells (one (is_some o) kind.Rebound n.at) s.fault (slotted n c o s).after.fault
-slotted_told n c s None = nothing s.fault
-slotted_told n c s (Some i) = one_fault (record { at = n.at; kind = kind.Rebound }) s.fault
+take_slot_told : (n : Name) (c : Scope) (s : State) (o : Option ℕ) → Tells (one (is_some o) kind.Rebound n.at) s.fault (take_slot n c o s).after.fault
+take_slot_told n c s None = nothing s.fault
+take_slot_told n c s (Some i) = one_fault (record { at = n.at; kind = kind.Rebound }) s.fault
 
 -- the two faults of a binding among those of all rows
 pub two_of : (at : ℕ) (a b : Bool) → one a kind.NameClash at ++ one b kind.Rebound at ≡ (one a kind.NameClash at ++ (one b kind.Rebound at ++ [])) ++ []
@@ -221,21 +221,21 @@ bind_told t k n c s v h m =
     let z = clashing n.at n.bytes s in
     let o = slot_of c.slots n.bytes in
     let a = is_among n.bytes builtin_names in
-    let q = slotted n c o z in
+    let q = take_slot n c o z in
     same _ _ s.fault q.after.fault ((λ i. one a kind.NameClash n.at ++ one (h n.bytes i) kind.Rebound n.at) ∙ two_of n.at a (is_among n.bytes v.names))
-    (two (one a kind.NameClash n.at) (one (is_some o) kind.Rebound n.at) s.fault z.fault q.after.fault (clashing_told n.at n.bytes s) (slotted_told n c z o))
+    (two (one a kind.NameClash n.at) (one (is_some o) kind.Rebound n.at) s.fault z.fault q.after.fault (clashing_told n.at n.bytes s) (take_slot_told n c z o))
 
 clashing_sites : (b : Bool) (at : ℕ) (s : State) → (cond b (note at kind.NameClash s) s).sites ≡ s.sites
 clashing_sites true at s = refl
 clashing_sites false at s = refl
 
-slotted_sites : (n : Name) (c : Scope) (s : State) (o : Option ℕ) → (slotted n c o s).after.sites ≡ s.sites
-slotted_sites n c s None = refl
-slotted_sites n c s (Some i) = refl
+take_slot_sites : (n : Name) (c : Scope) (s : State) (o : Option ℕ) → (take_slot n c o s).after.sites ≡ s.sites
+take_slot_sites n c s None = refl
+take_slot_sites n c s (Some i) = refl
 
 bind_sites : (n : Name) (c : Scope) (s : State) → (bind n c s).after.sites ≡ s.sites
 unfolding bind
-bind_sites n c s = slotted_sites n c (clashing n.at n.bytes s) (slot_of c.slots n.bytes) ∙ clashing_sites (is_among n.bytes builtin_names) n.at s
+bind_sites n c s = take_slot_sites n c (clashing n.at n.bytes s) (slot_of c.slots n.bytes) ∙ clashing_sites (is_among n.bytes builtin_names) n.at s
 
 pub bind_adds : (t : Tests) (k : Known) (n : Name) (c : Scope) (s : State) (v : Visible) → Agrees c v.names → Adds t k (used n.at (bound n.bytes) v ∷ []) s (bind n c s).after
 bind_adds t k n c s v h = adds_alike t k (used n.at (bound n.bytes) v ∷ []) s (bind n c s).after refl (bind_sites n c s) (bind_told t k n c s v h)
@@ -316,7 +316,7 @@ called_at k (C.Plain n) c vs h = named_at k n.bytes c vs h
 called_at k (C.Base at n) c vs h = refl
 called_at k (C.Operator at o) c vs h = refl
 
-pub built_at : (k : Known) (l : TypeText-F ArgText TypeText VarText) (c : Scope) (v : Visible) → Agrees c v.names → made_struct k l c ≡ struct_built k l v.names
+pub built_at : (k : Known) (l : TypeText-F ArgText TypeText VarText) (c : Scope) (v : Visible) → Agrees c v.names → make_struct k l c ≡ struct_built k l v.names
 built_at k (T.Name at n) c v h = named_at k n c v.names h
 built_at k (T.Applied at n xs) c v h = named_at k n c v.names h
 built_at k (T.Paren at u ws) c v h = refl
@@ -333,7 +333,7 @@ struct_is k (C.Plain n) c vs h = named_is k n.bytes c vs h
 struct_is k (C.Base at n) c vs h = refl
 struct_is k (C.Operator at o) c vs h = refl
 
-pub makes_is : (k : Known) (l : TypeText-F ArgText TypeText VarText) (c : Scope) (v : Visible) → Agrees c v.names → is_some (made_struct k l c) ≡ makes_layer (names_told k) l v
+pub makes_is : (k : Known) (l : TypeText-F ArgText TypeText VarText) (c : Scope) (v : Visible) → Agrees c v.names → is_some (make_struct k l c) ≡ makes_layer (names_told k) l v
 makes_is k (T.Name at n) c v h = named_is k n c v.names h
 makes_is k (T.Applied at n xs) c v h = named_is k n c v.names h
 makes_is k (T.Paren at t ws) c v h = refl

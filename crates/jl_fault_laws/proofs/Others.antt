@@ -7,10 +7,10 @@ use Rattle.jl_typeread.specs.declared.tree.ArgText.TheViews.{out-TypeText}
 use Rattle.jl_grammar.specs.declared.tree.Head.{Head}
 use Rattle.jl_written.specs.declared.fault.StaticKind.{StaticKind}
 use Rattle.jl_written.specs.declared.fault.StaticKind.TheVariants as kind
-use Rattle.jl_written.specs.Signatures.{adopted, written_of, signature, body_type, constructor_type}
+use Rattle.jl_written.specs.Signatures.{adopt_bounds, written_of, signature, body_type, constructor_type}
 use Rattle.jl_resolve_forms.specs.declared.known.Known.{Known}
-use Rattle.jl_resolve_forms.specs.Expressions.{type_of, made_args, inferred_refusal}
-use Rattle.jl_resolve_forms.specs.Parameters.{finds_parameters}
+use Rattle.jl_resolve_forms.specs.Expressions.{type_of, make_args, inferred_refusal}
+use Rattle.jl_resolve_forms.specs.Parameters.{has_usable_parameters_at}
 use Rattle.jl_resolve_forms.specs.TypesIn.{Tests, one_type}
 use Rattle.jl_fault_laws.specs.Uses.{Visible, How, called, built, defined, plain_type, written, Use, each, type_uses, arg_uses, signature_uses}
 use Rattle.jl_fault_laws.specs.Rows.{has_row, IsOtherKind, TellTypes}
@@ -43,7 +43,7 @@ module _ (t : Tests) (k : Known) (q : TellTypes t) where
   unfolding type_refusal
   type_other text v =
       let ty = body_type (declared_before k v.types) (statics_at t k v) text in
-      let w = one_type ty.ty (adopted t.below ty.after.places ty.after.vars) in
+      let w = one_type ty.ty (adopt_bounds t.below ty.after.places ty.after.vars) in
       misplaced_other ty.after.misplaced (unless_hidden (type_uses text v) (t.body w)) (hidden_other (type_uses text v) (t.body w) (q.body w))
 
   built_other : (p : Option ℕ) (xs : List ArgText) (v : Visible) → IsOtherKind (built_refusal t k p xs v)
@@ -59,7 +59,7 @@ module _ (t : Tests) (k : Known) (q : TellTypes t) where
       (counted_other b (unless_hidden us (t.body w)) (hidden_other us (t.body w) (q.body w)))
 
   inferred_other : (p : ℕ) → IsOtherKind (inferred_refusal t k p)
-  inferred_other p = by (finds_parameters (slice_get k.decls p))
+  inferred_other p = by (has_usable_parameters_at (slice_get k.decls p))
     where
       last : (b : Bool) → IsOtherKind (cond b (Some kind.TypeLimit) None)
       last true = refl
@@ -83,7 +83,7 @@ module _ (t : Tests) (k : Known) (q : TellTypes t) where
 
   by_use : (h : How) (v : Visible) → IsOtherKind (refused_by t k h v)
   by_use (called f n) v = call_other (struct_called k f v.names)
-  by_use (built text) v = built_other (struct_built k (out-TypeText text) v.names) (made_args (out-TypeText text)) v
+  by_use (built text) v = built_other (struct_built k (out-TypeText text) v.names) (make_args (out-TypeText text)) v
   by_use (defined h) v = signature_other h v
   by_use (plain_type n) v = barred_other (is_barred t k n v)
   by_use (written text) v = type_other text v

@@ -6,7 +6,7 @@ use Rattle.jl_written.specs.declared.fault.Fault.{Fault}
 use Rattle.jl_written.specs.declared.fault.StaticKind.{StaticKind}
 use Rattle.jl_written.specs.declared.fault.StaticKind.TheVariants as kind
 use Rattle.jl_resolve_forms.specs.declared.known.Known.{Known}
-use Rattle.jl_resolve_forms.specs.Top.{resolved}
+use Rattle.jl_resolve_forms.specs.Top.{resolve}
 use Rattle.jl_resolve_forms.specs.TypesIn.{Tests}
 use Rattle.jl_fault_laws.specs.Uses.{Use, names_told, uses_of}
 use Rattle.jl_fault_laws.specs.Rows.{unknown_name, unknown_function, unknown_type, too_many_arguments, rebound, duplicate, name_clash, too_many_sites, is_definition, definitions, holds, has_row, HoldsIn, HoldsAt, IsReportedBy, TellTypes}
@@ -237,8 +237,8 @@ module _ (t : Tests) (k : Known) (items : List Item) (o : Option Fault) (fs : Fo
   abbrev uses : List Use
   uses = uses_of (names_told k) items
 
-  pub types_only : (f : Fault) → (resolved t k items o).fault ≡ Some f → (o ≡ Some f) ⊎ HoldsAt k items f ⊎ RefusedAt t k items f
-  types_only f e = by (only_found (all_faults t k 0 uses) o (resolved t k items o).fault (script_told t k (are_told t k) items fs o) f e)
+  pub types_only : (f : Fault) → (resolve t k items o).fault ≡ Some f → (o ≡ Some f) ⊎ HoldsAt k items f ⊎ RefusedAt t k items f
+  types_only f e = by (only_found (all_faults t k 0 uses) o (resolve t k items o).fault (script_told t k (are_told t k) items fs o) f e)
     where
       last : In f (all_named k 0 uses) ⊎ RefusedIn t k uses f → HoldsAt k items f ⊎ RefusedAt t k items f
       last (inl i) = inl (among_holds k uses f i)
@@ -248,14 +248,14 @@ module _ (t : Tests) (k : Known) (items : List Item) (o : Option Fault) (fs : Fo
       by (inl p) = inl p
       by (inr i) = inr (last (either t k 0 uses f i))
 
-  each_least : (f : Fault) → In f (all_faults t k 0 uses) → IsReportedBy (resolved t k items o).fault f
-  each_least f i = least_rows (all_faults t k 0 uses) o (resolved t k items o).fault (script_told t k (are_told t k) items fs o) f i
+  each_least : (f : Fault) → In f (all_faults t k 0 uses) → IsReportedBy (resolve t k items o).fault f
+  each_least f i = least_rows (all_faults t k 0 uses) o (resolve t k items o).fault (script_told t k (are_told t k) items fs o) f i
 
-  pub types_least : (f : Fault) → RefusedAt t k items f → IsReportedBy (resolved t k items o).fault f
+  pub types_least : (f : Fault) → RefusedAt t k items f → IsReportedBy (resolve t k items o).fault f
   types_least f h = each_least f (refused_among t k 0 uses f h)
 
 pub rows_only : (t : Tests) → TellTypes t → (k : Known) (items : List Item) (o : Option Fault) → FormedItems items → (f : Fault) → has_row f.kind ≡ true →
-    (resolved t k items o).fault ≡ Some f → (o ≡ Some f) ⊎ HoldsAt k items f
+    (resolve t k items o).fault ≡ Some f → (o ≡ Some f) ⊎ HoldsAt k items f
 rows_only t q k items o fs f r e = by (types_only t k items o fs f e)
   where
     by : (o ≡ Some f) ⊎ HoldsAt k items f ⊎ RefusedAt t k items f → (o ≡ Some f) ⊎ HoldsAt k items f
@@ -263,7 +263,7 @@ rows_only t q k items o fs f r e = by (types_only t k items o fs f e)
     by (inr (inl h)) = inr h
     by (inr (inr h)) = absurd (only_names t q k (uses_of (names_told k) items) f r h)
 
-pub rows_least : (t : Tests) → TellTypes t → (k : Known) (items : List Item) (o : Option Fault) → FormedItems items → (f : Fault) → HoldsAt k items f → IsReportedBy (resolved t k items o).fault f
+pub rows_least : (t : Tests) → TellTypes t → (k : Known) (items : List Item) (o : Option Fault) → FormedItems items → (f : Fault) → HoldsAt k items f → IsReportedBy (resolve t k items o).fault f
 rows_least t q k items o fs f h =
     let us = uses_of (names_told k) items in
     each_least t k items o fs f (named_among t k 0 us f (holds_among k us f h))

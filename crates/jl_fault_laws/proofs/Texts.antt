@@ -23,54 +23,54 @@ use Rattle.jl_written.specs.declared.reading.Named.TheVariants as N
 use Rattle.jl_written.specs.declared.reading.Reading.{Reading}
 use Rattle.jl_written.specs.declared.reading.Swap.{Swap}
 use Rattle.jl_written.specs.declared.reading.TypeVar.{TypeVar}
-use Rattle.jl_written.specs.Meaning.{place_of, var_of, var_or, named}
+use Rattle.jl_written.specs.Meaning.{place_of, var_of, var_or, meaning_of}
 use Rattle.jl_written.specs.Meaning as M
-use Rattle.jl_written.specs.Reads.{Typed, Types, TypeReads, ArgReads, VarReads, unread, note, unknown, missing, fresh, placed_layer, placed, arguments, members, rebound, guarded, bind, bind_all, where_at, within, plain, applied, type_reads, arg_reads, var_reads}
+use Rattle.jl_written.specs.Reads.{Typed, Types, TypeReads, ArgReads, VarReads, no_reading, note, note_unknown, missing_arguments, fresh_variable, note_place_of, note_place, read_arguments, read_members, rebound, note_builtin, bind, bind_all, bind_where, within, read_plain, read_applied, type_reads, arg_reads, var_reads}
 use Rattle.jl_written.specs.Reads as R
-use Rattle.jl_written.specs.Signatures.{option_reads, all_read, all_bound, adopted, written_of, signature, shifted, body_type, constructor_type, width_of}
-use Rattle.jl_written.specs.TextOrder.{ordered_by, one_ordered_by}
+use Rattle.jl_written.specs.Signatures.{option_reads, all_read, all_bound, adopt_bounds, written_of, signature, shifted, body_type, constructor_type, width_of}
+use Rattle.jl_written.specs.TextOrder.{reorder_types, reorder_type}
 use Rattle.jl_resolve_forms.specs.declared.known.Known.{Known}
 use Rattle.jl_resolve_forms.specs.declared.state.Scope.{Scope}
 use Rattle.jl_resolve_forms.specs.declared.state.State.{State}
-use Rattle.jl_resolve_forms.specs.Scopes.{noted, merged}
-use Rattle.jl_resolve_forms.specs.TypesIn.{Tests, declared_at, refusal, begins, one_type, made_refusal, body_written, made_at}
-use Rattle.jl_resolve_forms.specs.Expressions.{type_of, made_args, signed_as, signed}
+use Rattle.jl_resolve_forms.specs.Scopes.{note_if, merge_fault}
+use Rattle.jl_resolve_forms.specs.TypesIn.{Tests, declared_at, refusal, start_of, one_type, make_refusal, type_in_body, make_at}
+use Rattle.jl_resolve_forms.specs.Expressions.{type_of, make_args, judge_signature, method_signature}
 use Rattle.jl_type_laws.proofs.TextInduction.{TextCases, by_type, by_arg, by_var}
 use Rattle.jl_fault_laws.specs.Uses.{Visible, Uses, Brings, type_variable, plain_type, braced_type, written, built, used, each, if_read, with_var, with_vars, brought, bare, type_names, type_uses, arg_uses, var_uses, option_uses, options_uses, body_uses, built_uses, in_head, signature_uses}
 use Rattle.jl_fault_laws.specs.Uses as U
 use Rattle.jl_fault_laws.specs.TypeRows.{declared_before, struct_built, is_idle, statics_at, signature_at, any_hides, signature_refusal, type_refusal, built_refusal}
-use Rattle.jl_fault_laws.proofs.Firsts.{Tells, nothing, two, same, swapped, one_fault, given, noted_told}
+use Rattle.jl_fault_laws.proofs.Firsts.{Tells, nothing, two, same, swapped, one_fault, given, note_if_told}
 use Rattle.jl_fault_laws.proofs.Faults.{one, all_faults, Pairs, TellsOf, joined, then_other}
-use Rattle.jl_fault_laws.proofs.Adds.{Adds, adds_alike, noted_same, merged_same}
+use Rattle.jl_fault_laws.proofs.Adds.{Adds, adds_alike, note_if_same, merge_fault_same}
 use Rattle.jl_fault_laws.proofs.Plain.{each_all, type_plain, args_plain}
-use Rattle.jl_fault_laws.proofs.Merged.{merged_told}
+use Rattle.jl_fault_laws.proofs.Merged.{merge_fault_told}
 use Rattle.jl_fault_laws.proofs.Names.{Knows, Sees, one_more, shifted_knows, declared_is, two_of, place_found}
 use Rattle.jl_fault_laws.proofs.Hiding.{each_pairs, both_clear, ordered_clear, one_ordered_clear, type_clear, options_clear, bound_clear, args_clear}
 use Rattle.jl_fault_laws.proofs.Told.{AreTold, SignedTold}
 
 -- ---- readings
 
-missing_told : (bs : List Bound) (inside : Bool) (r : Reading) → Tells [] r.fault (missing bs inside r).after.fault
-missing_told [] inside r = nothing r.fault
-missing_told (b ∷ bs) inside r = missing_told bs inside (fresh b inside r).after
+missing_arguments_told : (bs : List Bound) (inside : Bool) (r : Reading) → Tells [] r.fault (missing_arguments bs inside r).after.fault
+missing_arguments_told [] inside r = nothing r.fault
+missing_arguments_told (b ∷ bs) inside r = missing_arguments_told bs inside (fresh_variable b inside r).after
 
-layer_told : (high : Ty) (l : Ty-F Ty) (r : Reading) → Tells [] r.fault (placed_layer high l r).fault
+layer_told : (high : Ty) (l : Ty-F Ty) (r : Reading) → Tells [] r.fault (note_place_of high l r).fault
 layer_told high (L.Var v) r = nothing r.fault
 layer_told high _ r = nothing r.fault
 
-placed_told : (bs : List Bound) (t : Ty) (r : Reading) → Tells [] r.fault (placed bs t r).fault
-placed_told [] t r = nothing r.fault
-placed_told (b ∷ bs) t r = layer_told b.high (out-Ty t) r
+note_place_told : (bs : List Bound) (t : Ty) (r : Reading) → Tells [] r.fault (note_place bs t r).fault
+note_place_told [] t r = nothing r.fault
+note_place_told (b ∷ bs) t r = layer_told b.high (out-Ty t) r
 
-idle_told : (at : ℕ) (b : Bool) (r : Reading) → Tells ((given (cond (not b) (Some kind.StaticParameterUse) None) at ++ []) ++ []) r.fault (R.used at b r).fault
+idle_told : (at : ℕ) (b : Bool) (r : Reading) → Tells ((given (cond (not b) (Some kind.StaticParameterUse) None) at ++ []) ++ []) r.fault (R.note_use at b r).fault
 idle_told at true r = nothing r.fault
 idle_told at false r = one_fault (record { at = at; kind = kind.StaticParameterUse }) r.fault
 
-unknown_told : (at : ℕ) (r : Reading) → Tells (record { at = at; kind = kind.UnknownType } ∷ []) r.fault (unknown at r).after.fault
-unknown_told at r = one_fault (record { at = at; kind = kind.UnknownType }) r.fault
+note_unknown_told : (at : ℕ) (r : Reading) → Tells (record { at = at; kind = kind.UnknownType } ∷ []) r.fault (note_unknown at r).after.fault
+note_unknown_told at r = one_fault (record { at = at; kind = kind.UnknownType }) r.fault
 
-guarded_told : (at : ℕ) (name : List ℕ) (r : Reading) → Tells (one (is_among name builtin_names) kind.NameClash at) r.fault (guarded at name r).fault
-guarded_told at name r = by (is_among name builtin_names)
+note_builtin_told : (at : ℕ) (name : List ℕ) (r : Reading) → Tells (one (is_among name builtin_names) kind.NameClash at) r.fault (note_builtin at name r).fault
+note_builtin_told at name r = by (is_among name builtin_names)
   where
     by : (b : Bool) → Tells (one b kind.NameClash at) r.fault (cond b (note at kind.NameClash r) r).fault
     by true = one_fault (record { at = at; kind = kind.NameClash }) r.fault
@@ -80,7 +80,7 @@ rebound_told : (at : ℕ) (o : Option TypeVar) (r : Reading) → Tells (one (is_
 rebound_told at None r = nothing r.fault
 rebound_told at (Some v) r = one_fault (record { at = at; kind = kind.Rebound }) r.fault
 
-where_told : (vs : List VarReads) (inside : Bool) (r : Reading) → Tells [] r.fault (where_at vs inside r).fault
+where_told : (vs : List VarReads) (inside : Bool) (r : Reading) → Tells [] r.fault (bind_where vs inside r).fault
 where_told [] inside r = nothing r.fault
 where_told (v ∷ vs) inside r = nothing r.fault
 
@@ -90,14 +90,14 @@ swap_told : (b : Bool) (s : Swap) (fs : List Fault) (o : Option Fault) (r : Read
 swap_told true s fs o r h = h
 swap_told false s fs o r h = h
 
-swapped_told : (start middle : ℕ) (fs : List Fault) (o : Option Fault) (r : Reading) → Tells fs o r.fault → Tells fs o (R.swapped start middle r).fault
+swapped_told : (start middle : ℕ) (fs : List Fault) (o : Option Fault) (r : Reading) → Tells fs o r.fault → Tells fs o (R.swap start middle r).fault
 swapped_told start middle fs o r h = swap_told (nat_lt start middle && nat_lt middle (length r.vars)) (record { start = start; middle = middle; stop = length r.vars }) fs o r h
 
-ordered_told : (ss : List Swap) (ts : Types) (fs : List Fault) (o : Option Fault) → Tells fs o ts.after.fault → Tells fs o (ordered_by ss ts).after.fault
+ordered_told : (ss : List Swap) (ts : Types) (fs : List Fault) (o : Option Fault) → Tells fs o ts.after.fault → Tells fs o (reorder_types ss ts).after.fault
 ordered_told [] ts fs o h = h
 ordered_told (s ∷ ss) ts fs o h = h
 
-one_ordered_told : (ss : List Swap) (t : Typed) (fs : List Fault) (o : Option Fault) → Tells fs o t.after.fault → Tells fs o (one_ordered_by ss t).after.fault
+one_ordered_told : (ss : List Swap) (t : Typed) (fs : List Fault) (o : Option Fault) → Tells fs o t.after.fault → Tells fs o (reorder_type ss t).after.fault
 one_ordered_told [] t fs o h = h
 one_ordered_told (s ∷ ss) t fs o h = h
 
@@ -113,93 +113,93 @@ module _ (tests : Tests) (k : Known) (ds : List Decl) where
     pub name : b.name ≡ x.name
     pub bounds : (vars : List TypeVar) (v : Visible) (inside : Bool) (r : Reading) → Knows tests k vars v → type_names ds ≡ v.types → TellsOf tests k (b.uses v) r.fault (x.bounds vars inside r).after.fault
 
-  arguments_told : (us : List Uses) (xs : List ArgReads) → Pairs IsArg us xs → (bs : List Bound) (vars : List TypeVar) (v : Visible) (inside : Bool) (r : Reading) → Knows tests k vars v → type_names ds ≡ v.types
-      → TellsOf tests k (each us v) r.fault (arguments bs xs vars inside r).after.fault
-  arguments_told [] [] p bs vars v inside r h e = λ n. missing_told bs inside r
-  arguments_told [] (x ∷ xs) p bs vars v inside r h e = absurd p
-  arguments_told (u ∷ us) [] p bs vars v inside r h e = absurd p
-  arguments_told (u ∷ us) (x ∷ xs) p bs vars v inside r h e =
+  read_arguments_told : (us : List Uses) (xs : List ArgReads) → Pairs IsArg us xs → (bs : List Bound) (vars : List TypeVar) (v : Visible) (inside : Bool) (r : Reading) → Knows tests k vars v → type_names ds ≡ v.types
+      → TellsOf tests k (each us v) r.fault (read_arguments bs xs vars inside r).after.fault
+  read_arguments_told [] [] p bs vars v inside r h e = λ n. missing_arguments_told bs inside r
+  read_arguments_told [] (x ∷ xs) p bs vars v inside r h e = absurd p
+  read_arguments_told (u ∷ us) [] p bs vars v inside r h e = absurd p
+  read_arguments_told (u ∷ us) (x ∷ xs) p bs vars v inside r h e =
       let t = x vars inside true r in
-      let z = placed bs t.ty t.after in
-      joined tests k (u v) (each us v) r.fault z.fault (arguments (drop 1 bs) xs vars inside z).after.fault
-      (λ n. then_other (all_faults tests k n (u v)) r.fault t.after.fault z.fault (p.0 vars v inside true r h e n) (placed_told bs t.ty t.after))
-      (arguments_told us xs p.1 (drop 1 bs) vars v inside z h e)
+      let z = note_place bs t.ty t.after in
+      joined tests k (u v) (each us v) r.fault z.fault (read_arguments (drop 1 bs) xs vars inside z).after.fault
+      (λ n. then_other (all_faults tests k n (u v)) r.fault t.after.fault z.fault (p.0 vars v inside true r h e n) (note_place_told bs t.ty t.after))
+      (read_arguments_told us xs p.1 (drop 1 bs) vars v inside z h e)
 
-  members_told : (us : List Uses) (xs : List ArgReads) → Pairs IsArg us xs → (vars : List TypeVar) (v : Visible) (inside : Bool) (r : Reading) → Knows tests k vars v → type_names ds ≡ v.types
-      → TellsOf tests k (each us v) r.fault (members xs vars inside r).after.fault
-  members_told [] [] p vars v inside r h e = λ n. nothing r.fault
-  members_told [] (x ∷ xs) p vars v inside r h e = absurd p
-  members_told (u ∷ us) [] p vars v inside r h e = absurd p
-  members_told (u ∷ us) (x ∷ xs) p vars v inside r h e =
+  read_members_told : (us : List Uses) (xs : List ArgReads) → Pairs IsArg us xs → (vars : List TypeVar) (v : Visible) (inside : Bool) (r : Reading) → Knows tests k vars v → type_names ds ≡ v.types
+      → TellsOf tests k (each us v) r.fault (read_members xs vars inside r).after.fault
+  read_members_told [] [] p vars v inside r h e = λ n. nothing r.fault
+  read_members_told [] (x ∷ xs) p vars v inside r h e = absurd p
+  read_members_told (u ∷ us) [] p vars v inside r h e = absurd p
+  read_members_told (u ∷ us) (x ∷ xs) p vars v inside r h e =
       let t = x vars inside inside r in
-      joined tests k (u v) (each us v) r.fault t.after.fault (members xs vars inside t.after).after.fault (p.0 vars v inside inside r h e) (members_told us xs p.1 vars v inside t.after h e)
+      joined tests k (u v) (each us v) r.fault t.after.fault (read_members xs vars inside t.after).after.fault (p.0 vars v inside inside r h e) (read_members_told us xs p.1 vars v inside t.after h e)
 
   -- by what the name is: a variable, one of the four words, or the place of a declared type
-  plain_by : (at : ℕ) (o : Option TypeVar) (a b c d : Bool) (p : Option ℕ) (inside : Bool) (r : Reading) →
+  read_plain_by : (at : ℕ) (o : Option TypeVar) (a b c d : Bool) (p : Option ℕ) (inside : Bool) (r : Reading) →
       Tells ((given (cond (is_idle o) (Some kind.StaticParameterUse) None) at ++ (one (not (is_some o || (a || (not (b || c) && (d || is_some p))))) kind.UnknownType at ++ [])) ++ []) r.fault
-      (plain ds at (var_or o (cond a N.Any (cond b N.Union (cond c N.Tuple (cond d (N.Nominal INT64) (M.nominal_of p)))))) inside r).after.fault
-  plain_by at (Some x) a b c d p inside r = idle_told at x.usable r
-  plain_by at None true b c d p inside r = nothing r.fault
-  plain_by at None false true c d p inside r = unknown_told at r
-  plain_by at None false false true d p inside r = unknown_told at r
-  plain_by at None false false false true p inside r = missing_told (params_of (slice_get ds INT64)) inside r
-  plain_by at None false false false false (Some n) inside r = missing_told (params_of (slice_get ds n)) inside r
-  plain_by at None false false false false None inside r = unknown_told at r
+      (read_plain ds at (var_or o (cond a N.Any (cond b N.Union (cond c N.Tuple (cond d (N.Nominal INT64) (M.nominal_of p)))))) inside r).after.fault
+  read_plain_by at (Some x) a b c d p inside r = idle_told at x.usable r
+  read_plain_by at None true b c d p inside r = nothing r.fault
+  read_plain_by at None false true c d p inside r = note_unknown_told at r
+  read_plain_by at None false false true d p inside r = note_unknown_told at r
+  read_plain_by at None false false false true p inside r = missing_arguments_told (params_of (slice_get ds INT64)) inside r
+  read_plain_by at None false false false false (Some n) inside r = missing_arguments_told (params_of (slice_get ds n)) inside r
+  read_plain_by at None false false false false None inside r = note_unknown_told at r
 
-  plain_told : (at : ℕ) (n : List ℕ) → IsType (λ v. used at (plain_type n) v ∷ []) (λ vars inside r. plain ds at (named ds vars n) inside r)
-  plain_told at n vars v inside r h e m =
+  read_plain_told : (at : ℕ) (n : List ℕ) → IsType (λ v. used at (plain_type n) v ∷ []) (λ vars inside r. read_plain ds at (meaning_of ds vars n) inside r)
+  read_plain_told at n vars v inside r h e m =
       let a = same_text n (codes "Any") in
       let b = same_text n (codes "Union") in
       let c = same_text n (codes "Tuple") in
       let d = same_text n (codes "Int") in
       let p = place_of (type_names ds) n in
       let q = place_found 0 (type_names ds) n ∙ ap (λ ns. is_among n ns) e in
-      same _ _ r.fault (plain ds at (named ds vars n) inside r).after.fault
-      (λ i. (given (cond (h.idle n i) (Some kind.StaticParameterUse) None) at ++ (one (not (h.names n i || (a || (not (b || c) && (d || q i))))) kind.UnknownType at ++ [])) ++ []) (plain_by at (var_of vars n) a b c d p inside r)
+      same _ _ r.fault (read_plain ds at (meaning_of ds vars n) inside r).after.fault
+      (λ i. (given (cond (h.idle n i) (Some kind.StaticParameterUse) None) at ++ (one (not (h.names n i || (a || (not (b || c) && (d || q i))))) kind.UnknownType at ++ [])) ++ []) (read_plain_by at (var_of vars n) a b c d p inside r)
 
-  applied_by : (at : ℕ) (us : List Uses) (xs : List ArgReads) → Pairs IsArg us xs → (o : Option TypeVar) (a b c d : Bool) (p : Option ℕ) (vars : List TypeVar) (v : Visible) (inside : Bool) (r : Reading)
+  read_applied_by : (at : ℕ) (us : List Uses) (xs : List ArgReads) → Pairs IsArg us xs → (o : Option TypeVar) (a b c d : Bool) (p : Option ℕ) (vars : List TypeVar) (v : Visible) (inside : Bool) (r : Reading)
       → Knows tests k vars v → type_names ds ≡ v.types → (m : ℕ)
       → Tells ((one (not (not (is_some o) && (not a && (b || (c || (d || is_some p)))))) kind.UnknownType at ++ []) ++ all_faults tests k m (if_read (not (is_some o) && (not a && (b || (c || (d || is_some p))))) (each us v))) r.fault
-      (applied ds at (var_or o (cond a N.Any (cond b N.Union (cond c N.Tuple (cond d (N.Nominal INT64) (M.nominal_of p)))))) xs vars inside r).after.fault
-  applied_by at us xs l (Some x) a b c d p vars v inside r h e m = unknown_told at r
-  applied_by at us xs l None true b c d p vars v inside r h e m = unknown_told at r
-  applied_by at us xs l None false true c d p vars v inside r h e m = members_told us xs l vars v inside r h e m
-  applied_by at us xs l None false false true d p vars v inside r h e m = members_told us xs l vars v inside r h e m
-  applied_by at us xs l None false false false true p vars v inside r h e m = arguments_told us xs l (params_of (slice_get ds INT64)) vars v inside r h e m
-  applied_by at us xs l None false false false false (Some n) vars v inside r h e m = arguments_told us xs l (params_of (slice_get ds n)) vars v inside r h e m
-  applied_by at us xs l None false false false false None vars v inside r h e m = unknown_told at r
+      (read_applied ds at (var_or o (cond a N.Any (cond b N.Union (cond c N.Tuple (cond d (N.Nominal INT64) (M.nominal_of p)))))) xs vars inside r).after.fault
+  read_applied_by at us xs l (Some x) a b c d p vars v inside r h e m = note_unknown_told at r
+  read_applied_by at us xs l None true b c d p vars v inside r h e m = note_unknown_told at r
+  read_applied_by at us xs l None false true c d p vars v inside r h e m = read_members_told us xs l vars v inside r h e m
+  read_applied_by at us xs l None false false true d p vars v inside r h e m = read_members_told us xs l vars v inside r h e m
+  read_applied_by at us xs l None false false false true p vars v inside r h e m = read_arguments_told us xs l (params_of (slice_get ds INT64)) vars v inside r h e m
+  read_applied_by at us xs l None false false false false (Some n) vars v inside r h e m = read_arguments_told us xs l (params_of (slice_get ds n)) vars v inside r h e m
+  read_applied_by at us xs l None false false false false None vars v inside r h e m = note_unknown_told at r
 
-  applied_told : (at : ℕ) (n : List ℕ) (us : List Uses) (xs : List ArgReads) → Pairs IsArg us xs
-      → IsType (λ v. used at (braced_type n) v ∷ if_read (U.takes_braces n v) (each us v)) (λ vars inside r. applied ds at (named ds vars n) xs vars inside r)
-  applied_told at n us xs l vars v inside r h e m =
+  read_applied_told : (at : ℕ) (n : List ℕ) (us : List Uses) (xs : List ArgReads) → Pairs IsArg us xs
+      → IsType (λ v. used at (braced_type n) v ∷ if_read (U.takes_braces n v) (each us v)) (λ vars inside r. read_applied ds at (meaning_of ds vars n) xs vars inside r)
+  read_applied_told at n us xs l vars v inside r h e m =
       let a = same_text n (codes "Any") in
       let b = same_text n (codes "Union") in
       let c = same_text n (codes "Tuple") in
       let d = same_text n (codes "Int") in
       let p = place_of (type_names ds) n in
       let q = place_found 0 (type_names ds) n ∙ ap (λ ns. is_among n ns) e in
-      same _ _ r.fault (applied ds at (named ds vars n) xs vars inside r).after.fault
+      same _ _ r.fault (read_applied ds at (meaning_of ds vars n) xs vars inside r).after.fault
       (λ i. (one (not (not (h.names n i) && (not a && (b || (c || (d || q i)))))) kind.UnknownType at ++ []) ++ all_faults tests k m (if_read (not (h.names n i) && (not a && (b || (c || (d || q i))))) (each us v)))
-      (applied_by at us xs l (var_of vars n) a b c d p vars v inside r h e m)
+      (read_applied_by at us xs l (var_of vars n) a b c d p vars v inside r h e m)
 
   -- ---- variables
 
-  variable_told : (at : ℕ) (name : List ℕ) (o : Option TypeVar) (r : Reading) (v : Visible) → is_some o ≡ is_among name v.vars → TellsOf tests k (used at (type_variable name) v ∷ []) r.fault (rebound at o (guarded at name r)).fault
+  variable_told : (at : ℕ) (name : List ℕ) (o : Option TypeVar) (r : Reading) (v : Visible) → is_some o ≡ is_among name v.vars → TellsOf tests k (used at (type_variable name) v ∷ []) r.fault (rebound at o (note_builtin at name r)).fault
   variable_told at name o r v e m =
       let a = is_among name builtin_names in
-      let z = guarded at name r in
+      let z = note_builtin at name r in
       same _ _ r.fault (rebound at o z).fault ((λ i. one a kind.NameClash at ++ one (e i) kind.Rebound at) ∙ two_of at a (is_among name v.vars))
-      (two (one a kind.NameClash at) (one (is_some o) kind.Rebound at) r.fault z.fault (rebound at o z).fault (guarded_told at name r) (rebound_told at o z))
+      (two (one a kind.NameClash at) (one (is_some o) kind.Rebound at) r.fault z.fault (rebound at o z).fault (note_builtin_told at name r) (rebound_told at o z))
 
   bind_told : (b : Brings) (x : VarReads) → IsVar b x → (vars : List TypeVar) (v : Visible) (inside : Bool) (r : Reading) → Knows tests k vars v → type_names ds ≡ v.types
       → TellsOf tests k (b.uses v ++ used b.at (type_variable b.name) v ∷ []) r.fault (bind x vars inside r).after.fault × Knows tests k (bind x vars inside r).vars (with_var b.name v)
   bind_told b x l vars v inside r h e =
       let y = x.bounds vars inside r in
       let o = var_of vars x.name in
-      let z = rebound x.at o (guarded x.at x.name y.after) in (
+      let z = rebound x.at o (note_builtin x.at x.name y.after) in (
         λ m. same _ _ r.fault z.fault (λ i. all_faults tests k m (b.uses v ++ used (sym l.at i) (type_variable (sym l.name i)) v ∷ []))
             (joined tests k (b.uses v) (used x.at (type_variable x.name) v ∷ []) r.fault y.after.fault z.fault (l.bounds vars v inside r h e) (variable_told x.at x.name o y.after v (h.names x.name)) m),
-        subst (λ n. Knows tests k (bind x vars inside r).vars (with_var n v)) (sym l.name) (one_more tests k vars v (record { name = x.name; number = length (guarded x.at x.name y.after).vars; usable = true }) refl h),
+        subst (λ n. Knows tests k (bind x vars inside r).vars (with_var n v)) (sym l.name) (one_more tests k vars v (record { name = x.name; number = length (note_builtin x.at x.name y.after).vars; usable = true }) refl h),
       )
 
   brought_told : (bs : List Brings) (xs : List VarReads) → Pairs IsVar bs xs → (vars : List TypeVar) (v : Visible) (inside : Bool) (r : Reading) → Knows tests k vars v → type_names ds ≡ v.types
@@ -215,7 +215,7 @@ module _ (tests : Tests) (k : Known) (ds : List Decl) where
 
   within_told : (u : Uses) (t : TypeReads) → IsType u t → (bs : List Brings) (xs : List VarReads) → Pairs IsVar bs xs → IsType (λ v. brought bs v ++ u (with_vars bs v)) (within t xs)
   within_told u t l bs xs p vars v inside r h e =
-      let w = where_at xs inside r in
+      let w = bind_where xs inside r in
       let s = bind_all xs vars inside w in
       let q = brought_told bs xs p vars v inside w h e in
       let z = t s.vars inside s.after in
@@ -249,8 +249,8 @@ module _ (tests : Tests) (k : Known) (ds : List Decl) where
 
   cases : TextCases (λ t. IsArg (arg_uses t) (arg_reads ds t)) (λ t. IsType (type_uses t) (type_reads ds t)) (λ t. IsVar (var_uses t) (var_reads ds t))
   cases = record {
-    name = λ at n. text_at (F.Name at n) (plain_told at n);
-    applied = λ at n xs l. text_at (F.Applied at n xs) (applied_told at n (map arg_uses xs) (map (arg_reads ds) xs) (each_pairs IsArg arg_uses (arg_reads ds) xs l));
+    name = λ at n. text_at (F.Name at n) (read_plain_told at n);
+    applied = λ at n xs l. text_at (F.Applied at n xs) (read_applied_told at n (map arg_uses xs) (map (arg_reads ds) xs) (each_pairs IsArg arg_uses (arg_reads ds) xs l));
     paren = λ at t vs l p. text_at (F.Paren at t vs) (within_told (type_uses t) (type_reads ds t) l (map var_uses vs) (map (var_reads ds) vs) (each_pairs IsVar var_uses (var_reads ds) vs p));
     exact = λ t l. arg_at (F.Exact t) (λ vars v outer inner r h e. l vars v inner r h e);
     below_ = λ at t l. arg_at (F.ArgText::Below at t) (λ vars v outer inner r h e. l vars v inner r h e);
@@ -294,49 +294,49 @@ module _ (tests : Tests) (k : Known) (ds : List Decl) where
   made_told : (xs : List ArgText) (p : ℕ) (bs : List Bound) (statics : List TypeVar) (v : Visible) → Knows tests k statics v → type_names ds ≡ v.types
       → TellsOf tests k (each (map arg_uses xs) v) None (constructor_type ds p bs statics xs).after.fault
   made_told xs p bs statics v h e =
-      arguments_told (map arg_uses xs) (map (arg_reads ds) xs) (each_pairs IsArg arg_uses (arg_reads ds) xs (each_all (λ x. IsArg (arg_uses x) (arg_reads ds x)) arg_told xs)) bs (shifted 0 statics) v false unread
+      read_arguments_told (map arg_uses xs) (map (arg_reads ds) xs) (each_pairs IsArg arg_uses (arg_reads ds) xs (each_all (λ x. IsArg (arg_uses x) (arg_reads ds x)) arg_told xs)) bs (shifted 0 statics) v false no_reading
       (shifted_knows tests k 0 statics v h) e
 
 -- ---- types in bodies and signatures
 
 -- a refusal behind the faults of a text
 module _ (t : Tests) (k : Known) where
-  refused_last : (at : ℕ) (o p : Option StaticKind) (fs : List Fault) (q : Option Fault) (s : State) → o ≡ p → Tells fs None q → Tells ((given p at ++ []) ++ fs) s.fault (noted at o (merged q s)).fault
+  refused_last : (at : ℕ) (o p : Option StaticKind) (fs : List Fault) (q : Option Fault) (s : State) → o ≡ p → Tells fs None q → Tells ((given p at ++ []) ++ fs) s.fault (note_if at o (merge_fault q s)).fault
   refused_last at o p fs q s e h =
-      let z = merged q s in
-      same (given o at ++ fs) ((given p at ++ []) ++ fs) s.fault (noted at o z).fault
+      let z = merge_fault q s in
+      same (given o at ++ fs) ((given p at ++ []) ++ fs) s.fault (note_if at o z).fault
       (ap (λ xs. xs ++ fs) (sym (append-nil (given o at))) ∙ ap (λ x. (given x at ++ []) ++ fs) e)
-      (swapped fs (given o at) s.fault (noted at o z).fault (two fs (given o at) s.fault z.fault (noted at o z).fault (merged_told fs q s h) (noted_told at o z)))
+      (swapped fs (given o at) s.fault (note_if at o z).fault (two fs (given o at) s.fault z.fault (note_if at o z).fault (merge_fault_told fs q s h) (note_if_told at o z)))
 
   type_refusal_is : (text : TypeText) (ds : List Decl) (statics : List TypeVar) (v : Visible) → ds ≡ declared_before k v.types → statics ≡ statics_at t k v
       → (body_type ds statics text).after.unclear ≡ any_hides (type_uses text v)
-      → (let ty = body_type ds statics text in refusal t.body ty.after (one_type ty.ty (adopted t.below ty.after.places ty.after.vars))) ≡ type_refusal t k text v
+      → (let ty = body_type ds statics text in refusal t.body ty.after (one_type ty.ty (adopt_bounds t.below ty.after.places ty.after.vars))) ≡ type_refusal t k text v
   unfolding type_refusal
   type_refusal_is text ds statics v e f c =
-      ap (λ b. let ty = body_type ds statics text in cond ty.after.misplaced (Some kind.VariablePlace) (cond b None (t.body (one_type ty.ty (adopted t.below ty.after.places ty.after.vars))))) c
-      ∙ (λ i. let ty = body_type (e i) (f i) text in cond ty.after.misplaced (Some kind.VariablePlace) (cond (any_hides (type_uses text v)) None (t.body (one_type ty.ty (adopted t.below ty.after.places ty.after.vars)))))
+      ap (λ b. let ty = body_type ds statics text in cond ty.after.misplaced (Some kind.VariablePlace) (cond b None (t.body (one_type ty.ty (adopt_bounds t.below ty.after.places ty.after.vars))))) c
+      ∙ (λ i. let ty = body_type (e i) (f i) text in cond ty.after.misplaced (Some kind.VariablePlace) (cond (any_hides (type_uses text v)) None (t.body (one_type ty.ty (adopt_bounds t.below ty.after.places ty.after.vars)))))
 
-  body_written_told : (text : TypeText) (c : Scope) (v : Visible) (s : State) → Sees t k c v → Adds t k (body_uses text v) s (body_written t k text c s).after
-  unfolding body_written
-  body_written_told text c v s h =
+  type_in_body_told : (text : TypeText) (c : Scope) (v : Visible) (s : State) → Sees t k c v → Adds t k (body_uses text v) s (type_in_body t k text c s).after
+  unfolding type_in_body
+  type_in_body_told text c v s h =
       let ds = declared_at k c.types in
       let ty = body_type ds c.statics text in
-      let w = one_type ty.ty (adopted t.below ty.after.places ty.after.vars) in
+      let w = one_type ty.ty (adopt_bounds t.below ty.after.places ty.after.vars) in
       let o = refusal t.body ty.after w in
       let n = width_of ds c.statics text in
-      let raw = type_reads ds text (shifted n c.statics) false unread in
-      adds_alike t k (body_uses text v) s (noted (begins text) o (merged ty.after.fault s)) (type_plain text v) (noted_same (begins text) o (merged ty.after.fault s) ∙ merged_same ty.after.fault s)
+      let raw = type_reads ds text (shifted n c.statics) false no_reading in
+      adds_alike t k (body_uses text v) s (note_if (start_of text) o (merge_fault ty.after.fault s)) (type_plain text v) (note_if_same (start_of text) o (merge_fault ty.after.fault s) ∙ merge_fault_same ty.after.fault s)
       (λ m.
       let fs = all_faults t k m (type_uses text v) in
-      refused_last (begins text) o (type_refusal t k text v) fs ty.after.fault s
-      (type_refusal_is text ds c.statics v (declared_is k c.types v.types h.types) h.statics (one_ordered_clear raw.after.swaps raw ∙ type_clear t k ds text (shifted n c.statics) v false unread (shifted_knows t k n c.statics v h.vars) h.types))
-      (one_ordered_told raw.after.swaps raw fs None (type_told t k ds text (shifted n c.statics) v false unread (shifted_knows t k n c.statics v h.vars) h.types m)))
+      refused_last (start_of text) o (type_refusal t k text v) fs ty.after.fault s
+      (type_refusal_is text ds c.statics v (declared_is k c.types v.types h.types) h.statics (one_ordered_clear raw.after.swaps raw ∙ type_clear t k ds text (shifted n c.statics) v false no_reading (shifted_knows t k n c.statics v h.vars) h.types))
+      (one_ordered_told raw.after.swaps raw fs None (type_told t k ds text (shifted n c.statics) v false no_reading (shifted_knows t k n c.statics v h.vars) h.types m)))
 
   built_refusal_is : (p : ℕ) (xs : List ArgText) (ds : List Decl) (statics : List TypeVar) (v : Visible) (q : Option ℕ) → ds ≡ declared_before k v.types → statics ≡ statics_at t k v → q ≡ Some p
       → (constructor_type ds p (params_of (slice_get k.decls p)) statics xs).after.unclear ≡ any_hides (each (map arg_uses xs) v)
       → (let bs = params_of (slice_get k.decls p) in
       let ty = constructor_type ds p bs statics xs in
-      made_refusal t.body (nat_eq (length xs) (length bs)) ty.after (one_type ty.ty [])) ≡ built_refusal t k q xs v
+      make_refusal t.body (nat_eq (length xs) (length bs)) ty.after (one_type ty.ty [])) ≡ built_refusal t k q xs v
   unfolding built_refusal
   built_refusal_is p xs ds statics v q e f g c =
       ap (λ b. let bs = params_of (slice_get k.decls p) in
@@ -349,28 +349,28 @@ module _ (t : Tests) (k : Known) where
       (cond (not (nat_eq (length ty.after.vars) 0) || not (nat_eq (length xs) (length bs))) (Some kind.WrongParameterCount) (cond (any_hides (each (map arg_uses xs) v)) None (t.body (one_type ty.ty [])))))
       ∙ ap (λ o. built_refusal t k o xs v) (sym g)
 
-  made_at_told : (text : TypeText) (p : ℕ) (c : Scope) (v : Visible) (s : State) → Sees t k c v → struct_built k (out-TypeText text) v.names ≡ Some p
-      → Adds t k (built_uses text v) s (made_at t k (begins text) p (made_args (out-TypeText text)) c s).after
-  unfolding made_at
-  made_at_told text p c v s h e =
-      let at = begins text in
-      let xs = made_args (out-TypeText text) in
+  make_at_told : (text : TypeText) (p : ℕ) (c : Scope) (v : Visible) (s : State) → Sees t k c v → struct_built k (out-TypeText text) v.names ≡ Some p
+      → Adds t k (built_uses text v) s (make_at t k (start_of text) p (make_args (out-TypeText text)) c s).after
+  unfolding make_at
+  make_at_told text p c v s h e =
+      let at = start_of text in
+      let xs = make_args (out-TypeText text) in
       let bs = params_of (slice_get k.decls p) in
       let ds = declared_at k c.types in
       let ty = constructor_type ds p bs c.statics xs in
-      let o = made_refusal t.body (nat_eq (length xs) (length bs)) ty.after (one_type ty.ty []) in
+      let o = make_refusal t.body (nat_eq (length xs) (length bs)) ty.after (one_type ty.ty []) in
       let q = struct_built k (out-TypeText text) v.names in
-      adds_alike t k (built_uses text v) s (noted at o (merged ty.after.fault s)) (args_plain xs v) (noted_same at o (merged ty.after.fault s) ∙ merged_same ty.after.fault s)
+      adds_alike t k (built_uses text v) s (note_if at o (merge_fault ty.after.fault s)) (args_plain xs v) (note_if_same at o (merge_fault ty.after.fault s) ∙ merge_fault_same ty.after.fault s)
       (λ m. refused_last at o (built_refusal t k q xs v) (all_faults t k m (each (map arg_uses xs) v)) ty.after.fault s (built_refusal_is p xs ds c.statics v q (declared_is k c.types v.types h.types) h.statics e
-      (args_clear t k ds xs bs (shifted 0 c.statics) v unread (shifted_knows t k 0 c.statics v h.vars) h.types))
+      (args_clear t k ds xs bs (shifted 0 c.statics) v no_reading (shifted_knows t k 0 c.statics v h.vars) h.types))
       (made_told t k ds xs p bs c.statics v h.vars h.types m))
 
-  signature_is : (types : ℕ) (h : Head) (ts : List (List ℕ)) → type_names (declared_at k types) ≡ ts → signed t k types h ≡ signature_at t k h ts
+  signature_is : (types : ℕ) (h : Head) (ts : List (List ℕ)) → type_names (declared_at k types) ≡ ts → method_signature t k types h ≡ signature_at t k h ts
   unfolding signature_at
-  signature_is types h ts e = ap (λ ds. signed_as t (signature ds (map type_of h.params) h.vars)) (declared_is k types ts e)
+  signature_is types h ts e = ap (λ ds. judge_signature t (signature ds (map type_of h.params) h.vars)) (declared_is k types ts e)
 
   signature_refusal_is : (types : ℕ) (h : Head) (v : Visible) → type_names (declared_at k types) ≡ v.types
-      → (signature (declared_at k types) (map type_of h.params) h.vars).types.after.unclear ≡ any_hides (signature_uses h v) → (signed t k types h).refusal ≡ signature_refusal t k h (bare v)
+      → (signature (declared_at k types) (map type_of h.params) h.vars).types.after.unclear ≡ any_hides (signature_uses h v) → (method_signature t k types h).refusal ≡ signature_refusal t k h (bare v)
   unfolding signature_refusal
   signature_refusal_is types h v e c =
       ap (λ b. let ts = (signature (declared_at k types) (map type_of h.params) h.vars).types in cond ts.after.misplaced (Some kind.VariablePlace) (cond b None (t.signature (written_of t.below ts)))) c
@@ -379,21 +379,21 @@ module _ (t : Tests) (k : Known) where
   signed_told : (types : ℕ) (h : Head) (v : Visible) → type_names (declared_at k types) ≡ v.types → SignedTold t k types h v
   signed_told types h v e =
       let ds = declared_at k types in
-      let s = all_bound ds h.vars [] unread in
+      let s = all_bound ds h.vars [] no_reading in
       let ts = all_read ds (map type_of h.params) s.vars s.after in
       let g = signature ds (map type_of h.params) h.vars in
       let nothing_known : Knows t k [] (bare v) = record { names = λ name. refl; idle = λ name. refl } in
-      let b = bound_told t k ds h.vars [] (bare v) unread nothing_known e in
+      let b = bound_told t k ds h.vars [] (bare v) no_reading nothing_known e in
       let us = brought (map var_uses h.vars) (bare v) in
       let vs = options_uses (map type_of h.params) (in_head h v) in
-      let c = bound_clear t k ds h.vars [] (bare v) unread nothing_known e in
+      let c = bound_clear t k ds h.vars [] (bare v) no_reading nothing_known e in
       record {
         tells = joined t k us vs None s.after.fault g.types.after.fault b.0
             (λ m. ordered_told ts.after.swaps ts (all_faults t k m vs) s.after.fault (options_told t k ds (map type_of h.params) s.vars (in_head h v) s.after b.1 e m));
         knows = b.1;
         is = signature_is types h v.types e;
-        refusal = signature_refusal_is types h v e (ordered_clear ts.after.swaps ts ∙ both_clear us vs unread s.after ts.after c.0 (options_clear t k ds (map type_of h.params) s.vars (in_head h v) s.after c.1 e));
+        refusal = signature_refusal_is types h v e (ordered_clear ts.after.swaps ts ∙ both_clear us vs no_reading s.after ts.after c.0 (options_clear t k ds (map type_of h.params) s.vars (in_head h v) s.after c.1 e));
       }
 
 pub are_told : (t : Tests) (k : Known) → AreTold t k
-are_told t k = record { body = body_written_told t k; made_of = made_at_told t k; of_head = signed_told t k }
+are_told t k = record { body = type_in_body_told t k; made_of = make_at_told t k; of_head = signed_told t k }

@@ -22,33 +22,33 @@ use Rattle.jl_resolve_forms.specs.declared.state.Scope.{Scope}
 use Rattle.jl_resolve_forms.specs.declared.state.Signed.{Signed}
 use Rattle.jl_resolve_forms.specs.declared.state.State.{State}
 use Rattle.jl_resolve_forms.specs.Resolver.{Resolution}
-use Rattle.jl_resolve_forms.specs.Scopes.{slot_of, note, noted, merged, bind}
-use Rattle.jl_resolve_forms.specs.Functions.{place_of_callee, function_of, struct_of, called, called_from}
-use Rattle.jl_resolve_forms.specs.TypesIn.{Tests, declared_at, body_written, made_at, begins}
-use Rattle.jl_resolve_forms.specs.Expressions.{Reads, Defines, Says, binds, returns, does, Evaluates, defines, evaluates, Shows, writes, shows, Tries, all_coded, one_said, all_said, block_of, one_shown, all_shown, bare_scope, one_evaluated, all_evaluated, one_tried, all_tried, local, latest, counted, spawned, made_struct, made_args, call, made, is_a, is_below, signed, opened, named, may_define, if_unknown, too_many, site_limit, names_in, method, reserved, closed, site_of, inferred_refusal, parameters, static_parameters}
+use Rattle.jl_resolve_forms.specs.Scopes.{slot_of, note, note_if, merge_fault, bind}
+use Rattle.jl_resolve_forms.specs.Functions.{place_of_callee, function_of, struct_of, callee_of, callee_from}
+use Rattle.jl_resolve_forms.specs.TypesIn.{Tests, declared_at, type_in_body, make_at, start_of}
+use Rattle.jl_resolve_forms.specs.Expressions.{Reads, Defines, Says, binds, returns, does, Evaluates, defines, evaluates, Shows, writes, shows, Tries, all_coded, one_said, all_said, block_of, one_shown, all_shown, bare_scope, one_evaluated, all_evaluated, one_tried, all_tried, local, latest, count_call, spawned, make_struct, make_args, call, made, is_a, is_below, method_signature, open_method, check_name, may_define, if_unknown, too_many, site_limit, names_in, method, reserve_site, close_site, site_of, inferred_refusal, parameters, static_parameters}
 use Rattle.jl_fault_laws.specs.Uses.{Visible, value, Use, used, Uses, Stated, each, with_names, block, bare, params_of, params_uses, type_names, names_told, if_read, makes, body_uses, built_uses, in_head, after_head, in_body, signature_uses, head_uses}
 use Rattle.jl_fault_laws.specs.Uses as U
 use Rattle.jl_fault_laws.specs.Rows.{is_taken, definitions}
 use Rattle.jl_fault_laws.specs.TypeRows.{struct_built, call_refusal, signature_at, signature_refusal, statics_of}
-use Rattle.jl_fault_laws.proofs.Firsts.{Tells, nothing, two, same, swapped, one_fault, given, noted_told}
+use Rattle.jl_fault_laws.proofs.Firsts.{Tells, nothing, two, same, swapped, one_fault, given, note_if_told}
 use Rattle.jl_fault_laws.proofs.Faults.{one, all_faults, faults_append, definitions_append, Pairs, TellsOf}
-use Rattle.jl_fault_laws.proofs.Adds.{Adds, adds_nothing, adds_joined, adds_alike, adds_same, noted_same, merged_same}
+use Rattle.jl_fault_laws.proofs.Adds.{Adds, adds_nothing, adds_joined, adds_alike, adds_same, note_if_same, merge_fault_same}
 use Rattle.jl_fault_laws.proofs.Plain.{both_plain, signature_plain, params_plain}
-use Rattle.jl_fault_laws.proofs.Merged.{merged_told}
+use Rattle.jl_fault_laws.proofs.Merged.{merge_fault_told}
 use Rattle.jl_fault_laws.proofs.Names.{Knows, Sees, bind_sees, bind_adds, params_see, params_told, params_sites, statics_know, function_is, struct_is, called_at, makes_is, built_at}
 
 -- what is told of the signature of a method
 pub record SignedTold (t : Tests) (k : Known) (types : ℕ) (h : Head) (v : Visible) : Type 0 where
-  pub tells : TellsOf t k (signature_uses h v) None (signed t k types h).fault
-  pub knows : Knows t k (signed t k types h).vars (in_head h v)
-  pub is : signed t k types h ≡ signature_at t k h v.types
-  pub refusal : (signed t k types h).refusal ≡ signature_refusal t k h (bare v)
+  pub tells : TellsOf t k (signature_uses h v) None (method_signature t k types h).fault
+  pub knows : Knows t k (method_signature t k types h).vars (in_head h v)
+  pub is : method_signature t k types h ≡ signature_at t k h v.types
+  pub refusal : (method_signature t k types h).refusal ≡ signature_refusal t k h (bare v)
 
 -- what is told of types, in bodies, in explicit constructors and in signatures
 pub record AreTold (t : Tests) (k : Known) : Type 0 where
-  pub body : (text : TypeText) (c : Scope) (v : Visible) (s : State) → Sees t k c v → Adds t k (body_uses text v) s (body_written t k text c s).after
+  pub body : (text : TypeText) (c : Scope) (v : Visible) (s : State) → Sees t k c v → Adds t k (body_uses text v) s (type_in_body t k text c s).after
   pub made_of : (text : TypeText) (p : ℕ) (c : Scope) (v : Visible) (s : State) → Sees t k c v → struct_built k (out-TypeText text) v.names ≡ Some p
-      → Adds t k (built_uses text v) s (made_at t k (begins text) p (made_args (out-TypeText text)) c s).after
+      → Adds t k (built_uses text v) s (make_at t k (start_of text) p (make_args (out-TypeText text)) c s).after
   pub of_head : (types : ℕ) (h : Head) (v : Visible) → type_names (declared_at k types) ≡ v.types → SignedTold t k types h v
 
 module _ (t : Tests) (k : Known) where
@@ -182,8 +182,8 @@ module _ (t : Tests) (k : Known) where
   abbrev latest_faults : ℕ → Bool → Bool → List Fault
   latest_faults at f m = (one (not f) kind.UnknownFunction at ++ one (f && m) kind.TooManyArguments at) ++ []
 
-  counted_told : (at : ℕ) (xs : Resolution (List Code)) → Tells (one (nat_lt MOST_ARGUMENTS (length xs.value)) kind.TooManyArguments at) xs.after.fault (counted at xs.value xs.after).fault
-  counted_told at xs = by (nat_lt MOST_ARGUMENTS (length xs.value))
+  count_call_told : (at : ℕ) (xs : Resolution (List Code)) → Tells (one (nat_lt MOST_ARGUMENTS (length xs.value)) kind.TooManyArguments at) xs.after.fault (count_call at xs.value xs.after).fault
+  count_call_told at xs = by (nat_lt MOST_ARGUMENTS (length xs.value))
     where
       by : (b : Bool) → Tells (one b kind.TooManyArguments at) xs.after.fault (cond b (note at kind.TooManyArguments xs.after) xs.after).fault
       by true = one_fault (record { at = at; kind = kind.TooManyArguments }) xs.after.fault
@@ -198,17 +198,17 @@ module _ (t : Tests) (k : Known) where
   constructor_told at p xs true = nothing xs.after.fault
   constructor_told at p xs false =
       let o = inferred_refusal t k p in
-      same (given o at) ((given o at ++ []) ++ []) xs.after.fault (noted at o xs.after).fault (no_more (given o at)) (noted_told at o xs.after)
+      same (given o at) ((given o at ++ []) ++ []) xs.after.fault (note_if at o xs.after).fault (no_more (given o at)) (note_if_told at o xs.after)
 
   called_told : (at : ℕ) (p f : Option ℕ) (xs : Resolution (List Code)) →
-      Tells (called_faults at p (is_some p) (is_some f) (nat_lt MOST_ARGUMENTS (length xs.value))) xs.after.fault (call t k at (called_from k.decls p f) xs.value xs.after).after.fault
+      Tells (called_faults at p (is_some p) (is_some f) (nat_lt MOST_ARGUMENTS (length xs.value))) xs.after.fault (call t k at (callee_from k.decls p f) xs.value xs.after).after.fault
   unfolding call
   called_told at (Some p) f xs = constructor_told at p xs (nat_eq (length (parameters_of (slice_get k.decls p))) 0)
-  called_told at None (Some f) xs = same (one (nat_lt MOST_ARGUMENTS (length xs.value)) kind.TooManyArguments at) (one (nat_lt MOST_ARGUMENTS (length xs.value)) kind.TooManyArguments at ++ []) xs.after.fault (counted at xs.value xs.after).fault (sym (append-nil (one (nat_lt MOST_ARGUMENTS (length xs.value)) kind.TooManyArguments at))) (counted_told at xs)
+  called_told at None (Some f) xs = same (one (nat_lt MOST_ARGUMENTS (length xs.value)) kind.TooManyArguments at) (one (nat_lt MOST_ARGUMENTS (length xs.value)) kind.TooManyArguments at ++ []) xs.after.fault (count_call at xs.value xs.after).fault (sym (append-nil (one (nat_lt MOST_ARGUMENTS (length xs.value)) kind.TooManyArguments at))) (count_call_told at xs)
   called_told at None None xs = one_fault (record { at = at; kind = kind.UnknownFunction }) xs.after.fault
 
-  counted_sites : (at : ℕ) (xs : Resolution (List Code)) → (counted at xs.value xs.after).sites ≡ xs.after.sites
-  counted_sites at xs = by (nat_lt MOST_ARGUMENTS (length xs.value))
+  count_call_sites : (at : ℕ) (xs : Resolution (List Code)) → (count_call at xs.value xs.after).sites ≡ xs.after.sites
+  count_call_sites at xs = by (nat_lt MOST_ARGUMENTS (length xs.value))
     where
       by : (b : Bool) → (cond b (note at kind.TooManyArguments xs.after) xs.after).sites ≡ xs.after.sites
       by true = refl
@@ -216,18 +216,18 @@ module _ (t : Tests) (k : Known) where
 
   call_sites : (at : ℕ) (d : Called) (xs : Resolution (List Code)) → (call t k at d xs.value xs.after).after.sites ≡ xs.after.sites
   unfolding call
-  call_sites at (D.Function f) xs = counted_sites at xs
+  call_sites at (D.Function f) xs = count_call_sites at xs
   call_sites at (D.Bare p) xs = refl
-  call_sites at (D.Inferred p) xs = noted_same at (inferred_refusal t k p) xs.after
+  call_sites at (D.Inferred p) xs = note_if_same at (inferred_refusal t k p) xs.after
   call_sites at D.Unknown xs = refl
 
   pub call_told : (f : Callee) (us : List Uses) (xs : List Reads) → Pairs IsTold us xs →
-      IsTold (λ v. each us v ++ used (place_of_callee f) (U.called f (length us)) v ∷ []) (λ c s. let ys = all_coded xs c s in call t k (place_of_callee f) (called k f c) ys.value ys.after)
-  unfolding called
+      IsTold (λ v. each us v ++ used (place_of_callee f) (U.called f (length us)) v ∷ []) (λ c s. let ys = all_coded xs c s in call t k (place_of_callee f) (callee_of k f c) ys.value ys.after)
+  unfolding callee_of
   call_told f us xs h c v s a =
       let ys = all_coded xs c s in
       let at = place_of_callee f in
-      let d = called_from k.decls (struct_of k f c) (function_of k f c) in
+      let d = callee_from k.decls (struct_of k f c) (function_of k f c) in
       let own = used at (U.called f (length us)) v ∷ [] in
       adds_joined t k (each us v) own s ys.after (call t k at d ys.value ys.after).after (all_coded_told us xs h c v s a)
       (adds_alike t k own ys.after (call t k at d ys.value ys.after).after refl (call_sites at d ys)
@@ -237,12 +237,12 @@ module _ (t : Tests) (k : Known) where
 
   latest_of : (at : ℕ) (f : Option ℕ) (xs : Resolution (List Code)) → Tells (latest_faults at (is_some f) (nat_lt MOST_ARGUMENTS (length xs.value))) xs.after.fault (latest at f xs.value xs.after).after.fault
   unfolding latest
-  latest_of at (Some f) xs = same (one (nat_lt MOST_ARGUMENTS (length xs.value)) kind.TooManyArguments at) (one (nat_lt MOST_ARGUMENTS (length xs.value)) kind.TooManyArguments at ++ []) xs.after.fault (counted at xs.value xs.after).fault (sym (append-nil (one (nat_lt MOST_ARGUMENTS (length xs.value)) kind.TooManyArguments at))) (counted_told at xs)
+  latest_of at (Some f) xs = same (one (nat_lt MOST_ARGUMENTS (length xs.value)) kind.TooManyArguments at) (one (nat_lt MOST_ARGUMENTS (length xs.value)) kind.TooManyArguments at ++ []) xs.after.fault (count_call at xs.value xs.after).fault (sym (append-nil (one (nat_lt MOST_ARGUMENTS (length xs.value)) kind.TooManyArguments at))) (count_call_told at xs)
   latest_of at None xs = one_fault (record { at = at; kind = kind.UnknownFunction }) xs.after.fault
 
   latest_sites : (at : ℕ) (f : Option ℕ) (xs : Resolution (List Code)) → (latest at f xs.value xs.after).after.sites ≡ xs.after.sites
   unfolding latest
-  latest_sites at (Some f) xs = counted_sites at xs
+  latest_sites at (Some f) xs = count_call_sites at xs
   latest_sites at None xs = refl
 
   pub latest_told : (f : Callee) (us : List Uses) (xs : List Reads) → Pairs IsTold us xs →
@@ -267,51 +267,51 @@ module _ (t : Tests) (k : Known) where
 
     made_struct_told : (ty : TypeText) (p : Option ℕ) (us : List Uses) (xs : List Reads) → Pairs IsTold us xs → (c : Scope) (v : Visible) (s : State) → Sees t k c v
         → makes (names_told k) ty v ≡ is_some p → struct_built k (out-TypeText ty) v.names ≡ p
-        → Adds t k (if_read (is_some p) (built_uses ty v) ++ (each us v ++ used (begins ty) (U.made ty) v ∷ [])) s (made t k (begins ty) p (made_args (out-TypeText ty)) xs c s).after
+        → Adds t k (if_read (is_some p) (built_uses ty v) ++ (each us v ++ used (start_of ty) (U.made ty) v ∷ [])) s (made t k (start_of ty) p (make_args (out-TypeText ty)) xs c s).after
     unfolding made
     made_struct_told ty None us xs h c v s a e g =
         let ys = all_coded xs c s in
-        let at = begins ty in
+        let at = start_of ty in
         adds_joined t k (each us v) (used at (U.made ty) v ∷ []) s ys.after (note at kind.UnknownFunction ys.after) (all_coded_told us xs h c v s a) (no_struct_told at ty v ys.after e)
     made_struct_told ty (Some p) us xs h c v s a e g =
-        let at = begins ty in
-        let w = made_at t k at p (made_args (out-TypeText ty)) c s in
+        let at = start_of ty in
+        let w = make_at t k at p (make_args (out-TypeText ty)) c s in
         let ys = all_coded xs c w.after in
         adds_joined t k (built_uses ty v) (each us v ++ used at (U.made ty) v ∷ []) s w.after ys.after (types_told.made_of ty p c v s a g)
         (adds_joined t k (each us v) (used at (U.made ty) v ∷ []) w.after ys.after ys.after (all_coded_told us xs h c v w.after a) (struct_told at ty v ys.after e))
 
     pub made_told : (ty : TypeText) (us : List Uses) (xs : List Reads) → Pairs IsTold us xs →
-        IsTold (λ v. if_read (makes (names_told k) ty v) (built_uses ty v) ++ (each us v ++ used (begins ty) (U.made ty) v ∷ []))
-        (λ c s. made t k (begins ty) (made_struct k (out-TypeText ty) c) (made_args (out-TypeText ty)) xs c s)
+        IsTold (λ v. if_read (makes (names_told k) ty v) (built_uses ty v) ++ (each us v ++ used (start_of ty) (U.made ty) v ∷ []))
+        (λ c s. made t k (start_of ty) (make_struct k (out-TypeText ty) c) (make_args (out-TypeText ty)) xs c s)
     made_told ty us xs h c v s a =
-        let p = made_struct k (out-TypeText ty) c in
+        let p = make_struct k (out-TypeText ty) c in
         let e = makes_is k (out-TypeText ty) c v a.slots in
-        subst (λ b. Adds t k (if_read b (built_uses ty v) ++ (each us v ++ used (begins ty) (U.made ty) v ∷ [])) s (made t k (begins ty) p (made_args (out-TypeText ty)) xs c s).after) e
+        subst (λ b. Adds t k (if_read b (built_uses ty v) ++ (each us v ++ used (start_of ty) (U.made ty) v ∷ [])) s (made t k (start_of ty) p (make_args (out-TypeText ty)) xs c s).after) e
         (made_struct_told ty p us xs h c v s a (sym e) (sym (built_at k (out-TypeText ty) c v a.slots)))
 
     pub isa_told : (u : Uses) (x : Reads) (ty : TypeText) → IsTold u x → IsTold (λ v. u v ++ body_uses ty v) (is_a t k x ty)
     isa_told u x ty h c v s a =
         let y = x c s in
-        adds_joined t k (u v) (body_uses ty v) s y.after (body_written t k ty c y.after).after (h c v s a) (types_told.body ty c v y.after a)
+        adds_joined t k (u v) (body_uses ty v) s y.after (type_in_body t k ty c y.after).after (h c v s a) (types_told.body ty c v y.after a)
 
     pub below_told : (a b : TypeText) → IsTold (λ v. body_uses a v ++ body_uses b v) (is_below t k a b)
     below_told a b c v s g =
-        let y = body_written t k a c s in
-        adds_joined t k (body_uses a v) (body_uses b v) s y.after (body_written t k b c y.after).after (types_told.body a c v s g) (types_told.body b c v y.after g)
+        let y = type_in_body t k a c s in
+        adds_joined t k (body_uses a v) (body_uses b v) s y.after (type_in_body t k b c y.after).after (types_told.body a c v s g) (types_told.body b c v y.after g)
 
     -- ---- methods
 
-    define_told : (f : Callee) (at : ℕ) (s : State) → Tells (one (is_taken k f) kind.NameClash at) s.fault (noted at (may_define k f) s).fault
+    define_told : (f : Callee) (at : ℕ) (s : State) → Tells (one (is_taken k f) kind.NameClash at) s.fault (note_if at (may_define k f) s).fault
     define_told (C.Plain n) at s = by (is_among n.bytes builtin_names) (is_among n.bytes (names_in k.types))
       where
-        by : (a b : Bool) → Tells (one (a || b) kind.NameClash at) s.fault (noted at (cond a (Some kind.NameClash) (cond b (Some kind.NameClash) None)) s).fault
+        by : (a b : Bool) → Tells (one (a || b) kind.NameClash at) s.fault (note_if at (cond a (Some kind.NameClash) (cond b (Some kind.NameClash) None)) s).fault
         by true b = one_fault (record { at = at; kind = kind.NameClash }) s.fault
         by false true = one_fault (record { at = at; kind = kind.NameClash }) s.fault
         by false false = nothing s.fault
     define_told (C.Base x n) at s = nothing s.fault
     define_told (C.Operator x o) at s = nothing s.fault
 
-    unknown_told : (at : ℕ) (f : Option ℕ) (s : State) → Tells (one (not (is_some f)) kind.UnknownFunction at ++ []) s.fault (noted at (if_unknown f) s).fault
+    unknown_told : (at : ℕ) (f : Option ℕ) (s : State) → Tells (one (not (is_some f)) kind.UnknownFunction at ++ []) s.fault (note_if at (if_unknown f) s).fault
     unknown_told at None s = one_fault (record { at = at; kind = kind.UnknownFunction }) s.fault
     unknown_told at (Some f) s = nothing s.fault
 
@@ -329,58 +329,58 @@ module _ (t : Tests) (k : Known) where
         by true false x y = let p = leb-true site_limit m x in let q = leb-false MOST_SITES n y in absurd (omega (arith, e, p, q))
         by false true x y = let p = leb-false site_limit m x in let q = leb-true MOST_SITES n y in absurd (omega (arith, e, p, q))
 
-    many_told : (at : ℕ) (s : State) (n : ℕ) → length s.sites ≡ n + PRELUDE_SITES → Tells (one (nat_le MOST_SITES n) kind.TooManySites at) s.fault (noted at (too_many s) s).fault
-    many_told at s n e = same (one (nat_le site_limit (length s.sites)) kind.TooManySites at) (one (nat_le MOST_SITES n) kind.TooManySites at) s.fault (noted at (too_many s) s).fault
+    many_told : (at : ℕ) (s : State) (n : ℕ) → length s.sites ≡ n + PRELUDE_SITES → Tells (one (nat_le MOST_SITES n) kind.TooManySites at) s.fault (note_if at (too_many s) s).fault
+    many_told at s n e = same (one (nat_le site_limit (length s.sites)) kind.TooManySites at) (one (nat_le MOST_SITES n) kind.TooManySites at) s.fault (note_if at (too_many s) s).fault
         (ap (λ b. one b kind.TooManySites at) (limit_is (length s.sites) n e)) (by (nat_le site_limit (length s.sites)))
       where
-        by : (b : Bool) → Tells (one b kind.TooManySites at) s.fault (noted at (cond b (Some kind.TooManySites) None) s).fault
+        by : (b : Bool) → Tells (one b kind.TooManySites at) s.fault (note_if at (cond b (Some kind.TooManySites) None) s).fault
         by true = one_fault (record { at = at; kind = kind.TooManySites }) s.fault
         by false = nothing s.fault
 
-    named_sites : (at : ℕ) (callee : Callee) (f : Option ℕ) (g : Signed) (s : State) → (named k at callee f g s).sites ≡ s.sites
-    named_sites at callee f g s =
-        let s0 = noted at (if_unknown f) s in
-        let s1 = noted at (may_define k callee) s0 in
-        let s2 = merged g.fault s1 in
-        let s3 = noted at g.refusal s2 in
-        noted_same at (too_many s3) s3 ∙ noted_same at g.refusal s2 ∙ merged_same g.fault s1 ∙ noted_same at (may_define k callee) s0 ∙ noted_same at (if_unknown f) s
+    check_name_sites : (at : ℕ) (callee : Callee) (f : Option ℕ) (g : Signed) (s : State) → (check_name k at callee f g s).sites ≡ s.sites
+    check_name_sites at callee f g s =
+        let s0 = note_if at (if_unknown f) s in
+        let s1 = note_if at (may_define k callee) s0 in
+        let s2 = merge_fault g.fault s1 in
+        let s3 = note_if at g.refusal s2 in
+        note_if_same at (too_many s3) s3 ∙ note_if_same at g.refusal s2 ∙ merge_fault_same g.fault s1 ∙ note_if_same at (may_define k callee) s0 ∙ note_if_same at (if_unknown f) s
 
-    named_told : (at : ℕ) (callee : Callee) (f : Option ℕ) (g : Signed) (fs : List Fault) → Tells fs None g.fault → (s : State) (n : ℕ) → length s.sites ≡ n + PRELUDE_SITES →
+    check_name_told : (at : ℕ) (callee : Callee) (f : Option ℕ) (g : Signed) (fs : List Fault) → Tells fs None g.fault → (s : State) (n : ℕ) → length s.sites ≡ n + PRELUDE_SITES →
         Tells ((given g.refusal at ++ (one (nat_le MOST_SITES n) kind.TooManySites at ++ (one (is_taken k callee) kind.NameClash at ++ (one (not (is_some f)) kind.UnknownFunction at ++ [])))) ++ fs) s.fault
-        (named k at callee f g s).fault
-    named_told at callee f g fs x s n e =
+        (check_name k at callee f g s).fault
+    check_name_told at callee f g fs x s n e =
         let us = one (not (is_some f)) kind.UnknownFunction at ++ [] in
         let cs = one (is_taken k callee) kind.NameClash at in
         let ms = one (nat_le MOST_SITES n) kind.TooManySites at in
         let rs = given g.refusal at in
-        let s0 = noted at (if_unknown f) s in
-        let s1 = noted at (may_define k callee) s0 in
-        let s2 = merged g.fault s1 in
-        let s3 = noted at g.refusal s2 in
-        let s4 = noted at (too_many s3) s3 in
-        let l = ap (λ xs. length xs) (noted_same at g.refusal s2 ∙ merged_same g.fault s1 ∙ noted_same at (may_define k callee) s0 ∙ noted_same at (if_unknown f) s) in
+        let s0 = note_if at (if_unknown f) s in
+        let s1 = note_if at (may_define k callee) s0 in
+        let s2 = merge_fault g.fault s1 in
+        let s3 = note_if at g.refusal s2 in
+        let s4 = note_if at (too_many s3) s3 in
+        let l = ap (λ xs. length xs) (note_if_same at g.refusal s2 ∙ merge_fault_same g.fault s1 ∙ note_if_same at (may_define k callee) s0 ∙ note_if_same at (if_unknown f) s) in
         same ((rs ++ ms) ++ ((cs ++ us) ++ fs)) _ s.fault s4.fault (in_rows rs ms cs us fs)
         (swapped ((cs ++ us) ++ fs) (rs ++ ms) s.fault s4.fault (two ((cs ++ us) ++ fs) (rs ++ ms) s.fault s2.fault s4.fault
-        (two (cs ++ us) fs s.fault s1.fault s2.fault (swapped us cs s.fault s1.fault (two us cs s.fault s0.fault s1.fault (unknown_told at f s) (define_told callee at s0))) (merged_told fs g.fault s1 x))
-        (two rs ms s2.fault s3.fault s4.fault (noted_told at g.refusal s2) (many_told at s3 n (l ∙ e)))))
+        (two (cs ++ us) fs s.fault s1.fault s2.fault (swapped us cs s.fault s1.fault (two us cs s.fault s0.fault s1.fault (unknown_told at f s) (define_told callee at s0))) (merge_fault_told fs g.fault s1 x))
+        (two rs ms s2.fault s3.fault s4.fault (note_if_told at g.refusal s2) (many_told at s3 n (l ∙ e)))))
 
     -- a method up to its body, before its site is there
     pub record Opens (h : Head) (v : Visible) (types : ℕ) (s : State) : Type 0 where
-      pub sites : (opened t k h types s).after.sites ≡ s.sites
-      pub tells : (n : ℕ) → length s.sites ≡ n + PRELUDE_SITES → Tells (all_faults t k n (head_uses h v)) s.fault (opened t k h types s).after.fault
-      pub sees : Sees t k (opened t k h types s).value.scope (in_body h v)
+      pub sites : (open_method t k h types s).after.sites ≡ s.sites
+      pub tells : (n : ℕ) → length s.sites ≡ n + PRELUDE_SITES → Tells (all_faults t k n (head_uses h v)) s.fault (open_method t k h types s).after.fault
+      pub sees : Sees t k (open_method t k h types s).value.scope (in_body h v)
 
-    statics_are : (types : ℕ) (h : Head) (ts : List (List ℕ)) → signed t k types h ≡ signature_at t k h ts → static_parameters (signed t k types h).sig (signed t k types h).vars ≡ statics_of t k h ts
+    statics_are : (types : ℕ) (h : Head) (ts : List (List ℕ)) → method_signature t k types h ≡ signature_at t k h ts → static_parameters (method_signature t k types h).sig (method_signature t k types h).vars ≡ statics_of t k h ts
     unfolding statics_of
     statics_are types h ts e = ap (λ (g : Signed). static_parameters g.sig g.vars) e
 
-    opened_told : (h : Head) (types : ℕ) (v : Visible) (s : State) → type_names (declared_at k types) ≡ v.types → Opens h v types s
-    unfolding opened
-    opened_told h types v s e =
+    open_method_told : (h : Head) (types : ℕ) (v : Visible) (s : State) → type_names (declared_at k types) ≡ v.types → Opens h v types s
+    unfolding open_method
+    open_method_told h types v s e =
         let at = place_of_callee h.callee in
         let f = function_of k h.callee (bare_scope types) in
-        let g = signed t k types h in
-        let s1 = named k at h.callee f g s in
+        let g = method_signature t k types h in
+        let s1 = check_name k at h.callee f g s in
         let c : Scope = record { slots = []; statics = static_parameters g.sig g.vars; types = types } in
         let q = types_told.of_head types h v e in
         let same_statics = statics_are types h v.types q.is in
@@ -395,7 +395,7 @@ module _ (t : Tests) (k : Known) where
         let z = (parameters h.params c s1).after in
         let params = params_uses h.params (after_head h v) in
         record {
-          sites = params_sites h.params c s1 ∙ named_sites at h.callee f g s;
+          sites = params_sites h.params c s1 ∙ check_name_sites at h.callee f g s;
           tells = λ n i.
               let m = n + definitions (own ∷ sig) in
               same (all_faults t k n (own ∷ sig) ++ all_faults t k m params) (all_faults t k n (head_uses h v)) s.fault z.fault (faults_append t k n (own ∷ sig) params)
@@ -403,7 +403,7 @@ module _ (t : Tests) (k : Known) where
               (same _ _ s.fault s1.fault
               (λ j. (given (q.refusal j) at ++ (one (nat_le MOST_SITES n) kind.TooManySites at ++ (one (is_taken k h.callee) kind.NameClash at
               ++ (one (not (function_is k h.callee (bare_scope types) [] (λ name. refl) j)) kind.UnknownFunction at ++ [])))) ++ all_faults t k (suc n) sig)
-              (named_told at h.callee f g (all_faults t k (suc n) sig) (q.tells (suc n)) s n i))
+              (check_name_told at h.callee f g (all_faults t k (suc n) sig) (q.tells (suc n)) s n i))
               (params_told t k h.params c s1 (after_head h v) sees m));
           sees = params_see t k h.params c s1 (after_head h v) sees;
         }
@@ -412,11 +412,11 @@ module _ (t : Tests) (k : Known) where
     head_counts h v = ap suc (both_plain (signature_uses h v) (params_uses h.params (after_head h v)) (signature_plain h v) (params_plain h.params (after_head h v)))
 
     pub method_told : (h : Head) (u : Uses) (x : Reads) → IsTold u x → IsToldMethod (λ v. head_uses h v ++ u (in_body h v)) (method t k h x)
-    unfolding reserved closed
+    unfolding reserve_site close_site
     method_told h u x told types v s e =
-        let o = opened t k h types s in
-        let r = opened_told h types v s e in
-        let z = reserved o.value o.after in
+        let o = open_method t k h types s in
+        let r = open_method_told h types v s e in
+        let z = reserve_site o.value o.after in
         let y = x o.value.scope z in
         let body = told o.value.scope (in_body h v) z r.sees in
         let hs = head_uses h v in

@@ -28,7 +28,7 @@ use Rattle.jl_resolve_forms.specs.declared.known.Known.{Known}
 use Rattle.jl_resolve_forms.specs.declared.state.Scope.{Scope}
 use Rattle.jl_resolve_forms.specs.declared.state.State.{State}
 use Rattle.jl_resolve_forms.specs.Scopes.{bind}
-use Rattle.jl_resolve_forms.specs.Top.{first_at, clash, top_bind, all_top, beginning, resolved}
+use Rattle.jl_resolve_forms.specs.Top.{first_at, clash, top_bind, all_top, beginning, resolve}
 use Rattle.jl_resolve_forms.specs.TypesIn.{Tests, declared_at}
 use Rattle.jl_resolve_forms.specs.Expressions as R
 use Rattle.jl_resolve_forms.specs.Expressions.{Reads, Defines, Says, Evaluates, Shows, Tries, bare_scope, expr_reads, method_reads, stmt_reads, eval_reads, piece_reads, branch_reads, all_coded}
@@ -266,6 +266,6 @@ module _ (t : Tests) (k : Known) (types_told : AreTold t k) where
       let y = expr_reads t k d c s in
       adds_joined t k (expr_uses d (at_top told n vs)) (items_uses told xs n vs) s y.after (all_top t k xs c y.after).after (expr_told false d f c (at_top told n vs) s a) (items_told xs fs c n vs y.after a e)
 
-  pub script_told : (xs : List Item) → FormedItems xs → (f : Option Fault) → Tells (all_faults t k 0 (uses_of told xs)) f (resolved t k xs f).fault
+  pub script_told : (xs : List Item) → FormedItems xs → (f : Option Fault) → Tells (all_faults t k 0 (uses_of told xs)) f (resolve t k xs f).fault
   script_told xs fs f =
       (items_told xs fs (bare_scope BUILTIN_TYPES) BUILTIN_TYPES [] (beginning f) (top_sees (bare_scope BUILTIN_TYPES) BUILTIN_TYPES [] (λ name. refl) refl refl) refl).tells 0 refl

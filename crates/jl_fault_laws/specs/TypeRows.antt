@@ -19,10 +19,10 @@ use Rattle.jl_written.specs.declared.fault.StaticKind.{StaticKind}
 use Rattle.jl_written.specs.declared.fault.StaticKind.TheVariants as kind
 use Rattle.jl_written.specs.declared.reading.TypeVar.{TypeVar}
 use Rattle.jl_written.specs.Meaning.{place_of, var_of}
-use Rattle.jl_written.specs.Signatures.{adopted, written_of, signature, body_type, constructor_type}
+use Rattle.jl_written.specs.Signatures.{adopt_bounds, written_of, signature, body_type, constructor_type}
 use Rattle.jl_resolve_forms.specs.declared.known.Known.{Known}
 use Rattle.jl_resolve_forms.specs.declared.state.Signed.{Signed}
-use Rattle.jl_resolve_forms.specs.Expressions.{type_of, made_args, signed_as, static_parameters, inferred_refusal}
+use Rattle.jl_resolve_forms.specs.Expressions.{type_of, make_args, judge_signature, static_parameters, inferred_refusal}
 use Rattle.jl_resolve_forms.specs.Functions.{if_struct}
 use Rattle.jl_resolve_forms.specs.TypesIn.{Tests, one_type}
 use Rattle.jl_fault_laws.specs.Uses.{Names, Visible, How, called, built, defined, plain_type, written, Use, each, names_told, type_names, type_uses, arg_uses, signature_uses, uses_of}
@@ -73,7 +73,7 @@ unless_misplaced misplaced o = if misplaced then Some kind.VariablePlace else o
 module _ (t : Tests) (k : Known) where
   -- what the signature of a method means after these types
   unfoldable pub signature_at : Head → Names → Signed
-  signature_at h types = signed_as t (signature (declared_before k types) (map type_of h.params) h.vars)
+  signature_at h types = judge_signature t (signature (declared_before k types) (map type_of h.params) h.vars)
 
   -- the type variables of a method, with whether its body may use them
   unfoldable pub statics_of : Head → Names → List TypeVar
@@ -102,7 +102,7 @@ module _ (t : Tests) (k : Known) where
   unfoldable pub type_refusal : TypeText → Visible → Option StaticKind
   type_refusal text v =
       let ty = body_type (declared_before k v.types) (statics_at v) text in
-      unless_misplaced ty.after.misplaced (unless_hidden (type_uses text v) (t.body (one_type ty.ty (adopted t.below ty.after.places ty.after.vars))))
+      unless_misplaced ty.after.misplaced (unless_hidden (type_uses text v) (t.body (one_type ty.ty (adopt_bounds t.below ty.after.places ty.after.vars))))
 
   -- what refuses the type of a struct with these arguments in braces: they must be as many as declared, and bring no variable
   unfoldable pub built_refusal : Option ℕ → List ArgText → Visible → Option StaticKind
@@ -122,7 +122,7 @@ module _ (t : Tests) (k : Known) where
   -- what refuses a use for its types
   abbrev pub refused_by : How → Visible → Option StaticKind
   refused_by (called f n) v = call_refusal (struct_called k f v.names)
-  refused_by (built text) v = built_refusal (struct_built k (out-TypeText text) v.names) (made_args (out-TypeText text)) v
+  refused_by (built text) v = built_refusal (struct_built k (out-TypeText text) v.names) (make_args (out-TypeText text)) v
   refused_by (defined h) v = signature_refusal h v
   refused_by (plain_type n) v = if is_barred n v then Some kind.StaticParameterUse else None
   refused_by (written text) v = type_refusal text v

@@ -30,10 +30,10 @@ use Rattle.jl_grammar.specs.declared.tree.Stmt.{Stmt}
 use Rattle.jl_model.specs.declared.builtin.TheConstants.{BUILTIN_TYPES}
 use Rattle.jl_written.specs.Meaning.{place_of}
 use Rattle.jl_resolve_forms.specs.declared.known.Known.{Known}
-use Rattle.jl_resolve_forms.specs.Expressions.{made_args, type_of}
+use Rattle.jl_resolve_forms.specs.Expressions.{make_args, type_of}
 use Rattle.jl_resolve_forms.specs.Functions.{if_struct, place_of_callee}
 use Rattle.jl_resolve_forms.specs.Top.{first_at}
-use Rattle.jl_resolve_forms.specs.TypesIn.{begins}
+use Rattle.jl_resolve_forms.specs.TypesIn.{start_of}
 
 abbrev pub Names : Type 0
 Names = List (List ℕ)
@@ -223,11 +223,11 @@ options_uses (t ∷ ts) v = option_uses t v ++ options_uses ts v
 
 -- a type in a body
 abbrev pub body_uses : TypeText → Uses
-body_uses t v = used (begins t) (written t) v ∷ type_uses t v
+body_uses t v = used (start_of t) (written t) v ∷ type_uses t v
 
 -- the type arguments of a struct that is called
 abbrev pub built_uses : TypeText → Uses
-built_uses t v = used (begins t) (built t) v ∷ each (map arg_uses (made_args (out-TypeText t))) v
+built_uses t v = used (start_of t) (built t) v ∷ each (map arg_uses (make_args (out-TypeText t))) v
 
 -- ---- of a method up to its body
 
@@ -269,7 +269,7 @@ module _ (g : ScriptNames) where
   expr_step (F.Paren at x) v = x v
   expr_step (F.Tuple at xs) v = each xs v
   expr_step (F.Call at f xs) v = each xs v ++ used (place_of_callee f) (called f (length xs)) v ∷ []
-  expr_step (F.Make at ty xs) v = if_read (makes ty v) (built_uses ty v) ++ (each xs v ++ used (begins ty) (made ty) v ∷ [])
+  expr_step (F.Make at ty xs) v = if_read (makes ty v) (built_uses ty v) ++ (each xs v ++ used (start_of ty) (made ty) v ∷ [])
   expr_step (F.Field at x n) v = x v
   expr_step (F.Part at x n) v = x v
   expr_step (F.Prefix at o x) v = x v

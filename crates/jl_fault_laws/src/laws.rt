@@ -6,7 +6,7 @@ ghost use Rattle.jl_grammar.specs.declared.tree.Item.{Item};
 ghost use Rattle.jl_formed.specs.Formed.{FormedItems};
 ghost use Rattle.jl_written.specs.declared.fault.Fault.{Fault};
 ghost use Rattle.jl_resolve_forms.specs.declared.known.Known.{Known};
-ghost use Rattle.jl_resolve_forms.specs.Top.{resolved};
+ghost use Rattle.jl_resolve_forms.specs.Top.{resolve};
 ghost use Rattle.jl_resolve_forms.specs.TypesIn.{Tests};
 ghost use Rattle.jl_written.specs.declared.fault.StaticKind.TheVariants.{UnknownName, UnknownFunction, UnknownType, TooManyArguments, TooManySites, Rebound, NameClash, StaticParameterUse};
 ghost use Rattle.jl_fault_laws.specs.Examples.{known, good, with_unknown_name, with_unknown_function, with_many_arguments, with_unknown_type, with_two_variables, with_function_name, with_two_bindings, with_built_in, known_struct, with_inferred, method_at, lines, fault};
@@ -19,9 +19,9 @@ ghost use Rattle.jl_fault_laws.specs.TypeRows.{RefusedAt};
 #[tactic(none)]
 pub fn law_rows()
     ensures only { (t : Tests) → TellTypes t → (k : Known) (items : List Item) (o : Option Fault) → FormedItems items → (f : Fault) → has_row f.kind ≡ true
-        → (resolved t k items o).fault ≡ Some f → (o ≡ Some f) ⊎ HoldsAt k items f }
+        → (resolve t k items o).fault ≡ Some f → (o ≡ Some f) ⊎ HoldsAt k items f }
     ensures least { (t : Tests) → TellTypes t → (k : Known) (items : List Item) (o : Option Fault) → FormedItems items → (f : Fault) → HoldsAt k items f
-        → IsReportedBy (resolved t k items o).fault f }
+        → IsReportedBy (resolve t k items o).fault f }
 {}
 
 /// Each fault of well-formed items. `only`: a fault is reported only where its row of names holds of a use at its place, where a use at
@@ -30,9 +30,9 @@ pub fn law_rows()
 #[tactic(none)]
 pub fn law_each_fault()
     ensures only { (t : Tests) (k : Known) (items : List Item) (o : Option Fault) → FormedItems items → (f : Fault)
-        → (resolved t k items o).fault ≡ Some f → (o ≡ Some f) ⊎ HoldsAt k items f ⊎ RefusedAt t k items f }
+        → (resolve t k items o).fault ≡ Some f → (o ≡ Some f) ⊎ HoldsAt k items f ⊎ RefusedAt t k items f }
     ensures least { (t : Tests) (k : Known) (items : List Item) (o : Option Fault) → FormedItems items → (f : Fault) → RefusedAt t k items f
-        → IsReportedBy (resolved t k items o).fault f }
+        → IsReportedBy (resolve t k items o).fault f }
 {}
 
 /// The rows are computed on small scripts: none holds of a program, and each holds where its fault stands.

@@ -12,12 +12,12 @@ use Rattle.jl_grammar.specs.declared.tree.Header.{Header}
 use Rattle.jl_grammar.specs.declared.tree.Param.{Param}
 use Rattle.jl_grammar.specs.Forms as M
 use Rattle.jl_grammar.specs.Grammar as GR
-use Rattle.jl_grammar.specs.Texts.{Text, opr, placed, lexemes}
-use Rattle.jl_grammar.specs.Types.{written}
+use Rattle.jl_grammar.specs.Texts.{Text, opr, name_in, lexemes}
+use Rattle.jl_grammar.specs.Types.{type_as_read}
 use Rattle.jl_formed.specs.Formed as F
 use Rattle.jl_formed.specs.Formed.{FormedOption, FormedCallee, FormedParam, FormedParams, FormedHead, FormedVars, FormedHeader, FormedField, FormedFields}
 use Rattle.jl_formed.proofs.Sound.{Sound, text_split}
-use Rattle.jl_formed.proofs.Types.{formed_type, formed_where, formed_header, formed_written, formed_all_written}
+use Rattle.jl_formed.proofs.Types.{formed_type, formed_where, formed_header, formed_type_as_read, formed_vars_as_read}
 
 pub both_fit : (a d : ℕ) → max a d ≤ 500 → (a ≤ 500) × (d ≤ 500)
 both_fit a d e = (omega (arith, e), omega (arith, e))
@@ -25,14 +25,14 @@ both_fit a d e = (omega (arith, e), omega (arith, e))
 -- ---- heads of methods
 
 pub formed_callee : (f : Callee) (ts : Text) → GR.CalleeText f ts → Sound ts → FormedCallee f
-formed_callee _ _ (GR.plain_name n p) s = F.plain_name (placed n p) s.0
-formed_callee _ _ (GR.base_name n p q r) s = F.base_name p.at (placed n r) s.1.1.0
+formed_callee _ _ (GR.plain_name n p) s = F.plain_name (name_in n p) s.0
+formed_callee _ _ (GR.base_name n p q r) s = F.base_name p.at (name_in n r) s.1.1.0
 formed_callee _ _ (GR.base_operator x p q r v is) s = F.base_operator p.at x is
 
 formed-param : (x : Param) (d : ℕ) (ts : Text) → GR.ParamText x d ts → Sound ts → d ≤ 500 → FormedParam x
-formed-param _ _ _ (GR.param_name n p) s l = F.named_param (placed n p) s.0
-formed-param _ _ _ (GR.param_typed n p q t ts d) s l = F.typed_param (placed n p) (written t).tree s.0 (formed_written t (formed_type t (lexemes ts) d s.1.1) l)
-formed-param _ _ _ (GR.param_unnamed p t ts d) s l = F.unnamed_param p.at (written t).tree (formed_written t (formed_type t (lexemes ts) d s.1) l)
+formed-param _ _ _ (GR.param_name n p) s l = F.named_param (name_in n p) s.0
+formed-param _ _ _ (GR.param_typed n p q t ts d) s l = F.typed_param (name_in n p) (type_as_read t).tree s.0 (formed_type_as_read t (formed_type t (lexemes ts) d s.1.1) l)
+formed-param _ _ _ (GR.param_unnamed p t ts d) s l = F.unnamed_param p.at (type_as_read t).tree (formed_type_as_read t (formed_type t (lexemes ts) d s.1) l)
 
 params-behind : (xs : List Param) (x : Param) → FormedParams xs → FormedParam x → FormedParams (xs ++ x ∷ [])
 params-behind _ x F.no_params g = F.more_params x [] g F.no_params
@@ -51,7 +51,7 @@ formed-parens _ _ (GR.some_params xs p q ts d) s l = formed-params xs ts d (text
 
 formed-where : (vs : VarsForm) (ts : Text) → GR.WhereText vs ts → Sound ts → FormedVars vs.vars
 formed-where _ _ GR.no_where s = F.no_vars
-formed-where _ _ (GR.some_where vs ts d) s = formed_all_written vs (formed_where vs (lexemes ts) d s)
+formed-where _ _ (GR.some_where vs ts d) s = formed_vars_as_read vs (formed_where vs (lexemes ts) d s)
 
 pub formed_head : (at : ℕ) (h : Form Head) (ts : Text) → GR.HeadText at h ts → Sound ts → h.depth ≤ 500 → FormedHead h.tree
 formed_head _ _ _ (GR.head_text at f xs vs ts us ws a c d) s l =
@@ -63,11 +63,11 @@ formed_head _ _ _ (GR.head_text at f xs vs ts us ws a c d) s l =
 
 formed-parent : (t : Option TypeForm) (ts : Text) → GR.ParentText t ts → Sound ts → M.parent_depth t ≤ 500 → FormedOption (M.parent_tree t)
 formed-parent _ _ GR.no_parent s l = F.no_type
-formed-parent _ _ (GR.some_parent t p ts d) s l = F.some_type (written t).tree (formed_written t (formed_type t (lexemes ts) d s.1) l)
+formed-parent _ _ (GR.some_parent t p ts d) s l = F.some_type (type_as_read t).tree (formed_type_as_read t (formed_type t (lexemes ts) d s.1) l)
 
 formed-type-params : (vs : VarsForm) (ts : Text) → GR.TypeParamsText vs ts → Sound ts → FormedVars vs.vars
 formed-type-params _ _ GR.no_type_params s = F.no_vars
-formed-type-params _ _ (GR.some_type_params vs ts d) s = formed_all_written vs (formed_header vs (lexemes ts) d s)
+formed-type-params _ _ (GR.some_type_params vs ts d) s = formed_vars_as_read vs (formed_header vs (lexemes ts) d s)
 
 pub formed_header_text : (at : ℕ) (h : Form Header) (ts : Text) → GR.HeaderText at h ts → Sound ts → h.depth ≤ 500 → FormedHeader h.tree
 formed_header_text _ _ _ (GR.header_text at n p vs t ts us a c) s l =
@@ -76,7 +76,7 @@ formed_header_text _ _ _ (GR.header_text at n p vs t ts us a c) s l =
 
 formed-field : (x : Field) (d : ℕ) (ts : Text) → GR.FieldText x d ts → Sound ts → d ≤ 500 → FormedField x
 formed-field _ _ _ (GR.field_name n p) s l = record { name = s.0; ty = F.no_type }
-formed-field _ _ _ (GR.field_typed n p q t ts d) s l = record { name = s.0; ty = F.some_type (written t).tree (formed_written t (formed_type t (lexemes ts) d s.1.1) l) }
+formed-field _ _ _ (GR.field_typed n p q t ts d) s l = record { name = s.0; ty = F.some_type (type_as_read t).tree (formed_type_as_read t (formed_type t (lexemes ts) d s.1.1) l) }
 
 fields-behind : (xs : List Field) (x : Field) → FormedFields xs → FormedField x → FormedFields (xs ++ x ∷ [])
 fields-behind _ x F.no_fields g = F.more_fields x [] g F.no_fields

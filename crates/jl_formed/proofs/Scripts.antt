@@ -2,8 +2,8 @@
 use Rattle.std.proofs.Common.{◌≡◌, ℕ, ◌≤◌, max, Bool, true, false, nat_lt, cond, Option, Some, None, Ok, List, [], ◌∷◌, ◌++◌, refl, arith, ltb-false, subst}
 use Rattle.jl_token.specs.declared.token.Token.{Token}
 use Rattle.jl_token.specs.Grammar.{ReadsSource}
-use Rattle.jl_typeread.specs.declared.sign.Sign.TheVariants as S
-use Rattle.jl_typeread.specs.declared.sign.Word.TheVariants as w
+use Rattle.jl_typeread.specs.declared.terminal.Terminal.TheVariants as S
+use Rattle.jl_typeread.specs.declared.terminal.Word.TheVariants as w
 use Rattle.jl_typeread.specs.Lexemes as X
 use Rattle.jl_grammar.specs.declared.state.Form.{Form}
 use Rattle.jl_grammar.specs.declared.state.ItemsRead.{ItemsRead}
@@ -12,7 +12,7 @@ use Rattle.jl_grammar.specs.declared.tree.Script.{Script}
 use Rattle.jl_grammar.specs.Forms as M
 use Rattle.jl_grammar.specs.Grammar as GR
 use Rattle.jl_grammar.specs.Reads.{text}
-use Rattle.jl_grammar.specs.Texts.{Text, Spot, tok, wrd, placed}
+use Rattle.jl_grammar.specs.Texts.{Text, Spot, tok, wrd, name_in}
 use Rattle.jl_formed.specs.Formed as F
 use Rattle.jl_formed.specs.Formed.{FormedItem, FormedItems, FormedScript}
 use Rattle.jl_formed.proofs.Heads.{formed_header_text, formed_fields}
@@ -20,10 +20,10 @@ use Rattle.jl_formed.proofs.Rows.{items_behind}
 use Rattle.jl_formed.proofs.Sound.{Sound, text_split, seen_sound}
 use Rattle.jl_formed.proofs.Trees.{formed_expression, formed_long, formed_short}
 
-header-fits : (d : ℕ) → M.deeper d ≤ 500 → d ≤ 500
+header-fits : (d : ℕ) → M.depth_around d ≤ 500 → d ≤ 500
 header-fits d l = omega (arith, l)
 
-struct-fits : (a d : ℕ) → M.deeper (max a d) ≤ 500 → (a ≤ 500) × (d ≤ 500)
+struct-fits : (a d : ℕ) → M.depth_around (max a d) ≤ 500 → (a ≤ 500) × (d ≤ 500)
 struct-fits a d l = (omega (arith, l), omega (arith, l))
 
 formed-item : (x : Form Item) (ts : Text) → GR.ItemText x ts → Sound ts → x.depth ≤ 500 → FormedItem x.tree
@@ -35,7 +35,7 @@ formed-item _ _ (GR.struct_item h xs p q ts us a c) s l =
     F.struct_item h.tree xs.trees (formed_header_text p.at h ts a y.0 f.0) (formed_fields xs us c y.1 f.1)
 formed-item _ _ (GR.long_item m ts d) s l = F.method_item m.tree (formed_long m ts d s l)
 formed-item _ _ (GR.short_item m ts d) s l = F.method_item m.tree (formed_short m ts d s l)
-formed-item _ _ (GR.bind_item n e p q ts is d) s l = F.bind_item (placed n p) e.tree s.0 (formed_expression false e ts d s.1.1)
+formed-item _ _ (GR.bind_item n e p q ts is d) s l = F.bind_item (name_in n p) e.tree s.0 (formed_expression false e ts d s.1.1)
 formed-item _ _ (GR.expr_item e ts is d) s l = F.do_item e.tree (formed_expression false e ts d s)
 
 -- where none of two is too deep, neither is

@@ -10,25 +10,25 @@ use Rattle.jl_token.specs.declared.token.Token.{Token}
 use Rattle.jl_token.specs.declared.token.TokenFault.{TokenFault}
 use Rattle.jl_token.specs.declared.token.TokenKind.{TokenKind}
 use Rattle.jl_token.specs.declared.token.TokenKind.TheVariants as kind
-use Rattle.jl_token.specs.Characters.{continues_word}
+use Rattle.jl_token.specs.Characters.{is_word_part}
 use Rattle.jl_token.specs.Grammar.{IsWord, Quoted, nothing, plain, escaped, Spells, Reads, at_end, faulty, between, token, with_token, ReadsBytes, bad_utf8, text, ReadsSource}
-use Rattle.jl_typeread.specs.Lexemes.{sign_of, named_as, reserved}
+use Rattle.jl_typeread.specs.Lexemes.{terminal_of, name_unless, reserved_word}
 use Rattle.jl_typeread.specs.Lexemes as X
-use Rattle.jl_typeread.specs.declared.sign.Lexeme.{Lexeme}
-use Rattle.jl_typeread.specs.declared.sign.Sign.{Sign}
-use Rattle.jl_typeread.specs.declared.sign.Sign.TheVariants as S
-use Rattle.jl_typeread.specs.declared.sign.Word.{Word}
+use Rattle.jl_typeread.specs.declared.terminal.Lexeme.{Lexeme}
+use Rattle.jl_typeread.specs.declared.terminal.Terminal.{Terminal}
+use Rattle.jl_typeread.specs.declared.terminal.Terminal.TheVariants as S
+use Rattle.jl_typeread.specs.declared.terminal.Word.{Word}
 use Rattle.jl_program.specs.Names.{same_text, is_among, reserved_words, continues_name, is_word, is_identifier}
 use Rattle.jl_grammar.specs.declared.mark.Around.{Around}
 use Rattle.jl_grammar.specs.declared.mark.Previous.{Previous}
 use Rattle.jl_grammar.specs.declared.mark.Previous.TheVariants.{Other}
-use Rattle.jl_grammar.specs.Marks.{marked}
-use Rattle.jl_grammar.specs.Newlines.{inside, behind, is_shown, bare_from, bare}
+use Rattle.jl_grammar.specs.Marks.{with_marks}
+use Rattle.jl_grammar.specs.Newlines.{around_after, previous_after, is_shown, drop_newlines_from, drop_newlines}
 use Rattle.jl_grammar.specs.Texts.{Text, lexemes}
 use Rattle.jl_formed.specs.Formed.{IsName}
 
 -- the sign of a token of a source
-abbrev pub IsSound : Sign → Type 0
+abbrev pub IsSound : Terminal → Type 0
 IsSound (S.Name n) = IsName n
 IsSound (S.Text t) = IsTrue (is_utf8 t)
 IsSound s = Unit {0}
@@ -36,7 +36,7 @@ IsSound s = Unit {0}
 -- each token is one of a source
 abbrev pub AreSound : List Lexeme → Type 0
 AreSound [] = Unit {0}
-AreSound (l ∷ ls) = IsSound l.sign × AreSound ls
+AreSound (l ∷ ls) = IsSound l.terminal × AreSound ls
 
 abbrev pub Sound : Text → Type 0
 Sound ts = AreSound (lexemes ts)
@@ -73,24 +73,24 @@ is_some None = false
 -- each of these words is reserved
 abbrev AreReserved : List (List ℕ) → Type 0
 AreReserved [] = Unit {0}
-AreReserved (x ∷ xs) = (is_some (reserved x) ≡ true) × AreReserved xs
+AreReserved (x ∷ xs) = (is_some (reserved_word x) ≡ true) × AreReserved xs
 
 never : false ≡ true → ⊥
 never e = absurd cc
 
-not-among : (xs : List (List ℕ)) (word : List ℕ) → AreReserved xs → reserved word ≡ None → is_among word xs ≡ false
+not-among : (xs : List (List ℕ)) (word : List ℕ) → AreReserved xs → reserved_word word ≡ None → is_among word xs ≡ false
 not-among [] word are e = refl
 not-among (x ∷ xs) word are e = by (same_text word x) refl (not-among xs word are.1 e)
   where
     by : (b : Bool) → same_text word x ≡ b → is_among word xs ≡ false → (b || is_among word xs) ≡ false
-    by true f more = absurd (never (ap is_some (sym e) ∙ ap (λ y. is_some (reserved y)) (same-text word x f) ∙ are.0))
+    by true f more = absurd (never (ap is_some (sym e) ∙ ap (λ y. is_some (reserved_word y)) (same-text word x f) ∙ are.0))
     by false f more = more
 
 words-reserved : AreReserved reserved_words
 words-reserved =
     (refl, (refl, (refl, (refl, (refl, (refl, (refl, (refl, (refl, (refl, (refl, (refl, (refl, (refl, (refl, (refl, (refl, (refl, (refl, (refl, (refl, (refl, (refl, (refl, (refl, (refl, (refl, (refl, (refl, (refl, (refl, (refl, (refl, (refl, (refl, tt)))))))))))))))))))))))))))))))))))
 
-all-continue : (cs : List ℕ) → AllByRecursion (λ d. continues_word d ≡ true) cs → list_all continues_name cs ≡ true
+all-continue : (cs : List ℕ) → AllByRecursion (λ d. is_word_part d ≡ true) cs → list_all continues_name cs ≡ true
 all-continue [] a = refl
 all-continue (c ∷ cs) a = both-true (continues_name c) (list_all continues_name cs) a.0 (all-continue cs a.1)
 
@@ -102,7 +102,7 @@ identifier-is : (word w : List ℕ) → scalars w ≡ true → IsWord w → word
 identifier-is word w s is same =
     both-true (is_utf8 word) (is_word (chars word)) (is_utf8-from_IsUtf8 word (w, (s, sym same))) (ap is_word (ap chars same ∙ chars-encodes w s) ∙ word-is w is)
 
-named-sound : (word w : List ℕ) (r : Option Word) → reserved word ≡ r → scalars w ≡ true → IsWord w → word ≡ encode_utf8_all w → IsSound (named_as r word)
+named-sound : (word w : List ℕ) (r : Option Word) → reserved_word word ≡ r → scalars w ≡ true → IsWord w → word ≡ encode_utf8_all w → IsSound (name_unless r word)
 named-sound word w (Some x) e s is same = tt
 named-sound word w None e s is same =
     both-true (is_identifier word) (not (is_among word reserved_words)) (identifier-is word w s is same) (ap not (not-among reserved_words word words-reserved e))
@@ -140,8 +140,8 @@ quoted-utf8 _ _ (escaped c m cs bytes is q) s =
 
 -- ---- the tokens of a source
 
-spells-sound : (prefix : Bool) (w : List ℕ) (k : TokenKind) → Spells prefix w k → scalars w ≡ true → IsSound (sign_of k)
-spells-sound prefix w (kind.Identifier word) s e = named-sound word w (reserved word) refl e s.0 s.1
+spells-sound : (prefix : Bool) (w : List ℕ) (k : TokenKind) → Spells prefix w k → scalars w ≡ true → IsSound (terminal_of k)
+spells-sound prefix w (kind.Identifier word) s e = named-sound word w (reserved_word word) refl e s.0 s.1
 spells-sound prefix w (kind.Number value) s e = tt
 spells-sound prefix w (kind.Negative value) s e = tt
 spells-sound prefix w (kind.Text meant) s e =
@@ -156,7 +156,7 @@ abbrev OkSound : Result (List Token) TokenFault → Type 0
 OkSound (Ok ts) = AreSound (X.lexemes ts)
 OkSound (Err f) = Unit {0}
 
-with-sound : (k : TokenKind) (at : ℕ) (r : Result (List Token) TokenFault) → IsSound (sign_of k) → OkSound r → OkSound (with_token k at r)
+with-sound : (k : TokenKind) (at : ℕ) (r : Result (List Token) TokenFault) → IsSound (terminal_of k) → OkSound r → OkSound (with_token k at r)
 with-sound k at (Ok ts) g h = (g, h)
 with-sound k at (Err f) g h = tt
 
@@ -178,18 +178,18 @@ source-sound source r (inr x) = bytes-sound source r x.1
 
 -- ---- what the grammar sees of them
 
-one-sound : (l : Lexeme) (b : Bool) (ls : List Lexeme) → IsSound l.sign → AreSound ls → AreSound (cond b (l ∷ []) [] ++ ls)
+one-sound : (l : Lexeme) (b : Bool) (ls : List Lexeme) → IsSound l.terminal → AreSound ls → AreSound (cond b (l ∷ []) [] ++ ls)
 one-sound l true ls g h = (g, h)
 one-sound l false ls g h = h
 
-bare-sound : (ls : List Lexeme) (ns : List Around) (p : Previous) → AreSound ls → AreSound (bare_from ns p ls)
+bare-sound : (ls : List Lexeme) (ns : List Around) (p : Previous) → AreSound ls → AreSound (drop_newlines_from ns p ls)
 bare-sound [] ns p g = tt
-bare-sound (l ∷ ls) ns p g = one-sound l (is_shown l.sign ns p) _ g.0 (bare-sound ls (inside l.sign ns) (behind l.sign ns p) g.1)
+bare-sound (l ∷ ls) ns p g = one-sound l (is_shown l.terminal ns p) _ g.0 (bare-sound ls (around_after l.terminal ns) (previous_after l.terminal ns p) g.1)
 
-marked-sound : (ls : List Lexeme) → AreSound ls → Sound (marked ls)
-marked-sound [] g = tt
-marked-sound (l ∷ ls) g = (g.0, marked-sound ls g.1)
+with_marks-sound : (ls : List Lexeme) → AreSound ls → Sound (with_marks ls)
+with_marks-sound [] g = tt
+with_marks-sound (l ∷ ls) g = (g.0, with_marks-sound ls g.1)
 
 -- the tokens of a source, as the grammar sees them
-pub seen_sound : (source : List ℕ) (ts : List Token) → ReadsSource source (Ok ts) → Sound (marked (bare (X.lexemes ts)))
-seen_sound source ts is = marked-sound (bare (X.lexemes ts)) (bare-sound (X.lexemes ts) [] Other (source-sound source (Ok ts) is))
+pub seen_sound : (source : List ℕ) (ts : List Token) → ReadsSource source (Ok ts) → Sound (with_marks (drop_newlines (X.lexemes ts)))
+seen_sound source ts is = with_marks-sound (drop_newlines (X.lexemes ts)) (bare-sound (X.lexemes ts) [] Other (source-sound source (Ok ts) is))

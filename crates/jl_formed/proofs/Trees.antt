@@ -2,8 +2,8 @@
 -- deep is not kept, and a method or an evaluated statement is well formed where it is not too deep.
 use Rattle.std.proofs.Common.{◌≡◌, ℕ, ◌≤◌, ◌-◌, max, Bool, true, false, nat_lt, cond, [], ◌∷◌, ◌++◌, refl, arith, ltb-false}
 use Rattle.jl_token.specs.declared.token.Operator.TheVariants as o
-use Rattle.jl_typeread.specs.declared.sign.Sign.TheVariants as S
-use Rattle.jl_typeread.specs.declared.sign.Word.TheVariants as w
+use Rattle.jl_typeread.specs.declared.terminal.Terminal.TheVariants as S
+use Rattle.jl_typeread.specs.declared.terminal.Word.TheVariants as w
 use Rattle.jl_grammar.specs.declared.state.Branched.{Branched}
 use Rattle.jl_grammar.specs.declared.state.Form.{Form}
 use Rattle.jl_grammar.specs.declared.state.Forms.{Forms}
@@ -15,37 +15,37 @@ use Rattle.jl_grammar.specs.declared.tree.Stmt.{Stmt}
 use Rattle.jl_grammar.specs.Forms as M
 use Rattle.jl_grammar.specs.Grammar as GR
 use Rattle.jl_grammar.specs.Grammar.{place}
-use Rattle.jl_grammar.specs.Texts.{Text, Spot, tok, opr, wrd, nam, placed, lexemes}
-use Rattle.jl_grammar.specs.Types.{written}
+use Rattle.jl_grammar.specs.Texts.{Text, Spot, tok, opr, wrd, nam, name_in, lexemes}
+use Rattle.jl_grammar.specs.Types.{type_as_read}
 use Rattle.jl_formed.specs.Formed as F
 use Rattle.jl_formed.specs.Formed.{FormedExpr, FormedExprs, FormedBranches, FormedPieces, FormedStmt, FormedStmts, FormedEval, FormedEvals, FormedMethod}
 use Rattle.jl_formed.proofs.Heads.{both_fit, formed_callee, formed_head}
 use Rattle.jl_formed.proofs.Rows.{exprs_behind, branches_behind, pieces_behind, stmts_behind, evals_behind}
 use Rattle.jl_formed.proofs.Sound.{Sound, text_split}
-use Rattle.jl_formed.proofs.Types.{formed_type, formed_written}
+use Rattle.jl_formed.proofs.Types.{formed_type, formed_type_as_read}
 
 -- ---- depths
 
-deeper-fits : (d : ℕ) → M.deeper d ≤ 500 → d ≤ 500
-deeper-fits d l = omega (arith, l)
+depth_around-fits : (d : ℕ) → M.depth_around d ≤ 500 → d ≤ 500
+depth_around-fits d l = omega (arith, l)
 
-block-fits : (d : ℕ) → M.deeper (M.deeper d) ≤ 500 → d ≤ 500
+block-fits : (d : ℕ) → M.depth_around (M.depth_around d) ≤ 500 → d ≤ 500
 block-fits d l = omega (arith, l)
 
-make-fits : (a d : ℕ) → M.deeper (max (a - 1) d) ≤ 500 → a ≤ 500
+make-fits : (a d : ℕ) → M.depth_around (max (a - 1) d) ≤ 500 → a ≤ 500
 make-fits a d l = omega (arith, l)
 
-left-fits : (a d : ℕ) → M.deeper (max a d) ≤ 500 → a ≤ 500
+left-fits : (a d : ℕ) → M.depth_around (max a d) ≤ 500 → a ≤ 500
 left-fits a d l = omega (arith, l)
 
-right-fits : (a d : ℕ) → M.deeper (max a d) ≤ 500 → d ≤ 500
+right-fits : (a d : ℕ) → M.depth_around (max a d) ≤ 500 → d ≤ 500
 right-fits a d l = omega (arith, l)
 
 -- an expression that is too deep is not kept
-made : (r : Bool) (at d : ℕ) (e : Expr) → (d ≤ 500 → FormedExpr r e) → FormedExpr r (M.made at d e).tree
-made r at d e f = by (nat_lt 500 d) refl
+expr_form : (r : Bool) (at d : ℕ) (e : Expr) → (d ≤ 500 → FormedExpr r e) → FormedExpr r (M.expr_form at d e).tree
+expr_form r at d e f = by (nat_lt 500 d) refl
   where
-    by : (b : Bool) → nat_lt 500 d ≡ b → FormedExpr r (cond b (M.made at 501 e).tree e)
+    by : (b : Bool) → nat_lt 500 d ≡ b → FormedExpr r (cond b (M.expr_form at 501 e).tree e)
     by true h = F.nothing r at
     by false h = f (ltb-false 500 d h)
 
@@ -57,47 +57,47 @@ mutual
   formed-atom _ _ _ _ _ (GR.nothing r b p) s = F.nothing r p.at
   formed-atom _ _ _ _ _ (GR.name r b n p is nt) s = F.name r p.at n s.0
   formed-atom _ _ _ _ _ (GR.paren r b e p q ts nt d) s =
-      made r p.at (M.deeper e.depth) _ (λ l. F.paren r p.at e.tree (formed_expression r e ts d (text_split ts (opr o.CloseParen q ∷ []) s.1).0))
+      expr_form r p.at (M.depth_around e.depth) _ (λ l. F.paren r p.at e.tree (formed_expression r e ts d (text_split ts (opr o.CloseParen q ∷ []) s.1).0))
   formed-atom _ _ _ _ _ (GR.tuple_none r b p q nt) s = F.tuple r p.at [] (F.no_exprs r)
   formed-atom _ _ _ _ _ (GR.tuple_one r b e p q v ts nt d) s =
-      made r p.at (M.deeper (max 0 e.depth)) _ (λ l. F.tuple r p.at (e.tree ∷ []) (F.more_exprs r e.tree [] (formed_expression r e ts d (text_split ts (opr o.Comma q ∷ opr o.CloseParen v ∷ []) s.1).0) (F.no_exprs r)))
+      expr_form r p.at (M.depth_around (max 0 e.depth)) _ (λ l. F.tuple r p.at (e.tree ∷ []) (F.more_exprs r e.tree [] (formed_expression r e ts d (text_split ts (opr o.Comma q ∷ opr o.CloseParen v ∷ []) s.1).0) (F.no_exprs r)))
   formed-atom _ _ _ _ _ (GR.tuple r b e d es p q v ts us nt a c) s =
       let x = text_split (ts ++ opr o.Comma q ∷ us) (opr o.CloseParen v ∷ []) s.1 in
       let y = text_split ts (opr o.Comma q ∷ us) x.0 in
-      made r p.at (M.deeper (max es.depth d.depth)) _ (λ l. F.tuple r p.at (es.trees ++ d.tree ∷ []) (exprs_behind r es.trees d.tree (formed-arguments r es ts a y.0) (formed_expression r d us c y.1.1)))
+      expr_form r p.at (M.depth_around (max es.depth d.depth)) _ (λ l. F.tuple r p.at (es.trees ++ d.tree ∷ []) (exprs_behind r es.trees d.tree (formed-arguments r es ts a y.0) (formed_expression r d us c y.1.1)))
   formed-atom _ _ _ _ _ (GR.call r b f es ts us is nt c d) s =
       let x = text_split ts us s in
-      made r (place ts) (M.deeper es.depth) _ (λ l. F.call r (place ts) f es.trees (formed_callee f ts c x.0) (formed-brackets r es us d x.1))
+      expr_form r (place ts) (M.depth_around es.depth) _ (λ l. F.call r (place ts) f es.trees (formed_callee f ts c x.0) (formed-brackets r es us d x.1))
   formed-atom _ _ _ _ _ (GR.make r b n p t es ts us is nt c d) s =
       let x = text_split (nam n p ∷ ts) us s in
-      made r p.at (M.deeper (max ((written t).depth - 1) es.depth)) _ (λ l. F.make r p.at (written t).tree es.trees (formed_written t (formed_type t (lexemes (nam n p ∷ ts)) c x.0) (make-fits (written t).depth es.depth l)) (formed-brackets r es us d x.1))
+      expr_form r p.at (M.depth_around (max ((type_as_read t).depth - 1) es.depth)) _ (λ l. F.make r p.at (type_as_read t).tree es.trees (formed_type_as_read t (formed_type t (lexemes (nam n p ∷ ts)) c x.0) (make-fits (type_as_read t).depth es.depth l)) (formed-brackets r es us d x.1))
   formed-atom _ _ _ _ _ (GR.if_end r b p q x ts d) s =
-      made r p.at x.depth _ (λ l. F.if_end r p.at x.branches (formed-branches r p x ts d (text_split ts (wrd w.End q ∷ []) s).0))
+      expr_form r p.at x.depth _ (λ l. F.if_end r p.at x.branches (formed-branches r p x ts d (text_split ts (wrd w.End q ∷ []) s).0))
   formed-atom _ _ _ _ _ (GR.if_else r b p q v x ss ts us c d) s =
       let y = text_split (ts ++ wrd w.Else q ∷ us) (wrd w.End v ∷ []) s in
       let z = text_split ts (wrd w.Else q ∷ us) y.0 in
-      made r p.at (max x.depth (M.below (x.lowered - 2) (M.deeper ss.depth))) _ (λ l. F.if_else r p.at x.branches ss.trees (formed-branches r p x ts c z.0) (formed-block r ss us d z.1.1))
+      expr_form r p.at (max x.depth (M.depth_below (x.lowered - 2) (M.depth_around ss.depth))) _ (λ l. F.if_else r p.at x.branches ss.trees (formed-branches r p x ts c z.0) (formed-block r ss us d z.1.1))
   formed-atom _ _ _ _ _ (GR.begin_end r b p q ss ts d) s =
-      made r p.at (M.deeper (M.deeper ss.depth)) _ (λ l. F.begin_end r p.at ss.trees (formed-block r ss ts d (text_split ts (wrd w.End q ∷ []) s.1).0))
+      expr_form r p.at (M.depth_around (M.depth_around ss.depth)) _ (λ l. F.begin_end r p.at ss.trees (formed-block r ss ts d (text_split ts (wrd w.End q ∷ []) s.1).0))
   formed-atom _ _ _ _ _ (GR.latest_none r b n k f p q v j z ts is nt c) s =
-      made r p.at (M.deeper 0) _ (λ l. F.latest r p.at f [] (formed_callee f ts c (text_split ts (opr o.CloseParen z ∷ []) s.1.1.1.1).0) (F.no_exprs r))
+      expr_form r p.at (M.depth_around 0) _ (λ l. F.latest r p.at f [] (formed_callee f ts c (text_split ts (opr o.CloseParen z ∷ []) s.1.1.1.1).0) (F.no_exprs r))
   formed-atom _ _ _ _ _ (GR.latest r b n k f es p q v j y z ts us is nt c d) s =
       let x = text_split (ts ++ opr o.Comma y ∷ us) (opr o.CloseParen z ∷ []) s.1.1.1.1 in
       let a = text_split ts (opr o.Comma y ∷ us) x.0 in
-      made r p.at (M.deeper es.depth) _ (λ l. F.latest r p.at f es.trees (formed_callee f ts c a.0) (formed-arguments r es us d a.1.1))
-  formed-atom _ _ _ _ _ (GR.spawn r b n k e p q v ts is nt d) s = made r p.at (M.deeper e.depth) _ (λ l. F.spawn r p.at e.tree (formed_expression false e ts d s.1.1.1))
-  formed-atom _ _ _ _ _ (GR.eval_long r b m p ts d) s = made r p.at (M.deeper m.depth) _ (λ l. F.eval_method r p.at m.tree (formed_long m ts d s.1 (deeper-fits m.depth l)))
-  formed-atom _ _ _ _ _ (GR.eval_short r b m p ts d) s = made r p.at (M.deeper m.depth) _ (λ l. F.eval_method r p.at m.tree (formed_short m ts d s.1 (deeper-fits m.depth l)))
+      expr_form r p.at (M.depth_around es.depth) _ (λ l. F.latest r p.at f es.trees (formed_callee f ts c a.0) (formed-arguments r es us d a.1.1))
+  formed-atom _ _ _ _ _ (GR.spawn r b n k e p q v ts is nt d) s = expr_form r p.at (M.depth_around e.depth) _ (λ l. F.spawn r p.at e.tree (formed_expression false e ts d s.1.1.1))
+  formed-atom _ _ _ _ _ (GR.eval_long r b m p ts d) s = expr_form r p.at (M.depth_around m.depth) _ (λ l. F.eval_method r p.at m.tree (formed_long m ts d s.1 (depth_around-fits m.depth l)))
+  formed-atom _ _ _ _ _ (GR.eval_short r b m p ts d) s = expr_form r p.at (M.depth_around m.depth) _ (λ l. F.eval_method r p.at m.tree (formed_short m ts d s.1 (depth_around-fits m.depth l)))
   formed-atom _ _ _ _ _ (GR.eval_block r b xs p q v ts d) s =
-      made r p.at (M.deeper (M.deeper xs.depth)) _ (λ l. F.eval_block r p.at xs.trees (formed-eval-block xs ts d (text_split ts (wrd w.End v ∷ []) s.1.1).0 (block-fits xs.depth l)))
-  formed-atom _ _ _ _ _ (GR.eval_expr r b e p ts is d) s = made r p.at (M.deeper e.depth) _ (λ l. F.eval_expr r p.at e.tree (formed_expression false e ts d s.1))
+      expr_form r p.at (M.depth_around (M.depth_around xs.depth)) _ (λ l. F.eval_block r p.at xs.trees (formed-eval-block xs ts d (text_split ts (wrd w.End v ∷ []) s.1.1).0 (block-fits xs.depth l)))
+  formed-atom _ _ _ _ _ (GR.eval_expr r b e p ts is d) s = expr_form r p.at (M.depth_around e.depth) _ (λ l. F.eval_expr r p.at e.tree (formed_expression false e ts d s.1))
   formed-atom _ _ _ _ _ (GR.eval_quote r b n xs p q v j z ts is nt d) s =
-      made r p.at (M.deeper (M.deeper xs.depth)) _ (λ l. F.eval_quote r p.at xs.trees (formed-eval-block xs ts d (text_split ts (wrd w.End j ∷ opr o.CloseParen z ∷ []) s.1.1.1).0 (block-fits xs.depth l)))
+      expr_form r p.at (M.depth_around (M.depth_around xs.depth)) _ (λ l. F.eval_quote r p.at xs.trees (formed-eval-block xs ts d (text_split ts (wrd w.End j ∷ opr o.CloseParen z ∷ []) s.1.1.1).0 (block-fits xs.depth l)))
   formed-atom _ _ _ _ _ (GR.fetch r b n e p q v ts is nt d) s =
-      made r p.at (M.deeper e.depth) _ (λ l. F.fetch r p.at e.tree (formed_expression r e ts d (text_split ts (opr o.CloseParen v ∷ []) s.1.1).0))
+      expr_form r p.at (M.depth_around e.depth) _ (λ l. F.fetch r p.at e.tree (formed_expression r e ts d (text_split ts (opr o.CloseParen v ∷ []) s.1.1).0))
   formed-atom _ _ _ _ _ (GR.print_none r b y n p q v is nt) s = F.print r p.at y [] (F.no_pieces r)
   formed-atom _ _ _ _ _ (GR.print r b y n xs p q v ts is nt d) s =
-      made r p.at (M.deeper xs.depth) _ (λ l. F.print r p.at y xs.trees (formed-pieces r xs ts d (text_split ts (opr o.CloseParen v ∷ []) s.1.1).0))
+      expr_form r p.at (M.depth_around xs.depth) _ (λ l. F.print r p.at y xs.trees (formed-pieces r xs ts d (text_split ts (opr o.CloseParen v ∷ []) s.1.1).0))
 
   formed-brackets : (r : Bool) (es : Forms Expr) (ts : Text) → GR.Brackets r es ts → Sound ts → FormedExprs r es.trees
   formed-brackets _ _ _ (GR.no_arguments r p q) s = F.no_exprs r
@@ -114,7 +114,7 @@ mutual
   formed-piece _ _ _ _ (GR.show r xs e ts d) s f = pieces_behind r xs.trees _ f (F.show r e.tree (formed_expression r e ts d s))
 
   formed-pieces : (r : Bool) (xs : Forms Piece) (ts : Text) → GR.Pieces r xs ts → Sound ts → FormedPieces r xs.trees
-  formed-pieces _ _ _ (GR.one_piece r xs ts d) s = formed-piece r M.none xs ts d s (F.no_pieces r)
+  formed-pieces _ _ _ (GR.one_piece r xs ts d) s = formed-piece r M.no_forms xs ts d s (F.no_pieces r)
   formed-pieces _ _ _ (GR.more_pieces r xs ys p ts us c d) s =
       let x = text_split ts (opr o.Comma p ∷ us) s in
       formed-piece r xs ys us d x.1.1 (formed-pieces r xs ts c x.0)
@@ -123,58 +123,58 @@ mutual
   formed-post _ _ _ _ _ (GR.atom r k b e ts d) s = formed-atom r k b e ts d s
   formed-post _ _ _ _ _ (GR.field r b e n p q ts d) s =
       let x = text_split ts (opr o.Dot p ∷ nam n q ∷ []) s in
-      made r e.at (M.deeper e.depth) _ (λ l. F.field r e.at e.tree (placed n q) (formed-post r false b e ts d x.0) x.1.1.0)
+      expr_form r e.at (M.depth_around e.depth) _ (λ l. F.field r e.at e.tree (name_in n q) (formed-post r false b e ts d x.0) x.1.1.0)
   formed-post _ _ _ _ _ (GR.part r b e n p q v ts is d) s =
-      made r e.at (M.deeper e.depth) _ (λ l. F.part r e.at e.tree n (formed-post r false b e ts d (text_split ts (opr o.OpenBracket p ∷ tok (S.Number n) q ∷ opr o.CloseBracket v ∷ []) s).0) is)
+      expr_form r e.at (M.depth_around e.depth) _ (λ l. F.part r e.at e.tree n (formed-post r false b e ts d (text_split ts (opr o.OpenBracket p ∷ tok (S.Number n) q ∷ opr o.CloseBracket v ∷ []) s).0) is)
 
   formed-unary : (r k b : Bool) (e : Form Expr) (ts : Text) → GR.Unary r k b e ts → Sound ts → FormedExpr r e.tree
   formed-unary _ _ _ _ _ (GR.post r k b e ts d) s = formed-post r k b e ts d s
-  formed-unary _ _ _ _ _ (GR.prefix r k b x u e p ts is d) s = made r p.at (M.deeper e.depth) _ (λ l. F.prefixed r p.at u e.tree (formed-unary r k false e ts d s.1))
+  formed-unary _ _ _ _ _ (GR.prefix r k b x u e p ts is d) s = expr_form r p.at (M.depth_around e.depth) _ (λ l. F.prefixed r p.at u e.tree (formed-unary r k false e ts d s.1))
 
   formed-term : (r k b : Bool) (e : Form Expr) (ts : Text) → GR.Term r k b e ts → Sound ts → FormedExpr r e.tree
   formed-term _ _ _ _ _ (GR.unary r k b e ts d) s = formed-unary r k b e ts d s
   formed-term _ _ _ _ _ (GR.term r k b x i e d p ts us is a c) s =
       let y = text_split ts (opr x p ∷ us) s in
-      made r e.at (M.deeper (max e.depth d.depth)) _ (λ l. F.infixed r e.at i e.tree d.tree (formed-term r false b e ts a y.0) (formed-unary r k false d us c y.1.1))
+      expr_form r e.at (M.depth_around (max e.depth d.depth)) _ (λ l. F.infixed r e.at i e.tree d.tree (formed-term r false b e ts a y.0) (formed-unary r k false d us c y.1.1))
 
   formed-sum : (r k b : Bool) (e : Form Expr) (ts : Text) → GR.Sum r k b e ts → Sound ts → FormedExpr r e.tree
   formed-sum _ _ _ _ _ (GR.one_term r k b e ts d) s = formed-term r k b e ts d s
   formed-sum _ _ _ _ _ (GR.sum r k b x i e d p ts us is a c) s =
       let y = text_split ts (opr x p ∷ us) s in
-      made r e.at (M.deeper (max e.depth d.depth)) _ (λ l. F.infixed r e.at i e.tree d.tree (formed-sum r false b e ts a y.0) (formed-term r k false d us c y.1.1))
+      expr_form r e.at (M.depth_around (max e.depth d.depth)) _ (λ l. F.infixed r e.at i e.tree d.tree (formed-sum r false b e ts a y.0) (formed-term r k false d us c y.1.1))
 
   formed-comparison : (r k : Bool) (e : Form Expr) (ts : Text) → GR.Comparison r k e ts → Sound ts → FormedExpr r e.tree
   formed-comparison _ _ _ _ (GR.sub r u t p ts us is a c) s =
       let y = text_split ts (opr o.Subtype p ∷ us) s in
-      made r (place ts) (M.deeper (max (written u).depth (written t).depth)) _ (λ l. F.sub r (place ts) (written u).tree (written t).tree
-      (formed_written u (formed_type u (lexemes ts) a y.0) (left-fits (written u).depth (written t).depth l))
-      (formed_written t (formed_type t (lexemes us) c y.1.1) (right-fits (written u).depth (written t).depth l)))
+      expr_form r (place ts) (M.depth_around (max (type_as_read u).depth (type_as_read t).depth)) _ (λ l. F.sub r (place ts) (type_as_read u).tree (type_as_read t).tree
+      (formed_type_as_read u (formed_type u (lexemes ts) a y.0) (left-fits (type_as_read u).depth (type_as_read t).depth l))
+      (formed_type_as_read t (formed_type t (lexemes us) c y.1.1) (right-fits (type_as_read u).depth (type_as_read t).depth l)))
   formed-comparison _ _ _ _ (GR.isa r e t p ts us a c) s =
       let y = text_split ts (wrd w.Isa p ∷ us) s in
-      made r e.at (M.deeper (max e.depth (written t).depth)) _ (λ l. F.isa r e.at e.tree (written t).tree (formed-sum r false true e ts a y.0) (formed_written t (formed_type t (lexemes us) c y.1.1) (right-fits e.depth (written t).depth l)))
+      expr_form r e.at (M.depth_around (max e.depth (type_as_read t).depth)) _ (λ l. F.isa r e.at e.tree (type_as_read t).tree (formed-sum r false true e ts a y.0) (formed_type_as_read t (formed_type t (lexemes us) c y.1.1) (right-fits e.depth (type_as_read t).depth l)))
   formed-comparison _ _ _ _ (GR.one_sum r k e ts d) s = formed-sum r k true e ts d s
   formed-comparison _ _ _ _ (GR.compare r k x i e d p ts us is a c) s =
       let y = text_split ts (opr x p ∷ us) s in
-      made r e.at (M.deeper (max e.depth d.depth)) _ (λ l. F.infixed r e.at i e.tree d.tree (formed-sum r false true e ts a y.0) (formed-sum r k false d us c y.1.1))
+      expr_form r e.at (M.depth_around (max e.depth d.depth)) _ (λ l. F.infixed r e.at i e.tree d.tree (formed-sum r false true e ts a y.0) (formed-sum r k false d us c y.1.1))
 
   formed-conjunction : (r k : Bool) (e : Form Expr) (ts : Text) → GR.Conjunction r k e ts → Sound ts → FormedExpr r e.tree
   formed-conjunction _ _ _ _ (GR.one_comparison r k e ts d) s = formed-comparison r k e ts d s
   formed-conjunction _ _ _ _ (GR.both r k e d p ts us a c) s =
       let y = text_split ts (opr o.And p ∷ us) s in
-      made r e.at (M.deeper (max e.depth d.depth)) _ (λ l. F.infixed r e.at _ e.tree d.tree (formed-conjunction r false e ts a y.0) (formed-comparison r k d us c y.1.1))
+      expr_form r e.at (M.depth_around (max e.depth d.depth)) _ (λ l. F.infixed r e.at _ e.tree d.tree (formed-conjunction r false e ts a y.0) (formed-comparison r k d us c y.1.1))
 
   formed-disjunction : (r k : Bool) (e : Form Expr) (ts : Text) → GR.Disjunction r k e ts → Sound ts → FormedExpr r e.tree
   formed-disjunction _ _ _ _ (GR.one_conjunction r k e ts d) s = formed-conjunction r k e ts d s
   formed-disjunction _ _ _ _ (GR.either r k e d p ts us a c) s =
       let y = text_split ts (opr o.Or p ∷ us) s in
-      made r e.at (M.deeper (max e.depth d.depth)) _ (λ l. F.infixed r e.at _ e.tree d.tree (formed-disjunction r false e ts a y.0) (formed-conjunction r k d us c y.1.1))
+      expr_form r e.at (M.depth_around (max e.depth d.depth)) _ (λ l. F.infixed r e.at _ e.tree d.tree (formed-disjunction r false e ts a y.0) (formed-conjunction r k d us c y.1.1))
 
   pub formed_expression : (r : Bool) (e : Form Expr) (ts : Text) → GR.Expression r e ts → Sound ts → FormedExpr r e.tree
   formed_expression _ _ _ (GR.one_disjunction r k e ts d) s = formed-disjunction r k e ts d s
   formed_expression _ _ _ (GR.choice r c a b p q ts us vs d f g) s =
       let y = text_split (ts ++ opr o.Question p ∷ us) (opr o.Colon q ∷ vs) s in
       let z = text_split ts (opr o.Question p ∷ us) y.0 in
-      made r c.at (M.deeper (max c.depth (max a.depth b.depth))) _ (λ l. F.choose r c.at c.tree a.tree b.tree (formed-disjunction r false c ts d z.0) (formed_expression r a us f z.1.1) (formed_expression r b vs g y.1.1))
+      expr_form r c.at (M.depth_around (max c.depth (max a.depth b.depth))) _ (λ l. F.choose r c.at c.tree a.tree b.tree (formed-disjunction r false c ts d z.0) (formed_expression r a us f z.1.1) (formed_expression r b vs g y.1.1))
 
   formed-branches : (r : Bool) (p : Spot) (x : Branched) (ts : Text) → GR.Branches r p x ts → Sound ts → FormedBranches r x.branches
   formed-branches _ _ _ _ (GR.first_branch r c ss p t ts us d is f) s =
@@ -186,7 +186,7 @@ mutual
       branches_behind r x.branches _ (formed-branches r p x ts a z.0) (F.branch r q.at c.tree ss.trees (formed_expression r c us d z.1.1) (formed-block r ss vs f y.1.1))
 
   formed-statement : (r : Bool) (x : Stmt) (d : ℕ) (ts : Text) → GR.Statement r x d ts → Sound ts → FormedStmt r x
-  formed-statement _ _ _ _ (GR.bind r n e p q ts is d) s = F.bind_stmt r (placed n p) e.tree s.0 (formed_expression r e ts d s.1.1)
+  formed-statement _ _ _ _ (GR.bind r n e p q ts is d) s = F.bind_stmt r (name_in n p) e.tree s.0 (formed_expression r e ts d s.1.1)
   formed-statement _ _ _ _ (GR.return e p ts d) s = F.return_stmt p.at e.tree (formed_expression true e ts d s.1)
   formed-statement _ _ _ _ (GR.return_nothing p) s = F.return_nothing p.at
   formed-statement _ _ _ _ (GR.do_expr r e ts is d) s = F.do_stmt r e.tree (formed_expression r e ts d s)
@@ -209,7 +209,7 @@ mutual
   formed_long _ _ (GR.long h ss p q ts us a c) s l =
       let x = text_split (ts ++ us) (wrd w.End q ∷ []) s.1 in
       let y = text_split ts us x.0 in
-      F.long_method h.at h.tree ss.trees (formed_head p.at h ts a y.0 (left-fits h.depth (M.deeper ss.depth) l)) (formed-block true ss us c y.1)
+      F.long_method h.at h.tree ss.trees (formed_head p.at h ts a y.0 (left-fits h.depth (M.depth_around ss.depth) l)) (formed-block true ss us c y.1)
 
   pub formed_short : (m : Form Method) (ts : Text) → GR.ShortMethod m ts → Sound ts → m.depth ≤ 500 → FormedMethod m.tree
   formed_short _ _ (GR.short h e p ts us is a c) s l =

@@ -1,7 +1,7 @@
 -- A type that is read is well formed.
 use Rattle.std.proofs.Common.{◌≡◌, ◌≤◌, Bool, true, false, nat_le, cond, List, [], ◌∷◌, ◌++◌, refl, arith}
 use Rattle.jl_token.specs.declared.token.Operator.TheVariants as op
-use Rattle.jl_typeread.specs.declared.sign.Lexeme.{Lexeme}
+use Rattle.jl_typeread.specs.declared.terminal.Lexeme.{Lexeme}
 use Rattle.jl_typeread.specs.declared.tree.TypeText.{TypeText}
 use Rattle.jl_typeread.specs.declared.tree.ArgText.{ArgText}
 use Rattle.jl_typeread.specs.declared.tree.VarText.{VarText}
@@ -10,7 +10,7 @@ use Rattle.jl_typeread.specs.Depth.{type_depth, variables_depth, depth_limit}
 use Rattle.jl_typeread.specs.Grammar as G
 use Rattle.jl_typeread.specs.Grammar.{name, mark, word}
 use Rattle.jl_grammar.specs.Forms as M
-use Rattle.jl_grammar.specs.Types.{written, all_written}
+use Rattle.jl_grammar.specs.Types.{type_as_read, vars_as_read}
 use Rattle.jl_formed.specs.Formed as F
 use Rattle.jl_formed.specs.Formed.{FormedType, FormedArg, FormedArgs, FormedVar, FormedVars}
 use Rattle.jl_formed.proofs.Sound.{AreSound, sound_split}
@@ -70,15 +70,15 @@ formed_header _ _ (G.header b c vs ts d) s = formed_variables vs ts d (sound_spl
 
 -- ---- with their depth: a type that is too deep is not kept, and its form is too deep itself
 
-pub formed_written : (t : TypeText) → FormedType t → (written t).depth ≤ 500 → FormedType (written t).tree
-formed_written t f l = by (nat_le (type_depth t) depth_limit) refl l
+pub formed_type_as_read : (t : TypeText) → FormedType t → (type_as_read t).depth ≤ 500 → FormedType (type_as_read t).tree
+formed_type_as_read t f l = by (nat_le (type_depth t) depth_limit) refl l
   where
     by : (b : Bool) → nat_le (type_depth t) depth_limit ≡ b → (M.type_form (cond b (D.Built t (type_depth t)) D.TooDeep)).depth ≤ 500 → FormedType (M.type_form (cond b (D.Built t (type_depth t)) D.TooDeep)).tree
     by true e l = f
     by false e l = absurd (omega (arith, l))
 
-pub formed_all_written : (vs : List VarText) → FormedVars vs → FormedVars (all_written vs).vars
-formed_all_written vs f = by (nat_le (variables_depth vs) depth_limit)
+pub formed_vars_as_read : (vs : List VarText) → FormedVars vs → FormedVars (vars_as_read vs).vars
+formed_vars_as_read vs f = by (nat_le (variables_depth vs) depth_limit)
   where
     by : (b : Bool) → FormedVars (M.vars_form (cond b (D.Built vs (variables_depth vs)) D.TooDeep)).vars
     by true = f

@@ -3,7 +3,7 @@
 ghost use Rattle.std.specs.Prelude.{Bool, false, ℕ, List, [], ◌∷◌, ◌++◌, ◌≡◌, None, Ok};
 ghost use Rattle.jl_token.specs.declared.token.Token.{Token};
 ghost use Rattle.jl_token.specs.Grammar.{ReadsSource};
-ghost use Rattle.jl_typeread.specs.declared.sign.Sign.TheVariants.{End};
+ghost use Rattle.jl_typeread.specs.declared.terminal.Terminal.TheVariants.{End};
 ghost use Rattle.jl_typeread.specs.Lexemes.{lexemes};
 ghost use Rattle.jl_grammar.specs.declared.tree.Expr.{Expr};
 ghost use Rattle.jl_grammar.specs.declared.tree.Script.{Script};
@@ -16,7 +16,8 @@ ghost use Rattle.jl_formed.specs.Formed.{FormedExpr, FormedScript};
 /// no item is too deep.
 #[tactic(none)]
 pub fn law_formed()
-    ensures { (bytes : List ℕ) (tokens : List Token) (ts : Text) (end : Spot) (s : Script) → ReadsSource bytes (Ok tokens) → text (lexemes tokens) ≡ ts ++ tok End end ∷ []
+    ensures { (bytes : List ℕ) (tokens : List Token) (ts : Text) (end : Spot) (s : Script)
+        → ReadsSource bytes (Ok tokens) → text (lexemes tokens) ≡ ts ++ tok End end ∷ []
         → ScriptText (record { items = s.items; too_deep = None }) ts → FormedScript s }
 {}
 

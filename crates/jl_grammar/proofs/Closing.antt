@@ -3,7 +3,7 @@ use Rattle.std.proofs.Common.{Bool, true, false, ◌&&◌, length, codes, List, 
 use Rattle.std.proofs.lemmas.List.{append_assoc}
 use Rattle.std.proofs.Math.Dec.{eqb-suc-zero}
 use Rattle.jl_token.specs.declared.token.Operator.TheVariants as op
-use Rattle.jl_typeread.specs.declared.sign.Sign.TheVariants as sg
+use Rattle.jl_typeread.specs.declared.terminal.Terminal.TheVariants as sg
 use Rattle.jl_grammar.specs.declared.state.Form.{Form}
 use Rattle.jl_grammar.specs.declared.state.Frame.{Frame}
 use Rattle.jl_grammar.specs.declared.state.ItemsRead.{ItemsRead}
@@ -17,9 +17,9 @@ use Rattle.jl_grammar.specs.declared.state.PrefixAt.{PrefixAt}
 use Rattle.jl_grammar.specs.declared.tree.Expr.{Expr}
 use Rattle.jl_grammar.specs.declared.tree.Infix.TheVariants as In
 use Rattle.jl_grammar.specs.Forms as M
-use Rattle.jl_grammar.specs.Grammar.{PrefixSign, ComparisonSign, SumSign, TermSign, CalleeText, ParamText, ParamsText, ParensText, WhereText, HeadText, place, Atom, Brackets, Arguments, PieceText, Pieces, Post, Unary, Term, Sum, Comparison, Conjunction, Disjunction, Expression, Branches, Statement, Block, StmtsBefore, StmtsAfter, LongMethod, ShortMethod, Evaluated, EvalBlock, EvalsBefore, EvalsAfter, ParentText, TypeParamsText, HeaderText, FieldText, FieldsBefore, FieldsAfter, FieldsText, ItemText, ItemsBefore, ItemsAfter, ScriptText}
+use Rattle.jl_grammar.specs.Grammar.{PrefixOperator, ComparisonOperator, SumOperator, TermOperator, CalleeText, ParamText, ParamsText, ParensText, WhereText, HeadText, place, Atom, Brackets, Arguments, PieceText, Pieces, Post, Unary, Term, Sum, Comparison, Conjunction, Disjunction, Expression, Branches, Statement, Block, StmtsBefore, StmtsAfter, LongMethod, ShortMethod, Evaluated, EvalBlock, EvalsBefore, EvalsAfter, ParentText, TypeParamsText, HeaderText, FieldText, FieldsBefore, FieldsAfter, FieldsText, ItemText, ItemsBefore, ItemsAfter, ScriptText}
 use Rattle.jl_grammar.specs.Grammar as Gr
-use Rattle.jl_grammar.specs.Levels.{no_levels, all_prefixed, with_left, with_operand, as_sum, as_comparison, as_and, as_or, ended, all_ended, expression, no_left, no_prefix, leads}
+use Rattle.jl_grammar.specs.Levels.{no_levels, with_prefixes, with_left, with_operand, as_sum, as_comparison, as_and, as_or, end_outer, end_all_outer, expression, no_left, no_prefix, is_comparison_start}
 use Rattle.jl_grammar.specs.Texts.{Text, tok, opr, nam}
 use Rattle.jl_grammar.proofs.Standing.{Choice, any_form, item_form, stmt_form, eval_form, evaluated_form, Starts, PrefixesText, no_prefixes, one_prefix, TermPart, no_term, a_term, SumPart, no_sum, a_sum, ComparisonPart, no_comparison, a_comparison, AndPart, no_and, an_and, OrPart, no_or, an_or, TopText, top_text, LevelsText, levels_text, OutersText, no_outer, in_spawn, in_eval, in_short, in_otherwise, LeadText, choice_in, return_in, Opened, Led, led_text}
 
@@ -60,45 +60,45 @@ some_prefix false p ps = refl
 
 -- ---- level by level
 
-pub unary_text : (r k b : Bool) (ps : List PrefixAt) (us : Text) (e : Form Expr) (ws : Text) → PrefixesText ps us → Unary r k (b && no_prefix ps) e ws → Unary r k b (all_prefixed ps e) (us ++ ws)
+pub unary_text : (r k b : Bool) (ps : List PrefixAt) (us : Text) (e : Form Expr) (ws : Text) → PrefixesText ps us → Unary r k (b && no_prefix ps) e ws → Unary r k b (with_prefixes ps e) (us ++ ws)
 unary_text r k b _ _ e ws no_prefixes d = subst (λ x. Unary r k x e ws) (and_true b) d
 unary_text r k b _ _ e ws (one_prefix x u p ps ts s q) d =
-    subst (Unary r k b (all_prefixed ps (M.prefixed (record { at = p.at; prefix = u }) e))) (sym (append_assoc ts (opr x p ∷ []) ws))
-    (unary_text r k b ps ts (M.prefixed (record { at = p.at; prefix = u }) e) (opr x p ∷ ws) q
+    subst (Unary r k b (with_prefixes ps (M.prefix_expr (record { at = p.at; prefix = u }) e))) (sym (append_assoc ts (opr x p ∷ []) ws))
+    (unary_text r k b ps ts (M.prefix_expr (record { at = p.at; prefix = u }) e) (opr x p ∷ ws) q
     (Gr.prefix r k (b && no_prefix ps) x u e p ws s (subst (λ y. Unary r k y e ws) (some_prefix b (record { at = p.at; prefix = u }) ps) d)))
 
 pub term_text : (r k b : Bool) (l : Option Left) (us : Text) (e : Form Expr) (ws : Text) → TermPart r b l us → Unary r k (b && no_left l) e ws → Term r k b (with_left l e) (us ++ ws)
 term_text _ k _ _ _ e ws (no_term r b) d = Gr.unary r k b e ws (subst (λ x. Unary r k x e ws) (and_true b) d)
 term_text _ k _ _ _ e ws (a_term r b x i l p ts s c) d =
-    subst (Term r k b (M.infixed l i e)) (sym (append_assoc ts (opr x p ∷ []) ws)) (Gr.term r k b x i l e p ts ws s c (subst (λ y. Unary r k y e ws) (and_false b) d))
+    subst (Term r k b (M.infix_expr l i e)) (sym (append_assoc ts (opr x p ∷ []) ws)) (Gr.term r k b x i l e p ts ws s c (subst (λ y. Unary r k y e ws) (and_false b) d))
 
 pub sum_text : (r k b : Bool) (l : Option Left) (us : Text) (e : Form Expr) (ws : Text) → SumPart r b l us → Term r k (b && no_left l) e ws → Sum r k b (with_left l e) (us ++ ws)
 sum_text _ k _ _ _ e ws (no_sum r b) d = Gr.one_term r k b e ws (subst (λ x. Term r k x e ws) (and_true b) d)
 sum_text _ k _ _ _ e ws (a_sum r b x i l p ts s c) d =
-    subst (Sum r k b (M.infixed l i e)) (sym (append_assoc ts (opr x p ∷ []) ws)) (Gr.sum r k b x i l e p ts ws s c (subst (λ y. Term r k y e ws) (and_false b) d))
+    subst (Sum r k b (M.infix_expr l i e)) (sym (append_assoc ts (opr x p ∷ []) ws)) (Gr.sum r k b x i l e p ts ws s c (subst (λ y. Term r k y e ws) (and_false b) d))
 
 pub comparison_text : (r k : Bool) (l : Option Left) (us : Text) (e : Form Expr) (ws : Text) → ComparisonPart r l us → Sum r k (no_left l) e ws → Comparison r k (with_left l e) (us ++ ws)
 comparison_text _ k _ _ e ws (no_comparison r) d = Gr.one_sum r k e ws d
 comparison_text _ k _ _ e ws (a_comparison r x i l p ts s c) d =
-    subst (Comparison r k (M.infixed l i e)) (sym (append_assoc ts (opr x p ∷ []) ws)) (Gr.compare r k x i l e p ts ws s c d)
+    subst (Comparison r k (M.infix_expr l i e)) (sym (append_assoc ts (opr x p ∷ []) ws)) (Gr.compare r k x i l e p ts ws s c d)
 
 pub conjunction_text : (r k : Bool) (l : Option (Form Expr)) (us : Text) (e : Form Expr) (ws : Text) → AndPart r l us → Comparison r k e ws → Conjunction r k (with_operand l In.And e) (us ++ ws)
 conjunction_text _ k _ _ e ws (no_and r) d = Gr.one_comparison r k e ws d
-conjunction_text _ k _ _ e ws (an_and r l p ts c) d = subst (Conjunction r k (M.infixed l In.And e)) (sym (append_assoc ts (opr op.And p ∷ []) ws)) (Gr.both r k l e p ts ws c d)
+conjunction_text _ k _ _ e ws (an_and r l p ts c) d = subst (Conjunction r k (M.infix_expr l In.And e)) (sym (append_assoc ts (opr op.And p ∷ []) ws)) (Gr.both r k l e p ts ws c d)
 
 pub disjunction_text : (r k : Bool) (l : Option (Form Expr)) (us : Text) (e : Form Expr) (ws : Text) → OrPart r l us → Conjunction r k e ws → Disjunction r k (with_operand l In.Or e) (us ++ ws)
 disjunction_text _ k _ _ e ws (no_or r) d = Gr.one_conjunction r k e ws d
-disjunction_text _ k _ _ e ws (an_or r l p ts c) d = subst (Disjunction r k (M.infixed l In.Or e)) (sym (append_assoc ts (opr op.Or p ∷ []) ws)) (Gr.either r k l e p ts ws c d)
+disjunction_text _ k _ _ e ws (an_or r l p ts c) d = subst (Disjunction r k (M.infix_expr l In.Or e)) (sym (append_assoc ts (opr op.Or p ∷ []) ws)) (Gr.either r k l e p ts ws c d)
 
 -- ---- several levels
 
 pub term_of : (r k b : Bool) (t : Option Left) (ps : List PrefixAt) (ms us : Text) (e : Form Expr) (ws : Text) → TermPart r b t ms → PrefixesText ps us →
-    Unary r k ((b && no_left t) && no_prefix ps) e ws → Term r k b (with_left t (all_prefixed ps e)) (ms ++ (us ++ ws))
-term_of r k b t ps ms us e ws m p d = term_text r k b t ms (all_prefixed ps e) (us ++ ws) m (unary_text r k (b && no_left t) ps us e ws p d)
+    Unary r k ((b && no_left t) && no_prefix ps) e ws → Term r k b (with_left t (with_prefixes ps e)) (ms ++ (us ++ ws))
+term_of r k b t ps ms us e ws m p d = term_text r k b t ms (with_prefixes ps e) (us ++ ws) m (unary_text r k (b && no_left t) ps us e ws p d)
 
 pub sum_of : (r k b : Bool) (s t : Option Left) (ps : List PrefixAt) (ss ms us : Text) (e : Form Expr) (ws : Text) → SumPart r b s ss → TermPart r (b && no_left s) t ms → PrefixesText ps us →
-    Unary r k (((b && no_left s) && no_left t) && no_prefix ps) e ws → Sum r k b (with_left s (with_left t (all_prefixed ps e))) (ss ++ (ms ++ (us ++ ws)))
-sum_of r k b s t ps ss ms us e ws c m p d = sum_text r k b s ss (with_left t (all_prefixed ps e)) (ms ++ (us ++ ws)) c (term_of r k (b && no_left s) t ps ms us e ws m p d)
+    Unary r k (((b && no_left s) && no_left t) && no_prefix ps) e ws → Sum r k b (with_left s (with_left t (with_prefixes ps e))) (ss ++ (ms ++ (us ++ ws)))
+sum_of r k b s t ps ss ms us e ws c m p d = sum_text r k b s ss (with_left t (with_prefixes ps e)) (ms ++ (us ++ ws)) c (term_of r k (b && no_left s) t ps ms us e ws m p d)
 
 -- a comparison behind `||` and `&&`
 pub top_of : (r k : Bool) (ls : Levels) (us : Text) (e : Form Expr) (ws : Text) → TopText r ls us → Comparison r k e ws → Disjunction r k (as_or ls e) (us ++ ws)
@@ -113,7 +113,7 @@ pub record Split (r k : Bool) (ls : Levels) (e : Form Expr) (us ws : Text) : Typ
   pub whole : Comparison r k e rest
   pub same : top ++ rest ≡ us ++ ws
 
-pub split_of : (r k : Bool) (ls : Levels) (us : Text) (e : Form Expr) (ws : Text) → LevelsText r ls us → Unary r k (leads ls) e ws → Split r k ls (as_comparison ls e) us ws
+pub split_of : (r k : Bool) (ls : Levels) (us : Text) (e : Form Expr) (ws : Text) → LevelsText r ls us → Unary r k (is_comparison_start ls) e ws → Split r k ls (as_comparison ls e) us ws
 split_of _ k _ _ e ws (levels_text r ls ts cs ss ms ps t c s m p) d = record {
   top = ts;
   rest = cs ++ (ss ++ (ms ++ (ps ++ ws)));
@@ -123,14 +123,14 @@ split_of _ k _ _ e ws (levels_text r ls ts cs ss ms ps t c s m p) d = record {
   same = simp append_assoc refl;
 }
 
-pub disjunction_of : (r k : Bool) (ls : Levels) (us : Text) (e : Form Expr) (ws : Text) → LevelsText r ls us → Unary r k (leads ls) e ws →
+pub disjunction_of : (r k : Bool) (ls : Levels) (us : Text) (e : Form Expr) (ws : Text) → LevelsText r ls us → Unary r k (is_comparison_start ls) e ws →
     Disjunction r k (as_or ls (as_comparison ls e)) (us ++ ws)
 disjunction_of r k ls us e ws l d = let s = split_of r k ls us e ws l d in
     subst (Disjunction r k (as_or ls (as_comparison ls e))) s.same (top_of r k ls s.top (as_comparison ls e) s.rest s.before s.whole)
 
-pub closed_of : (r k : Bool) (ls : Levels) (us : Text) (e : Form Expr) (ws : Text) → LevelsText r ls us → Atom r k (leads ls) e ws → Expression r (as_or ls (as_comparison ls e)) (us ++ ws)
+pub closed_of : (r k : Bool) (ls : Levels) (us : Text) (e : Form Expr) (ws : Text) → LevelsText r ls us → Atom r k (is_comparison_start ls) e ws → Expression r (as_or ls (as_comparison ls e)) (us ++ ws)
 closed_of r k ls us e ws l d =
-    Gr.one_disjunction r k (as_or ls (as_comparison ls e)) (us ++ ws) (disjunction_of r k ls us e ws l (Gr.post r k (leads ls) e ws (Gr.atom r k (leads ls) e ws d)))
+    Gr.one_disjunction r k (as_or ls (as_comparison ls e)) (us ++ ws) (disjunction_of r k ls us e ws l (Gr.post r k (is_comparison_start ls) e ws (Gr.atom r k (is_comparison_start ls) e ws d)))
 
 -- where nothing stands between `&&` and the operand
 pub bare_levels : (r : Bool) → LevelsText r no_levels []
@@ -142,31 +142,31 @@ both_moved : (c : Choice) (y : Bool) (e : Form Expr) (a b : Text) → Expression
 both_moved c y e a b h same = (subst (Expression y e) same h.0, subst (Starts c) same h.1)
 
 pub outers_close : (c d : Choice) (y r : Bool) (os : List Outer) (ts : Text) (e : Form Expr) (ws : Text) → OutersText c y os d r ts → Expression r e ws → Starts d ws →
-    Expression y (all_ended os e) (ts ++ ws) × Starts c (ts ++ ws)
+    Expression y (end_all_outer os e) (ts ++ ws) × Starts c (ts ++ ws)
 outers_close _ _ _ _ _ _ e ws (no_outer c y) d s = (d, s)
 outers_close _ _ _ _ _ _ e ws (in_spawn c d y r os ls n m p q z ts us o l st mk le) x s =
-    both_moved c y (all_ended os (ended (Ou.Spawn ls p.at) e)) (ts ++ (us ++ (nam n p ∷ opr op.Dot q ∷ tok (sg.Macro m) z ∷ ws))) ((ts ++ (us ++ nam n p ∷ opr op.Dot q ∷ tok (sg.Macro m) z ∷ [])) ++ ws)
-    (outers_close c d y r os ts (ended (Ou.Spawn ls p.at) e) (us ++ (nam n p ∷ opr op.Dot q ∷ tok (sg.Macro m) z ∷ ws)) o
-    (closed_of r true ls us (M.spawned p.at e) (nam n p ∷ opr op.Dot q ∷ tok (sg.Macro m) z ∷ ws) l (Gr.spawn r (leads ls) n m e p q z ws mk le x))
+    both_moved c y (end_all_outer os (end_outer (Ou.Spawn ls p.at) e)) (ts ++ (us ++ (nam n p ∷ opr op.Dot q ∷ tok (sg.Macro m) z ∷ ws))) ((ts ++ (us ++ nam n p ∷ opr op.Dot q ∷ tok (sg.Macro m) z ∷ [])) ++ ws)
+    (outers_close c d y r os ts (end_outer (Ou.Spawn ls p.at) e) (us ++ (nam n p ∷ opr op.Dot q ∷ tok (sg.Macro m) z ∷ ws)) o
+    (closed_of r true ls us (M.spawn_expr p.at e) (nam n p ∷ opr op.Dot q ∷ tok (sg.Macro m) z ∷ ws) l (Gr.spawn r (is_comparison_start ls) n m e p q z ws mk le x))
     (starts_more d us (nam n p ∷ []) (opr op.Dot q ∷ tok (sg.Macro m) z ∷ ws) st))
     (simp append_assoc refl)
 outers_close _ _ _ _ _ _ e ws (in_eval c d y r os ls p ts us o l st) x s =
-    both_moved c y (all_ended os (ended (Ou.Eval ls p.at) e)) (ts ++ (us ++ (tok (sg.Macro (codes "eval")) p ∷ ws))) ((ts ++ (us ++ tok (sg.Macro (codes "eval")) p ∷ [])) ++ ws)
-    (outers_close c d y r os ts (ended (Ou.Eval ls p.at) e) (us ++ (tok (sg.Macro (codes "eval")) p ∷ ws)) o
-    (closed_of r true ls us (M.eval_expr p.at e) (tok (sg.Macro (codes "eval")) p ∷ ws) l (Gr.eval_expr r (leads ls) e p ws s x))
+    both_moved c y (end_all_outer os (end_outer (Ou.Eval ls p.at) e)) (ts ++ (us ++ (tok (sg.Macro (codes "eval")) p ∷ ws))) ((ts ++ (us ++ tok (sg.Macro (codes "eval")) p ∷ [])) ++ ws)
+    (outers_close c d y r os ts (end_outer (Ou.Eval ls p.at) e) (us ++ (tok (sg.Macro (codes "eval")) p ∷ ws)) o
+    (closed_of r true ls us (M.eval_expr p.at e) (tok (sg.Macro (codes "eval")) p ∷ ws) l (Gr.eval_expr r (is_comparison_start ls) e p ws s x))
     (starts_more d us (tok (sg.Macro (codes "eval")) p ∷ []) ws st))
     (simp append_assoc refl)
 outers_close _ _ _ _ _ _ e ws (in_short c d y r os ls h p q ts us vs o l st hm hd) x s =
-    both_moved c y (all_ended os (ended (Ou.Short ls p.at h) e)) (ts ++ (us ++ (tok (sg.Macro (codes "eval")) p ∷ (vs ++ (opr op.Assign q ∷ ws)))))
+    both_moved c y (end_all_outer os (end_outer (Ou.Short ls p.at h) e)) (ts ++ (us ++ (tok (sg.Macro (codes "eval")) p ∷ (vs ++ (opr op.Assign q ∷ ws)))))
     ((ts ++ (us ++ (tok (sg.Macro (codes "eval")) p ∷ (vs ++ opr op.Assign q ∷ [])))) ++ ws)
-    (outers_close c d y r os ts (ended (Ou.Short ls p.at h) e) (us ++ (tok (sg.Macro (codes "eval")) p ∷ (vs ++ (opr op.Assign q ∷ ws)))) o
-    (closed_of r true ls us (M.eval_method p.at (M.short h e)) (tok (sg.Macro (codes "eval")) p ∷ (vs ++ (opr op.Assign q ∷ ws))) l
-    (Gr.eval_short r (leads ls) (M.short h e) p (vs ++ (opr op.Assign q ∷ ws)) (Gr.short h e q vs ws hm hd x)))
+    (outers_close c d y r os ts (end_outer (Ou.Short ls p.at h) e) (us ++ (tok (sg.Macro (codes "eval")) p ∷ (vs ++ (opr op.Assign q ∷ ws)))) o
+    (closed_of r true ls us (M.eval_method p.at (M.short_method h e)) (tok (sg.Macro (codes "eval")) p ∷ (vs ++ (opr op.Assign q ∷ ws))) l
+    (Gr.eval_short r (is_comparison_start ls) (M.short_method h e) p (vs ++ (opr op.Assign q ∷ ws)) (Gr.short h e q vs ws hm hd x)))
     (starts_more d us (tok (sg.Macro (codes "eval")) p ∷ []) (vs ++ (opr op.Assign q ∷ ws)) st))
     (simp append_assoc refl)
 outers_close _ _ _ _ _ _ e ws (in_otherwise c d y r os f a p q ts us vs o l st b) x s =
-    both_moved c y (all_ended os (M.choose f a e)) (ts ++ ((us ++ (opr op.Question p ∷ vs)) ++ (opr op.Colon q ∷ ws))) ((ts ++ ((us ++ (opr op.Question p ∷ vs)) ++ opr op.Colon q ∷ [])) ++ ws)
-    (outers_close c d y r os ts (M.choose f a e) ((us ++ (opr op.Question p ∷ vs)) ++ (opr op.Colon q ∷ ws)) o (Gr.choice r f a e p q us vs ws l b x)
+    both_moved c y (end_all_outer os (M.choose_expr f a e)) (ts ++ ((us ++ (opr op.Question p ∷ vs)) ++ (opr op.Colon q ∷ ws))) ((ts ++ ((us ++ (opr op.Question p ∷ vs)) ++ opr op.Colon q ∷ [])) ++ ws)
+    (outers_close c d y r os ts (M.choose_expr f a e) ((us ++ (opr op.Question p ∷ vs)) ++ (opr op.Colon q ∷ ws)) o (Gr.choice r f a e p q us vs ws l b x)
     (starts_append d (us ++ (opr op.Question p ∷ vs)) (opr op.Colon q ∷ ws) (starts_append d us (opr op.Question p ∷ vs) st)))
     (simp append_assoc refl)
 
@@ -177,9 +177,9 @@ pub data EndedText : List Frame → ItemsRead → Lead → Form Expr → Text �
       Expression y e vs → Starts c vs → EndedText K xs l e (ts ++ (us ++ vs))
 
 pub ended_by : (K : List Frame) (xs : ItemsRead) (l : Lead) (os : List Outer) (r : Bool) (d : Choice) (ts : Text) (e : Form Expr) (ws : Text) → Led K xs l os r d ts → Expression r e ws → Starts d ws →
-    EndedText K xs l (all_ended os e) (ts ++ ws)
+    EndedText K xs l (end_all_outer os e) (ts ++ ws)
 ended_by _ _ _ _ _ _ _ e ws (led_text K xs l os y r c d ts us vs o lt ot) x s = let both = outers_close c d y r os vs e ws ot x s in
-    subst (EndedText K xs l (all_ended os e)) (simp append_assoc refl) (ended_text K xs l (all_ended os e) y c ts us (vs ++ ws) o lt both.0 both.1)
+    subst (EndedText K xs l (end_all_outer os e)) (simp append_assoc refl) (ended_text K xs l (end_all_outer os e) y c ts us (vs ++ ws) o lt both.0 both.1)
 
 -- a comparison that has ended, with what stands before it
 pub data ComparedText : List Frame → ItemsRead → Pending → Form Expr → Text → Type 0 where
@@ -192,7 +192,7 @@ ended_of _ _ _ _ _ (compared_text p e K xs d ts us vs l t c s) =
     (Gr.one_disjunction p.returns false (as_or p.levels e) (us ++ vs) (top_of p.returns false p.levels us e vs t c)) s
 
 pub compared_of : (p : Pending) (e : Form Expr) (K : List Frame) (xs : ItemsRead) (d : Choice) (ts us vs : Text) → Led K xs p.lead p.outer p.returns d ts → LevelsText p.returns p.levels us →
-    Starts d (us ++ vs) → Post p.returns false (leads p.levels) e vs → ComparedText K xs p (as_comparison p.levels e) ((ts ++ us) ++ vs)
-compared_of p e K xs d ts us vs l ls s c = let x = split_of p.returns false p.levels us e vs ls (Gr.post p.returns false (leads p.levels) e vs c) in
+    Starts d (us ++ vs) → Post p.returns false (is_comparison_start p.levels) e vs → ComparedText K xs p (as_comparison p.levels e) ((ts ++ us) ++ vs)
+compared_of p e K xs d ts us vs l ls s c = let x = split_of p.returns false p.levels us e vs ls (Gr.post p.returns false (is_comparison_start p.levels) e vs c) in
     subst (ComparedText K xs p (as_comparison p.levels e)) (ap (λ z. ts ++ z) x.same ∙ sym (append_assoc ts us vs))
     (compared_text p (as_comparison p.levels e) K xs d ts x.top x.rest l x.before x.whole (subst (Starts d) (sym x.same) s))

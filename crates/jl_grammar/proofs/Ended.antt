@@ -1,7 +1,7 @@
 -- Open forms can be ended: from behind an expression, an entry or a method, the tokens that end each open form lead to a whole script.
 use Rattle.std.proofs.Common.{Bool, false, List, [], ◌∷◌, ◌++◌, ◌≡◌, refl, sym, subst}
 use Rattle.jl_token.specs.declared.token.Operator.TheVariants as o
-use Rattle.jl_typeread.specs.declared.sign.Word.TheVariants as w
+use Rattle.jl_typeread.specs.declared.terminal.Word.TheVariants as w
 use Rattle.jl_grammar.specs.declared.mark.Ahead.TheVariants as A
 use Rattle.jl_grammar.specs.declared.mark.Marked.{Marked}
 use Rattle.jl_grammar.specs.declared.mark.Opening.TheVariants as O
@@ -34,8 +34,8 @@ use Rattle.jl_grammar.specs.declared.tree.Stmt.TheVariants as Z
 use Rattle.jl_grammar.specs.Forms as M
 use Rattle.jl_grammar.specs.Grammar as GR
 use Rattle.jl_grammar.specs.Levels as LV
-use Rattle.jl_grammar.specs.Levels.{no_levels, led, fresh, into, at_levels, leads}
-use Rattle.jl_grammar.specs.Texts.{Text, Spot, opr, wrd, placed, is_end}
+use Rattle.jl_grammar.specs.Levels.{no_levels, pending_after, no_pending, push_outer, with_levels, is_comparison_start}
+use Rattle.jl_grammar.specs.Texts.{Text, Spot, opr, wrd, name_in, is_end}
 use Rattle.jl_grammar.specs.Turns as TU
 use Rattle.jl_grammar.specs.Turns.{at, type_start}
 use Rattle.std.proofs.lemmas.List.{append_assoc, append-nil}
@@ -54,13 +54,13 @@ completes_more ts us c = (us ++ c.0, c.1, subst (GR.ScriptText c.1) (append_asso
 
 -- what is read has its text, token by token
 abbrev pub Keeps : Type 0
-Keeps = (t : Marked) → is_end t.lexeme.sign ≡ false → (p : Point) (K : List Frame) (xs : ItemsRead) (ts : Text) → Has p K xs ts → HasSome (step_at t p K xs) (ts ++ t ∷ [])
+Keeps = (t : Marked) → is_end t.lexeme.terminal ≡ false → (p : Point) (K : List Frame) (xs : ItemsRead) (ts : Text) → Has p K xs ts → HasSome (step_at t p K xs) (ts ++ t ∷ [])
 
 -- a token where no place or mark matters
 abbrev pub nowhere : Spot
 nowhere = record { at = 0; marks = record { opening = O.Plain; ahead = A.Nothing } }
 
-pub by_token : Keeps → (t : Marked) → is_end t.lexeme.sign ≡ false → (p : Point) (K : List Frame) (xs : ItemsRead) (ts : Text) → Has p K xs ts → (HasSome (step_at t p K xs) (ts ++ t ∷ []) → Completes (ts ++ t ∷ [])) → Completes ts
+pub by_token : Keeps → (t : Marked) → is_end t.lexeme.terminal ≡ false → (p : Point) (K : List Frame) (xs : ItemsRead) (ts : Text) → Has p K xs ts → (HasSome (step_at t p K xs) (ts ++ t ∷ []) → Completes (ts ++ t ∷ [])) → Completes ts
 by_token keeps t n p K xs ts h f = completes_more ts (t ∷ []) (f (keeps t n p K xs ts h))
 
 -- ---- which leads stand in which frame
@@ -98,7 +98,7 @@ short_fits evaluated_form d h = tt
 
 lead_fits : (c : Choice) (r : Bool) (l : Lead) (d : Choice) (y : Bool) (ts : Text) → LeadText c r l d y ts → FitsIn c l
 lead_fits _ _ _ _ _ _ (ST.lead_plain c r) = plain_fits c
-lead_fits _ _ _ _ _ _ (ST.lead_bind c r n p q b) = bind_fits c p b (placed n p)
+lead_fits _ _ _ _ _ _ (ST.lead_bind c r n p q b) = bind_fits c p b (name_in n p)
 lead_fits _ _ _ _ _ _ (ST.lead_return p) = tt
 lead_fits _ _ _ _ _ _ (ST.lead_short c r h p ts d m t) = short_fits c d h
 
@@ -193,10 +193,10 @@ entry_completes xs ts h = items_complete xs ts (entry_items [] xs ts h)
 -- what each token that may end this expression gives has its text
 abbrev pub Closed : Lead → Form Expr → List Frame → ItemsRead → Text → Type 0
 Closed l e K xs ts =
-    HasSome (TU.separates l e K xs) (ts ++ opr o.Semicolon nowhere ∷ [])
-    × HasSome (TU.parens e K xs) (ts ++ opr o.CloseParen nowhere ∷ [])
-    × HasSome (TU.colon e K xs) (ts ++ opr o.Colon nowhere ∷ [])
-    × HasSome (TU.words w.End 0 l e K xs) (ts ++ wrd w.End nowhere ∷ [])
+    HasSome (TU.separator_after_expr l e K xs) (ts ++ opr o.Semicolon nowhere ∷ [])
+    × HasSome (TU.paren_after_expr e K xs) (ts ++ opr o.CloseParen nowhere ∷ [])
+    × HasSome (TU.colon_after_expr e K xs) (ts ++ opr o.Colon nowhere ∷ [])
+    × HasSome (TU.word_after_expr w.End 0 l e K xs) (ts ++ wrd w.End nowhere ∷ [])
 
 -- each open form can be ended from behind an expression in it, from an entry of it, and from behind a method in it
 abbrev pub Ends : List Frame → Type 0
@@ -217,37 +217,37 @@ pub want_completes : Keeps → (K : List Frame) → Ends K → Sound K → (p : 
 want_completes keeps K n s p xs ts f h = by_token keeps (wrd w.Nothing nowhere) refl (P.Want p) K xs ts h (λ g. have_completes keeps K n s p (M.nothing 0) xs (ts ++ wrd w.Nothing nowhere ∷ []) f g)
 
 -- `end` of a block and of an evaluated block
-pub block_completes : Keeps → (k : BlockKind) (ss : Forms Stmt) (K : List Frame) → Ends K → Sound K → KindFits k K → (xs : ItemsRead) (ts : Text) → HasSome (TU.block_ends k ss K xs) ts → Completes ts
-block_completes keeps (B.Begin p a) ss K n s f xs ts h = have_completes keeps K n s p (M.begun a ss) xs ts f h
-block_completes keeps (B.Branch p a x b c) ss K n s f xs ts h = have_completes keeps K n s p (M.iffed a (M.with_branch x b c ss)) xs ts f h
-block_completes keeps (B.Else p a x) ss K n s f xs ts h = have_completes keeps K n s p (M.iffed_else a x ss) xs ts f h
-block_completes keeps (B.Body H.Entry m) ss K n s f xs ts h = (n s).2 (M.long m ss) xs ts f h
-block_completes keeps (B.Body (H.Evaluated p a) m) ss K n s f xs ts h = have_completes keeps K n s p (M.eval_method a (M.long m ss)) xs ts f h
+pub block_completes : Keeps → (k : BlockKind) (ss : Forms Stmt) (K : List Frame) → Ends K → Sound K → KindFits k K → (xs : ItemsRead) (ts : Text) → HasSome (TU.end_block k ss K xs) ts → Completes ts
+block_completes keeps (B.Begin p a) ss K n s f xs ts h = have_completes keeps K n s p (M.begin_expr a ss) xs ts f h
+block_completes keeps (B.Branch p a x b c) ss K n s f xs ts h = have_completes keeps K n s p (M.if_expr a (M.with_branch x b c ss)) xs ts f h
+block_completes keeps (B.Else p a x) ss K n s f xs ts h = have_completes keeps K n s p (M.if_else_expr a x ss) xs ts f h
+block_completes keeps (B.Body H.Entry m) ss K n s f xs ts h = (n s).2 (M.long_method m ss) xs ts f h
+block_completes keeps (B.Body (H.Evaluated p a) m) ss K n s f xs ts h = have_completes keeps K n s p (M.eval_method a (M.long_method m ss)) xs ts f h
 
-pub evals_complete : Keeps → (k : EvalKind) (vs : Forms Eval) (K : List Frame) → Ends K → Sound K → EvalFits k K → (xs : ItemsRead) (ts : Text) → HasSome (TU.evals_end k vs K xs) ts → Completes ts
+pub evals_complete : Keeps → (k : EvalKind) (vs : Forms Eval) (K : List Frame) → Ends K → Sound K → EvalFits k K → (xs : ItemsRead) (ts : Text) → HasSome (TU.end_evals k vs K xs) ts → Completes ts
 evals_complete keeps (E.Begin p a) vs K n s f xs ts h = have_completes keeps K n s p (M.eval_block a vs) xs ts f h
 evals_complete keeps (E.Quote p a) vs K n s f xs ts h = by_token keeps (opr o.CloseParen nowhere) refl (P.Quoted p (M.eval_quote a vs)) K xs ts h (λ g.
     have_completes keeps K n s p (M.eval_quote a vs) xs (ts ++ opr o.CloseParen nowhere ∷ []) f g)
 
 stmt_completes : Keeps → (k : BlockKind) (ss : Forms Stmt) (K : List Frame) → Ends K → Sound K → KindFits k K → (l : Lead) (e : Form Expr) → FitsIn stmt_form l → (xs : ItemsRead) (ts : Text) →
-    HasSome (TU.block_over (TU.with_stmt ss l e) w.End 0 k K xs) ts → Completes ts
-stmt_completes keeps k ss K n s f L.Plain e t xs ts h = block_completes keeps k (M.with ss (Z.Do e.tree) e.depth) K n s f xs ts h
-stmt_completes keeps k ss K n s f (L.Bind x) e t xs ts h = block_completes keeps k (M.with ss (Z.Bind x e.tree) e.depth) K n s f xs ts h
-stmt_completes keeps k ss K n s f (L.Return a) e t xs ts h = block_completes keeps k (M.with ss (Z.Return a e.tree) e.depth) K n s f xs ts h
+    HasSome (TU.word_after_stmts (TU.with_stmt ss l e) w.End 0 k K xs) ts → Completes ts
+stmt_completes keeps k ss K n s f L.Plain e t xs ts h = block_completes keeps k (M.with_form ss (Z.Do e.tree) e.depth) K n s f xs ts h
+stmt_completes keeps k ss K n s f (L.Bind x) e t xs ts h = block_completes keeps k (M.with_form ss (Z.Bind x e.tree) e.depth) K n s f xs ts h
+stmt_completes keeps k ss K n s f (L.Return a) e t xs ts h = block_completes keeps k (M.with_form ss (Z.Return a e.tree) e.depth) K n s f xs ts h
 stmt_completes keeps k ss K n s f (L.Short x) e t xs ts h = absurd t
 
 eval_completes : Keeps → (k : EvalKind) (vs : Forms Eval) (K : List Frame) → Ends K → Sound K → EvalFits k K → (l : Lead) (e : Form Expr) → FitsIn eval_form l → (xs : ItemsRead) (ts : Text) →
-    HasSome (TU.evals_over (TU.with_eval vs l e) w.End k K xs) ts → Completes ts
-eval_completes keeps k vs K n s f L.Plain e t xs ts h = evals_complete keeps k (M.with vs (V.Do e.tree) e.depth) K n s f xs ts h
+    HasSome (TU.word_after_evals (TU.with_eval vs l e) w.End k K xs) ts → Completes ts
+eval_completes keeps k vs K n s f L.Plain e t xs ts h = evals_complete keeps k (M.with_form vs (V.Do e.tree) e.depth) K n s f xs ts h
 eval_completes keeps k vs K n s f (L.Bind x) e t xs ts h = absurd t
 eval_completes keeps k vs K n s f (L.Return a) e t xs ts h = absurd t
-eval_completes keeps k vs K n s f (L.Short x) e t xs ts h = evals_complete keeps k (TU.with_method vs (M.short x e)) K n s f xs ts h
+eval_completes keeps k vs K n s f (L.Short x) e t xs ts h = evals_complete keeps k (TU.with_method vs (M.short_method x e)) K n s f xs ts h
 
-item_completes : (l : Lead) (e : Form Expr) → FitsIn item_form l → (xs : ItemsRead) (ts : Text) → HasSome (TU.item_ends (TU.item_of l e) xs) ts → Completes ts
-item_completes L.Plain e t xs ts h = entry_completes (M.with_item xs (M.done_item e)) ts h
-item_completes (L.Bind x) e t xs ts h = entry_completes (M.with_item xs (M.bound_item x e)) ts h
+item_completes : (l : Lead) (e : Form Expr) → FitsIn item_form l → (xs : ItemsRead) (ts : Text) → HasSome (TU.end_item (TU.item_of l e) xs) ts → Completes ts
+item_completes L.Plain e t xs ts h = entry_completes (M.with_item xs (M.expr_item e)) ts h
+item_completes (L.Bind x) e t xs ts h = entry_completes (M.with_item xs (M.binding_item x e)) ts h
 item_completes (L.Return a) e t xs ts h = absurd t
-item_completes (L.Short x) e t xs ts h = entry_completes (M.with_item xs (M.method_item (M.short x e))) ts h
+item_completes (L.Short x) e t xs ts h = entry_completes (M.with_item xs (M.method_item (M.short_method x e))) ts h
 
 -- ---- each open form
 
@@ -267,17 +267,17 @@ all_end keeps (Paren p a ∷ K) = let n = all_end keeps K in expression_frame (P
 all_end keeps (Tuple p a es ∷ K) = let n = all_end keeps K in expression_frame (Tuple p a es) K (λ x. x) (λ x. x) (λ s l e xs ts h.
     completes_more ts (opr o.CloseParen nowhere ∷ []) (have_completes keeps K n s.1 p (M.tuple a (M.with_expr es e)) xs (ts ++ opr o.CloseParen nowhere ∷ []) s.0 h.1))
 all_end keeps (Args p a f es ∷ K) = let n = all_end keeps K in expression_frame (Args p a f es) K (λ x. x) (λ x. x) (λ s l e xs ts h.
-    completes_more ts (opr o.CloseParen nowhere ∷ []) (have_completes keeps K n s.1 p (M.called a f (M.with_expr es e)) xs (ts ++ opr o.CloseParen nowhere ∷ []) s.0 h.1))
+    completes_more ts (opr o.CloseParen nowhere ∷ []) (have_completes keeps K n s.1 p (M.call_expr a f (M.with_expr es e)) xs (ts ++ opr o.CloseParen nowhere ∷ []) s.0 h.1))
 all_end keeps (Fetch p a ∷ K) = let n = all_end keeps K in expression_frame (Fetch p a) K (λ x. x) (λ x. x) (λ s l e xs ts h.
-    completes_more ts (opr o.CloseParen nowhere ∷ []) (have_completes keeps K n s.1 p (M.fetched a e) xs (ts ++ opr o.CloseParen nowhere ∷ []) s.0 h.1))
+    completes_more ts (opr o.CloseParen nowhere ∷ []) (have_completes keeps K n s.1 p (M.fetch_expr a e) xs (ts ++ opr o.CloseParen nowhere ∷ []) s.0 h.1))
 all_end keeps (Print p a b ps ∷ K) = let n = all_end keeps K in expression_frame (Print p a b ps) K (λ x. x) (λ x. x) (λ s l e xs ts h.
-    completes_more ts (opr o.CloseParen nowhere ∷ []) (have_completes keeps K n s.1 p (M.printed a b (M.with_show ps e)) xs (ts ++ opr o.CloseParen nowhere ∷ []) s.0 h.1))
+    completes_more ts (opr o.CloseParen nowhere ∷ []) (have_completes keeps K n s.1 p (M.print_expr a b (M.with_show ps e)) xs (ts ++ opr o.CloseParen nowhere ∷ []) s.0 h.1))
 all_end keeps (Then p c ∷ K) = let n = all_end keeps K in expression_frame (Then p c) K (λ x. x) (λ x. x) (λ s l e xs ts h.
-    completes_more ts (opr o.Colon nowhere ∷ []) (want_completes keeps K n s.1 (into (X.Otherwise c e) p.returns p) xs (ts ++ opr o.Colon nowhere ∷ []) s.0 h.2))
+    completes_more ts (opr o.Colon nowhere ∷ []) (want_completes keeps K n s.1 (push_outer (X.Otherwise c e) p.returns p) xs (ts ++ opr o.Colon nowhere ∷ []) s.0 h.2))
 all_end keeps (Test p a x b ∷ K) = let n = all_end keeps K in expression_frame (Test p a x b) K (λ y. y) (λ y. y) (λ s l e xs ts h.
     completes_more ts (opr o.Semicolon nowhere ∷ []) (
-    by_token keeps (wrd w.End nowhere) refl P.Entry (Block (B.Branch p a x b e) M.none ∷ K) xs (ts ++ opr o.Semicolon nowhere ∷ []) h.0 (λ g.
-    block_completes keeps (B.Branch p a x b e) M.none K n s.1 s.0 xs ((ts ++ opr o.Semicolon nowhere ∷ []) ++ wrd w.End nowhere ∷ []) g)
+    by_token keeps (wrd w.End nowhere) refl P.Entry (Block (B.Branch p a x b e) M.no_forms ∷ K) xs (ts ++ opr o.Semicolon nowhere ∷ []) h.0 (λ g.
+    block_completes keeps (B.Branch p a x b e) M.no_forms K n s.1 s.0 xs ((ts ++ opr o.Semicolon nowhere ∷ []) ++ wrd w.End nowhere ∷ []) g)
     ))
 all_end keeps (Block k ss ∷ K) = let n = all_end keeps K in λ s. (
   λ l e xs ts f h. completes_more ts (wrd w.End nowhere ∷ []) (stmt_completes keeps k ss K n s.1 s.0 l e f xs (ts ++ wrd w.End nowhere ∷ []) h.3),

@@ -5,10 +5,10 @@ use Rattle.jl_token.specs.declared.token.Operator.{Operator}
 use Rattle.jl_token.specs.declared.token.Operator.TheVariants as op
 use Rattle.jl_typeread.proofs.Kept.{Goal as TypeGoal, a_type, a_where, a_header}
 use Rattle.jl_typeread.proofs.Kept as Y
-use Rattle.jl_typeread.specs.declared.sign.Sign.{Sign}
-use Rattle.jl_typeread.specs.declared.sign.Sign.TheVariants as sg
-use Rattle.jl_typeread.specs.declared.sign.Word.{Word}
-use Rattle.jl_typeread.specs.declared.sign.Word.TheVariants as wd
+use Rattle.jl_typeread.specs.declared.terminal.Terminal.{Terminal}
+use Rattle.jl_typeread.specs.declared.terminal.Terminal.TheVariants as sg
+use Rattle.jl_typeread.specs.declared.terminal.Word.{Word}
+use Rattle.jl_typeread.specs.declared.terminal.Word.TheVariants as wd
 use Rattle.jl_grammar.specs.declared.mark.Ahead.{Ahead}
 use Rattle.jl_grammar.specs.declared.mark.Ahead.TheVariants as Ah
 use Rattle.jl_grammar.specs.declared.mark.Opening.{Opening}
@@ -28,27 +28,27 @@ use Rattle.jl_grammar.specs.declared.state.Purpose.TheVariants as Pu
 use Rattle.jl_grammar.specs.declared.tree.Prefix.{Prefix}
 use Rattle.jl_grammar.specs.declared.tree.Prefix.TheVariants as Pr
 use Rattle.jl_grammar.specs.Forms as M
-use Rattle.jl_grammar.specs.Grammar.{PrefixSign, ComparisonSign, SumSign, TermSign, CalleeText, ParamText, ParamsText, ParensText, WhereText, HeadText, place, Atom, Brackets, Arguments, PieceText, Pieces, Post, Unary, Term, Sum, Comparison, Conjunction, Disjunction, Expression, Branches, Statement, Block, StmtsBefore, StmtsAfter, LongMethod, ShortMethod, Evaluated, EvalBlock, EvalsBefore, EvalsAfter, ParentText, TypeParamsText, HeaderText, FieldText, FieldsBefore, FieldsAfter, FieldsText, ItemText, ItemsBefore, ItemsAfter, ScriptText}
+use Rattle.jl_grammar.specs.Grammar.{PrefixOperator, ComparisonOperator, SumOperator, TermOperator, CalleeText, ParamText, ParamsText, ParensText, WhereText, HeadText, place, Atom, Brackets, Arguments, PieceText, Pieces, Post, Unary, Term, Sum, Comparison, Conjunction, Disjunction, Expression, Branches, Statement, Block, StmtsBefore, StmtsAfter, LongMethod, ShortMethod, Evaluated, EvalBlock, EvalsBefore, EvalsAfter, ParentText, TypeParamsText, HeaderText, FieldText, FieldsBefore, FieldsAfter, FieldsText, ItemText, ItemsBefore, ItemsAfter, ScriptText}
 use Rattle.jl_grammar.specs.Grammar as Gr
-use Rattle.jl_grammar.specs.Levels.{fresh, at_levels, behind_prefix, no_left, no_prefix, leads}
+use Rattle.jl_grammar.specs.Levels.{no_pending, with_levels, levels_after_prefix, no_left, no_prefix, is_comparison_start}
 use Rattle.jl_grammar.specs.Turns as Tu
-use Rattle.jl_grammar.specs.Turns.{at, returns_of}
-use Rattle.jl_grammar.specs.Texts.{Text, Spot, tok, opr, wrd, nam, lexemes, is_plain, begins_type, prints}
+use Rattle.jl_grammar.specs.Turns.{at, is_return_allowed}
+use Rattle.jl_grammar.specs.Texts.{Text, Spot, tok, opr, wrd, nam, lexemes, is_plain, is_left_type, IsPrint}
 use Rattle.jl_grammar.proofs.Standing.{Choice, Starts, PrefixesText, no_prefixes, one_prefix, TermPart, no_term, a_term, SumPart, no_sum, a_sum, ComparisonPart, no_comparison, a_comparison, TopText, LevelsText, levels_text, first_test, choice_in, return_in, Opened, in_paren, in_test, in_block, Led, begin_kind}
 use Rattle.jl_grammar.proofs.Points.{called_name, for_call, left_type, made_type, makes, goal_left, goal_make, spawn_dot, latest_dot, fetch_open, print_open, quote_open, Has, has_entry, has_want, has_first_paren, has_due, has_after_eval, has_named, has_type, HasSome}
 use Rattle.jl_grammar.proofs.Closing.{bare_levels}
-use Rattle.jl_grammar.proofs.KeptBlocks.{has_moved, has_atom, led_fresh, has_fresh}
+use Rattle.jl_grammar.proofs.KeptBlocks.{has_moved, has_atom, led_fresh, has_no_pending}
 use Rattle.jl_grammar.proofs.KeptCloses.{some_moved}
 use Rattle.std.proofs.Math.Dec.{eqb-suc-zero}
 use Rattle.jl_grammar.proofs.KeptFollows.{top_same}
 use Rattle.std.proofs.lemmas.Slice.Eq.{bytes_eq-Decides}
-use Rattle.jl_typeread.specs.declared.state.Begun.TheVariants.{Plain}
+use Rattle.jl_typeread.specs.declared.state.TypeSoFar.TheVariants.{Plain}
 use Rattle.jl_typeread.specs.declared.state.Frame.TheVariants as Yf
 use Rattle.jl_typeread.specs.declared.state.Point.TheVariants as Yp
 
 -- ---- a type begins where a comparison may
 
-sub_marked : (b : Bool) (a : Ahead) → begins_type b a ≡ true → (b ≡ true) × (a ≡ Ah.Sub)
+sub_marked : (b : Bool) (a : Ahead) → is_left_type b a ≡ true → (b ≡ true) × (a ≡ Ah.Sub)
 sub_marked true Ah.Sub h = (refl, refl)
 sub_marked true Ah.Nothing h = absurd cc
 sub_marked true Ah.Method h = absurd cc
@@ -79,7 +79,7 @@ all_gone hs cs ss ms ps a b c d =
     sym (append-nil hs) ∙ ap (λ z. hs ++ z) (sym d) ∙ ap (λ z. hs ++ (z ++ ps)) (sym c) ∙ ap (λ z. hs ++ (z ++ (ms ++ ps))) (sym b) ∙ ap (λ z. hs ++ (z ++ (ss ++ (ms ++ ps)))) (sym a)
 
 -- where a comparison begins nothing stands behind `||` and `&&`
-pub leading_text : (r : Bool) (ls : Levels) (us : Text) → LevelsText r ls us → leads ls ≡ true → TopText r ls us
+pub leading_text : (r : Bool) (ls : Levels) (us : Text) → LevelsText r ls us → is_comparison_start ls ≡ true → TopText r ls us
 leading_text _ _ _ (levels_text r ls hs cs ss ms ps t c s m f) h =
     let x = none_left (no_left ls.sum && (no_left ls.term && no_prefix ls.prefixes)) ls.comparison h in
     let y = none_left (no_left ls.term && no_prefix ls.prefixes) ls.sum x.1 in
@@ -95,89 +95,89 @@ paren_type q = Y.has_want a_type (Yf.Paren q.at ∷ []) (lexemes (opr op.OpenPar
 
 -- ---- a name
 
-kept_opens : (x : Opening) (n : List ℕ) (q : Spot) (p : Pending) (K : List Frame) (xs : ItemsRead) (d : Choice) (ts us : Text) → q.marks.opening ≡ x → begins_type (leads p.levels) q.marks.ahead ≡ false →
-    Led K xs p.lead p.outer p.returns d ts → LevelsText p.returns p.levels us → Starts d (us ++ nam n q ∷ []) → HasSome (Tu.opens x n q.at p K xs) ((ts ++ us) ++ nam n q ∷ [])
-kept_opens Op.Plain n q p K xs d ts us h b l ls s = has_atom p (M.name q.at n) K xs d ts us (nam n q ∷ []) l ls s (Gr.name p.returns (leads p.levels) n q (ap is_plain h) b)
-kept_opens Op.Binding n q p K xs d ts us h b l ls s = has_atom p (M.name q.at n) K xs d ts us (nam n q ∷ []) l ls s (Gr.name p.returns (leads p.levels) n q (ap is_plain h) b)
-kept_opens Op.Call n q p K xs d ts us h b l ls s =
-    has_named (Pu.Call p q.at) (called_name (leads p.levels) q.at d us) n q K xs (ts ++ us) (for_call p q.at K xs d ts us l ls) (h, b, refl, s)
-kept_opens Op.Make n q p K xs d ts us h b l ls s =
-    has_type (Go.Make p q.at) (made_type (leads p.levels) q.at d us) (record { point = Yp.Have (Plain q.at n); stack = [] }) K xs (ts ++ us) (nam n q ∷ []) (goal_make p q.at K xs d ts us l ls)
-    (makes (leads p.levels) n q [] h b, s) (name_type n q)
-kept_opens Op.Latest n q p K xs d ts us h b l ls s = has_due p q.at Du.LatestDot K xs d ts us (nam n q ∷ []) l ls s (latest_dot (leads p.levels) n q h b)
-kept_opens Op.Spawn n q p K xs d ts us h b l ls s = has_due p q.at Du.SpawnDot K xs d ts us (nam n q ∷ []) l ls s (spawn_dot (leads p.levels) n q h b)
-kept_opens Op.Quote n q p K xs d ts us h b l ls s = has_due p q.at Du.QuoteOpen K xs d ts us (nam n q ∷ []) l ls s (quote_open (leads p.levels) n q h b)
-kept_opens Op.Fetch n q p K xs d ts us h b l ls s = has_due p q.at Du.FetchOpen K xs d ts us (nam n q ∷ []) l ls s (fetch_open (leads p.levels) n q h b)
-kept_opens Op.Print n q p K xs d ts us h b l ls s =
-    has_due p q.at (Du.PrintOpen false) K xs d ts us (nam n q ∷ []) l ls s (print_open (leads p.levels) false n q (subst (λ z. prints z false) (sym h) tt) b)
-kept_opens Op.Println n q p K xs d ts us h b l ls s =
-    has_due p q.at (Du.PrintOpen true) K xs d ts us (nam n q ∷ []) l ls s (print_open (leads p.levels) true n q (subst (λ z. prints z true) (sym h) tt) b)
+kept_begin_opening : (x : Opening) (n : List ℕ) (q : Spot) (p : Pending) (K : List Frame) (xs : ItemsRead) (d : Choice) (ts us : Text) → q.marks.opening ≡ x → is_left_type (is_comparison_start p.levels) q.marks.ahead ≡ false →
+    Led K xs p.lead p.outer p.returns d ts → LevelsText p.returns p.levels us → Starts d (us ++ nam n q ∷ []) → HasSome (Tu.begin_opening x n q.at p K xs) ((ts ++ us) ++ nam n q ∷ [])
+kept_begin_opening Op.Plain n q p K xs d ts us h b l ls s = has_atom p (M.name q.at n) K xs d ts us (nam n q ∷ []) l ls s (Gr.name p.returns (is_comparison_start p.levels) n q (ap is_plain h) b)
+kept_begin_opening Op.Binding n q p K xs d ts us h b l ls s = has_atom p (M.name q.at n) K xs d ts us (nam n q ∷ []) l ls s (Gr.name p.returns (is_comparison_start p.levels) n q (ap is_plain h) b)
+kept_begin_opening Op.Call n q p K xs d ts us h b l ls s =
+    has_named (Pu.Call p q.at) (called_name (is_comparison_start p.levels) q.at d us) n q K xs (ts ++ us) (for_call p q.at K xs d ts us l ls) (h, b, refl, s)
+kept_begin_opening Op.Make n q p K xs d ts us h b l ls s =
+    has_type (Go.Make p q.at) (made_type (is_comparison_start p.levels) q.at d us) (record { point = Yp.Have (Plain q.at n); stack = [] }) K xs (ts ++ us) (nam n q ∷ []) (goal_make p q.at K xs d ts us l ls)
+    (makes (is_comparison_start p.levels) n q [] h b, s) (name_type n q)
+kept_begin_opening Op.Latest n q p K xs d ts us h b l ls s = has_due p q.at Du.LatestDot K xs d ts us (nam n q ∷ []) l ls s (latest_dot (is_comparison_start p.levels) n q h b)
+kept_begin_opening Op.Spawn n q p K xs d ts us h b l ls s = has_due p q.at Du.SpawnDot K xs d ts us (nam n q ∷ []) l ls s (spawn_dot (is_comparison_start p.levels) n q h b)
+kept_begin_opening Op.Quote n q p K xs d ts us h b l ls s = has_due p q.at Du.QuoteOpen K xs d ts us (nam n q ∷ []) l ls s (quote_open (is_comparison_start p.levels) n q h b)
+kept_begin_opening Op.Fetch n q p K xs d ts us h b l ls s = has_due p q.at Du.FetchOpen K xs d ts us (nam n q ∷ []) l ls s (fetch_open (is_comparison_start p.levels) n q h b)
+kept_begin_opening Op.Print n q p K xs d ts us h b l ls s =
+    has_due p q.at (Du.PrintOpen false) K xs d ts us (nam n q ∷ []) l ls s (print_open (is_comparison_start p.levels) false n q (subst (λ z. IsPrint z false) (sym h) tt) b)
+kept_begin_opening Op.Println n q p K xs d ts us h b l ls s =
+    has_due p q.at (Du.PrintOpen true) K xs d ts us (nam n q ∷ []) l ls s (print_open (is_comparison_start p.levels) true n q (subst (λ z. IsPrint z true) (sym h) tt) b)
 
-kept_names : (b : Bool) (n : List ℕ) (q : Spot) (p : Pending) (K : List Frame) (xs : ItemsRead) (d : Choice) (ts us : Text) → begins_type (leads p.levels) q.marks.ahead ≡ b →
-    Led K xs p.lead p.outer p.returns d ts → LevelsText p.returns p.levels us → Starts d (us ++ nam n q ∷ []) → HasSome (Tu.names b q.marks.opening n q.at p K xs) ((ts ++ us) ++ nam n q ∷ [])
-kept_names true n q p K xs d ts us h l ls s = let sub = sub_marked (leads p.levels) q.marks.ahead h in
+kept_begin_name : (b : Bool) (n : List ℕ) (q : Spot) (p : Pending) (K : List Frame) (xs : ItemsRead) (d : Choice) (ts us : Text) → is_left_type (is_comparison_start p.levels) q.marks.ahead ≡ b →
+    Led K xs p.lead p.outer p.returns d ts → LevelsText p.returns p.levels us → Starts d (us ++ nam n q ∷ []) → HasSome (Tu.begin_name b q.marks.opening n q.at p K xs) ((ts ++ us) ++ nam n q ∷ [])
+kept_begin_name true n q p K xs d ts us h l ls s = let sub = sub_marked (is_comparison_start p.levels) q.marks.ahead h in
     has_type (Go.Left p q.at) (left_type q.at d us) (record { point = Yp.Have (Plain q.at n); stack = [] }) K xs (ts ++ us) (nam n q ∷ [])
     (goal_left p q.at K xs d ts us l (leading_text p.returns p.levels us ls sub.0)) (sub.1, refl, s) (name_type n q)
-kept_names false n q p K xs d ts us h l ls s = kept_opens q.marks.opening n q p K xs d ts us refl h l ls s
+kept_begin_name false n q p K xs d ts us h l ls s = kept_begin_opening q.marks.opening n q p K xs d ts us refl h l ls s
 
 -- ---- other tokens
 
-kept_brackets : (b : Bool) (q : Spot) (p : Pending) (K : List Frame) (xs : ItemsRead) (d : Choice) (ts us : Text) → begins_type (leads p.levels) q.marks.ahead ≡ b →
+kept_begin_paren : (b : Bool) (q : Spot) (p : Pending) (K : List Frame) (xs : ItemsRead) (d : Choice) (ts us : Text) → is_left_type (is_comparison_start p.levels) q.marks.ahead ≡ b →
     Led K xs p.lead p.outer p.returns d ts → LevelsText p.returns p.levels us → Starts d (us ++ opr op.OpenParen q ∷ []) →
-    HasSome (Tu.brackets b q.at p K xs) ((ts ++ us) ++ opr op.OpenParen q ∷ [])
-kept_brackets true q p K xs d ts us h l ls s = let sub = sub_marked (leads p.levels) q.marks.ahead h in
+    HasSome (Tu.begin_paren b q.at p K xs) ((ts ++ us) ++ opr op.OpenParen q ∷ [])
+kept_begin_paren true q p K xs d ts us h l ls s = let sub = sub_marked (is_comparison_start p.levels) q.marks.ahead h in
     has_type (Go.Left p q.at) (left_type q.at d us) (record { point = Yp.Want; stack = Yf.Paren q.at ∷ [] }) K xs (ts ++ us) (opr op.OpenParen q ∷ [])
     (goal_left p q.at K xs d ts us l (leading_text p.returns p.levels us ls sub.0)) (sub.1, refl, s) (paren_type q)
-kept_brackets false q p K xs d ts us h l ls s =
+kept_begin_paren false q p K xs d ts us h l ls s =
     has_first_paren p q.at K xs ((ts ++ us) ++ opr op.OpenParen q ∷ []) (in_paren p q K xs d ts us l ls s h)
 
-kept_prefixes : (x : Operator) (u : Prefix) (q : Spot) (p : Pending) (K : List Frame) (xs : ItemsRead) (d : Choice) (ts us : Text) → PrefixSign x u →
-    Led K xs p.lead p.outer p.returns d ts → LevelsText p.returns p.levels us → Starts d (us ++ opr x q ∷ []) → HasSome (Tu.prefixes q.at u p K xs) ((ts ++ us) ++ opr x q ∷ [])
-kept_prefixes x u q p K xs d ts _ sign l (levels_text _ _ hs cs ss ms ps t c s m f) st =
-    has_moved (has_want (at_levels (behind_prefix (record { at = q.at; prefix = u }) p.levels) p) K xs d ts (hs ++ (cs ++ (ss ++ (ms ++ (ps ++ opr x q ∷ []))))) l
-    (levels_text p.returns (behind_prefix (record { at = q.at; prefix = u }) p.levels) hs cs ss ms (ps ++ opr x q ∷ []) (top_same t refl refl) c s m (one_prefix x u q p.levels.prefixes ps sign f))
+kept_begin_prefix : (x : Operator) (u : Prefix) (q : Spot) (p : Pending) (K : List Frame) (xs : ItemsRead) (d : Choice) (ts us : Text) → PrefixOperator x u →
+    Led K xs p.lead p.outer p.returns d ts → LevelsText p.returns p.levels us → Starts d (us ++ opr x q ∷ []) → HasSome (Tu.begin_prefix q.at u p K xs) ((ts ++ us) ++ opr x q ∷ [])
+kept_begin_prefix x u q p K xs d ts _ terminal l (levels_text _ _ hs cs ss ms ps t c s m f) st =
+    has_moved (has_want (with_levels (levels_after_prefix (record { at = q.at; prefix = u }) p.levels) p) K xs d ts (hs ++ (cs ++ (ss ++ (ms ++ (ps ++ opr x q ∷ []))))) l
+    (levels_text p.returns (levels_after_prefix (record { at = q.at; prefix = u }) p.levels) hs cs ss ms (ps ++ opr x q ∷ []) (top_same t refl refl) c s m (one_prefix x u q p.levels.prefixes ps terminal f))
     (subst (Starts d) (simp append_assoc refl) st)) (simp append_assoc refl)
 
-pub kept_begins_operator : (x : Operator) (q : Spot) (p : Pending) (K : List Frame) (xs : ItemsRead) (d : Choice) (ts us : Text) → Led K xs p.lead p.outer p.returns d ts →
-    LevelsText p.returns p.levels us → Starts d (us ++ opr x q ∷ []) → HasSome (Tu.begins_operator x q.marks.ahead q.at p K xs) ((ts ++ us) ++ opr x q ∷ [])
-kept_begins_operator op.OpenParen q p K xs d ts us l ls s = kept_brackets (begins_type (leads p.levels) q.marks.ahead) q p K xs d ts us refl l ls s
-kept_begins_operator op.Minus q p K xs d ts us l ls s = kept_prefixes op.Minus Pr.Minus q p K xs d ts us Gr.minus_prefix l ls s
-kept_begins_operator op.Not q p K xs d ts us l ls s = kept_prefixes op.Not Pr.Not q p K xs d ts us Gr.not_prefix l ls s
-kept_begins_operator _ q p K xs d ts us l ls s = tt
+pub kept_begin_operator : (x : Operator) (q : Spot) (p : Pending) (K : List Frame) (xs : ItemsRead) (d : Choice) (ts us : Text) → Led K xs p.lead p.outer p.returns d ts →
+    LevelsText p.returns p.levels us → Starts d (us ++ opr x q ∷ []) → HasSome (Tu.begin_operator x q.marks.ahead q.at p K xs) ((ts ++ us) ++ opr x q ∷ [])
+kept_begin_operator op.OpenParen q p K xs d ts us l ls s = kept_begin_paren (is_left_type (is_comparison_start p.levels) q.marks.ahead) q p K xs d ts us refl l ls s
+kept_begin_operator op.Minus q p K xs d ts us l ls s = kept_begin_prefix op.Minus Pr.Minus q p K xs d ts us Gr.minus_prefix l ls s
+kept_begin_operator op.Not q p K xs d ts us l ls s = kept_begin_prefix op.Not Pr.Not q p K xs d ts us Gr.not_prefix l ls s
+kept_begin_operator _ q p K xs d ts us l ls s = tt
 
-pub kept_begins_word : (v : Word) (q : Spot) (p : Pending) (K : List Frame) (xs : ItemsRead) (d : Choice) (ts us : Text) → Led K xs p.lead p.outer p.returns d ts →
-    LevelsText p.returns p.levels us → Starts d (us ++ wrd v q ∷ []) → HasSome (Tu.begins_word v q.at p K xs) ((ts ++ us) ++ wrd v q ∷ [])
-kept_begins_word wd.True q p K xs d ts us l ls s = has_atom p (M.truth q.at true) K xs d ts us (wrd wd.True q ∷ []) l ls s (Gr.truth_true p.returns (leads p.levels) q)
-kept_begins_word wd.False q p K xs d ts us l ls s = has_atom p (M.truth q.at false) K xs d ts us (wrd wd.False q ∷ []) l ls s (Gr.truth_false p.returns (leads p.levels) q)
-kept_begins_word wd.Nothing q p K xs d ts us l ls s = has_atom p (M.nothing q.at) K xs d ts us (wrd wd.Nothing q ∷ []) l ls s (Gr.nothing p.returns (leads p.levels) q)
-kept_begins_word wd.If q p K xs d ts us l ls s =
-    has_fresh (Fr.Test p q.at M.no_branches q.at ∷ K) xs ((ts ++ us) ++ wrd wd.If q ∷ []) tt (in_test p q.at M.no_branches q.at K xs d ts us (wrd wd.If q ∷ []) l ls s (first_test p.returns q))
-kept_begins_word wd.Begin q p K xs d ts us l ls s =
-    has_moved (has_entry (Fr.Block (Bl.Begin p q.at) M.none ∷ K) xs (((ts ++ us) ++ wrd wd.Begin q ∷ []) ++ []) tt
-    (in_block (Bl.Begin p q.at) M.none K xs ((ts ++ us) ++ wrd wd.Begin q ∷ []) [] (begin_kind p q K xs d ts us l ls s) (Gr.no_stmts p.returns)))
+pub kept_begin_word : (v : Word) (q : Spot) (p : Pending) (K : List Frame) (xs : ItemsRead) (d : Choice) (ts us : Text) → Led K xs p.lead p.outer p.returns d ts →
+    LevelsText p.returns p.levels us → Starts d (us ++ wrd v q ∷ []) → HasSome (Tu.begin_word v q.at p K xs) ((ts ++ us) ++ wrd v q ∷ [])
+kept_begin_word wd.True q p K xs d ts us l ls s = has_atom p (M.truth q.at true) K xs d ts us (wrd wd.True q ∷ []) l ls s (Gr.truth_true p.returns (is_comparison_start p.levels) q)
+kept_begin_word wd.False q p K xs d ts us l ls s = has_atom p (M.truth q.at false) K xs d ts us (wrd wd.False q ∷ []) l ls s (Gr.truth_false p.returns (is_comparison_start p.levels) q)
+kept_begin_word wd.Nothing q p K xs d ts us l ls s = has_atom p (M.nothing q.at) K xs d ts us (wrd wd.Nothing q ∷ []) l ls s (Gr.nothing p.returns (is_comparison_start p.levels) q)
+kept_begin_word wd.If q p K xs d ts us l ls s =
+    has_no_pending (Fr.Test p q.at M.no_branches q.at ∷ K) xs ((ts ++ us) ++ wrd wd.If q ∷ []) tt (in_test p q.at M.no_branches q.at K xs d ts us (wrd wd.If q ∷ []) l ls s (first_test p.returns q))
+kept_begin_word wd.Begin q p K xs d ts us l ls s =
+    has_moved (has_entry (Fr.Block (Bl.Begin p q.at) M.no_forms ∷ K) xs (((ts ++ us) ++ wrd wd.Begin q ∷ []) ++ []) tt
+    (in_block (Bl.Begin p q.at) M.no_forms K xs ((ts ++ us) ++ wrd wd.Begin q ∷ []) [] (begin_kind p q K xs d ts us l ls s) (Gr.no_stmts p.returns)))
     (append-nil ((ts ++ us) ++ wrd wd.Begin q ∷ []))
-kept_begins_word _ q p K xs d ts us l ls s = tt
+kept_begin_word _ q p K xs d ts us l ls s = tt
 
-kept_macros : (b : Bool) (n : List ℕ) (q : Spot) (p : Pending) (K : List Frame) (xs : ItemsRead) (d : Choice) (ts us : Text) → bytes_eq n (codes "eval") ≡ b →
+kept_begin_macro : (b : Bool) (n : List ℕ) (q : Spot) (p : Pending) (K : List Frame) (xs : ItemsRead) (d : Choice) (ts us : Text) → bytes_eq n (codes "eval") ≡ b →
     Led K xs p.lead p.outer p.returns d ts → LevelsText p.returns p.levels us → Starts d (us ++ tok (sg.Macro n) q ∷ []) →
-    HasSome (Tu.macros b q.at p K xs) ((ts ++ us) ++ tok (sg.Macro n) q ∷ [])
-kept_macros false n q p K xs d ts us h l ls s = tt
-kept_macros true n q p K xs d ts us h l ls s = let same = (bytes_eq-Decides n (codes "eval")).0 h in
+    HasSome (Tu.begin_macro b q.at p K xs) ((ts ++ us) ++ tok (sg.Macro n) q ∷ [])
+kept_begin_macro false n q p K xs d ts us h l ls s = tt
+kept_begin_macro true n q p K xs d ts us h l ls s = let same = (bytes_eq-Decides n (codes "eval")).0 h in
     subst (λ z. Has (Po.AfterEval p q.at) K xs ((ts ++ us) ++ tok (sg.Macro z) q ∷ [])) (sym same)
     (has_after_eval p q K xs d ts us l ls (subst (λ z. Starts d (us ++ tok (sg.Macro z) q ∷ [])) same s))
 
-pub kept_begins : (s : Sign) (q : Spot) (p : Pending) (K : List Frame) (xs : ItemsRead) (d : Choice) (ts us : Text) → Led K xs p.lead p.outer p.returns d ts →
-    LevelsText p.returns p.levels us → Starts d (us ++ tok s q ∷ []) → HasSome (Tu.begins s q.marks q.at p K xs) ((ts ++ us) ++ tok s q ∷ [])
-kept_begins (sg.Name n) q p K xs d ts us l ls s = kept_names (begins_type (leads p.levels) q.marks.ahead) n q p K xs d ts us refl l ls s
-kept_begins (sg.Number n) q p K xs d ts us l ls s = has_atom p (M.number q.at n) K xs d ts us (tok (sg.Number n) q ∷ []) l ls s (Gr.number p.returns (leads p.levels) n q)
-kept_begins (sg.Word v) q p K xs d ts us l ls s = kept_begins_word v q p K xs d ts us l ls s
-kept_begins (sg.Operator x) q p K xs d ts us l ls s = kept_begins_operator x q p K xs d ts us l ls s
-kept_begins (sg.Macro n) q p K xs d ts us l ls s = kept_macros (bytes_eq n (codes "eval")) n q p K xs d ts us refl l ls s
-kept_begins _ q p K xs d ts us l ls s = tt
+pub kept_begin_operand : (s : Terminal) (q : Spot) (p : Pending) (K : List Frame) (xs : ItemsRead) (d : Choice) (ts us : Text) → Led K xs p.lead p.outer p.returns d ts →
+    LevelsText p.returns p.levels us → Starts d (us ++ tok s q ∷ []) → HasSome (Tu.begin_operand s q.marks q.at p K xs) ((ts ++ us) ++ tok s q ∷ [])
+kept_begin_operand (sg.Name n) q p K xs d ts us l ls s = kept_begin_name (is_left_type (is_comparison_start p.levels) q.marks.ahead) n q p K xs d ts us refl l ls s
+kept_begin_operand (sg.Number n) q p K xs d ts us l ls s = has_atom p (M.number q.at n) K xs d ts us (tok (sg.Number n) q ∷ []) l ls s (Gr.number p.returns (is_comparison_start p.levels) n q)
+kept_begin_operand (sg.Word v) q p K xs d ts us l ls s = kept_begin_word v q p K xs d ts us l ls s
+kept_begin_operand (sg.Operator x) q p K xs d ts us l ls s = kept_begin_operator x q p K xs d ts us l ls s
+kept_begin_operand (sg.Macro n) q p K xs d ts us l ls s = kept_begin_macro (bytes_eq n (codes "eval")) n q p K xs d ts us refl l ls s
+kept_begin_operand _ q p K xs d ts us l ls s = tt
 
 -- a form begins in the innermost frame, with how it is led
-pub kept_fresh : (s : Sign) (q : Spot) (K : List Frame) (xs : ItemsRead) (ts : Text) → Opened K xs ts → Starts (choice_in K) (tok s q ∷ []) →
-    HasSome (Tu.begins s q.marks q.at (fresh (return_in K)) K xs) (ts ++ tok s q ∷ [])
-kept_fresh s q K xs ts o st =
-    some_moved (Tu.begins s q.marks q.at (fresh (return_in K)) K xs) ((ts ++ []) ++ tok s q ∷ []) (ts ++ tok s q ∷ [])
-    (kept_begins s q (fresh (return_in K)) K xs (choice_in K) ts [] (led_fresh K xs ts o) (bare_levels (return_in K)) st) (ap (λ z. z ++ tok s q ∷ []) (append-nil ts))
+pub kept_no_pending : (s : Terminal) (q : Spot) (K : List Frame) (xs : ItemsRead) (ts : Text) → Opened K xs ts → Starts (choice_in K) (tok s q ∷ []) →
+    HasSome (Tu.begin_operand s q.marks q.at (no_pending (return_in K)) K xs) (ts ++ tok s q ∷ [])
+kept_no_pending s q K xs ts o st =
+    some_moved (Tu.begin_operand s q.marks q.at (no_pending (return_in K)) K xs) ((ts ++ []) ++ tok s q ∷ []) (ts ++ tok s q ∷ [])
+    (kept_begin_operand s q (no_pending (return_in K)) K xs (choice_in K) ts [] (led_fresh K xs ts o) (bare_levels (return_in K)) st) (ap (λ z. z ++ tok s q ∷ []) (append-nil ts))

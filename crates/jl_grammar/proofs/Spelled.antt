@@ -58,7 +58,7 @@ mutual
   read_piece _ _ _ _ (GR.show r xs e ts d) = A1.show_read r xs e ts (read_expression r e ts d)
 
   pub read_pieces : (r : Bool) (xs : Forms Piece) (ts : Text) → GR.Pieces r xs ts → PiecesRead r xs ts
-  read_pieces _ _ _ (GR.one_piece r xs ts d) = read_piece r M.none xs ts d
+  read_pieces _ _ _ (GR.one_piece r xs ts d) = read_piece r M.no_forms xs ts d
   read_pieces _ _ _ (GR.more_pieces r xs ys p ts us c d) = A1.more_pieces_read r xs ys p ts us (read_pieces r xs ts c) (read_piece r xs ys us d)
 
   pub read_post : (r k b : Bool) (e : Form Expr) (ts : Text) → GR.Post r k b e ts → AtomRead r k b e ts
@@ -79,8 +79,8 @@ mutual
   read_sum _ _ _ _ _ (GR.sum r k b x i e d p ts us is c a) = A2.sum_read r k b x i e d p ts us is (read_sum r false b e ts c) (read_term r k false d us a)
 
   pub read_comparison : (r k : Bool) (e : Form Expr) (ts : Text) → GR.Comparison r k e ts → ComparisonRead r k e ts
-  read_comparison _ _ _ _ (GR.sub r s t p ts us is c d) = A2.sub_read r s t p ts us is c d
-  read_comparison _ _ _ _ (GR.isa r e t p ts us c d) = A2.isa_read r e t p ts us (read_sum r false true e ts c) d
+  read_comparison _ _ _ _ (GR.sub r s t p ts us is c d) = A2.sub_expr_read r s t p ts us is c d
+  read_comparison _ _ _ _ (GR.isa r e t p ts us c d) = A2.isa_expr_read r e t p ts us (read_sum r false true e ts c) d
   read_comparison _ _ _ _ (GR.one_sum r k e ts d) = A2.one_sum_read r k e ts (read_sum r k true e ts d)
   read_comparison _ _ _ _ (GR.compare r k x i e d p ts us is c a) = A2.compare_read r k x i e d p ts us is (read_sum r false true e ts c) (read_sum r k false d us a)
 
@@ -120,10 +120,10 @@ mutual
   read_stmts_after _ _ _ (GR.stmts_one r ss s d ts us a c) = A3.stmts_one_read r ss s d ts us (read_stmts_before r ss ts a) (read_statement r s d us c)
 
   pub read_long : (m : Form Method) (ts : Text) → GR.LongMethod m ts → LongRead m ts
-  read_long _ _ (GR.long h ss p q ts us c d) = A3.long_read h ss p q ts us c (read_block true ss us d)
+  read_long _ _ (GR.long h ss p q ts us c d) = A3.long_method_read h ss p q ts us c (read_block true ss us d)
 
   pub read_short : (m : Form Method) (ts : Text) → GR.ShortMethod m ts → ShortRead m ts
-  read_short _ _ (GR.short h e p ts us is c d) = A3.short_read h e p ts us is c (read_expression true e us d)
+  read_short _ _ (GR.short h e p ts us is c d) = A3.short_method_read h e p ts us is c (read_expression true e us d)
 
   pub read_evaluated : (x : Eval) (d : ℕ) (ts : Text) → GR.Evaluated x d ts → EvaluatedRead x d ts
   read_evaluated _ _ _ (GR.evaluated_long m ts d) = A4.evaluated_long_read m ts (read_long m ts d)

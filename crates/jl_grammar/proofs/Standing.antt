@@ -2,8 +2,8 @@
 use Rattle.std.proofs.Common.{ℕ, Bool, true, false, ◌&&◌, codes, List, [], ◌∷◌, ◌++◌, ◌≡◌, Option, Some, None}
 use Rattle.jl_token.specs.declared.token.Operator.{Operator}
 use Rattle.jl_token.specs.declared.token.Operator.TheVariants as op
-use Rattle.jl_typeread.specs.declared.sign.Sign.TheVariants as sg
-use Rattle.jl_typeread.specs.declared.sign.Word.TheVariants as wd
+use Rattle.jl_typeread.specs.declared.terminal.Terminal.TheVariants as sg
+use Rattle.jl_typeread.specs.declared.terminal.Word.TheVariants as wd
 use Rattle.jl_typeread.specs.declared.tree.TypeText.{TypeText}
 use Rattle.jl_grammar.specs.declared.mark.Marked.{Marked}
 use Rattle.jl_grammar.specs.declared.mark.Opening.TheVariants as Op
@@ -37,12 +37,12 @@ use Rattle.jl_grammar.specs.declared.tree.Piece.{Piece}
 use Rattle.jl_grammar.specs.declared.tree.Prefix.{Prefix}
 use Rattle.jl_grammar.specs.declared.tree.Stmt.{Stmt}
 use Rattle.jl_grammar.specs.Forms as M
-use Rattle.jl_grammar.specs.Grammar.{PrefixSign, ComparisonSign, SumSign, TermSign, CalleeText, HeadText, place, Arguments, Pieces, Term, Sum, Conjunction, Disjunction, Expression, Branches, StmtsBefore, EvalsBefore, ItemsBefore}
-use Rattle.jl_grammar.specs.Levels.{no_levels, no_left, leads}
-use Rattle.jl_grammar.specs.Turns.{returns_of}
+use Rattle.jl_grammar.specs.Grammar.{PrefixOperator, ComparisonOperator, SumOperator, TermOperator, CalleeText, HeadText, place, Arguments, Pieces, Term, Sum, Conjunction, Disjunction, Expression, Branches, StmtsBefore, EvalsBefore, ItemsBefore}
+use Rattle.jl_grammar.specs.Levels.{no_levels, no_left, is_comparison_start}
+use Rattle.jl_grammar.specs.Turns.{is_return_allowed}
 use Rattle.jl_grammar.specs.Texts as Tx
-use Rattle.jl_grammar.specs.Texts.{Text, Spot, tok, opr, wrd, nam, placed, Sep, lexemes, is_method, is_sub, is_binding, is_plain, begins_type, item_name, item_sign, begins_item, stmt_name, stmt_sign, begins_stmt, eval_name, eval_sign, begins_eval, evaluated_sign, begins_evaluated, opens_as, heads_method, is_sub_text, prints, is_bound}
-use Rattle.jl_grammar.specs.Types.{written, IsType}
+use Rattle.jl_grammar.specs.Texts.{Text, Spot, tok, opr, wrd, nam, name_in, Sep, lexemes, is_method, is_sub, is_binding, is_plain, is_left_type, is_item_name, is_item_terminal, is_item_start, is_stmt_name, is_stmt_terminal, is_stmt_start, is_eval_name, is_eval_terminal, is_eval_start, is_evaluated_terminal, is_evaluated_start, OpensAs, IsMethodStart, IsSubStart, IsPrint, IsBindingName}
+use Rattle.jl_grammar.specs.Types.{type_as_read, IsType}
 
 -- ---- what a form may begin with
 
@@ -57,31 +57,31 @@ pub data Choice : Type 0 where
 -- the first token is one that the rule wants
 abbrev pub Starts : Choice → Text → Type 0
 Starts any_form ts = Unit {0}
-Starts item_form ts = begins_item ts ≡ true
-Starts stmt_form ts = begins_stmt ts ≡ true
-Starts eval_form ts = begins_eval ts ≡ true
-Starts evaluated_form ts = begins_evaluated ts ≡ true
+Starts item_form ts = is_item_start ts ≡ true
+Starts stmt_form ts = is_stmt_start ts ≡ true
+Starts eval_form ts = is_eval_start ts ≡ true
+Starts evaluated_form ts = is_evaluated_start ts ≡ true
 
 -- ---- the operators before an operand
 
 pub data PrefixesText : List PrefixAt → Text → Type 0 where
   no_prefixes : PrefixesText [] []
-  one_prefix : (x : Operator) (u : Prefix) (p : Spot) (ps : List PrefixAt) (ts : Text) → PrefixSign x u → PrefixesText ps ts →
+  one_prefix : (x : Operator) (u : Prefix) (p : Spot) (ps : List PrefixAt) (ts : Text) → PrefixOperator x u → PrefixesText ps ts →
       PrefixesText (record { at = p.at; prefix = u } ∷ ps) (ts ++ opr x p ∷ [])
 
 pub data TermPart : Bool → Bool → Option Left → Text → Type 0 where
   no_term : (r b : Bool) → TermPart r b None []
-  a_term : (r b : Bool) (x : Operator) (i : Infix) (e : Form Expr) (p : Spot) (ts : Text) → TermSign x i → Term r false b e ts →
+  a_term : (r b : Bool) (x : Operator) (i : Infix) (e : Form Expr) (p : Spot) (ts : Text) → TermOperator x i → Term r false b e ts →
       TermPart r b (Some (record { left = e; operator = i })) (ts ++ opr x p ∷ [])
 
 pub data SumPart : Bool → Bool → Option Left → Text → Type 0 where
   no_sum : (r b : Bool) → SumPart r b None []
-  a_sum : (r b : Bool) (x : Operator) (i : Infix) (e : Form Expr) (p : Spot) (ts : Text) → SumSign x i → Sum r false b e ts →
+  a_sum : (r b : Bool) (x : Operator) (i : Infix) (e : Form Expr) (p : Spot) (ts : Text) → SumOperator x i → Sum r false b e ts →
       SumPart r b (Some (record { left = e; operator = i })) (ts ++ opr x p ∷ [])
 
 pub data ComparisonPart : Bool → Option Left → Text → Type 0 where
   no_comparison : (r : Bool) → ComparisonPart r None []
-  a_comparison : (r : Bool) (x : Operator) (i : Infix) (e : Form Expr) (p : Spot) (ts : Text) → ComparisonSign x i → Sum r false true e ts →
+  a_comparison : (r : Bool) (x : Operator) (i : Infix) (e : Form Expr) (p : Spot) (ts : Text) → ComparisonOperator x i → Sum r false true e ts →
       ComparisonPart r (Some (record { left = e; operator = i })) (ts ++ opr x p ∷ [])
 
 pub data AndPart : Bool → Option (Form Expr) → Text → Type 0 where
@@ -106,12 +106,12 @@ pub data LevelsText : Bool → Levels → Text → Type 0 where
 pub data OutersText : Choice → Bool → List Outer → Choice → Bool → Text → Type 0 where
   no_outer : (c : Choice) (y : Bool) → OutersText c y [] c y []
   in_spawn : (c d : Choice) (y r : Bool) (os : List Outer) (ls : Levels) (n m : List ℕ) (p q s : Spot) (ts us : Text) → OutersText c y os d r ts → LevelsText r ls us →
-      Starts d (us ++ nam n p ∷ []) → p.marks.opening ≡ Op.Spawn → begins_type (leads ls) p.marks.ahead ≡ false →
+      Starts d (us ++ nam n p ∷ []) → p.marks.opening ≡ Op.Spawn → is_left_type (is_comparison_start ls) p.marks.ahead ≡ false →
       OutersText c y (Ou.Spawn ls p.at ∷ os) any_form false (ts ++ (us ++ nam n p ∷ opr op.Dot q ∷ tok (sg.Macro m) s ∷ []))
   in_eval : (c d : Choice) (y r : Bool) (os : List Outer) (ls : Levels) (p : Spot) (ts us : Text) → OutersText c y os d r ts → LevelsText r ls us →
       Starts d (us ++ tok (sg.Macro (codes "eval")) p ∷ []) → OutersText c y (Ou.Eval ls p.at ∷ os) evaluated_form false (ts ++ (us ++ tok (sg.Macro (codes "eval")) p ∷ []))
   in_short : (c d : Choice) (y r : Bool) (os : List Outer) (ls : Levels) (h : Form Head) (p q : Spot) (ts us vs : Text) → OutersText c y os d r ts → LevelsText r ls us →
-      Starts d (us ++ tok (sg.Macro (codes "eval")) p ∷ []) → heads_method vs → HeadText (place vs) h vs →
+      Starts d (us ++ tok (sg.Macro (codes "eval")) p ∷ []) → IsMethodStart vs → HeadText (place vs) h vs →
       OutersText c y (Ou.Short ls p.at h ∷ os) any_form true (ts ++ (us ++ (tok (sg.Macro (codes "eval")) p ∷ (vs ++ opr op.Assign q ∷ []))))
   in_otherwise : (c d : Choice) (y r : Bool) (os : List Outer) (e a : Form Expr) (p q : Spot) (ts us vs : Text) → OutersText c y os d r ts → Disjunction r false e us →
       Starts d us → Expression r a vs → OutersText c y (Ou.Otherwise e a ∷ os) any_form r (ts ++ ((us ++ (opr op.Question p ∷ vs)) ++ opr op.Colon q ∷ []))
@@ -120,7 +120,7 @@ pub data OutersText : Choice → Bool → List Outer → Choice → Bool → Tex
 
 -- what the name of a binding must be marked as
 abbrev pub Binds : Choice → Spot → Type 0
-Binds item_form p = is_bound p
+Binds item_form p = IsBindingName p
 Binds stmt_form p = p.marks.opening ≡ Op.Binding
 Binds c p = ⊥
 
@@ -132,33 +132,33 @@ Defines c = ⊥
 
 pub data LeadText : Choice → Bool → Lead → Choice → Bool → Text → Type 0 where
   lead_plain : (c : Choice) (r : Bool) → LeadText c r Le.Plain c r []
-  lead_bind : (c : Choice) (r : Bool) (n : List ℕ) (p q : Spot) → Binds c p → LeadText c r (Le.Bind (placed n p)) any_form r (nam n p ∷ opr op.Assign q ∷ [])
+  lead_bind : (c : Choice) (r : Bool) (n : List ℕ) (p q : Spot) → Binds c p → LeadText c r (Le.Bind (name_in n p)) any_form r (nam n p ∷ opr op.Assign q ∷ [])
   lead_return : (p : Spot) → LeadText stmt_form true (Le.Return p.at) any_form true (wrd wd.Return p ∷ [])
-  lead_short : (c : Choice) (r : Bool) (h : Form Head) (p : Spot) (ts : Text) → Defines c → heads_method ts → HeadText (place ts) h ts →
+  lead_short : (c : Choice) (r : Bool) (h : Form Head) (p : Spot) (ts : Text) → Defines c → IsMethodStart ts → HeadText (place ts) h ts →
       LeadText c r (Le.Short h) any_form true (ts ++ opr op.Assign p ∷ [])
 
 -- ---- open brackets and blocks
 
 -- up to where the next argument may begin; whether the arguments may end before one
 pub data CalledText : Bool → Bool → ℕ → Called → Text → Type 0 where
-  called_function : (b : Bool) (f : Callee) (q : Spot) (ts : Text) → opens_as Op.Call ts → Tx.leads b ts → CalleeText f ts →
+  called_function : (b : Bool) (f : Callee) (q : Spot) (ts : Text) → OpensAs Op.Call ts → Tx.IsNoTypeStart b ts → CalleeText f ts →
       CalledText true b (place ts) (Ca.Function f) (ts ++ opr op.OpenParen q ∷ [])
-  called_type : (b : Bool) (n : List ℕ) (t : TypeText) (p q : Spot) (ts : Text) → p.marks.opening ≡ Op.Make → begins_type b p.marks.ahead ≡ false → IsType t (nam n p ∷ ts) →
-      CalledText true b p.at (Ca.Type (written t)) ((nam n p ∷ ts) ++ opr op.OpenParen q ∷ [])
-  called_latest : (b : Bool) (n m : List ℕ) (f : Callee) (p q s v y : Spot) (ts : Text) → p.marks.opening ≡ Op.Latest → begins_type b p.marks.ahead ≡ false → CalleeText f ts →
+  called_type : (b : Bool) (n : List ℕ) (t : TypeText) (p q : Spot) (ts : Text) → p.marks.opening ≡ Op.Make → is_left_type b p.marks.ahead ≡ false → IsType t (nam n p ∷ ts) →
+      CalledText true b p.at (Ca.Type (type_as_read t)) ((nam n p ∷ ts) ++ opr op.OpenParen q ∷ [])
+  called_latest : (b : Bool) (n m : List ℕ) (f : Callee) (p q s v y : Spot) (ts : Text) → p.marks.opening ≡ Op.Latest → is_left_type b p.marks.ahead ≡ false → CalleeText f ts →
       CalledText false b p.at (Ca.Latest f) ((nam n p ∷ opr op.Dot q ∷ nam m s ∷ opr op.OpenParen v ∷ ts) ++ opr op.Comma y ∷ [])
 
 pub data ArgumentsPart : Bool → Forms Expr → Text → Type 0 where
-  no_arguments_yet : (r : Bool) → ArgumentsPart r M.none []
+  no_arguments_yet : (r : Bool) → ArgumentsPart r M.no_forms []
   some_arguments_yet : (r : Bool) (es : Forms Expr) (p : Spot) (ts : Text) → Arguments r es ts → ArgumentsPart r es (ts ++ opr op.Comma p ∷ [])
 
 pub data PiecesPart : Bool → Forms Piece → Text → Type 0 where
-  no_pieces_yet : (r : Bool) → PiecesPart r M.none []
+  no_pieces_yet : (r : Bool) → PiecesPart r M.no_forms []
   some_pieces_yet : (r : Bool) (ps : Forms Piece) (p : Spot) (ts : Text) → Pieces r ps ts → PiecesPart r ps (ts ++ opr op.Comma p ∷ [])
 
 -- `print(` and `println(`
 pub data PrintText : Bool → ℕ → Bool → Text → Type 0 where
-  print_text : (b l : Bool) (n : List ℕ) (p q : Spot) → prints p.marks.opening l → begins_type b p.marks.ahead ≡ false → PrintText b p.at l (nam n p ∷ opr op.OpenParen q ∷ [])
+  print_text : (b l : Bool) (n : List ℕ) (p q : Spot) → IsPrint p.marks.opening l → is_left_type b p.marks.ahead ≡ false → PrintText b p.at l (nam n p ∷ opr op.OpenParen q ∷ [])
 
 -- `if` and `elseif`
 pub data TestText : Bool → ℕ → Branched → ℕ → Text → Type 0 where
@@ -181,7 +181,7 @@ return_in (Fr.Fetch p a ∷ K) = p.returns
 return_in (Fr.Print p a l ps ∷ K) = p.returns
 return_in (Fr.Then p c ∷ K) = p.returns
 return_in (Fr.Test p a x b ∷ K) = p.returns
-return_in (Fr.Block k ss ∷ K) = returns_of k
+return_in (Fr.Block k ss ∷ K) = is_return_allowed k
 return_in (Fr.Evals k vs ∷ K) = false
 
 -- an entry, and a method, may stand there
@@ -199,24 +199,24 @@ mutual
   pub data Opened : List Frame → ItemsRead → Text → Type 0 where
     bottom : (xs : ItemsRead) (ts : Text) → ItemsBefore xs ts → Opened [] xs ts
     in_paren : (p : Pending) (q : Spot) (K : List Frame) (xs : ItemsRead) (d : Choice) (ts us : Text) → Led K xs p.lead p.outer p.returns d ts → LevelsText p.returns p.levels us →
-        Starts d (us ++ opr op.OpenParen q ∷ []) → begins_type (leads p.levels) q.marks.ahead ≡ false → Opened (Fr.Paren p q.at ∷ K) xs ((ts ++ us) ++ opr op.OpenParen q ∷ [])
+        Starts d (us ++ opr op.OpenParen q ∷ []) → is_left_type (is_comparison_start p.levels) q.marks.ahead ≡ false → Opened (Fr.Paren p q.at ∷ K) xs ((ts ++ us) ++ opr op.OpenParen q ∷ [])
     in_tuple : (p : Pending) (q s : Spot) (es : Forms Expr) (K : List Frame) (xs : ItemsRead) (d : Choice) (ts us vs : Text) →
-        Led K xs p.lead p.outer p.returns d ts → LevelsText p.returns p.levels us → Starts d (us ++ opr op.OpenParen q ∷ []) → begins_type (leads p.levels) q.marks.ahead ≡ false →
+        Led K xs p.lead p.outer p.returns d ts → LevelsText p.returns p.levels us → Starts d (us ++ opr op.OpenParen q ∷ []) → is_left_type (is_comparison_start p.levels) q.marks.ahead ≡ false →
         Arguments p.returns es vs → Opened (Fr.Tuple p q.at es ∷ K) xs ((ts ++ us) ++ ((opr op.OpenParen q ∷ vs) ++ opr op.Comma s ∷ []))
     in_args : (p : Pending) (k : Bool) (a : ℕ) (f : Called) (es : Forms Expr) (K : List Frame) (xs : ItemsRead) (d : Choice) (ts us vs ws : Text) →
-        Led K xs p.lead p.outer p.returns d ts → LevelsText p.returns p.levels us → Starts d (us ++ vs) → CalledText k (leads p.levels) a f vs → ArgumentsPart p.returns es ws →
+        Led K xs p.lead p.outer p.returns d ts → LevelsText p.returns p.levels us → Starts d (us ++ vs) → CalledText k (is_comparison_start p.levels) a f vs → ArgumentsPart p.returns es ws →
         Opened (Fr.Args p a f es ∷ K) xs ((ts ++ us) ++ (vs ++ ws))
     in_fetch : (p : Pending) (n : List ℕ) (q s : Spot) (K : List Frame) (xs : ItemsRead) (d : Choice) (ts us : Text) → Led K xs p.lead p.outer p.returns d ts → LevelsText p.returns p.levels us →
-        Starts d (us ++ nam n q ∷ []) → q.marks.opening ≡ Op.Fetch → begins_type (leads p.levels) q.marks.ahead ≡ false →
+        Starts d (us ++ nam n q ∷ []) → q.marks.opening ≡ Op.Fetch → is_left_type (is_comparison_start p.levels) q.marks.ahead ≡ false →
         Opened (Fr.Fetch p q.at ∷ K) xs ((ts ++ us) ++ (nam n q ∷ opr op.OpenParen s ∷ []))
     in_print : (p : Pending) (a : ℕ) (l : Bool) (ps : Forms Piece) (K : List Frame) (xs : ItemsRead) (d : Choice) (ts us vs ws : Text) →
-        Led K xs p.lead p.outer p.returns d ts → LevelsText p.returns p.levels us → Starts d (us ++ vs) → PrintText (leads p.levels) a l vs → PiecesPart p.returns ps ws →
+        Led K xs p.lead p.outer p.returns d ts → LevelsText p.returns p.levels us → Starts d (us ++ vs) → PrintText (is_comparison_start p.levels) a l vs → PiecesPart p.returns ps ws →
         Opened (Fr.Print p a l ps ∷ K) xs ((ts ++ us) ++ (vs ++ ws))
     in_then : (p : Pending) (c : Form Expr) (q : Spot) (K : List Frame) (xs : ItemsRead) (d : Choice) (ts us : Text) → Led K xs p.lead p.outer p.returns d ts →
         p.levels ≡ no_levels → Starts d us → Disjunction p.returns false c us → Opened (Fr.Then p c ∷ K) xs ((ts ++ us) ++ opr op.Question q ∷ [])
     in_test : (p : Pending) (a : ℕ) (x : Branched) (b : ℕ) (K : List Frame) (xs : ItemsRead) (d : Choice) (ts us vs : Text) → Led K xs p.lead p.outer p.returns d ts →
         LevelsText p.returns p.levels us → Starts d (us ++ vs) → TestText p.returns a x b vs → Opened (Fr.Test p a x b ∷ K) xs ((ts ++ us) ++ vs)
-    in_block : (k : BlockKind) (ss : Forms Stmt) (K : List Frame) (xs : ItemsRead) (ts us : Text) → KindText K xs k ts → StmtsBefore (returns_of k) ss us → Opened (Fr.Block k ss ∷ K) xs (ts ++ us)
+    in_block : (k : BlockKind) (ss : Forms Stmt) (K : List Frame) (xs : ItemsRead) (ts us : Text) → KindText K xs k ts → StmtsBefore (is_return_allowed k) ss us → Opened (Fr.Block k ss ∷ K) xs (ts ++ us)
     in_evals : (k : EvalKind) (vs : Forms Eval) (K : List Frame) (xs : ItemsRead) (ts us : Text) → EvalText K xs k ts → EvalsBefore vs us → Opened (Fr.Evals k vs ∷ K) xs (ts ++ us)
 
   -- the text before the operators of an operand
@@ -244,5 +244,5 @@ mutual
     begin_evaluated : (p : Pending) (q s : Spot) (K : List Frame) (xs : ItemsRead) (d : Choice) (ts us : Text) → Led K xs p.lead p.outer p.returns d ts → LevelsText p.returns p.levels us →
         Starts d (us ++ tok (sg.Macro (codes "eval")) q ∷ []) → EvalText K xs (Ev.Begin p q.at) ((ts ++ us) ++ (tok (sg.Macro (codes "eval")) q ∷ wrd wd.Begin s ∷ []))
     quote_begin : (p : Pending) (n : List ℕ) (q s v : Spot) (K : List Frame) (xs : ItemsRead) (d : Choice) (ts us : Text) → Led K xs p.lead p.outer p.returns d ts →
-        LevelsText p.returns p.levels us → Starts d (us ++ nam n q ∷ []) → q.marks.opening ≡ Op.Quote → begins_type (leads p.levels) q.marks.ahead ≡ false →
+        LevelsText p.returns p.levels us → Starts d (us ++ nam n q ∷ []) → q.marks.opening ≡ Op.Quote → is_left_type (is_comparison_start p.levels) q.marks.ahead ≡ false →
         EvalText K xs (Ev.Quote p q.at) ((ts ++ us) ++ (nam n q ∷ opr op.OpenParen s ∷ wrd wd.Quote v ∷ []))

@@ -2,8 +2,8 @@
 use Rattle.std.proofs.Common.{ℕ, Bool, true, false, List, [], ◌∷◌, ◌++◌, ◌≡◌, inl, inr, Option, Some, None, refl, sym, ap, subst, ◌∙◌}
 use Rattle.std.specs.Prelude.{codes}
 use Rattle.jl_token.specs.declared.token.Operator.TheVariants as o
-use Rattle.jl_typeread.specs.declared.sign.Sign.TheVariants as S
-use Rattle.jl_typeread.specs.declared.sign.Word.TheVariants as w
+use Rattle.jl_typeread.specs.declared.terminal.Terminal.TheVariants as S
+use Rattle.jl_typeread.specs.declared.terminal.Word.TheVariants as w
 use Rattle.jl_grammar.specs.declared.mark.Marked.{Marked}
 use Rattle.jl_grammar.specs.declared.state.BlockKind.{BlockKind}
 use Rattle.jl_grammar.specs.declared.state.Declaring.{Declaring}
@@ -23,7 +23,7 @@ use Rattle.jl_grammar.specs.declared.state.Start.{Start}
 use Rattle.jl_grammar.specs.declared.state.State.{State}
 use Rattle.jl_grammar.specs.Grammar as GR
 use Rattle.jl_grammar.specs.Machine as MC
-use Rattle.jl_grammar.specs.Machine.{step, step_by, goes}
+use Rattle.jl_grammar.specs.Machine.{step, step_by, step_all}
 use Rattle.jl_grammar.specs.Texts.{Text, Spot, tok, opr, wrd, nam, NoEnd}
 use Rattle.std.proofs.Common.{◌+◌, ◌<◌, length, take, nat_le, arith}
 use Rattle.std.proofs.Math.Seq.{take-append_seam, take-append-add}
@@ -171,25 +171,25 @@ some_too_deep (Some r) s ts ws a e h d =
     inl (length i.0, r.script, subst (GR.ItemsBefore r.script) (sym (take_front i.0 i.1 (ts ++ ws) i.3)) i.2, ap (λ x. depth_of x) e ∙ d)
 
 -- where the reading has an item that is too deep, the text has it
-pub is_too_deep : (ts ws : Text) (s : State) (a : ℕ) → NoEnd ts → goes ts MC.start ≡ Some s → s.script.too_deep ≡ Some a → IsTooDeep (ts ++ ws) a
-is_too_deep ts ws s a n e d = some_too_deep (goes ts MC.start) s ts ws a e (has_all ts n) d
+pub is_too_deep : (ts ws : Text) (s : State) (a : ℕ) → NoEnd ts → step_all ts MC.start ≡ Some s → s.script.too_deep ≡ Some a → IsTooDeep (ts ++ ws) a
+is_too_deep ts ws s a n e d = some_too_deep (step_all ts MC.start) s ts ws a e (has_all ts n) d
 
 -- the same at the source's end
-pub end_too_deep : (ts : Text) (p : Spot) (v : State) (a : ℕ) → NoEnd ts → goes (ts ++ tok S.End p ∷ []) MC.start ≡ Some v → v.script.too_deep ≡ Some a → IsTooDeep ts a
+pub end_too_deep : (ts : Text) (p : Spot) (v : State) (a : ℕ) → NoEnd ts → step_all (ts ++ tok S.End p ∷ []) MC.start ≡ Some v → v.script.too_deep ≡ Some a → IsTooDeep ts a
 end_too_deep ts p v a n e d = let s = script_ends ts p v n e in inr (s.0, s.2, ap (λ x. depth_of x) s.1 ∙ d)
 
 -- no item is too deep before the first token
 pub none_deep_yet : (ts : Text) → NoneDeep ts 0
 none_deep_yet ts k xs l d = let z : k ≡ 0 = omega arith in
-    sym (ap (λ x. depth_of x) (sym (ap (λ n. goes (take n ts) MC.start) z) ∙ read_items_before xs (take k ts) d))
+    sym (ap (λ x. depth_of x) (sym (ap (λ n. step_all (take n ts) MC.start) z) ∙ read_items_before xs (take k ts) d))
 
 -- one token more, behind which none is
-pub none_deep_more : (ts us : Text) (t : Marked) (s : State) → NoneDeep (ts ++ t ∷ us) (length ts) → goes (ts ++ t ∷ []) MC.start ≡ Some s → s.script.too_deep ≡ None → NoneDeep (ts ++ t ∷ us) (length ts + 1)
+pub none_deep_more : (ts us : Text) (t : Marked) (s : State) → NoneDeep (ts ++ t ∷ us) (length ts) → step_all (ts ++ t ∷ []) MC.start ≡ Some s → s.script.too_deep ≡ None → NoneDeep (ts ++ t ∷ us) (length ts + 1)
 none_deep_more ts us t s h e d k xs l b = elim (nat_le k (length ts)) as (λ c. nat_le k (length ts) ≡ c → xs.too_deep ≡ None) [
   | true ↦ λ c. h k xs (leb-true k (length ts) c) b
   | false ↦ λ c.
       let m : length ts < k = leb-false k (length ts) c in
       let z : k ≡ length ts + 1 = omega arith in
       let r : take k (ts ++ t ∷ us) ≡ ts ++ t ∷ [] = ap (λ n. take n (ts ++ t ∷ us)) z ∙ take-append-add ts (t ∷ us) 1 in
-      sym (ap (λ x. depth_of x) (sym e ∙ ap (λ x. goes x MC.start) (sym r) ∙ read_items_before xs (take k (ts ++ t ∷ us)) b)) ∙ d
+      sym (ap (λ x. depth_of x) (sym e ∙ ap (λ x. step_all x MC.start) (sym r) ∙ read_items_before xs (take k (ts ++ t ∷ us)) b)) ∙ d
 ] refl

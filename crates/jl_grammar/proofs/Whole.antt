@@ -1,7 +1,7 @@
 -- A whole text: what the source's end says of it.
 use Rattle.std.proofs.Common.{ℕ, Bool, true, false, List, [], ◌∷◌, ◌++◌, ◌≡◌, Option, Some, None, refl, sym, ap, subst, ◌∙◌}
 use Rattle.jl_typeread.specs.declared.deep.Deep.{Deep}
-use Rattle.jl_typeread.specs.declared.sign.Sign.TheVariants as S
+use Rattle.jl_typeread.specs.declared.terminal.Terminal.TheVariants as S
 use Rattle.jl_typeread.specs.declared.state.Turn.{Turn}
 use Rattle.jl_typeread.specs.declared.state.Turn.TheVariants as T
 use Rattle.jl_typeread.specs.declared.tree.VarText.{VarText}
@@ -29,19 +29,19 @@ use Rattle.jl_grammar.specs.declared.tree.Method.{Method}
 use Rattle.jl_grammar.specs.Forms as M
 use Rattle.jl_grammar.specs.Grammar as GR
 use Rattle.jl_grammar.specs.Levels as LV
-use Rattle.jl_grammar.specs.Levels.{no_levels, led, fresh, into, at_levels, leads}
+use Rattle.jl_grammar.specs.Levels.{no_levels, pending_after, no_pending, push_outer, with_levels, is_comparison_start}
 use Rattle.jl_grammar.specs.Machine as MC
-use Rattle.jl_grammar.specs.Machine.{step, step_by, goes}
+use Rattle.jl_grammar.specs.Machine.{step, step_by, step_all}
 use Rattle.jl_grammar.specs.Texts.{Text, Spot, tok, NoEnd}
 use Rattle.jl_grammar.specs.Turns as TU
 use Rattle.jl_grammar.specs.Turns.{at, type_start}
-use Rattle.jl_typeread.specs.declared.state.Begun.{Begun}
+use Rattle.jl_typeread.specs.declared.state.TypeSoFar.{TypeSoFar}
 use Rattle.jl_typeread.specs.declared.state.Frame.{Frame as TypeFrame}
 use Rattle.jl_typeread.specs.declared.state.Frame.TheVariants as YF
-use Rattle.jl_typeread.specs.declared.state.Listed.TheVariants as YL
+use Rattle.jl_typeread.specs.declared.state.Enclosure.TheVariants as YL
 use Rattle.jl_typeread.specs.declared.state.Point.{Point as TypePoint}
 use Rattle.jl_typeread.specs.declared.state.Point.TheVariants as YP
-use Rattle.jl_grammar.proofs.Reading.{goes_append, none_is_some}
+use Rattle.jl_grammar.proofs.Reading.{step_all_append, none_is_some}
 use Rattle.jl_grammar.proofs.Points.{Has, HasSome}
 use Rattle.jl_grammar.proofs.Kept.{kept, has_all}
 use Rattle.jl_grammar.proofs.Ended.{entry_items}
@@ -59,41 +59,41 @@ at_once xs v h = (xs, refl, h)
 never : (r : Option State) → Finished None r
 never r v h = absurd (none_is_some v h)
 
-item_finishes : (x : Option (Form Item)) (xs : ItemsRead) → Finished (TU.item_ends x xs) (TU.item_ends x xs)
+item_finishes : (x : Option (Form Item)) (xs : ItemsRead) → Finished (TU.end_item x xs) (TU.end_item x xs)
 item_finishes None xs = never None
 item_finishes (Some x) xs = at_once (M.with_item xs x)
 
-expression_finishes : (l : Lead) (e : Form Expr) (K : List Frame) (xs : ItemsRead) → Finished (TU.finishes l e K xs) (TU.separates l e K xs)
-expression_finishes l e [] xs = item_finishes (TU.item_of l e) xs
-expression_finishes l e (f ∷ K) xs = never (TU.separates l e (f ∷ K) xs)
+expression_source_end_after_expr : (l : Lead) (e : Form Expr) (K : List Frame) (xs : ItemsRead) → Finished (TU.source_end_after_expr l e K xs) (TU.separator_after_expr l e K xs)
+expression_source_end_after_expr l e [] xs = item_finishes (TU.item_of l e) xs
+expression_source_end_after_expr l e (f ∷ K) xs = never (TU.separator_after_expr l e (f ∷ K) xs)
 
-headed_finishes : (b : Bool) (m : Marks) (a : ℕ) (l : Place) (h : Form Head) (K : List Frame) (xs : ItemsRead) → Finished (MC.headed_as b S.End m a l h K xs) (MC.headed_as b S.Newline m a l h K xs)
-headed_finishes true m a l h K xs = never (MC.headed_as true S.Newline m a l h K xs)
-headed_finishes false m a l h K xs = never (MC.headed_as false S.Newline m a l h K xs)
+headed_finishes : (b : Bool) (m : Marks) (a : ℕ) (l : Place) (h : Form Head) (K : List Frame) (xs : ItemsRead) → Finished (MC.token_after_head b S.End m a l h K xs) (MC.token_after_head b S.Newline m a l h K xs)
+headed_finishes true m a l h K xs = never (MC.token_after_head true S.Newline m a l h K xs)
+headed_finishes false m a l h K xs = never (MC.token_after_head false S.Newline m a l h K xs)
 
-header_finishes : (k : Bool) (h : Form Header) (K : List Frame) (xs : ItemsRead) → Finished (MC.header_as k S.End h K xs) (MC.header_as k S.Newline h K xs)
-header_finishes true h K xs = never (MC.header_as true S.Newline h K xs)
-header_finishes false h K xs = never (MC.header_as false S.Newline h K xs)
+header_finishes : (k : Bool) (h : Form Header) (K : List Frame) (xs : ItemsRead) → Finished (MC.token_after_header k S.End h K xs) (MC.token_after_header k S.Newline h K xs)
+header_finishes true h K xs = never (MC.token_after_header true S.Newline h K xs)
+header_finishes false h K xs = never (MC.token_after_header false S.Newline h K xs)
 
 -- a reading of a type never goes on with the source's end
 abbrev IsOver : Turn → Type 0
 IsOver (T.Goes y) = ⊥
 IsOver t = Unit {0}
 
-ended_is_over : (v : Option (Deep VarText)) (k : List TypeFrame) → IsOver (Y.ended v k)
-ended_is_over None k = tt
-ended_is_over (Some v) [] = tt
-ended_is_over (Some v) (f ∷ k) = tt
+end_of_variable_is_over : (v : Option (Deep VarText)) (k : List TypeFrame) → IsOver (Y.end_of_variable v k)
+end_of_variable_is_over None k = tt
+end_of_variable_is_over (Some v) [] = tt
+end_of_variable_is_over (Some v) (f ∷ k) = tt
 
-over_is_over : (h : Begun) (k : List TypeFrame) → IsOver (Y.over h k)
-over_is_over h [] = tt
-over_is_over h (YF.Variable v YL.One ∷ k) = ended_is_over (Y.variable v h) k
-over_is_over h (YF.Variable v (YL.Braces vs) ∷ k) = tt
-over_is_over h (YF.Argument a n xs m ∷ k) = tt
-over_is_over h (YF.Paren a ∷ k) = tt
-over_is_over h (YF.Where a t ∷ k) = tt
+end_of_type_is_over : (h : TypeSoFar) (k : List TypeFrame) → IsOver (Y.end_of_type h k)
+end_of_type_is_over h [] = tt
+end_of_type_is_over h (YF.Variable v YL.One ∷ k) = end_of_variable_is_over (Y.variable v h) k
+end_of_type_is_over h (YF.Variable v (YL.Braces vs) ∷ k) = tt
+end_of_type_is_over h (YF.Argument a n xs m ∷ k) = tt
+end_of_type_is_over h (YF.Paren a ∷ k) = tt
+end_of_type_is_over h (YF.Where a t ∷ k) = tt
 
-variables_are_over : (vs : Deep (List VarText)) (k : List TypeFrame) → IsOver (Y.over_variables vs k)
+variables_are_over : (vs : Deep (List VarText)) (k : List TypeFrame) → IsOver (Y.end_of_variables vs k)
 variables_are_over vs [] = tt
 variables_are_over vs (f ∷ k) = tt
 
@@ -102,7 +102,7 @@ end_is_over a YP.Want k = tt
 end_is_over a YP.Variable k = tt
 end_is_over a YP.First k = tt
 end_is_over a YP.Next k = tt
-end_is_over a (YP.Have h) k = over_is_over h k
+end_is_over a (YP.Have h) k = end_of_type_is_over h k
 end_is_over a YP.Where k = tt
 end_is_over a (YP.Low t) k = tt
 end_is_over a (YP.Named t b n) k = tt
@@ -119,16 +119,16 @@ end_is_newline a (YP.Low t) k = refl
 end_is_newline a (YP.Named t b n) k = refl
 end_is_newline a (YP.Closed vs) k = refl
 
-type_finishes : (g : Goal) (a : ℕ) (t : TypeForm) (K : List Frame) (xs : ItemsRead) → Finished (MC.type_ends S.End a g t K xs) (MC.type_ends S.Newline a g t K xs)
-type_finishes (G.Isa p e) a t K xs = expression_finishes p.lead (LV.expression p (M.isa e t)) K xs
+type_finishes : (g : Goal) (a : ℕ) (t : TypeForm) (K : List Frame) (xs : ItemsRead) → Finished (MC.token_after_type S.End a g t K xs) (MC.token_after_type S.Newline a g t K xs)
+type_finishes (G.Isa p e) a t K xs = expression_source_end_after_expr p.lead (LV.expression p (M.isa_expr e t)) K xs
 type_finishes (G.Left p b) a t K xs = never None
-type_finishes (G.Right p b s) a t K xs = expression_finishes p.lead (LV.expression p (M.sub b s t)) K xs
+type_finishes (G.Right p b s) a t K xs = expression_source_end_after_expr p.lead (LV.expression p (M.sub_expr b s t)) K xs
 type_finishes (G.Make p b) a t K xs = never None
 type_finishes (G.Param h x b) a t K xs = never None
 type_finishes (G.Parent d) a t K xs = header_finishes d.is_struct (M.header d.at d.name d.params (Some t)) K xs
-type_finishes (G.Field f n) a t K xs = never (MC.type_ends S.Newline a (G.Field f n) t K xs)
+type_finishes (G.Field f n) a t K xs = never (MC.token_after_type S.Newline a (G.Field f n) t K xs)
 
-type_turn_finishes : (v : Turn) → IsOver v → (g : Goal) (a : ℕ) (K : List Frame) (xs : ItemsRead) → Finished (MC.type_goes v S.End a g K xs) (MC.type_goes v S.Newline a g K xs)
+type_turn_finishes : (v : Turn) → IsOver v → (g : Goal) (a : ℕ) (K : List Frame) (xs : ItemsRead) → Finished (MC.type_step v S.End a g K xs) (MC.type_step v S.Newline a g K xs)
 type_turn_finishes (T.Goes y) i g a K xs = absurd i
 type_turn_finishes (T.Type t) i g a K xs = type_finishes g a (M.type_form t) K xs
 type_turn_finishes (T.Variables vs) i g a K xs = never None
@@ -150,30 +150,30 @@ entry_finishes : (K : List Frame) (xs : ItemsRead) → Finished (MC.entry_end K 
 entry_finishes [] xs = at_once xs
 entry_finishes (f ∷ K) xs = never (at P.Entry (f ∷ K) xs)
 
-made_finishes : (x : Form Item) (K : List Frame) (xs : ItemsRead) → Finished (MC.item_made x K xs) (MC.item_made x K xs)
+made_finishes : (x : Form Item) (K : List Frame) (xs : ItemsRead) → Finished (MC.separator_after_item x K xs) (MC.separator_after_item x K xs)
 made_finishes x [] xs = at_once (M.with_item xs x)
 made_finishes x (f ∷ K) xs = never None
 
-method_finishes : (m : Form Method) (K : List Frame) (xs : ItemsRead) → Finished (MC.method_finishes m K xs) (MC.method_made m K xs)
-method_finishes m [] xs = at_once (M.with_item xs (M.method_item m))
-method_finishes m (f ∷ K) xs = never (MC.method_made m (f ∷ K) xs)
+source_end_after_method : (m : Form Method) (K : List Frame) (xs : ItemsRead) → Finished (MC.source_end_after_method m K xs) (MC.separator_after_method m K xs)
+source_end_after_method m [] xs = at_once (M.with_item xs (M.method_item m))
+source_end_after_method m (f ∷ K) xs = never (MC.separator_after_method m (f ∷ K) xs)
 
 end_finishes : (p : Point) (m : Marks) (a : ℕ) (K : List Frame) (xs : ItemsRead) → Finished (step_by S.End m a p K xs) (step_by S.Newline m a p K xs)
 end_finishes P.Entry m a K xs = entry_finishes K xs
-end_finishes (P.Have p e) m a K xs = expression_finishes p.lead (LV.expression p (LV.as_comparison p.levels e)) K xs
+end_finishes (P.Have p e) m a K xs = expression_source_end_after_expr p.lead (LV.expression p (LV.as_comparison p.levels e)) K xs
 end_finishes (P.Headed h) m a K xs = headed_finishes h.start.long m a h.start.place (M.head h.start.at h.callee h.params M.no_vars) K xs
 end_finishes (P.Where h y) m a K xs =
     subst (λ x. Finished (MC.where_turn (Y.step_at S.End a y.point y.stack) S.End m a h K xs) (MC.where_turn x S.Newline m a h K xs)) (end_is_newline a y.point y.stack)
     (where_turn_finishes (Y.step_at S.End a y.point y.stack) (end_is_over a y.point y.stack) m a h K xs)
 end_finishes (P.Type g y) m a K xs =
-    subst (λ x. Finished (MC.type_goes (Y.step_at S.End a y.point y.stack) S.End a g K xs) (MC.type_goes x S.Newline a g K xs)) (end_is_newline a y.point y.stack)
+    subst (λ x. Finished (MC.type_step (Y.step_at S.End a y.point y.stack) S.End a g K xs) (MC.type_step x S.Newline a g K xs)) (end_is_newline a y.point y.stack)
     (type_turn_finishes (Y.step_at S.End a y.point y.stack) (end_is_over a y.point y.stack) g a K xs)
 end_finishes (P.Declared d) m a K xs = header_finishes d.is_struct (M.header d.at d.name d.params None) K xs
 end_finishes (P.Params d y) m a K xs =
     subst (λ x. Finished (MC.params_turn (Y.step_at S.End a y.point y.stack) S.End d K xs) (MC.params_turn x S.Newline d K xs)) (end_is_newline a y.point y.stack)
     (params_turn_finishes (Y.step_at S.End a y.point y.stack) (end_is_over a y.point y.stack) d K xs)
 end_finishes (P.Made x) m a K xs = made_finishes x K xs
-end_finishes (P.MadeMethod x) m a K xs = method_finishes x K xs
+end_finishes (P.MadeMethod x) m a K xs = source_end_after_method x K xs
 end_finishes q m a K xs = never (step_by S.Newline m a q K xs)
 
 -- ---- a text without its last separator
@@ -215,9 +215,9 @@ ends_after (Some s) ts p v h e =
     (f.0, f.2, without_separator f.0 (ts ++ tok S.Newline p ∷ []) (entry_items [] f.0 (ts ++ tok S.Newline p ∷ []) g) ts (tok S.Newline p) refl)
 
 -- tokens that are read with the source's end behind them are a script
-pub script_ends : (ts : Text) (p : Spot) (v : State) → NoEnd ts → goes (ts ++ tok S.End p ∷ []) MC.start ≡ Some v → (ys : ItemsRead) × (at P.Entry [] ys ≡ Some v) × GR.ScriptText ys ts
-script_ends ts p v n e = ends_after (goes ts MC.start) ts p v (has_all ts n) (sym (goes_append ts (tok S.End p ∷ []) MC.start) ∙ e)
+pub script_ends : (ts : Text) (p : Spot) (v : State) → NoEnd ts → step_all (ts ++ tok S.End p ∷ []) MC.start ≡ Some v → (ys : ItemsRead) × (at P.Entry [] ys ≡ Some v) × GR.ScriptText ys ts
+script_ends ts p v n e = ends_after (step_all ts MC.start) ts p v (has_all ts n) (sym (step_all_append ts (tok S.End p ∷ []) MC.start) ∙ e)
 
 -- where the source's end is wrong they are none
-pub no_script : (ts : Text) (p : Spot) → goes (ts ++ tok S.End p ∷ []) MC.start ≡ None → (xs : ItemsRead) → GR.ScriptText xs ts → ⊥
+pub no_script : (ts : Text) (p : Spot) → step_all (ts ++ tok S.End p ∷ []) MC.start ≡ None → (xs : ItemsRead) → GR.ScriptText xs ts → ⊥
 no_script ts p e xs d = none_is_some (record { point = P.Entry; stack = []; script = xs }) (sym e ∙ read_script xs ts d p)

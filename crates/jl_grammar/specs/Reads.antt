@@ -1,11 +1,11 @@
 -- What is wrong with tokens: the first wrong one, and the first item that is too deep.
 use Rattle.std.specs.Prelude.{ℕ, ◌+◌, ◌<◌, ◌≤◌, List, [], ◌∷◌, ◌++◌, ◌≡◌, ◌⊎◌, take, length, Option, Some, None}
-use Rattle.jl_typeread.specs.declared.sign.Lexeme.{Lexeme}
+use Rattle.jl_typeread.specs.declared.terminal.Lexeme.{Lexeme}
 use Rattle.jl_grammar.specs.declared.mark.Marked.{Marked}
 use Rattle.jl_grammar.specs.declared.state.ItemsRead.{ItemsRead}
 use Rattle.jl_grammar.specs.Grammar.{ItemsBefore, ScriptText}
-use Rattle.jl_grammar.specs.Marks.{marked}
-use Rattle.jl_grammar.specs.Newlines.{bare}
+use Rattle.jl_grammar.specs.Marks.{with_marks}
+use Rattle.jl_grammar.specs.Newlines.{drop_newlines}
 use Rattle.jl_grammar.specs.Texts.{Text}
 
 -- some script begins with these tokens
@@ -36,4 +36,4 @@ first_at (t ∷ ts) e = t.lexeme.at
 
 -- the tokens of a text as the grammar sees them
 abbrev pub text : List Lexeme → Text
-text ls = marked (bare ls)
+text ls = with_marks (drop_newlines ls)

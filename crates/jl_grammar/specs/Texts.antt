@@ -3,11 +3,11 @@ use Rattle.std.specs.Prelude.{ℕ, Bool, true, false, List, [], ◌∷◌, ◌++
 use Rattle.jl_token.specs.declared.token.Operator.{Operator}
 use Rattle.jl_token.specs.declared.token.Operator.TheVariants as o
 use Rattle.jl_typeread.specs.declared.deep.Deep.{Deep}
-use Rattle.jl_typeread.specs.declared.sign.Lexeme.{Lexeme}
-use Rattle.jl_typeread.specs.declared.sign.Sign.{Sign}
-use Rattle.jl_typeread.specs.declared.sign.Sign.TheVariants as S
-use Rattle.jl_typeread.specs.declared.sign.Word.{Word}
-use Rattle.jl_typeread.specs.declared.sign.Word.TheVariants as w
+use Rattle.jl_typeread.specs.declared.terminal.Lexeme.{Lexeme}
+use Rattle.jl_typeread.specs.declared.terminal.Terminal.{Terminal}
+use Rattle.jl_typeread.specs.declared.terminal.Terminal.TheVariants as S
+use Rattle.jl_typeread.specs.declared.terminal.Word.{Word}
+use Rattle.jl_typeread.specs.declared.terminal.Word.TheVariants as w
 use Rattle.jl_typeread.specs.declared.tree.TypeText.{TypeText}
 use Rattle.jl_typeread.specs.declared.tree.VarText.{VarText}
 use Rattle.jl_grammar.specs.declared.mark.Ahead.{Ahead}
@@ -26,8 +26,8 @@ pub record Spot : Type 0 where
   pub at : ℕ
   pub marks : Marks
 
-abbrev pub tok : Sign → Spot → Marked
-tok s p = record { lexeme = record { sign = s; at = p.at }; marks = p.marks }
+abbrev pub tok : Terminal → Spot → Marked
+tok s p = record { lexeme = record { terminal = s; at = p.at }; marks = p.marks }
 
 -- an operator, a reserved word, a name
 abbrev pub opr : Operator → Spot → Marked
@@ -40,8 +40,8 @@ abbrev pub nam : List ℕ → Spot → Marked
 nam n p = tok (S.Name n) p
 
 -- a name, and where it stands
-abbrev pub placed : List ℕ → Spot → Name
-placed n p = record { at = p.at; bytes = n }
+abbrev pub name_in : List ℕ → Spot → Name
+name_in n p = record { at = p.at; bytes = n }
 
 -- one separator
 pub data Sep : Marked → Type 0 where
@@ -73,94 +73,94 @@ is_plain O.Binding = true
 is_plain _ = false
 
 -- where a comparison begins, a token with this mark begins its left type
-abbrev pub begins_type : Bool → Ahead → Bool
-begins_type true a = is_sub a
-begins_type false a = false
+abbrev pub is_left_type : Bool → Ahead → Bool
+is_left_type true a = is_sub a
+is_left_type false a = false
 
 -- what an item begins with that is an expression: no binding, and no method
-abbrev pub item_name : Opening → Ahead → Bool
-item_name O.Binding a = false
-item_name x A.Method = false
-item_name x a = true
+abbrev pub is_item_name : Opening → Ahead → Bool
+is_item_name O.Binding a = false
+is_item_name x A.Method = false
+is_item_name x a = true
 
-abbrev pub item_sign : Sign → Marks → Bool
-item_sign (S.Name n) m = item_name m.opening m.ahead
-item_sign s m = true
+abbrev pub is_item_terminal : Terminal → Marks → Bool
+is_item_terminal (S.Name n) m = is_item_name m.opening m.ahead
+is_item_terminal s m = true
 
-abbrev pub begins_item : Text → Bool
-begins_item [] = false
-begins_item (t ∷ ts) = item_sign t.lexeme.sign t.marks
+abbrev pub is_item_start : Text → Bool
+is_item_start [] = false
+is_item_start (t ∷ ts) = is_item_terminal t.lexeme.terminal t.marks
 
 -- a statement that is an expression: no binding
-abbrev pub stmt_name : Opening → Bool
-stmt_name O.Binding = false
-stmt_name x = true
+abbrev pub is_stmt_name : Opening → Bool
+is_stmt_name O.Binding = false
+is_stmt_name x = true
 
-abbrev pub stmt_sign : Sign → Marks → Bool
-stmt_sign (S.Name n) m = stmt_name m.opening
-stmt_sign s m = true
+abbrev pub is_stmt_terminal : Terminal → Marks → Bool
+is_stmt_terminal (S.Name n) m = is_stmt_name m.opening
+is_stmt_terminal s m = true
 
-abbrev pub begins_stmt : Text → Bool
-begins_stmt [] = false
-begins_stmt (t ∷ ts) = stmt_sign t.lexeme.sign t.marks
+abbrev pub is_stmt_start : Text → Bool
+is_stmt_start [] = false
+is_stmt_start (t ∷ ts) = is_stmt_terminal t.lexeme.terminal t.marks
 
 -- an evaluated statement that is an expression: no method
-abbrev pub eval_name : Ahead → Bool
-eval_name A.Method = false
-eval_name a = true
+abbrev pub is_eval_name : Ahead → Bool
+is_eval_name A.Method = false
+is_eval_name a = true
 
-abbrev pub eval_sign : Sign → Marks → Bool
-eval_sign (S.Name n) m = eval_name m.ahead
-eval_sign s m = true
+abbrev pub is_eval_terminal : Terminal → Marks → Bool
+is_eval_terminal (S.Name n) m = is_eval_name m.ahead
+is_eval_terminal s m = true
 
-abbrev pub begins_eval : Text → Bool
-begins_eval [] = false
-begins_eval (t ∷ ts) = eval_sign t.lexeme.sign t.marks
+abbrev pub is_eval_start : Text → Bool
+is_eval_start [] = false
+is_eval_start (t ∷ ts) = is_eval_terminal t.lexeme.terminal t.marks
 
 -- an expression behind `@eval`: no method, and no block
-abbrev pub evaluated_sign : Sign → Marks → Bool
-evaluated_sign (S.Name n) m = eval_name m.ahead
-evaluated_sign (S.Word w.Begin) m = false
-evaluated_sign s m = true
+abbrev pub is_evaluated_terminal : Terminal → Marks → Bool
+is_evaluated_terminal (S.Name n) m = is_eval_name m.ahead
+is_evaluated_terminal (S.Word w.Begin) m = false
+is_evaluated_terminal s m = true
 
-abbrev pub begins_evaluated : Text → Bool
-begins_evaluated [] = false
-begins_evaluated (t ∷ ts) = evaluated_sign t.lexeme.sign t.marks
+abbrev pub is_evaluated_start : Text → Bool
+is_evaluated_start [] = false
+is_evaluated_start (t ∷ ts) = is_evaluated_terminal t.lexeme.terminal t.marks
 
 -- the marks of the first token
-abbrev pub opens_as : Opening → Text → Type 0
-opens_as x [] = ⊥
-opens_as x (t ∷ ts) = t.marks.opening ≡ x
+abbrev pub OpensAs : Opening → Text → Type 0
+OpensAs x [] = ⊥
+OpensAs x (t ∷ ts) = t.marks.opening ≡ x
 
-abbrev pub heads_method : Text → Type 0
-heads_method [] = ⊥
-heads_method (t ∷ ts) = t.marks.ahead ≡ A.Method
+abbrev pub IsMethodStart : Text → Type 0
+IsMethodStart [] = ⊥
+IsMethodStart (t ∷ ts) = t.marks.ahead ≡ A.Method
 
 -- the first token begins no type where a comparison begins
-abbrev pub leads : Bool → Text → Type 0
-leads b [] = ⊥
-leads b (t ∷ ts) = begins_type b t.marks.ahead ≡ false
+abbrev pub IsNoTypeStart : Bool → Text → Type 0
+IsNoTypeStart b [] = ⊥
+IsNoTypeStart b (t ∷ ts) = is_left_type b t.marks.ahead ≡ false
 
-abbrev pub is_sub_text : Text → Type 0
-is_sub_text [] = ⊥
-is_sub_text (t ∷ ts) = t.marks.ahead ≡ A.Sub
+abbrev pub IsSubStart : Text → Type 0
+IsSubStart [] = ⊥
+IsSubStart (t ∷ ts) = t.marks.ahead ≡ A.Sub
 
 -- whether a newline follows what is printed
-abbrev pub prints : Opening → Bool → Type 0
-prints O.Println true = Unit {0}
-prints O.Print false = Unit {0}
-prints x l = ⊥
+abbrev pub IsPrint : Opening → Bool → Type 0
+IsPrint O.Println true = Unit {0}
+IsPrint O.Print false = Unit {0}
+IsPrint x l = ⊥
 
 -- a name that is bound: `=` follows, and it is no method's
-abbrev pub is_bound : Spot → Type 0
-is_bound p = (p.marks.opening ≡ O.Binding) × (is_method p.marks.ahead ≡ false)
+abbrev pub IsBindingName : Spot → Type 0
+IsBindingName p = (p.marks.opening ≡ O.Binding) × (is_method p.marks.ahead ≡ false)
 
 -- the source's end, which is no token of the grammar
-abbrev pub is_end : Sign → Bool
+abbrev pub is_end : Terminal → Bool
 is_end S.End = true
 is_end s = false
 
 -- none of these tokens is the source's end
 abbrev pub NoEnd : Text → Type 0
 NoEnd [] = Unit {0}
-NoEnd (t ∷ ts) = (is_end t.lexeme.sign ≡ false) × NoEnd ts
+NoEnd (t ∷ ts) = (is_end t.lexeme.terminal ≡ false) × NoEnd ts

@@ -10,11 +10,11 @@ use Rattle.jl_grammar.specs.Forms.{type_form, vars_form}
 use Rattle.jl_grammar.specs.Texts.{Text, lexemes}
 
 -- a written type, and written variables, with their depth
-abbrev pub written : TypeText → TypeForm
-written t = type_form (held_type t)
+abbrev pub type_as_read : TypeText → TypeForm
+type_as_read t = type_form (held_type t)
 
-abbrev pub all_written : List VarText → VarsForm
-all_written vs = vars_form (held_variables vs)
+abbrev pub vars_as_read : List VarText → VarsForm
+vars_as_read vs = vars_form (held_variables vs)
 
 -- type
 abbrev pub IsType : TypeText → Text → Type 0

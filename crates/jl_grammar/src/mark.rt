@@ -1,6 +1,6 @@
-//! What the grammar sees of a token: its sign, and the marks that choose between the rules.
+//! What the grammar sees of a token: its terminal, and the marks that choose between the rules.
 
-use jl_typeread::sign::Lexeme;
+use jl_typeread::terminal::Lexeme;
 
 /// What a name begins where an operand stands, by the tokens behind it.
 #[derive(Clone, Copy, Debug)]
@@ -87,7 +87,7 @@ pub enum Mate {
 
 /// What follows a bracket or a name, as far as the marks ask.
 #[derive(Clone, Copy)]
-pub enum Follows {
+pub enum NextToken {
     /// `=` or `where`
     Defines,
     /// `<:`

@@ -3,15 +3,15 @@ use Rattle.std.proofs.Common.{ℕ, Bool, true, false, true≢false, List, [], �
 use Rattle.std.specs.Prelude.{pos}
 use Rattle.jl_token.specs.declared.token.Operator.TheVariants as o
 use Rattle.jl_typeread.specs.declared.deep.Deep.{Deep}
-use Rattle.jl_typeread.specs.declared.sign.Lexeme.{Lexeme}
-use Rattle.jl_typeread.specs.declared.sign.Sign.{Sign}
-use Rattle.jl_typeread.specs.declared.sign.Sign.TheVariants as S
-use Rattle.jl_typeread.specs.declared.state.Begun.{Begun}
-use Rattle.jl_typeread.specs.declared.state.Begun.TheVariants.{Plain}
+use Rattle.jl_typeread.specs.declared.terminal.Lexeme.{Lexeme}
+use Rattle.jl_typeread.specs.declared.terminal.Terminal.{Terminal}
+use Rattle.jl_typeread.specs.declared.terminal.Terminal.TheVariants as S
+use Rattle.jl_typeread.specs.declared.state.TypeSoFar.{TypeSoFar}
+use Rattle.jl_typeread.specs.declared.state.TypeSoFar.TheVariants.{Plain}
 use Rattle.jl_typeread.specs.declared.state.Bound.TheVariants as B
 use Rattle.jl_typeread.specs.declared.state.Frame.{Frame as TypeFrame}
 use Rattle.jl_typeread.specs.declared.state.Frame.TheVariants.{Variable}
-use Rattle.jl_typeread.specs.declared.state.Listed.TheVariants.{One}
+use Rattle.jl_typeread.specs.declared.state.Enclosure.TheVariants.{One}
 use Rattle.jl_typeread.specs.declared.state.Point.{Point as TypePoint}
 use Rattle.jl_typeread.specs.declared.state.Point.TheVariants as Q
 use Rattle.jl_typeread.specs.declared.state.State.{State as TypeState}
@@ -49,7 +49,7 @@ use Rattle.jl_grammar.specs.declared.state.TypeForm.{TypeForm}
 use Rattle.jl_grammar.specs.declared.tree.Head.{Head}
 use Rattle.jl_grammar.specs.declared.tree.Header.{Header}
 use Rattle.jl_grammar.specs.Machine as MC
-use Rattle.jl_grammar.specs.Machine.{step, step_at, step_by, goes, start, wants_type}
+use Rattle.jl_grammar.specs.Machine.{step, step_at, step_by, step_all, start, is_type_wanted}
 use Rattle.jl_grammar.specs.Reads.{Begins}
 use Rattle.jl_grammar.specs.Texts.{Text, Spot, tok, opr, nam, lexemes, NoEnd, is_end}
 use Rattle.jl_grammar.specs.Turns.{at}
@@ -57,7 +57,7 @@ use Rattle.jl_grammar.specs.Types.{IsType}
 use Rattle.jl_grammar.proofs.Ended.{nowhere}
 use Rattle.jl_grammar.proofs.Points.{Has, HasSome, has_entry, has_bound, has_returned, has_want, has_first_paren, has_first_args, has_first_print, has_again, has_piece, has_texted, has_have, has_dot, has_index, has_indexed, has_due, has_quoted, has_after_eval, has_function, has_named, has_dotted, has_colon, has_known, has_first_param, has_next_param, has_param, has_headed, has_where, has_type, has_abstract, has_decl_name, has_declared, has_params, has_fields, has_field, has_made, has_made_method}
 use Rattle.jl_grammar.proofs.Kept.{has_all}
-use Rattle.jl_grammar.proofs.Reading.{goes_append, none_is_some}
+use Rattle.jl_grammar.proofs.Reading.{step_all_append, none_is_some}
 use Rattle.jl_grammar.proofs.Completed.{read_begins, none_begins}
 use Rattle.jl_grammar_laws.specs.Must.{IsFirst, TypeMust}
 use Rattle.jl_grammar_laws.proofs.SettledTypes.{IsNamed, SettledAt}
@@ -77,49 +77,49 @@ some_of : (r : Option State) → IsSome r → (s : State) × (r ≡ Some s)
 some_of None i = absurd i
 some_of (Some s) i = (s, refl)
 
-can : (ts us : Text) (s : State) → NoEnd ts → NoEnd us → goes ts start ≡ Some s → IsSome (goes us (Some s)) → Begins (ts ++ us)
+can : (ts us : Text) (s : State) → NoEnd ts → NoEnd us → step_all ts start ≡ Some s → IsSome (step_all us (Some s)) → Begins (ts ++ us)
 can ts us s n m e i =
-    let r = some_of (goes us (Some s)) i in
-    let c = read_begins (ts ++ us) r.0 (no_end_append ts us n m) (goes_append ts us start ∙ ap (goes us) e ∙ r.1) in (c.1, c.0, c.2)
+    let r = some_of (step_all us (Some s)) i in
+    let c = read_begins (ts ++ us) r.0 (no_end_append ts us n m) (step_all_append ts us start ∙ ap (step_all us) e ∙ r.1) in (c.1, c.0, c.2)
 
-cannot : (ts us : Text) (s : State) → goes ts start ≡ Some s → goes us (Some s) ≡ None → Begins (ts ++ us) → ⊥
-cannot ts us s e h b = none_begins (ts ++ us) (goes_append ts us start ∙ ap (goes us) e ∙ h) (b.1, b.0, b.2)
+cannot : (ts us : Text) (s : State) → step_all ts start ≡ Some s → step_all us (Some s) ≡ None → Begins (ts ++ us) → ⊥
+cannot ts us s e h b = none_begins (ts ++ us) (step_all_append ts us start ∙ ap (step_all us) e ∙ h) (b.1, b.0, b.2)
 
 -- ---- the tokens that may be first
 
 -- the signs of the tokens that begin an argument of a type, and `}`
-abbrev first_sign : Sign → Bool
-first_sign (S.Name n) = true
-first_sign (S.Operator o.OpenParen) = true
-first_sign (S.Operator o.Subtype) = true
-first_sign (S.Operator o.Supertype) = true
-first_sign (S.Operator o.CloseBrace) = true
-first_sign s = false
+abbrev first_terminal : Terminal → Bool
+first_terminal (S.Name n) = true
+first_terminal (S.Operator o.OpenParen) = true
+first_terminal (S.Operator o.Subtype) = true
+first_terminal (S.Operator o.Supertype) = true
+first_terminal (S.Operator o.CloseBrace) = true
+first_terminal s = false
 
-abbrev head_sign : List Lexeme → Bool
-head_sign [] = false
-head_sign (l ∷ ls) = first_sign l.sign
+abbrev head_terminal : List Lexeme → Bool
+head_terminal [] = false
+head_terminal (l ∷ ls) = first_terminal l.terminal
 
-begins_head : (l : Lexeme) (ls : List Lexeme) → BeginsType l → head_sign (l ∷ ls) ≡ true
+begins_head : (l : Lexeme) (ls : List Lexeme) → BeginsType l → head_terminal (l ∷ ls) ≡ true
 begins_head _ ls (by_name a n) = refl
 begins_head _ ls (by_paren a) = refl
 
-argument_head : (x : ArgText) (ls : List Lexeme) → IsArgument x ls → head_sign ls ≡ true
-argument_head _ _ (YG.exact t ts d) = let s = starts_type t ts d in ap head_sign (sym s.3) ∙ begins_head s.0 s.1 s.2
+argument_head : (x : ArgText) (ls : List Lexeme) → IsArgument x ls → head_terminal ls ≡ true
+argument_head _ _ (YG.exact t ts d) = let s = starts_type t ts d in ap head_terminal (sym s.3) ∙ begins_head s.0 s.1 s.2
 argument_head _ _ (YG.below a t ts d) = refl
 argument_head _ _ (YG.above a t ts d) = refl
 
-first_is : (l : Lexeme) → IsFirst l → first_sign l.sign ≡ true
+first_is : (l : Lexeme) → IsFirst l → first_terminal l.terminal ≡ true
 first_is l (inl b) = argument_head b.0 (l ∷ b.1) b.2
-first_is l (inr e) = ap first_sign e
+first_is l (inr e) = ap first_terminal e
 
 -- ---- at a point of the reading of a type where one must stand
 
 -- what a token makes of a reading where a type must stand: it is one of these, or it is wrong
-abbrev Opens : Sign → ℕ → TypePoint → List TypeFrame → Type 0
-Opens s a p K = IsFirst (record { sign = s; at = a }) ⊎ (Y.step_at s a p K ≡ T.Wrong)
+abbrev Opens : Terminal → ℕ → TypePoint → List TypeFrame → Type 0
+Opens s a p K = IsFirst (record { terminal = s; at = a }) ⊎ (Y.step_at s a p K ≡ T.Wrong)
 
-want_opens : (s : Sign) (a : ℕ) (K : List TypeFrame) → IsFirst (record { sign = s; at = a }) ⊎ (Y.begins s a K ≡ T.Wrong)
+want_opens : (s : Terminal) (a : ℕ) (K : List TypeFrame) → IsFirst (record { terminal = s; at = a }) ⊎ (Y.begin_type s a K ≡ T.Wrong)
 want_opens (S.Name n) a K = inl (inl (A.Exact (X.Name a n), [], YG.exact (X.Name a n) (name a n ∷ []) (YG.plain a n)))
 want_opens (S.Operator o.OpenParen) a K = inl (inl (
   A.Exact (W.Paren a (X.Name 0 []) []),
@@ -128,16 +128,16 @@ want_opens (S.Operator o.OpenParen) a K = inl (inl (
 ))
 want_opens s a K = inr refl
 
-next_opens : (s : Sign) (a : ℕ) (K : List TypeFrame) → IsFirst (record { sign = s; at = a }) ⊎ (Y.at_next s a K ≡ T.Wrong)
+next_opens : (s : Terminal) (a : ℕ) (K : List TypeFrame) → IsFirst (record { terminal = s; at = a }) ⊎ (Y.at_next s a K ≡ T.Wrong)
 next_opens (S.Operator o.Subtype) a K = inl (inl (A.Below a (X.Name 0 []), name 0 [] ∷ [], YG.below a (X.Name 0 []) (name 0 [] ∷ []) (YG.plain 0 [])))
 next_opens (S.Operator o.Supertype) a K = inl (inl (A.Above a (X.Name 0 []), name 0 [] ∷ [], YG.above a (X.Name 0 []) (name 0 [] ∷ []) (YG.plain 0 [])))
 next_opens s a K = want_opens s a K
 
-first_opens : (s : Sign) (a : ℕ) (K : List TypeFrame) → IsFirst (record { sign = s; at = a }) ⊎ (Y.at_first s a K ≡ T.Wrong)
+first_opens : (s : Terminal) (a : ℕ) (K : List TypeFrame) → IsFirst (record { terminal = s; at = a }) ⊎ (Y.at_first s a K ≡ T.Wrong)
 first_opens (S.Operator o.CloseBrace) a K = inl (inr refl)
 first_opens s a K = next_opens s a K
 
-opens : (s : Sign) (a : ℕ) (p : TypePoint) (K : List TypeFrame) → Y.wants_type p ≡ true → Opens s a p K
+opens : (s : Terminal) (a : ℕ) (p : TypePoint) (K : List TypeFrame) → Y.is_type_wanted p ≡ true → Opens s a p K
 opens s a Q.Want K w = want_opens s a K
 opens s a Q.First K w = first_opens s a K
 opens s a Q.Next K w = next_opens s a K
@@ -149,7 +149,7 @@ opens s a (Q.Named t b n) K w = absurd (true≢false (sym w))
 opens s a (Q.Closed vs) K w = absurd (true≢false (sym w))
 
 -- a whole type is read there
-whole_type : (t : TypeText) (ls : List Lexeme) → YG.IsType t ls → (p : TypePoint) (K : List TypeFrame) → Y.wants_type p ≡ true → (h : Begun) × (Y.goes ls (Y.at p K) ≡ Y.at (Q.Have h) K)
+whole_type : (t : TypeText) (ls : List Lexeme) → YG.IsType t ls → (p : TypePoint) (K : List TypeFrame) → Y.is_type_wanted p ≡ true → (h : TypeSoFar) × (Y.step_all ls (Y.at p K) ≡ Y.at (Q.Have h) K)
 whole_type t ls d Q.Want K w = let r = YS.read_type t ls d in (r.0, r.2 K)
 whole_type t ls d Q.First K w = let r = YS.read_type t ls d in
     (r.0, starts_alike ls (starts_type t ls d) (Y.at Q.First K) (Y.at Q.Next K) (first_as_next K) ∙ starts_alike ls (starts_type t ls d) (Y.at Q.Next K) (Y.at Q.Want K) (next_as_want K) ∙ r.2 K)
@@ -162,7 +162,7 @@ whole_type t ls d (Q.Named u b n) K w = absurd (true≢false (sym w))
 whole_type t ls d (Q.Closed vs) K w = absurd (true≢false (sym w))
 
 -- a name is
-name_goes : (p : TypePoint) (K : List TypeFrame) → Y.wants_type p ≡ true → (n : List ℕ) (a : ℕ) → Y.step_at (S.Name n) a p K ≡ Y.at (Q.Have (Plain a n)) K
+name_goes : (p : TypePoint) (K : List TypeFrame) → Y.is_type_wanted p ≡ true → (n : List ℕ) (a : ℕ) → Y.step_at (S.Name n) a p K ≡ Y.at (Q.Have (Plain a n)) K
 name_goes Q.Want K w n a = refl
 name_goes Q.First K w n a = refl
 name_goes Q.Next K w n a = refl
@@ -173,7 +173,7 @@ name_goes (Q.Low t) K w n a = absurd (true≢false (sym w))
 name_goes (Q.Named t b m) K w n a = absurd (true≢false (sym w))
 name_goes (Q.Closed vs) K w n a = absurd (true≢false (sym w))
 
-named_at : (p : TypePoint) (K : List TypeFrame) → Y.wants_type p ≡ true → SettledAt p K → IsNamed K
+named_at : (p : TypePoint) (K : List TypeFrame) → Y.is_type_wanted p ≡ true → SettledAt p K → IsNamed K
 named_at Q.Want K w s = s
 named_at Q.First K w s = s
 named_at Q.Next K w s = s
@@ -190,22 +190,22 @@ abbrev IsGoes : Turn → Type 0
 IsGoes (T.Goes y) = Unit {0}
 IsGoes t = ⊥
 
-ended_stops : (v : Option (Deep VarText)) (K : List TypeFrame) → IsGoes (Y.ended v K) → ⊥
-ended_stops (Some v) [] i = i
-ended_stops (Some v) (k ∷ K) i = i
-ended_stops None K i = i
+end_of_variable_stops : (v : Option (Deep VarText)) (K : List TypeFrame) → IsGoes (Y.end_of_variable v K) → ⊥
+end_of_variable_stops (Some v) [] i = i
+end_of_variable_stops (Some v) (k ∷ K) i = i
+end_of_variable_stops None K i = i
 
-over_stops : (h : Begun) (K : List TypeFrame) → IsGoes (Y.over h K) → ⊥
-over_stops h [] i = i
-over_stops h (Variable v One ∷ K) i = ended_stops (Y.variable v h) K i
-over_stops h K i = i
+end_of_type_stops : (h : TypeSoFar) (K : List TypeFrame) → IsGoes (Y.end_of_type h K) → ⊥
+end_of_type_stops h [] i = i
+end_of_type_stops h (Variable v One ∷ K) i = end_of_variable_stops (Y.variable v h) K i
+end_of_type_stops h K i = i
 
-closed_stops : (vs : Deep (List VarText)) (K : List TypeFrame) → IsGoes (Y.over_variables vs K) → ⊥
+closed_stops : (vs : Deep (List VarText)) (K : List TypeFrame) → IsGoes (Y.end_of_variables vs K) → ⊥
 closed_stops vs [] i = i
 closed_stops vs (k ∷ K) i = i
 
 -- `>:` is not of a type behind which no variable's name may stand
-not_raised : (a : ℕ) (n : List ℕ) (K : List TypeFrame) → IsNamed K → Y.supertype (Plain a n) K ≡ Y.over (Plain a n) K
+not_raised : (a : ℕ) (n : List ℕ) (K : List TypeFrame) → IsNamed K → Y.after_supertype (Plain a n) K ≡ Y.end_of_type (Plain a n) K
 not_raised a n (Variable B.First l ∷ K) i = absurd i
 not_raised a n K i = refl
 
@@ -214,19 +214,19 @@ end_stops a Q.Want K i = i
 end_stops a Q.First K i = i
 end_stops a Q.Next K i = i
 end_stops a Q.Variable K i = i
-end_stops a (Q.Have h) K i = over_stops h K i
+end_stops a (Q.Have h) K i = end_of_type_stops h K i
 end_stops a Q.Where K i = i
 end_stops a (Q.Low t) K i = i
 end_stops a (Q.Named t b n) K i = i
 end_stops a (Q.Closed vs) K i = closed_stops vs K i
 
-not_end : (s : Sign) (a : ℕ) (p : TypePoint) (K : List TypeFrame) → IsGoes (Y.step_at s a p K) → is_end s ≡ false
+not_end : (s : Terminal) (a : ℕ) (p : TypePoint) (K : List TypeFrame) → IsGoes (Y.step_at s a p K) → is_end s ≡ false
 not_end S.End a p K i = absurd (end_stops a p K i)
 not_end _ a p K i = refl
 
 -- ---- a text that a type's reading takes, within the reading of a script
 
-stays : (us : Text) (v : Turn) → (IsGoes v → ⊥) → IsGoes (Y.goes (lexemes us) v) → ⊥
+stays : (us : Text) (v : Turn) → (IsGoes v → ⊥) → IsGoes (Y.step_all (lexemes us) v) → ⊥
 stays [] v n i = n i
 stays (u ∷ us) (T.Goes y) n i = absurd (n tt)
 stays (u ∷ us) (T.Type t) n i = stays us T.Wrong (λ x. x) i
@@ -241,34 +241,34 @@ goes_is : (v : Turn) (z : TypeState) → v ≡ T.Goes z → IsGoes v
 goes_is v z e = subst IsGoes (sym e) tt
 
 taken_on : (q : TypeState → Option State) (f : Marked → Turn → Option State) → ((u : Marked) (y : TypeState) → f u (T.Goes y) ≡ q y) → (us : Text) (u : Marked) (v : Turn) (z : TypeState) →
-    ((y : TypeState) → Y.goes (lexemes us) (T.Goes y) ≡ T.Goes z → (goes us (q y) ≡ q z) × NoEnd us) → Y.goes (lexemes us) v ≡ T.Goes z → IsGoes v × (goes us (f u v) ≡ q z) × NoEnd us
-taken_on q f on us u (T.Goes y) z again e = let r = again y e in (tt, ap (goes us) (on u y) ∙ r.0, r.1)
-taken_on q f on us u (T.Type t) z again e = absurd (stays us (T.Type t) (λ x. x) (goes_is (Y.goes (lexemes us) (T.Type t)) z e))
-taken_on q f on us u (T.Variables vs) z again e = absurd (stays us (T.Variables vs) (λ x. x) (goes_is (Y.goes (lexemes us) (T.Variables vs)) z e))
-taken_on q f on us u T.Wrong z again e = absurd (stays us T.Wrong (λ x. x) (goes_is (Y.goes (lexemes us) T.Wrong) z e))
+    ((y : TypeState) → Y.step_all (lexemes us) (T.Goes y) ≡ T.Goes z → (step_all us (q y) ≡ q z) × NoEnd us) → Y.step_all (lexemes us) v ≡ T.Goes z → IsGoes v × (step_all us (f u v) ≡ q z) × NoEnd us
+taken_on q f on us u (T.Goes y) z again e = let r = again y e in (tt, ap (step_all us) (on u y) ∙ r.0, r.1)
+taken_on q f on us u (T.Type t) z again e = absurd (stays us (T.Type t) (λ x. x) (goes_is (Y.step_all (lexemes us) (T.Type t)) z e))
+taken_on q f on us u (T.Variables vs) z again e = absurd (stays us (T.Variables vs) (λ x. x) (goes_is (Y.step_all (lexemes us) (T.Variables vs)) z e))
+taken_on q f on us u T.Wrong z again e = absurd (stays us T.Wrong (λ x. x) (goes_is (Y.step_all (lexemes us) T.Wrong) z e))
 
-taken : (q : TypeState → Option State) (f : Marked → Turn → Option State) → ((u : Marked) (y : TypeState) → step u (q y) ≡ f u (Y.step_at u.lexeme.sign u.lexeme.at y.point y.stack)) →
-    ((u : Marked) (y : TypeState) → f u (T.Goes y) ≡ q y) → (us : Text) (y z : TypeState) → Y.goes (lexemes us) (T.Goes y) ≡ T.Goes z → (goes us (q y) ≡ q z) × NoEnd us
+taken : (q : TypeState → Option State) (f : Marked → Turn → Option State) → ((u : Marked) (y : TypeState) → step u (q y) ≡ f u (Y.step_at u.lexeme.terminal u.lexeme.at y.point y.stack)) →
+    ((u : Marked) (y : TypeState) → f u (T.Goes y) ≡ q y) → (us : Text) (y z : TypeState) → Y.step_all (lexemes us) (T.Goes y) ≡ T.Goes z → (step_all us (q y) ≡ q z) × NoEnd us
 taken q f by on [] y z e = (ap (λ v. q (state_of y v)) e, tt)
 taken q f by on (u ∷ us) y z e =
-    let v : Turn = Y.step_at u.lexeme.sign u.lexeme.at y.point y.stack in
+    let v : Turn = Y.step_at u.lexeme.terminal u.lexeme.at y.point y.stack in
     let r = taken_on q f on us u v z (λ x h. taken q f by on us x z h) e in
-    (ap (goes us) (by u y) ∙ r.1, (not_end u.lexeme.sign u.lexeme.at y.point y.stack r.0, r.2))
+    (ap (step_all us) (by u y) ∙ r.1, (not_end u.lexeme.terminal u.lexeme.at y.point y.stack r.0, r.2))
 
 -- ---- tokens that follow no type, in any form that a type ends
 
 -- a name and `>:`
-data IsForeign : Sign → Type 0 where
+data IsForeign : Terminal → Type 0 where
   a_name : (n : List ℕ) → IsForeign (S.Name n)
   a_bound : IsForeign (S.Operator o.Supertype)
 
-header_stops : (k : Bool) (s : Sign) → IsForeign s → (h : Form Header) (K : List Frame) (xs : ItemsRead) → MC.header_as k s h K xs ≡ None
+header_stops : (k : Bool) (s : Terminal) → IsForeign s → (h : Form Header) (K : List Frame) (xs : ItemsRead) → MC.token_after_header k s h K xs ≡ None
 header_stops true _ (a_name n) h K xs = refl
 header_stops true _ a_bound h K xs = refl
 header_stops false _ (a_name n) h K xs = refl
 header_stops false _ a_bound h K xs = refl
 
-type_stops : (s : Sign) → IsForeign s → (b : ℕ) (g : Goal) (t : TypeForm) (K : List Frame) (xs : ItemsRead) → MC.type_ends s b g t K xs ≡ None
+type_stops : (s : Terminal) → IsForeign s → (b : ℕ) (g : Goal) (t : TypeForm) (K : List Frame) (xs : ItemsRead) → MC.token_after_type s b g t K xs ≡ None
 type_stops _ (a_name n) b (G.Isa p e) t K xs = refl
 type_stops _ (a_name n) b (G.Left p a) t K xs = refl
 type_stops _ (a_name n) b (G.Right p a l) t K xs = refl
@@ -285,24 +285,24 @@ type_stops _ a_bound b (G.Parent d) t K xs = header_stops d.is_struct (S.Operato
 type_stops _ a_bound b (G.Field f m) t K xs = refl
 
 -- a turn that does not go on, with such a token
-type_over : (v : Turn) → (IsGoes v → ⊥) → (s : Sign) → IsForeign s → (b : ℕ) (g : Goal) (K : List Frame) (xs : ItemsRead) → MC.type_goes v s b g K xs ≡ None
+type_over : (v : Turn) → (IsGoes v → ⊥) → (s : Terminal) → IsForeign s → (b : ℕ) (g : Goal) (K : List Frame) (xs : ItemsRead) → MC.type_step v s b g K xs ≡ None
 type_over (T.Goes y) n s f b g K xs = absurd (n tt)
 type_over (T.Type t) n s f b g K xs = type_stops s f b g _ K xs
 type_over (T.Variables vs) n s f b g K xs = refl
 type_over T.Wrong n s f b g K xs = refl
 
-declared_stops : (s : Sign) → IsForeign s → (d : Declaring) (K : List Frame) (xs : ItemsRead) → MC.declared s d K xs ≡ None
-declared_stops _ (a_name n) d K xs = header_stops d.is_struct (S.Name n) (a_name n) _ K xs
-declared_stops _ a_bound d K xs = header_stops d.is_struct (S.Operator o.Supertype) a_bound _ K xs
+token_after_params_stops : (s : Terminal) → IsForeign s → (d : Declaring) (K : List Frame) (xs : ItemsRead) → MC.token_after_params s d K xs ≡ None
+token_after_params_stops _ (a_name n) d K xs = header_stops d.is_struct (S.Name n) (a_name n) _ K xs
+token_after_params_stops _ a_bound d K xs = header_stops d.is_struct (S.Operator o.Supertype) a_bound _ K xs
 
-params_over : (v : Turn) → (IsGoes v → ⊥) → (s : Sign) → IsForeign s → (d : Declaring) (K : List Frame) (xs : ItemsRead) → MC.params_turn v s d K xs ≡ None
+params_over : (v : Turn) → (IsGoes v → ⊥) → (s : Terminal) → IsForeign s → (d : Declaring) (K : List Frame) (xs : ItemsRead) → MC.params_turn v s d K xs ≡ None
 params_over (T.Goes y) n s f d K xs = absurd (n tt)
 params_over (T.Type t) n s f d K xs = refl
-params_over (T.Variables vs) n s f d K xs = declared_stops s f _ K xs
+params_over (T.Variables vs) n s f d K xs = token_after_params_stops s f _ K xs
 params_over T.Wrong n s f d K xs = refl
 
 -- behind the variables of a method no bound follows; and either `;` may, or no name may
-bound_stops : (k : Bool) (m : Marks) (a : ℕ) (l : Place) (h : Form Head) (K : List Frame) (xs : ItemsRead) → MC.headed_as k (S.Operator o.Supertype) m a l h K xs ≡ None
+bound_stops : (k : Bool) (m : Marks) (a : ℕ) (l : Place) (h : Form Head) (K : List Frame) (xs : ItemsRead) → MC.token_after_head k (S.Operator o.Supertype) m a l h K xs ≡ None
 bound_stops true m a l h K xs = refl
 bound_stops false m a l h K xs = refl
 
@@ -313,7 +313,7 @@ where_over (T.Variables vs) n m a h K xs = bound_stops h.start.long m a h.start.
 where_over T.Wrong n m a h K xs = refl
 
 body_or_none : (k : Bool) (m : Marks) (a : ℕ) (l : Place) (h : Form Head) (K : List Frame) (xs : ItemsRead) →
-    IsSome (MC.headed_as k (S.Operator o.Semicolon) m a l h K xs) ⊎ (MC.headed_as k (S.Name []) m a l h K xs ≡ None)
+    IsSome (MC.token_after_head k (S.Operator o.Semicolon) m a l h K xs) ⊎ (MC.token_after_head k (S.Name []) m a l h K xs ≡ None)
 body_or_none true m a l h K xs = inl tt
 body_or_none false m a l h K xs = inr refl
 
@@ -329,14 +329,14 @@ where_or_none T.Wrong n m a h K xs = inr refl
 -- what is asked of a form that is read around a type
 record Around (q : TypeState → Option State) : Type 0 where
   turn : Marked → Turn → Option State
-  by : (u : Marked) (y : TypeState) → step u (q y) ≡ turn u (Y.step_at u.lexeme.sign u.lexeme.at y.point y.stack)
+  by : (u : Marked) (y : TypeState) → step u (q y) ≡ turn u (Y.step_at u.lexeme.terminal u.lexeme.at y.point y.stack)
   on : (u : Marked) (y : TypeState) → turn u (T.Goes y) ≡ q y
   wrong : (u : Marked) → turn u T.Wrong ≡ None
   over : (v : Turn) → (IsGoes v → ⊥) → (q : Spot) → turn (opr o.Supertype q) v ≡ None
 
 around_type : (g : Goal) (K : List Frame) (xs : ItemsRead) → Around (λ y. at (P.Type g y) K xs)
 around_type g K xs = record {
-  turn = λ u v. MC.type_goes v u.lexeme.sign u.lexeme.at g K xs;
+  turn = λ u v. MC.type_step v u.lexeme.terminal u.lexeme.at g K xs;
   by = λ u y. refl;
   on = λ u y. refl;
   wrong = λ u. refl;
@@ -345,7 +345,7 @@ around_type g K xs = record {
 
 around_where : (h : Heading) (K : List Frame) (xs : ItemsRead) → Around (λ y. at (P.Where h y) K xs)
 around_where h K xs = record {
-  turn = λ u v. MC.where_turn v u.lexeme.sign u.marks u.lexeme.at h K xs;
+  turn = λ u v. MC.where_turn v u.lexeme.terminal u.marks u.lexeme.at h K xs;
   by = λ u y. refl;
   on = λ u y. refl;
   wrong = λ u. refl;
@@ -354,54 +354,54 @@ around_where h K xs = record {
 
 around_params : (d : Declaring) (K : List Frame) (xs : ItemsRead) → Around (λ y. at (P.Params d y) K xs)
 around_params d K xs = record {
-  turn = λ u v. MC.params_turn v u.lexeme.sign d K xs;
+  turn = λ u v. MC.params_turn v u.lexeme.terminal d K xs;
   by = λ u y. refl;
   on = λ u y. refl;
   wrong = λ u. refl;
   over = λ v n q. params_over v n (S.Operator o.Supertype) a_bound d K xs;
 }
 
-first_or_none : (q : TypeState → Option State) → Around q → (y : TypeState) → Y.wants_type y.point ≡ true → (t : Marked) → IsFirst t.lexeme ⊎ (goes (t ∷ []) (q y) ≡ None)
-first_or_none q a y w t = chosen (opens t.lexeme.sign t.lexeme.at y.point y.stack w)
+first_or_none : (q : TypeState → Option State) → Around q → (y : TypeState) → Y.is_type_wanted y.point ≡ true → (t : Marked) → IsFirst t.lexeme ⊎ (step_all (t ∷ []) (q y) ≡ None)
+first_or_none q a y w t = chosen (opens t.lexeme.terminal t.lexeme.at y.point y.stack w)
   where
-    chosen : Opens t.lexeme.sign t.lexeme.at y.point y.stack → IsFirst t.lexeme ⊎ (goes (t ∷ []) (q y) ≡ None)
+    chosen : Opens t.lexeme.terminal t.lexeme.at y.point y.stack → IsFirst t.lexeme ⊎ (step_all (t ∷ []) (q y) ≡ None)
     chosen (inl f) = inl f
     chosen (inr e) = inr (a.by t y ∙ ap (a.turn t) e ∙ a.wrong t)
 
-no_bound : (q : TypeState → Option State) → Around q → (y : TypeState) → Y.wants_type y.point ≡ true → SettledAt y.point y.stack → (n : List ℕ) (x z : Spot) →
-    goes (nam n x ∷ opr o.Supertype z ∷ []) (q y) ≡ None
+no_bound : (q : TypeState → Option State) → Around q → (y : TypeState) → Y.is_type_wanted y.point ≡ true → SettledAt y.point y.stack → (n : List ℕ) (x z : Spot) →
+    step_all (nam n x ∷ opr o.Supertype z ∷ []) (q y) ≡ None
 no_bound q a y w s n x z =
     let h : TypeState = record { point = Q.Have (Plain x.at n); stack = y.stack } in
     ap (step (opr o.Supertype z)) (a.by (nam n x) y ∙ ap (a.turn (nam n x)) (name_goes y.point y.stack w n x.at) ∙ a.on (nam n x) h)
     ∙ a.by (opr o.Supertype z) h
     ∙ ap (a.turn (opr o.Supertype z)) (not_raised x.at n y.stack (named_at y.point y.stack w s))
-    ∙ a.over (Y.over (Plain x.at n) y.stack) (over_stops (Plain x.at n) y.stack) z
+    ∙ a.over (Y.end_of_type (Plain x.at n) y.stack) (end_of_type_stops (Plain x.at n) y.stack) z
 
 some_is : (o : Option State) (s : State) → o ≡ Some s → IsSome o
 some_is None s e = absurd (none_is_some s e)
 some_is (Some r) s e = tt
 
-must_at : (q : TypeState → State) → Around (λ y. Some (q y)) → (y : TypeState) → Y.wants_type y.point ≡ true → SettledAt y.point y.stack → (ts : Text) → NoEnd ts → goes ts start ≡ Some (q y) → TypeMust ts
+must_at : (q : TypeState → State) → Around (λ y. Some (q y)) → (y : TypeState) → Y.is_type_wanted y.point ≡ true → SettledAt y.point y.stack → (ts : Text) → NoEnd ts → step_all ts start ≡ Some (q y) → TypeMust ts
 must_at q a y w s ts n e = record {
   each = λ t us d.
       let r = whole_type t (lexemes us) d y.point y.stack w in
       let g = taken (λ x. Some (q x)) a.turn a.by a.on us y (record { point = Q.Have r.0; stack = y.stack }) r.1 in
-      can ts us (q y) n g.1 e (some_is (goes us (Some (q y))) _ g.0);
+      can ts us (q y) n g.1 e (some_is (step_all us (Some (q y))) _ g.0);
   only = λ t b. allowed t b (first_or_none (λ x. Some (q x)) a y w t);
   no_variable = λ m x z b. cannot ts (nam m x ∷ opr o.Supertype z ∷ []) (q y) e (no_bound (λ x. Some (q x)) a y w s m x z) b;
 }
   where
-    allowed : (t : Marked) → Begins (ts ++ t ∷ []) → IsFirst t.lexeme ⊎ (goes (t ∷ []) (Some (q y)) ≡ None) → IsFirst t.lexeme
+    allowed : (t : Marked) → Begins (ts ++ t ∷ []) → IsFirst t.lexeme ⊎ (step_all (t ∷ []) (Some (q y)) ≡ None) → IsFirst t.lexeme
     allowed t b (inl f) = f
     allowed t b (inr h) = absurd (cannot ts (t ∷ []) (q y) e h b)
 
-must_by : (p : Point) (K : List Frame) (xs : ItemsRead) (ts : Text) → NoEnd ts → goes ts start ≡ at p K xs → wants_type p ≡ true → SettledPoint p → TypeMust ts
+must_by : (p : Point) (K : List Frame) (xs : ItemsRead) (ts : Text) → NoEnd ts → step_all ts start ≡ at p K xs → is_type_wanted p ≡ true → SettledPoint p → TypeMust ts
 must_by (P.Type g y) K xs ts n e w s = must_at (λ x. record { point = P.Type g x; stack = K; script = xs }) (around_type g K xs) y w s ts n e
 must_by (P.Where h y) K xs ts n e w s = must_at (λ x. record { point = P.Where h x; stack = K; script = xs }) (around_where h K xs) y w s ts n e
 must_by (P.Params d y) K xs ts n e w s = must_at (λ x. record { point = P.Params d x; stack = K; script = xs }) (around_params d K xs) y w s ts n e
 must_by p K xs ts n e w s = absurd (true≢false (sym w))
 
-pub type_must : (ts : Text) (s : State) → NoEnd ts → goes ts start ≡ Some s → wants_type s.point ≡ true → TypeMust ts
+pub type_must : (ts : Text) (s : State) → NoEnd ts → step_all ts start ≡ Some s → is_type_wanted s.point ≡ true → TypeMust ts
 type_must ts s n e w = must_by s.point s.stack s.script ts n e w (subst Settled e (settled_all ts))
 
 -- ---- and where it does not, none must
@@ -476,72 +476,72 @@ variable_in (Some r) s ts e h = has_variable s.point s.stack s.script ts (subst 
 
 -- a point where no type must stand: another token may follow, or not each type may, or a variable with its bound may
 data Differs : Option State → Type 0 where
-  by_token : (q : Option State) (t : Marked) → is_end t.lexeme.sign ≡ false → first_sign t.lexeme.sign ≡ false → IsSome (goes (t ∷ []) q) → Differs q
-  by_type : (q : Option State) (t : TypeText) (us : Text) → IsType t us → goes us q ≡ None → Differs q
-  by_variable : (q : Option State) → IsSome (goes (nam [] nowhere ∷ opr o.Supertype nowhere ∷ []) q) → Differs q
+  by_token : (q : Option State) (t : Marked) → is_end t.lexeme.terminal ≡ false → first_terminal t.lexeme.terminal ≡ false → IsSome (step_all (t ∷ []) q) → Differs q
+  by_type : (q : Option State) (t : TypeText) (us : Text) → IsType t us → step_all us q ≡ None → Differs q
+  by_variable : (q : Option State) → IsSome (step_all (nam [] nowhere ∷ opr o.Supertype nowhere ∷ []) q) → Differs q
 
 -- not each name may follow, or not each type in brackets
-no_name : (q : Option State) → goes (nam [] nowhere ∷ []) q ≡ None → Differs q
+no_name : (q : Option State) → step_all (nam [] nowhere ∷ []) q ≡ None → Differs q
 no_name q e = by_type q (X.Name 0 []) (nam [] nowhere ∷ []) (YG.plain 0 []) e
 
-no_brackets : (q : Option State) → goes (opr o.OpenParen nowhere ∷ nam [] nowhere ∷ opr o.CloseParen nowhere ∷ []) q ≡ None → Differs q
+no_brackets : (q : Option State) → step_all (opr o.OpenParen nowhere ∷ nam [] nowhere ∷ opr o.CloseParen nowhere ∷ []) q ≡ None → Differs q
 no_brackets q e = by_type q (W.Paren 0 (X.Name 0 []) []) (opr o.OpenParen nowhere ∷ nam [] nowhere ∷ opr o.CloseParen nowhere ∷ []) (YG.paren 0 0 (X.Name 0 []) (name 0 [] ∷ []) (YG.plain 0 [])) e
 
 -- a number, `;` and `{` are no first tokens
-number_goes : (q : Option State) → IsSome (goes (tok (S.Number (pos 1)) nowhere ∷ []) q) → Differs q
-number_goes q i = by_token q (tok (S.Number (pos 1)) nowhere) refl refl i
+number_step_all : (q : Option State) → IsSome (step_all (tok (S.Number (pos 1)) nowhere ∷ []) q) → Differs q
+number_step_all q i = by_token q (tok (S.Number (pos 1)) nowhere) refl refl i
 
-semicolon_goes : (q : Option State) → IsSome (goes (opr o.Semicolon nowhere ∷ []) q) → Differs q
-semicolon_goes q i = by_token q (opr o.Semicolon nowhere) refl refl i
+semicolon_step_all : (q : Option State) → IsSome (step_all (opr o.Semicolon nowhere ∷ []) q) → Differs q
+semicolon_step_all q i = by_token q (opr o.Semicolon nowhere) refl refl i
 
-brace_goes : (q : Option State) → IsSome (goes (opr o.OpenBrace nowhere ∷ []) q) → Differs q
-brace_goes q i = by_token q (opr o.OpenBrace nowhere) refl refl i
+brace_step_all : (q : Option State) → IsSome (step_all (opr o.OpenBrace nowhere ∷ []) q) → Differs q
+brace_step_all q i = by_token q (opr o.OpenBrace nowhere) refl refl i
 
-type_differs : (g : Goal) (p : TypePoint) (k : List TypeFrame) (K : List Frame) (xs : ItemsRead) → InVariableAt p k → Y.wants_type p ≡ false → Differs (at (P.Type g (record { point = p; stack = k })) K xs)
+type_differs : (g : Goal) (p : TypePoint) (k : List TypeFrame) (K : List Frame) (xs : ItemsRead) → InVariableAt p k → Y.is_type_wanted p ≡ false → Differs (at (P.Type g (record { point = p; stack = k })) K xs)
 type_differs g Q.Want k K xs v w = absurd (true≢false w)
 type_differs g Q.First k K xs v w = absurd (true≢false w)
 type_differs g Q.Next k K xs v w = absurd (true≢false w)
 type_differs g Q.Variable [] K xs v w = absurd v
 type_differs g Q.Variable (Variable B.First l ∷ k) K xs v w = by_variable _ tt
 type_differs g Q.Variable (f ∷ k) K xs v w = absurd v
-type_differs g (Q.Have h) k K xs v w = no_name _ (type_over (Y.over h k) (over_stops h k) (S.Name []) (a_name []) 0 g K xs)
-type_differs g Q.Where k K xs v w = brace_goes _ tt
+type_differs g (Q.Have h) k K xs v w = no_name _ (type_over (Y.end_of_type h k) (end_of_type_stops h k) (S.Name []) (a_name []) 0 g K xs)
+type_differs g Q.Where k K xs v w = brace_step_all _ tt
 type_differs g (Q.Low t) k K xs v w = no_brackets _ refl
 type_differs g (Q.Named t b n) k K xs v w = no_name _ refl
-type_differs g (Q.Closed vs) k K xs v w = no_name _ (type_over (Y.over_variables vs k) (closed_stops vs k) (S.Name []) (a_name []) 0 g K xs)
+type_differs g (Q.Closed vs) k K xs v w = no_name _ (type_over (Y.end_of_variables vs k) (closed_stops vs k) (S.Name []) (a_name []) 0 g K xs)
 
-params_differs : (d : Declaring) (p : TypePoint) (k : List TypeFrame) (K : List Frame) (xs : ItemsRead) → InVariableAt p k → Y.wants_type p ≡ false → Differs (at (P.Params d (record { point = p; stack = k })) K xs)
+params_differs : (d : Declaring) (p : TypePoint) (k : List TypeFrame) (K : List Frame) (xs : ItemsRead) → InVariableAt p k → Y.is_type_wanted p ≡ false → Differs (at (P.Params d (record { point = p; stack = k })) K xs)
 params_differs d Q.Want k K xs v w = absurd (true≢false w)
 params_differs d Q.First k K xs v w = absurd (true≢false w)
 params_differs d Q.Next k K xs v w = absurd (true≢false w)
 params_differs d Q.Variable [] K xs v w = absurd v
 params_differs d Q.Variable (Variable B.First l ∷ k) K xs v w = by_variable _ tt
 params_differs d Q.Variable (f ∷ k) K xs v w = absurd v
-params_differs d (Q.Have h) k K xs v w = no_name _ (params_over (Y.over h k) (over_stops h k) (S.Name []) (a_name []) d K xs)
-params_differs d Q.Where k K xs v w = brace_goes _ tt
+params_differs d (Q.Have h) k K xs v w = no_name _ (params_over (Y.end_of_type h k) (end_of_type_stops h k) (S.Name []) (a_name []) d K xs)
+params_differs d Q.Where k K xs v w = brace_step_all _ tt
 params_differs d (Q.Low t) k K xs v w = no_brackets _ refl
 params_differs d (Q.Named t b n) k K xs v w = no_name _ refl
-params_differs d (Q.Closed vs) k K xs v w = no_name _ (params_over (Y.over_variables vs k) (closed_stops vs k) (S.Name []) (a_name []) d K xs)
+params_differs d (Q.Closed vs) k K xs v w = no_name _ (params_over (Y.end_of_variables vs k) (closed_stops vs k) (S.Name []) (a_name []) d K xs)
 
 -- behind a `where`, by what the token over its variables makes of it
-where_either : (q : Option State) → IsSome (goes (opr o.Semicolon nowhere ∷ []) q) ⊎ (goes (nam [] nowhere ∷ []) q ≡ None) → Differs q
-where_either q (inl i) = semicolon_goes q i
+where_either : (q : Option State) → IsSome (step_all (opr o.Semicolon nowhere ∷ []) q) ⊎ (step_all (nam [] nowhere ∷ []) q ≡ None) → Differs q
+where_either q (inl i) = semicolon_step_all q i
 where_either q (inr e) = no_name q e
 
-where_differs : (h : Heading) (p : TypePoint) (k : List TypeFrame) (K : List Frame) (xs : ItemsRead) → InVariableAt p k → Y.wants_type p ≡ false → Differs (at (P.Where h (record { point = p; stack = k })) K xs)
+where_differs : (h : Heading) (p : TypePoint) (k : List TypeFrame) (K : List Frame) (xs : ItemsRead) → InVariableAt p k → Y.is_type_wanted p ≡ false → Differs (at (P.Where h (record { point = p; stack = k })) K xs)
 where_differs h Q.Want k K xs v w = absurd (true≢false w)
 where_differs h Q.First k K xs v w = absurd (true≢false w)
 where_differs h Q.Next k K xs v w = absurd (true≢false w)
 where_differs h Q.Variable [] K xs v w = absurd v
 where_differs h Q.Variable (Variable B.First l ∷ k) K xs v w = by_variable _ tt
 where_differs h Q.Variable (f ∷ k) K xs v w = absurd v
-where_differs h (Q.Have g) k K xs v w = where_either _ (where_or_none (Y.over g k) (over_stops g k) nowhere.marks 0 h K xs)
-where_differs h Q.Where k K xs v w = brace_goes _ tt
+where_differs h (Q.Have g) k K xs v w = where_either _ (where_or_none (Y.end_of_type g k) (end_of_type_stops g k) nowhere.marks 0 h K xs)
+where_differs h Q.Where k K xs v w = brace_step_all _ tt
 where_differs h (Q.Low t) k K xs v w = no_brackets _ refl
 where_differs h (Q.Named t b n) k K xs v w = no_name _ refl
-where_differs h (Q.Closed vs) k K xs v w = where_either _ (where_or_none (Y.over_variables vs k) (closed_stops vs k) nowhere.marks 0 h K xs)
+where_differs h (Q.Closed vs) k K xs v w = where_either _ (where_or_none (Y.end_of_variables vs k) (closed_stops vs k) nowhere.marks 0 h K xs)
 
-headed_differs : (h : Heading) (K : List Frame) (xs : ItemsRead) → IsSome (goes (opr o.Semicolon nowhere ∷ []) (at (P.Headed h) K xs)) ⊎ (goes (nam [] nowhere ∷ []) (at (P.Headed h) K xs) ≡ None)
+headed_differs : (h : Heading) (K : List Frame) (xs : ItemsRead) → IsSome (step_all (opr o.Semicolon nowhere ∷ []) (at (P.Headed h) K xs)) ⊎ (step_all (nam [] nowhere ∷ []) (at (P.Headed h) K xs) ≡ None)
 headed_differs h K xs = body_or_none h.start.long nowhere.marks 0 h.start.place _ K xs
 
 due_differs : (p : Pending) (b : ℕ) (d : Due) (K : List Frame) (xs : ItemsRead) → Differs (at (P.Due p b d) K xs)
@@ -555,17 +555,17 @@ due_differs p b (D.PrintOpen l) K xs = no_name _ refl
 due_differs p b D.QuoteOpen K xs = no_name _ refl
 due_differs p b D.QuoteWord K xs = no_name _ refl
 
-declared_name : (d : Declaring) (K : List Frame) (xs : ItemsRead) → goes (nam [] nowhere ∷ []) (at (P.Declared d) K xs) ≡ None
-declared_name d K xs = declared_stops (S.Name []) (a_name []) d K xs
+declared_name : (d : Declaring) (K : List Frame) (xs : ItemsRead) → step_all (nam [] nowhere ∷ []) (at (P.Declared d) K xs) ≡ None
+declared_name d K xs = token_after_params_stops (S.Name []) (a_name []) d K xs
 
-differs : (p : Point) (K : List Frame) (xs : ItemsRead) → VariableAt p → wants_type p ≡ false → Differs (at p K xs)
-differs P.Entry K xs v w = semicolon_goes _ tt
+differs : (p : Point) (K : List Frame) (xs : ItemsRead) → VariableAt p → is_type_wanted p ≡ false → Differs (at p K xs)
+differs P.Entry K xs v w = semicolon_step_all _ tt
 differs (P.Bound n) K xs v w = no_name _ refl
-differs (P.Returned b) K xs v w = number_goes _ tt
-differs (P.Want p) K xs v w = number_goes _ tt
-differs (P.First r) K xs v w = number_goes _ tt
-differs (P.Again r) K xs v w = number_goes _ tt
-differs (P.Piece r) K xs v w = number_goes _ tt
+differs (P.Returned b) K xs v w = number_step_all _ tt
+differs (P.Want p) K xs v w = number_step_all _ tt
+differs (P.First r) K xs v w = number_step_all _ tt
+differs (P.Again r) K xs v w = number_step_all _ tt
+differs (P.Piece r) K xs v w = number_step_all _ tt
 differs P.Texted K xs v w = no_name _ refl
 differs (P.Have p e) K xs v w = no_name _ refl
 differs (P.Dot p e) K xs v w = no_brackets _ refl
@@ -573,7 +573,7 @@ differs (P.Index p e) K xs v w = no_name _ refl
 differs (P.Indexed p e n) K xs v w = no_name _ refl
 differs (P.Due p b d) K xs v w = due_differs p b d K xs
 differs (P.Quoted p e) K xs v w = no_name _ refl
-differs (P.AfterEval p b) K xs v w = number_goes _ tt
+differs (P.AfterEval p b) K xs v w = number_step_all _ tt
 differs (P.Function g) K xs v w = no_brackets _ refl
 differs (P.Named g n) K xs v w = no_name _ refl
 differs (P.Dotted g b) K xs v w = no_brackets _ refl
@@ -595,7 +595,7 @@ differs (P.Made x) K xs v w = no_name _ refl
 differs (P.MadeMethod x) K xs v w = no_name _ refl
 
 -- no type must stand where a point differs
-not_must : (ts : Text) (s : State) → NoEnd ts → goes ts start ≡ Some s → Differs (Some s) → TypeMust ts → ⊥
+not_must : (ts : Text) (s : State) → NoEnd ts → step_all ts start ≡ Some s → Differs (Some s) → TypeMust ts → ⊥
 not_must ts s n e (by_token _ t m f i) h = true≢false (sym (first_is t.lexeme (h.only t (can ts (t ∷ []) s n (m, tt) e i))) ∙ f)
 not_must ts s n e (by_type _ t us d i) h = cannot ts us s e i (h.each t us d)
 not_must ts s n e (by_variable _ i) h = h.no_variable [] nowhere nowhere (can ts (nam [] nowhere ∷ opr o.Supertype nowhere ∷ []) s n (refl, (refl, tt)) e i)
@@ -604,5 +604,5 @@ decided : (b : Bool) → (b ≡ false → ⊥) → b ≡ true
 decided true n = refl
 decided false n = absurd (n refl)
 
-pub must_type : (ts : Text) (s : State) → NoEnd ts → goes ts start ≡ Some s → TypeMust ts → wants_type s.point ≡ true
-must_type ts s n e h = decided (wants_type s.point) (λ w. not_must ts s n e (differs s.point s.stack s.script (variable_in (goes ts start) s ts e (has_all ts n)) w) h)
+pub must_type : (ts : Text) (s : State) → NoEnd ts → step_all ts start ≡ Some s → TypeMust ts → is_type_wanted s.point ≡ true
+must_type ts s n e h = decided (is_type_wanted s.point) (λ w. not_must ts s n e (differs s.point s.stack s.script (variable_in (step_all ts start) s ts e (has_all ts n)) w) h)

@@ -1,8 +1,8 @@
 -- Where a type must be written, by the grammar alone: no point of the machine that reads it is named.
 use Rattle.std.specs.Prelude.{ℕ, List, [], ◌∷◌, ◌++◌, ◌≡◌, ◌⊎◌}
 use Rattle.jl_token.specs.declared.token.Operator.TheVariants as o
-use Rattle.jl_typeread.specs.declared.sign.Lexeme.{Lexeme}
-use Rattle.jl_typeread.specs.declared.sign.Sign.TheVariants as S
+use Rattle.jl_typeread.specs.declared.terminal.Lexeme.{Lexeme}
+use Rattle.jl_typeread.specs.declared.terminal.Terminal.TheVariants as S
 use Rattle.jl_typeread.specs.declared.tree.ArgText.{ArgText}
 use Rattle.jl_typeread.specs.declared.tree.TypeText.{TypeText}
 use Rattle.jl_typeread.specs.Grammar.{IsArgument}
@@ -17,7 +17,7 @@ BeginsArgument l = (x : ArgText) × (ls : List Lexeme) × IsArgument x (l ∷ ls
 
 -- the same, or the `}` of braces without arguments
 abbrev pub IsFirst : Lexeme → Type 0
-IsFirst l = BeginsArgument l ⊎ (l.sign ≡ S.Operator o.CloseBrace)
+IsFirst l = BeginsArgument l ⊎ (l.terminal ≡ S.Operator o.CloseBrace)
 
 -- Behind these tokens a type must stand.
 pub record TypeMust (ts : Text) : Type 0 where

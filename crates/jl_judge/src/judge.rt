@@ -24,8 +24,8 @@ pub struct TableJudge<'a> {
     pub ghost declared: { ∥ Declared table.now ∥₁ },
 }
 
-/// The tests over a table; that they are right is said by `right`.
-pub fn over(table: &Table) -> TableJudge<'_>
+/// The tests over a table; that they are right is said by `law_judge_is_right`.
+pub fn judge_over(table: &Table) -> TableJudge<'_>
     ensures { result.table.now ≡ table.now }
 {
     table.valid();
@@ -85,7 +85,7 @@ impl Judge for TableJudge<'_> {
 }
 
 /// That the tests over a table are right, for proofs that rest on it. It does nothing.
-pub fn right(judge: &TableJudge<'_>)
+pub fn law_judge_is_right(judge: &TableJudge<'_>)
     ensures { IsRight judge.now.table.now (⟦<TableJudge<'static> as Judge>⟧.tests judge.now) }
 {
     judge.table.valid();

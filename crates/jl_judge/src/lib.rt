@@ -9,5 +9,5 @@ pub mod laws;
 mod order;
 mod refusals;
 
-pub use judge::{TableJudge, over, right};
+pub use judge::{TableJudge, judge_over, law_judge_is_right};
 pub use kept::Kept;

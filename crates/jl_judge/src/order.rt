@@ -12,7 +12,7 @@ use jl_types::{NormFault, Table, ground_sub};
 use std::alloc::{AllocError, Global};
 
 /// The normal form of a type, or none where the type can't be judged.
-fn judged(alloc: Global, table: &Table, ty: &Ty) -> Result<Option<Ty>, AllocError>
+fn judge_type(alloc: Global, table: &Table, ty: &Ty) -> Result<Option<Ty>, AllocError>
     ensures { IfOk result (λ form. MatchOption form (CanBeJudged table.now ty.now → ⊥) (IsJudgedAs table.now ty.now)) }
 {
     if !is_known(ty, u64::from(table.count())) {
@@ -30,10 +30,10 @@ pub fn is_below(alloc: Global, table: &Table, low: &Ty, high: &Ty) -> Result<boo
     ensures { IfOk result (λ b. Tells b (IsJudgedBelow table.now low.now high.now)) }
 {
     table.valid();
-    let Some(lower) = judged(alloc, table, low)? else {
+    let Some(lower) = judge_type(alloc, table, low)? else {
         return Ok(false);
     };
-    let Some(upper) = judged(alloc, table, high)? else {
+    let Some(upper) = judge_type(alloc, table, high)? else {
         return Ok(false);
     };
     Ok(ground_sub(table, &lower, &upper))

@@ -1,16 +1,16 @@
 //! The marks of the tokens: one pass from the right, which keeps of the tokens behind a token what its marks ask.
 
-ghost use Rattle.std.specs.Prelude.{◌≡◌, ◌∷◌, [], List, IfOk, cond};
-ghost use Rattle.jl_typeread.specs.declared.sign.Lexeme.{Lexeme};
-ghost use Rattle.jl_typeread.specs.declared.sign.Sign.{Sign};
-ghost use Rattle.jl_grammar.specs.Marks.{mate, mate_of, same, round, curly, told, told_sign, told_behind, defines, compares, is_function, is_base, colon_head, dot_head, base_head, begins_head, begins_left, ahead, named_call, calls, base_call, base_opening, threads_opening, after_name, opening_of, opening, marks_of, marked};
-ghost use Rattle.jl_marks.specs.Scan.{popped, closing_by, answer, answer_of, matched, near_of, scanned};
+ghost use Rattle.std.specs.Prelude.{◌≡◌, ◌∷◌, [], List, IfOk, if◌then◌else◌};
+ghost use Rattle.jl_typeread.specs.declared.terminal.Lexeme.{Lexeme};
+ghost use Rattle.jl_typeread.specs.declared.terminal.Terminal.{Terminal};
+ghost use Rattle.jl_grammar.specs.Marks.{mate, mate_of, is_same_shape, round, curly, next_of, next_as_terminal, next_after, is_definition, is_subtype, is_function, is_base, colon_head, dot_head, base_head, is_head_start, is_left_start, ahead, named_call, is_call, base_call, base_opening, threads_opening, after_name, opening_of, opening, marks_of, with_marks};
+ghost use Rattle.jl_marks.specs.Scan.{pop_closing, closing_by, answer, answer_of, next_after_match, near_of, scan_all};
 
 use crate::scan::{Closing, Near, Scan};
-use jl_grammar::mark::{Ahead, Follows, Marked, Marks, Mate, Named, Opening, Shape};
+use jl_grammar::mark::{Ahead, Marked, Marks, Mate, Named, NextToken, Opening, Shape};
 use jl_model::rows::Stack;
 use jl_token::token::Operator;
-use jl_typeread::sign::{Lexeme, Sign, Word};
+use jl_typeread::terminal::{Lexeme, Terminal, Word};
 use std::alloc::{AllocError, Global};
 
 /// What an operator is to the brackets.
@@ -29,18 +29,18 @@ fn mate_of(operator: Operator) -> Mate
 }
 
 /// What a token is to the brackets.
-fn mate(sign: &Sign) -> Mate
-    ensures { result ≡ mate sign.now }
+fn mate(terminal: &Terminal) -> Mate
+    ensures { result ≡ mate terminal.now }
 {
-    match sign {
-        Sign::Operator(operator) => mate_of(*operator),
+    match terminal {
+        Terminal::Operator(operator) => mate_of(*operator),
         _ => Mate::Neither,
     }
 }
 
 /// Whether two brackets have one shape.
-fn same(left: Shape, right: Shape) -> bool
-    ensures { result ≡ same left right }
+fn is_same_shape(left: Shape, right: Shape) -> bool
+    ensures { result ≡ is_same_shape left right }
 {
     match left {
         Shape::Round => match right {
@@ -59,79 +59,79 @@ fn same(left: Shape, right: Shape) -> bool
 }
 
 /// A bracket of another shape comes first.
-fn wrong(alloc: Global) -> Result<(Follows, Stack<Closing>), AllocError>
-    ensures { IfOk result (λ r. r ≡ (Follows.Other, Closing.Wrong ∷ [])) }
+fn reject_bracket(alloc: Global) -> Result<(NextToken, Stack<Closing>), AllocError>
+    ensures { IfOk result (λ r. r ≡ (NextToken.Other, Closing.Wrong ∷ [])) }
 {
     let mut closing = Stack::new(alloc);
     closing.push(Closing::Wrong)?;
-    Ok((Follows::Other, closing))
+    Ok((NextToken::Other, closing))
 }
 
 /// What follows the bracket that ends an open one, and the closing brackets that are left.
-fn opened(
+fn open_bracket(
     alloc: Global,
     shape: Shape,
     mut closing: Stack<Closing>,
-) -> Result<(Follows, Stack<Closing>), AllocError>
-    ensures { IfOk result (λ r. r ≡ (answer shape closing, popped shape closing)) }
+) -> Result<(NextToken, Stack<Closing>), AllocError>
+    ensures { IfOk result (λ r. r ≡ (answer shape closing, pop_closing shape closing)) }
 {
     match closing.pop() {
-        None => Ok((Follows::Other, closing)),
+        None => Ok((NextToken::Other, closing)),
         Some(Closing::Ends(other, follows)) => {
-            if same(other, shape) {
+            if is_same_shape(other, shape) {
                 return Ok((follows, closing));
             }
-            wrong(alloc)
+            reject_bracket(alloc)
         }
-        Some(Closing::Wrong) => wrong(alloc),
+        Some(Closing::Wrong) => reject_bracket(alloc),
     }
 }
 
 /// What follows the bracket that ends this one, and the closing brackets that are left.
-fn past(
+fn step_bracket(
     alloc: Global,
     mate: Mate,
-    told: Follows,
+    told: NextToken,
     mut closing: Stack<Closing>,
-) -> Result<(Follows, Stack<Closing>), AllocError>
+) -> Result<(NextToken, Stack<Closing>), AllocError>
     ensures { IfOk result (λ r. r ≡ (answer_of mate closing, closing_by mate told closing)) }
 {
     match mate {
-        Mate::Opens(shape) => opened(alloc, shape, closing),
+        Mate::Opens(shape) => open_bracket(alloc, shape, closing),
         Mate::Closes(shape) => {
             closing.push(Closing::Ends(shape, told))?;
-            Ok((Follows::Other, closing))
+            Ok((NextToken::Other, closing))
         }
-        Mate::Neither => Ok((Follows::Other, closing)),
+        Mate::Neither => Ok((NextToken::Other, closing)),
     }
 }
 
 /// What a token tells of itself.
-fn told_sign(sign: &Sign) -> Follows
-    ensures { result ≡ told_sign sign.now }
+fn next_as_terminal(terminal: &Terminal) -> NextToken
+    ensures { result ≡ next_as_terminal terminal.now }
 {
-    match sign {
-        Sign::Operator(Operator::Assign) => Follows::Defines,
-        Sign::Word(Word::Where) => Follows::Defines,
-        Sign::Operator(Operator::Subtype) => Follows::Compares,
-        _ => Follows::Other,
+    match terminal {
+        Terminal::Operator(Operator::Assign) => NextToken::Defines,
+        Terminal::Word(Word::Where) => NextToken::Defines,
+        Terminal::Operator(Operator::Subtype) => NextToken::Compares,
+        _ => NextToken::Other,
     }
 }
 
-fn defines(follows: Follows) -> bool
-    ensures { result ≡ defines follows }
+fn is_definition(follows: NextToken) -> bool
+    ensures { result ≡ is_definition follows }
 {
     match follows {
-        Follows::Defines => true,
+        NextToken::Defines => true,
         _ => false,
     }
 }
 
-fn compares(follows: Follows) -> bool
-    ensures { result ≡ compares follows }
+fn is_subtype(follows: NextToken) -> bool
+    ensures { result ≡ is_subtype follows }
 {
     match follows {
-        Follows::Compares => true,
+        NextToken::Compares => true,
         _ => false,
     }
 }
@@ -159,79 +159,80 @@ fn is_base(name: &[u8]) -> bool
 }
 
 /// What follows the round brackets that begin with this token, by what follows the bracket that ends it.
-fn round(sign: &Sign, over: Follows) -> Follows
-    ensures { (ss : List Sign) → over ≡ matched (mate sign.now) ss → result ≡ told_behind (round (sign.now ∷ ss)) }
+fn round(terminal: &Terminal, over: NextToken) -> NextToken
+    ensures { (ss : List Terminal) → over ≡ next_after_match (mate terminal.now) ss → result ≡ next_after (round (terminal.now ∷ ss)) }
 {
-    match sign {
-        Sign::Operator(Operator::OpenParen) => over,
-        _ => Follows::Other,
+    match terminal {
+        Terminal::Operator(Operator::OpenParen) => over,
+        _ => NextToken::Other,
     }
 }
 
 /// What follows the curly brackets that begin with this token.
-fn curly(sign: &Sign, over: Follows) -> Follows
-    ensures { (ss : List Sign) → over ≡ matched (mate sign.now) ss → result ≡ told_behind (curly (sign.now ∷ ss)) }
+fn curly(terminal: &Terminal, over: NextToken) -> NextToken
+    ensures { (ss : List Terminal) → over ≡ next_after_match (mate terminal.now) ss → result ≡ next_after (curly (terminal.now ∷ ss)) }
 {
-    match sign {
-        Sign::Operator(Operator::OpenBrace) => over,
-        _ => Follows::Other,
+    match terminal {
+        Terminal::Operator(Operator::OpenBrace) => over,
+        _ => NextToken::Other,
     }
 }
 
 /// What follows the parameters, behind `Base.:`.
-fn colon_head(sign: &Sign, brackets: Follows) -> Follows
-    ensures { (ss : List Sign) → brackets ≡ told_behind (round ss) → result ≡ told_behind (colon_head (sign.now ∷ ss)) }
+fn colon_head(terminal: &Terminal, brackets: NextToken) -> NextToken
+    ensures { (ss : List Terminal) → brackets ≡ next_after (round ss) → result ≡ next_after (colon_head (terminal.now ∷ ss)) }
 {
-    match sign {
-        Sign::Operator(operator) => {
+    match terminal {
+        Terminal::Operator(operator) => {
             if is_function(*operator) {
                 return brackets;
             }
-            Follows::Other
+            NextToken::Other
         }
-        _ => Follows::Other,
+        _ => NextToken::Other,
     }
 }
 
 /// What follows the parameters, behind `Base.`.
-fn dot_head(sign: &Sign, brackets: Follows, colon: Follows) -> Follows
-    ensures { (ss : List Sign) → brackets ≡ told_behind (round ss) → colon ≡ told_behind (colon_head ss) → result ≡ told_behind (dot_head (sign.now ∷ ss)) }
+fn dot_head(terminal: &Terminal, brackets: NextToken, colon: NextToken) -> NextToken
+    ensures { (ss : List Terminal) → brackets ≡ next_after (round ss) → colon ≡ next_after (colon_head ss) → result ≡ next_after (dot_head (terminal.now ∷ ss)) }
 {
-    match sign {
-        Sign::Name(_) => brackets,
-        Sign::Operator(Operator::Colon) => colon,
-        _ => Follows::Other,
+    match terminal {
+        Terminal::Name(_) => brackets,
+        Terminal::Operator(Operator::Colon) => colon,
+        _ => NextToken::Other,
     }
 }
 
 /// What follows the parameters, behind `Base`.
-fn base_head(sign: &Sign, dot: Follows) -> Follows
-    ensures { (ss : List Sign) → dot ≡ told_behind (dot_head ss) → result ≡ told_behind (base_head (sign.now ∷ ss)) }
+fn base_head(terminal: &Terminal, dot: NextToken) -> NextToken
+    ensures { (ss : List Terminal) → dot ≡ next_after (dot_head ss) → result ≡ next_after (base_head (terminal.now ∷ ss)) }
 {
-    match sign {
-        Sign::Operator(Operator::Dot) => dot,
-        _ => Follows::Other,
+    match terminal {
+        Terminal::Operator(Operator::Dot) => dot,
+        _ => NextToken::Other,
     }
 }
 
 /// Whether the head of a method begins with this token.
-fn begins_head(sign: &Sign, brackets: Follows, base: Follows) -> bool
-    ensures { (ss : List Sign) → brackets ≡ told_behind (round ss) → base ≡ told_behind (base_head ss) → result ≡ begins_head (sign.now ∷ ss) }
+fn is_head_start(terminal: &Terminal, brackets: NextToken, base: NextToken) -> bool
+    ensures { (ss : List Terminal) → brackets ≡ next_after (round ss) → base ≡ next_after (base_head ss) → result ≡ is_head_start (terminal.now ∷ ss) }
 {
-    match sign {
-        Sign::Name(name) => defines(brackets) || (is_base(name.as_slice()) && defines(base)),
+    match terminal {
+        Terminal::Name(name) => is_definition(brackets)
+            || (is_base(name.as_slice()) && is_definition(base)),
         _ => false,
     }
 }
 
 /// Whether the left type of a comparison begins with this token; the last argument is what follows the round brackets that
 /// begin with it.
-fn begins_left(sign: &Sign, follows: Follows, braces: Follows, own: Follows) -> bool
-    ensures { (ss : List Sign) → follows ≡ told ss → braces ≡ told_behind (curly ss) → own ≡ told_behind (round (sign.now ∷ ss)) → result ≡ begins_left (sign.now ∷ ss) }
+fn is_left_start(terminal: &Terminal, follows: NextToken, braces: NextToken, own: NextToken) -> bool
+    ensures { (ss : List Terminal) → follows ≡ next_of ss → braces ≡ next_after (curly ss) → own ≡ next_after (round (terminal.now ∷ ss)) → result ≡ is_left_start (terminal.now ∷ ss) }
 {
-    match sign {
-        Sign::Name(_) => compares(follows) || compares(braces),
-        _ => compares(own),
+    match terminal {
+        Terminal::Name(_) => is_subtype(follows) || is_subtype(braces),
+        _ => is_subtype(own),
     }
 }
 
@@ -255,11 +256,11 @@ fn named_call(name: &[u8]) -> Opening
 }
 
 /// Whether `(` follows.
-fn calls(sign: &Sign) -> bool
-    ensures { (ss : List Sign) → result ≡ calls (sign.now ∷ ss) }
+fn is_call(terminal: &Terminal) -> bool
+    ensures { (ss : List Terminal) → result ≡ is_call (terminal.now ∷ ss) }
 {
-    match sign {
-        Sign::Operator(Operator::OpenParen) => true,
+    match terminal {
+        Terminal::Operator(Operator::OpenParen) => true,
         _ => false,
     }
 }
@@ -278,22 +279,22 @@ fn base_call(is_call: bool, name: &[u8]) -> Opening
 }
 
 /// What this token begins behind `Base.`.
-fn base_opening(sign: &Sign, is_call: bool) -> Opening
-    ensures { (ss : List Sign) → is_call ≡ calls ss → result ≡ base_opening (sign.now ∷ ss) }
+fn base_opening(terminal: &Terminal, calls: bool) -> Opening
+    ensures { (ss : List Terminal) → calls ≡ is_call ss → result ≡ base_opening (terminal.now ∷ ss) }
 {
-    match sign {
-        Sign::Name(name) => base_call(is_call, name.as_slice()),
-        Sign::Operator(Operator::Colon) => Opening::Call,
+    match terminal {
+        Terminal::Name(name) => base_call(calls, name.as_slice()),
+        Terminal::Operator(Operator::Colon) => Opening::Call,
         _ => Opening::Plain,
     }
 }
 
 /// What this token begins behind `Threads.`.
-fn threads_opening(sign: &Sign) -> Opening
-    ensures { (ss : List Sign) → result ≡ threads_opening (sign.now ∷ ss) }
+fn threads_opening(terminal: &Terminal) -> Opening
+    ensures { (ss : List Terminal) → result ≡ threads_opening (terminal.now ∷ ss) }
 {
-    match sign {
-        Sign::Macro(name) => {
+    match terminal {
+        Terminal::Macro(name) => {
             if name.as_slice() == b"spawn".as_slice() {
                 return Opening::Spawn;
             }
@@ -304,14 +305,14 @@ fn threads_opening(sign: &Sign) -> Opening
 }
 
 /// What this token is behind a name.
-fn after_name(sign: &Sign, base: Opening, threads: Opening) -> Named
-    ensures { (ss : List Sign) → base ≡ base_opening ss → threads ≡ threads_opening ss → result ≡ after_name (sign.now ∷ ss) }
+fn after_name(terminal: &Terminal, base: Opening, threads: Opening) -> Named
+    ensures { (ss : List Terminal) → base ≡ base_opening ss → threads ≡ threads_opening ss → result ≡ after_name (terminal.now ∷ ss) }
 {
-    match sign {
-        Sign::Operator(Operator::OpenParen) => Named::Called,
-        Sign::Operator(Operator::OpenBrace) => Named::Makes,
-        Sign::Operator(Operator::Assign) => Named::Binds,
-        Sign::Operator(Operator::Dot) => Named::Dotted(base, threads),
+    match terminal {
+        Terminal::Operator(Operator::OpenParen) => Named::Called,
+        Terminal::Operator(Operator::OpenBrace) => Named::Makes,
+        Terminal::Operator(Operator::Assign) => Named::Binds,
+        Terminal::Operator(Operator::Dot) => Named::Dotted(base, threads),
         _ => Named::Alone,
     }
 }
@@ -338,11 +339,11 @@ fn opening_of(named: Named, name: &[u8]) -> Opening
 }
 
 /// What this token begins.
-fn opening(sign: &Sign, named: Named) -> Opening
-    ensures { (ss : List Sign) → named ≡ after_name ss → result ≡ opening (sign.now ∷ ss) }
+fn opening(terminal: &Terminal, named: Named) -> Opening
+    ensures { (ss : List Terminal) → named ≡ after_name ss → result ≡ opening (terminal.now ∷ ss) }
 {
-    match sign {
-        Sign::Name(name) => opening_of(named, name.as_slice()),
+    match terminal {
+        Terminal::Name(name) => opening_of(named, name.as_slice()),
         _ => Opening::Plain,
     }
 }
@@ -351,7 +352,7 @@ fn opening(sign: &Sign, named: Named) -> Opening
 fn nothing_near() -> Near
     ensures { result ≡ near_of [] }
 {
-    let other = Follows::Other;
+    let other = NextToken::Other;
     Near {
         told: other,
         round: other,
@@ -367,26 +368,26 @@ fn nothing_near() -> Near
 }
 
 /// What is known of the tokens from this one on, by what is known of those behind it.
-fn nearer(sign: &Sign, near: Near, over: Follows) -> Near
-    ensures { (ss : List Sign) → near ≡ near_of ss → over ≡ matched (mate sign.now) ss → result ≡ near_of (sign.now ∷ ss) }
+fn nearer(terminal: &Terminal, near: Near, over: NextToken) -> Near
+    ensures { (ss : List Terminal) → near ≡ near_of ss → over ≡ next_after_match (mate terminal.now) ss → result ≡ near_of (terminal.now ∷ ss) }
 {
     Near {
-        told: told_sign(sign),
-        round: round(sign, over),
-        curly: curly(sign, over),
-        colon_head: colon_head(sign, near.round),
-        dot_head: dot_head(sign, near.round, near.colon_head),
-        base_head: base_head(sign, near.dot_head),
-        calls: calls(sign),
-        base: base_opening(sign, near.calls),
-        threads: threads_opening(sign),
-        named: after_name(sign, near.base, near.threads),
+        told: next_as_terminal(terminal),
+        round: round(terminal, over),
+        curly: curly(terminal, over),
+        colon_head: colon_head(terminal, near.round),
+        dot_head: dot_head(terminal, near.round, near.colon_head),
+        base_head: base_head(terminal, near.dot_head),
+        calls: is_call(terminal),
+        base: base_opening(terminal, near.calls),
+        threads: threads_opening(terminal),
+        named: after_name(terminal, near.base, near.threads),
     }
 }
 
 /// What is told by the token behind a matching bracket.
 fn ahead(begins_head: bool, begins_left: bool) -> Ahead
-    ensures { result ≡ cond begins_head Ahead.Method (cond begins_left Ahead.Sub Ahead.Nothing) }
+    ensures { result ≡ (if begins_head then Ahead.Method else if begins_left then Ahead.Sub else Ahead.Nothing) }
 {
     if begins_head {
         return Ahead::Method;
@@ -398,29 +399,29 @@ fn ahead(begins_head: bool, begins_left: bool) -> Ahead
 }
 
 /// The marks of a token, by what is known of the tokens behind it, and what follows the round brackets that begin with it.
-fn marks_of(sign: &Sign, near: Near, own: Follows) -> Marks
-    ensures { (ss : List Sign) → near ≡ near_of ss → own ≡ told_behind (round (sign.now ∷ ss)) → result ≡ marks_of (sign.now ∷ ss) }
+fn marks_of(terminal: &Terminal, near: Near, own: NextToken) -> Marks
+    ensures { (ss : List Terminal) → near ≡ near_of ss → own ≡ next_after (round (terminal.now ∷ ss)) → result ≡ marks_of (terminal.now ∷ ss) }
 {
-    let begins_head = begins_head(sign, near.round, near.base_head);
-    let begins_left = begins_left(sign, near.told, near.curly, own);
+    let begins_head = is_head_start(terminal, near.round, near.base_head);
+    let begins_left = is_left_start(terminal, near.told, near.curly, own);
     Marks {
-        opening: opening(sign, near.named),
+        opening: opening(terminal, near.named),
         ahead: ahead(begins_head, begins_left),
     }
 }
 
 /// One token more to the left.
 fn turn(alloc: Global, lexeme: Lexeme, scan: Scan) -> Result<Scan, AllocError>
-    ensures { (ls : List Lexeme) → scan ≡ scanned ls → IfOk result (λ s. s ≡ scanned (lexeme ∷ ls)) }
+    ensures { (ls : List Lexeme) → scan ≡ scan_all ls → IfOk result (λ s. s ≡ scan_all (lexeme ∷ ls)) }
 {
     let Scan {
         mut tokens,
         closing,
         near,
     } = scan;
-    let (over, closing) = past(alloc, mate(&lexeme.sign), near.told, closing)?;
-    let next = nearer(&lexeme.sign, near, over);
-    let marks = marks_of(&lexeme.sign, near, next.round);
+    let (over, closing) = step_bracket(alloc, mate(&lexeme.terminal), near.told, closing)?;
+    let next = nearer(&lexeme.terminal, near, over);
+    let marks = marks_of(&lexeme.terminal, near, next.round);
     tokens.push(Marked { lexeme, marks })?;
     Ok(Scan {
         tokens,
@@ -430,8 +431,8 @@ fn turn(alloc: Global, lexeme: Lexeme, scan: Scan) -> Result<Scan, AllocError>
 }
 
 /// The tokens with their marks.
-pub fn marked(alloc: Global, lexemes: Vec<Lexeme>) -> Result<Stack<Marked>, AllocError>
-    ensures { IfOk result (λ tokens. tokens ≡ marked lexemes.items) }
+pub fn with_marks(alloc: Global, lexemes: Vec<Lexeme>) -> Result<Stack<Marked>, AllocError>
+    ensures { IfOk result (λ tokens. tokens ≡ with_marks lexemes.items) }
 {
     let mut left = lexemes;
     let mut scan = Scan {

@@ -1,18 +1,18 @@
 //! The tokens that the grammar sees: all but the newlines that are no tokens.
 
-ghost use Rattle.std.specs.Prelude.{◌≡◌, ◌∷◌, ◌++◌, [], IfOk, OnOk, cond, map};
+ghost use Rattle.std.specs.Prelude.{◌≡◌, ◌∷◌, ◌++◌, [], IfOk, OnOk, if◌then◌else◌, map};
 ghost use Rattle.jl_typeread.specs.Lexemes.{lexeme_of};
-ghost use Rattle.jl_grammar.specs.Newlines.{closed, inside_operator, inside_word, inside, behind_binary, behind_colon, behind, behind_operator, behind_word, in_bracket, is_dropped, is_shown, bare};
+ghost use Rattle.jl_grammar.specs.Newlines.{close_form, around_after_operator, around_after_word, around_after, previous_after_binary, previous_after_colon, previous_after, previous_after_operator, previous_after_word, in_bracket, is_dropped, is_shown, drop_newlines};
 
 use jl_grammar::mark::{Around, Previous};
 use jl_model::rows::Stack;
 use jl_token::token::{Operator, Token};
-use jl_typeread::sign::{Lexeme, Sign, Word};
+use jl_typeread::terminal::{Lexeme, Terminal, Word};
 use std::alloc::{AllocError, Global};
 
 /// One form less is open.
-fn closed(mut around: Stack<Around>) -> Stack<Around>
-    ensures { result ≡ closed around }
+fn close_form(mut around: Stack<Around>) -> Stack<Around>
+    ensures { result ≡ close_form around }
 {
     match around.pop() {
         None => around,
@@ -21,7 +21,7 @@ fn closed(mut around: Stack<Around>) -> Stack<Around>
 }
 
 /// One form more is open.
-fn opened(form: Around, mut around: Stack<Around>) -> Result<Stack<Around>, AllocError>
+fn open_form(form: Around, mut around: Stack<Around>) -> Result<Stack<Around>, AllocError>
     ensures { IfOk result (λ a. a ≡ form ∷ around) }
 {
     around.push(form)?;
@@ -29,47 +29,52 @@ fn opened(form: Around, mut around: Stack<Around>) -> Result<Stack<Around>, Allo
 }
 
 /// What is open behind an operator or a mark.
-fn inside_operator(operator: Operator, around: Stack<Around>) -> Result<Stack<Around>, AllocError>
-    ensures { IfOk result (λ a. a ≡ inside_operator operator around) }
+fn around_after_operator(
+    operator: Operator,
+    around: Stack<Around>,
+) -> Result<Stack<Around>, AllocError>
+    ensures { IfOk result (λ a. a ≡ around_after_operator operator around) }
 {
     match operator {
-        Operator::OpenParen | Operator::OpenBracket | Operator::OpenBrace => opened(
+        Operator::OpenParen | Operator::OpenBracket | Operator::OpenBrace => open_form(
             Around::Bracket,
             around,
         ),
-        Operator::CloseParen | Operator::CloseBracket | Operator::CloseBrace => Ok(closed(around)),
+        Operator::CloseParen | Operator::CloseBracket | Operator::CloseBrace => Ok(close_form(
+            around,
+        )),
         _ => Ok(around),
     }
 }
 
 /// What is open behind a reserved word.
-fn inside_word(word: Word, around: Stack<Around>) -> Result<Stack<Around>, AllocError>
-    ensures { IfOk result (λ a. a ≡ inside_word word around) }
+fn around_after_word(word: Word, around: Stack<Around>) -> Result<Stack<Around>, AllocError>
+    ensures { IfOk result (λ a. a ≡ around_after_word word around) }
 {
     match word {
-        Word::Function | Word::Struct | Word::If | Word::Begin | Word::Quote => opened(
+        Word::Function | Word::Struct | Word::If | Word::Begin | Word::Quote => open_form(
             Around::Block,
             around,
         ),
-        Word::End => Ok(closed(around)),
+        Word::End => Ok(close_form(around)),
         _ => Ok(around),
     }
 }
 
 /// What is open around the next token.
-fn inside(sign: &Sign, around: Stack<Around>) -> Result<Stack<Around>, AllocError>
-    ensures { IfOk result (λ a. a ≡ inside sign.now around) }
+fn around_after(terminal: &Terminal, around: Stack<Around>) -> Result<Stack<Around>, AllocError>
+    ensures { IfOk result (λ a. a ≡ around_after terminal.now around) }
 {
-    match sign {
-        Sign::Operator(operator) => inside_operator(*operator, around),
-        Sign::Word(word) => inside_word(*word, around),
+    match terminal {
+        Terminal::Operator(operator) => around_after_operator(*operator, around),
+        Terminal::Word(word) => around_after_word(*word, around),
         _ => Ok(around),
     }
 }
 
 /// What a binary operator leaves before a newline.
-fn behind_binary(previous: Previous) -> Previous
-    ensures { result ≡ behind_binary previous }
+fn previous_after_binary(previous: Previous) -> Previous
+    ensures { result ≡ previous_after_binary previous }
 {
     match previous {
         Previous::Ends => Previous::Joins,
@@ -78,8 +83,8 @@ fn behind_binary(previous: Previous) -> Previous
 }
 
 /// What a `:` leaves before a newline.
-fn behind_colon(previous: Previous) -> Previous
-    ensures { result ≡ behind_colon previous }
+fn previous_after_colon(previous: Previous) -> Previous
+    ensures { result ≡ previous_after_colon previous }
 {
     match previous {
         Previous::Dot => Previous::Other,
@@ -88,8 +93,8 @@ fn behind_colon(previous: Previous) -> Previous
 }
 
 /// What an operator or a mark leaves before a newline.
-fn behind_operator(operator: Operator, previous: Previous) -> Previous
-    ensures { result ≡ behind_operator operator previous }
+fn previous_after_operator(operator: Operator, previous: Previous) -> Previous
+    ensures { result ≡ previous_after_operator operator previous }
 {
     match operator {
         Operator::Comma
@@ -97,21 +102,21 @@ fn behind_operator(operator: Operator, previous: Previous) -> Previous
         | Operator::Question
         | Operator::Subtype
         | Operator::Supertype => Previous::Joins,
-        Operator::Colon => behind_colon(previous),
+        Operator::Colon => previous_after_colon(previous),
         Operator::Dot => Previous::Dot,
         Operator::CloseParen | Operator::CloseBracket | Operator::CloseBrace => Previous::Ends,
         Operator::OpenParen | Operator::OpenBracket | Operator::OpenBrace => Previous::Other,
         Operator::HasType | Operator::Not | Operator::Semicolon => Previous::Other,
-        _ => behind_binary(previous),
+        _ => previous_after_binary(previous),
     }
 }
 
 /// What a reserved word leaves before a newline.
-fn behind_word(word: Word, previous: Previous) -> Previous
-    ensures { result ≡ behind_word word previous }
+fn previous_after_word(word: Word, previous: Previous) -> Previous
+    ensures { result ≡ previous_after_word word previous }
 {
     match word {
-        Word::Isa => behind_binary(previous),
+        Word::Isa => previous_after_binary(previous),
         Word::End | Word::True | Word::False | Word::Nothing => Previous::Ends,
         _ => Previous::Other,
     }
@@ -139,39 +144,39 @@ fn is_dropped(around: &Stack<Around>, previous: Previous) -> bool
 }
 
 /// What the next token stands behind.
-fn behind(sign: &Sign, around: &Stack<Around>, previous: Previous) -> Previous
-    ensures { result ≡ behind sign.now around.now previous }
+fn previous_after(terminal: &Terminal, around: &Stack<Around>, previous: Previous) -> Previous
+    ensures { result ≡ previous_after terminal.now around.now previous }
 {
-    match sign {
-        Sign::Operator(operator) => behind_operator(*operator, previous),
-        Sign::Word(word) => behind_word(*word, previous),
-        Sign::Name(_) => Previous::Ends,
-        Sign::Number(_) => Previous::Ends,
-        Sign::Text(_) => Previous::Ends,
-        Sign::Macro(_) => Previous::Other,
-        Sign::Newline => {
+    match terminal {
+        Terminal::Operator(operator) => previous_after_operator(*operator, previous),
+        Terminal::Word(word) => previous_after_word(*word, previous),
+        Terminal::Name(_) => Previous::Ends,
+        Terminal::Number(_) => Previous::Ends,
+        Terminal::Text(_) => Previous::Ends,
+        Terminal::Macro(_) => Previous::Other,
+        Terminal::Newline => {
             if is_dropped(around, previous) {
                 return previous;
             }
             Previous::Other
         }
-        Sign::End => Previous::Other,
+        Terminal::End => Previous::Other,
     }
 }
 
 /// Whether the grammar sees the token.
-fn is_shown(sign: &Sign, around: &Stack<Around>, previous: Previous) -> bool
-    ensures { result ≡ is_shown sign.now around.now previous }
+fn is_shown(terminal: &Terminal, around: &Stack<Around>, previous: Previous) -> bool
+    ensures { result ≡ is_shown terminal.now around.now previous }
 {
-    match sign {
-        Sign::Newline => !is_dropped(around, previous),
+    match terminal {
+        Terminal::Newline => !is_dropped(around, previous),
         _ => true,
     }
 }
 
 /// One token more, if the grammar sees it.
 fn show(lexemes: &mut Vec<Lexeme>, lexeme: Lexeme, is_shown: bool) -> Result<(), AllocError>
-    ensures { OnOk result (lexemes.new.items ≡ lexemes.old.items ++ cond is_shown (lexeme ∷ []) []) }
+    ensures { OnOk result (lexemes.new.items ≡ lexemes.old.items ++ (if is_shown then lexeme ∷ [] else [])) }
 {
     if is_shown {
         lexemes.push(lexeme)?;
@@ -180,17 +185,17 @@ fn show(lexemes: &mut Vec<Lexeme>, lexeme: Lexeme, is_shown: bool) -> Result<(),
 }
 
 /// The tokens that the grammar sees.
-pub fn bare(alloc: Global, tokens: &[Token]) -> Result<Vec<Lexeme>, AllocError>
-    ensures { IfOk result (λ lexemes. lexemes.items ≡ bare (map lexeme_of tokens.now)) }
+pub fn drop_newlines(alloc: Global, tokens: &[Token]) -> Result<Vec<Lexeme>, AllocError>
+    ensures { IfOk result (λ lexemes. lexemes.items ≡ drop_newlines (map lexeme_of tokens.now)) }
 {
     let mut lexemes = Vec::new(alloc);
     let mut around = Stack::new(alloc);
     let mut previous = Previous::Other;
     for token in tokens {
         let lexeme = Lexeme::of(token)?;
-        let is_shown = is_shown(&lexeme.sign, &around, previous);
-        previous = behind(&lexeme.sign, &around, previous);
-        around = inside(&lexeme.sign, around)?;
+        let is_shown = is_shown(&lexeme.terminal, &around, previous);
+        previous = previous_after(&lexeme.terminal, &around, previous);
+        around = around_after(&lexeme.terminal, around)?;
         show(&mut lexemes, lexeme, is_shown)?;
     }
     Ok(lexemes)

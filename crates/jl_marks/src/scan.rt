@@ -1,13 +1,13 @@
 //! What the pass that marks the tokens keeps of the tokens behind a token.
 
-use jl_grammar::mark::{Follows, Marked, Named, Opening, Shape};
+use jl_grammar::mark::{Marked, Named, NextToken, Opening, Shape};
 use jl_model::rows::Stack;
 
 /// A closing bracket whose opening one lies further to the left, and what follows it; or a bracket of another shape than
 /// the one that it would end.
 #[derive(Clone, Copy)]
 pub enum Closing {
-    Ends(Shape, Follows),
+    Ends(Shape, NextToken),
     Wrong,
 }
 
@@ -15,14 +15,14 @@ pub enum Closing {
 #[derive(Clone, Copy)]
 pub struct Near {
     /// what the first of them tells
-    pub told: Follows,
+    pub told: NextToken,
     /// what follows the brackets that they begin with
-    pub round: Follows,
-    pub curly: Follows,
+    pub round: NextToken,
+    pub curly: NextToken,
     /// what follows the parameters, behind `Base.:`, `Base.` and `Base`
-    pub colon_head: Follows,
-    pub dot_head: Follows,
-    pub base_head: Follows,
+    pub colon_head: NextToken,
+    pub dot_head: NextToken,
+    pub base_head: NextToken,
     /// whether they begin with `(`
     pub calls: bool,
     /// what they begin behind `Base.` and `Threads.`

@@ -4,7 +4,7 @@ use Rattle.std.specs.Cmp.Lexicographic.{pointwise}
 use Rattle.std.specs.Map.{lookup, set_value}
 use Rattle.indexmap.specs.IndexMap.{insert_entry}
 use Rattle.jl_program.specs.Names.{same_text}
-use Rattle.jl_names.specs.Numbers.{Numbered, number_in, with_number, renumbered}
+use Rattle.jl_names.specs.Numbers.{Numbered, number_in, with_number, renumber}
 
 pub same_bytes : (a b : List ℕ) → pointwise nat_eq a b ≡ same_text a b
 same_bytes [] [] = refl
@@ -13,11 +13,11 @@ same_bytes (x ∷ xs) [] = refl
 same_bytes (x ∷ xs) (y ∷ ys) = ap (λ b. (x == y) && b) (same_bytes xs ys)
 
 -- where a name has no number, nothing changes
-pub renumbered_none : (name : List ℕ) (v : ℕ) (es : List Numbered) → number_in es name ≡ None → renumbered es (name, v) ≡ es
-renumbered_none name v [] h = refl
-renumbered_none name v (e ∷ es) h = by (same_text name e.0) refl h (renumbered_none name v es)
+pub renumber_none : (name : List ℕ) (v : ℕ) (es : List Numbered) → number_in es name ≡ None → renumber es (name, v) ≡ es
+renumber_none name v [] h = refl
+renumber_none name v (e ∷ es) h = by (same_text name e.0) refl h (renumber_none name v es)
   where
-    by : (b : Bool) → same_text name e.0 ≡ b → cond b (Some e.1) (number_in es name) ≡ None → (number_in es name ≡ None → renumbered es (name, v) ≡ es) → cond b ((e.0, v) ∷ es) (e ∷ renumbered es (name, v)) ≡ e ∷ es
+    by : (b : Bool) → same_text name e.0 ≡ b → cond b (Some e.1) (number_in es name) ≡ None → (number_in es name ≡ None → renumber es (name, v) ≡ es) → cond b ((e.0, v) ∷ es) (e ∷ renumber es (name, v)) ≡ e ∷ es
     by true g f r = absurd (let z : Some e.1 ≡ None = f in cc)
     by false g f r = ap (λ z. e ∷ z) (r f)
 
@@ -46,11 +46,11 @@ module _ {K : Type 0} (items : K → List ℕ) where
   inserted eq k v h es g = appended eq k v h es g ∙ sym (ap (λ o. cond (is_some o) (pairs es) (pairs es ++ (items k, v) ∷ [])) g)
 
   -- another number for a name
-  pub renumbered_is : (test : K → Bool) (name : List ℕ) (v : ℕ) → ((k : K) → test k ≡ same_text name (items k)) → (es : List (K × ℕ)) → pairs (set_value test es v) ≡ renumbered (pairs es) (name, v)
-  renumbered_is test name v h [] = refl
-  renumbered_is test name v h (e ∷ es) =
+  pub renumber_is : (test : K → Bool) (name : List ℕ) (v : ℕ) → ((k : K) → test k ≡ same_text name (items k)) → (es : List (K × ℕ)) → pairs (set_value test es v) ≡ renumber (pairs es) (name, v)
+  renumber_is test name v h [] = refl
+  renumber_is test name v h (e ∷ es) =
       by (test e.0) ∙ ap (λ b. cond b ((items e.0, v) ∷ pairs es) ((items e.0, e.1) ∷ pairs (set_value test es v))) (h e.0)
-      ∙ ap (λ z. cond (same_text name (items e.0)) ((items e.0, v) ∷ pairs es) ((items e.0, e.1) ∷ z)) (renumbered_is test name v h es)
+      ∙ ap (λ z. cond (same_text name (items e.0)) ((items e.0, v) ∷ pairs es) ((items e.0, e.1) ∷ z)) (renumber_is test name v h es)
     where
       by : (b : Bool) → pairs (cond b ((e.0, v) ∷ es) (e ∷ set_value test es v)) ≡ cond b ((items e.0, v) ∷ pairs es) ((items e.0, e.1) ∷ pairs (set_value test es v))
       by true = refl

@@ -4,7 +4,7 @@ use Rattle.std.proofs.lemmas.List.{take-append-drop}
 use Rattle.std.proofs.Math.Seq.{take-append_seam}
 use Rattle.jl_program.specs.Names.{same_text}
 use Rattle.jl_grammar.specs.declared.tree.Name.{Name}
-use Rattle.jl_names.specs.Numbers.{Numbered, number_in, with_number, firsts_after, firsts, placed, marked, named_slots, count_named}
+use Rattle.jl_names.specs.Numbers.{Numbered, number_in, with_number, first_numbers_after, first_numbers, with_places, with_marks_of, named_slots, count_named}
 
 -- equal texts
 pub text_is : (a b : List ℕ) → same_text a b ≡ true → a ≡ b
@@ -50,7 +50,7 @@ with_same es e n = by (number_in es e.0) refl
     by None g = ap (λ o. number_in (cond (is_some o) es (es ++ e ∷ [])) n) g ∙ number_append es (e ∷ []) n
     by (Some k) g = ap (λ o. number_in (cond (is_some o) es (es ++ e ∷ [])) n) g ∙ found k (same_text n e.0) g refl
 
-firsts_from : (xs es : List Numbered) (n : List ℕ) → number_in (firsts_after es xs) n ≡ or_else (number_in es n) (number_in xs n)
+firsts_from : (xs es : List Numbered) (n : List ℕ) → number_in (first_numbers_after es xs) n ≡ or_else (number_in es n) (number_in xs n)
 firsts_from [] es n = sym (or_none (number_in es n))
 firsts_from (x ∷ xs) es n =
     firsts_from xs (with_number es x) n
@@ -59,34 +59,34 @@ firsts_from (x ∷ xs) es n =
     ∙ ap (or_else (number_in es n)) (sym (number_append (x ∷ []) xs n))
 
 -- the map tells the first number in the list
-pub firsts_first : (es xs : List Numbered) (n : List ℕ) → es ≡ firsts xs → number_in es n ≡ number_in xs n
-firsts_first es xs n e = ap (λ z. number_in z n) e ∙ firsts_from xs [] n
+pub first_numbers_first : (es xs : List Numbered) (n : List ℕ) → es ≡ first_numbers xs → number_in es n ≡ number_in xs n
+first_numbers_first es xs n e = ap (λ z. number_in z n) e ∙ firsts_from xs [] n
 
-pub firsts_snoc : (xs : List Numbered) (x : Numbered) (es : List Numbered) → firsts_after es (xs ++ x ∷ []) ≡ with_number (firsts_after es xs) x
+pub firsts_snoc : (xs : List Numbered) (x : Numbered) (es : List Numbered) → first_numbers_after es (xs ++ x ∷ []) ≡ with_number (first_numbers_after es xs) x
 firsts_snoc [] x es = refl
 firsts_snoc (y ∷ ys) x es = firsts_snoc ys x (with_number es y)
 
 -- one more name at the end of the list
-pub firsts_push : (es fs xs ys : List Numbered) (x : Numbered) → es ≡ firsts xs → fs ≡ with_number es x → ys ≡ xs ++ x ∷ [] → fs ≡ firsts ys
-firsts_push es fs xs ys x e f g = f ∙ ap (λ z. with_number z x) e ∙ sym (firsts_snoc xs x []) ∙ ap firsts (sym g)
+pub first_numbers_push : (es fs xs ys : List Numbered) (x : Numbered) → es ≡ first_numbers xs → fs ≡ with_number es x → ys ≡ xs ++ x ∷ [] → fs ≡ first_numbers ys
+first_numbers_push es fs xs ys x e f g = f ∙ ap (λ z. with_number z x) e ∙ sym (firsts_snoc xs x []) ∙ ap first_numbers (sym g)
 
-pub placed_snoc : (ns : List (List ℕ)) (n : List ℕ) (i : ℕ) → placed i (ns ++ n ∷ []) ≡ placed i ns ++ (n, i + length ns) ∷ []
-placed_snoc [] n i = let e : i ≡ i + 0 = omega arith in ap (λ z. (n, z) ∷ []) e
-placed_snoc (m ∷ ms) n i = let e : i + 1 + length ms ≡ i + suc (length ms) = omega arith in ap (λ z. (m, i) ∷ z) (placed_snoc ms n (i + 1) ∙ ap (λ z. placed (i + 1) ms ++ (n, z) ∷ []) (e))
+pub with_places_snoc : (ns : List (List ℕ)) (n : List ℕ) (i : ℕ) → with_places i (ns ++ n ∷ []) ≡ with_places i ns ++ (n, i + length ns) ∷ []
+with_places_snoc [] n i = let e : i ≡ i + 0 = omega arith in ap (λ z. (n, z) ∷ []) e
+with_places_snoc (m ∷ ms) n i = let e : i + 1 + length ms ≡ i + suc (length ms) = omega arith in ap (λ z. (m, i) ∷ z) (with_places_snoc ms n (i + 1) ∙ ap (λ z. with_places (i + 1) ms ++ (n, z) ∷ []) (e))
 
 pub place_push : (es fs : List Numbered) (ns ms : List (List ℕ)) (n m : List ℕ) (at : ℕ)
-    → es ≡ firsts (placed 0 ns) → at ≡ length ns → m ≡ n → fs ≡ with_number es (m, at) → ms ≡ ns ++ n ∷ [] → fs ≡ firsts (placed 0 ms)
+    → es ≡ first_numbers (with_places 0 ns) → at ≡ length ns → m ≡ n → fs ≡ with_number es (m, at) → ms ≡ ns ++ n ∷ [] → fs ≡ first_numbers (with_places 0 ms)
 place_push es fs ns ms n m at e a i f g =
-    firsts_push es fs (placed 0 ns) (placed 0 ms) (n, length ns) e (f ∙ ap (λ z. with_number es (z, at)) i ∙ ap (λ z. with_number es (n, z)) a)
-    (ap (placed 0) g ∙ placed_snoc ns n 0 ∙ let z : 0 + length ns ≡ length ns = omega arith in ap (λ y. placed 0 ns ++ (n, y) ∷ []) z)
+    first_numbers_push es fs (with_places 0 ns) (with_places 0 ms) (n, length ns) e (f ∙ ap (λ z. with_number es (z, at)) i ∙ ap (λ z. with_number es (n, z)) a)
+    (ap (with_places 0) g ∙ with_places_snoc ns n 0 ∙ let z : 0 + length ns ≡ length ns = omega arith in ap (λ y. with_places 0 ns ++ (n, y) ∷ []) z)
 
-marked_snoc : (ns : List Name) (n : Name) → marked (ns ++ n ∷ []) ≡ marked ns ++ (n.bytes, n.at) ∷ []
-marked_snoc [] n = refl
-marked_snoc (m ∷ ms) n = ap (λ z. (m.bytes, m.at) ∷ z) (marked_snoc ms n)
+with_marks_of_snoc : (ns : List Name) (n : Name) → with_marks_of (ns ++ n ∷ []) ≡ with_marks_of ns ++ (n.bytes, n.at) ∷ []
+with_marks_of_snoc [] n = refl
+with_marks_of_snoc (m ∷ ms) n = ap (λ z. (m.bytes, m.at) ∷ z) (with_marks_of_snoc ms n)
 
 pub mark_push : (es fs : List Numbered) (ns ms : List Name) (n : Name) (m : List ℕ)
-    → es ≡ firsts (marked ns) → m ≡ n.bytes → fs ≡ with_number es (m, n.at) → ms ≡ ns ++ n ∷ [] → fs ≡ firsts (marked ms)
-mark_push es fs ns ms n m e i f g = firsts_push es fs (marked ns) (marked ms) (n.bytes, n.at) e (f ∙ ap (λ z. with_number es (z, n.at)) i) (ap marked g ∙ marked_snoc ns n)
+    → es ≡ first_numbers (with_marks_of ns) → m ≡ n.bytes → fs ≡ with_number es (m, n.at) → ms ≡ ns ++ n ∷ [] → fs ≡ first_numbers (with_marks_of ms)
+mark_push es fs ns ms n m e i f g = first_numbers_push es fs (with_marks_of ns) (with_marks_of ms) (n.bytes, n.at) e (f ∙ ap (λ z. with_number es (z, n.at)) i) (ap with_marks_of g ∙ with_marks_of_snoc ns n)
 
 -- SLOTS
 slots_append : (xs ys : List (Option (List ℕ))) (i : ℕ) → named_slots i (xs ++ ys) ≡ named_slots i xs ++ named_slots (i + length xs) ys

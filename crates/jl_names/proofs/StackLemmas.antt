@@ -5,27 +5,27 @@ use Rattle.std.specs.Cmp.Lexicographic.{pointwise}
 use Rattle.std.specs.Option.{option_or}
 use Rattle.jl_program.specs.Names.{same_text}
 use Rattle.jl_names.specs.declared.stack.Stacked.{Stacked}
-use Rattle.jl_names.specs.Numbers.{Numbered, number_in, renumbered, with_newer}
+use Rattle.jl_names.specs.Numbers.{Numbered, number_in, renumber, with_newer}
 use Rattle.jl_names.specs.Stacks.{last_from, last_place, hidden_after, texts_of, hides_of, IsStack}
 use Rattle.jl_names.proofs.NumberLemmas.{text_is, or_else, number_append}
 use Rattle.jl_names.proofs.DeclLemmas.{text_self}
 use Rattle.jl_names.proofs.EntryLemmas.{same_bytes}
 
 -- THE TABLE
-renumber_same : (es : List Numbered) (e : Numbered) (k : ℕ) → number_in es e.0 ≡ Some k → number_in (renumbered es e) e.0 ≡ Some e.1
+renumber_same : (es : List Numbered) (e : Numbered) (k : ℕ) → number_in es e.0 ≡ Some k → number_in (renumber es e) e.0 ≡ Some e.1
 renumber_same [] e k h = absurd (let f : None ≡ Some k = h in cc)
 renumber_same (x ∷ xs) e k h = by (same_text e.0 x.0) refl h (renumber_same xs e k)
   where
-    by : (b : Bool) → same_text e.0 x.0 ≡ b → cond b (Some x.1) (number_in xs e.0) ≡ Some k → (number_in xs e.0 ≡ Some k → number_in (renumbered xs e) e.0 ≡ Some e.1)
-        → number_in (cond b ((x.0, e.1) ∷ xs) (x ∷ renumbered xs e)) e.0 ≡ Some e.1
+    by : (b : Bool) → same_text e.0 x.0 ≡ b → cond b (Some x.1) (number_in xs e.0) ≡ Some k → (number_in xs e.0 ≡ Some k → number_in (renumber xs e) e.0 ≡ Some e.1)
+        → number_in (cond b ((x.0, e.1) ∷ xs) (x ∷ renumber xs e)) e.0 ≡ Some e.1
     by true p g r = ap (λ b. cond b (Some e.1) (number_in xs e.0)) p
-    by false p g r = ap (λ b. cond b (Some x.1) (number_in (renumbered xs e) e.0)) p ∙ r g
+    by false p g r = ap (λ b. cond b (Some x.1) (number_in (renumber xs e) e.0)) p ∙ r g
 
-renumber_other : (es : List Numbered) (e : Numbered) (n : List ℕ) → same_text n e.0 ≡ false → number_in (renumbered es e) n ≡ number_in es n
+renumber_other : (es : List Numbered) (e : Numbered) (n : List ℕ) → same_text n e.0 ≡ false → number_in (renumber es e) n ≡ number_in es n
 renumber_other [] e n h = refl
 renumber_other (x ∷ xs) e n h = by (same_text e.0 x.0) refl (renumber_other xs e n h)
   where
-    by : (b : Bool) → same_text e.0 x.0 ≡ b → number_in (renumbered xs e) n ≡ number_in xs n → number_in (cond b ((x.0, e.1) ∷ xs) (x ∷ renumbered xs e)) n ≡ cond (same_text n x.0) (Some x.1) (number_in xs n)
+    by : (b : Bool) → same_text e.0 x.0 ≡ b → number_in (renumber xs e) n ≡ number_in xs n → number_in (cond b ((x.0, e.1) ∷ xs) (x ∷ renumber xs e)) n ≡ cond (same_text n x.0) (Some x.1) (number_in xs n)
     by true p r =
         let i = text_is e.0 x.0 p in
         let f : same_text n x.0 ≡ false = ap (same_text n) (sym i) ∙ h in
@@ -36,9 +36,9 @@ newer_same : (es : List Numbered) (e : Numbered) → number_in (with_newer es e)
 newer_same es e = by (number_in es e.0) refl
   where
     by : (o : Option ℕ) → number_in es e.0 ≡ o → number_in (with_newer es e) e.0 ≡ Some e.1
-    by (Some k) g = ap (λ o. number_in (cond (is_some o) (renumbered es e) (es ++ e ∷ [])) e.0) g ∙ renumber_same es e k g
+    by (Some k) g = ap (λ o. number_in (cond (is_some o) (renumber es e) (es ++ e ∷ [])) e.0) g ∙ renumber_same es e k g
     by None g =
-        ap (λ o. number_in (cond (is_some o) (renumbered es e) (es ++ e ∷ [])) e.0) g
+        ap (λ o. number_in (cond (is_some o) (renumber es e) (es ++ e ∷ [])) e.0) g
         ∙ number_append es (e ∷ []) e.0 ∙ ap (λ o. or_else o (number_in (e ∷ []) e.0)) g ∙ ap (λ b. cond b (Some e.1) None) (text_self e.0)
 
 newer_other : (es : List Numbered) (e : Numbered) (n : List ℕ) → same_text n e.0 ≡ false → number_in (with_newer es e) n ≡ number_in es n
@@ -48,7 +48,7 @@ newer_other es e n h = by (is_some (number_in es e.0))
     none None = refl
     none (Some k) = refl
 
-    by : (b : Bool) → number_in (cond b (renumbered es e) (es ++ e ∷ [])) n ≡ number_in es n
+    by : (b : Bool) → number_in (cond b (renumber es e) (es ++ e ∷ [])) n ≡ number_in es n
     by true = renumber_other es e n h
     by false = number_append es (e ∷ []) n ∙ ap (λ b. or_else (number_in es n) (cond b (Some e.1) None)) h ∙ none (number_in es n)
 
@@ -201,7 +201,7 @@ knows_push ns n es fs s f m p h = by (same_text m n) refl (sym (last_snoc 0 ns n
     by false e g = ap (λ z. number_in z m) f ∙ newer_other es (n, length ns) m e ∙ s m p g
 
 -- the name before the last of a list is found again
-knows_pop : (ns : List (List ℕ)) (n : List ℕ) (q : ℕ) (es fs : List Numbered) → Knows (ns ++ n ∷ []) es → last_place ns n ≡ Some q → fs ≡ renumbered es (n, q) → Knows ns fs
+knows_pop : (ns : List (List ℕ)) (n : List ℕ) (q : ℕ) (es fs : List Numbered) → Knows (ns ++ n ∷ []) es → last_place ns n ≡ Some q → fs ≡ renumber es (n, q) → Knows ns fs
 knows_pop ns n q es fs s g f m p h = by (same_text m n) refl
   where
     here : number_in es n ≡ Some (0 + length ns)
@@ -245,8 +245,8 @@ module _ (xs ys : List Stacked) (x : Stacked) (es : List Numbered) (s : IsStack 
       (sym (ap hides_of g ∙ hides_snoc ys x) ∙ s.0 ∙ ap (hidden_after []) names_were ∙ hidden_snoc [] (texts_of ys) x.name)
 
   -- without the last, which hid one
-  pub popped : (fs : List Numbered) (name : List ℕ) (q : ℕ) → x.hides ≡ Some q → name ≡ x.name → fs ≡ renumbered es (name, q) → IsStack ys fs
-  popped fs name q h i f = (hid.0, knows_pop (texts_of ys) x.name q es fs knew (sym hid.1 ∙ h) (f ∙ ap (λ z. renumbered es (z, q)) i))
+  pub popped : (fs : List Numbered) (name : List ℕ) (q : ℕ) → x.hides ≡ Some q → name ≡ x.name → fs ≡ renumber es (name, q) → IsStack ys fs
+  popped fs name q h i f = (hid.0, knows_pop (texts_of ys) x.name q es fs knew (sym hid.1 ∙ h) (f ∙ ap (λ z. renumber es (z, q)) i))
 
   -- without the last, which hid none
   pub popped_bare : x.hides ≡ None → IsStack ys es

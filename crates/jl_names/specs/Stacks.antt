@@ -1,5 +1,5 @@
 -- Names of which a later one hides an equal one before it.
-use Rattle.std.specs.Prelude.{◌≡◌, ℕ, ◌+◌, cond, List, [], ◌∷◌, ◌++◌, map, Option, Some, None}
+use Rattle.std.specs.Prelude.{◌≡◌, ℕ, ◌+◌, if◌then◌else◌, List, [], ◌∷◌, ◌++◌, map, Option, Some, None}
 use Rattle.std.specs.Option.{option_or}
 use Rattle.jl_program.specs.Names.{same_text}
 use Rattle.jl_names.specs.declared.stack.Stacked.{Stacked}
@@ -8,7 +8,7 @@ use Rattle.jl_names.specs.Numbers.{Numbered, number_in}
 -- the last place of a name in names of which the first has place i
 abbrev pub last_from : ℕ → List (List ℕ) → List ℕ → Option ℕ
 last_from i [] name = None
-last_from i (n ∷ ns) name = option_or (last_from (i + 1) ns name) (cond (same_text name n) (Some i) None)
+last_from i (n ∷ ns) name = option_or (last_from (i + 1) ns name) (if same_text name n then Some i else None)
 
 abbrev pub last_place : List (List ℕ) → List ℕ → Option ℕ
 last_place ns name = last_from 0 ns name

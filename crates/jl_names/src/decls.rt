@@ -2,9 +2,9 @@
 
 ghost use Rattle.std.specs.Prelude.{◌≡◌, ◌++◌, ◌∷◌, [], List, length, take, slice_get, option_copied, IfOk, OnOk};
 ghost use Rattle.jl_model.specs.declared.ty.Decl.{Decl};
-ghost use Rattle.jl_names.specs.Numbers.{number_in, placed, names_of};
+ghost use Rattle.jl_names.specs.Numbers.{number_in, with_places, names_of};
 
-use crate::table::{NameMap, small};
+use crate::table::{NameMap, to_u32};
 use jl_model::ty::Decl;
 use std::alloc::{AllocError, Global};
 use std::marker::Model;
@@ -34,7 +34,7 @@ impl Model for DeclList {
     ghost use Rattle.std.specs.Coded.{coded_list};
     ghost use Rattle.jl_model.specs.contracts.ty.Decl as e;
     ghost use Rattle.jl_model.specs.declared.ty.Decl.{Decl};
-    ghost use Rattle.jl_names.specs.Numbers.{firsts, placed, names_of};
+    ghost use Rattle.jl_names.specs.Numbers.{first_numbers, with_places, names_of};
 
     ghost Value = { List Decl };
 
@@ -42,7 +42,7 @@ impl Model for DeclList {
 
     ghost view = { λ t. t.decls.items };
 
-    ghost invariant = { λ t. t.numbers ≡ firsts (placed 0 (names_of t.decls.items)) };
+    ghost invariant = { λ t. t.numbers ≡ first_numbers (with_places 0 (names_of t.decls.items)) };
 }
 
 impl DeclList {
@@ -69,7 +69,7 @@ impl DeclList {
 
     /// The number of the first declaration of a name.
     pub fn find(&self, name: &[u8]) -> Option<u32>
-        ensures { result ≡ number_in (placed 0 (names_of self.now)) name.now }
+        ensures { result ≡ number_in (with_places 0 (names_of self.now)) name.now }
     {
         self.numbers.find(name)
     }
@@ -79,7 +79,7 @@ impl DeclList {
         ensures { OnOk result (self.new ≡ self.old ++ decl ∷ []) }
     {
         let place = self.decls.len();
-        let number = small(place)?;
+        let number = to_u32(place)?;
         let name = decl.name.copy()?;
         self.decls.push(decl)?;
         match self.numbers.add(name.as_slice(), number) {
@@ -164,7 +164,7 @@ impl FirstDecls<'_> {
 
     /// The number of the first declaration of a name.
     pub fn find(&self, name: &[u8]) -> Option<u32>
-        ensures { result ≡ number_in (placed 0 (names_of self.now)) name.now }
+        ensures { result ≡ number_in (with_places 0 (names_of self.now)) name.now }
     {
         match self.all.find(name) {
             Some(number) if (number as usize) < self.count => Some(number),

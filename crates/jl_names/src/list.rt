@@ -1,9 +1,9 @@
 //! A list of names that finds the place of each.
 
 ghost use Rattle.std.specs.Prelude.{◌≡◌, ◌++◌, ◌∷◌, [], length, IfOk, OnOk};
-ghost use Rattle.jl_names.specs.Numbers.{number_in, placed};
+ghost use Rattle.jl_names.specs.Numbers.{number_in, with_places};
 
-use crate::table::{NameMap, small};
+use crate::table::{NameMap, to_u32};
 use jl_model::shared::SharedList;
 use jl_model::ty::Bytes;
 use std::alloc::{AllocError, Global};
@@ -19,7 +19,7 @@ pub struct NameList {
 impl Model for NameList {
     ghost use Rattle.std.specs.Prelude.{List, ℕ, ◌≡◌};
     ghost use Rattle.std.specs.Coded.{coded_list, coded_ℕ};
-    ghost use Rattle.jl_names.specs.Numbers.{firsts, placed};
+    ghost use Rattle.jl_names.specs.Numbers.{first_numbers, with_places};
 
     ghost Value = { List (List ℕ) };
 
@@ -27,7 +27,7 @@ impl Model for NameList {
 
     ghost view = { λ t. t.names.items };
 
-    ghost invariant = { λ t. t.places ≡ firsts (placed 0 t.names.items) };
+    ghost invariant = { λ t. t.places ≡ first_numbers (with_places 0 t.names.items) };
 }
 
 impl NameList {
@@ -54,7 +54,7 @@ impl NameList {
 
     /// The place of a name, the first of several.
     pub fn find(&self, name: &[u8]) -> Option<u32>
-        ensures { result ≡ number_in (placed 0 self.now) name.now }
+        ensures { result ≡ number_in (with_places 0 self.now) name.now }
     {
         self.places.find(name)
     }
@@ -64,7 +64,7 @@ impl NameList {
         ensures { OnOk result (self.new ≡ self.old ++ name ∷ []) }
     {
         let place = self.names.len();
-        let number = small(place)?;
+        let number = to_u32(place)?;
         let copy = name.copy()?;
         self.names.push(name)?;
         match self.places.add(copy.as_slice(), number) {
@@ -77,15 +77,15 @@ impl NameList {
     }
 
     /// The same names, to be shared.
-    pub fn shared(&self, alloc: Global) -> Result<SharedList<Bytes>, AllocError>
+    pub fn into_shared(&self, alloc: Global) -> Result<SharedList<Bytes>, AllocError>
         ensures { IfOk result (λ names. names ≡ self.now) }
     {
-        let names = copies(alloc, self.names.as_slice())?;
+        let names = copy_all(alloc, self.names.as_slice())?;
         SharedList::from_vec(alloc, names)
     }
 }
 
-fn copies(alloc: Global, names: &[Bytes]) -> Result<Vec<Bytes>, AllocError>
+fn copy_all(alloc: Global, names: &[Bytes]) -> Result<Vec<Bytes>, AllocError>
     ensures { IfOk result (λ copies. copies.items ≡ names.now) }
 {
     let mut copies = Vec::new(alloc);

@@ -1,7 +1,7 @@
 //! Names where they stand in a script.
 
 ghost use Rattle.std.specs.Prelude.{◌≡◌, ◌++◌, ◌∷◌, [], OnOk};
-ghost use Rattle.jl_names.specs.Numbers.{number_in, marked};
+ghost use Rattle.jl_names.specs.Numbers.{number_in, with_marks_of};
 
 use crate::table::NameMap;
 use jl_grammar::tree::Name;
@@ -20,7 +20,7 @@ impl Model for MarkedNames {
     ghost use Rattle.std.specs.Coded.{coded_list};
     ghost use Rattle.jl_grammar.specs.declared.tree.Name.{Name};
     ghost use Rattle.jl_grammar.specs.contracts.tree.Name as e;
-    ghost use Rattle.jl_names.specs.Numbers.{firsts, marked};
+    ghost use Rattle.jl_names.specs.Numbers.{first_numbers, with_marks_of};
 
     ghost Value = { List Name };
 
@@ -28,7 +28,7 @@ impl Model for MarkedNames {
 
     ghost view = { λ t. t.names.items };
 
-    ghost invariant = { λ t. t.places ≡ firsts (marked t.names.items) };
+    ghost invariant = { λ t. t.places ≡ first_numbers (with_marks_of t.names.items) };
 }
 
 impl MarkedNames {
@@ -49,7 +49,7 @@ impl MarkedNames {
 
     /// Where a name stands first.
     pub fn find(&self, name: &[u8]) -> Option<u32>
-        ensures { result ≡ number_in (marked self.now) name.now }
+        ensures { result ≡ number_in (with_marks_of self.now) name.now }
     {
         self.places.find(name)
     }

@@ -3,7 +3,7 @@
 ghost use Rattle.std.specs.Prelude.{◌≡◌, ◌++◌, ◌∷◌, [], length, take, OnOk, Some, None};
 ghost use Rattle.jl_names.specs.Numbers.{number_in, named_slots, count_named};
 
-use crate::table::{NameMap, small};
+use crate::table::{NameMap, to_u32};
 use jl_model::ty::Bytes;
 use std::alloc::{AllocError, Global};
 use std::marker::Model;
@@ -67,7 +67,7 @@ impl Slots {
         ensures { OnOk result (self.new ≡ self.old ++ Some name ∷ []) }
     {
         let slot = self.names.len();
-        let number = small(slot)?;
+        let number = to_u32(slot)?;
         let copy = name.copy()?;
         self.names.push(Some(name))?;
         match self.numbers.add(copy.as_slice(), number) {
@@ -86,7 +86,7 @@ impl Slots {
         if most >= self.names.len() {
             return;
         }
-        let dropped = named(&self.names.as_slice()[most..]);
+        let dropped = count_named(&self.names.as_slice()[most..]);
         let kept = self.numbers.len() - dropped;
         self.numbers.truncate(kept);
         self.names.truncate(most);
@@ -94,7 +94,7 @@ impl Slots {
 }
 
 /// How many of these slots have names.
-fn named(names: &[Option<Bytes>]) -> usize
+fn count_named(names: &[Option<Bytes>]) -> usize
     ensures { result ≡ count_named names.now }
 {
     let mut count = 0;

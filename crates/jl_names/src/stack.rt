@@ -3,7 +3,7 @@
 ghost use Rattle.std.specs.Prelude.{◌≡◌, ◌++◌, ◌∷◌, ◌-◌, [], length, take, OnOk, OnErr};
 ghost use Rattle.jl_names.specs.Stacks.{last_place};
 
-use crate::table::{NameMap, small};
+use crate::table::{NameMap, to_u32};
 use jl_model::ty::Bytes;
 use std::alloc::{AllocError, Global};
 use std::marker::Model;
@@ -72,7 +72,7 @@ impl NameStack {
         ensures refused { OnErr result (self.new ≡ self.old) }
     {
         let place = self.names.len();
-        let number = small(place)?;
+        let number = to_u32(place)?;
         let copy = name.copy()?;
         let hides = self.find(copy.as_slice());
         self.names.push(Stacked { name, hides })?;

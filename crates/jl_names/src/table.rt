@@ -1,14 +1,14 @@
 //! Names with numbers, each name once.
 
-ghost use Rattle.std.specs.Prelude.{◌≡◌, ◌≤◌, ◌^◌, [], ◌+◌, ◌-◌, take, length, IfOk, OnOk, OnErr};
-ghost use Rattle.jl_names.specs.Numbers.{number_in, with_number, renumbered, with_newer};
+ghost use Rattle.std.specs.Prelude.{◌≡◌, ◌≤◌, ◌^◌, [], ◌+◌, ◌-◌, take, length, IfOk, OnOk, OnErr, None};
+ghost use Rattle.jl_names.specs.Numbers.{number_in, with_number, renumber, with_newer};
 
 use indexmap::IndexMap;
 use std::alloc::{AllocError, Global};
 use std::marker::Model;
 
 /// The number of a place. The one error, which stands for want of memory, comes exactly from 2^32 on.
-pub(crate) fn small(place: usize) -> Result<u32, AllocError>
+pub(crate) fn to_u32(place: usize) -> Result<u32, AllocError>
     ensures number { IfOk result (λ n. n ≡ place) }
     ensures limit { OnErr result (2 ^ 32 ≤ place) }
 {
@@ -54,6 +54,17 @@ impl NameMap {
         self.numbers.get(name).copied()
     }
 
+    /// One more name, which has no number yet, with its number.
+    fn append(&mut self, name: &[u8], number: u32) -> Result<(), AllocError>
+        requires { number_in self.old name.now ≡ None }
+        ensures added { OnOk result (self.new ≡ with_number self.old (name.now, number)) }
+        ensures refused { OnErr result (self.new ≡ self.old) }
+    {
+        let key = Vec::from_slice(self.alloc, name)?;
+        self.numbers.insert(key, number)?;
+        Ok(())
+    }
+
     /// One more name with its number; a name that has one keeps it.
     pub fn add(&mut self, name: &[u8], number: u32) -> Result<(), AllocError>
         ensures added { OnOk result (self.new ≡ with_number self.old (name.now, number)) }
@@ -62,14 +73,12 @@ impl NameMap {
         if self.find(name).is_some() {
             return Ok(());
         }
-        let key = Vec::from_slice(self.alloc, name)?;
-        self.numbers.insert(key, number)?;
-        Ok(())
+        self.append(name, number)
     }
 
     /// Another number for a name. A name that has none stays without.
     pub fn renumber(&mut self, name: &[u8], number: u32)
-        ensures { self.new ≡ renumbered self.old (name.now, number) }
+        ensures { self.new ≡ renumber self.old (name.now, number) }
     {
         if let Some(old) = self.numbers.get_mut(name) {
             *old = number;
@@ -82,7 +91,7 @@ impl NameMap {
         ensures refused { OnErr result (self.new ≡ self.old) }
     {
         if self.find(name).is_none() {
-            return self.add(name, number);
+            return self.append(name, number);
         }
         self.renumber(name, number);
         Ok(())

@@ -1,10 +1,10 @@
 -- Blocks and the branches of an `if`, printed anew.
 use Rattle.std.proofs.Common.{◌≡◌, ℕ, ◌+◌, max, min, Bool, List, [], ◌∷◌, ◌++◌, map, inl, inr, refl, sym, ap, ◌∙◌, subst, append_assoc}
 use Rattle.std.proofs.lemmas.List.{map-append, append-nil}
-use Rattle.jl_typeread.specs.declared.sign.Sign.{Sign}
-use Rattle.jl_typeread.specs.declared.sign.Sign.TheVariants as S
-use Rattle.jl_typeread.specs.declared.sign.Word.{Word}
-use Rattle.jl_typeread.specs.declared.sign.Word.TheVariants as w
+use Rattle.jl_typeread.specs.declared.terminal.Terminal.{Terminal}
+use Rattle.jl_typeread.specs.declared.terminal.Terminal.TheVariants as S
+use Rattle.jl_typeread.specs.declared.terminal.Word.{Word}
+use Rattle.jl_typeread.specs.declared.terminal.Word.TheVariants as w
 use Rattle.jl_grammar.specs.declared.mark.Marked.{Marked}
 use Rattle.jl_grammar.specs.declared.state.Branched.{Branched}
 use Rattle.jl_grammar.specs.declared.state.Form.{Form}
@@ -17,7 +17,7 @@ use Rattle.jl_grammar.specs.Grammar as GR
 use Rattle.jl_grammar.specs.Marks.{marks_of}
 use Rattle.jl_grammar.specs.Texts.{Text, Spot, tok, wrd, Sep, newline}
 use Rattle.jl_marks.specs.Scan.{near_of}
-use Rattle.jl_print.specs.Printed.{lines, block_step, branches_step, branch_signs, expr_signs, stmt_signs}
+use Rattle.jl_print.specs.Printed.{lines, block_step, branches_step, branch_terminals, expr_terminals, stmt_terminals}
 use Rattle.jl_print.specs.Placeless.{same_branch, same_stmt}
 use Rattle.jl_print.proofs.AgainChains.{ExprReplay}
 use Rattle.jl_print.proofs.AgainFree.{Front}
@@ -25,9 +25,9 @@ use Rattle.jl_print.proofs.AgainLikes.{LikeExpr, LikeForms}
 use Rattle.jl_print.proofs.AgainRows.{IsDull, sep_dull, sep_passes, BeforeAgain, AfterAgain}
 use Rattle.jl_print.proofs.Laid.{seen, seen-append, spot, laid, laid-append, Right, right-append, Made, Replay, text_spells}
 use Rattle.jl_print.proofs.Likes.{dull_near}
-use Rattle.jl_print.proofs.ListSigns.{HasSome, some_one, some_more, some_map, branches_behind, same_more}
-use Rattle.jl_print.proofs.TreeSigns as T
-use Rattle.jl_print.proofs.SpelledSigns.{Spells, spells_as, spells_of, spells_cons, spells_same, row_lead, row_behind}
+use Rattle.jl_print.proofs.ListTerminals.{HasSome, some_one, some_more, some_map, branches_behind, same_more}
+use Rattle.jl_print.proofs.TreeTerminals as T
+use Rattle.jl_print.proofs.SpelledTerminals.{Spells, spells_as, spells_of, spells_cons, spells_same, row_lead, row_behind}
 use Rattle.jl_print.proofs.Wholes.{Skipped, two_skipped}
 
 pub word_skipped : (x : Word) → Skipped (S.Word x ∷ [])
@@ -37,12 +37,12 @@ newline-skipped : Skipped (S.Newline ∷ [])
 newline-skipped = λ c cs rest. refl
 
 -- a word begins both texts
-pub front_word : (x : Word) (a c : List Sign) → Front (S.Word x ∷ a) (S.Word x ∷ c)
-front_word x a c = record { sign = S.Word x; rest = a; other = c; old = refl; new = refl; near = λ u v e. refl; marks = λ u v e. refl }
+pub front_word : (x : Word) (a c : List Terminal) → Front (S.Word x ∷ a) (S.Word x ∷ c)
+front_word x a c = record { terminal = S.Word x; rest = a; other = c; old = refl; new = refl; near = λ u v e. refl; marks = λ u v e. refl }
 
 -- ---- a block behind the word that opens it
 
-module _ {A B : Type 0} {same : A → B} {printed : A → List Sign} {Before After : Forms A → Text → Type 0} {One : A × ℕ → Text → Type 0} {h : ℕ → ℕ} where
+module _ {A B : Type 0} {same : A → B} {printed : A → List Terminal} {Before After : Forms A → Text → Type 0} {One : A × ℕ → Text → Type 0} {h : ℕ → ℕ} where
   -- where the last form has its line, nothing is asked of what stands behind
   pub after_before : (xs : Forms A) (ts : Text) → BeforeAgain same printed Before After One h xs ts → AfterAgain same printed Before After One h xs ts
   after_before xs ts f = record { skipped = f.skipped; spells = f.spells; again = λ lead rest other l r dull. f.again lead rest other l r }
@@ -79,65 +79,65 @@ pub record LikeBranched (z y : Spot × Branched) : Type 0 where
   pub lowered : z.1.lowered ≡ y.1.lowered
   pub depth : z.1.depth ≡ y.1.depth
 
-abbrev pub branched_signs : Branched → List Sign
-branched_signs x = branches_step (map branch_signs x.branches)
+abbrev pub branched_terminals : Branched → List Terminal
+branched_terminals x = branches_step (map branch_terminals x.branches)
 
 pub record BranchesAgain (h : ℕ → ℕ) (r : Bool) (p : Spot) (x : Branched) (ts : Text) : Type 0 where
   pub some : HasSome x.branches
   pub old : Skipped (seen ts)
-  pub new : Skipped (branched_signs x)
-  pub front : Front (seen ts) (branched_signs x)
-  pub spells : Spells (seen ts) (branched_signs x)
-  pub again : (rest other : List Sign) → Right ts rest → IsDull rest → Made (BranchesAt r) LikeBranched (p, x) (laid h (branched_signs x) other)
+  pub new : Skipped (branched_terminals x)
+  pub front : Front (seen ts) (branched_terminals x)
+  pub spells : Spells (seen ts) (branched_terminals x)
+  pub again : (rest other : List Terminal) → Right ts rest → IsDull rest → Made (BranchesAt r) LikeBranched (p, x) (laid h (branched_terminals x) other)
 
 abbrev pub StmtsBeforeAgain : Bool → (ℕ → ℕ) → Forms Stmt → Text → Type 0
-StmtsBeforeAgain r h ss ts = BeforeAgain same_stmt stmt_signs (GR.StmtsBefore r) (GR.StmtsAfter r) (λ z us. GR.Statement r z.0 z.1 us) h ss ts
+StmtsBeforeAgain r h ss ts = BeforeAgain same_stmt stmt_terminals (GR.StmtsBefore r) (GR.StmtsAfter r) (λ z us. GR.Statement r z.0 z.1 us) h ss ts
 
 abbrev pub BlockAgain : Bool → (ℕ → ℕ) → Forms Stmt → Text → Type 0
-BlockAgain r h ss ts = AfterAgain same_stmt stmt_signs (GR.StmtsBefore r) (GR.StmtsAfter r) (λ z us. GR.Statement r z.0 z.1 us) h ss ts
+BlockAgain r h ss ts = AfterAgain same_stmt stmt_terminals (GR.StmtsBefore r) (GR.StmtsAfter r) (λ z us. GR.Statement r z.0 z.1 us) h ss ts
 
 -- the test, a newline and the lines of the block
-abbrev body_signs : Form Expr → Forms Stmt → List Sign
-body_signs c ss = expr_signs c.tree ++ S.Newline ∷ lines (map stmt_signs ss.trees)
+abbrev body_terminals : Form Expr → Forms Stmt → List Terminal
+body_terminals c ss = expr_terminals c.tree ++ S.Newline ∷ lines (map stmt_terminals ss.trees)
 
-record BodyMade (h : ℕ → ℕ) (r : Bool) (c : Form Expr) (ss : Forms Stmt) (other : List Sign) : Type 0 where
+record BodyMade (h : ℕ → ℕ) (r : Bool) (c : Form Expr) (ss : Forms Stmt) (other : List Terminal) : Type 0 where
   pub test : Form Expr
   pub block : Forms Stmt
   pub place : Spot
   pub tests : Text
   pub lined : Text
-  pub is : laid h (body_signs c ss) other ≡ tests ++ tok S.Newline place ∷ lined
+  pub is : laid h (body_terminals c ss) other ≡ tests ++ tok S.Newline place ∷ lined
   pub test_is : GR.Expression r test tests
   pub block_is : GR.Block r block lined
   pub test_like : LikeExpr test c
   pub block_like : LikeForms same_stmt block ss
 
-body-made : (h : ℕ → ℕ) (r : Bool) (c : Form Expr) (ss : Forms Stmt) (t : Marked) (ts us : Text) (rest other : List Sign) → ExprReplay (GR.Expression r) h c ts → Sep t → BlockAgain r h ss us
+body-made : (h : ℕ → ℕ) (r : Bool) (c : Form Expr) (ss : Forms Stmt) (t : Marked) (ts us : Text) (rest other : List Terminal) → ExprReplay (GR.Expression r) h c ts → Sep t → BlockAgain r h ss us
     → Right (ts ++ t ∷ us) rest → IsDull rest → BodyMade h r c ss other
 body-made h r c ss t ts us rest other f s g right dull =
     let e = right-append ts (t ∷ us) rest right in
-    let u = f.again (t.lexeme.sign ∷ seen us ++ rest) (S.Newline ∷ lines (map stmt_signs ss.trees) ++ other) e.0 (sep_dull t (seen us ++ rest) s ∙ sym (dull_near S.Newline (lines (map stmt_signs ss.trees) ++ other) refl)) in
+    let u = f.again (t.lexeme.terminal ∷ seen us ++ rest) (S.Newline ∷ lines (map stmt_terminals ss.trees) ++ other) e.0 (sep_dull t (seen us ++ rest) s ∙ sym (dull_near S.Newline (lines (map stmt_terminals ss.trees) ++ other) refl)) in
     let b = g.again [] rest other (inl refl) e.1.1 dull in
     record {
       test = u.made.tree;
       block = b.tree;
-      place = spot h (S.Newline ∷ lines (map stmt_signs ss.trees) ++ other);
-      tests = laid h (expr_signs c.tree) (S.Newline ∷ lines (map stmt_signs ss.trees) ++ other);
-      lined = laid h (lines (map stmt_signs ss.trees)) other;
-      is = laid-append h (expr_signs c.tree) (S.Newline ∷ lines (map stmt_signs ss.trees)) other;
+      place = spot h (S.Newline ∷ lines (map stmt_terminals ss.trees) ++ other);
+      tests = laid h (expr_terminals c.tree) (S.Newline ∷ lines (map stmt_terminals ss.trees) ++ other);
+      lined = laid h (lines (map stmt_terminals ss.trees)) other;
+      is = laid-append h (expr_terminals c.tree) (S.Newline ∷ lines (map stmt_terminals ss.trees)) other;
       test_is = u.made.derives;
       block_is = GR.block_before r b.tree _ b.derives;
       test_like = u.made.like;
       block_like = b.like;
     }
 
-body-skipped : (h : ℕ → ℕ) (r : Bool) (c : Form Expr) (ss : Forms Stmt) (ts us : Text) → ExprReplay (GR.Expression r) h c ts → BlockAgain r h ss us → Skipped (body_signs c ss)
+body-skipped : (h : ℕ → ℕ) (r : Bool) (c : Form Expr) (ss : Forms Stmt) (ts us : Text) → ExprReplay (GR.Expression r) h c ts → BlockAgain r h ss us → Skipped (body_terminals c ss)
 body-skipped h r c ss ts us f g =
-    two_skipped (expr_signs c.tree) (S.Newline ∷ lines (map stmt_signs ss.trees)) f.tidy.new (two_skipped (S.Newline ∷ []) (lines (map stmt_signs ss.trees)) newline-skipped g.skipped)
+    two_skipped (expr_terminals c.tree) (S.Newline ∷ lines (map stmt_terminals ss.trees)) f.tidy.new (two_skipped (S.Newline ∷ []) (lines (map stmt_terminals ss.trees)) newline-skipped g.skipped)
 
-body-spells : (h : ℕ → ℕ) (r : Bool) (c : Form Expr) (ss : Forms Stmt) (t : Marked) (ts us : Text) → Sep t → ExprReplay (GR.Expression r) h c ts → BlockAgain r h ss us → Spells (seen (ts ++ t ∷ us)) (body_signs c ss)
+body-spells : (h : ℕ → ℕ) (r : Bool) (c : Form Expr) (ss : Forms Stmt) (t : Marked) (ts us : Text) → Sep t → ExprReplay (GR.Expression r) h c ts → BlockAgain r h ss us → Spells (seen (ts ++ t ∷ us)) (body_terminals c ss)
 body-spells h r c ss t ts us s f g =
-    text_spells ts (t ∷ us) (expr_signs c.tree) (S.Newline ∷ lines (map stmt_signs ss.trees)) f.tidy.spells (row_behind (seen us) (lines (map stmt_signs ss.trees)) t.lexeme.sign (sep_passes t s) g.spells)
+    text_spells ts (t ∷ us) (expr_terminals c.tree) (S.Newline ∷ lines (map stmt_terminals ss.trees)) f.tidy.spells (row_behind (seen us) (lines (map stmt_terminals ss.trees)) t.lexeme.terminal (sep_passes t s) g.spells)
 
 -- the branches with one more
 branch-like : (a b : ℕ) (x y : Branched) (c d : Form Expr) (ss us : Forms Stmt) (p q : Spot) → LikeBranched (p, x) (q, y) → LikeExpr c d → LikeForms same_stmt ss us → LikeBranched (p, M.with_branch x a c ss) (q, M.with_branch y b d us)
@@ -145,7 +145,7 @@ branch-like a b x y c d ss us p q l e f = record {
   branches = same_more same_branch x.branches y.branches _ _ l.branches
       (T.branch_is_same a c.tree ss.trees ∙ (λ i. record { at = 0; test = e.0 i; block = f.0 i }) ∙ sym (T.branch_is_same b d.tree us.trees));
   lowered = ap (λ n. min n 499 + 2) l.lowered;
-  depth = (λ i. max (l.depth i) (M.below (l.lowered i) (max (e.1 i) (M.deeper (f.1 i)))));
+  depth = (λ i. max (l.depth i) (M.depth_below (l.lowered i) (max (e.1 i) (M.depth_around (f.1 i)))));
 }
 
 pub no_branches_like : (p q : Spot) → LikeBranched (p, M.no_branches) (q, M.no_branches)
@@ -155,16 +155,16 @@ pub first_branch_again : (h : ℕ → ℕ) (r : Bool) (c : Form Expr) (ss : Form
     → BranchesAgain h r p (M.with_branch M.no_branches p.at c ss) ((wrd w.If p ∷ ts) ++ t ∷ us)
 first_branch_again h r c ss p t ts us old f s g =
     let x = M.with_branch M.no_branches p.at c ss in
-    let is : branched_signs x ≡ S.Word w.If ∷ body_signs c ss = ap (λ l. S.Word w.If ∷ l) (append-nil (branch_signs (record { at = p.at; test = c.tree; block = ss.trees })) ∙ T.branch_is_signs p.at c.tree ss.trees) in
+    let is : branched_terminals x ≡ S.Word w.If ∷ body_terminals c ss = ap (λ l. S.Word w.If ∷ l) (append-nil (branch_terminals (record { at = p.at; test = c.tree; block = ss.trees })) ∙ T.branch_is_terminals p.at c.tree ss.trees) in
     record {
       some = some_one _;
       old = old;
-      new = subst Skipped (sym is) (two_skipped (S.Word w.If ∷ []) (body_signs c ss) (word_skipped w.If) (body-skipped h r c ss ts us f g));
-      front = subst (Front _) (sym is) (front_word w.If _ (body_signs c ss));
+      new = subst Skipped (sym is) (two_skipped (S.Word w.If ∷ []) (body_terminals c ss) (word_skipped w.If) (body-skipped h r c ss ts us f g));
+      front = subst (Front _) (sym is) (front_word w.If _ (body_terminals c ss));
       spells = spells_as _ _ _ is (spells_cons (body-spells h r c ss t ts us s f g));
       again = λ rest other right dull.
           let b = body-made h r c ss t ts us rest other f s g right.1 dull in
-          let k = spot h (S.Word w.If ∷ body_signs c ss ++ other) in
+          let k = spot h (S.Word w.If ∷ body_terminals c ss ++ other) in
           subst (λ l. Made (BranchesAt r) LikeBranched (p, x) (laid h l other)) (sym is)
           (record {
             tree = (k, M.with_branch M.no_branches k.at b.test b.block);
@@ -185,30 +185,30 @@ pub next_branch_again : (h : ℕ → ℕ) (r : Bool) (x : Branched) (c : Form Ex
 next_branch_again h r x c ss p q t ts us vs old b f s g =
     let y = M.with_branch x q.at c ss in
     let z : Branch = record { at = q.at; test = c.tree; block = ss.trees } in
-    let is : branched_signs y ≡ branched_signs x ++ S.Word w.Elseif ∷ body_signs c ss =
-    ap branches_step (map-append branch_signs x.branches (z ∷ [])) ∙ branches_behind (map branch_signs x.branches) (branch_signs z) (some_map branch_signs x.branches b.some)
-    ∙ ap (λ l. branched_signs x ++ S.Word w.Elseif ∷ l) (T.branch_is_signs q.at c.tree ss.trees) in
+    let is : branched_terminals y ≡ branched_terminals x ++ S.Word w.Elseif ∷ body_terminals c ss =
+    ap branches_step (map-append branch_terminals x.branches (z ∷ [])) ∙ branches_behind (map branch_terminals x.branches) (branch_terminals z) (some_map branch_terminals x.branches b.some)
+    ∙ ap (λ l. branched_terminals x ++ S.Word w.Elseif ∷ l) (T.branch_is_terminals q.at c.tree ss.trees) in
     let regrouped : (ts ++ wrd w.Elseif q ∷ us) ++ t ∷ vs ≡ ts ++ wrd w.Elseif q ∷ (us ++ t ∷ vs) = append_assoc ts (wrd w.Elseif q ∷ us) (t ∷ vs) in
     record {
       some = some_more x.branches z b.some;
       old = old;
-      new = subst Skipped (sym is) (two_skipped (branched_signs x) (S.Word w.Elseif ∷ body_signs c ss) b.new (two_skipped (S.Word w.Elseif ∷ []) (body_signs c ss) (word_skipped w.Elseif) (body-skipped h r c ss us vs f g)));
-      spells = spells_as _ _ _ is (spells_of _ _ _ (ap seen regrouped) (text_spells ts (wrd w.Elseif q ∷ (us ++ t ∷ vs)) (branched_signs x) (S.Word w.Elseif ∷ body_signs c ss) b.spells (spells_cons (body-spells h r c ss t us vs s f g))));
+      new = subst Skipped (sym is) (two_skipped (branched_terminals x) (S.Word w.Elseif ∷ body_terminals c ss) b.new (two_skipped (S.Word w.Elseif ∷ []) (body_terminals c ss) (word_skipped w.Elseif) (body-skipped h r c ss us vs f g)));
+      spells = spells_as _ _ _ is (spells_of _ _ _ (ap seen regrouped) (text_spells ts (wrd w.Elseif q ∷ (us ++ t ∷ vs)) (branched_terminals x) (S.Word w.Elseif ∷ body_terminals c ss) b.spells (spells_cons (body-spells h r c ss t us vs s f g))));
       front = record {
-        sign = b.front.sign;
+        terminal = b.front.terminal;
         rest = b.front.rest ++ seen (wrd w.Elseif q ∷ (us ++ t ∷ vs));
-        other = b.front.other ++ S.Word w.Elseif ∷ body_signs c ss;
+        other = b.front.other ++ S.Word w.Elseif ∷ body_terminals c ss;
         old = ap seen regrouped ∙ seen-append ts _ ∙ ap (λ l. l ++ seen (wrd w.Elseif q ∷ (us ++ t ∷ vs))) b.front.old;
-        new = is ∙ ap (λ l. l ++ S.Word w.Elseif ∷ body_signs c ss) b.front.new;
-        near = λ u v e. ap (λ l. near_of (b.front.sign ∷ l)) (append_assoc b.front.rest (seen (wrd w.Elseif q ∷ (us ++ t ∷ vs))) u) ∙ b.front.near (seen (wrd w.Elseif q ∷ (us ++ t ∷ vs)) ++ u) (S.Word w.Elseif ∷ body_signs c ss ++ v) refl ∙ sym (ap (λ l. near_of (b.front.sign ∷ l)) (append_assoc b.front.other (S.Word w.Elseif ∷ body_signs c ss) v));
-        marks = λ u v e. ap (λ l. marks_of (b.front.sign ∷ l)) (append_assoc b.front.rest (seen (wrd w.Elseif q ∷ (us ++ t ∷ vs))) u) ∙ b.front.marks (seen (wrd w.Elseif q ∷ (us ++ t ∷ vs)) ++ u) (S.Word w.Elseif ∷ body_signs c ss ++ v) refl ∙ sym (ap (λ l. marks_of (b.front.sign ∷ l)) (append_assoc b.front.other (S.Word w.Elseif ∷ body_signs c ss) v));
+        new = is ∙ ap (λ l. l ++ S.Word w.Elseif ∷ body_terminals c ss) b.front.new;
+        near = λ u v e. ap (λ l. near_of (b.front.terminal ∷ l)) (append_assoc b.front.rest (seen (wrd w.Elseif q ∷ (us ++ t ∷ vs))) u) ∙ b.front.near (seen (wrd w.Elseif q ∷ (us ++ t ∷ vs)) ++ u) (S.Word w.Elseif ∷ body_terminals c ss ++ v) refl ∙ sym (ap (λ l. near_of (b.front.terminal ∷ l)) (append_assoc b.front.other (S.Word w.Elseif ∷ body_terminals c ss) v));
+        marks = λ u v e. ap (λ l. marks_of (b.front.terminal ∷ l)) (append_assoc b.front.rest (seen (wrd w.Elseif q ∷ (us ++ t ∷ vs))) u) ∙ b.front.marks (seen (wrd w.Elseif q ∷ (us ++ t ∷ vs)) ++ u) (S.Word w.Elseif ∷ body_terminals c ss ++ v) refl ∙ sym (ap (λ l. marks_of (b.front.terminal ∷ l)) (append_assoc b.front.other (S.Word w.Elseif ∷ body_terminals c ss) v));
       };
       again = λ rest other right dull.
           let e = right-append ts (wrd w.Elseif q ∷ (us ++ t ∷ vs)) rest (subst (λ l. Right l rest) regrouped right) in
           let m = body-made h r c ss t us vs rest other f s g e.1.1 dull in
-          let n = b.again (S.Word w.Elseif ∷ seen (us ++ t ∷ vs) ++ rest) (S.Word w.Elseif ∷ body_signs c ss ++ other) e.0 (dull_near (S.Word w.Elseif) (seen (us ++ t ∷ vs) ++ rest) refl) in
-          let k = spot h (S.Word w.Elseif ∷ body_signs c ss ++ other) in
-          subst (λ l. Made (BranchesAt r) LikeBranched (p, y) l) (sym (ap (λ l. laid h l other) is ∙ laid-append h (branched_signs x) (S.Word w.Elseif ∷ body_signs c ss) other))
+          let n = b.again (S.Word w.Elseif ∷ seen (us ++ t ∷ vs) ++ rest) (S.Word w.Elseif ∷ body_terminals c ss ++ other) e.0 (dull_near (S.Word w.Elseif) (seen (us ++ t ∷ vs) ++ rest) refl) in
+          let k = spot h (S.Word w.Elseif ∷ body_terminals c ss ++ other) in
+          subst (λ l. Made (BranchesAt r) LikeBranched (p, y) l) (sym (ap (λ l. laid h l other) is ∙ laid-append h (branched_terminals x) (S.Word w.Elseif ∷ body_terminals c ss) other))
           (record {
             tree = (n.tree.0, M.with_branch n.tree.1 k.at m.test m.block);
             derives = next-by r n.tree.0 k n.tree.1 m.test m.block m.place _ m.tests m.lined _ m.is n.derives m.test_is m.block_is;

@@ -2,8 +2,8 @@
 use Rattle.std.proofs.Common.{◌≡◌, ℕ, ◌+◌, ◌≤◌, max, Bool, true, false, cond, nat_le, List, [], ◌∷◌, ◌++◌, map, refl, sym, ap, ◌∙◌, arith}
 use Rattle.std.proofs.lemmas.Bool.{le-ltb}
 use Rattle.std.proofs.lemmas.List.{map-append}
-use Rattle.jl_typeread.specs.declared.sign.Lexeme.{Lexeme}
-use Rattle.jl_typeread.specs.declared.sign.Sign.{Sign}
+use Rattle.jl_typeread.specs.declared.terminal.Lexeme.{Lexeme}
+use Rattle.jl_typeread.specs.declared.terminal.Terminal.{Terminal}
 use Rattle.jl_typeread.specs.declared.deep.Deep.TheVariants.{Built, TooDeep}
 use Rattle.jl_typeread.specs.declared.tree.TypeText.{TypeText}
 use Rattle.jl_typeread.specs.declared.tree.ArgText.{ArgText}
@@ -21,10 +21,10 @@ use Rattle.jl_grammar.specs.declared.state.Forms.{Forms}
 use Rattle.jl_grammar.specs.declared.tree.Expr.{Expr}
 use Rattle.jl_grammar.specs.declared.tree.Expr.TheVariants as XV
 use Rattle.jl_grammar.specs.Forms as M
-use Rattle.jl_grammar.specs.Types.{written}
-use Rattle.jl_print.specs.Printed.{expr_signs}
+use Rattle.jl_grammar.specs.Types.{type_as_read}
+use Rattle.jl_print.specs.Printed.{expr_terminals}
 use Rattle.jl_print.specs.Placeless.{same_type, same_argument, same_variable, same_expr}
-use Rattle.jl_print.proofs.TreeSigns as T
+use Rattle.jl_print.proofs.TreeTerminals as T
 
 -- ---- expressions
 
@@ -35,24 +35,24 @@ LikeExpr f e = (same_expr f.tree ≡ same_expr e.tree) × (f.depth ≡ e.depth)
 abbrev pub LikeForms : {A B : Type 0} → (A → B) → Forms A → Forms A → Type 0
 LikeForms same f e = (map same f.trees ≡ map same e.trees) × (f.depth ≡ e.depth)
 
-pub made_tree : (a d : ℕ) (t : Expr) → d ≤ 500 → (M.made a d t).tree ≡ t
-made_tree a d t l = ap (λ b. cond b (XV.Nothing a) t) (le-ltb 500 d l)
+pub expr_form_tree : (a d : ℕ) (t : Expr) → d ≤ 500 → (M.expr_form a d t).tree ≡ t
+expr_form_tree a d t l = ap (λ b. cond b (XV.Nothing a) t) (le-ltb 500 d l)
 
-pub made_like : (a b c d : ℕ) (t u : Expr) → d ≤ 500 → c ≡ d → same_expr t ≡ same_expr u → LikeExpr (M.made a c t) (M.made b d u)
-made_like a b c d t u l e s =
+pub expr_form_like : (a b c d : ℕ) (t u : Expr) → d ≤ 500 → c ≡ d → same_expr t ≡ same_expr u → LikeExpr (M.expr_form a c t) (M.expr_form b d u)
+expr_form_like a b c d t u l e s =
     let k : c ≤ 500 = omega (arith, e, l) in
-    (ap same_expr (made_tree a c t k) ∙ s ∙ sym (ap same_expr (made_tree b d u l)), e)
+    (ap same_expr (expr_form_tree a c t k) ∙ s ∙ sym (ap same_expr (expr_form_tree b d u l)), e)
 
-pub made_signs : (a d : ℕ) (t : Expr) (ss : List Sign) → d ≤ 500 → expr_signs t ≡ ss → expr_signs (M.made a d t).tree ≡ ss
-made_signs a d t ss l e = ap expr_signs (made_tree a d t l) ∙ e
+pub made_terminals : (a d : ℕ) (t : Expr) (ss : List Terminal) → d ≤ 500 → expr_terminals t ≡ ss → expr_terminals (M.expr_form a d t).tree ≡ ss
+made_terminals a d t ss l e = ap expr_terminals (expr_form_tree a d t l) ∙ e
 
-pub deeper_fits : (d : ℕ) → M.deeper d ≤ 500 → d ≤ 500
-deeper_fits d l = omega (arith, l)
+pub depth_around_fits : (d : ℕ) → M.depth_around d ≤ 500 → d ≤ 500
+depth_around_fits d l = omega (arith, l)
 
-pub left_fits : (a b : ℕ) → M.deeper (max a b) ≤ 500 → a ≤ 500
+pub left_fits : (a b : ℕ) → M.depth_around (max a b) ≤ 500 → a ≤ 500
 left_fits a b l = omega (arith, l)
 
-pub right_fits : (a b : ℕ) → M.deeper (max a b) ≤ 500 → b ≤ 500
+pub right_fits : (a b : ℕ) → M.depth_around (max a b) ≤ 500 → b ≤ 500
 right_fits a b l = omega (arith, l)
 
 -- ---- types
@@ -138,17 +138,17 @@ written-depth : (t : TypeText) (b : Bool) → (M.type_form (cond b (Built t (typ
 written-depth t true = refl
 written-depth t false = refl
 
-pub written_depth : (u t : TypeText) → type_depth u ≡ type_depth t → (written u).depth ≡ (written t).depth
-written_depth u t e = written-depth u (nat_le (type_depth u) depth_limit) ∙ ap (λ d. cond (nat_le d depth_limit) d 501) e ∙ sym (written-depth t (nat_le (type_depth t) depth_limit))
+pub type_as_read_depth : (u t : TypeText) → type_depth u ≡ type_depth t → (type_as_read u).depth ≡ (type_as_read t).depth
+type_as_read_depth u t e = written-depth u (nat_le (type_depth u) depth_limit) ∙ ap (λ d. cond (nat_le d depth_limit) d 501) e ∙ sym (written-depth t (nat_le (type_depth t) depth_limit))
 
 written-tree : (t : TypeText) (b : Bool) → (M.type_form (cond b (Built t (type_depth t)) TooDeep)).depth ≤ 500 → (M.type_form (cond b (Built t (type_depth t)) TooDeep)).tree ≡ t
 written-tree t true l = refl
 written-tree t false l = absurd (omega (arith, l))
 
-pub written_tree : (t : TypeText) → (written t).depth ≤ 500 → (written t).tree ≡ t
-written_tree t l = written-tree t (nat_le (type_depth t) depth_limit) l
+pub type_as_read_tree : (t : TypeText) → (type_as_read t).depth ≤ 500 → (type_as_read t).tree ≡ t
+type_as_read_tree t l = written-tree t (nat_le (type_depth t) depth_limit) l
 
-pub written_same : (u t : TypeText) → LikeType u t → (written t).depth ≤ 500 → same_type (written u).tree ≡ same_type (written t).tree
-written_same u t e l =
-    let k : (written u).depth ≤ 500 = omega (arith, l, written_depth u t e.depth) in
-    ap same_type (written_tree u k) ∙ e.same ∙ sym (ap same_type (written_tree t l))
+pub type_as_read_same : (u t : TypeText) → LikeType u t → (type_as_read t).depth ≤ 500 → same_type (type_as_read u).tree ≡ same_type (type_as_read t).tree
+type_as_read_same u t e l =
+    let k : (type_as_read u).depth ≤ 500 = omega (arith, l, type_as_read_depth u t e.depth) in
+    ap same_type (type_as_read_tree u k) ∙ e.same ∙ sym (ap same_type (type_as_read_tree t l))

@@ -2,12 +2,12 @@
 use Rattle.std.proofs.Common.{◌≡◌, ℕ, Bool, true, false, cond, codes, bytes_eq, List, ◌∷◌, refl, ap}
 use Rattle.std.proofs.lemmas.Slice.Eq.{bytes_eq-Decides}
 use Rattle.jl_token.specs.declared.token.Operator.TheVariants as o
-use Rattle.jl_typeread.specs.declared.sign.Sign.{Sign}
-use Rattle.jl_typeread.specs.declared.sign.Sign.TheVariants as S
+use Rattle.jl_typeread.specs.declared.terminal.Terminal.{Terminal}
+use Rattle.jl_typeread.specs.declared.terminal.Terminal.TheVariants as S
 use Rattle.jl_grammar.specs.declared.mark.Opening.{Opening}
 use Rattle.jl_grammar.specs.declared.mark.Opening.TheVariants as O
 use Rattle.jl_grammar.specs.Marks.{opening, named_call, is_base}
-use Rattle.jl_grammar.specs.Texts.{prints}
+use Rattle.jl_grammar.specs.Texts.{IsPrint}
 use Rattle.jl_print.specs.Printed.{print_name}
 
 pub same_bytes : (a b : List ℕ) → bytes_eq a b ≡ true → a ≡ b
@@ -74,12 +74,12 @@ quote_word n e = same_bytes n (codes "eval") (quoted (bytes_eq n (codes "eval"))
 pub fetch_word : (n : List ℕ) → named_call n ≡ O.Fetch → n ≡ codes "fetch"
 fetch_word n e = same_bytes n (codes "fetch") (fetched (bytes_eq n (codes "eval")) (bytes_eq n (codes "fetch")) (bytes_eq n (codes "println")) (bytes_eq n (codes "print")) (ap is_fetch e))
 
-print-by : (x : Opening) (n : List ℕ) (l : Bool) → named_call n ≡ x → prints x l → n ≡ print_name l
+print-by : (x : Opening) (n : List ℕ) (l : Bool) → named_call n ≡ x → IsPrint x l → n ≡ print_name l
 print-by O.Println n true e p = same_bytes n (codes "println") (println-named (bytes_eq n (codes "eval")) (bytes_eq n (codes "fetch")) (bytes_eq n (codes "println")) (bytes_eq n (codes "print")) (ap is_println e))
 print-by O.Print n false e p = same_bytes n (codes "print") (print-named (bytes_eq n (codes "eval")) (bytes_eq n (codes "fetch")) (bytes_eq n (codes "println")) (bytes_eq n (codes "print")) (ap is_print e))
 print-by x n l e p = absurd p
 
-pub print_word : (n : List ℕ) (l : Bool) → prints (named_call n) l → n ≡ print_name l
+pub print_word : (n : List ℕ) (l : Bool) → IsPrint (named_call n) l → n ≡ print_name l
 print_word n l p = print-by (named_call n) n l refl p
 
 latest-first : (a b c : Bool) → is_latest (cond a (cond b O.Latest O.Call) (cond c O.Plain O.Plain)) ≡ true → (a ≡ true) × (b ≡ true)
@@ -88,7 +88,7 @@ latest-first true false c e = absurd cc
 latest-first false b true e = absurd cc
 latest-first false b false e = absurd cc
 
-pub latest_words : (n m : List ℕ) (ss : List Sign) → opening (S.Name n ∷ S.Operator o.Dot ∷ S.Name m ∷ S.Operator o.OpenParen ∷ ss) ≡ O.Latest → (n ≡ codes "Base") × (m ≡ codes "invokelatest")
+pub latest_words : (n m : List ℕ) (ss : List Terminal) → opening (S.Name n ∷ S.Operator o.Dot ∷ S.Name m ∷ S.Operator o.OpenParen ∷ ss) ≡ O.Latest → (n ≡ codes "Base") × (m ≡ codes "invokelatest")
 latest_words n m ss e =
     let both = latest-first (is_base n) (bytes_eq m (codes "invokelatest")) (bytes_eq n (codes "Threads")) (ap is_latest e) in
     (same_bytes n (codes "Base") both.0, same_bytes m (codes "invokelatest") both.1)
@@ -99,7 +99,7 @@ spawn-first false true true e = (refl, refl)
 spawn-first false true false e = absurd cc
 spawn-first false false c e = absurd cc
 
-pub spawn_words : (n m : List ℕ) (ss : List Sign) → opening (S.Name n ∷ S.Operator o.Dot ∷ S.Macro m ∷ ss) ≡ O.Spawn → (n ≡ codes "Threads") × (m ≡ codes "spawn")
+pub spawn_words : (n m : List ℕ) (ss : List Terminal) → opening (S.Name n ∷ S.Operator o.Dot ∷ S.Macro m ∷ ss) ≡ O.Spawn → (n ≡ codes "Threads") × (m ≡ codes "spawn")
 spawn_words n m ss e =
     let both = spawn-first (is_base n) (bytes_eq n (codes "Threads")) (bytes_eq m (codes "spawn")) (ap is_spawn e) in
     (same_bytes n (codes "Threads") both.0, same_bytes m (codes "spawn") both.1)

@@ -2,9 +2,9 @@
 -- places aside.
 use Rattle.std.proofs.Common.{◌≡◌, ℕ, ◌≤◌, Bool, true, false, not, ◌&&◌, length, None, Result, Ok, Err, IfOk, List, [], ◌∷◌, ◌++◌, refl, sym, ap, ◌∙◌, subst}
 use Rattle.std.specs.declared.alloc.AllocError.{AllocError}
-use Rattle.jl_typeread.specs.declared.sign.Sign.{Sign}
-use Rattle.jl_typeread.specs.declared.sign.Sign.TheVariants as S
-use Rattle.jl_typeread.specs.declared.sign.Word.TheVariants as w
+use Rattle.jl_typeread.specs.declared.terminal.Terminal.{Terminal}
+use Rattle.jl_typeread.specs.declared.terminal.Terminal.TheVariants as S
+use Rattle.jl_typeread.specs.declared.terminal.Word.TheVariants as w
 use Rattle.jl_grammar.specs.declared.mark.Around.{Around}
 use Rattle.jl_grammar.specs.declared.mark.Marked.{Marked}
 use Rattle.jl_grammar.specs.declared.mark.Previous.{Previous}
@@ -14,10 +14,10 @@ use Rattle.jl_grammar.specs.declared.state.ItemsRead.{ItemsRead}
 use Rattle.jl_grammar.specs.declared.tree.Item.{Item}
 use Rattle.jl_grammar.specs.declared.tree.Script.{Script}
 use Rattle.jl_grammar.specs.Grammar as GR
-use Rattle.jl_grammar.specs.Newlines.{inside, in_bracket, is_dropped}
+use Rattle.jl_grammar.specs.Newlines.{around_after, in_bracket, is_dropped}
 use Rattle.jl_grammar.specs.Newlines as L
 use Rattle.jl_grammar.specs.Texts.{Text, wrd, Sep, lexemes}
-use Rattle.jl_print.specs.Printed.{script_signs}
+use Rattle.jl_print.specs.Printed.{script_terminals}
 use Rattle.jl_print.specs.PrintsBack.{IsSource, ReadsBack}
 use Rattle.jl_print.specs.Spelling.{text_of, is_negative, is_prefix, Stays}
 use Rattle.jl_print.proofs.ItemsAgain.{again_script}
@@ -25,17 +25,17 @@ use Rattle.jl_print.proofs.ItemsSpelled.{printed_guarded, reads_back}
 use Rattle.jl_print.proofs.Laid.{seen, seen-append, laid, seen-laid}
 use Rattle.jl_print.proofs.Likes.{dull_near}
 use Rattle.jl_print.proofs.PrintedText.{front_right}
-use Rattle.jl_print.proofs.SpelledSigns.{Guarded}
+use Rattle.jl_print.proofs.SpelledTerminals.{Guarded}
 use Rattle.jl_print.proofs.WholeTexts.{sep_apart, whole_expression, whole_long, whole_short, whole_header_text, whole_fields}
 use Rattle.jl_print.proofs.Wholes.{struct, ClosedText, whole_kept, all_inside, all_behind, all-inside-append, all_behind_append, apart_kept, settled_behind, joins, Shown, RowsShown, shown_two, apart_shown, whole_shown, text-block, text-rows, text-form}
 
 -- ---- items
 
 -- where nothing is open: the newlines of the text are tokens, nothing is open behind it, and a newline behind it is a token
-abbrev Stands : Previous → List Sign → Type 0
+abbrev Stands : Previous → List Terminal → Type 0
 Stands p ss = RowsShown [] p ss × (all_inside [] ss ≡ [])
 
-stands-two : (p : Previous) (a b : List Sign) → Stands p a → Stands (all_behind [] p a) b → Stands p (a ++ b)
+stands-two : (p : Previous) (a b : List Terminal) → Stands p a → Stands (all_behind [] p a) b → Stands p (a ++ b)
 stands-two p a b d e = (
   (
     shown_two [] p a b d.0.0 (subst (λ m. Shown m (all_behind [] p a) b) (sym d.1) e.0.0),
@@ -61,8 +61,8 @@ item-stands _ _ (GR.short_item x ts d) k = closed-stands ts (whole_short x ts d)
 item-stands _ _ (GR.bind_item n e p q ts is d) k = let x = closed-stands ts (whole_expression false e ts d) Joins in (((refl, (refl, x.0.0)), x.0.1), x.1)
 item-stands _ _ (GR.expr_item e ts is d) k = closed-stands ts (whole_expression false e ts d) k
 
-sep-stands : (t : Marked) (p : Previous) → Sep t → joins p ≡ false → Stands p (t.lexeme.sign ∷ [])
-sep-stands t p s e = let x = apart_shown t.lexeme.sign [] p (sep_apart t s) (refl, e) in (((x.0, tt), x.1), apart_kept t.lexeme.sign (sep_apart t s) [])
+sep-stands : (t : Marked) (p : Previous) → Sep t → joins p ≡ false → Stands p (t.lexeme.terminal ∷ [])
+sep-stands t p s e = let x = apart_shown t.lexeme.terminal [] p (sep_apart t s) (refl, e) in (((x.0, tt), x.1), apart_kept t.lexeme.terminal (sep_apart t s) [])
 
 mutual
   before-stands : (xs : ItemsRead) (ts : Text) → GR.ItemsBefore xs ts → Stands Other (seen ts)
@@ -76,10 +76,10 @@ mutual
 -- ---- printed scripts
 
 -- each newline that a script of a source is printed with is a token
-printed-shown : (source : List ℕ) (s : Script) → IsSource source s → Shown [] Other (script_signs s)
+printed-shown : (source : List ℕ) (s : Script) → IsSource source s → Shown [] Other (script_terminals s)
 printed-shown source s is =
     let made = again_script (λ n. 0) (record { items = s.items; too_deep = None }) is.front is.is_script refl (S.End ∷ []) (S.End ∷ []) (front_right source s is) (dull_near S.End [] refl) in
-    subst (Shown [] Other) (seen-laid (λ n. 0) (script_signs s) (S.End ∷ [])) (before-stands made.items (laid (λ n. 0) (script_signs s) (S.End ∷ [])) made.derives).0.0
+    subst (Shown [] Other) (seen-laid (λ n. 0) (script_terminals s) (S.End ∷ [])) (before-stands made.items (laid (λ n. 0) (script_terminals s) (S.End ∷ [])) made.derives).0.0
 
 dropped-in : (a b : Bool) (ns : List Around) (p : Previous) → ((a && not b) && not (in_bracket ns)) ≡ false → ((a && not b) && not (is_dropped ns p)) ≡ false
 dropped-in false b ns p e = refl
@@ -87,14 +87,14 @@ dropped-in true true ns p e = refl
 dropped-in true false ns Joins e = refl
 dropped-in true false ns p e = e
 
-stays-by : (ss : List Sign) (f : Bool) (ns : List Around) (p : Previous) → Shown ns p ss → Guarded f ns ss → Stays f ns p ss
+stays-by : (ss : List Terminal) (f : Bool) (ns : List Around) (p : Previous) → Shown ns p ss → Guarded f ns ss → Stays f ns p ss
 stays-by [] f ns p d e = tt
-stays-by (s ∷ ss) f ns p d e = (d.0, dropped-in (is_negative s) f ns p e.0, stays-by ss (is_prefix s) (inside s ns) (L.behind s ns p) d.1 e.1)
+stays-by (s ∷ ss) f ns p d e = (d.0, dropped-in (is_negative s) f ns p e.0, stays-by ss (is_prefix s) (around_after s ns) (L.previous_after s ns p) d.1 e.1)
 
 -- the text that a script of a source is printed by reads back, where it is not too long for a source
-pub prints_back : (source : List ℕ) (s : Script) → IsSource source s → length (text_of (script_signs s)) ≤ 1048576 → ReadsBack (text_of (script_signs s)) s
-prints_back source s is fits = reads_back source s is (stays-by (script_signs s) true [] Other (printed-shown source s is) (printed_guarded source s is)) fits
+pub prints_back : (source : List ℕ) (s : Script) → IsSource source s → length (text_of (script_terminals s)) ≤ 1048576 → ReadsBack (text_of (script_terminals s)) s
+prints_back source s is fits = reads_back source s is (stays-by (script_terminals s) true [] Other (printed-shown source s is) (printed_guarded source s is)) fits
 
-pub prints_back_if : (r : Result (List ℕ) AllocError) (s : Script) → IfOk r (λ t. t ≡ text_of (script_signs s)) → (source : List ℕ) → IsSource source s → IfOk r (λ t. length t ≤ 1048576 → ReadsBack t s)
+pub prints_back_if : (r : Result (List ℕ) AllocError) (s : Script) → IfOk r (λ t. t ≡ text_of (script_terminals s)) → (source : List ℕ) → IsSource source s → IfOk r (λ t. length t ≤ 1048576 → ReadsBack t s)
 prints_back_if (Ok t) s e source is = λ fits. subst (λ l. ReadsBack l s) (sym e) (prints_back source s is (subst (λ l. length l ≤ 1048576) e fits))
 prints_back_if (Err x) s e source is = tt

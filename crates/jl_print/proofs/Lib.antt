@@ -6,9 +6,9 @@ pub mod Wholes
 pub mod WholeTypes
 pub mod WholeTexts
 pub mod Likes
-pub mod TreeSigns
+pub mod TreeTerminals
 pub mod Laid
-pub mod ListSigns
+pub mod ListTerminals
 pub mod TypesAgain
 pub mod AgainLikes
 pub mod AgainFree
@@ -23,9 +23,9 @@ pub mod AgainMethods
 pub mod ExprsAgain
 pub mod ItemsAgain
 pub mod PrintedText
-pub mod SourceSigns
-pub mod SourceSigned
-pub mod SpelledSigns
+pub mod SourceTerminals
+pub mod SourceRead
+pub mod SpelledTerminals
 pub mod TypesSpelled
 pub mod ItemsSpelled
 pub mod ItemsShown

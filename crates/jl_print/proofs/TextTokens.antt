@@ -13,16 +13,16 @@ use Rattle.jl_token.specs.declared.token.Operator.{Operator}
 use Rattle.jl_token.specs.declared.token.Operator.TheVariants as op
 use Rattle.jl_token.specs.declared.token.TokenKind.{TokenKind}
 use Rattle.jl_token.specs.declared.token.TokenKind.TheVariants as kind
-use Rattle.jl_token.specs.Characters.{starts_word, continues_word, spoils_number, begins}
-use Rattle.jl_token.specs.Prefix.{is_prefix_behind}
+use Rattle.jl_token.specs.Characters.{is_word_start, is_word_part, is_wrong_after_number, has_first}
+use Rattle.jl_token.specs.Prefix.{is_prefix_after}
 use Rattle.jl_token.specs.Grammar.{IsWord, Quoted, Numeral, digit, digit_more, NumeralEnds, Spells, Ends, Longest, spelling, may_be_sign}
-use Rattle.jl_typeread.specs.Lexemes.{sign_of, named, named_as, reserved}
-use Rattle.jl_typeread.specs.declared.sign.Sign.{Sign}
-use Rattle.jl_typeread.specs.declared.sign.Sign.TheVariants as S
-use Rattle.jl_typeread.specs.declared.sign.Word.{Word}
-use Rattle.jl_typeread.specs.declared.sign.Word.TheVariants as w
-use Rattle.jl_print.specs.Spelling.{word_text, escaped, operator_text, sign_text, is_negative, is_ruled, fits_number, IsIdentifier, IsSpellable, is_prefix_word, is_prefix}
-use Rattle.jl_print.proofs.EscapeText.{escaped-chars, escaped-scalars, scalars-append, quoted_escaped}
+use Rattle.jl_typeread.specs.Lexemes.{terminal_of, word_or_name, name_unless, reserved_word}
+use Rattle.jl_typeread.specs.declared.terminal.Terminal.{Terminal}
+use Rattle.jl_typeread.specs.declared.terminal.Terminal.TheVariants as S
+use Rattle.jl_typeread.specs.declared.terminal.Word.{Word}
+use Rattle.jl_typeread.specs.declared.terminal.Word.TheVariants as w
+use Rattle.jl_print.specs.Spelling.{word_text, escape_text, operator_text, terminal_text, is_negative, is_ruled, IsNumber, IsIdentifier, IsSpellable, is_prefix_word, is_prefix}
+use Rattle.jl_print.proofs.EscapeText.{escape_text-chars, escape_text-scalars, scalars-append, quoted_escape_text}
 
 -- ---- characters below 128, which are their own bytes
 
@@ -61,23 +61,23 @@ abbrev Spaced : List ℕ → Type 0
 Spaced space = (space ≡ 32 ∷ []) ⊎ (space ≡ [])
 
 -- a token of this sign: its characters, and the space behind them
-pub record Written (s : Sign) : Type 0 where
+pub record Written (s : Terminal) : Type 0 where
   pub chars : List ℕ
   pub space : List ℕ
   pub token : TokenKind
   pub are : scalars chars ≡ true
-  pub bytes : encode_utf8_all (chars ++ space) ≡ sign_text s
+  pub bytes : encode_utf8_all (chars ++ space) ≡ terminal_text s
   pub spaced : Spaced space
-  pub sign : sign_of token ≡ s
+  pub terminal : terminal_of token ≡ s
   pub spells : (prefix : Bool) → (is_negative s && not prefix) ≡ false → Spells prefix chars token
   pub ends : (prefix : Bool) (rest : List ℕ) → Ends prefix token (space ++ rest)
-  pub behind : is_prefix s ≡ true → is_prefix_behind token ≡ true
+  pub behind : is_prefix s ≡ true → is_prefix_after token ≡ true
 
-word-ends : (rest : List ℕ) → begins continues_word (32 ∷ rest) ≡ false
+word-ends : (rest : List ℕ) → has_first is_word_part (32 ∷ rest) ≡ false
 unfolding unicode_ident
 word-ends rest = refl
 
-number-ends : (rest : List ℕ) → NumeralEnds (32 ∷ rest) × (begins spoils_number (32 ∷ rest) ≡ false)
+number-ends : (rest : List ℕ) → NumeralEnds (32 ∷ rest) × (has_first is_wrong_after_number (32 ∷ rest) ≡ false)
 unfolding unicode_ident
 number-ends rest = ((refl, refl), refl)
 
@@ -96,7 +96,7 @@ not-false : (a : Bool) → (true && not a) ≡ false → a ≡ true
 not-false true e = refl
 not-false false e = absurd (never (sym e))
 
-name-written : (n : List ℕ) → IsIdentifier n → reserved n ≡ None → Written (S.Name n)
+name-written : (n : List ℕ) → IsIdentifier n → reserved_word n ≡ None → Written (S.Name n)
 name-written n is free = record {
   chars = is.0;
   space = 32 ∷ [];
@@ -104,7 +104,7 @@ name-written n is free = record {
   are = is.1;
   bytes = spaced-bytes is.0 n (sym is.3);
   spaced = inl refl;
-  sign = ap (λ r. named_as r n) free;
+  terminal = ap (λ r. name_unless r n) free;
   spells = λ prefix e. (is.2, is.3);
   ends = λ prefix rest. word-ends rest;
   behind = λ e. absurd (never e);
@@ -118,7 +118,7 @@ macro-written n is = record {
   are = is.1;
   bytes = ap (λ l. l ++ encode_utf8_all (is.0 ++ 32 ∷ [])) (encode_ascii 64 (omega arith)) ∙ ap (λ l. 64 ∷ l) (spaced-bytes is.0 n (sym is.3));
   spaced = inl refl;
-  sign = refl;
+  terminal = refl;
   spells = λ prefix e. (is.0, refl, is.2, is.3);
   ends = λ prefix rest. word-ends rest;
   behind = λ e. absurd (never e);
@@ -128,22 +128,22 @@ macro-written n is = record {
 
 abbrev all_continue : List ℕ → Bool
 all_continue [] = true
-all_continue (c ∷ cs) = continues_word c && all_continue cs
+all_continue (c ∷ cs) = is_word_part c && all_continue cs
 
 abbrev is_word : List ℕ → Bool
 is_word [] = false
-is_word (c ∷ cs) = starts_word c && all_continue cs
+is_word (c ∷ cs) = is_word_start c && all_continue cs
 
-continue-all : (cs : List ℕ) → all_continue cs ≡ true → AllByRecursion (λ d. continues_word d ≡ true) cs
+continue-all : (cs : List ℕ) → all_continue cs ≡ true → AllByRecursion (λ d. is_word_part d ≡ true) cs
 continue-all [] e = tt
-continue-all (c ∷ cs) e = let b = split (continues_word c) (all_continue cs) e in (b.0, continue-all cs b.1)
+continue-all (c ∷ cs) e = let b = split (is_word_part c) (all_continue cs) e in (b.0, continue-all cs b.1)
 
 word-is : (cs : List ℕ) → is_word cs ≡ true → IsWord cs
 word-is [] e = absurd (never e)
-word-is (c ∷ cs) e = let b = split (starts_word c) (all_continue cs) e in (b.0, continue-all cs b.1)
+word-is (c ∷ cs) e = let b = split (is_word_start c) (all_continue cs) e in (b.0, continue-all cs b.1)
 
-ruled : (x : Word) → are_low (word_text x) ≡ true → is_word (word_text x) ≡ true → named (word_text x) ≡ S.Word x
-    → (is_prefix_word x ≡ true → is_prefix_behind (kind.Identifier (word_text x)) ≡ true) → Written (S.Word x)
+ruled : (x : Word) → are_low (word_text x) ≡ true → is_word (word_text x) ≡ true → word_or_name (word_text x) ≡ S.Word x
+    → (is_prefix_word x ≡ true → is_prefix_after (kind.Identifier (word_text x)) ≡ true) → Written (S.Word x)
 ruled x low is same behind = record {
   chars = word_text x;
   space = 32 ∷ [];
@@ -151,7 +151,7 @@ ruled x low is same behind = record {
   are = low-scalars (word_text x) low;
   bytes = spaced-bytes (word_text x) (word_text x) (low-bytes (word_text x) low);
   spaced = inl refl;
-  sign = same;
+  terminal = same;
   spells = λ prefix e. (word-is (word_text x) is, sym (low-bytes (word_text x) low));
   ends = λ prefix rest. word-ends rest;
   behind = behind;
@@ -200,7 +200,7 @@ digit-behind n ds l is =
 decimal-is : (n : ℕ) → n < 2 ^ 64 → Digits n (decimal n)
 decimal-is = decimal_by_steps Digits one-digit digit-behind
 
-number-written : (n : ℤ) → fits_number n → Written (S.Number n)
+number-written : (n : ℤ) → IsNumber n → Written (S.Number n)
 number-written (pos n) fits =
     let d = decimal-is n (omega arith) in
     record {
@@ -210,7 +210,7 @@ number-written (pos n) fits =
       are = low-scalars (decimal n) d.1;
       bytes = spaced-bytes (decimal n) (decimal n) (low-bytes (decimal n) d.1);
       spaced = inl refl;
-      sign = refl;
+      terminal = refl;
       spells = λ prefix e. (n, d.0, fits, refl);
       ends = λ prefix rest. number-ends rest;
       behind = λ e. absurd (never e);
@@ -225,7 +225,7 @@ number-written (negsuc n) fits =
       are = low-scalars (45 ∷ decimal (suc n)) low;
       bytes = spaced-bytes (45 ∷ decimal (suc n)) (45 ∷ decimal (suc n)) (low-bytes (45 ∷ decimal (suc n)) low);
       spaced = inl refl;
-      sign = refl;
+      terminal = refl;
       spells = λ prefix e. (decimal (suc n), suc n, not-false prefix e, refl, d.0, omega arith, refl);
       ends = λ prefix rest. number-ends rest;
       behind = λ e. absurd (never e);
@@ -235,19 +235,19 @@ number-written (negsuc n) fits =
 
 text-written : (t : List ℕ) → IsUtf8 t → Written (S.Text t)
 text-written t is =
-    let body = escaped is.0 in
-    let inner : encode_utf8_all body ≡ escaped t = sym (escaped-chars is.0 is.1.0) ∙ ap escaped is.1.1 in
+    let body = escape_text is.0 in
+    let inner : encode_utf8_all body ≡ escape_text t = sym (escape_text-chars is.0 is.1.0) ∙ ap escape_text is.1.1 in
     record {
       chars = 34 ∷ body ++ 34 ∷ [];
       space = 32 ∷ [];
       token = kind.Text t;
-      are = scalars-append body (34 ∷ []) (escaped-scalars is.0 is.1.0) refl;
+      are = scalars-append body (34 ∷ []) (escape_text-scalars is.0 is.1.0) refl;
       bytes = ap (λ l. l ++ encode_utf8_all ((body ++ 34 ∷ []) ++ 32 ∷ [])) (encode_ascii 34 (omega arith))
           ∙ ap (λ l. 34 ∷ encode_utf8_all l) (append_assoc body (34 ∷ []) (32 ∷ []))
-          ∙ ap (λ l. 34 ∷ l) (encodes-append body (34 ∷ 32 ∷ []) ∙ ap (λ l. l ++ encode_utf8_all (34 ∷ 32 ∷ [])) inner ∙ ap (λ l. escaped t ++ l) (low-bytes (34 ∷ 32 ∷ []) refl));
+          ∙ ap (λ l. 34 ∷ l) (encodes-append body (34 ∷ 32 ∷ []) ∙ ap (λ l. l ++ encode_utf8_all (34 ∷ 32 ∷ [])) inner ∙ ap (λ l. escape_text t ++ l) (low-bytes (34 ∷ 32 ∷ []) refl));
       spaced = inl refl;
-      sign = refl;
-      spells = λ prefix e. (body, refl, subst (Quoted body) is.1.1 (quoted_escaped is.0));
+      terminal = refl;
+      spells = λ prefix e. (body, refl, subst (Quoted body) is.1.1 (quoted_escape_text is.0));
       ends = λ prefix rest. tt;
       behind = λ e. absurd (never e);
     }
@@ -311,7 +311,7 @@ operator-written x = record {
   are = (operator-plain x).0;
   bytes = spaced-bytes (spelling x) (operator_text x) refl;
   spaced = inl refl;
-  sign = refl;
+  terminal = refl;
   spells = λ prefix e. refl;
   ends = λ prefix rest. (longest x rest, and-false (may_be_sign prefix x));
   behind = λ e. e;
@@ -325,13 +325,13 @@ newline-written = record {
   are = refl;
   bytes = low-bytes (10 ∷ []) refl;
   spaced = inr refl;
-  sign = refl;
+  terminal = refl;
   spells = λ prefix e. refl;
   ends = λ prefix rest. tt;
   behind = λ e. refl;
 }
 
-pub written : (s : Sign) → IsSpellable s → Written s
+pub written : (s : Terminal) → IsSpellable s → Written s
 written (S.Name n) is = name-written n is.0 is.1
 written (S.Word x) is = word-written x is
 written (S.Number n) is = number-written n is

@@ -3,9 +3,9 @@
 use Rattle.std.proofs.Common.{◌≡◌, ℕ, ◌⊎◌, inl, inr, Bool, true, false, codes, List, [], ◌∷◌, ◌++◌, Option, refl, sym, ap, append_assoc}
 use Rattle.jl_token.specs.declared.token.Operator.{Operator}
 use Rattle.jl_token.specs.declared.token.Operator.TheVariants as o
-use Rattle.jl_typeread.specs.declared.sign.Lexeme.{Lexeme}
-use Rattle.jl_typeread.specs.declared.sign.Sign.TheVariants as S
-use Rattle.jl_typeread.specs.declared.sign.Word.TheVariants as w
+use Rattle.jl_typeread.specs.declared.terminal.Lexeme.{Lexeme}
+use Rattle.jl_typeread.specs.declared.terminal.Terminal.TheVariants as S
+use Rattle.jl_typeread.specs.declared.terminal.Word.TheVariants as w
 use Rattle.jl_grammar.specs.declared.mark.Marked.{Marked}
 use Rattle.jl_grammar.specs.declared.state.Branched.{Branched}
 use Rattle.jl_grammar.specs.declared.state.Form.{Form}
@@ -34,36 +34,36 @@ use Rattle.jl_print.proofs.WholeTypes.{whole_type, whole_where, whole_header}
 
 -- ---- tokens
 
-one-text : (t : Marked) → is_neutral t.lexeme.sign ≡ true → WholeText (t ∷ [])
+one-text : (t : Marked) → is_neutral t.lexeme.terminal ≡ true → WholeText (t ∷ [])
 one-text t n = one t.lexeme n
 
-cons : (t : Marked) (ls : List Lexeme) → is_neutral t.lexeme.sign ≡ true → Closed ls → Closed (t.lexeme ∷ ls)
+cons : (t : Marked) (ls : List Lexeme) → is_neutral t.lexeme.terminal ≡ true → Closed ls → Closed (t.lexeme ∷ ls)
 cons t ls n d = closed-cons t.lexeme ls n d
 
-whole : (t : Marked) (ls : List Lexeme) → is_neutral t.lexeme.sign ≡ true → IsWhole ls → IsWhole (t.lexeme ∷ ls)
+whole : (t : Marked) (ls : List Lexeme) → is_neutral t.lexeme.terminal ≡ true → IsWhole ls → IsWhole (t.lexeme ∷ ls)
 whole t ls n d = whole-cons t.lexeme ls n d
 
-pub sep_apart : (t : Marked) → Sep t → IsApart t.lexeme.sign
+pub sep_apart : (t : Marked) → Sep t → IsApart t.lexeme.terminal
 sep_apart _ (semicolon p) = W.semicolon
 sep_apart _ (newline p) = W.newline
 
 sep : (t : Marked) → Sep t → RowsText (t ∷ [])
 sep t s = text-apart t (sep_apart t s)
 
-prefix-neutral : (x : Operator) (u : Prefix) → GR.PrefixSign x u → is_neutral (S.Operator x) ≡ true
+prefix-neutral : (x : Operator) (u : Prefix) → GR.PrefixOperator x u → is_neutral (S.Operator x) ≡ true
 prefix-neutral _ _ GR.minus_prefix = refl
 prefix-neutral _ _ GR.not_prefix = refl
 
-term-neutral : (x : Operator) (i : Infix) → GR.TermSign x i → is_neutral (S.Operator x) ≡ true
+term-neutral : (x : Operator) (i : Infix) → GR.TermOperator x i → is_neutral (S.Operator x) ≡ true
 term-neutral _ _ GR.times = refl
 term-neutral _ _ GR.divide = refl
 term-neutral _ _ GR.remainder = refl
 
-sum-neutral : (x : Operator) (i : Infix) → GR.SumSign x i → is_neutral (S.Operator x) ≡ true
+sum-neutral : (x : Operator) (i : Infix) → GR.SumOperator x i → is_neutral (S.Operator x) ≡ true
 sum-neutral _ _ GR.plus = refl
 sum-neutral _ _ GR.minus = refl
 
-comparison-neutral : (x : Operator) (i : Infix) → GR.ComparisonSign x i → is_neutral (S.Operator x) ≡ true
+comparison-neutral : (x : Operator) (i : Infix) → GR.ComparisonOperator x i → is_neutral (S.Operator x) ≡ true
 comparison-neutral _ _ GR.equal = refl
 comparison-neutral _ _ GR.not_equal = refl
 comparison-neutral _ _ GR.less = refl
@@ -83,7 +83,7 @@ function-neutral o.CloseBrace e = absurd cc
 function-neutral x e = refl
 
 -- a form, an operator and a form
-infixed : (t : Marked) (ts us : Text) → is_neutral t.lexeme.sign ≡ true → ClosedText ts → ClosedText us → ClosedText (ts ++ t ∷ us)
+infixed : (t : Marked) (ts us : Text) → is_neutral t.lexeme.terminal ≡ true → ClosedText ts → ClosedText us → ClosedText (ts ++ t ∷ us)
 infixed t ts us n d e = text-closed ts (t ∷ us) d.0 (cons t (lexemes us) n e)
 
 -- ---- heads
@@ -180,7 +180,7 @@ mutual
   whole_piece _ _ _ _ (GR.show r xs e ts d) = whole_expression r e ts d
 
   pub whole_pieces : (r : Bool) (xs : Forms Piece) (ts : Text) → GR.Pieces r xs ts → ClosedText ts
-  whole_pieces _ _ _ (GR.one_piece r xs ts d) = whole_piece r M.none xs ts d
+  whole_pieces _ _ _ (GR.one_piece r xs ts d) = whole_piece r M.no_forms xs ts d
   whole_pieces _ _ _ (GR.more_pieces r xs ys p ts us c d) = infixed (opr o.Comma p) ts us refl (whole_pieces r xs ts c) (whole_piece r xs ys us d)
 
   pub whole_post : (r k b : Bool) (e : Form Expr) (ts : Text) → GR.Post r k b e ts → ClosedText ts

@@ -1,8 +1,8 @@
 -- In the text of a type each bracket that begins also ends.
 use Rattle.std.proofs.Common.{List, [], ◌∷◌, ◌++◌, refl}
 use Rattle.jl_token.specs.declared.token.Operator.TheVariants as o
-use Rattle.jl_typeread.specs.declared.sign.Lexeme.{Lexeme}
-use Rattle.jl_typeread.specs.declared.sign.Word.TheVariants as w
+use Rattle.jl_typeread.specs.declared.terminal.Lexeme.{Lexeme}
+use Rattle.jl_typeread.specs.declared.terminal.Word.TheVariants as w
 use Rattle.jl_typeread.specs.declared.tree.TypeText.{TypeText}
 use Rattle.jl_typeread.specs.declared.tree.ArgText.{ArgText}
 use Rattle.jl_typeread.specs.declared.tree.VarText.{VarText}

@@ -2,7 +2,7 @@
 use Rattle.std.specs.Prelude.{ℕ, List, [], ◌∷◌, ◌++◌, ◌≡◌, None, Ok}
 use Rattle.jl_token.specs.declared.token.Token.{Token}
 use Rattle.jl_token.specs.Grammar.{ReadsSource}
-use Rattle.jl_typeread.specs.declared.sign.Sign.TheVariants as S
+use Rattle.jl_typeread.specs.declared.terminal.Terminal.TheVariants as S
 use Rattle.jl_typeread.specs.Lexemes.{lexemes}
 use Rattle.jl_grammar.specs.Grammar.{ScriptText}
 use Rattle.jl_grammar.specs.Reads.{text}

@@ -1,35 +1,35 @@
 //! The tokens that expressions, statements and methods are printed by. The depth of calls is that of the tree.
 
 ghost use Rattle.std.specs.Prelude.{◌≡◌, ◌++◌, ◌∷◌, [], map, codes, OnOk};
-ghost use Rattle.jl_typeread.specs.declared.sign.Sign.TheVariants as S;
-ghost use Rattle.jl_typeread.specs.declared.sign.Word.TheVariants as w;
+ghost use Rattle.jl_typeread.specs.declared.terminal.Terminal.TheVariants as S;
+ghost use Rattle.jl_typeread.specs.declared.terminal.Word.TheVariants as w;
 ghost use Rattle.jl_token.specs.declared.token.Operator.TheVariants as o;
-ghost use Rattle.jl_print.specs.Printed.{joined, joined_more, lines, in_parens, tuple_step, block_step, branches_step, branches_more, branch_word, print_name, prefix_sign, infix_sign, truth_sign, callee_signs, type_signs, expr_signs, method_signs, stmt_signs, eval_signs, branch_signs, piece_signs};
+ghost use Rattle.jl_print.specs.Printed.{join, join_more, lines, in_parens, tuple_step, block_step, branches_step, branches_more, branch_word, print_name, prefix_terminal, infix_terminal, truth_terminal, callee_terminals, type_terminals, expr_terminals, method_terminals, stmt_terminals, eval_terminals, branch_terminals, piece_terminals};
 
 use crate::print_heads::{put_callee, put_head, put_text};
 use crate::print_types::{put_mark, put_name, put_type, put_word};
 use jl_grammar::tree::{Branch, Callee, Eval, Expr, Infix, Method, Name, Piece, Prefix, Stmt};
 use jl_model::rows::Row;
 use jl_token::token::Operator;
-use jl_typeread::sign::{Sign, Word};
+use jl_typeread::terminal::{Terminal, Word};
 use jl_typeread::tree::TypeText;
 use std::alloc::{AllocError, Global};
 
 /// The operator with one operand.
-fn prefix_mark(prefix: Prefix) -> Sign
-    ensures { result ≡ prefix_sign prefix }
+fn prefix_mark(prefix: Prefix) -> Terminal
+    ensures { result ≡ prefix_terminal prefix }
 {
     match prefix {
-        Prefix::Minus => Sign::Operator(Operator::Minus),
-        Prefix::Not => Sign::Operator(Operator::Not),
+        Prefix::Minus => Terminal::Operator(Operator::Minus),
+        Prefix::Not => Terminal::Operator(Operator::Not),
     }
 }
 
 /// The operator with two operands.
-fn infix_mark(operator: Infix) -> Sign
-    ensures { result ≡ infix_sign operator }
+fn infix_mark(operator: Infix) -> Terminal
+    ensures { result ≡ infix_terminal operator }
 {
-    Sign::Operator(match operator {
+    Terminal::Operator(match operator {
         Infix::Or => Operator::Or,
         Infix::And => Operator::And,
         Infix::Equal => Operator::Equal,
@@ -49,13 +49,13 @@ fn infix_mark(operator: Infix) -> Sign
 }
 
 /// A truth value.
-fn truth_word(truth: bool) -> Sign
-    ensures { result ≡ truth_sign truth }
+fn truth_word(truth: bool) -> Terminal
+    ensures { result ≡ truth_terminal truth }
 {
     if truth {
-        return Sign::Word(Word::True);
+        return Terminal::Word(Word::True);
     }
-    Sign::Word(Word::False)
+    Terminal::Word(Word::False)
 }
 
 /// The name of the function that prints, with a newline or without.
@@ -66,7 +66,7 @@ fn print_name(line: bool) -> &'static [u8]
 }
 
 /// A name, `.` and a macro word.
-fn put_spawn(out: &mut Row<Sign>, alloc: Global) -> Result<(), AllocError>
+fn put_spawn(out: &mut Row<Terminal>, alloc: Global) -> Result<(), AllocError>
     ensures { OnOk result (out.new ≡ out.old ++ S.Name (codes "Threads") ∷ S.Operator o.Dot ∷ S.Macro (codes "spawn") ∷ []) }
 {
     put_text(out, alloc, b"Threads")?;
@@ -75,17 +75,17 @@ fn put_spawn(out: &mut Row<Sign>, alloc: Global) -> Result<(), AllocError>
 }
 
 /// A macro word of these bytes.
-fn put_macro(out: &mut Row<Sign>, alloc: Global, name: &[u8]) -> Result<(), AllocError>
+fn put_macro(out: &mut Row<Terminal>, alloc: Global, name: &[u8]) -> Result<(), AllocError>
     ensures { OnOk result (out.new ≡ out.old ++ S.Macro name.now ∷ []) }
 {
     let mut bytes = Row::new(alloc);
     bytes.append(name)?;
-    out.push(Sign::Macro(bytes.into_shared(alloc)?))
+    out.push(Terminal::Macro(bytes.into_shared(alloc)?))
 }
 
 /// Two names with `.` between them.
 fn put_dotted(
-    out: &mut Row<Sign>,
+    out: &mut Row<Terminal>,
     alloc: Global,
     first: &[u8],
     second: &[u8],
@@ -98,7 +98,7 @@ fn put_dotted(
 }
 
 /// A field of an expression.
-fn put_field(out: &mut Row<Sign>, name: &Name) -> Result<(), AllocError>
+fn put_field(out: &mut Row<Terminal>, name: &Name) -> Result<(), AllocError>
     ensures { OnOk result (out.new ≡ out.old ++ S.Operator o.Dot ∷ S.Name name.now.bytes ∷ []) }
 {
     put_mark(out, Operator::Dot)?;
@@ -106,17 +106,17 @@ fn put_field(out: &mut Row<Sign>, name: &Name) -> Result<(), AllocError>
 }
 
 /// A part of an expression.
-fn put_part(out: &mut Row<Sign>, number: i64) -> Result<(), AllocError>
+fn put_part(out: &mut Row<Terminal>, number: i64) -> Result<(), AllocError>
     ensures { OnOk result (out.new ≡ out.old ++ S.Operator o.OpenBracket ∷ S.Number number ∷ S.Operator o.CloseBracket ∷ []) }
 {
     put_mark(out, Operator::OpenBracket)?;
-    out.push(Sign::Number(number))?;
+    out.push(Terminal::Number(number))?;
     put_mark(out, Operator::CloseBracket)
 }
 
 /// Two types with `<:` between them.
-fn put_sub(out: &mut Row<Sign>, low: &TypeText, high: &TypeText) -> Result<(), AllocError>
-    ensures { OnOk result (out.new ≡ out.old ++ (type_signs low.now ++ S.Operator o.Subtype ∷ type_signs high.now)) }
+fn put_sub(out: &mut Row<Terminal>, low: &TypeText, high: &TypeText) -> Result<(), AllocError>
+    ensures { OnOk result (out.new ≡ out.old ++ (type_terminals low.now ++ S.Operator o.Subtype ∷ type_terminals high.now)) }
 {
     put_type(out, low)?;
     put_mark(out, Operator::Subtype)?;
@@ -125,8 +125,8 @@ fn put_sub(out: &mut Row<Sign>, low: &TypeText, high: &TypeText) -> Result<(), A
 
 /// Expressions with `,` between them.
 #[cycle(forms)]
-fn put_exprs(out: &mut Row<Sign>, alloc: Global, exprs: &[Expr]) -> Result<(), AllocError>
-    ensures { OnOk result (out.new ≡ out.old ++ joined (map expr_signs exprs.now)) }
+fn put_exprs(out: &mut Row<Terminal>, alloc: Global, exprs: &[Expr]) -> Result<(), AllocError>
+    ensures { OnOk result (out.new ≡ out.old ++ join (map expr_terminals exprs.now)) }
 {
     for (i, expr) in exprs.iter().enumerate() {
         if i > 0 {
@@ -139,8 +139,8 @@ fn put_exprs(out: &mut Row<Sign>, alloc: Global, exprs: &[Expr]) -> Result<(), A
 
 /// Expressions, each behind a `,`.
 #[cycle(forms)]
-fn put_more_exprs(out: &mut Row<Sign>, alloc: Global, exprs: &[Expr]) -> Result<(), AllocError>
-    ensures { OnOk result (out.new ≡ out.old ++ joined_more (map expr_signs exprs.now)) }
+fn put_more_exprs(out: &mut Row<Terminal>, alloc: Global, exprs: &[Expr]) -> Result<(), AllocError>
+    ensures { OnOk result (out.new ≡ out.old ++ join_more (map expr_terminals exprs.now)) }
 {
     for expr in exprs {
         put_mark(out, Operator::Comma)?;
@@ -151,8 +151,8 @@ fn put_more_exprs(out: &mut Row<Sign>, alloc: Global, exprs: &[Expr]) -> Result<
 
 /// Expressions in parentheses.
 #[cycle(forms)]
-fn put_in_parens(out: &mut Row<Sign>, alloc: Global, exprs: &[Expr]) -> Result<(), AllocError>
-    ensures { OnOk result (out.new ≡ out.old ++ in_parens (map expr_signs exprs.now)) }
+fn put_in_parens(out: &mut Row<Terminal>, alloc: Global, exprs: &[Expr]) -> Result<(), AllocError>
+    ensures { OnOk result (out.new ≡ out.old ++ in_parens (map expr_terminals exprs.now)) }
 {
     put_mark(out, Operator::OpenParen)?;
     put_exprs(out, alloc, exprs)?;
@@ -161,8 +161,8 @@ fn put_in_parens(out: &mut Row<Sign>, alloc: Global, exprs: &[Expr]) -> Result<(
 
 /// A tuple; a single part has a `,` behind it.
 #[cycle(forms)]
-fn put_tuple(out: &mut Row<Sign>, alloc: Global, parts: &[Expr]) -> Result<(), AllocError>
-    ensures { OnOk result (out.new ≡ out.old ++ tuple_step (map expr_signs parts.now)) }
+fn put_tuple(out: &mut Row<Terminal>, alloc: Global, parts: &[Expr]) -> Result<(), AllocError>
+    ensures { OnOk result (out.new ≡ out.old ++ tuple_step (map expr_terminals parts.now)) }
 {
     put_mark(out, Operator::OpenParen)?;
     put_exprs(out, alloc, parts)?;
@@ -175,12 +175,12 @@ fn put_tuple(out: &mut Row<Sign>, alloc: Global, parts: &[Expr]) -> Result<(), A
 /// What is called and the arguments, with `,` between them.
 #[cycle(forms)]
 fn put_given(
-    out: &mut Row<Sign>,
+    out: &mut Row<Terminal>,
     alloc: Global,
     callee: &Callee,
     arguments: &[Expr],
 ) -> Result<(), AllocError>
-    ensures { OnOk result (out.new ≡ out.old ++ joined (callee_signs callee.now ∷ map expr_signs arguments.now)) }
+    ensures { OnOk result (out.new ≡ out.old ++ join (callee_terminals callee.now ∷ map expr_terminals arguments.now)) }
 {
     put_callee(out, alloc, callee)?;
     put_more_exprs(out, alloc, arguments)
@@ -189,12 +189,12 @@ fn put_given(
 /// What is called and the arguments, in parentheses.
 #[cycle(forms)]
 fn put_given_in_parens(
-    out: &mut Row<Sign>,
+    out: &mut Row<Terminal>,
     alloc: Global,
     callee: &Callee,
     arguments: &[Expr],
 ) -> Result<(), AllocError>
-    ensures { OnOk result (out.new ≡ out.old ++ in_parens (callee_signs callee.now ∷ map expr_signs arguments.now)) }
+    ensures { OnOk result (out.new ≡ out.old ++ in_parens (callee_terminals callee.now ∷ map expr_terminals arguments.now)) }
 {
     put_mark(out, Operator::OpenParen)?;
     put_given(out, alloc, callee, arguments)?;
@@ -204,12 +204,12 @@ fn put_given_in_parens(
 /// `Base.invokelatest`, what it calls and the arguments.
 #[cycle(forms)]
 fn put_latest_call(
-    out: &mut Row<Sign>,
+    out: &mut Row<Terminal>,
     alloc: Global,
     callee: &Callee,
     arguments: &[Expr],
 ) -> Result<(), AllocError>
-    ensures { OnOk result (out.new ≡ out.old ++ S.Name (codes "Base") ∷ S.Operator o.Dot ∷ S.Name (codes "invokelatest") ∷ in_parens (callee_signs callee.now ∷ map expr_signs arguments.now)) }
+    ensures { OnOk result (out.new ≡ out.old ++ S.Name (codes "Base") ∷ S.Operator o.Dot ∷ S.Name (codes "invokelatest") ∷ in_parens (callee_terminals callee.now ∷ map expr_terminals arguments.now)) }
 {
     put_dotted(out, alloc, b"Base", b"invokelatest")?;
     put_given_in_parens(out, alloc, callee, arguments)
@@ -217,8 +217,8 @@ fn put_latest_call(
 
 /// An expression in parentheses.
 #[cycle(forms)]
-fn put_paren(out: &mut Row<Sign>, alloc: Global, expr: &Expr) -> Result<(), AllocError>
-    ensures { OnOk result (out.new ≡ out.old ++ S.Operator o.OpenParen ∷ (expr_signs expr.now ++ S.Operator o.CloseParen ∷ [])) }
+fn put_paren(out: &mut Row<Terminal>, alloc: Global, expr: &Expr) -> Result<(), AllocError>
+    ensures { OnOk result (out.new ≡ out.old ++ S.Operator o.OpenParen ∷ (expr_terminals expr.now ++ S.Operator o.CloseParen ∷ [])) }
 {
     put_mark(out, Operator::OpenParen)?;
     put_expr(out, alloc, expr)?;
@@ -227,52 +227,52 @@ fn put_paren(out: &mut Row<Sign>, alloc: Global, expr: &Expr) -> Result<(), Allo
 
 /// Statements, each with a newline behind it.
 #[cycle(forms)]
-fn put_stmts(out: &mut Row<Sign>, alloc: Global, stmts: &[Stmt]) -> Result<(), AllocError>
-    ensures { OnOk result (out.new ≡ out.old ++ lines (map stmt_signs stmts.now)) }
+fn put_stmts(out: &mut Row<Terminal>, alloc: Global, stmts: &[Stmt]) -> Result<(), AllocError>
+    ensures { OnOk result (out.new ≡ out.old ++ lines (map stmt_terminals stmts.now)) }
 {
     for stmt in stmts {
         put_stmt(out, alloc, stmt)?;
-        out.push(Sign::Newline)?;
+        out.push(Terminal::Newline)?;
     }
     Ok(())
 }
 
 /// A block behind the word that opens it, up to its `end`.
 #[cycle(forms)]
-fn put_block(out: &mut Row<Sign>, alloc: Global, stmts: &[Stmt]) -> Result<(), AllocError>
-    ensures { OnOk result (out.new ≡ out.old ++ block_step (map stmt_signs stmts.now)) }
+fn put_block(out: &mut Row<Terminal>, alloc: Global, stmts: &[Stmt]) -> Result<(), AllocError>
+    ensures { OnOk result (out.new ≡ out.old ++ block_step (map stmt_terminals stmts.now)) }
 {
-    out.push(Sign::Newline)?;
+    out.push(Terminal::Newline)?;
     put_stmts(out, alloc, stmts)?;
     put_word(out, Word::End)
 }
 
 /// Evaluated statements, each with a newline behind it.
 #[cycle(forms)]
-fn put_evals(out: &mut Row<Sign>, alloc: Global, evals: &[Eval]) -> Result<(), AllocError>
-    ensures { OnOk result (out.new ≡ out.old ++ lines (map eval_signs evals.now)) }
+fn put_evals(out: &mut Row<Terminal>, alloc: Global, evals: &[Eval]) -> Result<(), AllocError>
+    ensures { OnOk result (out.new ≡ out.old ++ lines (map eval_terminals evals.now)) }
 {
     for eval in evals {
         put_eval(out, alloc, eval)?;
-        out.push(Sign::Newline)?;
+        out.push(Terminal::Newline)?;
     }
     Ok(())
 }
 
 /// An evaluated block behind the word that opens it, up to its `end`.
 #[cycle(forms)]
-fn put_eval_block(out: &mut Row<Sign>, alloc: Global, evals: &[Eval]) -> Result<(), AllocError>
-    ensures { OnOk result (out.new ≡ out.old ++ block_step (map eval_signs evals.now)) }
+fn put_eval_block(out: &mut Row<Terminal>, alloc: Global, evals: &[Eval]) -> Result<(), AllocError>
+    ensures { OnOk result (out.new ≡ out.old ++ block_step (map eval_terminals evals.now)) }
 {
-    out.push(Sign::Newline)?;
+    out.push(Terminal::Newline)?;
     put_evals(out, alloc, evals)?;
     put_word(out, Word::End)
 }
 
 /// `eval(quote .. end)`
 #[cycle(forms)]
-fn put_quote(out: &mut Row<Sign>, alloc: Global, evals: &[Eval]) -> Result<(), AllocError>
-    ensures { OnOk result (out.new ≡ out.old ++ S.Name (codes "eval") ∷ S.Operator o.OpenParen ∷ S.Word w.Quote ∷ (block_step (map eval_signs evals.now) ++ S.Operator o.CloseParen ∷ [])) }
+fn put_quote(out: &mut Row<Terminal>, alloc: Global, evals: &[Eval]) -> Result<(), AllocError>
+    ensures { OnOk result (out.new ≡ out.old ++ S.Name (codes "eval") ∷ S.Operator o.OpenParen ∷ S.Word w.Quote ∷ (block_step (map eval_terminals evals.now) ++ S.Operator o.CloseParen ∷ [])) }
 {
     put_text(out, alloc, b"eval")?;
     put_mark(out, Operator::OpenParen)?;
@@ -283,18 +283,22 @@ fn put_quote(out: &mut Row<Sign>, alloc: Global, evals: &[Eval]) -> Result<(), A
 
 /// A test with its block.
 #[cycle(forms)]
-fn put_branch(out: &mut Row<Sign>, alloc: Global, branch: &Branch) -> Result<(), AllocError>
-    ensures { OnOk result (out.new ≡ out.old ++ branch_signs branch.now) }
+fn put_branch(out: &mut Row<Terminal>, alloc: Global, branch: &Branch) -> Result<(), AllocError>
+    ensures { OnOk result (out.new ≡ out.old ++ branch_terminals branch.now) }
 {
     put_expr(out, alloc, &branch.test)?;
-    out.push(Sign::Newline)?;
+    out.push(Terminal::Newline)?;
     put_stmts(out, alloc, branch.block.as_slice())
 }
 
 /// The tests of an `if` with their blocks.
 #[cycle(forms)]
-fn put_branches(out: &mut Row<Sign>, alloc: Global, branches: &[Branch]) -> Result<(), AllocError>
-    ensures { OnOk result (out.new ≡ out.old ++ branches_step (map branch_signs branches.now)) }
+fn put_branches(
+    out: &mut Row<Terminal>,
+    alloc: Global,
+    branches: &[Branch],
+) -> Result<(), AllocError>
+    ensures { OnOk result (out.new ≡ out.old ++ branches_step (map branch_terminals branches.now)) }
 {
     for (i, branch) in branches.iter().enumerate() {
         put_word(out, branch_word(i > 0))?;
@@ -315,8 +319,8 @@ fn branch_word(is_later: bool) -> Word
 
 /// What a `print` writes, with `,` between them.
 #[cycle(forms)]
-fn put_pieces(out: &mut Row<Sign>, alloc: Global, pieces: &[Piece]) -> Result<(), AllocError>
-    ensures { OnOk result (out.new ≡ out.old ++ joined (map piece_signs pieces.now)) }
+fn put_pieces(out: &mut Row<Terminal>, alloc: Global, pieces: &[Piece]) -> Result<(), AllocError>
+    ensures { OnOk result (out.new ≡ out.old ++ join (map piece_terminals pieces.now)) }
 {
     for (i, piece) in pieces.iter().enumerate() {
         if i > 0 {
@@ -330,12 +334,12 @@ fn put_pieces(out: &mut Row<Sign>, alloc: Global, pieces: &[Piece]) -> Result<()
 /// A `print` with its pieces.
 #[cycle(forms)]
 fn put_print(
-    out: &mut Row<Sign>,
+    out: &mut Row<Terminal>,
     alloc: Global,
     line: bool,
     pieces: &[Piece],
 ) -> Result<(), AllocError>
-    ensures { OnOk result (out.new ≡ out.old ++ S.Name (print_name line) ∷ in_parens (map piece_signs pieces.now)) }
+    ensures { OnOk result (out.new ≡ out.old ++ S.Name (print_name line) ∷ in_parens (map piece_terminals pieces.now)) }
 {
     put_text(out, alloc, print_name(line))?;
     put_mark(out, Operator::OpenParen)?;
@@ -345,19 +349,19 @@ fn put_print(
 
 /// What a `print` writes.
 #[cycle(forms)]
-fn put_piece(out: &mut Row<Sign>, alloc: Global, piece: &Piece) -> Result<(), AllocError>
-    ensures { OnOk result (out.new ≡ out.old ++ piece_signs piece.now) }
+fn put_piece(out: &mut Row<Terminal>, alloc: Global, piece: &Piece) -> Result<(), AllocError>
+    ensures { OnOk result (out.new ≡ out.old ++ piece_terminals piece.now) }
 {
     match piece {
-        Piece::Text(_, text) => out.push(Sign::Text(text.copy()?)),
+        Piece::Text(_, text) => out.push(Terminal::Text(text.copy()?)),
         Piece::Show(expr) => put_expr(out, alloc, expr),
     }
 }
 
 /// An evaluated statement.
 #[cycle(forms)]
-fn put_eval(out: &mut Row<Sign>, alloc: Global, eval: &Eval) -> Result<(), AllocError>
-    ensures { OnOk result (out.new ≡ out.old ++ eval_signs eval.now) }
+fn put_eval(out: &mut Row<Terminal>, alloc: Global, eval: &Eval) -> Result<(), AllocError>
+    ensures { OnOk result (out.new ≡ out.old ++ eval_terminals eval.now) }
 {
     match eval {
         Eval::Method(method) => put_method(out, alloc, method),
@@ -367,8 +371,8 @@ fn put_eval(out: &mut Row<Sign>, alloc: Global, eval: &Eval) -> Result<(), Alloc
 
 /// A statement.
 #[cycle(forms)]
-fn put_stmt(out: &mut Row<Sign>, alloc: Global, stmt: &Stmt) -> Result<(), AllocError>
-    ensures { OnOk result (out.new ≡ out.old ++ stmt_signs stmt.now) }
+fn put_stmt(out: &mut Row<Terminal>, alloc: Global, stmt: &Stmt) -> Result<(), AllocError>
+    ensures { OnOk result (out.new ≡ out.old ++ stmt_terminals stmt.now) }
 {
     match stmt {
         Stmt::Bind(name, expr) => put_binding(out, alloc, name, expr),
@@ -384,12 +388,12 @@ fn put_stmt(out: &mut Row<Sign>, alloc: Global, stmt: &Stmt) -> Result<(), Alloc
 /// `name = e`
 #[cycle(forms)]
 pub(crate) fn put_binding(
-    out: &mut Row<Sign>,
+    out: &mut Row<Terminal>,
     alloc: Global,
     name: &Name,
     expr: &Expr,
 ) -> Result<(), AllocError>
-    ensures { OnOk result (out.new ≡ out.old ++ S.Name name.now.bytes ∷ S.Operator o.Assign ∷ expr_signs expr.now) }
+    ensures { OnOk result (out.new ≡ out.old ++ S.Name name.now.bytes ∷ S.Operator o.Assign ∷ expr_terminals expr.now) }
 {
     put_name(out, &name.bytes)?;
     put_mark(out, Operator::Assign)?;
@@ -399,11 +403,11 @@ pub(crate) fn put_binding(
 /// A method.
 #[cycle(forms)]
 pub(crate) fn put_method(
-    out: &mut Row<Sign>,
+    out: &mut Row<Terminal>,
     alloc: Global,
     method: &Method,
 ) -> Result<(), AllocError>
-    ensures { OnOk result (out.new ≡ out.old ++ method_signs method.now) }
+    ensures { OnOk result (out.new ≡ out.old ++ method_terminals method.now) }
 {
     match method {
         Method::Long(_, head, stmts) => {
@@ -421,11 +425,15 @@ pub(crate) fn put_method(
 
 /// An expression.
 #[cycle(forms)]
-pub(crate) fn put_expr(out: &mut Row<Sign>, alloc: Global, expr: &Expr) -> Result<(), AllocError>
-    ensures { OnOk result (out.new ≡ out.old ++ expr_signs expr.now) }
+pub(crate) fn put_expr(
+    out: &mut Row<Terminal>,
+    alloc: Global,
+    expr: &Expr,
+) -> Result<(), AllocError>
+    ensures { OnOk result (out.new ≡ out.old ++ expr_terminals expr.now) }
 {
     match expr {
-        Expr::Number(_, number) => out.push(Sign::Number(*number)),
+        Expr::Number(_, number) => out.push(Terminal::Number(*number)),
         Expr::Bool(_, truth) => out.push(truth_word(*truth)),
         Expr::Nothing(_) => put_word(out, Word::Nothing),
         Expr::Name(_, name) => put_name(out, name),

@@ -1,8 +1,8 @@
 //! The tokens that the heads of methods and of declarations are printed by.
 
 ghost use Rattle.std.specs.Prelude.{◌≡◌, ◌++◌, ◌∷◌, [], map, codes, OnOk};
-ghost use Rattle.jl_typeread.specs.declared.sign.Sign.TheVariants as S;
-ghost use Rattle.jl_print.specs.Printed.{joined, in_parens, callee_signs, param_signs, head_signs, header_signs};
+ghost use Rattle.jl_typeread.specs.declared.terminal.Terminal.TheVariants as S;
+ghost use Rattle.jl_print.specs.Printed.{join, in_parens, callee_terminals, param_terminals, head_terminals, header_terminals};
 
 use crate::print_types::{
     put_mark, put_marked_type, put_name, put_parameters, put_type, put_where,
@@ -10,25 +10,29 @@ use crate::print_types::{
 use jl_grammar::tree::{Callee, Head, Header, Param};
 use jl_model::rows::Row;
 use jl_token::token::Operator;
-use jl_typeread::sign::Sign;
+use jl_typeread::terminal::Terminal;
 use std::alloc::{AllocError, Global};
 
 /// A name of these bytes.
-pub(crate) fn put_text(out: &mut Row<Sign>, alloc: Global, name: &[u8]) -> Result<(), AllocError>
+pub(crate) fn put_text(
+    out: &mut Row<Terminal>,
+    alloc: Global,
+    name: &[u8],
+) -> Result<(), AllocError>
     ensures { OnOk result (out.new ≡ out.old ++ S.Name name.now ∷ []) }
 {
     let mut bytes = Row::new(alloc);
     bytes.append(name)?;
-    out.push(Sign::Name(bytes.into_shared(alloc)?))
+    out.push(Terminal::Name(bytes.into_shared(alloc)?))
 }
 
 /// The function that is called, or that a method is added to.
 pub(crate) fn put_callee(
-    out: &mut Row<Sign>,
+    out: &mut Row<Terminal>,
     alloc: Global,
     callee: &Callee,
 ) -> Result<(), AllocError>
-    ensures { OnOk result (out.new ≡ out.old ++ callee_signs callee.now) }
+    ensures { OnOk result (out.new ≡ out.old ++ callee_terminals callee.now) }
 {
     match callee {
         Callee::Plain(name) => put_name(out, &name.bytes),
@@ -47,8 +51,8 @@ pub(crate) fn put_callee(
 }
 
 /// A parameter of a method.
-fn put_param(out: &mut Row<Sign>, param: &Param) -> Result<(), AllocError>
-    ensures { OnOk result (out.new ≡ out.old ++ param_signs param.now) }
+fn put_param(out: &mut Row<Terminal>, param: &Param) -> Result<(), AllocError>
+    ensures { OnOk result (out.new ≡ out.old ++ param_terminals param.now) }
 {
     match param {
         Param::Name(name) => put_name(out, &name.bytes),
@@ -65,8 +69,8 @@ fn put_param(out: &mut Row<Sign>, param: &Param) -> Result<(), AllocError>
 }
 
 /// Parameters with `,` between them.
-fn put_params(out: &mut Row<Sign>, params: &[Param]) -> Result<(), AllocError>
-    ensures { OnOk result (out.new ≡ out.old ++ joined (map param_signs params.now)) }
+fn put_params(out: &mut Row<Terminal>, params: &[Param]) -> Result<(), AllocError>
+    ensures { OnOk result (out.new ≡ out.old ++ join (map param_terminals params.now)) }
 {
     for (i, param) in params.iter().enumerate() {
         if i > 0 {
@@ -78,8 +82,12 @@ fn put_params(out: &mut Row<Sign>, params: &[Param]) -> Result<(), AllocError>
 }
 
 /// The head of a method, with its `where`.
-pub(crate) fn put_head(out: &mut Row<Sign>, alloc: Global, head: &Head) -> Result<(), AllocError>
-    ensures { OnOk result (out.new ≡ out.old ++ head_signs head.now) }
+pub(crate) fn put_head(
+    out: &mut Row<Terminal>,
+    alloc: Global,
+    head: &Head,
+) -> Result<(), AllocError>
+    ensures { OnOk result (out.new ≡ out.old ++ head_terminals head.now) }
 {
     put_callee(out, alloc, &head.callee)?;
     put_mark(out, Operator::OpenParen)?;
@@ -89,8 +97,8 @@ pub(crate) fn put_head(out: &mut Row<Sign>, alloc: Global, head: &Head) -> Resul
 }
 
 /// The head of a declaration.
-pub(crate) fn put_header(out: &mut Row<Sign>, header: &Header) -> Result<(), AllocError>
-    ensures { OnOk result (out.new ≡ out.old ++ header_signs header.now) }
+pub(crate) fn put_header(out: &mut Row<Terminal>, header: &Header) -> Result<(), AllocError>
+    ensures { OnOk result (out.new ≡ out.old ++ header_terminals header.now) }
 {
     put_name(out, &header.name.bytes)?;
     put_parameters(out, header.params.as_slice())?;

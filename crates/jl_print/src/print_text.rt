@@ -2,13 +2,13 @@
 
 ghost use Rattle.std.specs.Prelude.{◌≡◌, ◌++◌, ◌∷◌, [], OnOk};
 ghost use Rattle.std.specs.Fmt.{signed_decimal};
-ghost use Rattle.jl_print.specs.Spelling.{word_text, is_special, escaped_byte, escaped, operator_text, sign_text, is_negative, is_negative_number, is_prefix_word, is_prefix, gap, text_from, text_of};
-ghost use Rattle.jl_token.specs.Prefix.{closes_bracket};
+ghost use Rattle.jl_print.specs.Spelling.{word_text, is_special, escape_byte, escape_text, operator_text, terminal_text, is_negative, is_negative_number, is_prefix_word, is_prefix, gap, text_from, text_of};
+ghost use Rattle.jl_token.specs.Prefix.{is_closing_bracket};
 
 use itoa::Buffer;
 use jl_model::rows::Row;
 use jl_token::token::Operator;
-use jl_typeread::sign::{Sign, Word};
+use jl_typeread::terminal::{Terminal, Word};
 use std::alloc::AllocError;
 
 /// The bytes of a reserved word.
@@ -83,7 +83,7 @@ fn is_special(byte: u8) -> bool
 
 /// A byte of a string.
 fn put_byte(out: &mut Row<u8>, byte: u8) -> Result<(), AllocError>
-    ensures { OnOk result (out.new ≡ out.old ++ escaped_byte byte) }
+    ensures { OnOk result (out.new ≡ out.old ++ escape_byte byte) }
 {
     if is_special(byte) {
         out.push(b'\\')?;
@@ -93,7 +93,7 @@ fn put_byte(out: &mut Row<u8>, byte: u8) -> Result<(), AllocError>
 
 /// The bytes of a string between its quotes.
 fn put_escaped(out: &mut Row<u8>, text: &[u8]) -> Result<(), AllocError>
-    ensures { OnOk result (out.new ≡ out.old ++ escaped text.now) }
+    ensures { OnOk result (out.new ≡ out.old ++ escape_text text.now) }
 {
     for byte in text {
         put_byte(out, *byte)?;
@@ -103,7 +103,7 @@ fn put_escaped(out: &mut Row<u8>, text: &[u8]) -> Result<(), AllocError>
 
 /// A string with its quotes, and a space.
 fn put_string(out: &mut Row<u8>, text: &[u8]) -> Result<(), AllocError>
-    ensures { OnOk result (out.new ≡ out.old ++ 34 ∷ (escaped text.now ++ 34 ∷ 32 ∷ [])) }
+    ensures { OnOk result (out.new ≡ out.old ++ 34 ∷ (escape_text text.now ++ 34 ∷ 32 ∷ [])) }
 {
     out.push(b'"')?;
     put_escaped(out, text)?;
@@ -128,30 +128,30 @@ fn put_spaced(out: &mut Row<u8>, bytes: &[u8]) -> Result<(), AllocError>
 }
 
 /// A token with what stands behind it.
-fn put_sign(out: &mut Row<u8>, sign: &Sign) -> Result<(), AllocError>
-    ensures { OnOk result (out.new ≡ out.old ++ sign_text sign.now) }
+fn put_terminal(out: &mut Row<u8>, terminal: &Terminal) -> Result<(), AllocError>
+    ensures { OnOk result (out.new ≡ out.old ++ terminal_text terminal.now) }
 {
-    match sign {
-        Sign::Name(name) => put_spaced(out, name.as_slice()),
-        Sign::Word(word) => put_spaced(out, word_text(*word)),
-        Sign::Number(number) => put_number(out, *number),
-        Sign::Text(text) => put_string(out, text.as_slice()),
-        Sign::Macro(name) => {
+    match terminal {
+        Terminal::Name(name) => put_spaced(out, name.as_slice()),
+        Terminal::Word(word) => put_spaced(out, word_text(*word)),
+        Terminal::Number(number) => put_number(out, *number),
+        Terminal::Text(text) => put_string(out, text.as_slice()),
+        Terminal::Macro(name) => {
             out.push(b'@')?;
             put_spaced(out, name.as_slice())
         }
-        Sign::Operator(operator) => put_spaced(out, operator_text(*operator)),
-        Sign::Newline => out.push(b'\n'),
-        Sign::End => Ok(()),
+        Terminal::Operator(operator) => put_spaced(out, operator_text(*operator)),
+        Terminal::Newline => out.push(b'\n'),
+        Terminal::End => Ok(()),
     }
 }
 
 /// Whether the token is a number below 0.
-fn is_negative(sign: &Sign) -> bool
-    ensures { result ≡ is_negative sign.now }
+fn is_negative(terminal: &Terminal) -> bool
+    ensures { result ≡ is_negative terminal.now }
 {
-    match sign {
-        Sign::Number(number) => *number < 0,
+    match terminal {
+        Terminal::Number(number) => *number < 0,
         _ => false,
     }
 }
@@ -167,8 +167,8 @@ fn is_prefix_word(word: Word) -> bool
 }
 
 /// Whether the operator closes a bracket.
-fn closes_bracket(operator: Operator) -> bool
-    ensures { result ≡ closes_bracket operator }
+fn is_closing_bracket(operator: Operator) -> bool
+    ensures { result ≡ is_closing_bracket operator }
 {
     match operator {
         Operator::CloseParen | Operator::CloseBracket | Operator::CloseBrace => true,
@@ -177,36 +177,36 @@ fn closes_bracket(operator: Operator) -> bool
 }
 
 /// Whether the place behind the token is a prefix place, where `-` before a digit is the sign of a number.
-fn is_prefix(sign: &Sign) -> bool
-    ensures { result ≡ is_prefix sign.now }
+fn is_prefix(terminal: &Terminal) -> bool
+    ensures { result ≡ is_prefix terminal.now }
 {
-    match sign {
-        Sign::Operator(operator) => !closes_bracket(*operator),
-        Sign::Word(word) => is_prefix_word(*word),
-        Sign::Newline => true,
+    match terminal {
+        Terminal::Operator(operator) => !is_closing_bracket(*operator),
+        Terminal::Word(word) => is_prefix_word(*word),
+        Terminal::Newline => true,
         _ => false,
     }
 }
 
 /// What stands before a token, in a prefix place or not.
-fn put_gap(out: &mut Row<u8>, free: bool, sign: &Sign) -> Result<(), AllocError>
-    ensures { OnOk result (out.new ≡ out.old ++ gap free sign.now) }
+fn put_gap(out: &mut Row<u8>, free: bool, terminal: &Terminal) -> Result<(), AllocError>
+    ensures { OnOk result (out.new ≡ out.old ++ gap free terminal.now) }
 {
-    if is_negative(sign) && !free {
+    if is_negative(terminal) && !free {
         return out.push(b'\n');
     }
     Ok(())
 }
 
 /// The text of tokens.
-pub(crate) fn put_signs(out: &mut Row<u8>, signs: &[Sign]) -> Result<(), AllocError>
-    ensures { OnOk result (out.new ≡ out.old ++ text_of signs.now) }
+pub(crate) fn put_terminals(out: &mut Row<u8>, terminals: &[Terminal]) -> Result<(), AllocError>
+    ensures { OnOk result (out.new ≡ out.old ++ text_of terminals.now) }
 {
     let mut free = true;
-    for sign in signs {
-        put_gap(out, free, sign)?;
-        put_sign(out, sign)?;
-        free = is_prefix(sign);
+    for terminal in terminals {
+        put_gap(out, free, terminal)?;
+        put_terminal(out, terminal)?;
+        free = is_prefix(terminal);
     }
     Ok(())
 }

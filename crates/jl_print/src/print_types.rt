@@ -1,41 +1,41 @@
 //! The tokens that written types are printed by.
 
 ghost use Rattle.std.specs.Prelude.{◌≡◌, ◌++◌, ◌∷◌, [], map, OnOk};
-ghost use Rattle.jl_typeread.specs.declared.sign.Sign.TheVariants as S;
-ghost use Rattle.jl_print.specs.Printed.{joined, in_braces, argument_signs, type_signs, variable_signs, where_signs, params_signs, marked_type};
+ghost use Rattle.jl_typeread.specs.declared.terminal.Terminal.TheVariants as S;
+ghost use Rattle.jl_print.specs.Printed.{join, in_braces, argument_terminals, type_terminals, variable_terminals, where_terminals, params_terminals, marked_type};
 
 use jl_model::rows::Row;
 use jl_model::ty::Bytes;
 use jl_token::token::Operator;
-use jl_typeread::sign::{Sign, Word};
+use jl_typeread::terminal::{Terminal, Word};
 use jl_typeread::tree::{ArgText, TypeText, VarText};
 use std::alloc::AllocError;
 
 /// A name.
-pub(crate) fn put_name(out: &mut Row<Sign>, name: &Bytes) -> Result<(), AllocError>
+pub(crate) fn put_name(out: &mut Row<Terminal>, name: &Bytes) -> Result<(), AllocError>
     ensures { OnOk result (out.new ≡ out.old ++ S.Name name.now ∷ []) }
 {
-    out.push(Sign::Name(name.copy()?))
+    out.push(Terminal::Name(name.copy()?))
 }
 
 /// A mark.
-pub(crate) fn put_mark(out: &mut Row<Sign>, operator: Operator) -> Result<(), AllocError>
+pub(crate) fn put_mark(out: &mut Row<Terminal>, operator: Operator) -> Result<(), AllocError>
     ensures { OnOk result (out.new ≡ out.old ++ S.Operator operator ∷ []) }
 {
-    out.push(Sign::Operator(operator))
+    out.push(Terminal::Operator(operator))
 }
 
 /// A reserved word.
-pub(crate) fn put_word(out: &mut Row<Sign>, word: Word) -> Result<(), AllocError>
+pub(crate) fn put_word(out: &mut Row<Terminal>, word: Word) -> Result<(), AllocError>
     ensures { OnOk result (out.new ≡ out.old ++ S.Word word ∷ []) }
 {
-    out.push(Sign::Word(word))
+    out.push(Terminal::Word(word))
 }
 
 /// Arguments with `,` between them.
 #[cycle(types)]
-fn put_arguments(out: &mut Row<Sign>, arguments: &[ArgText]) -> Result<(), AllocError>
-    ensures { OnOk result (out.new ≡ out.old ++ joined (map argument_signs arguments.now)) }
+fn put_arguments(out: &mut Row<Terminal>, arguments: &[ArgText]) -> Result<(), AllocError>
+    ensures { OnOk result (out.new ≡ out.old ++ join (map argument_terminals arguments.now)) }
 {
     for (i, argument) in arguments.iter().enumerate() {
         if i > 0 {
@@ -48,8 +48,8 @@ fn put_arguments(out: &mut Row<Sign>, arguments: &[ArgText]) -> Result<(), Alloc
 
 /// An argument of a type.
 #[cycle(types)]
-fn put_argument(out: &mut Row<Sign>, argument: &ArgText) -> Result<(), AllocError>
-    ensures { OnOk result (out.new ≡ out.old ++ argument_signs argument.now) }
+fn put_argument(out: &mut Row<Terminal>, argument: &ArgText) -> Result<(), AllocError>
+    ensures { OnOk result (out.new ≡ out.old ++ argument_terminals argument.now) }
 {
     match argument {
         ArgText::Exact(ty) => put_type(out, ty),
@@ -66,8 +66,8 @@ fn put_argument(out: &mut Row<Sign>, argument: &ArgText) -> Result<(), AllocErro
 
 /// A type.
 #[cycle(types)]
-pub(crate) fn put_type(out: &mut Row<Sign>, ty: &TypeText) -> Result<(), AllocError>
-    ensures { OnOk result (out.new ≡ out.old ++ type_signs ty.now) }
+pub(crate) fn put_type(out: &mut Row<Terminal>, ty: &TypeText) -> Result<(), AllocError>
+    ensures { OnOk result (out.new ≡ out.old ++ type_terminals ty.now) }
 {
     match ty {
         TypeText::Name(_, name) => put_name(out, name),
@@ -88,8 +88,8 @@ pub(crate) fn put_type(out: &mut Row<Sign>, ty: &TypeText) -> Result<(), AllocEr
 
 /// Variables with `,` between them.
 #[cycle(types)]
-fn put_variables(out: &mut Row<Sign>, variables: &[VarText]) -> Result<(), AllocError>
-    ensures { OnOk result (out.new ≡ out.old ++ joined (map variable_signs variables.now)) }
+fn put_variables(out: &mut Row<Terminal>, variables: &[VarText]) -> Result<(), AllocError>
+    ensures { OnOk result (out.new ≡ out.old ++ join (map variable_terminals variables.now)) }
 {
     for (i, variable) in variables.iter().enumerate() {
         if i > 0 {
@@ -102,8 +102,8 @@ fn put_variables(out: &mut Row<Sign>, variables: &[VarText]) -> Result<(), Alloc
 
 /// A variable with its bounds.
 #[cycle(types)]
-fn put_variable(out: &mut Row<Sign>, variable: &VarText) -> Result<(), AllocError>
-    ensures { OnOk result (out.new ≡ out.old ++ variable_signs variable.now) }
+fn put_variable(out: &mut Row<Terminal>, variable: &VarText) -> Result<(), AllocError>
+    ensures { OnOk result (out.new ≡ out.old ++ variable_terminals variable.now) }
 {
     match variable {
         VarText::Free(_, name) => put_name(out, name),
@@ -129,8 +129,8 @@ fn put_variable(out: &mut Row<Sign>, variable: &VarText) -> Result<(), AllocErro
 
 /// Variables in braces.
 #[cycle(types)]
-fn put_in_braces(out: &mut Row<Sign>, variables: &[VarText]) -> Result<(), AllocError>
-    ensures { OnOk result (out.new ≡ out.old ++ in_braces (map variable_signs variables.now)) }
+fn put_in_braces(out: &mut Row<Terminal>, variables: &[VarText]) -> Result<(), AllocError>
+    ensures { OnOk result (out.new ≡ out.old ++ in_braces (map variable_terminals variables.now)) }
 {
     put_mark(out, Operator::OpenBrace)?;
     put_variables(out, variables)?;
@@ -139,8 +139,8 @@ fn put_in_braces(out: &mut Row<Sign>, variables: &[VarText]) -> Result<(), Alloc
 
 /// The variables of a `where`; nothing where there are none.
 #[cycle(types)]
-pub(crate) fn put_where(out: &mut Row<Sign>, variables: &[VarText]) -> Result<(), AllocError>
-    ensures { OnOk result (out.new ≡ out.old ++ where_signs variables.now) }
+pub(crate) fn put_where(out: &mut Row<Terminal>, variables: &[VarText]) -> Result<(), AllocError>
+    ensures { OnOk result (out.new ≡ out.old ++ where_terminals variables.now) }
 {
     if variables.is_empty() {
         return Ok(());
@@ -150,8 +150,11 @@ pub(crate) fn put_where(out: &mut Row<Sign>, variables: &[VarText]) -> Result<()
 }
 
 /// The parameters of a declared type; nothing where there are none.
-pub(crate) fn put_parameters(out: &mut Row<Sign>, variables: &[VarText]) -> Result<(), AllocError>
-    ensures { OnOk result (out.new ≡ out.old ++ params_signs variables.now) }
+pub(crate) fn put_parameters(
+    out: &mut Row<Terminal>,
+    variables: &[VarText],
+) -> Result<(), AllocError>
+    ensures { OnOk result (out.new ≡ out.old ++ params_terminals variables.now) }
 {
     if variables.is_empty() {
         return Ok(());
@@ -161,7 +164,7 @@ pub(crate) fn put_parameters(out: &mut Row<Sign>, variables: &[VarText]) -> Resu
 
 /// A type behind a mark, where there is one.
 pub(crate) fn put_marked_type(
-    out: &mut Row<Sign>,
+    out: &mut Row<Terminal>,
     operator: Operator,
     ty: &Option<TypeText>,
 ) -> Result<(), AllocError>

@@ -4,7 +4,7 @@ use Rattle.std.proofs.Math.Seq.{take-append_seam, take-length}
 use Rattle.std.proofs.lemmas.Bool.{cases_lt}
 use Rattle.std.proofs.lemmas.List.{append_assoc, append-nil, take-append-drop, take_all}
 use Rattle.jl_token.specs.declared.token.Token.{Token}
-use Rattle.jl_typeread.specs.declared.sign.Sign.TheVariants as S
+use Rattle.jl_typeread.specs.declared.terminal.Terminal.TheVariants as S
 use Rattle.jl_grammar.specs.declared.mark.Ahead.TheVariants as A
 use Rattle.jl_grammar.specs.declared.mark.Marked.{Marked}
 use Rattle.jl_grammar.specs.declared.mark.Opening.TheVariants as O
@@ -13,17 +13,17 @@ use Rattle.jl_grammar.specs.declared.state.Point.TheVariants as P
 use Rattle.jl_grammar.specs.declared.state.State.{State}
 use Rattle.jl_grammar.specs.declared.tree.Script.{Script}
 use Rattle.jl_grammar.specs.Grammar.{ItemsBefore, ScriptText, script_before}
-use Rattle.jl_grammar.specs.Machine.{start, goes}
+use Rattle.jl_grammar.specs.Machine.{start, step_all}
 use Rattle.jl_grammar.specs.Reads.{Begins, IsWrong, NoneDeep, IsTooDeep, first_at}
 use Rattle.jl_grammar.specs.Texts.{Text, Spot, tok, NoEnd}
 use Rattle.jl_grammar.specs.Turns.{at}
-use Rattle.jl_grammar.proofs.Reading.{goes_append}
+use Rattle.jl_grammar.proofs.Reading.{step_all_append}
 use Rattle.jl_grammar.proofs.SpelledItems.{read_items_before, read_script, one_script}
 use Rattle.jl_reader.specs.declared.fault.SyntaxFault.{SyntaxFault}
 use Rattle.jl_reader.specs.declared.fault.SyntaxFault.TheVariants.{Syntax, BadType, TooDeep, Memory}
-use Rattle.jl_reader.specs.Answers.{type_follows, IsFault, Answers, Reads, UnlessMemory, IsOnly}
+use Rattle.jl_reader.specs.Answers.{is_type_wanted_after, IsFault, Answers, Reads, UnlessMemory, IsOnly}
 use Rattle.jl_reader.proofs.Answered.{Stands, stands, deep_more}
-use Rattle.jl_reader.proofs.StaysMachine.{depth_of, IsDeep, goes_deep}
+use Rattle.jl_reader.proofs.StaysMachine.{depth_of, IsDeep, step_all_deep}
 
 -- ---- the first wrong token
 
@@ -69,7 +69,7 @@ same_place ts n m w v = elim (cases_lt n m) [
 same_fault : (ts : Text) (end : ℕ) (b c : Bool) (x y : ℕ) → IsFault ts end b x → IsFault ts end c y → (b ≡ c) × (x ≡ y)
 same_fault ts end b c x y f g =
     let e = same_place ts f.0 g.0 f.1 g.1 in
-    (sym f.3 ∙ ap (type_follows ts) e ∙ g.3, f.4 ∙ ap (λ n. first_at (drop n ts) end) e ∙ sym g.4)
+    (sym f.3 ∙ ap (is_type_wanted_after ts) e ∙ g.3, f.4 ∙ ap (λ n. first_at (drop n ts) end) e ∙ sym g.4)
 
 -- ---- items that are too deep
 
@@ -89,7 +89,7 @@ whole ts = ts ++ tok S.End spot ∷ []
 
 -- behind some first tokens, the first item that is too deep is this one
 abbrev Deep : Text → ℕ → Type 0
-Deep ts a = (k : ℕ) × (depth_of (goes (take k (whole ts)) start) ≡ Some a)
+Deep ts a = (k : ℕ) × (depth_of (step_all (take k (whole ts)) start) ≡ Some a)
 
 front_whole : (n : ℕ) (ts : Text) → Front (take n ts) (whole ts)
 front_whole n ts = (drop n ts ++ tok S.End spot ∷ [], ap (λ x. x ++ tok S.End spot ∷ []) (sym (take-append-drop n ts)) ∙ append_assoc (take n ts) (drop n ts) (tok S.End spot ∷ []))
@@ -97,25 +97,25 @@ front_whole n ts = (drop n ts ++ tok S.End spot ∷ [], ap (λ x. x ++ tok S.End
 take_front : (us vs : Text) → Front us vs → take (length us) vs ≡ us
 take_front us vs f = ap (take (length us)) f.1 ∙ take-append_seam us f.0
 
-script_deep : (xs : ItemsRead) (ts : Text) → ScriptText xs ts → depth_of (goes (whole ts) start) ≡ xs.too_deep
+script_deep : (xs : ItemsRead) (ts : Text) → ScriptText xs ts → depth_of (step_all (whole ts) start) ≡ xs.too_deep
 script_deep xs ts d = ap (λ x. depth_of x) (read_script xs ts d spot)
 
 deep_of : (ts : Text) (a : ℕ) → IsTooDeep ts a → Deep ts a
 deep_of ts a (inl h) = (
   length (take h.0 ts),
-  ap (λ x. depth_of (goes x start)) (take_front (take h.0 ts) (whole ts) (front_whole h.0 ts)) ∙ ap (λ x. depth_of x) (read_items_before h.1 (take h.0 ts) h.2) ∙ h.3,
+  ap (λ x. depth_of (step_all x start)) (take_front (take h.0 ts) (whole ts) (front_whole h.0 ts)) ∙ ap (λ x. depth_of x) (read_items_before h.1 (take h.0 ts) h.2) ∙ h.3,
 )
-deep_of ts a (inr h) = (length (whole ts), ap (λ x. depth_of (goes x start)) (take-length (whole ts)) ∙ script_deep h.0 ts h.1 ∙ h.2)
+deep_of ts a (inr h) = (length (whole ts), ap (λ x. depth_of (step_all x start)) (take-length (whole ts)) ∙ script_deep h.0 ts h.1 ∙ h.2)
 
 is_deep : (o : Option State) (a : ℕ) → depth_of o ≡ Some a → IsDeep a o
 is_deep None a e = tt
 is_deep (Some s) a e = e
 
-goes_front : (us vs : Text) (a : ℕ) → Front us vs → depth_of (goes us start) ≡ Some a → IsDeep a (goes vs start)
-goes_front us vs a f e = subst (IsDeep a) (sym (ap (λ x. goes x start) f.1 ∙ goes_append us f.0 start)) (goes_deep f.0 (goes us start) a (is_deep (goes us start) a e))
+step_all_front : (us vs : Text) (a : ℕ) → Front us vs → depth_of (step_all us start) ≡ Some a → IsDeep a (step_all vs start)
+step_all_front us vs a f e = subst (IsDeep a) (sym (ap (λ x. step_all x start) f.1 ∙ step_all_append us f.0 start)) (step_all_deep f.0 (step_all us start) a (is_deep (step_all us start) a e))
 
 deep_before : (ts : Text) (a b : ℕ) (d : Deep ts a) (e : Deep ts b) → d.0 ≤ e.0 → a ≡ b
-deep_before ts a b d e l = agrees (goes (take e.0 (whole ts)) start) a b (goes_front (take d.0 (whole ts)) (take e.0 (whole ts)) a (front_take d.0 e.0 (whole ts) l) d.1) e.1
+deep_before ts a b d e l = agrees (step_all (take e.0 (whole ts)) start) a b (step_all_front (take d.0 (whole ts)) (take e.0 (whole ts)) a (front_take d.0 e.0 (whole ts) l) d.1) e.1
 
 same_deep : (ts : Text) (a b : ℕ) → Deep ts a → Deep ts b → a ≡ b
 same_deep ts a b d e = elim (cases_lt d.0 e.0) [
@@ -129,7 +129,7 @@ whole_front k ts = (drop k (whole ts), sym (take-append-drop k (whole ts)))
 -- a script within the limit has no item that is too deep
 script_not_deep : (xs : ItemsRead) (ts : Text) (a : ℕ) → ScriptText xs ts → xs.too_deep ≡ None → Deep ts a → ⊥
 script_not_deep xs ts a s n d =
-    some_not_none a (sym n ∙ subst (IsDeep a) (read_script xs ts s spot) (goes_front (take d.0 (whole ts)) (whole ts) a (whole_front d.0 ts) d.1))
+    some_not_none a (sym n ∙ subst (IsDeep a) (read_script xs ts s spot) (step_all_front (take d.0 (whole ts)) (whole ts) a (whole_front d.0 ts) d.1))
 
 past_wrong : (ts : Text) (n k : ℕ) (xs : ItemsRead) → IsWrong ts n → n < k → ItemsBefore xs (take k ts) → ⊥
 past_wrong ts n k xs w l d = elim (cases_lt n (length ts)) [

@@ -4,13 +4,13 @@ use Rattle.std.specs.Prelude.{int_le, codes, bytes_eq}
 use Rattle.jl_token.specs.declared.token.Operator.{Operator}
 use Rattle.jl_token.specs.declared.token.Operator.TheVariants as o
 use Rattle.jl_typeread.specs.declared.deep.Deep.{Deep}
-use Rattle.jl_typeread.specs.declared.sign.Sign.{Sign}
-use Rattle.jl_typeread.specs.declared.sign.Sign.TheVariants as S
-use Rattle.jl_typeread.specs.declared.sign.Word.{Word}
-use Rattle.jl_typeread.specs.declared.sign.Word.TheVariants as w
+use Rattle.jl_typeread.specs.declared.terminal.Terminal.{Terminal}
+use Rattle.jl_typeread.specs.declared.terminal.Terminal.TheVariants as S
+use Rattle.jl_typeread.specs.declared.terminal.Word.{Word}
+use Rattle.jl_typeread.specs.declared.terminal.Word.TheVariants as w
 use Rattle.jl_typeread.specs.declared.state.Bound.TheVariants.{First}
 use Rattle.jl_typeread.specs.declared.state.Frame.TheVariants.{Variable}
-use Rattle.jl_typeread.specs.declared.state.Listed.TheVariants.{Braces}
+use Rattle.jl_typeread.specs.declared.state.Enclosure.TheVariants.{Braces}
 use Rattle.jl_typeread.specs.declared.state.Point.TheVariants as Q
 use Rattle.jl_typeread.specs.declared.state.State.{State as TypeState}
 use Rattle.jl_typeread.specs.declared.state.Turn.{Turn}
@@ -72,11 +72,11 @@ use Rattle.jl_grammar.specs.declared.tree.Prefix.TheVariants as U
 use Rattle.jl_grammar.specs.declared.tree.Stmt.{Stmt}
 use Rattle.jl_grammar.specs.declared.tree.Stmt.TheVariants as Z
 use Rattle.jl_grammar.specs.Forms as M
-use Rattle.jl_grammar.specs.Levels.{no_levels, led, fresh, into, at_levels, as_sum, as_comparison, as_or, expression, behind_prefix, behind_term, behind_sum, behind_comparison, behind_type, behind_and, behind_or, leads, no_left}
+use Rattle.jl_grammar.specs.Levels.{no_levels, pending_after, no_pending, push_outer, with_levels, as_sum, as_comparison, as_or, expression, levels_after_prefix, levels_after_term, levels_after_sum, levels_after_comparison, levels_after_type, levels_after_and, levels_after_or, is_comparison_start, no_left}
 use Rattle.jl_grammar.specs.Marks.{is_function}
-use Rattle.jl_grammar.specs.Texts.{is_method, begins_type}
+use Rattle.jl_grammar.specs.Texts.{is_method, is_left_type}
 use Rattle.jl_grammar.specs.Turns as TU
-use Rattle.jl_grammar.specs.Turns.{placed, returns_of, returns_in, with_stmt, with_method, with_eval, item_of, type_start, unequal}
+use Rattle.jl_grammar.specs.Turns.{name_at, is_return_allowed, is_return_allowed_in, with_stmt, with_method, with_eval, item_of, type_start, has_no_comparison}
 use Rattle.jl_grammar.specs.Forms.{first_place}
 
 -- where an item before was too deep, the same one is behind
@@ -90,12 +90,12 @@ stays xs a e = e
 pub added : (xs : ItemsRead) (x : Form Item) (a : ℕ) → xs.too_deep ≡ Some a → (M.with_item xs x).too_deep ≡ Some a
 added xs x a e = ap (λ d. first_place d (cond (nat_lt 500 x.depth) (Some x.at) None)) e
 
-pub block_ends : (k : BlockKind) (ss : Forms Stmt) (K : List Frame) (xs : ItemsRead) → Stays xs (TU.block_ends k ss K xs)
-block_ends (B.Begin p a) ss K xs = stays xs
-block_ends (B.Branch p a x b c) ss K xs = stays xs
-block_ends (B.Else p a x) ss K xs = stays xs
-block_ends (B.Body H.Entry h) ss K xs = stays xs
-block_ends (B.Body (H.Evaluated p a) h) ss K xs = stays xs
+pub end_block : (k : BlockKind) (ss : Forms Stmt) (K : List Frame) (xs : ItemsRead) → Stays xs (TU.end_block k ss K xs)
+end_block (B.Begin p a) ss K xs = stays xs
+end_block (B.Branch p a x b c) ss K xs = stays xs
+end_block (B.Else p a x) ss K xs = stays xs
+end_block (B.Body H.Entry h) ss K xs = stays xs
+end_block (B.Body (H.Evaluated p a) h) ss K xs = stays xs
 
 pub block_elseif : (a : ℕ) (k : BlockKind) (ss : Forms Stmt) (K : List Frame) (xs : ItemsRead) → Stays xs (TU.block_elseif a k ss K xs)
 block_elseif b (B.Branch p a x c e) ss K xs = stays xs
@@ -106,251 +106,251 @@ block_else (B.Branch p a x c e) ss K xs = stays xs
 block_else k ss K xs = tt
 
 pub block_word : (v : Word) (a : ℕ) (k : BlockKind) (ss : Forms Stmt) (K : List Frame) (xs : ItemsRead) → Stays xs (TU.block_word v a k ss K xs)
-block_word w.End b k ss K xs = block_ends k ss K xs
+block_word w.End b k ss K xs = end_block k ss K xs
 block_word w.Elseif b k ss K xs = block_elseif b k ss K xs
 block_word w.Else b k ss K xs = block_else k ss K xs
 block_word u1 b k ss K xs = tt
 
-pub evals_end : (k : EvalKind) (vs : Forms Eval) (K : List Frame) (xs : ItemsRead) → Stays xs (TU.evals_end k vs K xs)
-evals_end (E.Begin p a) vs K xs = stays xs
-evals_end (E.Quote p a) vs K xs = stays xs
+pub end_evals : (k : EvalKind) (vs : Forms Eval) (K : List Frame) (xs : ItemsRead) → Stays xs (TU.end_evals k vs K xs)
+end_evals (E.Begin p a) vs K xs = stays xs
+end_evals (E.Quote p a) vs K xs = stays xs
 
 evals_word : (v : Word) (k : EvalKind) (vs : Forms Eval) (K : List Frame) (xs : ItemsRead) → Stays xs (TU.evals_word v k vs K xs)
-evals_word w.End k vs K xs = evals_end k vs K xs
+evals_word w.End k vs K xs = end_evals k vs K xs
 evals_word u1 k vs K xs = tt
 
-item_ends : (x : Option (Form Item)) (xs : ItemsRead) → Stays xs (TU.item_ends x xs)
-item_ends None xs = tt
-item_ends (Some x) xs = added xs x
+end_item : (x : Option (Form Item)) (xs : ItemsRead) → Stays xs (TU.end_item x xs)
+end_item None xs = tt
+end_item (Some x) xs = added xs x
 
-stmt_ends : (r : Option (Forms Stmt)) (k : BlockKind) (K : List Frame) (xs : ItemsRead) → Stays xs (TU.stmt_ends r k K xs)
-stmt_ends None k K xs = tt
-stmt_ends (Some ss) k K xs = stays xs
+end_stmt : (r : Option (Forms Stmt)) (k : BlockKind) (K : List Frame) (xs : ItemsRead) → Stays xs (TU.end_stmt r k K xs)
+end_stmt None k K xs = tt
+end_stmt (Some ss) k K xs = stays xs
 
-eval_ends : (r : Option (Forms Eval)) (k : EvalKind) (K : List Frame) (xs : ItemsRead) → Stays xs (TU.eval_ends r k K xs)
-eval_ends None k K xs = tt
-eval_ends (Some vs) k K xs = stays xs
+end_eval : (r : Option (Forms Eval)) (k : EvalKind) (K : List Frame) (xs : ItemsRead) → Stays xs (TU.end_eval r k K xs)
+end_eval None k K xs = tt
+end_eval (Some vs) k K xs = stays xs
 
-separates : (l : Lead) (e : Form Expr) (K : List Frame) (xs : ItemsRead) → Stays xs (TU.separates l e K xs)
-separates l e [] xs = item_ends (item_of l e) xs
-separates l e (Test p a x b ∷ K) xs = stays xs
-separates l e (Block k ss ∷ K) xs = stmt_ends (with_stmt ss l e) k K xs
-separates l e (Evals k vs ∷ K) xs = eval_ends (with_eval vs l e) k K xs
-separates l e K xs = tt
+separator_after_expr : (l : Lead) (e : Form Expr) (K : List Frame) (xs : ItemsRead) → Stays xs (TU.separator_after_expr l e K xs)
+separator_after_expr l e [] xs = end_item (item_of l e) xs
+separator_after_expr l e (Test p a x b ∷ K) xs = stays xs
+separator_after_expr l e (Block k ss ∷ K) xs = end_stmt (with_stmt ss l e) k K xs
+separator_after_expr l e (Evals k vs ∷ K) xs = end_eval (with_eval vs l e) k K xs
+separator_after_expr l e K xs = tt
 
-finishes : (l : Lead) (e : Form Expr) (K : List Frame) (xs : ItemsRead) → Stays xs (TU.finishes l e K xs)
-finishes l e [] xs = item_ends (item_of l e) xs
-finishes l e K xs = tt
+source_end_after_expr : (l : Lead) (e : Form Expr) (K : List Frame) (xs : ItemsRead) → Stays xs (TU.source_end_after_expr l e K xs)
+source_end_after_expr l e [] xs = end_item (item_of l e) xs
+source_end_after_expr l e K xs = tt
 
-block_over : (r : Option (Forms Stmt)) (v : Word) (a : ℕ) (k : BlockKind) (K : List Frame) (xs : ItemsRead) → Stays xs (TU.block_over r v a k K xs)
-block_over None v b k K xs = tt
-block_over (Some ss) v b k K xs = block_word v b k ss K xs
+word_after_stmts : (r : Option (Forms Stmt)) (v : Word) (a : ℕ) (k : BlockKind) (K : List Frame) (xs : ItemsRead) → Stays xs (TU.word_after_stmts r v a k K xs)
+word_after_stmts None v b k K xs = tt
+word_after_stmts (Some ss) v b k K xs = block_word v b k ss K xs
 
-evals_over : (r : Option (Forms Eval)) (v : Word) (k : EvalKind) (K : List Frame) (xs : ItemsRead) → Stays xs (TU.evals_over r v k K xs)
-evals_over None v k K xs = tt
-evals_over (Some vs) v k K xs = evals_word v k vs K xs
+word_after_evals : (r : Option (Forms Eval)) (v : Word) (k : EvalKind) (K : List Frame) (xs : ItemsRead) → Stays xs (TU.word_after_evals r v k K xs)
+word_after_evals None v k K xs = tt
+word_after_evals (Some vs) v k K xs = evals_word v k vs K xs
 
-words : (v : Word) (a : ℕ) (l : Lead) (e : Form Expr) (K : List Frame) (xs : ItemsRead) → Stays xs (TU.words v a l e K xs)
-words v b l e (Block k ss ∷ K) xs = block_over (with_stmt ss l e) v b k K xs
-words v b l e (Evals k vs ∷ K) xs = evals_over (with_eval vs l e) v k K xs
-words v b l e K xs = tt
+word_after_expr : (v : Word) (a : ℕ) (l : Lead) (e : Form Expr) (K : List Frame) (xs : ItemsRead) → Stays xs (TU.word_after_expr v a l e K xs)
+word_after_expr v b l e (Block k ss ∷ K) xs = word_after_stmts (with_stmt ss l e) v b k K xs
+word_after_expr v b l e (Evals k vs ∷ K) xs = word_after_evals (with_eval vs l e) v k K xs
+word_after_expr v b l e K xs = tt
 
-comma : (e : Form Expr) (K : List Frame) (xs : ItemsRead) → Stays xs (TU.comma e K xs)
-comma e (Paren p a ∷ K) xs = stays xs
-comma e (Tuple p a es ∷ K) xs = stays xs
-comma e (Args p a f es ∷ K) xs = stays xs
-comma e (Print p a l ps ∷ K) xs = stays xs
-comma e K xs = tt
+comma_after_expr : (e : Form Expr) (K : List Frame) (xs : ItemsRead) → Stays xs (TU.comma_after_expr e K xs)
+comma_after_expr e (Paren p a ∷ K) xs = stays xs
+comma_after_expr e (Tuple p a es ∷ K) xs = stays xs
+comma_after_expr e (Args p a f es ∷ K) xs = stays xs
+comma_after_expr e (Print p a l ps ∷ K) xs = stays xs
+comma_after_expr e K xs = tt
 
-parens : (e : Form Expr) (K : List Frame) (xs : ItemsRead) → Stays xs (TU.parens e K xs)
-parens e (Paren p a ∷ K) xs = stays xs
-parens e (Tuple p a es ∷ K) xs = stays xs
-parens e (Args p a f es ∷ K) xs = stays xs
-parens e (Fetch p a ∷ K) xs = stays xs
-parens e (Print p a l ps ∷ K) xs = stays xs
-parens e K xs = tt
+paren_after_expr : (e : Form Expr) (K : List Frame) (xs : ItemsRead) → Stays xs (TU.paren_after_expr e K xs)
+paren_after_expr e (Paren p a ∷ K) xs = stays xs
+paren_after_expr e (Tuple p a es ∷ K) xs = stays xs
+paren_after_expr e (Args p a f es ∷ K) xs = stays xs
+paren_after_expr e (Fetch p a ∷ K) xs = stays xs
+paren_after_expr e (Print p a l ps ∷ K) xs = stays xs
+paren_after_expr e K xs = tt
 
-colon : (e : Form Expr) (K : List Frame) (xs : ItemsRead) → Stays xs (TU.colon e K xs)
-colon e (Then p c ∷ K) xs = stays xs
-colon e K xs = tt
+colon_after_expr : (e : Form Expr) (K : List Frame) (xs : ItemsRead) → Stays xs (TU.colon_after_expr e K xs)
+colon_after_expr e (Then p c ∷ K) xs = stays xs
+colon_after_expr e K xs = tt
 
-closes_operator : (x : Operator) (l : Lead) (e : Form Expr) (K : List Frame) (xs : ItemsRead) → Stays xs (TU.closes_operator x l e K xs)
-closes_operator o.Comma l e K xs = comma e K xs
-closes_operator o.CloseParen l e K xs = parens e K xs
-closes_operator o.Colon l e K xs = colon e K xs
-closes_operator o.Semicolon l e K xs = separates l e K xs
-closes_operator u1 l e K xs = tt
+operator_after_expr : (x : Operator) (l : Lead) (e : Form Expr) (K : List Frame) (xs : ItemsRead) → Stays xs (TU.operator_after_expr x l e K xs)
+operator_after_expr o.Comma l e K xs = comma_after_expr e K xs
+operator_after_expr o.CloseParen l e K xs = paren_after_expr e K xs
+operator_after_expr o.Colon l e K xs = colon_after_expr e K xs
+operator_after_expr o.Semicolon l e K xs = separator_after_expr l e K xs
+operator_after_expr u1 l e K xs = tt
 
-closes : (s : Sign) (a : ℕ) (l : Lead) (e : Form Expr) (K : List Frame) (xs : ItemsRead) → Stays xs (TU.closes s a l e K xs)
-closes (S.Operator x) b l e K xs = closes_operator x l e K xs
-closes (S.Word v) b l e K xs = words v b l e K xs
-closes S.Newline b l e K xs = separates l e K xs
-closes S.End b l e K xs = finishes l e K xs
-closes s b l e K xs = tt
+token_after_expr : (s : Terminal) (a : ℕ) (l : Lead) (e : Form Expr) (K : List Frame) (xs : ItemsRead) → Stays xs (TU.token_after_expr s a l e K xs)
+token_after_expr (S.Operator x) b l e K xs = operator_after_expr x l e K xs
+token_after_expr (S.Word v) b l e K xs = word_after_expr v b l e K xs
+token_after_expr S.Newline b l e K xs = separator_after_expr l e K xs
+token_after_expr S.End b l e K xs = source_end_after_expr l e K xs
+token_after_expr s b l e K xs = tt
 
-compared_operator : (x : Operator) (a : ℕ) (p : Pending) (e : Form Expr) (K : List Frame) (xs : ItemsRead) → Stays xs (TU.compared_operator x a p e K xs)
-compared_operator o.And b p e K xs = stays xs
-compared_operator o.Or b p e K xs = stays xs
-compared_operator o.Question b p e K xs = stays xs
-compared_operator x b p e K xs = closes_operator x p.lead (expression p e) K xs
+operator_after_comparison : (x : Operator) (a : ℕ) (p : Pending) (e : Form Expr) (K : List Frame) (xs : ItemsRead) → Stays xs (TU.operator_after_comparison x a p e K xs)
+operator_after_comparison o.And b p e K xs = stays xs
+operator_after_comparison o.Or b p e K xs = stays xs
+operator_after_comparison o.Question b p e K xs = stays xs
+operator_after_comparison x b p e K xs = operator_after_expr x p.lead (expression p e) K xs
 
-pub compared : (s : Sign) (a : ℕ) (p : Pending) (e : Form Expr) (K : List Frame) (xs : ItemsRead) → Stays xs (TU.compared s a p e K xs)
-compared (S.Operator x) b p e K xs = compared_operator x b p e K xs
-compared s b p e K xs = closes s b p.lead (expression p e) K xs
+pub token_after_comparison : (s : Terminal) (a : ℕ) (p : Pending) (e : Form Expr) (K : List Frame) (xs : ItemsRead) → Stays xs (TU.token_after_comparison s a p e K xs)
+token_after_comparison (S.Operator x) b p e K xs = operator_after_comparison x b p e K xs
+token_after_comparison s b p e K xs = token_after_expr s b p.lead (expression p e) K xs
 
-terms : (i : Infix) (p : Pending) (e : Form Expr) (K : List Frame) (xs : ItemsRead) → Stays xs (TU.terms i p e K xs)
-terms i p e K xs = stays xs
+push_term : (i : Infix) (p : Pending) (e : Form Expr) (K : List Frame) (xs : ItemsRead) → Stays xs (TU.push_term i p e K xs)
+push_term i p e K xs = stays xs
 
-sums : (i : Infix) (p : Pending) (e : Form Expr) (K : List Frame) (xs : ItemsRead) → Stays xs (TU.sums i p e K xs)
-sums i p e K xs = stays xs
+push_sum : (i : Infix) (p : Pending) (e : Form Expr) (K : List Frame) (xs : ItemsRead) → Stays xs (TU.push_sum i p e K xs)
+push_sum i p e K xs = stays xs
 
-compares : (b : Bool) (i : Infix) (p : Pending) (e : Form Expr) (K : List Frame) (xs : ItemsRead) → Stays xs (TU.compares b i p e K xs)
-compares true i p e K xs = stays xs
-compares false i p e K xs = tt
+push_first_comparison : (b : Bool) (i : Infix) (p : Pending) (e : Form Expr) (K : List Frame) (xs : ItemsRead) → Stays xs (TU.push_first_comparison b i p e K xs)
+push_first_comparison true i p e K xs = stays xs
+push_first_comparison false i p e K xs = tt
 
-isas : (b : Bool) (p : Pending) (e : Form Expr) (K : List Frame) (xs : ItemsRead) → Stays xs (TU.isas b p e K xs)
-isas true p e K xs = stays xs
-isas false p e K xs = tt
+push_isa : (b : Bool) (p : Pending) (e : Form Expr) (K : List Frame) (xs : ItemsRead) → Stays xs (TU.push_isa b p e K xs)
+push_isa true p e K xs = stays xs
+push_isa false p e K xs = tt
 
-follows_operator : (x : Operator) (a : ℕ) (p : Pending) (e : Form Expr) (K : List Frame) (xs : ItemsRead) → Stays xs (TU.follows_operator x a p e K xs)
-follows_operator o.Dot b p e K xs = stays xs
-follows_operator o.OpenBracket b p e K xs = stays xs
-follows_operator o.Times b p e K xs = terms I.Times p e K xs
-follows_operator o.Divide b p e K xs = terms I.Divide p e K xs
-follows_operator o.Remainder b p e K xs = terms I.Remainder p e K xs
-follows_operator o.Plus b p e K xs = sums I.Plus p e K xs
-follows_operator o.Minus b p e K xs = sums I.Minus p e K xs
-follows_operator o.Equal b p e K xs = compares (unequal p.levels) I.Equal p e K xs
-follows_operator o.NotEqual b p e K xs = compares (unequal p.levels) I.NotEqual p e K xs
-follows_operator o.Less b p e K xs = compares (unequal p.levels) I.Less p e K xs
-follows_operator o.LessEqual b p e K xs = compares (unequal p.levels) I.LessEqual p e K xs
-follows_operator o.Greater b p e K xs = compares (unequal p.levels) I.Greater p e K xs
-follows_operator o.GreaterEqual b p e K xs = compares (unequal p.levels) I.GreaterEqual p e K xs
-follows_operator o.Identical b p e K xs = compares (unequal p.levels) I.Identical p e K xs
-follows_operator o.NotIdentical b p e K xs = compares (unequal p.levels) I.NotIdentical p e K xs
-follows_operator x b p e K xs = compared_operator x b p (as_comparison p.levels e) K xs
+operator_after_operand : (x : Operator) (a : ℕ) (p : Pending) (e : Form Expr) (K : List Frame) (xs : ItemsRead) → Stays xs (TU.operator_after_operand x a p e K xs)
+operator_after_operand o.Dot b p e K xs = stays xs
+operator_after_operand o.OpenBracket b p e K xs = stays xs
+operator_after_operand o.Times b p e K xs = push_term I.Times p e K xs
+operator_after_operand o.Divide b p e K xs = push_term I.Divide p e K xs
+operator_after_operand o.Remainder b p e K xs = push_term I.Remainder p e K xs
+operator_after_operand o.Plus b p e K xs = push_sum I.Plus p e K xs
+operator_after_operand o.Minus b p e K xs = push_sum I.Minus p e K xs
+operator_after_operand o.Equal b p e K xs = push_first_comparison (has_no_comparison p.levels) I.Equal p e K xs
+operator_after_operand o.NotEqual b p e K xs = push_first_comparison (has_no_comparison p.levels) I.NotEqual p e K xs
+operator_after_operand o.Less b p e K xs = push_first_comparison (has_no_comparison p.levels) I.Less p e K xs
+operator_after_operand o.LessEqual b p e K xs = push_first_comparison (has_no_comparison p.levels) I.LessEqual p e K xs
+operator_after_operand o.Greater b p e K xs = push_first_comparison (has_no_comparison p.levels) I.Greater p e K xs
+operator_after_operand o.GreaterEqual b p e K xs = push_first_comparison (has_no_comparison p.levels) I.GreaterEqual p e K xs
+operator_after_operand o.Identical b p e K xs = push_first_comparison (has_no_comparison p.levels) I.Identical p e K xs
+operator_after_operand o.NotIdentical b p e K xs = push_first_comparison (has_no_comparison p.levels) I.NotIdentical p e K xs
+operator_after_operand x b p e K xs = operator_after_comparison x b p (as_comparison p.levels e) K xs
 
-follows_word : (v : Word) (a : ℕ) (p : Pending) (e : Form Expr) (K : List Frame) (xs : ItemsRead) → Stays xs (TU.follows_word v a p e K xs)
-follows_word w.Isa b p e K xs = isas (unequal p.levels) p e K xs
-follows_word v b p e K xs = words v b p.lead (expression p (as_comparison p.levels e)) K xs
+word_after_operand : (v : Word) (a : ℕ) (p : Pending) (e : Form Expr) (K : List Frame) (xs : ItemsRead) → Stays xs (TU.word_after_operand v a p e K xs)
+word_after_operand w.Isa b p e K xs = push_isa (has_no_comparison p.levels) p e K xs
+word_after_operand v b p e K xs = word_after_expr v b p.lead (expression p (as_comparison p.levels e)) K xs
 
-pub follows : (s : Sign) (a : ℕ) (p : Pending) (e : Form Expr) (K : List Frame) (xs : ItemsRead) → Stays xs (TU.follows s a p e K xs)
-follows (S.Operator x) b p e K xs = follows_operator x b p e K xs
-follows (S.Word v) b p e K xs = follows_word v b p e K xs
-follows s b p e K xs = closes s b p.lead (expression p (as_comparison p.levels e)) K xs
+pub token_after_operand : (s : Terminal) (a : ℕ) (p : Pending) (e : Form Expr) (K : List Frame) (xs : ItemsRead) → Stays xs (TU.token_after_operand s a p e K xs)
+token_after_operand (S.Operator x) b p e K xs = operator_after_operand x b p e K xs
+token_after_operand (S.Word v) b p e K xs = word_after_operand v b p e K xs
+token_after_operand s b p e K xs = token_after_expr s b p.lead (expression p (as_comparison p.levels e)) K xs
 
 type_turn : (t : Turn) (g : Goal) (K : List Frame) (xs : ItemsRead) → Stays xs (TU.type_turn t g K xs)
 type_turn (T.Goes s) g K xs = stays xs
 type_turn u1 g K xs = tt
 
-type_begins : (s : Sign) (a : ℕ) (g : Goal) (K : List Frame) (xs : ItemsRead) → Stays xs (TU.type_begins s a g K xs)
-type_begins s a g K xs = type_turn (Y.step_at s a Q.Want []) g K xs
+first_of_type : (s : Terminal) (a : ℕ) (g : Goal) (K : List Frame) (xs : ItemsRead) → Stays xs (TU.first_of_type s a g K xs)
+first_of_type s a g K xs = type_turn (Y.step_at s a Q.Want []) g K xs
 
-opens : (o : Opening) (n : List ℕ) (a : ℕ) (p : Pending) (K : List Frame) (xs : ItemsRead) → Stays xs (TU.opens o n a p K xs)
-opens O.Plain n a p K xs = stays xs
-opens O.Binding n a p K xs = stays xs
-opens O.Call n a p K xs = stays xs
-opens O.Make n a p K xs = type_begins (S.Name n) a (G.Make p a) K xs
-opens O.Latest n a p K xs = stays xs
-opens O.Spawn n a p K xs = stays xs
-opens O.Quote n a p K xs = stays xs
-opens O.Fetch n a p K xs = stays xs
-opens O.Print n a p K xs = stays xs
-opens O.Println n a p K xs = stays xs
+begin_opening : (o : Opening) (n : List ℕ) (a : ℕ) (p : Pending) (K : List Frame) (xs : ItemsRead) → Stays xs (TU.begin_opening o n a p K xs)
+begin_opening O.Plain n a p K xs = stays xs
+begin_opening O.Binding n a p K xs = stays xs
+begin_opening O.Call n a p K xs = stays xs
+begin_opening O.Make n a p K xs = first_of_type (S.Name n) a (G.Make p a) K xs
+begin_opening O.Latest n a p K xs = stays xs
+begin_opening O.Spawn n a p K xs = stays xs
+begin_opening O.Quote n a p K xs = stays xs
+begin_opening O.Fetch n a p K xs = stays xs
+begin_opening O.Print n a p K xs = stays xs
+begin_opening O.Println n a p K xs = stays xs
 
-names : (b : Bool) (o : Opening) (n : List ℕ) (a : ℕ) (p : Pending) (K : List Frame) (xs : ItemsRead) → Stays xs (TU.names b o n a p K xs)
-names true x n a p K xs = type_begins (S.Name n) a (G.Left p a) K xs
-names false x n a p K xs = opens x n a p K xs
+begin_name : (b : Bool) (o : Opening) (n : List ℕ) (a : ℕ) (p : Pending) (K : List Frame) (xs : ItemsRead) → Stays xs (TU.begin_name b o n a p K xs)
+begin_name true x n a p K xs = first_of_type (S.Name n) a (G.Left p a) K xs
+begin_name false x n a p K xs = begin_opening x n a p K xs
 
-brackets : (b : Bool) (a : ℕ) (p : Pending) (K : List Frame) (xs : ItemsRead) → Stays xs (TU.brackets b a p K xs)
-brackets true a p K xs = type_begins (S.Operator o.OpenParen) a (G.Left p a) K xs
-brackets false a p K xs = stays xs
+begin_paren : (b : Bool) (a : ℕ) (p : Pending) (K : List Frame) (xs : ItemsRead) → Stays xs (TU.begin_paren b a p K xs)
+begin_paren true a p K xs = first_of_type (S.Operator o.OpenParen) a (G.Left p a) K xs
+begin_paren false a p K xs = stays xs
 
-prefixes : (a : ℕ) (u : Prefix) (p : Pending) (K : List Frame) (xs : ItemsRead) → Stays xs (TU.prefixes a u p K xs)
-prefixes a u p K xs = stays xs
+begin_prefix : (a : ℕ) (u : Prefix) (p : Pending) (K : List Frame) (xs : ItemsRead) → Stays xs (TU.begin_prefix a u p K xs)
+begin_prefix a u p K xs = stays xs
 
-pub begins_operator : (x : Operator) (h : Ahead) (a : ℕ) (p : Pending) (K : List Frame) (xs : ItemsRead) → Stays xs (TU.begins_operator x h a p K xs)
-begins_operator o.OpenParen m a p K xs = brackets (begins_type (leads p.levels) m) a p K xs
-begins_operator o.Minus m a p K xs = prefixes a U.Minus p K xs
-begins_operator o.Not m a p K xs = prefixes a U.Not p K xs
-begins_operator u1 m a p K xs = tt
+pub begin_operator : (x : Operator) (h : Ahead) (a : ℕ) (p : Pending) (K : List Frame) (xs : ItemsRead) → Stays xs (TU.begin_operator x h a p K xs)
+begin_operator o.OpenParen m a p K xs = begin_paren (is_left_type (is_comparison_start p.levels) m) a p K xs
+begin_operator o.Minus m a p K xs = begin_prefix a U.Minus p K xs
+begin_operator o.Not m a p K xs = begin_prefix a U.Not p K xs
+begin_operator u1 m a p K xs = tt
 
-pub begins_word : (v : Word) (a : ℕ) (p : Pending) (K : List Frame) (xs : ItemsRead) → Stays xs (TU.begins_word v a p K xs)
-begins_word w.True a p K xs = stays xs
-begins_word w.False a p K xs = stays xs
-begins_word w.Nothing a p K xs = stays xs
-begins_word w.If a p K xs = stays xs
-begins_word w.Begin a p K xs = stays xs
-begins_word u1 a p K xs = tt
+pub begin_word : (v : Word) (a : ℕ) (p : Pending) (K : List Frame) (xs : ItemsRead) → Stays xs (TU.begin_word v a p K xs)
+begin_word w.True a p K xs = stays xs
+begin_word w.False a p K xs = stays xs
+begin_word w.Nothing a p K xs = stays xs
+begin_word w.If a p K xs = stays xs
+begin_word w.Begin a p K xs = stays xs
+begin_word u1 a p K xs = tt
 
-macros : (b : Bool) (a : ℕ) (p : Pending) (K : List Frame) (xs : ItemsRead) → Stays xs (TU.macros b a p K xs)
-macros true a p K xs = stays xs
-macros false a p K xs = tt
+begin_macro : (b : Bool) (a : ℕ) (p : Pending) (K : List Frame) (xs : ItemsRead) → Stays xs (TU.begin_macro b a p K xs)
+begin_macro true a p K xs = stays xs
+begin_macro false a p K xs = tt
 
-pub begins : (s : Sign) (m : Marks) (a : ℕ) (p : Pending) (K : List Frame) (xs : ItemsRead) → Stays xs (TU.begins s m a p K xs)
-begins (S.Name n) m a p K xs = names (begins_type (leads p.levels) m.ahead) m.opening n a p K xs
-begins (S.Number n) m a p K xs = stays xs
-begins (S.Word v) m a p K xs = begins_word v a p K xs
-begins (S.Operator x) m a p K xs = begins_operator x m.ahead a p K xs
-begins (S.Macro n) m a p K xs = macros (bytes_eq n (codes "eval")) a p K xs
-begins s m a p K xs = tt
+pub begin_operand : (s : Terminal) (m : Marks) (a : ℕ) (p : Pending) (K : List Frame) (xs : ItemsRead) → Stays xs (TU.begin_operand s m a p K xs)
+begin_operand (S.Name n) m a p K xs = begin_name (is_left_type (is_comparison_start p.levels) m.ahead) m.opening n a p K xs
+begin_operand (S.Number n) m a p K xs = stays xs
+begin_operand (S.Word v) m a p K xs = begin_word v a p K xs
+begin_operand (S.Operator x) m a p K xs = begin_operator x m.ahead a p K xs
+begin_operand (S.Macro n) m a p K xs = begin_macro (bytes_eq n (codes "eval")) a p K xs
+begin_operand s m a p K xs = tt
 
-first_closes : (K : List Frame) (xs : ItemsRead) → Stays xs (TU.first_closes K xs)
-first_closes (Paren p a ∷ K) xs = stays xs
-first_closes (Args p a f es ∷ K) xs = stays xs
-first_closes (Print p a l ps ∷ K) xs = stays xs
-first_closes K xs = tt
+close_first : (K : List Frame) (xs : ItemsRead) → Stays xs (TU.close_first K xs)
+close_first (Paren p a ∷ K) xs = stays xs
+close_first (Args p a f es ∷ K) xs = stays xs
+close_first (Print p a l ps ∷ K) xs = stays xs
+close_first K xs = tt
 
-strings : (a : ℕ) (n : List ℕ) (K : List Frame) (xs : ItemsRead) → Stays xs (TU.strings a n K xs)
-strings a n (Print p b l ps ∷ K) xs = stays xs
-strings a n K xs = tt
+push_string : (a : ℕ) (n : List ℕ) (K : List Frame) (xs : ItemsRead) → Stays xs (TU.push_string a n K xs)
+push_string a n (Print p b l ps ∷ K) xs = stays xs
+push_string a n K xs = tt
 
-pub at_first : (s : Sign) (m : Marks) (a : ℕ) (b : Bool) (K : List Frame) (xs : ItemsRead) → Stays xs (TU.at_first s m a b K xs)
-at_first (S.Operator o.CloseParen) m a r K xs = first_closes K xs
-at_first (S.Text n) m a r K xs = strings a n K xs
-at_first s m a r K xs = begins s m a (fresh r) K xs
+pub at_first : (s : Terminal) (m : Marks) (a : ℕ) (b : Bool) (K : List Frame) (xs : ItemsRead) → Stays xs (TU.at_first s m a b K xs)
+at_first (S.Operator o.CloseParen) m a r K xs = close_first K xs
+at_first (S.Text n) m a r K xs = push_string a n K xs
+at_first s m a r K xs = begin_operand s m a (no_pending r) K xs
 
-again_closes : (K : List Frame) (xs : ItemsRead) → Stays xs (TU.again_closes K xs)
-again_closes (Tuple p a es ∷ K) xs = stays xs
-again_closes K xs = tt
+close_again : (K : List Frame) (xs : ItemsRead) → Stays xs (TU.close_again K xs)
+close_again (Tuple p a es ∷ K) xs = stays xs
+close_again K xs = tt
 
-pub at_again : (s : Sign) (m : Marks) (a : ℕ) (b : Bool) (K : List Frame) (xs : ItemsRead) → Stays xs (TU.at_again s m a b K xs)
-at_again (S.Operator o.CloseParen) m a r K xs = again_closes K xs
-at_again s m a r K xs = begins s m a (fresh r) K xs
+pub at_again : (s : Terminal) (m : Marks) (a : ℕ) (b : Bool) (K : List Frame) (xs : ItemsRead) → Stays xs (TU.at_again s m a b K xs)
+at_again (S.Operator o.CloseParen) m a r K xs = close_again K xs
+at_again s m a r K xs = begin_operand s m a (no_pending r) K xs
 
-pub at_piece : (s : Sign) (m : Marks) (a : ℕ) (b : Bool) (K : List Frame) (xs : ItemsRead) → Stays xs (TU.at_piece s m a b K xs)
-at_piece (S.Text n) m a r K xs = strings a n K xs
-at_piece s m a r K xs = begins s m a (fresh r) K xs
+pub at_piece : (s : Terminal) (m : Marks) (a : ℕ) (b : Bool) (K : List Frame) (xs : ItemsRead) → Stays xs (TU.at_piece s m a b K xs)
+at_piece (S.Text n) m a r K xs = push_string a n K xs
+at_piece s m a r K xs = begin_operand s m a (no_pending r) K xs
 
-text_closes : (K : List Frame) (xs : ItemsRead) → Stays xs (TU.text_closes K xs)
-text_closes (Print p a l ps ∷ K) xs = stays xs
-text_closes K xs = tt
+close_text : (K : List Frame) (xs : ItemsRead) → Stays xs (TU.close_text K xs)
+close_text (Print p a l ps ∷ K) xs = stays xs
+close_text K xs = tt
 
 text_comma : (K : List Frame) (xs : ItemsRead) → Stays xs (TU.text_comma K xs)
 text_comma (Print p a l ps ∷ K) xs = stays xs
 text_comma K xs = tt
 
-pub at_texted : (s : Sign) (K : List Frame) (xs : ItemsRead) → Stays xs (TU.at_texted s K xs)
-at_texted (S.Operator o.CloseParen) K xs = text_closes K xs
+pub at_texted : (s : Terminal) (K : List Frame) (xs : ItemsRead) → Stays xs (TU.at_texted s K xs)
+at_texted (S.Operator o.CloseParen) K xs = close_text K xs
 at_texted (S.Operator o.Comma) K xs = text_comma K xs
 at_texted s K xs = tt
 
-pub at_dot : (s : Sign) (a : ℕ) (p : Pending) (e : Form Expr) (K : List Frame) (xs : ItemsRead) → Stays xs (TU.at_dot s a p e K xs)
+pub at_dot : (s : Terminal) (a : ℕ) (p : Pending) (e : Form Expr) (K : List Frame) (xs : ItemsRead) → Stays xs (TU.at_dot s a p e K xs)
 at_dot (S.Name n) a p e K xs = stays xs
 at_dot s a p e K xs = tt
 
-indexes : (b : Bool) (n : ℤ) (p : Pending) (e : Form Expr) (K : List Frame) (xs : ItemsRead) → Stays xs (TU.indexes b n p e K xs)
-indexes true n p e K xs = stays xs
-indexes false n p e K xs = tt
+push_index : (b : Bool) (n : ℤ) (p : Pending) (e : Form Expr) (K : List Frame) (xs : ItemsRead) → Stays xs (TU.push_index b n p e K xs)
+push_index true n p e K xs = stays xs
+push_index false n p e K xs = tt
 
-pub at_index : (s : Sign) (p : Pending) (e : Form Expr) (K : List Frame) (xs : ItemsRead) → Stays xs (TU.at_index s p e K xs)
-at_index (S.Number n) p e K xs = indexes (int_le (pos 1) n) n p e K xs
+pub at_index : (s : Terminal) (p : Pending) (e : Form Expr) (K : List Frame) (xs : ItemsRead) → Stays xs (TU.at_index s p e K xs)
+at_index (S.Number n) p e K xs = push_index (int_le (pos 1) n) n p e K xs
 at_index s p e K xs = tt
 
-pub at_indexed : (s : Sign) (p : Pending) (e : Form Expr) (n : ℤ) (K : List Frame) (xs : ItemsRead) → Stays xs (TU.at_indexed s p e n K xs)
+pub at_indexed : (s : Terminal) (p : Pending) (e : Form Expr) (n : ℤ) (K : List Frame) (xs : ItemsRead) → Stays xs (TU.at_indexed s p e n K xs)
 at_indexed (S.Operator o.CloseBracket) p e n K xs = stays xs
 at_indexed s p e n K xs = tt
 
-pub at_quoted : (s : Sign) (p : Pending) (e : Form Expr) (K : List Frame) (xs : ItemsRead) → Stays xs (TU.at_quoted s p e K xs)
+pub at_quoted : (s : Terminal) (p : Pending) (e : Form Expr) (K : List Frame) (xs : ItemsRead) → Stays xs (TU.at_quoted s p e K xs)
 at_quoted (S.Operator o.CloseParen) p e K xs = stays xs
 at_quoted s p e K xs = tt

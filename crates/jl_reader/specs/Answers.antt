@@ -1,7 +1,7 @@
 -- What `read` answers.
 use Rattle.std.specs.Prelude.{ℕ, Bool, true, false, List, [], ◌∷◌, ◌++◌, ◌≡◌, take, drop, Option, Some, None, Result, Ok, Err}
 use Rattle.jl_token.specs.declared.token.Token.{Token}
-use Rattle.jl_typeread.specs.declared.sign.Sign.TheVariants as S
+use Rattle.jl_typeread.specs.declared.terminal.Terminal.TheVariants as S
 use Rattle.jl_typeread.specs.Lexemes.{lexemes}
 use Rattle.jl_grammar.specs.declared.mark.Marked.{Marked}
 use Rattle.jl_grammar.specs.declared.state.Point.{Point}
@@ -9,25 +9,25 @@ use Rattle.jl_grammar.specs.declared.state.Reading.{Reading}
 use Rattle.jl_grammar.specs.declared.state.State.{State}
 use Rattle.jl_grammar.specs.declared.tree.Script.{Script}
 use Rattle.jl_grammar.specs.Grammar.{ScriptText}
-use Rattle.jl_grammar.specs.Machine.{start, step, goes, wants_type}
+use Rattle.jl_grammar.specs.Machine.{start, step, step_all, is_type_wanted}
 use Rattle.jl_grammar.specs.Reads.{IsWrong, NoneDeep, IsTooDeep, first_at, text}
 use Rattle.jl_grammar.specs.Texts.{Text, Spot, tok, NoEnd}
 use Rattle.jl_reader.specs.declared.fault.SyntaxFault.{SyntaxFault}
 use Rattle.jl_reader.specs.declared.fault.SyntaxFault.TheVariants.{Syntax, BadType, TooDeep, Memory}
 
 -- a type must stand where this reading is
-abbrev pub wants : Option State → Bool
-wants None = false
-wants (Some s) = wants_type s.point
+abbrev pub is_type_wanted_at : Option State → Bool
+is_type_wanted_at None = false
+is_type_wanted_at (Some s) = is_type_wanted s.point
 
 -- a type must stand behind the first n tokens
-abbrev pub type_follows : Text → ℕ → Bool
-type_follows ts n = wants (goes (take n ts) start)
+abbrev pub is_type_wanted_after : Text → ℕ → Bool
+is_type_wanted_after ts n = is_type_wanted_at (step_all (take n ts) start)
 
 -- the first wrong token, or the source's end, stands here, no item that ended before it is too deep, and a type must stand
 -- there or not
 abbrev pub IsFault : Text → ℕ → Bool → ℕ → Type 0
-IsFault ts end is_type a = (n : ℕ) × IsWrong ts n × NoneDeep ts n × (type_follows ts n ≡ is_type) × (a ≡ first_at (drop n ts) end)
+IsFault ts end is_type a = (n : ℕ) × IsWrong ts n × NoneDeep ts n × (is_type_wanted_after ts n ≡ is_type) × (a ≡ first_at (drop n ts) end)
 
 -- what these tokens, with the source's end at this place, are answered by
 abbrev pub Answers : Text → ℕ → Result Script SyntaxFault → Type 0
@@ -54,16 +54,16 @@ IsOnly {A} result P = (r : Result A SyntaxFault) → P r → UnlessMemory result
 -- ---- of the loop
 
 -- the fault of a wrong token at this place
-abbrev pub wrong : Bool → ℕ → SyntaxFault
-wrong true a = BadType a
-wrong false a = Syntax a
+abbrev pub wrong_token : Bool → ℕ → SyntaxFault
+wrong_token true a = BadType a
+wrong_token false a = Syntax a
 
 -- one token: what comes of it, or what ends the reading at it
 abbrev pub Took : Marked → State → Result State SyntaxFault → Type 0
 Took t s (Ok r) = (step t (Some s) ≡ Some r) × (r.script.too_deep ≡ None)
 Took t s (Err (TooDeep a)) = (r : State) × (step t (Some s) ≡ Some r) × (r.script.too_deep ≡ Some a)
-Took t s (Err (Syntax a)) = (step t (Some s) ≡ None) × (Syntax a ≡ wrong (wants_type s.point) t.lexeme.at)
-Took t s (Err (BadType a)) = (step t (Some s) ≡ None) × (BadType a ≡ wrong (wants_type s.point) t.lexeme.at)
+Took t s (Err (Syntax a)) = (step t (Some s) ≡ None) × (Syntax a ≡ wrong_token (is_type_wanted s.point) t.lexeme.at)
+Took t s (Err (BadType a)) = (step t (Some s) ≡ None) × (BadType a ≡ wrong_token (is_type_wanted s.point) t.lexeme.at)
 Took t s (Err Memory) = Unit {0}
 
 -- the state that is this point with the rest of the reading

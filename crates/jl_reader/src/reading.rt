@@ -2,23 +2,23 @@
 
 ghost use Rattle.std.specs.Prelude.{◌≡◌, Option, Some, None, Result, Err};
 ghost use Rattle.jl_typeread.specs.Reads.{EndsAlone};
-ghost use Rattle.jl_reader.specs.Answers.{Reads, UnlessMemory, IsOnly, TookAt, wrong};
+ghost use Rattle.jl_reader.specs.Answers.{Reads, UnlessMemory, IsOnly, TookAt, wrong_token};
 
 use crate::fault::SyntaxFault;
 use crate::step::{
-    is_frequent, is_in_type, start, step_anywhere, step_in_type, step_often, wants_type,
+    is_frequent, is_in_type, is_type_wanted, start, step_anywhere, step_in_type, step_often,
 };
 use jl_grammar::mark::Marked;
 use jl_grammar::state::{Point, Reading};
 use jl_grammar::tree::Script;
-use jl_marks::marks::marked;
-use jl_marks::newlines::bare;
+use jl_marks::marks::with_marks;
+use jl_marks::newlines::drop_newlines;
 use jl_token::token::Token;
 use std::alloc::Global;
 
 /// The fault of a wrong token at this place.
-fn wrong(is_type: bool, at: u32) -> SyntaxFault
-    ensures { result ≡ wrong is_type at }
+fn wrong_token(is_type: bool, at: u32) -> SyntaxFault
+    ensures { result ≡ wrong_token is_type at }
 {
     if is_type {
         return SyntaxFault::BadType(at);
@@ -36,7 +36,7 @@ fn take(
 ) -> Result<Point, SyntaxFault>
     ensures { TookAt token point reading.old reading.new result }
 {
-    let is_type = wants_type(&point);
+    let is_type = is_type_wanted(&point);
     let at = token.lexeme.at;
     let taken = if is_frequent(&point) {
         step_often(alloc, &token, point, reading)
@@ -48,7 +48,7 @@ fn take(
     drop(token);
     match taken {
         Err(error) => Err(SyntaxFault::from(error)),
-        Ok(None) => Err(wrong(is_type, at)),
+        Ok(None) => Err(wrong_token(is_type, at)),
         Ok(Some(next)) => match reading.script.too_deep {
             None => Ok(next),
             Some(at) => {
@@ -71,8 +71,8 @@ pub fn read(alloc: Global, tokens: &[Token]) -> Result<Script, SyntaxFault>
     ensures reads { UnlessMemory result (Reads tokens.now) }
     ensures only { IsOnly result (Reads tokens.now) }
 {
-    let lexemes = bare(alloc, tokens)?;
-    let mut left = marked(alloc, lexemes)?;
+    let lexemes = drop_newlines(alloc, tokens)?;
+    let mut left = with_marks(alloc, lexemes)?;
     let mut reading = start(alloc);
     let mut point = Point::Entry;
     while let Some(token) = left.pop() {

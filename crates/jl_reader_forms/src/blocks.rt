@@ -2,23 +2,24 @@
 
 ghost use Rattle.std.specs.Prelude.{◌≡◌, ◌∷◌, IfOk};
 ghost use Rattle.jl_grammar.specs.Goes.{state_at};
-ghost use Rattle.jl_grammar.specs.Turns.{at, placed, returns_of, returns_in, with_stmt, with_method, with_eval, item_of, block_ends, block_elseif, block_else, block_word, evals_end, evals_word};
+ghost use Rattle.jl_grammar.specs.Turns.{at, name_at, is_return_allowed, is_return_allowed_in, with_stmt, with_method, with_eval, item_of, end_block, block_elseif, block_else, block_word, end_evals, evals_word};
 
 use crate::forms::{
-    begun, eval_block, eval_method, eval_quote, iffed, iffed_else, none, with, with_branch,
+    begin_expr, eval_block, eval_method, eval_quote, if_else_expr, if_expr, no_forms, with_branch,
+    with_form,
 };
-use crate::levels::fresh;
-use crate::made::{bound_item, done_item, long, method_item, short};
+use crate::items::{binding_item, expr_item, long_method, method_item, short_method};
+use crate::levels::no_pending;
 use jl_grammar::owned::Owned;
 use jl_grammar::state::{BlockKind, EvalKind, Form, Forms, Frame, Lead, Place, Point, Reading};
 use jl_grammar::tree::{Eval, Expr, Head, Item, Method, Name, Stmt};
 use jl_model::rows::Stack;
 use jl_model::ty::Bytes;
-use jl_typeread::sign::Word;
+use jl_typeread::terminal::Word;
 use std::alloc::{AllocError, Global};
 
 /// The reading goes on inside of one more form.
-pub fn inside(
+pub fn push_frame(
     point: Point,
     frame: Frame,
     reading: &mut Reading,
@@ -35,15 +36,15 @@ pub fn inside(
 }
 
 /// A name and its place.
-pub fn placed(at: u32, bytes: Bytes) -> Name
-    ensures { result ≡ placed at bytes }
+pub fn name_at(at: u32, bytes: Bytes) -> Name
+    ensures { result ≡ name_at at bytes }
 {
     Name { at, bytes }
 }
 
 /// Whether a `return` may stand in a block.
-pub fn returns_of(kind: &BlockKind) -> bool
-    ensures { result ≡ returns_of kind.now }
+pub fn is_return_allowed(kind: &BlockKind) -> bool
+    ensures { result ≡ is_return_allowed kind.now }
 {
     match kind {
         BlockKind::Begin(pending, _) => pending.get().returns,
@@ -54,11 +55,11 @@ pub fn returns_of(kind: &BlockKind) -> bool
 }
 
 /// Whether a `return` may stand in the innermost form that is open.
-pub fn returns_in(stack: &Stack<Frame>) -> bool
-    ensures { result ≡ returns_in stack.now }
+pub fn is_return_allowed_in(stack: &Stack<Frame>) -> bool
+    ensures { result ≡ is_return_allowed_in stack.now }
 {
     match stack.top() {
-        Some(Frame::Block(kind, _)) => returns_of(kind.get()),
+        Some(Frame::Block(kind, _)) => is_return_allowed(kind.get()),
         _ => false,
     }
 }
@@ -73,9 +74,9 @@ pub fn with_stmt(
 {
     let Form { tree, depth, .. } = e;
     match lead {
-        Lead::Plain => Ok(Some(with(stmts, Stmt::Do(tree.take()), depth)?)),
-        Lead::Bind(name) => Ok(Some(with(stmts, Stmt::Bind(name, tree.take()), depth)?)),
-        Lead::Return(at) => Ok(Some(with(stmts, Stmt::Return(at, tree.take()), depth)?)),
+        Lead::Plain => Ok(Some(with_form(stmts, Stmt::Do(tree.take()), depth)?)),
+        Lead::Bind(name) => Ok(Some(with_form(stmts, Stmt::Bind(name, tree.take()), depth)?)),
+        Lead::Return(at) => Ok(Some(with_form(stmts, Stmt::Return(at, tree.take()), depth)?)),
         Lead::Short(head) => {
             drop(head);
             drop(tree);
@@ -88,7 +89,7 @@ pub fn with_stmt(
 pub fn with_method(evals: Forms<Eval>, method: Form<Method>) -> Result<Forms<Eval>, AllocError>
     ensures { IfOk result (λ r. r ≡ with_method evals method) }
 {
-    with(evals, Eval::Method(method.tree.take()), method.depth)
+    with_form(evals, Eval::Method(method.tree.take()), method.depth)
 }
 
 /// An expression as an evaluated statement.
@@ -101,9 +102,9 @@ pub fn with_eval(
     ensures { IfOk result (λ r. r ≡ with_eval evals lead e) }
 {
     match lead {
-        Lead::Plain => Ok(Some(with(evals, Eval::Do(e.tree.take()), e.depth)?)),
+        Lead::Plain => Ok(Some(with_form(evals, Eval::Do(e.tree.take()), e.depth)?)),
         Lead::Short(head) => {
-            let method = short(alloc, head.take(), e)?;
+            let method = short_method(alloc, head.take(), e)?;
             Ok(Some(with_method(evals, method)?))
         }
         lead => {
@@ -119,10 +120,10 @@ pub fn item_of(alloc: Global, lead: Lead, e: Form<Expr>) -> Result<Option<Form<I
     ensures { IfOk result (λ r. r ≡ item_of lead e) }
 {
     match lead {
-        Lead::Plain => Ok(Some(done_item(alloc, e)?)),
-        Lead::Bind(name) => Ok(Some(bound_item(alloc, name, e)?)),
+        Lead::Plain => Ok(Some(expr_item(alloc, e)?)),
+        Lead::Bind(name) => Ok(Some(binding_item(alloc, name, e)?)),
         Lead::Short(head) => {
-            let method = short(alloc, head.take(), e)?;
+            let method = short_method(alloc, head.take(), e)?;
             Ok(Some(method_item(alloc, method)?))
         }
         Lead::Return(_) => {
@@ -133,16 +134,16 @@ pub fn item_of(alloc: Global, lead: Lead, e: Form<Expr>) -> Result<Option<Form<I
 }
 
 /// `end` of the body of a method.
-fn body_ends(
+fn end_body(
     alloc: Global,
     place: Place,
     head: Form<Head>,
     stmts: Forms<Stmt>,
     reading: &mut Reading,
 ) -> Result<Option<Point>, AllocError>
-    ensures { IfOk result (λ p. state_at p reading.new ≡ block_ends (BlockKind.Body place head) stmts reading.old.stack reading.old.script) }
+    ensures { IfOk result (λ p. state_at p reading.new ≡ end_block (BlockKind.Body place head) stmts reading.old.stack reading.old.script) }
 {
-    let method = long(alloc, head, stmts)?;
+    let method = long_method(alloc, head, stmts)?;
     match place {
         Place::Entry => Ok(Some(Point::MadeMethod(method))),
         Place::Evaluated(pending, place) => {
@@ -153,29 +154,29 @@ fn body_ends(
 }
 
 /// `end` of a block.
-pub fn block_ends(
+pub fn end_block(
     alloc: Global,
     kind: BlockKind,
     stmts: Forms<Stmt>,
     reading: &mut Reading,
 ) -> Result<Option<Point>, AllocError>
-    ensures { IfOk result (λ p. state_at p reading.new ≡ block_ends kind stmts reading.old.stack reading.old.script) }
+    ensures { IfOk result (λ p. state_at p reading.new ≡ end_block kind stmts reading.old.stack reading.old.script) }
 {
     match kind {
         BlockKind::Begin(pending, place) => {
-            let e = begun(alloc, place, stmts)?;
+            let e = begin_expr(alloc, place, stmts)?;
             Ok(Some(Point::Have(pending, e)))
         }
         BlockKind::Branch(pending, place, branched, word, test) => {
             let branched = with_branch(alloc, branched, word, test, stmts)?;
-            let e = iffed(alloc, place, branched)?;
+            let e = if_expr(alloc, place, branched)?;
             Ok(Some(Point::Have(pending, e)))
         }
         BlockKind::Else(pending, place, branched) => {
-            let e = iffed_else(alloc, place, branched, stmts)?;
+            let e = if_else_expr(alloc, place, branched, stmts)?;
             Ok(Some(Point::Have(pending, e)))
         }
-        BlockKind::Body(place, head) => body_ends(alloc, place, head, stmts, reading),
+        BlockKind::Body(place, head) => end_body(alloc, place, head, stmts, reading),
     }
 }
 
@@ -192,9 +193,9 @@ pub fn block_elseif(
     match kind {
         BlockKind::Branch(pending, start, branched, word, test) => {
             let branched = with_branch(alloc, branched, word, test, stmts)?;
-            let want = Point::Want(fresh(alloc, pending.get().returns)?);
+            let want = Point::Want(no_pending(alloc, pending.get().returns)?);
             let frame = Frame::Test(pending, start, branched, place);
-            inside(want, frame, reading)
+            push_frame(want, frame, reading)
         }
         kind => {
             drop(kind);
@@ -216,7 +217,7 @@ pub fn block_else(
         BlockKind::Branch(pending, place, branched, word, test) => {
             let branched = with_branch(alloc, branched, word, test, stmts)?;
             let kind = Owned::new(alloc, BlockKind::Else(pending, place, branched))?;
-            inside(Point::Entry, Frame::Block(kind, none(alloc)), reading)
+            push_frame(Point::Entry, Frame::Block(kind, no_forms(alloc)), reading)
         }
         kind => {
             drop(kind);
@@ -237,7 +238,7 @@ pub fn block_word(
     ensures { IfOk result (λ p. state_at p reading.new ≡ block_word word place kind stmts reading.old.stack reading.old.script) }
 {
     match word {
-        Word::End => block_ends(alloc, kind, stmts, reading),
+        Word::End => end_block(alloc, kind, stmts, reading),
         Word::Elseif => block_elseif(alloc, place, kind, stmts, reading),
         Word::Else => block_else(alloc, kind, stmts, reading),
         _ => {
@@ -248,13 +249,13 @@ pub fn block_word(
 }
 
 /// `end` of an evaluated block.
-pub fn evals_end(
+pub fn end_evals(
     alloc: Global,
     kind: EvalKind,
     evals: Forms<Eval>,
     reading: &mut Reading,
 ) -> Result<Option<Point>, AllocError>
-    ensures { IfOk result (λ p. state_at p reading.new ≡ evals_end kind evals reading.old.stack reading.old.script) }
+    ensures { IfOk result (λ p. state_at p reading.new ≡ end_evals kind evals reading.old.stack reading.old.script) }
 {
     match kind {
         EvalKind::Begin(pending, place) => {
@@ -279,7 +280,7 @@ pub fn evals_word(
     ensures { IfOk result (λ p. state_at p reading.new ≡ evals_word word kind evals reading.old.stack reading.old.script) }
 {
     match word {
-        Word::End => evals_end(alloc, kind, evals, reading),
+        Word::End => end_evals(alloc, kind, evals, reading),
         _ => {
             drop(kind);
             Ok(None)

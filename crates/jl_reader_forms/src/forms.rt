@@ -1,7 +1,7 @@
 //! The forms of a script with their depth, as they are made. The tree of an expression that is too deep is not kept.
 
 ghost use Rattle.std.specs.Prelude.{◌≡◌, IfOk, OnOk};
-ghost use Rattle.jl_grammar.specs.Forms.{deeper, made, none, with, type_form, vars_form, no_vars, number, truth, nothing, name, paren, tuple, called, field, part, prefixed, infixed, isa, sub, choose, begun, spawned, eval_method, eval_block, eval_expr, eval_quote, fetched, printed, below, no_branches, with_branch, iffed, iffed_else, with_show, with_text, with_expr};
+ghost use Rattle.jl_grammar.specs.Forms.{depth_around, expr_form, no_forms, with_form, type_form, vars_form, no_vars, number, truth, nothing, name, paren, tuple, call_expr, field, part, prefix_expr, infix_expr, isa_expr, sub_expr, choose_expr, begin_expr, spawn_expr, eval_method, eval_block, eval_expr, eval_quote, fetch_expr, print_expr, depth_below, no_branches, with_branch, if_expr, if_else_expr, with_show, with_text, with_expr};
 
 use jl_grammar::owned::Owned;
 use jl_grammar::state::{Branched, Called, Form, Forms, PrefixAt, TypeForm, VarsForm};
@@ -15,15 +15,15 @@ use jl_typeread::tree::{TypeText, VarText};
 use std::alloc::{AllocError, Global};
 
 /// The depth of a form around forms of this depth.
-pub(crate) fn deeper(depth: u32) -> u32
-    ensures { result ≡ deeper depth }
+pub(crate) fn depth_around(depth: u32) -> u32
+    ensures { result ≡ depth_around depth }
 {
     depth.min(MOST_ITEM_DEPTH) + 1
 }
 
 /// An expression of this depth.
-fn made(alloc: Global, at: u32, depth: u32, tree: Expr) -> Result<Form<Expr>, AllocError>
-    ensures { IfOk result (λ r. r ≡ made at depth tree) }
+fn expr_form(alloc: Global, at: u32, depth: u32, tree: Expr) -> Result<Form<Expr>, AllocError>
+    ensures { IfOk result (λ r. r ≡ expr_form at depth tree) }
 {
     if depth > MOST_ITEM_DEPTH {
         drop(tree);
@@ -35,8 +35,8 @@ fn made(alloc: Global, at: u32, depth: u32, tree: Expr) -> Result<Form<Expr>, Al
 }
 
 /// No trees.
-pub fn none<T>(alloc: Global) -> Forms<T>
-    ensures { result ≡ none }
+pub fn no_forms<T>(alloc: Global) -> Forms<T>
+    ensures { result ≡ no_forms }
 {
     Forms {
         trees: Row::new(alloc),
@@ -45,8 +45,8 @@ pub fn none<T>(alloc: Global) -> Forms<T>
 }
 
 /// The trees and one more, with its depth.
-pub fn with<T: Drop>(forms: Forms<T>, tree: T, depth: u32) -> Result<Forms<T>, AllocError>
-    ensures { IfOk result (λ r. r ≡ with forms tree depth) }
+pub fn with_form<T: Drop>(forms: Forms<T>, tree: T, depth: u32) -> Result<Forms<T>, AllocError>
+    ensures { IfOk result (λ r. r ≡ with_form forms tree depth) }
 {
     let Forms {
         mut trees,
@@ -61,7 +61,7 @@ pub fn with<T: Drop>(forms: Forms<T>, tree: T, depth: u32) -> Result<Forms<T>, A
 
 /// One more tree, with its depth.
 pub fn add<T: Drop>(forms: &mut Forms<T>, tree: T, depth: u32) -> Result<(), AllocError>
-    ensures { OnOk result (forms.new ≡ with forms.old tree depth) }
+    ensures { OnOk result (forms.new ≡ with_form forms.old tree depth) }
 {
     forms.trees.push(tree)?;
     forms.depth = forms.depth.max(depth);
@@ -117,28 +117,28 @@ pub fn no_vars() -> VarsForm
 pub fn number(alloc: Global, at: u32, value: i64) -> Result<Form<Expr>, AllocError>
     ensures { IfOk result (λ r. r ≡ number at value) }
 {
-    made(alloc, at, 1, Expr::Number(at, value))
+    expr_form(alloc, at, 1, Expr::Number(at, value))
 }
 
 /// `true` or `false`.
 pub fn truth(alloc: Global, at: u32, value: bool) -> Result<Form<Expr>, AllocError>
     ensures { IfOk result (λ r. r ≡ truth at value) }
 {
-    made(alloc, at, 1, Expr::Bool(at, value))
+    expr_form(alloc, at, 1, Expr::Bool(at, value))
 }
 
 /// `nothing`.
 pub fn nothing(alloc: Global, at: u32) -> Result<Form<Expr>, AllocError>
     ensures { IfOk result (λ r. r ≡ nothing at) }
 {
-    made(alloc, at, 1, Expr::Nothing(at))
+    expr_form(alloc, at, 1, Expr::Nothing(at))
 }
 
 /// A name.
 pub fn name(alloc: Global, at: u32, bytes: Bytes) -> Result<Form<Expr>, AllocError>
     ensures { IfOk result (λ r. r ≡ name at bytes) }
 {
-    made(alloc, at, 1, Expr::Name(at, bytes))
+    expr_form(alloc, at, 1, Expr::Name(at, bytes))
 }
 
 /// An expression in parentheses.
@@ -146,7 +146,7 @@ pub fn paren(alloc: Global, at: u32, e: Form<Expr>) -> Result<Form<Expr>, AllocE
     ensures { IfOk result (λ r. r ≡ paren at e) }
 {
     let tree = SharedNode::new(alloc, e.tree.take())?;
-    made(alloc, at, deeper(e.depth), Expr::Paren(at, tree))
+    expr_form(alloc, at, depth_around(e.depth), Expr::Paren(at, tree))
 }
 
 /// Expressions in parentheses, with their commas.
@@ -154,32 +154,42 @@ pub fn tuple(alloc: Global, at: u32, es: Forms<Expr>) -> Result<Form<Expr>, Allo
     ensures { IfOk result (λ r. r ≡ tuple at es) }
 {
     let trees = es.trees.into_shared(alloc)?;
-    made(alloc, at, deeper(es.depth), Expr::Tuple(at, trees))
+    expr_form(alloc, at, depth_around(es.depth), Expr::Tuple(at, trees))
 }
 
 /// Arguments, behind what they are given to. The name of a written type is no type of its own there.
-pub fn called(
+pub fn call_expr(
     alloc: Global,
     at: u32,
     function: Called,
     es: Forms<Expr>,
 ) -> Result<Form<Expr>, AllocError>
-    ensures { IfOk result (λ r. r ≡ called at function es) }
+    ensures { IfOk result (λ r. r ≡ call_expr at function es) }
 {
     let Forms { trees, depth } = es;
     let trees = trees.into_shared(alloc)?;
     match function {
-        Called::Function(callee) => made(alloc, at, deeper(depth), Expr::Call(at, callee, trees)),
+        Called::Function(callee) => expr_form(
+            alloc,
+            at,
+            depth_around(depth),
+            Expr::Call(at, callee, trees),
+        ),
         Called::Type(ty) => {
             let greatest = ty.depth.saturating_sub(1).max(depth);
-            made(
+            expr_form(
                 alloc,
                 at,
-                deeper(greatest),
+                depth_around(greatest),
                 Expr::Make(at, ty.tree.take(), trees),
             )
         }
-        Called::Latest(callee) => made(alloc, at, deeper(depth), Expr::Latest(at, callee, trees)),
+        Called::Latest(callee) => expr_form(
+            alloc,
+            at,
+            depth_around(depth),
+            Expr::Latest(at, callee, trees),
+        ),
     }
 }
 
@@ -188,7 +198,12 @@ pub fn field(alloc: Global, e: Form<Expr>, name: Name) -> Result<Form<Expr>, All
     ensures { IfOk result (λ r. r ≡ field e name) }
 {
     let tree = SharedNode::new(alloc, e.tree.take())?;
-    made(alloc, e.at, deeper(e.depth), Expr::Field(e.at, tree, name))
+    expr_form(
+        alloc,
+        e.at,
+        depth_around(e.depth),
+        Expr::Field(e.at, tree, name),
+    )
 }
 
 /// `e[number]`
@@ -196,59 +211,64 @@ pub fn part(alloc: Global, e: Form<Expr>, number: i64) -> Result<Form<Expr>, All
     ensures { IfOk result (λ r. r ≡ part e number) }
 {
     let tree = SharedNode::new(alloc, e.tree.take())?;
-    made(alloc, e.at, deeper(e.depth), Expr::Part(e.at, tree, number))
+    expr_form(
+        alloc,
+        e.at,
+        depth_around(e.depth),
+        Expr::Part(e.at, tree, number),
+    )
 }
 
 /// An operator before its operand.
-pub(crate) fn prefixed(
+pub(crate) fn prefix_expr(
     alloc: Global,
     prefix: PrefixAt,
     e: Form<Expr>,
 ) -> Result<Form<Expr>, AllocError>
-    ensures { IfOk result (λ r. r ≡ prefixed prefix e) }
+    ensures { IfOk result (λ r. r ≡ prefix_expr prefix e) }
 {
     let tree = SharedNode::new(alloc, e.tree.take())?;
     let tree = Expr::Prefix(prefix.at, prefix.prefix, tree);
-    made(alloc, prefix.at, deeper(e.depth), tree)
+    expr_form(alloc, prefix.at, depth_around(e.depth), tree)
 }
 
 /// An operator between its operands.
-pub(crate) fn infixed(
+pub(crate) fn infix_expr(
     alloc: Global,
     left: Form<Expr>,
     operator: Infix,
     right: Form<Expr>,
 ) -> Result<Form<Expr>, AllocError>
-    ensures { IfOk result (λ r. r ≡ infixed left operator right) }
+    ensures { IfOk result (λ r. r ≡ infix_expr left operator right) }
 {
-    let depth = deeper(left.depth.max(right.depth));
+    let depth = depth_around(left.depth.max(right.depth));
     let at = left.at;
     let left = SharedNode::new(alloc, left.tree.take())?;
     let right = SharedNode::new(alloc, right.tree.take())?;
-    made(alloc, at, depth, Expr::Infix(at, operator, left, right))
+    expr_form(alloc, at, depth, Expr::Infix(at, operator, left, right))
 }
 
 /// `e isa T`
-pub fn isa(alloc: Global, e: Form<Expr>, ty: TypeForm) -> Result<Form<Expr>, AllocError>
-    ensures { IfOk result (λ r. r ≡ isa e ty) }
+pub fn isa_expr(alloc: Global, e: Form<Expr>, ty: TypeForm) -> Result<Form<Expr>, AllocError>
+    ensures { IfOk result (λ r. r ≡ isa_expr e ty) }
 {
-    let depth = deeper(e.depth.max(ty.depth));
+    let depth = depth_around(e.depth.max(ty.depth));
     let at = e.at;
     let tree = SharedNode::new(alloc, e.tree.take())?;
-    made(alloc, at, depth, Expr::Isa(at, tree, ty.tree.take()))
+    expr_form(alloc, at, depth, Expr::Isa(at, tree, ty.tree.take()))
 }
 
 /// `S <: T`
-pub fn sub(
+pub fn sub_expr(
     alloc: Global,
     at: u32,
     left: TypeForm,
     right: TypeForm,
 ) -> Result<Form<Expr>, AllocError>
-    ensures { IfOk result (λ r. r ≡ sub at left right) }
+    ensures { IfOk result (λ r. r ≡ sub_expr at left right) }
 {
-    let depth = deeper(left.depth.max(right.depth));
-    made(
+    let depth = depth_around(left.depth.max(right.depth));
+    expr_form(
         alloc,
         at,
         depth,
@@ -277,35 +297,40 @@ fn nodes(
 }
 
 /// `test ? then : otherwise`
-pub(crate) fn choose(
+pub(crate) fn choose_expr(
     alloc: Global,
     test: Form<Expr>,
     then: Form<Expr>,
     otherwise: Form<Expr>,
 ) -> Result<Form<Expr>, AllocError>
-    ensures { IfOk result (λ r. r ≡ choose test then otherwise) }
+    ensures { IfOk result (λ r. r ≡ choose_expr test then otherwise) }
 {
-    let depth = deeper(test.depth.max(then.depth.max(otherwise.depth)));
+    let depth = depth_around(test.depth.max(then.depth.max(otherwise.depth)));
     let at = test.at;
     let (then, otherwise) = nodes(alloc, then, otherwise)?;
     let test = node(alloc, test)?;
-    made(alloc, at, depth, Expr::Choose(at, test, then, otherwise))
+    expr_form(alloc, at, depth, Expr::Choose(at, test, then, otherwise))
 }
 
 /// `begin` and a block.
-pub(crate) fn begun(alloc: Global, at: u32, ss: Forms<Stmt>) -> Result<Form<Expr>, AllocError>
-    ensures { IfOk result (λ r. r ≡ begun at ss) }
+pub(crate) fn begin_expr(alloc: Global, at: u32, ss: Forms<Stmt>) -> Result<Form<Expr>, AllocError>
+    ensures { IfOk result (λ r. r ≡ begin_expr at ss) }
 {
     let trees = ss.trees.into_shared(alloc)?;
-    made(alloc, at, deeper(deeper(ss.depth)), Expr::Begin(at, trees))
+    expr_form(
+        alloc,
+        at,
+        depth_around(depth_around(ss.depth)),
+        Expr::Begin(at, trees),
+    )
 }
 
 /// `Threads.@spawn e`
-pub(crate) fn spawned(alloc: Global, at: u32, e: Form<Expr>) -> Result<Form<Expr>, AllocError>
-    ensures { IfOk result (λ r. r ≡ spawned at e) }
+pub(crate) fn spawn_expr(alloc: Global, at: u32, e: Form<Expr>) -> Result<Form<Expr>, AllocError>
+    ensures { IfOk result (λ r. r ≡ spawn_expr at e) }
 {
     let tree = SharedNode::new(alloc, e.tree.take())?;
-    made(alloc, at, deeper(e.depth), Expr::Spawn(at, tree))
+    expr_form(alloc, at, depth_around(e.depth), Expr::Spawn(at, tree))
 }
 
 /// `@eval` and a method.
@@ -317,7 +342,12 @@ pub(crate) fn eval_method(
     ensures { IfOk result (λ r. r ≡ eval_method at method) }
 {
     let tree = SharedNode::new(alloc, method.tree.take())?;
-    made(alloc, at, deeper(method.depth), Expr::EvalMethod(at, tree))
+    expr_form(
+        alloc,
+        at,
+        depth_around(method.depth),
+        Expr::EvalMethod(at, tree),
+    )
 }
 
 /// `@eval begin` and a block.
@@ -329,10 +359,10 @@ pub(crate) fn eval_block(
     ensures { IfOk result (λ r. r ≡ eval_block at evals) }
 {
     let trees = evals.trees.into_shared(alloc)?;
-    made(
+    expr_form(
         alloc,
         at,
-        deeper(deeper(evals.depth)),
+        depth_around(depth_around(evals.depth)),
         Expr::EvalBlock(at, trees),
     )
 }
@@ -342,7 +372,7 @@ pub(crate) fn eval_expr(alloc: Global, at: u32, e: Form<Expr>) -> Result<Form<Ex
     ensures { IfOk result (λ r. r ≡ eval_expr at e) }
 {
     let tree = SharedNode::new(alloc, e.tree.take())?;
-    made(alloc, at, deeper(e.depth), Expr::EvalExpr(at, tree))
+    expr_form(alloc, at, depth_around(e.depth), Expr::EvalExpr(at, tree))
 }
 
 /// `eval(quote` and a block.
@@ -354,43 +384,43 @@ pub(crate) fn eval_quote(
     ensures { IfOk result (λ r. r ≡ eval_quote at evals) }
 {
     let trees = evals.trees.into_shared(alloc)?;
-    made(
+    expr_form(
         alloc,
         at,
-        deeper(deeper(evals.depth)),
+        depth_around(depth_around(evals.depth)),
         Expr::EvalQuote(at, trees),
     )
 }
 
 /// `fetch(e)`
-pub fn fetched(alloc: Global, at: u32, e: Form<Expr>) -> Result<Form<Expr>, AllocError>
-    ensures { IfOk result (λ r. r ≡ fetched at e) }
+pub fn fetch_expr(alloc: Global, at: u32, e: Form<Expr>) -> Result<Form<Expr>, AllocError>
+    ensures { IfOk result (λ r. r ≡ fetch_expr at e) }
 {
     let tree = SharedNode::new(alloc, e.tree.take())?;
-    made(alloc, at, deeper(e.depth), Expr::Fetch(at, tree))
+    expr_form(alloc, at, depth_around(e.depth), Expr::Fetch(at, tree))
 }
 
 /// `print` and its pieces, or `println`.
-pub fn printed(
+pub fn print_expr(
     alloc: Global,
     at: u32,
     line: bool,
     pieces: Forms<Piece>,
 ) -> Result<Form<Expr>, AllocError>
-    ensures { IfOk result (λ r. r ≡ printed at line pieces) }
+    ensures { IfOk result (λ r. r ≡ print_expr at line pieces) }
 {
     let trees = pieces.trees.into_shared(alloc)?;
-    made(
+    expr_form(
         alloc,
         at,
-        deeper(pieces.depth),
+        depth_around(pieces.depth),
         Expr::Print(at, line, trees),
     )
 }
 
 /// The depth of something that stands so many levels below.
-fn below(levels: u32, depth: u32) -> u32
-    ensures { result ≡ below levels depth }
+fn depth_below(levels: u32, depth: u32) -> u32
+    ensures { result ≡ depth_below levels depth }
 {
     let most = MOST_ITEM_DEPTH + 1;
     (levels.min(most) + depth.min(most)).min(most)
@@ -422,7 +452,7 @@ pub(crate) fn with_branch(
         lowered,
         depth,
     } = branched;
-    let inner = below(lowered, test.depth.max(deeper(ss.depth)));
+    let inner = depth_below(lowered, test.depth.max(depth_around(ss.depth)));
     let block = ss.trees.into_shared(alloc)?;
     let test = test.tree.take();
     branches.push(Branch { at, test, block })?;
@@ -434,31 +464,31 @@ pub(crate) fn with_branch(
 }
 
 /// An `if` without `else`.
-pub(crate) fn iffed(alloc: Global, at: u32, branched: Branched) -> Result<Form<Expr>, AllocError>
-    ensures { IfOk result (λ r. r ≡ iffed at branched) }
+pub(crate) fn if_expr(alloc: Global, at: u32, branched: Branched) -> Result<Form<Expr>, AllocError>
+    ensures { IfOk result (λ r. r ≡ if_expr at branched) }
 {
     let branches = branched.branches.into_shared(alloc)?;
-    made(alloc, at, branched.depth, Expr::If(at, branches))
+    expr_form(alloc, at, branched.depth, Expr::If(at, branches))
 }
 
 /// An `if` with `else`.
-pub(crate) fn iffed_else(
+pub(crate) fn if_else_expr(
     alloc: Global,
     at: u32,
     branched: Branched,
     ss: Forms<Stmt>,
 ) -> Result<Form<Expr>, AllocError>
-    ensures { IfOk result (λ r. r ≡ iffed_else at branched ss) }
+    ensures { IfOk result (λ r. r ≡ if_else_expr at branched ss) }
 {
     let Branched {
         branches,
         lowered,
         depth,
     } = branched;
-    let inner = below(lowered.saturating_sub(2), deeper(ss.depth));
+    let inner = depth_below(lowered.saturating_sub(2), depth_around(ss.depth));
     let branches = branches.into_shared(alloc)?;
     let block = ss.trees.into_shared(alloc)?;
-    made(
+    expr_form(
         alloc,
         at,
         depth.max(inner),
@@ -470,19 +500,19 @@ pub(crate) fn iffed_else(
 pub fn with_show(pieces: Forms<Piece>, e: Form<Expr>) -> Result<Forms<Piece>, AllocError>
     ensures { IfOk result (λ r. r ≡ with_show pieces e) }
 {
-    with(pieces, Piece::Show(e.tree.take()), e.depth)
+    with_form(pieces, Piece::Show(e.tree.take()), e.depth)
 }
 
 /// The pieces of a `print`, and a text as it stands.
 pub fn with_text(pieces: Forms<Piece>, at: u32, text: Bytes) -> Result<Forms<Piece>, AllocError>
     ensures { IfOk result (λ r. r ≡ with_text pieces at text) }
 {
-    with(pieces, Piece::Text(at, text), 0)
+    with_form(pieces, Piece::Text(at, text), 0)
 }
 
 /// The expressions and one more.
 pub fn with_expr(es: Forms<Expr>, e: Form<Expr>) -> Result<Forms<Expr>, AllocError>
     ensures { IfOk result (λ r. r ≡ with_expr es e) }
 {
-    with(es, e.tree.take(), e.depth)
+    with_form(es, e.tree.take(), e.depth)
 }

@@ -1,10 +1,10 @@
 //! What stands before an operand, and what it makes of the operand where its chain ends. All that stands before it is changed where it is.
 
 ghost use Rattle.std.specs.Prelude.{◌≡◌, OnOk, IfOk, None, []};
-ghost use Rattle.jl_grammar.specs.Levels.{no_levels, led, fresh, into, at_levels, all_prefixed, with_left, with_operand, as_term, as_sum, as_comparison, as_or, ended, all_ended, expression, behind_prefix, behind_term, behind_sum, behind_comparison, behind_type, behind_and, behind_or, no_left, leads};
+ghost use Rattle.jl_grammar.specs.Levels.{no_levels, pending_after, no_pending, push_outer, with_levels, with_prefixes, with_left, with_operand, as_term, as_sum, as_comparison, as_or, end_outer, end_all_outer, expression, levels_after_prefix, levels_after_term, levels_after_sum, levels_after_comparison, levels_after_type, levels_after_and, levels_after_or, no_left, is_comparison_start};
 
-use crate::forms::{choose, eval_expr, eval_method, infixed, prefixed, spawned};
-use crate::made::short;
+use crate::forms::{choose_expr, eval_expr, eval_method, infix_expr, prefix_expr, spawn_expr};
+use crate::items::short_method;
 use jl_grammar::held::Held;
 use jl_grammar::owned::Owned;
 use jl_grammar::state::{Form, Lead, Left, Levels, Outer, Pending, PrefixAt};
@@ -28,8 +28,8 @@ pub(crate) fn no_levels(alloc: Global) -> Levels
 }
 
 /// An operand behind what a statement begins with.
-pub fn led(alloc: Global, lead: Lead, returns: bool) -> Result<Owned<Pending>, AllocError>
-    ensures { IfOk result (λ p. p ≡ led lead returns) }
+pub fn pending_after(alloc: Global, lead: Lead, returns: bool) -> Result<Owned<Pending>, AllocError>
+    ensures { IfOk result (λ p. p ≡ pending_after lead returns) }
 {
     let pending = Pending {
         lead,
@@ -41,10 +41,10 @@ pub fn led(alloc: Global, lead: Lead, returns: bool) -> Result<Owned<Pending>, A
 }
 
 /// An operand behind nothing.
-pub fn fresh(alloc: Global, returns: bool) -> Result<Owned<Pending>, AllocError>
-    ensures { IfOk result (λ p. p ≡ fresh returns) }
+pub fn no_pending(alloc: Global, returns: bool) -> Result<Owned<Pending>, AllocError>
+    ensures { IfOk result (λ p. p ≡ no_pending returns) }
 {
-    led(alloc, Lead::Plain, returns)
+    pending_after(alloc, Lead::Plain, returns)
 }
 
 /// A form that takes all that follows it begins.
@@ -54,7 +54,7 @@ pub fn begin_form(
     returns: bool,
     pending: &mut Pending,
 ) -> Result<(), AllocError>
-    ensures { OnOk result (pending.new ≡ into form returns pending.old) }
+    ensures { OnOk result (pending.new ≡ push_outer form returns pending.old) }
 {
     pending.outer.push(form)?;
     drop(take_levels(alloc, &mut pending.levels));
@@ -71,16 +71,16 @@ pub fn take_levels(alloc: Global, levels: &mut Levels) -> Levels
 }
 
 /// The operand with the operators before it, the innermost first.
-fn all_prefixed(
+fn with_prefixes(
     alloc: Global,
     prefixes: &mut Stack<PrefixAt>,
     e: Form<Expr>,
 ) -> Result<Form<Expr>, AllocError>
-    ensures { IfOk result (λ r. (r ≡ all_prefixed prefixes.old e) × (prefixes.new ≡ [])) }
+    ensures { IfOk result (λ r. (r ≡ with_prefixes prefixes.old e) × (prefixes.new ≡ [])) }
 {
     let mut form = e;
     while let Some(prefix) = prefixes.pop() {
-        form = prefixed(alloc, prefix, form)?;
+        form = prefix_expr(alloc, prefix, form)?;
     }
     Ok(form)
 }
@@ -97,7 +97,7 @@ fn with_left(
         None => Ok(e),
         Some(before) => {
             let Left { left, operator } = before.take();
-            infixed(alloc, left, operator, e)
+            infix_expr(alloc, left, operator, e)
         }
     }
 }
@@ -113,7 +113,7 @@ fn with_operand(
 {
     match left.pull() {
         None => Ok(e),
-        Some(left) => infixed(alloc, left.take(), operator, e),
+        Some(left) => infix_expr(alloc, left.take(), operator, e),
     }
 }
 
@@ -121,7 +121,7 @@ fn with_operand(
 fn as_term(alloc: Global, levels: &mut Levels, e: Form<Expr>) -> Result<Form<Expr>, AllocError>
     ensures { IfOk result (λ r. (r ≡ as_term levels.old e) × (levels.new ≡ record levels.old { term = None; prefixes = [] })) }
 {
-    let unary = all_prefixed(alloc, &mut levels.prefixes, e)?;
+    let unary = with_prefixes(alloc, &mut levels.prefixes, e)?;
     with_left(alloc, &mut levels.term, unary)
 }
 
@@ -139,15 +139,19 @@ fn as_comparison(
     levels: &mut Levels,
     e: Form<Expr>,
 ) -> Result<Form<Expr>, AllocError>
-    ensures { IfOk result (λ r. (r ≡ as_comparison levels.old e) × (levels.new ≡ behind_type levels.old)) }
+    ensures { IfOk result (λ r. (r ≡ as_comparison levels.old e) × (levels.new ≡ levels_after_type levels.old)) }
 {
     let sum = as_sum(alloc, levels, e)?;
     with_left(alloc, &mut levels.comparison, sum)
 }
 
 /// The operand of `isa` as a sum. What compares with it is gone.
-pub fn summed(alloc: Global, pending: &mut Pending, e: Form<Expr>) -> Result<Form<Expr>, AllocError>
-    ensures { IfOk result (λ r. (r ≡ as_sum pending.old.levels e) × (pending.new ≡ at_levels (behind_type pending.old.levels) pending.old)) }
+pub fn take_sum(
+    alloc: Global,
+    pending: &mut Pending,
+    e: Form<Expr>,
+) -> Result<Form<Expr>, AllocError>
+    ensures { IfOk result (λ r. (r ≡ as_sum pending.old.levels e) × (pending.new ≡ with_levels (levels_after_type pending.old.levels) pending.old)) }
 {
     let levels = &mut pending.levels;
     let sum = as_sum(alloc, levels, e)?;
@@ -156,12 +160,12 @@ pub fn summed(alloc: Global, pending: &mut Pending, e: Form<Expr>) -> Result<For
 }
 
 /// The operand as a comparison.
-pub fn settled(
+pub fn end_comparison(
     alloc: Global,
     pending: &mut Pending,
     e: Form<Expr>,
 ) -> Result<Form<Expr>, AllocError>
-    ensures { IfOk result (λ r. (r ≡ as_comparison pending.old.levels e) × (pending.new ≡ at_levels (behind_type pending.old.levels) pending.old)) }
+    ensures { IfOk result (λ r. (r ≡ as_comparison pending.old.levels e) × (pending.new ≡ with_levels (levels_after_type pending.old.levels) pending.old)) }
 {
     as_comparison(alloc, &mut pending.levels, e)
 }
@@ -175,7 +179,7 @@ fn as_or(alloc: Global, levels: &mut Levels, e: Form<Expr>) -> Result<Form<Expr>
 }
 
 /// The operand as a disjunction.
-fn whole(alloc: Global, levels: Levels, e: Form<Expr>) -> Result<Form<Expr>, AllocError>
+fn take_disjunction(alloc: Global, levels: Levels, e: Form<Expr>) -> Result<Form<Expr>, AllocError>
     ensures { IfOk result (λ r. r ≡ as_or levels (as_comparison levels e)) }
 {
     let mut levels = levels;
@@ -189,7 +193,7 @@ pub fn test_of(
     pending: &mut Pending,
     e: Form<Expr>,
 ) -> Result<Form<Expr>, AllocError>
-    ensures { IfOk result (λ r. (r ≡ as_or pending.old.levels e) × (pending.new ≡ at_levels no_levels pending.old)) }
+    ensures { IfOk result (λ r. (r ≡ as_or pending.old.levels e) × (pending.new ≡ with_levels no_levels pending.old)) }
 {
     let test = as_or(alloc, &mut pending.levels, e)?;
     drop(take_levels(alloc, &mut pending.levels));
@@ -197,48 +201,48 @@ pub fn test_of(
 }
 
 /// A form that ends with this expression, as a disjunction.
-fn ended(alloc: Global, form: Outer, e: Form<Expr>) -> Result<Form<Expr>, AllocError>
-    ensures { IfOk result (λ r. r ≡ ended form e) }
+fn end_outer(alloc: Global, form: Outer, e: Form<Expr>) -> Result<Form<Expr>, AllocError>
+    ensures { IfOk result (λ r. r ≡ end_outer form e) }
 {
     match form {
         Outer::Spawn(levels, at) => {
-            let e = spawned(alloc, at, e)?;
-            whole(alloc, levels, e)
+            let e = spawn_expr(alloc, at, e)?;
+            take_disjunction(alloc, levels, e)
         }
         Outer::Eval(levels, at) => {
             let e = eval_expr(alloc, at, e)?;
-            whole(alloc, levels, e)
+            take_disjunction(alloc, levels, e)
         }
         Outer::Short(levels, at, head) => {
-            let method = short(alloc, head.take(), e)?;
+            let method = short_method(alloc, head.take(), e)?;
             let e = eval_method(alloc, at, method)?;
-            whole(alloc, levels, e)
+            take_disjunction(alloc, levels, e)
         }
-        Outer::Otherwise(test, then) => choose(alloc, test.take(), then.take(), e),
+        Outer::Otherwise(test, then) => choose_expr(alloc, test.take(), then.take(), e),
     }
 }
 
 /// The forms that end with this expression, the innermost first.
-fn all_ended(
+fn end_all_outer(
     alloc: Global,
     outer: &mut Stack<Outer>,
     e: Form<Expr>,
 ) -> Result<Form<Expr>, AllocError>
-    ensures { IfOk result (λ r. r ≡ all_ended outer.old e) }
+    ensures { IfOk result (λ r. r ≡ end_all_outer outer.old e) }
 {
     let mut ending = e;
     while let Some(form) = outer.pop() {
-        ending = ended(alloc, form, ending)?;
+        ending = end_outer(alloc, form, ending)?;
     }
     Ok(ending)
 }
 
 /// A comparison as the whole expression that ends with it.
-fn whole_of(alloc: Global, pending: &mut Pending, e: Form<Expr>) -> Result<Form<Expr>, AllocError>
+fn whole_expr(alloc: Global, pending: &mut Pending, e: Form<Expr>) -> Result<Form<Expr>, AllocError>
     ensures { IfOk result (λ r. (r ≡ expression pending.old e) × (pending.new.lead ≡ pending.old.lead)) }
 {
     let e = as_or(alloc, &mut pending.levels, e)?;
-    all_ended(alloc, &mut pending.outer, e)
+    end_all_outer(alloc, &mut pending.outer, e)
 }
 
 /// A comparison as the whole expression that ends with it, behind what the statement begins with.
@@ -251,26 +255,26 @@ pub fn expression(
 {
     let mut pending = pending;
     let before = pending.get_mut();
-    let e = whole_of(alloc, before, e)?;
+    let e = whole_expr(alloc, before, e)?;
     let lead = mem::replace(&mut before.lead, Lead::Plain);
     Ok((lead, e))
 }
 
 /// An operator before an operand.
-pub fn behind_prefix(prefix: PrefixAt, pending: &mut Pending) -> Result<(), AllocError>
-    ensures { OnOk result (pending.new ≡ at_levels (behind_prefix prefix pending.old.levels) pending.old) }
+pub fn levels_after_prefix(prefix: PrefixAt, pending: &mut Pending) -> Result<(), AllocError>
+    ensures { OnOk result (pending.new ≡ with_levels (levels_after_prefix prefix pending.old.levels) pending.old) }
 {
     pending.levels.prefixes.push(prefix)
 }
 
 /// `*`, `÷` or `%` behind an operand.
-pub fn behind_term(
+pub fn levels_after_term(
     alloc: Global,
     operator: Infix,
     pending: &mut Pending,
     e: Form<Expr>,
 ) -> Result<(), AllocError>
-    ensures { OnOk result (pending.new ≡ at_levels (behind_term operator pending.old.levels e) pending.old) }
+    ensures { OnOk result (pending.new ≡ with_levels (levels_after_term operator pending.old.levels e) pending.old) }
 {
     let levels = &mut pending.levels;
     let left = as_term(alloc, levels, e)?;
@@ -280,13 +284,13 @@ pub fn behind_term(
 }
 
 /// `+` or `-` behind an operand.
-pub fn behind_sum(
+pub fn levels_after_sum(
     alloc: Global,
     operator: Infix,
     pending: &mut Pending,
     e: Form<Expr>,
 ) -> Result<(), AllocError>
-    ensures { OnOk result (pending.new ≡ at_levels (behind_sum operator pending.old.levels e) pending.old) }
+    ensures { OnOk result (pending.new ≡ with_levels (levels_after_sum operator pending.old.levels e) pending.old) }
 {
     let levels = &mut pending.levels;
     let left = as_sum(alloc, levels, e)?;
@@ -296,13 +300,13 @@ pub fn behind_sum(
 }
 
 /// The operator of a comparison behind its left operand.
-pub fn behind_comparison(
+pub fn levels_after_comparison(
     alloc: Global,
     operator: Infix,
     pending: &mut Pending,
     e: Form<Expr>,
 ) -> Result<(), AllocError>
-    ensures { OnOk result (pending.new ≡ at_levels (behind_comparison operator pending.old.levels e) pending.old) }
+    ensures { OnOk result (pending.new ≡ with_levels (levels_after_comparison operator pending.old.levels e) pending.old) }
 {
     let levels = &mut pending.levels;
     let left = as_sum(alloc, levels, e)?;
@@ -312,8 +316,12 @@ pub fn behind_comparison(
 }
 
 /// `&&` behind a comparison.
-pub fn behind_and(alloc: Global, pending: &mut Pending, e: Form<Expr>) -> Result<(), AllocError>
-    ensures { OnOk result (pending.new ≡ at_levels (behind_and pending.old.levels e) pending.old) }
+pub fn levels_after_and(
+    alloc: Global,
+    pending: &mut Pending,
+    e: Form<Expr>,
+) -> Result<(), AllocError>
+    ensures { OnOk result (pending.new ≡ with_levels (levels_after_and pending.old.levels e) pending.old) }
 {
     let levels = &mut pending.levels;
     let left = with_operand(alloc, &mut levels.and, Infix::And, e)?;
@@ -326,8 +334,12 @@ pub fn behind_and(alloc: Global, pending: &mut Pending, e: Form<Expr>) -> Result
 }
 
 /// `||` behind a comparison.
-pub fn behind_or(alloc: Global, pending: &mut Pending, e: Form<Expr>) -> Result<(), AllocError>
-    ensures { OnOk result (pending.new ≡ at_levels (behind_or pending.old.levels e) pending.old) }
+pub fn levels_after_or(
+    alloc: Global,
+    pending: &mut Pending,
+    e: Form<Expr>,
+) -> Result<(), AllocError>
+    ensures { OnOk result (pending.new ≡ with_levels (levels_after_or pending.old.levels e) pending.old) }
 {
     let levels = &mut pending.levels;
     let left = as_or(alloc, levels, e)?;
@@ -345,15 +357,15 @@ fn no_left(left: &Held<Option<Owned<Left>>>) -> bool
 }
 
 /// Whether no comparison has begun.
-pub fn unequal(levels: &Levels) -> bool
+pub fn has_no_comparison(levels: &Levels) -> bool
     ensures { result ≡ no_left levels.now.comparison }
 {
     no_left(&levels.comparison)
 }
 
 /// Whether a comparison begins at the operand.
-pub fn leads(levels: &Levels) -> bool
-    ensures { result ≡ leads levels.now }
+pub fn is_comparison_start(levels: &Levels) -> bool
+    ensures { result ≡ is_comparison_start levels.now }
 {
     no_left(&levels.comparison)
         && no_left(&levels.sum)

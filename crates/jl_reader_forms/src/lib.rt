@@ -6,5 +6,5 @@
 
 pub mod blocks;
 pub mod forms;
+pub mod items;
 pub mod levels;
-pub mod made;

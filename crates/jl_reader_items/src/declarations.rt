@@ -2,27 +2,27 @@
 
 ghost use Rattle.std.specs.Prelude.{◌≡◌, IfOk, None, OnOk, Some};
 ghost use Rattle.jl_grammar.specs.Goes.{state_at};
-ghost use Rattle.jl_grammar.specs.Forms.{none};
-ghost use Rattle.jl_grammar.specs.Machine.{abstract_begins, at_abstract, at_decl, struct_ends, abstract_ends, header_as, header_ends, declared, at_declared, params_turn, field_ends, at_fields, with_field, at_field, item_made, at_made, method_made, method_ends, method_finishes, at_made_method};
+ghost use Rattle.jl_grammar.specs.Forms.{no_forms};
+ghost use Rattle.jl_grammar.specs.Machine.{begin_abstract, at_abstract, at_decl, token_after_struct, token_after_abstract, token_after_header, end_header, token_after_params, at_declared, params_turn, token_after_field, at_fields, with_field, at_field, separator_after_item, at_made, separator_after_method, end_after_method, source_end_after_method, at_made_method};
 
 use jl_grammar::owned::Owned;
 use jl_grammar::state::{Declaring, Fielding, Form, Frame, Goal, Point, Reading, TypeForm};
 use jl_grammar::tree::{Field, Header, Item, Method, Name};
-use jl_reader_forms::blocks::{evals_end, inside, placed, with_method};
-use jl_reader_forms::forms::{add, no_vars, none, vars_form};
-use jl_reader_forms::made::{abstracted, header, method_item, structured, with_item};
-use jl_reader_operands::follows::want_type;
+use jl_reader_forms::blocks::{end_evals, name_at, push_frame, with_method};
+use jl_reader_forms::forms::{add, no_forms, no_vars, vars_form};
+use jl_reader_forms::items::{abstract_item, header, method_item, struct_item, with_item};
+use jl_reader_operands::after_operand::want_type;
 use jl_token::token::Operator;
 use jl_typeread::entries::header_start;
-use jl_typeread::sign::{Sign, Word};
 use jl_typeread::state::{State as TypeState, Turn};
+use jl_typeread::terminal::{Terminal, Word};
 use jl_typeread::tree::TypeText;
 use std::alloc::{AllocError, Global};
 use std::mem;
 
 /// The word behind `abstract`.
-fn abstract_begins(is_type: bool, place: u32, reading: &mut Reading) -> Option<Point>
-    ensures { state_at result reading.new ≡ abstract_begins is_type place reading.old.stack reading.old.script }
+fn begin_abstract(is_type: bool, place: u32, reading: &mut Reading) -> Option<Point>
+    ensures { state_at result reading.new ≡ begin_abstract is_type place reading.old.stack reading.old.script }
 {
     if is_type {
         return Some(Point::DeclName(place, false));
@@ -31,13 +31,13 @@ fn abstract_begins(is_type: bool, place: u32, reading: &mut Reading) -> Option<P
 }
 
 /// A token behind `abstract`.
-pub fn at_abstract(sign: &Sign, place: u32, reading: &mut Reading) -> Option<Point>
-    ensures { state_at result reading.new ≡ at_abstract sign.now place reading.old.stack reading.old.script }
+pub fn at_abstract(terminal: &Terminal, place: u32, reading: &mut Reading) -> Option<Point>
+    ensures { state_at result reading.new ≡ at_abstract terminal.now place reading.old.stack reading.old.script }
 {
-    match sign {
-        Sign::Name(name) => {
+    match terminal {
+        Terminal::Name(name) => {
             let is_type = name.as_slice() == b"type".as_slice();
-            abstract_begins(is_type, place, reading)
+            begin_abstract(is_type, place, reading)
         }
         _ => None,
     }
@@ -46,20 +46,20 @@ pub fn at_abstract(sign: &Sign, place: u32, reading: &mut Reading) -> Option<Poi
 /// A token where the name of a declaration must stand.
 pub fn at_decl(
     alloc: Global,
-    sign: &Sign,
+    terminal: &Terminal,
     next: u32,
     place: u32,
     is_struct: bool,
     reading: &mut Reading,
 ) -> Result<Option<Point>, AllocError>
-    ensures { IfOk result (λ p. state_at p reading.new ≡ at_decl sign.now next place is_struct reading.old.stack reading.old.script) }
+    ensures { IfOk result (λ p. state_at p reading.new ≡ at_decl terminal.now next place is_struct reading.old.stack reading.old.script) }
 {
-    match sign {
-        Sign::Name(name) => {
+    match terminal {
+        Terminal::Name(name) => {
             let declaring = Declaring {
                 at: place,
                 is_struct,
-                name: placed(next, name.copy()?),
+                name: name_at(next, name.copy()?),
                 params: no_vars(),
             };
             Ok(Some(Point::Declared(Owned::new(alloc, declaring)?)))
@@ -70,29 +70,29 @@ pub fn at_decl(
 
 /// The fields of a struct begin.
 fn begin_fields(alloc: Global, header: Form<Header>) -> Result<Option<Point>, AllocError>
-    ensures { IfOk result (λ p. p ≡ Some (Point.Fields (record { header = header; fields = none }))) }
+    ensures { IfOk result (λ p. p ≡ Some (Point.Fields (record { header = header; fields = no_forms }))) }
 {
     let fielding = Fielding {
         header,
-        fields: none(alloc),
+        fields: no_forms(alloc),
     };
     Ok(Some(Point::Fields(Owned::new(alloc, fielding)?)))
 }
 
 /// A token behind the head of a struct.
-fn struct_ends(
+fn token_after_struct(
     alloc: Global,
-    sign: &Sign,
+    terminal: &Terminal,
     header: Form<Header>,
     reading: &mut Reading,
 ) -> Result<Option<Point>, AllocError>
-    ensures { IfOk result (λ p. state_at p reading.new ≡ struct_ends sign.now header reading.old.stack reading.old.script) }
+    ensures { IfOk result (λ p. state_at p reading.new ≡ token_after_struct terminal.now header reading.old.stack reading.old.script) }
 {
-    match sign {
-        Sign::Newline => begin_fields(alloc, header),
-        Sign::Operator(Operator::Semicolon) => begin_fields(alloc, header),
-        Sign::Word(Word::End) => {
-            let item = structured(alloc, header, none(alloc))?;
+    match terminal {
+        Terminal::Newline => begin_fields(alloc, header),
+        Terminal::Operator(Operator::Semicolon) => begin_fields(alloc, header),
+        Terminal::Word(Word::End) => {
+            let item = struct_item(alloc, header, no_forms(alloc))?;
             Ok(Some(Point::Made(item)))
         }
         _ => Ok(None),
@@ -100,17 +100,17 @@ fn struct_ends(
 }
 
 /// A token behind the head of an abstract type.
-fn abstract_ends(
+fn token_after_abstract(
     alloc: Global,
-    sign: &Sign,
+    terminal: &Terminal,
     header: Form<Header>,
     reading: &mut Reading,
 ) -> Result<Option<Point>, AllocError>
-    ensures { IfOk result (λ p. state_at p reading.new ≡ abstract_ends sign.now header reading.old.stack reading.old.script) }
+    ensures { IfOk result (λ p. state_at p reading.new ≡ token_after_abstract terminal.now header reading.old.stack reading.old.script) }
 {
-    match sign {
-        Sign::Word(Word::End) => {
-            let item = abstracted(alloc, header)?;
+    match terminal {
+        Terminal::Word(Word::End) => {
+            let item = abstract_item(alloc, header)?;
             Ok(Some(Point::Made(item)))
         }
         _ => Ok(None),
@@ -118,30 +118,30 @@ fn abstract_ends(
 }
 
 /// A token behind the head of a declaration.
-fn header_as(
+fn token_after_header(
     alloc: Global,
     is_struct: bool,
-    sign: &Sign,
+    terminal: &Terminal,
     header: Form<Header>,
     reading: &mut Reading,
 ) -> Result<Option<Point>, AllocError>
-    ensures { IfOk result (λ p. state_at p reading.new ≡ header_as is_struct sign.now header reading.old.stack reading.old.script) }
+    ensures { IfOk result (λ p. state_at p reading.new ≡ token_after_header is_struct terminal.now header reading.old.stack reading.old.script) }
 {
     if is_struct {
-        return struct_ends(alloc, sign, header, reading);
+        return token_after_struct(alloc, terminal, header, reading);
     }
-    abstract_ends(alloc, sign, header, reading)
+    token_after_abstract(alloc, terminal, header, reading)
 }
 
 /// A token behind the name, the parameters and the supertype.
-pub(crate) fn header_ends(
+pub(crate) fn end_header(
     alloc: Global,
-    sign: &Sign,
+    terminal: &Terminal,
     declaring: Owned<Declaring>,
     parent: Option<TypeForm>,
     reading: &mut Reading,
 ) -> Result<Option<Point>, AllocError>
-    ensures { IfOk result (λ p. state_at p reading.new ≡ header_ends sign.now declaring parent reading.old.stack reading.old.script) }
+    ensures { IfOk result (λ p. state_at p reading.new ≡ end_header terminal.now declaring parent reading.old.stack reading.old.script) }
 {
     let Declaring {
         at,
@@ -150,45 +150,45 @@ pub(crate) fn header_ends(
         params,
     } = declaring.take();
     let header = header(alloc, at, name, params, parent)?;
-    header_as(alloc, is_struct, sign, header, reading)
+    token_after_header(alloc, is_struct, terminal, header, reading)
 }
 
 /// A token behind the name and the parameters.
-fn declared(
+fn token_after_params(
     alloc: Global,
-    sign: &Sign,
+    terminal: &Terminal,
     declaring: Owned<Declaring>,
     reading: &mut Reading,
 ) -> Result<Option<Point>, AllocError>
-    ensures { IfOk result (λ p. state_at p reading.new ≡ declared sign.now declaring reading.old.stack reading.old.script) }
+    ensures { IfOk result (λ p. state_at p reading.new ≡ token_after_params terminal.now declaring reading.old.stack reading.old.script) }
 {
-    match sign {
-        Sign::Operator(operator) => match operator {
+    match terminal {
+        Terminal::Operator(operator) => match operator {
             Operator::Subtype => { Ok(Some(want_type(alloc, Goal::Parent(declaring))?)) }
-            _ => header_ends(alloc, sign, declaring, None, reading),
+            _ => end_header(alloc, terminal, declaring, None, reading),
         },
-        _ => header_ends(alloc, sign, declaring, None, reading),
+        _ => end_header(alloc, terminal, declaring, None, reading),
     }
 }
 
 /// A token behind the name of a declaration.
 pub fn at_declared(
     alloc: Global,
-    sign: &Sign,
+    terminal: &Terminal,
     declaring: Owned<Declaring>,
     reading: &mut Reading,
 ) -> Result<Option<Point>, AllocError>
-    ensures { IfOk result (λ p. state_at p reading.new ≡ at_declared sign.now declaring reading.old.stack reading.old.script) }
+    ensures { IfOk result (λ p. state_at p reading.new ≡ at_declared terminal.now declaring reading.old.stack reading.old.script) }
 {
-    match sign {
-        Sign::Operator(operator) => match operator {
+    match terminal {
+        Terminal::Operator(operator) => match operator {
             Operator::OpenBrace => {
                 let state = Owned::new(alloc, header_start(alloc)?)?;
                 Ok(Some(Point::Params(declaring, state)))
             }
-            _ => declared(alloc, sign, declaring, reading),
+            _ => token_after_params(alloc, terminal, declaring, reading),
         },
-        _ => declared(alloc, sign, declaring, reading),
+        _ => token_after_params(alloc, terminal, declaring, reading),
     }
 }
 
@@ -196,12 +196,12 @@ pub fn at_declared(
 pub fn params_turn(
     alloc: Global,
     turn: Turn,
-    sign: &Sign,
+    terminal: &Terminal,
     declaring: Owned<Declaring>,
     state: Owned<TypeState>,
     reading: &mut Reading,
 ) -> Result<Option<Point>, AllocError>
-    ensures { IfOk result (λ p. state_at p reading.new ≡ params_turn turn sign.now declaring reading.old.stack reading.old.script) }
+    ensures { IfOk result (λ p. state_at p reading.new ≡ params_turn turn terminal.now declaring reading.old.stack reading.old.script) }
 {
     match turn {
         Turn::Goes(next) => {
@@ -212,7 +212,7 @@ pub fn params_turn(
         Turn::Variables(variables) => {
             let mut declaring = declaring;
             declaring.get_mut().params = vars_form(alloc, variables)?;
-            declared(alloc, sign, declaring, reading)
+            token_after_params(alloc, terminal, declaring, reading)
         }
         turn => {
             drop(turn);
@@ -222,20 +222,20 @@ pub fn params_turn(
 }
 
 /// A token behind a field.
-pub(crate) fn field_ends(
+pub(crate) fn token_after_field(
     alloc: Global,
-    sign: &Sign,
+    terminal: &Terminal,
     fielding: Owned<Fielding>,
     reading: &mut Reading,
 ) -> Result<Option<Point>, AllocError>
-    ensures { IfOk result (λ p. state_at p reading.new ≡ field_ends sign.now fielding reading.old.stack reading.old.script) }
+    ensures { IfOk result (λ p. state_at p reading.new ≡ token_after_field terminal.now fielding reading.old.stack reading.old.script) }
 {
-    match sign {
-        Sign::Newline => Ok(Some(Point::Fields(fielding))),
-        Sign::Operator(Operator::Semicolon) => Ok(Some(Point::Fields(fielding))),
-        Sign::Word(Word::End) => {
+    match terminal {
+        Terminal::Newline => Ok(Some(Point::Fields(fielding))),
+        Terminal::Operator(Operator::Semicolon) => Ok(Some(Point::Fields(fielding))),
+        Terminal::Word(Word::End) => {
             let Fielding { header, fields } = fielding.take();
-            let item = structured(alloc, header, fields)?;
+            let item = struct_item(alloc, header, fields)?;
             Ok(Some(Point::Made(item)))
         }
         _ => Ok(None),
@@ -245,19 +245,19 @@ pub(crate) fn field_ends(
 /// A token where a field may stand.
 pub fn at_fields(
     alloc: Global,
-    sign: &Sign,
+    terminal: &Terminal,
     place: u32,
     fielding: Owned<Fielding>,
     reading: &mut Reading,
 ) -> Result<Option<Point>, AllocError>
-    ensures { IfOk result (λ p. state_at p reading.new ≡ at_fields sign.now place fielding reading.old.stack reading.old.script) }
+    ensures { IfOk result (λ p. state_at p reading.new ≡ at_fields terminal.now place fielding reading.old.stack reading.old.script) }
 {
-    match sign {
-        Sign::Name(name) => {
+    match terminal {
+        Terminal::Name(name) => {
             let name = name.copy()?;
-            Ok(Some(Point::Field(fielding, placed(place, name))))
+            Ok(Some(Point::Field(fielding, name_at(place, name))))
         }
-        _ => field_ends(alloc, sign, fielding, reading),
+        _ => token_after_field(alloc, terminal, fielding, reading),
     }
 }
 
@@ -274,42 +274,45 @@ pub(crate) fn add_field(
 }
 
 /// A token behind a field that is a name alone.
-fn name_ends(
+fn end_bare_field(
     alloc: Global,
-    sign: &Sign,
+    terminal: &Terminal,
     fielding: Owned<Fielding>,
     name: Name,
     reading: &mut Reading,
 ) -> Result<Option<Point>, AllocError>
-    ensures { IfOk result (λ p. state_at p reading.new ≡ field_ends sign.now (with_field fielding name None 0) reading.old.stack reading.old.script) }
+    ensures { IfOk result (λ p. state_at p reading.new ≡ token_after_field terminal.now (with_field fielding name None 0) reading.old.stack reading.old.script) }
 {
     let mut fielding = fielding;
     add_field(fielding.get_mut(), name, None, 0)?;
-    field_ends(alloc, sign, fielding, reading)
+    token_after_field(alloc, terminal, fielding, reading)
 }
 
 /// A token behind the name of a field.
 pub fn at_field(
     alloc: Global,
-    sign: &Sign,
+    terminal: &Terminal,
     fielding: Owned<Fielding>,
     name: Name,
     reading: &mut Reading,
 ) -> Result<Option<Point>, AllocError>
-    ensures { IfOk result (λ p. state_at p reading.new ≡ at_field sign.now fielding name reading.old.stack reading.old.script) }
+    ensures { IfOk result (λ p. state_at p reading.new ≡ at_field terminal.now fielding name reading.old.stack reading.old.script) }
 {
-    match sign {
-        Sign::Operator(operator) => match operator {
+    match terminal {
+        Terminal::Operator(operator) => match operator {
             Operator::HasType => { Ok(Some(want_type(alloc, Goal::Field(fielding, name))?)) }
-            _ => name_ends(alloc, sign, fielding, name, reading),
+            _ => end_bare_field(alloc, terminal, fielding, name, reading),
         },
-        _ => name_ends(alloc, sign, fielding, name, reading),
+        _ => end_bare_field(alloc, terminal, fielding, name, reading),
     }
 }
 
 /// A separator, or the source's end, behind an item.
-fn item_made(item: Form<Item>, reading: &mut Reading) -> Result<Option<Point>, AllocError>
-    ensures { IfOk result (λ p. state_at p reading.new ≡ item_made item reading.old.stack reading.old.script) }
+fn separator_after_item(
+    item: Form<Item>,
+    reading: &mut Reading,
+) -> Result<Option<Point>, AllocError>
+    ensures { IfOk result (λ p. state_at p reading.new ≡ separator_after_item item reading.old.stack reading.old.script) }
 {
     if reading.stack.is_empty() {
         with_item(&mut reading.script, item)?;
@@ -321,27 +324,27 @@ fn item_made(item: Form<Item>, reading: &mut Reading) -> Result<Option<Point>, A
 
 /// A token behind an item.
 pub fn at_made(
-    sign: &Sign,
+    terminal: &Terminal,
     item: Form<Item>,
     reading: &mut Reading,
 ) -> Result<Option<Point>, AllocError>
-    ensures { IfOk result (λ p. state_at p reading.new ≡ at_made sign.now item reading.old.stack reading.old.script) }
+    ensures { IfOk result (λ p. state_at p reading.new ≡ at_made terminal.now item reading.old.stack reading.old.script) }
 {
-    match sign {
-        Sign::Newline => item_made(item, reading),
-        Sign::Operator(Operator::Semicolon) => item_made(item, reading),
-        Sign::End => item_made(item, reading),
+    match terminal {
+        Terminal::Newline => separator_after_item(item, reading),
+        Terminal::Operator(Operator::Semicolon) => separator_after_item(item, reading),
+        Terminal::End => separator_after_item(item, reading),
         _ => Ok(None),
     }
 }
 
 /// A separator behind the `end` of a method.
-fn method_made(
+fn separator_after_method(
     alloc: Global,
     method: Form<Method>,
     reading: &mut Reading,
 ) -> Result<Option<Point>, AllocError>
-    ensures { IfOk result (λ p. state_at p reading.new ≡ method_made method reading.old.stack reading.old.script) }
+    ensures { IfOk result (λ p. state_at p reading.new ≡ separator_after_method method reading.old.stack reading.old.script) }
 {
     match reading.stack.pop() {
         None => {
@@ -351,7 +354,7 @@ fn method_made(
         }
         Some(Frame::Evals(kind, evals)) => {
             let evals = with_method(evals, method)?;
-            inside(Point::Entry, Frame::Evals(kind, evals), reading)
+            push_frame(Point::Entry, Frame::Evals(kind, evals), reading)
         }
         Some(frame) => {
             drop(frame);
@@ -362,17 +365,17 @@ fn method_made(
 }
 
 /// The `end` of an evaluated block behind that of a method.
-fn method_ends(
+fn end_after_method(
     alloc: Global,
     method: Form<Method>,
     reading: &mut Reading,
 ) -> Result<Option<Point>, AllocError>
-    ensures { IfOk result (λ p. state_at p reading.new ≡ method_ends method reading.old.stack reading.old.script) }
+    ensures { IfOk result (λ p. state_at p reading.new ≡ end_after_method method reading.old.stack reading.old.script) }
 {
     match reading.stack.pop() {
         Some(Frame::Evals(kind, evals)) => {
             let evals = with_method(evals, method)?;
-            evals_end(alloc, kind, evals, reading)
+            end_evals(alloc, kind, evals, reading)
         }
         Some(frame) => {
             drop(frame);
@@ -387,12 +390,12 @@ fn method_ends(
 }
 
 /// The source's end behind the `end` of a method.
-fn method_finishes(
+fn source_end_after_method(
     alloc: Global,
     method: Form<Method>,
     reading: &mut Reading,
 ) -> Result<Option<Point>, AllocError>
-    ensures { IfOk result (λ p. state_at p reading.new ≡ method_finishes method reading.old.stack reading.old.script) }
+    ensures { IfOk result (λ p. state_at p reading.new ≡ source_end_after_method method reading.old.stack reading.old.script) }
 {
     if reading.stack.is_empty() {
         let item = method_item(alloc, method)?;
@@ -406,17 +409,17 @@ fn method_finishes(
 /// A token behind the `end` of a method.
 pub fn at_made_method(
     alloc: Global,
-    sign: &Sign,
+    terminal: &Terminal,
     method: Form<Method>,
     reading: &mut Reading,
 ) -> Result<Option<Point>, AllocError>
-    ensures { IfOk result (λ p. state_at p reading.new ≡ at_made_method sign.now method reading.old.stack reading.old.script) }
+    ensures { IfOk result (λ p. state_at p reading.new ≡ at_made_method terminal.now method reading.old.stack reading.old.script) }
 {
-    match sign {
-        Sign::Newline => method_made(alloc, method, reading),
-        Sign::Operator(Operator::Semicolon) => method_made(alloc, method, reading),
-        Sign::Word(Word::End) => method_ends(alloc, method, reading),
-        Sign::End => method_finishes(alloc, method, reading),
+    match terminal {
+        Terminal::Newline => separator_after_method(alloc, method, reading),
+        Terminal::Operator(Operator::Semicolon) => separator_after_method(alloc, method, reading),
+        Terminal::Word(Word::End) => end_after_method(alloc, method, reading),
+        Terminal::End => source_end_after_method(alloc, method, reading),
         _ => Ok(None),
     }
 }

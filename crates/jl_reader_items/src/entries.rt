@@ -6,10 +6,10 @@ ghost use Rattle.jl_grammar.specs.declared.state.Frame.TheVariants.{Block};
 ghost use Rattle.jl_grammar.specs.declared.state.Place.TheVariants.{Entry};
 ghost use Rattle.jl_grammar.specs.declared.state.Point.TheVariants.{Named};
 ghost use Rattle.jl_grammar.specs.declared.state.Purpose.TheVariants.{Head};
-ghost use Rattle.jl_grammar.specs.Levels.{fresh};
+ghost use Rattle.jl_grammar.specs.Levels.{no_pending};
 ghost use Rattle.jl_grammar.specs.Texts.{is_method, is_binding};
-ghost use Rattle.jl_grammar.specs.Turns.{at, placed, returns_of, returns_in, begins, begins_word};
-ghost use Rattle.jl_grammar.specs.Machine.{item_begins, stmt_begins, eval_begins, entry_name, long_begins, item_word, returns, stmt_word, eval_word, entry_word, entry_end, entry_operator, at_entry, at_bound, return_separates, return_ends, return_word, return_operator, at_returned};
+ghost use Rattle.jl_grammar.specs.Turns.{at, name_at, is_return_allowed, is_return_allowed_in, begin_operand, begin_word};
+ghost use Rattle.jl_grammar.specs.Machine.{begin_item, begin_stmt, begin_eval, entry_name, begin_long, item_word, begin_return, stmt_word, eval_word, entry_word, entry_end, entry_operator, at_entry, at_bound, separator_after_return, end_return, return_word, return_operator, at_returned};
 
 use jl_grammar::mark::{Ahead, Marks, Opening};
 use jl_grammar::owned::Owned;
@@ -19,14 +19,14 @@ use jl_grammar::state::{
 use jl_grammar::tree::{Eval, Name, Stmt};
 use jl_model::ty::Bytes;
 use jl_reader_forms::blocks::{
-    block_else, block_elseif, block_ends, block_word, evals_end, inside, placed, returns_in,
-    returns_of,
+    block_else, block_elseif, block_word, end_block, end_evals, is_return_allowed,
+    is_return_allowed_in, name_at, push_frame,
 };
-use jl_reader_forms::forms::with;
-use jl_reader_forms::levels::{fresh, led};
-use jl_reader_operands::operands::{begins, begins_operator, begins_word, names};
+use jl_reader_forms::forms::with_form;
+use jl_reader_forms::levels::{no_pending, pending_after};
+use jl_reader_operands::operands::{begin_name, begin_operand, begin_operator, begin_word};
 use jl_token::token::Operator;
-use jl_typeread::sign::{Sign, Word};
+use jl_typeread::terminal::{Terminal, Word};
 use std::alloc::{AllocError, Global};
 
 /// Whether the head of a method begins with the token.
@@ -50,13 +50,13 @@ fn is_binding(opening: Opening) -> bool
 }
 
 /// The name of a method that an entry begins with.
-fn head_begins(
+fn begin_head(
     alloc: Global,
     name: Bytes,
     place: u32,
     reading: &mut Reading,
 ) -> Result<Option<Point>, AllocError>
-    ensures { IfOk result (λ p. state_at p reading.new ≡ at (Named (Head (record { place = Entry; long = false; at = place })) (placed place name)) reading.old.stack reading.old.script) }
+    ensures { IfOk result (λ p. state_at p reading.new ≡ at (Named (Head (record { place = Entry; long = false; at = place })) (name_at place name)) reading.old.stack reading.old.script) }
 {
     let start = Start {
         place: Place::Entry,
@@ -64,11 +64,11 @@ fn head_begins(
         at: place,
     };
     let purpose = Purpose::Head(Owned::new(alloc, start)?);
-    Ok(Some(Point::Named(purpose, placed(place, name))))
+    Ok(Some(Point::Named(purpose, name_at(place, name))))
 }
 
 /// The name that an item begins with.
-fn item_begins(
+fn begin_item(
     alloc: Global,
     is_method: bool,
     is_binding: bool,
@@ -77,20 +77,20 @@ fn item_begins(
     place: u32,
     reading: &mut Reading,
 ) -> Result<Option<Point>, AllocError>
-    ensures { IfOk result (λ p. state_at p reading.new ≡ item_begins is_method is_binding marks name place reading.old.stack reading.old.script) }
+    ensures { IfOk result (λ p. state_at p reading.new ≡ begin_item is_method is_binding marks name place reading.old.stack reading.old.script) }
 {
     if is_method {
-        return head_begins(alloc, name, place, reading);
+        return begin_head(alloc, name, place, reading);
     }
     if is_binding {
-        return Ok(Some(Point::Bound(placed(place, name))));
+        return Ok(Some(Point::Bound(name_at(place, name))));
     }
-    let pending = fresh(alloc, false)?;
-    names(alloc, marks, name, place, pending, reading)
+    let pending = no_pending(alloc, false)?;
+    begin_name(alloc, marks, name, place, pending, reading)
 }
 
 /// The name that a statement begins with.
-fn stmt_begins(
+fn begin_stmt(
     alloc: Global,
     is_binding: bool,
     returns: bool,
@@ -99,17 +99,17 @@ fn stmt_begins(
     place: u32,
     reading: &mut Reading,
 ) -> Result<Option<Point>, AllocError>
-    ensures { IfOk result (λ p. state_at p reading.new ≡ stmt_begins is_binding returns marks name place reading.old.stack reading.old.script) }
+    ensures { IfOk result (λ p. state_at p reading.new ≡ begin_stmt is_binding returns marks name place reading.old.stack reading.old.script) }
 {
     if is_binding {
-        return Ok(Some(Point::Bound(placed(place, name))));
+        return Ok(Some(Point::Bound(name_at(place, name))));
     }
-    let pending = fresh(alloc, returns)?;
-    names(alloc, marks, name, place, pending, reading)
+    let pending = no_pending(alloc, returns)?;
+    begin_name(alloc, marks, name, place, pending, reading)
 }
 
 /// The name that an evaluated statement begins with.
-fn eval_begins(
+fn begin_eval(
     alloc: Global,
     is_method: bool,
     marks: Marks,
@@ -117,13 +117,13 @@ fn eval_begins(
     place: u32,
     reading: &mut Reading,
 ) -> Result<Option<Point>, AllocError>
-    ensures { IfOk result (λ p. state_at p reading.new ≡ eval_begins is_method marks name place reading.old.stack reading.old.script) }
+    ensures { IfOk result (λ p. state_at p reading.new ≡ begin_eval is_method marks name place reading.old.stack reading.old.script) }
 {
     if is_method {
-        return head_begins(alloc, name, place, reading);
+        return begin_head(alloc, name, place, reading);
     }
-    let pending = fresh(alloc, false)?;
-    names(alloc, marks, name, place, pending, reading)
+    let pending = no_pending(alloc, false)?;
+    begin_name(alloc, marks, name, place, pending, reading)
 }
 
 /// The name that an entry begins with.
@@ -139,24 +139,24 @@ fn entry_name(
     let is_method = is_method(marks.ahead);
     let is_binding = is_binding(marks.opening);
     match reading.stack.top() {
-        None => item_begins(alloc, is_method, is_binding, marks, name, place, reading),
+        None => begin_item(alloc, is_method, is_binding, marks, name, place, reading),
         Some(Frame::Block(kind, _)) => {
-            let returns = returns_of(kind.get());
-            stmt_begins(alloc, is_binding, returns, marks, name, place, reading)
+            let returns = is_return_allowed(kind.get());
+            begin_stmt(alloc, is_binding, returns, marks, name, place, reading)
         }
-        Some(Frame::Evals(..)) => eval_begins(alloc, is_method, marks, name, place, reading),
+        Some(Frame::Evals(..)) => begin_eval(alloc, is_method, marks, name, place, reading),
         Some(_) => Ok(None),
     }
 }
 
 /// `function`
-pub(crate) fn long_begins(
+pub(crate) fn begin_long(
     alloc: Global,
     method: Place,
     place: u32,
     reading: &mut Reading,
 ) -> Result<Option<Point>, AllocError>
-    ensures { IfOk result (λ p. state_at p reading.new ≡ long_begins method place reading.old.stack reading.old.script) }
+    ensures { IfOk result (λ p. state_at p reading.new ≡ begin_long method place reading.old.stack reading.old.script) }
 {
     let start = Start {
         place: method,
@@ -179,14 +179,18 @@ fn item_word(
     match word {
         Word::Abstract => Ok(Some(Point::AbstractWord(place))),
         Word::Struct => Ok(Some(Point::DeclName(place, true))),
-        Word::Function => long_begins(alloc, Place::Entry, place, reading),
-        word => begins_word(alloc, word, place, fresh(alloc, false)?, reading),
+        Word::Function => begin_long(alloc, Place::Entry, place, reading),
+        word => begin_word(alloc, word, place, no_pending(alloc, false)?, reading),
     }
 }
 
 /// `return`
-fn returns(allowed: bool, place: u32, reading: &mut Reading) -> Result<Option<Point>, AllocError>
-    ensures { IfOk result (λ p. state_at p reading.new ≡ returns allowed place reading.old.stack reading.old.script) }
+fn begin_return(
+    allowed: bool,
+    place: u32,
+    reading: &mut Reading,
+) -> Result<Option<Point>, AllocError>
+    ensures { IfOk result (λ p. state_at p reading.new ≡ begin_return allowed place reading.old.stack reading.old.script) }
 {
     if allowed {
         return Ok(Some(Point::Returned(place)));
@@ -195,7 +199,7 @@ fn returns(allowed: bool, place: u32, reading: &mut Reading) -> Result<Option<Po
 }
 
 /// The reserved word that a statement's expression begins with.
-fn stmt_begins_word(
+fn begin_stmt_word(
     alloc: Global,
     word: Word,
     place: u32,
@@ -203,11 +207,11 @@ fn stmt_begins_word(
     statements: Forms<Stmt>,
     reading: &mut Reading,
 ) -> Result<Option<Point>, AllocError>
-    ensures { IfOk result (λ p. state_at p reading.new ≡ begins_word word place (fresh (returns_of kind)) (Block kind statements ∷ reading.old.stack) reading.old.script) }
+    ensures { IfOk result (λ p. state_at p reading.new ≡ begin_word word place (no_pending (is_return_allowed kind)) (Block kind statements ∷ reading.old.stack) reading.old.script) }
 {
-    let returns = returns_of(kind.get());
+    let returns = is_return_allowed(kind.get());
     reading.stack.push(Frame::Block(kind, statements))?;
-    begins_word(alloc, word, place, fresh(alloc, returns)?, reading)
+    begin_word(alloc, word, place, no_pending(alloc, returns)?, reading)
 }
 
 /// The reserved word at a statement.
@@ -222,15 +226,15 @@ fn stmt_word(
     ensures { IfOk result (λ p. state_at p reading.new ≡ stmt_word word place kind statements reading.old.stack reading.old.script) }
 {
     match word {
-        Word::End => block_ends(alloc, kind.take(), statements, reading),
+        Word::End => end_block(alloc, kind.take(), statements, reading),
         Word::Elseif => block_elseif(alloc, place, kind.take(), statements, reading),
         Word::Else => block_else(alloc, kind.take(), statements, reading),
         Word::Return => {
-            let allowed = returns_of(kind.get());
+            let allowed = is_return_allowed(kind.get());
             reading.stack.push(Frame::Block(kind, statements))?;
-            returns(allowed, place, reading)
+            begin_return(allowed, place, reading)
         }
-        word => stmt_begins_word(alloc, word, place, kind, statements, reading),
+        word => begin_stmt_word(alloc, word, place, kind, statements, reading),
     }
 }
 
@@ -246,14 +250,14 @@ fn eval_word(
     ensures { IfOk result (λ p. state_at p reading.new ≡ eval_word word place kind evals reading.old.stack reading.old.script) }
 {
     match word {
-        Word::End => evals_end(alloc, kind, evals, reading),
+        Word::End => end_evals(alloc, kind, evals, reading),
         Word::Function => {
             reading.stack.push(Frame::Evals(kind, evals))?;
-            long_begins(alloc, Place::Entry, place, reading)
+            begin_long(alloc, Place::Entry, place, reading)
         }
         word => {
             reading.stack.push(Frame::Evals(kind, evals))?;
-            begins_word(alloc, word, place, fresh(alloc, false)?, reading)
+            begin_word(alloc, word, place, no_pending(alloc, false)?, reading)
         }
     }
 }
@@ -303,60 +307,64 @@ fn entry_operator(
     match operator {
         Operator::Semicolon => Ok(Some(Point::Entry)),
         operator => {
-            let pending = fresh(alloc, returns_in(&reading.stack))?;
-            begins_operator(alloc, operator, marks.ahead, place, pending, reading)
+            let pending = no_pending(alloc, is_return_allowed_in(&reading.stack))?;
+            begin_operator(alloc, operator, marks.ahead, place, pending, reading)
         }
     }
 }
 
 /// A token that an entry's expression begins with.
-fn entry_begins(
+fn begin_entry(
     alloc: Global,
-    sign: &Sign,
+    terminal: &Terminal,
     marks: Marks,
     place: u32,
     reading: &mut Reading,
 ) -> Result<Option<Point>, AllocError>
-    ensures { IfOk result (λ p. state_at p reading.new ≡ begins sign.now marks place (fresh (returns_in reading.old.stack)) reading.old.stack reading.old.script) }
+    ensures { IfOk result (λ p. state_at p reading.new ≡ begin_operand terminal.now marks place (no_pending (is_return_allowed_in reading.old.stack)) reading.old.stack reading.old.script) }
 {
-    let pending = fresh(alloc, returns_in(&reading.stack))?;
-    begins(alloc, sign, marks, place, pending, reading)
+    let pending = no_pending(alloc, is_return_allowed_in(&reading.stack))?;
+    begin_operand(alloc, terminal, marks, place, pending, reading)
 }
 
 /// A token at an entry.
 pub fn at_entry(
     alloc: Global,
-    sign: &Sign,
+    terminal: &Terminal,
     marks: Marks,
     place: u32,
     reading: &mut Reading,
 ) -> Result<Option<Point>, AllocError>
-    ensures { IfOk result (λ p. state_at p reading.new ≡ at_entry sign.now marks place reading.old.stack reading.old.script) }
+    ensures { IfOk result (λ p. state_at p reading.new ≡ at_entry terminal.now marks place reading.old.stack reading.old.script) }
 {
-    match sign {
-        Sign::Newline => Ok(Some(Point::Entry)),
-        Sign::Operator(operator) => entry_operator(alloc, *operator, marks, place, reading),
-        Sign::Word(word) => entry_word(alloc, *word, place, reading),
-        Sign::Name(name) => entry_name(alloc, marks, name.copy()?, place, reading),
-        Sign::End => entry_end(reading),
-        Sign::Number(_) => entry_begins(alloc, sign, marks, place, reading),
-        Sign::Text(_) => entry_begins(alloc, sign, marks, place, reading),
-        Sign::Macro(_) => entry_begins(alloc, sign, marks, place, reading),
+    match terminal {
+        Terminal::Newline => Ok(Some(Point::Entry)),
+        Terminal::Operator(operator) => entry_operator(alloc, *operator, marks, place, reading),
+        Terminal::Word(word) => entry_word(alloc, *word, place, reading),
+        Terminal::Name(name) => entry_name(alloc, marks, name.copy()?, place, reading),
+        Terminal::End => entry_end(reading),
+        Terminal::Number(_) => begin_entry(alloc, terminal, marks, place, reading),
+        Terminal::Text(_) => begin_entry(alloc, terminal, marks, place, reading),
+        Terminal::Macro(_) => begin_entry(alloc, terminal, marks, place, reading),
     }
 }
 
 /// A token behind the name of a binding.
 pub fn at_bound(
     alloc: Global,
-    sign: &Sign,
+    terminal: &Terminal,
     name: Name,
     reading: &mut Reading,
 ) -> Result<Option<Point>, AllocError>
-    ensures { IfOk result (λ p. state_at p reading.new ≡ at_bound sign.now name reading.old.stack reading.old.script) }
+    ensures { IfOk result (λ p. state_at p reading.new ≡ at_bound terminal.now name reading.old.stack reading.old.script) }
 {
-    match sign {
-        Sign::Operator(Operator::Assign) => {
-            let pending = led(alloc, Lead::Bind(name), returns_in(&reading.stack))?;
+    match terminal {
+        Terminal::Operator(Operator::Assign) => {
+            let pending = pending_after(
+                alloc,
+                Lead::Bind(name),
+                is_return_allowed_in(&reading.stack),
+            )?;
             Ok(Some(Point::Want(pending)))
         }
         _ => Ok(None),
@@ -364,13 +372,13 @@ pub fn at_bound(
 }
 
 /// A separator behind `return`.
-fn return_separates(place: u32, reading: &mut Reading) -> Result<Option<Point>, AllocError>
-    ensures { IfOk result (λ p. state_at p reading.new ≡ return_separates place reading.old.stack reading.old.script) }
+fn separator_after_return(place: u32, reading: &mut Reading) -> Result<Option<Point>, AllocError>
+    ensures { IfOk result (λ p. state_at p reading.new ≡ separator_after_return place reading.old.stack reading.old.script) }
 {
     match reading.stack.pop() {
         Some(Frame::Block(kind, statements)) => {
-            let statements = with(statements, Stmt::ReturnNothing(place), 0)?;
-            inside(Point::Entry, Frame::Block(kind, statements), reading)
+            let statements = with_form(statements, Stmt::ReturnNothing(place), 0)?;
+            push_frame(Point::Entry, Frame::Block(kind, statements), reading)
         }
         Some(frame) => {
             drop(frame);
@@ -381,18 +389,18 @@ fn return_separates(place: u32, reading: &mut Reading) -> Result<Option<Point>, 
 }
 
 /// The word that ends the block behind `return`.
-fn return_ends(
+fn end_return(
     alloc: Global,
     word: Word,
     next: u32,
     place: u32,
     reading: &mut Reading,
 ) -> Result<Option<Point>, AllocError>
-    ensures { IfOk result (λ p. state_at p reading.new ≡ return_ends word next place reading.old.stack reading.old.script) }
+    ensures { IfOk result (λ p. state_at p reading.new ≡ end_return word next place reading.old.stack reading.old.script) }
 {
     match reading.stack.pop() {
         Some(Frame::Block(kind, statements)) => {
-            let statements = with(statements, Stmt::ReturnNothing(place), 0)?;
+            let statements = with_form(statements, Stmt::ReturnNothing(place), 0)?;
             block_word(alloc, word, next, kind.take(), statements, reading)
         }
         Some(frame) => {
@@ -414,12 +422,12 @@ fn return_word(
     ensures { IfOk result (λ p. state_at p reading.new ≡ return_word word next place reading.old.stack reading.old.script) }
 {
     match word {
-        Word::End => return_ends(alloc, Word::End, next, place, reading),
-        Word::Elseif => return_ends(alloc, Word::Elseif, next, place, reading),
-        Word::Else => return_ends(alloc, Word::Else, next, place, reading),
+        Word::End => end_return(alloc, Word::End, next, place, reading),
+        Word::Elseif => end_return(alloc, Word::Elseif, next, place, reading),
+        Word::Else => end_return(alloc, Word::Else, next, place, reading),
         word => {
-            let pending = led(alloc, Lead::Return(place), true)?;
-            begins_word(alloc, word, next, pending, reading)
+            let pending = pending_after(alloc, Lead::Return(place), true)?;
+            begin_word(alloc, word, next, pending, reading)
         }
     }
 }
@@ -436,10 +444,10 @@ fn return_operator(
     ensures { IfOk result (λ p. state_at p reading.new ≡ return_operator operator marks next place reading.old.stack reading.old.script) }
 {
     match operator {
-        Operator::Semicolon => return_separates(place, reading),
+        Operator::Semicolon => separator_after_return(place, reading),
         operator => {
-            let pending = led(alloc, Lead::Return(place), true)?;
-            begins_operator(alloc, operator, marks.ahead, next, pending, reading)
+            let pending = pending_after(alloc, Lead::Return(place), true)?;
+            begin_operator(alloc, operator, marks.ahead, next, pending, reading)
         }
     }
 }
@@ -447,23 +455,23 @@ fn return_operator(
 /// A token behind `return`, which stands at the second place.
 pub fn at_returned(
     alloc: Global,
-    sign: &Sign,
+    terminal: &Terminal,
     marks: Marks,
     next: u32,
     place: u32,
     reading: &mut Reading,
 ) -> Result<Option<Point>, AllocError>
-    ensures { IfOk result (λ p. state_at p reading.new ≡ at_returned sign.now marks next place reading.old.stack reading.old.script) }
+    ensures { IfOk result (λ p. state_at p reading.new ≡ at_returned terminal.now marks next place reading.old.stack reading.old.script) }
 {
-    match sign {
-        Sign::Newline => return_separates(place, reading),
-        Sign::Operator(operator) => {
+    match terminal {
+        Terminal::Newline => separator_after_return(place, reading),
+        Terminal::Operator(operator) => {
             return_operator(alloc, *operator, marks, next, place, reading)
         }
-        Sign::Word(word) => return_word(alloc, *word, next, place, reading),
+        Terminal::Word(word) => return_word(alloc, *word, next, place, reading),
         _ => {
-            let pending = led(alloc, Lead::Return(place), true)?;
-            begins(alloc, sign, marks, next, pending, reading)
+            let pending = pending_after(alloc, Lead::Return(place), true)?;
+            begin_operand(alloc, terminal, marks, next, pending, reading)
         }
     }
 }

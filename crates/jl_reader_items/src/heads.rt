@@ -2,10 +2,10 @@
 
 ghost use Rattle.std.specs.Prelude.{◌≡◌, ◌∷◌, IfOk, OnOk, true};
 ghost use Rattle.jl_grammar.specs.Goes.{state_at};
-ghost use Rattle.jl_grammar.specs.Forms.{none};
-ghost use Rattle.jl_grammar.specs.Turns.{at, placed};
-ghost use Rattle.jl_grammar.specs.Levels.{into};
-ghost use Rattle.jl_grammar.specs.Machine.{at_function, known_opens, known_comma, known_closes, at_known, dots, at_named, at_dotted, knows, at_colon, with_param, next_param, first_param, param_ends, at_param, defines, short_headed, headed_as, headed, at_headed, where_turn};
+ghost use Rattle.jl_grammar.specs.Forms.{no_forms};
+ghost use Rattle.jl_grammar.specs.Turns.{at, name_at};
+ghost use Rattle.jl_grammar.specs.Levels.{push_outer};
+ghost use Rattle.jl_grammar.specs.Machine.{at_function, open_known, known_comma, close_known, at_known, dot_after_base, at_named, at_dotted, operator_after_base, at_colon, with_param, next_param, first_param, token_after_param, at_param, begin_body, token_after_short_head, token_after_head, end_head, at_headed, where_turn};
 
 use crate::entries::at_entry;
 use jl_grammar::mark::Marks;
@@ -17,31 +17,31 @@ use jl_grammar::state::{
 use jl_grammar::tree::{Callee, Head, Name, Param};
 use jl_marks::marks::is_function;
 use jl_model::ty::Bytes;
-use jl_reader_forms::blocks::{inside, placed};
-use jl_reader_forms::forms::{add, called, no_vars, none, vars_form};
-use jl_reader_forms::levels::{begin_form, fresh, led, take_levels};
-use jl_reader_forms::made::head;
-use jl_reader_operands::follows::want_type;
+use jl_reader_forms::blocks::{name_at, push_frame};
+use jl_reader_forms::forms::{add, call_expr, no_forms, no_vars, vars_form};
+use jl_reader_forms::items::head;
+use jl_reader_forms::levels::{begin_form, no_pending, pending_after, take_levels};
+use jl_reader_operands::after_operand::want_type;
 use jl_token::token::Operator;
 use jl_typeread::entries::where_start;
-use jl_typeread::sign::{Sign, Word};
 use jl_typeread::state::{State as TypeState, Turn};
+use jl_typeread::terminal::{Terminal, Word};
 use std::alloc::{AllocError, Global};
 use std::mem;
 
 /// A token where the name of a function must stand.
 pub fn at_function(
-    sign: &Sign,
+    terminal: &Terminal,
     place: u32,
     purpose: Purpose,
     reading: &mut Reading,
 ) -> Result<Option<Point>, AllocError>
-    ensures { IfOk result (λ p. state_at p reading.new ≡ at_function sign.now place purpose reading.old.stack reading.old.script) }
+    ensures { IfOk result (λ p. state_at p reading.new ≡ at_function terminal.now place purpose reading.old.stack reading.old.script) }
 {
-    match sign {
-        Sign::Name(name) => {
+    match terminal {
+        Terminal::Name(name) => {
             match name.copy() {
-                Ok(name) => Ok(Some(Point::Named(purpose, placed(place, name)))),
+                Ok(name) => Ok(Some(Point::Named(purpose, name_at(place, name)))),
                 Err(error) => {
                     drop(purpose);
                     Err(error)
@@ -57,40 +57,40 @@ pub fn at_function(
 
 /// `(` of a call.
 #[inline(always)]
-pub(crate) fn call_opens(
+pub(crate) fn open_call(
     alloc: Global,
     pending: Owned<Pending>,
     place: u32,
     called: Called,
     reading: &mut Reading,
 ) -> Result<Option<Point>, AllocError>
-    ensures { IfOk result (λ p. state_at p reading.new ≡ at (Point.First pending.returns) (Frame.Args pending place called none ∷ reading.old.stack) reading.old.script) }
+    ensures { IfOk result (λ p. state_at p reading.new ≡ at (Point.First pending.returns) (Frame.Args pending place called no_forms ∷ reading.old.stack) reading.old.script) }
 {
     let called = Owned::new(alloc, called)?;
     let point = Point::First(pending.get().returns);
-    let frame = Frame::Args(pending, place, called, none(alloc));
-    inside(point, frame, reading)
+    let frame = Frame::Args(pending, place, called, no_forms(alloc));
+    push_frame(point, frame, reading)
 }
 
 /// `(` behind a function.
 #[inline(always)]
-fn known_opens(
+fn open_known(
     alloc: Global,
     purpose: Purpose,
     callee: Callee,
     reading: &mut Reading,
 ) -> Result<Option<Point>, AllocError>
-    ensures { IfOk result (λ p. state_at p reading.new ≡ known_opens purpose callee reading.old.stack reading.old.script) }
+    ensures { IfOk result (λ p. state_at p reading.new ≡ open_known purpose callee reading.old.stack reading.old.script) }
 {
     match purpose {
         Purpose::Call(pending, place) => {
-            call_opens(alloc, pending, place, Called::Function(callee), reading)
+            open_call(alloc, pending, place, Called::Function(callee), reading)
         }
         Purpose::Head(start) => {
             let heading = Heading {
                 start: start.take(),
                 callee,
-                params: none(alloc),
+                params: no_forms(alloc),
             };
             Ok(Some(Point::FirstParam(Owned::new(alloc, heading)?)))
         }
@@ -114,9 +114,9 @@ fn known_comma(
     match purpose {
         Purpose::Latest(pending, place) => {
             let called = Owned::new(alloc, Called::Latest(callee))?;
-            let point = Point::Want(fresh(alloc, pending.get().returns)?);
-            let frame = Frame::Args(pending, place, called, none(alloc));
-            inside(point, frame, reading)
+            let point = Point::Want(no_pending(alloc, pending.get().returns)?);
+            let frame = Frame::Args(pending, place, called, no_forms(alloc));
+            push_frame(point, frame, reading)
         }
         purpose => {
             drop(purpose);
@@ -127,17 +127,17 @@ fn known_comma(
 }
 
 /// `)` behind a function.
-fn known_closes(
+fn close_known(
     alloc: Global,
     purpose: Purpose,
     callee: Callee,
     reading: &mut Reading,
 ) -> Result<Option<Point>, AllocError>
-    ensures { IfOk result (λ p. state_at p reading.new ≡ known_closes purpose callee reading.old.stack reading.old.script) }
+    ensures { IfOk result (λ p. state_at p reading.new ≡ close_known purpose callee reading.old.stack reading.old.script) }
 {
     match purpose {
         Purpose::Latest(pending, place) => {
-            let call = called(alloc, place, Called::Latest(callee), none(alloc))?;
+            let call = call_expr(alloc, place, Called::Latest(callee), no_forms(alloc))?;
             Ok(Some(Point::Have(pending, call)))
         }
         purpose => {
@@ -152,17 +152,17 @@ fn known_closes(
 #[inline(always)]
 pub fn at_known(
     alloc: Global,
-    sign: &Sign,
+    terminal: &Terminal,
     purpose: Purpose,
     callee: Callee,
     reading: &mut Reading,
 ) -> Result<Option<Point>, AllocError>
-    ensures { IfOk result (λ p. state_at p reading.new ≡ at_known sign.now purpose callee reading.old.stack reading.old.script) }
+    ensures { IfOk result (λ p. state_at p reading.new ≡ at_known terminal.now purpose callee reading.old.stack reading.old.script) }
 {
-    match sign {
-        Sign::Operator(Operator::OpenParen) => known_opens(alloc, purpose, callee, reading),
-        Sign::Operator(Operator::Comma) => known_comma(alloc, purpose, callee, reading),
-        Sign::Operator(Operator::CloseParen) => { known_closes(alloc, purpose, callee, reading) }
+    match terminal {
+        Terminal::Operator(Operator::OpenParen) => open_known(alloc, purpose, callee, reading),
+        Terminal::Operator(Operator::Comma) => known_comma(alloc, purpose, callee, reading),
+        Terminal::Operator(Operator::CloseParen) => { close_known(alloc, purpose, callee, reading) }
         _ => {
             drop(purpose);
             drop(callee);
@@ -172,13 +172,13 @@ pub fn at_known(
 }
 
 /// `.` behind the name of a function.
-fn dots(
+fn dot_after_base(
     is_base: bool,
     purpose: Purpose,
     base: u32,
     reading: &mut Reading,
 ) -> Result<Option<Point>, AllocError>
-    ensures { IfOk result (λ p. state_at p reading.new ≡ dots is_base purpose base reading.old.stack reading.old.script) }
+    ensures { IfOk result (λ p. state_at p reading.new ≡ dot_after_base is_base purpose base reading.old.stack reading.old.script) }
 {
     if is_base {
         return Ok(Some(Point::Dotted(purpose, base)));
@@ -191,22 +191,22 @@ fn dots(
 #[inline(always)]
 pub fn at_named(
     alloc: Global,
-    sign: &Sign,
+    terminal: &Terminal,
     purpose: Purpose,
     name: Name,
     reading: &mut Reading,
 ) -> Result<Option<Point>, AllocError>
-    ensures { IfOk result (λ p. state_at p reading.new ≡ at_named sign.now purpose name reading.old.stack reading.old.script) }
+    ensures { IfOk result (λ p. state_at p reading.new ≡ at_named terminal.now purpose name reading.old.stack reading.old.script) }
 {
-    match sign {
-        Sign::Operator(operator) => match operator {
+    match terminal {
+        Terminal::Operator(operator) => match operator {
             Operator::Dot => {
                 let is_base = name.bytes.as_slice() == b"Base".as_slice();
-                dots(is_base, purpose, name.at, reading)
+                dot_after_base(is_base, purpose, name.at, reading)
             }
-            _ => at_known(alloc, sign, purpose, Callee::Plain(name), reading),
+            _ => at_known(alloc, terminal, purpose, Callee::Plain(name), reading),
         },
-        _ => at_known(alloc, sign, purpose, Callee::Plain(name), reading),
+        _ => at_known(alloc, terminal, purpose, Callee::Plain(name), reading),
     }
 }
 
@@ -217,31 +217,31 @@ fn base_function(
     place: u32,
     base: u32,
 ) -> Result<Owned<Callee>, AllocError>
-    ensures { IfOk result (λ f. f ≡ Callee.Base base (placed place name.now)) }
+    ensures { IfOk result (λ f. f ≡ Callee.Base base (name_at place name.now)) }
 {
-    Owned::new(alloc, Callee::Base(base, placed(place, name.copy()?)))
+    Owned::new(alloc, Callee::Base(base, name_at(place, name.copy()?)))
 }
 
 /// A token behind `Base.`, which stands at the second place.
 pub fn at_dotted(
     alloc: Global,
-    sign: &Sign,
+    terminal: &Terminal,
     place: u32,
     purpose: Purpose,
     base: u32,
     reading: &mut Reading,
 ) -> Result<Option<Point>, AllocError>
-    ensures { IfOk result (λ p. state_at p reading.new ≡ at_dotted sign.now place purpose base reading.old.stack reading.old.script) }
+    ensures { IfOk result (λ p. state_at p reading.new ≡ at_dotted terminal.now place purpose base reading.old.stack reading.old.script) }
 {
-    match sign {
-        Sign::Name(name) => match base_function(alloc, name, place, base) {
+    match terminal {
+        Terminal::Name(name) => match base_function(alloc, name, place, base) {
             Ok(callee) => Ok(Some(Point::Known(purpose, callee))),
             Err(error) => {
                 drop(purpose);
                 Err(error)
             }
         },
-        Sign::Operator(Operator::Colon) => Ok(Some(Point::Colon(purpose, base))),
+        Terminal::Operator(Operator::Colon) => Ok(Some(Point::Colon(purpose, base))),
         _ => {
             drop(purpose);
             Ok(None)
@@ -251,7 +251,7 @@ pub fn at_dotted(
 
 /// An operator behind `Base.:`.
 #[inline(always)]
-fn knows(
+fn operator_after_base(
     alloc: Global,
     is_function: bool,
     operator: Operator,
@@ -259,7 +259,7 @@ fn knows(
     base: u32,
     reading: &mut Reading,
 ) -> Result<Option<Point>, AllocError>
-    ensures { IfOk result (λ p. state_at p reading.new ≡ knows is_function operator purpose base reading.old.stack reading.old.script) }
+    ensures { IfOk result (λ p. state_at p reading.new ≡ operator_after_base is_function operator purpose base reading.old.stack reading.old.script) }
 {
     if is_function {
         return match Owned::new(alloc, Callee::Operator(base, operator)) {
@@ -277,17 +277,17 @@ fn knows(
 /// A token behind `Base.:`.
 pub fn at_colon(
     alloc: Global,
-    sign: &Sign,
+    terminal: &Terminal,
     purpose: Purpose,
     base: u32,
     reading: &mut Reading,
 ) -> Result<Option<Point>, AllocError>
-    ensures { IfOk result (λ p. state_at p reading.new ≡ at_colon sign.now purpose base reading.old.stack reading.old.script) }
+    ensures { IfOk result (λ p. state_at p reading.new ≡ at_colon terminal.now purpose base reading.old.stack reading.old.script) }
 {
-    match sign {
-        Sign::Operator(operator) => {
+    match terminal {
+        Terminal::Operator(operator) => {
             let is_function = is_function(*operator);
-            knows(alloc, is_function, *operator, purpose, base, reading)
+            operator_after_base(alloc, is_function, *operator, purpose, base, reading)
         }
         _ => {
             drop(purpose);
@@ -306,19 +306,19 @@ pub(crate) fn add_param(heading: &mut Heading, param: Param, depth: u32) -> Resu
 /// A token where a parameter must stand.
 pub fn next_param(
     alloc: Global,
-    sign: &Sign,
+    terminal: &Terminal,
     place: u32,
     heading: Owned<Heading>,
     reading: &mut Reading,
 ) -> Result<Option<Point>, AllocError>
-    ensures { IfOk result (λ p. state_at p reading.new ≡ next_param sign.now place heading reading.old.stack reading.old.script) }
+    ensures { IfOk result (λ p. state_at p reading.new ≡ next_param terminal.now place heading reading.old.stack reading.old.script) }
 {
-    match sign {
-        Sign::Name(name) => {
+    match terminal {
+        Terminal::Name(name) => {
             let name = name.copy()?;
-            Ok(Some(Point::Param(heading, placed(place, name))))
+            Ok(Some(Point::Param(heading, name_at(place, name))))
         }
-        Sign::Operator(Operator::HasType) => {
+        Terminal::Operator(Operator::HasType) => {
             Ok(Some(want_type(alloc, Goal::Param(heading, None, place))?))
         }
         _ => Ok(None),
@@ -328,71 +328,71 @@ pub fn next_param(
 /// A token behind the `(` of a head.
 pub fn first_param(
     alloc: Global,
-    sign: &Sign,
+    terminal: &Terminal,
     place: u32,
     heading: Owned<Heading>,
     reading: &mut Reading,
 ) -> Result<Option<Point>, AllocError>
-    ensures { IfOk result (λ p. state_at p reading.new ≡ first_param sign.now place heading reading.old.stack reading.old.script) }
+    ensures { IfOk result (λ p. state_at p reading.new ≡ first_param terminal.now place heading reading.old.stack reading.old.script) }
 {
-    match sign {
-        Sign::Operator(operator) => match operator {
+    match terminal {
+        Terminal::Operator(operator) => match operator {
             Operator::CloseParen => Ok(Some(Point::Headed(heading))),
-            _ => next_param(alloc, sign, place, heading, reading),
+            _ => next_param(alloc, terminal, place, heading, reading),
         },
-        _ => next_param(alloc, sign, place, heading, reading),
+        _ => next_param(alloc, terminal, place, heading, reading),
     }
 }
 
 /// A token behind a parameter.
-pub(crate) fn param_ends(
-    sign: &Sign,
+pub(crate) fn token_after_param(
+    terminal: &Terminal,
     heading: Owned<Heading>,
     reading: &mut Reading,
 ) -> Result<Option<Point>, AllocError>
-    ensures { IfOk result (λ p. state_at p reading.new ≡ param_ends sign.now heading reading.old.stack reading.old.script) }
+    ensures { IfOk result (λ p. state_at p reading.new ≡ token_after_param terminal.now heading reading.old.stack reading.old.script) }
 {
-    match sign {
-        Sign::Operator(Operator::Comma) => Ok(Some(Point::NextParam(heading))),
-        Sign::Operator(Operator::CloseParen) => Ok(Some(Point::Headed(heading))),
+    match terminal {
+        Terminal::Operator(Operator::Comma) => Ok(Some(Point::NextParam(heading))),
+        Terminal::Operator(Operator::CloseParen) => Ok(Some(Point::Headed(heading))),
         _ => Ok(None),
     }
 }
 
 /// A token behind a parameter that is a name alone.
-fn name_ends(
-    sign: &Sign,
+fn end_bare_param(
+    terminal: &Terminal,
     heading: Owned<Heading>,
     name: Name,
     reading: &mut Reading,
 ) -> Result<Option<Point>, AllocError>
-    ensures { IfOk result (λ p. state_at p reading.new ≡ param_ends sign.now (with_param heading (Param.Name name) 0) reading.old.stack reading.old.script) }
+    ensures { IfOk result (λ p. state_at p reading.new ≡ token_after_param terminal.now (with_param heading (Param.Name name) 0) reading.old.stack reading.old.script) }
 {
     let mut heading = heading;
     add_param(heading.get_mut(), Param::Name(name), 0)?;
-    param_ends(sign, heading, reading)
+    token_after_param(terminal, heading, reading)
 }
 
 /// A token behind the name of a parameter.
 pub fn at_param(
     alloc: Global,
-    sign: &Sign,
+    terminal: &Terminal,
     place: u32,
     heading: Owned<Heading>,
     name: Name,
     reading: &mut Reading,
 ) -> Result<Option<Point>, AllocError>
-    ensures { IfOk result (λ p. state_at p reading.new ≡ at_param sign.now place heading name reading.old.stack reading.old.script) }
+    ensures { IfOk result (λ p. state_at p reading.new ≡ at_param terminal.now place heading name reading.old.stack reading.old.script) }
 {
-    match sign {
-        Sign::Operator(operator) => match operator {
+    match terminal {
+        Terminal::Operator(operator) => match operator {
             Operator::HasType => {
                 let goal = Goal::Param(heading, Some(name), place);
                 Ok(Some(want_type(alloc, goal)?))
             }
-            _ => name_ends(sign, heading, name, reading),
+            _ => end_bare_param(terminal, heading, name, reading),
         },
-        _ => name_ends(sign, heading, name, reading),
+        _ => end_bare_param(terminal, heading, name, reading),
     }
 }
 
@@ -403,24 +403,24 @@ fn define(
     place: u32,
     head: Owned<Form<Head>>,
 ) -> Result<(), AllocError>
-    ensures { OnOk result (pending.new ≡ into (Outer.Short pending.old.levels place head) true pending.old) }
+    ensures { OnOk result (pending.new ≡ push_outer (Outer.Short pending.old.levels place head) true pending.old) }
 {
     let levels = take_levels(alloc, &mut pending.levels);
     begin_form(alloc, Outer::Short(levels, place, head), true, pending)
 }
 
 /// `=` behind a head.
-fn defines(
+fn begin_body(
     alloc: Global,
     method: Place,
     head: Owned<Form<Head>>,
     reading: &mut Reading,
 ) -> Result<Option<Point>, AllocError>
-    ensures { IfOk result (λ p. state_at p reading.new ≡ defines method head reading.old.stack reading.old.script) }
+    ensures { IfOk result (λ p. state_at p reading.new ≡ begin_body method head reading.old.stack reading.old.script) }
 {
     match method {
         Place::Entry => {
-            let pending = led(alloc, Lead::Short(head), true)?;
+            let pending = pending_after(alloc, Lead::Short(head), true)?;
             Ok(Some(Point::Want(pending)))
         }
         Place::Evaluated(pending, place) => {
@@ -432,56 +432,56 @@ fn defines(
 }
 
 /// A token behind the head of a method that `function` has not begun.
-fn short_headed(
+fn token_after_short_head(
     alloc: Global,
-    sign: &Sign,
+    terminal: &Terminal,
     method: Place,
     head: Form<Head>,
     reading: &mut Reading,
 ) -> Result<Option<Point>, AllocError>
-    ensures { IfOk result (λ p. state_at p reading.new ≡ short_headed sign.now method head reading.old.stack reading.old.script) }
+    ensures { IfOk result (λ p. state_at p reading.new ≡ token_after_short_head terminal.now method head reading.old.stack reading.old.script) }
 {
-    match sign {
-        Sign::Operator(Operator::Assign) => {
+    match terminal {
+        Terminal::Operator(Operator::Assign) => {
             let head = Owned::new(alloc, head)?;
-            defines(alloc, method, head, reading)
+            begin_body(alloc, method, head, reading)
         }
         _ => Ok(None),
     }
 }
 
 /// A token behind a head with its `where`: the body of a method that `function` has begun begins with it.
-fn headed_as(
+fn token_after_head(
     alloc: Global,
     long: bool,
-    sign: &Sign,
+    terminal: &Terminal,
     marks: Marks,
     next: u32,
     method: Place,
     head: Form<Head>,
     reading: &mut Reading,
 ) -> Result<Option<Point>, AllocError>
-    ensures { IfOk result (λ p. state_at p reading.new ≡ headed_as long sign.now marks next method head reading.old.stack reading.old.script) }
+    ensures { IfOk result (λ p. state_at p reading.new ≡ token_after_head long terminal.now marks next method head reading.old.stack reading.old.script) }
 {
     if long {
         let kind = Owned::new(alloc, BlockKind::Body(method, head))?;
-        reading.stack.push(Frame::Block(kind, none(alloc)))?;
-        return at_entry(alloc, sign, marks, next, reading);
+        reading.stack.push(Frame::Block(kind, no_forms(alloc)))?;
+        return at_entry(alloc, terminal, marks, next, reading);
     }
-    short_headed(alloc, sign, method, head, reading)
+    token_after_short_head(alloc, terminal, method, head, reading)
 }
 
 /// A token behind a head with these variables.
-fn headed(
+fn end_head(
     alloc: Global,
-    sign: &Sign,
+    terminal: &Terminal,
     marks: Marks,
     next: u32,
     heading: Owned<Heading>,
     vars: VarsForm,
     reading: &mut Reading,
 ) -> Result<Option<Point>, AllocError>
-    ensures { IfOk result (λ p. state_at p reading.new ≡ headed sign.now marks next heading vars reading.old.stack reading.old.script) }
+    ensures { IfOk result (λ p. state_at p reading.new ≡ end_head terminal.now marks next heading vars reading.old.stack reading.old.script) }
 {
     let Heading {
         start,
@@ -494,29 +494,29 @@ fn headed(
         at,
     } = start;
     let head = head(alloc, at, callee, params, vars)?;
-    headed_as(alloc, long, sign, marks, next, method, head, reading)
+    token_after_head(alloc, long, terminal, marks, next, method, head, reading)
 }
 
 /// A token behind the `)` of a head.
 pub fn at_headed(
     alloc: Global,
-    sign: &Sign,
+    terminal: &Terminal,
     marks: Marks,
     next: u32,
     heading: Owned<Heading>,
     reading: &mut Reading,
 ) -> Result<Option<Point>, AllocError>
-    ensures { IfOk result (λ p. state_at p reading.new ≡ at_headed sign.now marks next heading reading.old.stack reading.old.script) }
+    ensures { IfOk result (λ p. state_at p reading.new ≡ at_headed terminal.now marks next heading reading.old.stack reading.old.script) }
 {
-    match sign {
-        Sign::Word(word) => match word {
+    match terminal {
+        Terminal::Word(word) => match word {
             Word::Where => {
                 let state = Owned::new(alloc, where_start(alloc))?;
                 Ok(Some(Point::Where(heading, state)))
             }
-            _ => headed(alloc, sign, marks, next, heading, no_vars(), reading),
+            _ => end_head(alloc, terminal, marks, next, heading, no_vars(), reading),
         },
-        _ => headed(alloc, sign, marks, next, heading, no_vars(), reading),
+        _ => end_head(alloc, terminal, marks, next, heading, no_vars(), reading),
     }
 }
 
@@ -524,14 +524,14 @@ pub fn at_headed(
 pub fn where_turn(
     alloc: Global,
     turn: Turn,
-    sign: &Sign,
+    terminal: &Terminal,
     marks: Marks,
     next: u32,
     heading: Owned<Heading>,
     state: Owned<TypeState>,
     reading: &mut Reading,
 ) -> Result<Option<Point>, AllocError>
-    ensures { IfOk result (λ p. state_at p reading.new ≡ where_turn turn sign.now marks next heading reading.old.stack reading.old.script) }
+    ensures { IfOk result (λ p. state_at p reading.new ≡ where_turn turn terminal.now marks next heading reading.old.stack reading.old.script) }
 {
     match turn {
         Turn::Goes(next) => {
@@ -541,7 +541,7 @@ pub fn where_turn(
         }
         Turn::Variables(variables) => {
             let vars = vars_form(alloc, variables)?;
-            headed(alloc, sign, marks, next, heading, vars, reading)
+            end_head(alloc, terminal, marks, next, heading, vars, reading)
         }
         turn => {
             drop(turn);

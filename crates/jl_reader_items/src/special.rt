@@ -2,27 +2,27 @@
 
 ghost use Rattle.std.specs.Prelude.{◌≡◌, IfOk, OnOk, false};
 ghost use Rattle.jl_grammar.specs.Goes.{state_at};
-ghost use Rattle.jl_grammar.specs.Levels.{into};
-ghost use Rattle.jl_grammar.specs.Machine.{evaluating, evaluates, evaluates_word, after_eval, due_dot, due_open, due_name, due_macro, due_quote, at_due};
+ghost use Rattle.jl_grammar.specs.Levels.{push_outer};
+ghost use Rattle.jl_grammar.specs.Machine.{pending_of_eval, name_after_eval, word_after_eval, token_after_eval, due_dot, due_open, due_name, due_macro, due_quote, at_due};
 
-use crate::entries::{is_method, long_begins};
+use crate::entries::{begin_long, is_method};
 use jl_grammar::mark::Marks;
 use jl_grammar::owned::Owned;
 use jl_grammar::state::{
     Due, EvalKind, Frame, Outer, Pending, Place, Point, Purpose, Reading, Start,
 };
 use jl_model::ty::Bytes;
-use jl_reader_forms::blocks::{inside, placed};
-use jl_reader_forms::forms::none;
-use jl_reader_forms::levels::{begin_form, fresh, take_levels};
-use jl_reader_operands::operands::{begins, begins_word, names};
+use jl_reader_forms::blocks::{name_at, push_frame};
+use jl_reader_forms::forms::no_forms;
+use jl_reader_forms::levels::{begin_form, no_pending, take_levels};
+use jl_reader_operands::operands::{begin_name, begin_operand, begin_word};
 use jl_token::token::Operator;
-use jl_typeread::sign::{Sign, Word};
+use jl_typeread::terminal::{Terminal, Word};
 use std::alloc::{AllocError, Global};
 
 /// What stands before the expression behind `@eval`.
 fn evaluate(alloc: Global, pending: &mut Pending, place: u32) -> Result<(), AllocError>
-    ensures { OnOk result (pending.new ≡ evaluating pending.old place) }
+    ensures { OnOk result (pending.new ≡ pending_of_eval pending.old place) }
 {
     let levels = take_levels(alloc, &mut pending.levels);
     begin_form(alloc, Outer::Eval(levels, place), false, pending)
@@ -30,14 +30,14 @@ fn evaluate(alloc: Global, pending: &mut Pending, place: u32) -> Result<(), Allo
 
 /// What stands before the expression behind `Threads.@spawn`.
 fn spawn(alloc: Global, pending: &mut Pending, place: u32) -> Result<(), AllocError>
-    ensures { OnOk result (pending.new ≡ into (Outer.Spawn pending.old.levels place) false pending.old) }
+    ensures { OnOk result (pending.new ≡ push_outer (Outer.Spawn pending.old.levels place) false pending.old) }
 {
     let levels = take_levels(alloc, &mut pending.levels);
     begin_form(alloc, Outer::Spawn(levels, place), false, pending)
 }
 
 /// A name behind `@eval`.
-fn evaluates(
+fn name_after_eval(
     alloc: Global,
     is_method: bool,
     marks: Marks,
@@ -47,7 +47,7 @@ fn evaluates(
     place: u32,
     reading: &mut Reading,
 ) -> Result<Option<Point>, AllocError>
-    ensures { IfOk result (λ p. state_at p reading.new ≡ evaluates is_method marks name next pending place reading.old.stack reading.old.script) }
+    ensures { IfOk result (λ p. state_at p reading.new ≡ name_after_eval is_method marks name next pending place reading.old.stack reading.old.script) }
 {
     if is_method {
         let start = Start {
@@ -56,15 +56,15 @@ fn evaluates(
             at: next,
         };
         let purpose = Purpose::Head(Owned::new(alloc, start)?);
-        return Ok(Some(Point::Named(purpose, placed(next, name))));
+        return Ok(Some(Point::Named(purpose, name_at(next, name))));
     }
     let mut pending = pending;
     evaluate(alloc, pending.get_mut(), place)?;
-    names(alloc, marks, name, next, pending, reading)
+    begin_name(alloc, marks, name, next, pending, reading)
 }
 
 /// A reserved word behind `@eval`.
-fn evaluates_word(
+fn word_after_eval(
     alloc: Global,
     word: Word,
     next: u32,
@@ -72,45 +72,45 @@ fn evaluates_word(
     place: u32,
     reading: &mut Reading,
 ) -> Result<Option<Point>, AllocError>
-    ensures { IfOk result (λ p. state_at p reading.new ≡ evaluates_word word next pending place reading.old.stack reading.old.script) }
+    ensures { IfOk result (λ p. state_at p reading.new ≡ word_after_eval word next pending place reading.old.stack reading.old.script) }
 {
     match word {
         Word::Begin => {
-            let frame = Frame::Evals(EvalKind::Begin(pending, place), none(alloc));
-            inside(Point::Entry, frame, reading)
+            let frame = Frame::Evals(EvalKind::Begin(pending, place), no_forms(alloc));
+            push_frame(Point::Entry, frame, reading)
         }
-        Word::Function => long_begins(alloc, Place::Evaluated(pending, place), next, reading),
+        Word::Function => begin_long(alloc, Place::Evaluated(pending, place), next, reading),
         word => {
             let mut pending = pending;
             evaluate(alloc, pending.get_mut(), place)?;
-            begins_word(alloc, word, next, pending, reading)
+            begin_word(alloc, word, next, pending, reading)
         }
     }
 }
 
 /// A token behind `@eval`, which stands at the second place.
-pub fn after_eval(
+pub fn token_after_eval(
     alloc: Global,
-    sign: &Sign,
+    terminal: &Terminal,
     marks: Marks,
     next: u32,
     pending: Owned<Pending>,
     place: u32,
     reading: &mut Reading,
 ) -> Result<Option<Point>, AllocError>
-    ensures { IfOk result (λ p. state_at p reading.new ≡ after_eval sign.now marks next pending place reading.old.stack reading.old.script) }
+    ensures { IfOk result (λ p. state_at p reading.new ≡ token_after_eval terminal.now marks next pending place reading.old.stack reading.old.script) }
 {
-    match sign {
-        Sign::Name(name) => {
+    match terminal {
+        Terminal::Name(name) => {
             let is_method = is_method(marks.ahead);
             let name = name.copy()?;
-            evaluates(alloc, is_method, marks, name, next, pending, place, reading)
+            name_after_eval(alloc, is_method, marks, name, next, pending, place, reading)
         }
-        Sign::Word(word) => evaluates_word(alloc, *word, next, pending, place, reading),
+        Terminal::Word(word) => word_after_eval(alloc, *word, next, pending, place, reading),
         _ => {
             let mut pending = pending;
             evaluate(alloc, pending.get_mut(), place)?;
-            begins(alloc, sign, marks, next, pending, reading)
+            begin_operand(alloc, terminal, marks, next, pending, reading)
         }
     }
 }
@@ -144,13 +144,13 @@ fn due_open(
     match due {
         Due::LatestOpen => Ok(Some(Point::Function(Purpose::Latest(pending, place)))),
         Due::FetchOpen => {
-            let point = Point::Want(fresh(alloc, pending.get().returns)?);
-            inside(point, Frame::Fetch(pending, place), reading)
+            let point = Point::Want(no_pending(alloc, pending.get().returns)?);
+            push_frame(point, Frame::Fetch(pending, place), reading)
         }
         Due::PrintOpen(line) => {
             let point = Point::First(pending.get().returns);
-            let frame = Frame::Print(pending, place, line, none(alloc));
-            inside(point, frame, reading)
+            let frame = Frame::Print(pending, place, line, no_forms(alloc));
+            push_frame(point, frame, reading)
         }
         Due::QuoteOpen => Ok(Some(Point::Due(pending, place, Due::QuoteWord))),
         _ => Ok(None),
@@ -204,8 +204,8 @@ fn due_quote(
 {
     match due {
         Due::QuoteWord => {
-            let frame = Frame::Evals(EvalKind::Quote(pending, place), none(alloc));
-            inside(Point::Entry, frame, reading)
+            let frame = Frame::Evals(EvalKind::Quote(pending, place), no_forms(alloc));
+            push_frame(Point::Entry, frame, reading)
         }
         _ => Ok(None),
     }
@@ -214,20 +214,20 @@ fn due_quote(
 /// A token where a fixed token must stand.
 pub fn at_due(
     alloc: Global,
-    sign: &Sign,
+    terminal: &Terminal,
     pending: Owned<Pending>,
     place: u32,
     due: Due,
     reading: &mut Reading,
 ) -> Result<Option<Point>, AllocError>
-    ensures { IfOk result (λ p. state_at p reading.new ≡ at_due sign.now pending place due reading.old.stack reading.old.script) }
+    ensures { IfOk result (λ p. state_at p reading.new ≡ at_due terminal.now pending place due reading.old.stack reading.old.script) }
 {
-    match sign {
-        Sign::Operator(Operator::Dot) => due_dot(due, pending, place, reading),
-        Sign::Operator(Operator::OpenParen) => { due_open(alloc, due, pending, place, reading) }
-        Sign::Name(_) => due_name(due, pending, place, reading),
-        Sign::Macro(_) => due_macro(alloc, due, pending, place, reading),
-        Sign::Word(Word::Quote) => due_quote(alloc, due, pending, place, reading),
+    match terminal {
+        Terminal::Operator(Operator::Dot) => due_dot(due, pending, place, reading),
+        Terminal::Operator(Operator::OpenParen) => { due_open(alloc, due, pending, place, reading) }
+        Terminal::Name(_) => due_name(due, pending, place, reading),
+        Terminal::Macro(_) => due_macro(alloc, due, pending, place, reading),
+        Terminal::Word(Word::Quote) => due_quote(alloc, due, pending, place, reading),
         _ => Ok(None),
     }
 }

@@ -3,35 +3,35 @@
 ghost use Rattle.std.specs.Prelude.{◌≡◌, IfOk, Some};
 ghost use Rattle.jl_grammar.specs.Goes.{state_at};
 ghost use Rattle.jl_grammar.specs.Forms.{typed_param};
-ghost use Rattle.jl_grammar.specs.Machine.{left_ends, make_opens, type_ends, type_goes, param_ends, with_param, field_ends, with_field};
+ghost use Rattle.jl_grammar.specs.Machine.{token_after_left, open_make, token_after_type, type_step, token_after_param, with_param, token_after_field, with_field};
 
-use crate::declarations::{add_field, field_ends, header_ends};
-use crate::heads::{add_param, call_opens, param_ends};
+use crate::declarations::{add_field, end_header, token_after_field};
+use crate::heads::{add_param, open_call, token_after_param};
 use jl_grammar::owned::Owned;
 use jl_grammar::state::{Called, Fielding, Goal, Heading, Pending, Point, Reading, TypeForm};
 use jl_grammar::tree::Name;
-use jl_reader_forms::forms::{isa, sub, type_form};
-use jl_reader_forms::made::typed_param;
-use jl_reader_operands::follows::{compared, want_type};
+use jl_reader_forms::forms::{isa_expr, sub_expr, type_form};
+use jl_reader_forms::items::typed_param;
+use jl_reader_operands::after_operand::{token_after_comparison, want_type};
 use jl_token::token::Operator;
-use jl_typeread::sign::Sign;
 use jl_typeread::state::{State as TypeState, Turn};
+use jl_typeread::terminal::Terminal;
 use std::alloc::{AllocError, Global};
 use std::mem;
 
 /// A token behind the left type of a comparison.
-fn left_ends(
+fn token_after_left(
     alloc: Global,
-    sign: &Sign,
+    terminal: &Terminal,
     pending: Owned<Pending>,
     place: u32,
     ty: TypeForm,
     reading: &mut Reading,
 ) -> Result<Option<Point>, AllocError>
-    ensures { IfOk result (λ p. state_at p reading.new ≡ left_ends sign.now pending place ty reading.old.stack reading.old.script) }
+    ensures { IfOk result (λ p. state_at p reading.new ≡ token_after_left terminal.now pending place ty reading.old.stack reading.old.script) }
 {
-    match sign {
-        Sign::Operator(Operator::Subtype) => {
+    match terminal {
+        Terminal::Operator(Operator::Subtype) => {
             Ok(Some(want_type(alloc, Goal::Right(pending, place, ty))?))
         }
         _ => Ok(None),
@@ -39,99 +39,103 @@ fn left_ends(
 }
 
 /// A token behind a name with its braces.
-fn make_opens(
+fn open_make(
     alloc: Global,
-    sign: &Sign,
+    terminal: &Terminal,
     pending: Owned<Pending>,
     place: u32,
     ty: TypeForm,
     reading: &mut Reading,
 ) -> Result<Option<Point>, AllocError>
-    ensures { IfOk result (λ p. state_at p reading.new ≡ make_opens sign.now pending place ty reading.old.stack reading.old.script) }
+    ensures { IfOk result (λ p. state_at p reading.new ≡ open_make terminal.now pending place ty reading.old.stack reading.old.script) }
 {
-    match sign {
-        Sign::Operator(Operator::OpenParen) => {
-            call_opens(alloc, pending, place, Called::Type(ty), reading)
+    match terminal {
+        Terminal::Operator(Operator::OpenParen) => {
+            open_call(alloc, pending, place, Called::Type(ty), reading)
         }
         _ => Ok(None),
     }
 }
 
 /// A token behind the type of a parameter.
-fn param_typed(
-    sign: &Sign,
+fn end_typed_param(
+    terminal: &Terminal,
     heading: Owned<Heading>,
     name: Option<Name>,
     place: u32,
     ty: TypeForm,
     reading: &mut Reading,
 ) -> Result<Option<Point>, AllocError>
-    ensures { IfOk result (λ p. state_at p reading.new ≡ param_ends sign.now (with_param heading (typed_param name place ty) ty.depth) reading.old.stack reading.old.script) }
+    ensures { IfOk result (λ p. state_at p reading.new ≡ token_after_param terminal.now (with_param heading (typed_param name place ty) ty.depth) reading.old.stack reading.old.script) }
 {
     let depth = ty.depth;
     let mut heading = heading;
     add_param(heading.get_mut(), typed_param(name, place, ty), depth)?;
-    param_ends(sign, heading, reading)
+    token_after_param(terminal, heading, reading)
 }
 
 /// A token behind the type of a field.
-fn field_typed(
+fn end_typed_field(
     alloc: Global,
-    sign: &Sign,
+    terminal: &Terminal,
     fielding: Owned<Fielding>,
     name: Name,
     ty: TypeForm,
     reading: &mut Reading,
 ) -> Result<Option<Point>, AllocError>
-    ensures { IfOk result (λ p. state_at p reading.new ≡ field_ends sign.now (with_field fielding name (Some ty.tree) ty.depth) reading.old.stack reading.old.script) }
+    ensures { IfOk result (λ p. state_at p reading.new ≡ token_after_field terminal.now (with_field fielding name (Some ty.tree) ty.depth) reading.old.stack reading.old.script) }
 {
     let TypeForm { tree, depth } = ty;
     let mut fielding = fielding;
     add_field(fielding.get_mut(), name, Some(tree.take()), depth)?;
-    field_ends(alloc, sign, fielding, reading)
+    token_after_field(alloc, terminal, fielding, reading)
 }
 
 /// A token behind a type.
-fn type_ends(
+fn token_after_type(
     alloc: Global,
-    sign: &Sign,
+    terminal: &Terminal,
     next: u32,
     goal: Goal,
     ty: TypeForm,
     reading: &mut Reading,
 ) -> Result<Option<Point>, AllocError>
-    ensures { IfOk result (λ p. state_at p reading.new ≡ type_ends sign.now next goal ty reading.old.stack reading.old.script) }
+    ensures { IfOk result (λ p. state_at p reading.new ≡ token_after_type terminal.now next goal ty reading.old.stack reading.old.script) }
 {
     match goal {
         Goal::Isa(pending, e) => {
-            let e = isa(alloc, e, ty)?;
-            compared(alloc, sign, next, pending, e, reading)
+            let e = isa_expr(alloc, e, ty)?;
+            token_after_comparison(alloc, terminal, next, pending, e, reading)
         }
-        Goal::Left(pending, place) => left_ends(alloc, sign, pending, place, ty, reading),
+        Goal::Left(pending, place) => token_after_left(
+            alloc, terminal, pending, place, ty, reading,
+        ),
         Goal::Right(pending, place, left) => {
-            let e = sub(alloc, place, left, ty)?;
-            compared(alloc, sign, next, pending, e, reading)
+            let e = sub_expr(alloc, place, left, ty)?;
+            token_after_comparison(alloc, terminal, next, pending, e, reading)
         }
-        Goal::Make(pending, place) => make_opens(alloc, sign, pending, place, ty, reading),
+        Goal::Make(pending, place) => open_make(alloc, terminal, pending, place, ty, reading),
         Goal::Param(heading, name, place) => {
-            param_typed(sign, heading, name, place, ty, reading)
+            end_typed_param(terminal, heading, name, place, ty, reading)
         }
-        Goal::Parent(declaring) => { header_ends(alloc, sign, declaring, Some(ty), reading) }
-        Goal::Field(fielding, name) => { field_typed(alloc, sign, fielding, name, ty, reading) }
+        Goal::Parent(declaring) => { end_header(alloc, terminal, declaring, Some(ty), reading) }
+        Goal::Field(fielding, name) => {
+            end_typed_field(alloc, terminal, fielding, name, ty, reading)
+        }
     }
 }
 
 /// What a token is to a type.
-pub fn type_goes(
+pub fn type_step(
     alloc: Global,
     turn: Turn,
-    sign: &Sign,
+    terminal: &Terminal,
     next: u32,
     goal: Owned<Goal>,
     state: Owned<TypeState>,
     reading: &mut Reading,
 ) -> Result<Option<Point>, AllocError>
-    ensures { IfOk result (λ p. state_at p reading.new ≡ type_goes turn sign.now next goal reading.old.stack reading.old.script) }
+    ensures { IfOk result (λ p. state_at p reading.new ≡ type_step turn terminal.now next goal reading.old.stack reading.old.script) }
 {
     match turn {
         Turn::Goes(next) => {
@@ -141,7 +145,7 @@ pub fn type_goes(
         }
         Turn::Type(ty) => {
             let ty = type_form(alloc, ty)?;
-            type_ends(alloc, sign, next, goal.take(), ty, reading)
+            token_after_type(alloc, terminal, next, goal.take(), ty, reading)
         }
         turn => {
             drop(turn);

@@ -2,38 +2,38 @@
 
 ghost use Rattle.std.specs.Prelude.{◌≡◌, IfOk};
 ghost use Rattle.jl_grammar.specs.Goes.{state_at};
-ghost use Rattle.jl_grammar.specs.Levels.{fresh};
-ghost use Rattle.jl_grammar.specs.Turns.{begins, first_closes, strings, at_first, again_closes, at_again, at_piece, text_closes, text_comma, at_texted, at_dot, at_index, at_indexed, at_quoted};
+ghost use Rattle.jl_grammar.specs.Levels.{no_pending};
+ghost use Rattle.jl_grammar.specs.Turns.{begin_operand, close_first, push_string, at_first, close_again, at_again, at_piece, close_text, text_comma, at_texted, at_dot, at_index, at_indexed, at_quoted};
 
-use crate::operands::begins;
+use crate::operands::begin_operand;
 use jl_grammar::mark::Marks;
 use jl_grammar::owned::Owned;
 use jl_grammar::state::{Form, Frame, Pending, Point, Reading};
 use jl_grammar::tree::Expr;
 use jl_model::ty::Bytes;
-use jl_reader_forms::blocks::{inside, placed};
-use jl_reader_forms::forms::{called, field, none, part, printed, tuple, with_text};
-use jl_reader_forms::levels::fresh;
+use jl_reader_forms::blocks::{name_at, push_frame};
+use jl_reader_forms::forms::{call_expr, field, no_forms, part, print_expr, tuple, with_text};
+use jl_reader_forms::levels::no_pending;
 use jl_token::token::Operator;
-use jl_typeread::sign::Sign;
+use jl_typeread::terminal::Terminal;
 use std::alloc::{AllocError, Global};
 
 /// `)` behind a bracket that may be empty.
 #[inline(always)]
-fn first_closes(alloc: Global, reading: &mut Reading) -> Result<Option<Point>, AllocError>
-    ensures { IfOk result (λ p. state_at p reading.new ≡ first_closes reading.old.stack reading.old.script) }
+fn close_first(alloc: Global, reading: &mut Reading) -> Result<Option<Point>, AllocError>
+    ensures { IfOk result (λ p. state_at p reading.new ≡ close_first reading.old.stack reading.old.script) }
 {
     match reading.stack.pop() {
         Some(Frame::Paren(pending, place)) => {
-            let e = tuple(alloc, place, none(alloc))?;
+            let e = tuple(alloc, place, no_forms(alloc))?;
             Ok(Some(Point::Have(pending, e)))
         }
         Some(Frame::Args(pending, place, function, arguments)) => {
-            let e = called(alloc, place, function.take(), arguments)?;
+            let e = call_expr(alloc, place, function.take(), arguments)?;
             Ok(Some(Point::Have(pending, e)))
         }
         Some(Frame::Print(pending, place, line, pieces)) => {
-            let e = printed(alloc, place, line, pieces)?;
+            let e = print_expr(alloc, place, line, pieces)?;
             Ok(Some(Point::Have(pending, e)))
         }
         Some(frame) => {
@@ -45,14 +45,14 @@ fn first_closes(alloc: Global, reading: &mut Reading) -> Result<Option<Point>, A
 }
 
 /// A string.
-fn strings(place: u32, text: Bytes, reading: &mut Reading) -> Result<Option<Point>, AllocError>
-    ensures { IfOk result (λ p. state_at p reading.new ≡ strings place text reading.old.stack reading.old.script) }
+fn push_string(place: u32, text: Bytes, reading: &mut Reading) -> Result<Option<Point>, AllocError>
+    ensures { IfOk result (λ p. state_at p reading.new ≡ push_string place text reading.old.stack reading.old.script) }
 {
     match reading.stack.pop() {
         Some(Frame::Print(pending, start, line, pieces)) => {
             let pieces = with_text(pieces, place, text)?;
             let frame = Frame::Print(pending, start, line, pieces);
-            inside(Point::Texted, frame, reading)
+            push_frame(Point::Texted, frame, reading)
         }
         Some(frame) => {
             drop(frame);
@@ -64,45 +64,45 @@ fn strings(place: u32, text: Bytes, reading: &mut Reading) -> Result<Option<Poin
 
 /// An operand begins between brackets, or behind a comma in them.
 #[inline(always)]
-fn begins_first(
+fn begin_first(
     alloc: Global,
-    sign: &Sign,
+    terminal: &Terminal,
     marks: Marks,
     place: u32,
     returns: bool,
     reading: &mut Reading,
 ) -> Result<Option<Point>, AllocError>
-    ensures { IfOk result (λ p. state_at p reading.new ≡ begins sign.now marks place (fresh returns) reading.old.stack reading.old.script) }
+    ensures { IfOk result (λ p. state_at p reading.new ≡ begin_operand terminal.now marks place (no_pending returns) reading.old.stack reading.old.script) }
 {
-    let pending = fresh(alloc, returns)?;
-    begins(alloc, sign, marks, place, pending, reading)
+    let pending = no_pending(alloc, returns)?;
+    begin_operand(alloc, terminal, marks, place, pending, reading)
 }
 
 /// A token directly behind a bracket that may be empty.
 #[inline(always)]
 pub fn at_first(
     alloc: Global,
-    sign: &Sign,
+    terminal: &Terminal,
     marks: Marks,
     place: u32,
     returns: bool,
     reading: &mut Reading,
 ) -> Result<Option<Point>, AllocError>
-    ensures { IfOk result (λ p. state_at p reading.new ≡ at_first sign.now marks place returns reading.old.stack reading.old.script) }
+    ensures { IfOk result (λ p. state_at p reading.new ≡ at_first terminal.now marks place returns reading.old.stack reading.old.script) }
 {
-    match sign {
-        Sign::Operator(operator) => match operator {
-            Operator::CloseParen => first_closes(alloc, reading),
-            _ => begins_first(alloc, sign, marks, place, returns, reading),
+    match terminal {
+        Terminal::Operator(operator) => match operator {
+            Operator::CloseParen => close_first(alloc, reading),
+            _ => begin_first(alloc, terminal, marks, place, returns, reading),
         },
-        Sign::Text(text) => strings(place, text.copy()?, reading),
-        _ => begins_first(alloc, sign, marks, place, returns, reading),
+        Terminal::Text(text) => push_string(place, text.copy()?, reading),
+        _ => begin_first(alloc, terminal, marks, place, returns, reading),
     }
 }
 
 /// `)` behind the comma after a tuple's only part.
-fn again_closes(alloc: Global, reading: &mut Reading) -> Result<Option<Point>, AllocError>
-    ensures { IfOk result (λ p. state_at p reading.new ≡ again_closes reading.old.stack reading.old.script) }
+fn close_again(alloc: Global, reading: &mut Reading) -> Result<Option<Point>, AllocError>
+    ensures { IfOk result (λ p. state_at p reading.new ≡ close_again reading.old.stack reading.old.script) }
 {
     match reading.stack.pop() {
         Some(Frame::Tuple(pending, place, parts)) => {
@@ -121,47 +121,47 @@ fn again_closes(alloc: Global, reading: &mut Reading) -> Result<Option<Point>, A
 #[inline(always)]
 pub fn at_again(
     alloc: Global,
-    sign: &Sign,
+    terminal: &Terminal,
     marks: Marks,
     place: u32,
     returns: bool,
     reading: &mut Reading,
 ) -> Result<Option<Point>, AllocError>
-    ensures { IfOk result (λ p. state_at p reading.new ≡ at_again sign.now marks place returns reading.old.stack reading.old.script) }
+    ensures { IfOk result (λ p. state_at p reading.new ≡ at_again terminal.now marks place returns reading.old.stack reading.old.script) }
 {
-    match sign {
-        Sign::Operator(operator) => match operator {
-            Operator::CloseParen => again_closes(alloc, reading),
-            _ => begins_first(alloc, sign, marks, place, returns, reading),
+    match terminal {
+        Terminal::Operator(operator) => match operator {
+            Operator::CloseParen => close_again(alloc, reading),
+            _ => begin_first(alloc, terminal, marks, place, returns, reading),
         },
-        _ => begins_first(alloc, sign, marks, place, returns, reading),
+        _ => begin_first(alloc, terminal, marks, place, returns, reading),
     }
 }
 
 /// A token where a piece of a `print` must stand.
 pub fn at_piece(
     alloc: Global,
-    sign: &Sign,
+    terminal: &Terminal,
     marks: Marks,
     place: u32,
     returns: bool,
     reading: &mut Reading,
 ) -> Result<Option<Point>, AllocError>
-    ensures { IfOk result (λ p. state_at p reading.new ≡ at_piece sign.now marks place returns reading.old.stack reading.old.script) }
+    ensures { IfOk result (λ p. state_at p reading.new ≡ at_piece terminal.now marks place returns reading.old.stack reading.old.script) }
 {
-    match sign {
-        Sign::Text(text) => strings(place, text.copy()?, reading),
-        _ => begins_first(alloc, sign, marks, place, returns, reading),
+    match terminal {
+        Terminal::Text(text) => push_string(place, text.copy()?, reading),
+        _ => begin_first(alloc, terminal, marks, place, returns, reading),
     }
 }
 
 /// `)` behind a string.
-fn text_closes(alloc: Global, reading: &mut Reading) -> Result<Option<Point>, AllocError>
-    ensures { IfOk result (λ p. state_at p reading.new ≡ text_closes reading.old.stack reading.old.script) }
+fn close_text(alloc: Global, reading: &mut Reading) -> Result<Option<Point>, AllocError>
+    ensures { IfOk result (λ p. state_at p reading.new ≡ close_text reading.old.stack reading.old.script) }
 {
     match reading.stack.pop() {
         Some(Frame::Print(pending, place, line, pieces)) => {
-            let e = printed(alloc, place, line, pieces)?;
+            let e = print_expr(alloc, place, line, pieces)?;
             Ok(Some(Point::Have(pending, e)))
         }
         Some(frame) => {
@@ -180,7 +180,7 @@ fn text_comma(reading: &mut Reading) -> Result<Option<Point>, AllocError>
         Some(Frame::Print(pending, place, line, pieces)) => {
             let point = Point::Piece(pending.get().returns);
             let frame = Frame::Print(pending, place, line, pieces);
-            inside(point, frame, reading)
+            push_frame(point, frame, reading)
         }
         Some(frame) => {
             drop(frame);
@@ -193,14 +193,14 @@ fn text_comma(reading: &mut Reading) -> Result<Option<Point>, AllocError>
 /// A token directly behind a string.
 pub fn at_texted(
     alloc: Global,
-    sign: &Sign,
+    terminal: &Terminal,
     reading: &mut Reading,
 ) -> Result<Option<Point>, AllocError>
-    ensures { IfOk result (λ p. state_at p reading.new ≡ at_texted sign.now reading.old.stack reading.old.script) }
+    ensures { IfOk result (λ p. state_at p reading.new ≡ at_texted terminal.now reading.old.stack reading.old.script) }
 {
-    match sign {
-        Sign::Operator(Operator::CloseParen) => text_closes(alloc, reading),
-        Sign::Operator(Operator::Comma) => text_comma(reading),
+    match terminal {
+        Terminal::Operator(Operator::CloseParen) => close_text(alloc, reading),
+        Terminal::Operator(Operator::Comma) => text_comma(reading),
         _ => Ok(None),
     }
 }
@@ -208,17 +208,17 @@ pub fn at_texted(
 /// A token behind the dot of an operand.
 pub fn at_dot(
     alloc: Global,
-    sign: &Sign,
+    terminal: &Terminal,
     place: u32,
     pending: Owned<Pending>,
     e: Form<Expr>,
     reading: &mut Reading,
 ) -> Result<Option<Point>, AllocError>
-    ensures { IfOk result (λ p. state_at p reading.new ≡ at_dot sign.now place pending e reading.old.stack reading.old.script) }
+    ensures { IfOk result (λ p. state_at p reading.new ≡ at_dot terminal.now place pending e reading.old.stack reading.old.script) }
 {
-    match sign {
-        Sign::Name(bytes) => {
-            let e = field(alloc, e, placed(place, bytes.copy()?))?;
+    match terminal {
+        Terminal::Name(bytes) => {
+            let e = field(alloc, e, name_at(place, bytes.copy()?))?;
             Ok(Some(Point::Have(pending, e)))
         }
         _ => Ok(None),
@@ -227,15 +227,15 @@ pub fn at_dot(
 
 /// A token behind `[`.
 pub fn at_index(
-    sign: &Sign,
+    terminal: &Terminal,
     pending: Owned<Pending>,
     e: Form<Expr>,
     reading: &mut Reading,
 ) -> Option<Point>
-    ensures { state_at result reading.new ≡ at_index sign.now pending e reading.old.stack reading.old.script }
+    ensures { state_at result reading.new ≡ at_index terminal.now pending e reading.old.stack reading.old.script }
 {
-    match sign {
-        Sign::Number(number) if *number >= 1 => { Some(Point::Indexed(pending, e, *number)) }
+    match terminal {
+        Terminal::Number(number) if *number >= 1 => { Some(Point::Indexed(pending, e, *number)) }
         _ => None,
     }
 }
@@ -243,16 +243,16 @@ pub fn at_index(
 /// A token behind the number in `[ ]`.
 pub fn at_indexed(
     alloc: Global,
-    sign: &Sign,
+    terminal: &Terminal,
     pending: Owned<Pending>,
     e: Form<Expr>,
     number: i64,
     reading: &mut Reading,
 ) -> Result<Option<Point>, AllocError>
-    ensures { IfOk result (λ p. state_at p reading.new ≡ at_indexed sign.now pending e number reading.old.stack reading.old.script) }
+    ensures { IfOk result (λ p. state_at p reading.new ≡ at_indexed terminal.now pending e number reading.old.stack reading.old.script) }
 {
-    match sign {
-        Sign::Operator(Operator::CloseBracket) => {
+    match terminal {
+        Terminal::Operator(Operator::CloseBracket) => {
             let e = part(alloc, e, number)?;
             Ok(Some(Point::Have(pending, e)))
         }
@@ -262,15 +262,15 @@ pub fn at_indexed(
 
 /// The token that ends `eval(quote .. end`.
 pub fn at_quoted(
-    sign: &Sign,
+    terminal: &Terminal,
     pending: Owned<Pending>,
     e: Form<Expr>,
     reading: &mut Reading,
 ) -> Option<Point>
-    ensures { state_at result reading.new ≡ at_quoted sign.now pending e reading.old.stack reading.old.script }
+    ensures { state_at result reading.new ≡ at_quoted terminal.now pending e reading.old.stack reading.old.script }
 {
-    match sign {
-        Sign::Operator(Operator::CloseParen) => Some(Point::Have(pending, e)),
+    match terminal {
+        Terminal::Operator(Operator::CloseParen) => Some(Point::Have(pending, e)),
         _ => None,
     }
 }

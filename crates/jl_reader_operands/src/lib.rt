@@ -5,7 +5,7 @@
 //! where the token is wrong. The rest of the reading is changed where it is. The one error is want of memory.
 #![tactic(auto)]
 
+mod after_expr;
+pub mod after_operand;
 pub mod brackets;
-mod closes;
-pub mod follows;
 pub mod operands;

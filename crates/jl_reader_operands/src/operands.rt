@@ -3,22 +3,22 @@
 ghost use Rattle.std.specs.Prelude.{◌≡◌, IfOk, bytes_eq, codes};
 ghost use Rattle.jl_grammar.specs.Goes.{state_at};
 ghost use Rattle.jl_grammar.specs.Forms.{name, truth, nothing, number};
-ghost use Rattle.jl_grammar.specs.Levels.{leads};
-ghost use Rattle.jl_grammar.specs.Texts.{begins_type};
-ghost use Rattle.jl_grammar.specs.Turns.{at, type_turn, type_begins, opens, names, brackets, prefixes, begins_operator, begins_word, macros, begins};
+ghost use Rattle.jl_grammar.specs.Levels.{is_comparison_start};
+ghost use Rattle.jl_grammar.specs.Texts.{is_left_type};
+ghost use Rattle.jl_grammar.specs.Turns.{at, type_turn, first_of_type, begin_opening, begin_name, begin_paren, begin_prefix, begin_operator, begin_word, begin_macro, begin_operand};
 
-use crate::follows::type_start;
+use crate::after_operand::type_start;
 use jl_grammar::mark::{Ahead, Marks, Opening};
 use jl_grammar::owned::Owned;
 use jl_grammar::state::{BlockKind, Due, Frame, Goal, Pending, Point, PrefixAt, Purpose, Reading};
 use jl_grammar::tree::Prefix;
 use jl_model::ty::Bytes;
-use jl_reader_forms::blocks::{inside, placed};
-use jl_reader_forms::forms::{name, no_branches, none, nothing, number, truth};
-use jl_reader_forms::levels::{behind_prefix, fresh, leads};
+use jl_reader_forms::blocks::{name_at, push_frame};
+use jl_reader_forms::forms::{name, no_branches, no_forms, nothing, number, truth};
+use jl_reader_forms::levels::{is_comparison_start, levels_after_prefix, no_pending};
 use jl_token::token::Operator;
-use jl_typeread::sign::{Lexeme, Sign, Word};
 use jl_typeread::state::Turn;
+use jl_typeread::terminal::{Lexeme, Terminal, Word};
 use jl_typeread::turns::step;
 use std::alloc::{AllocError, Global};
 
@@ -43,16 +43,19 @@ fn type_turn(
 
 /// The first token of a type.
 #[inline(always)]
-fn type_begins(
+fn first_of_type(
     alloc: Global,
-    sign: Sign,
+    terminal: Terminal,
     place: u32,
     goal: Goal,
     reading: &mut Reading,
 ) -> Result<Option<Point>, AllocError>
-    ensures { IfOk result (λ p. state_at p reading.new ≡ type_begins sign place goal reading.old.stack reading.old.script) }
+    ensures { IfOk result (λ p. state_at p reading.new ≡ first_of_type terminal place goal reading.old.stack reading.old.script) }
 {
-    let lexeme = Lexeme { sign, at: place };
+    let lexeme = Lexeme {
+        terminal,
+        at: place,
+    };
     let goal = Owned::new(alloc, goal)?;
     let turn = step(alloc, &lexeme, type_start(alloc))?;
     type_turn(alloc, turn, goal, reading)
@@ -60,7 +63,7 @@ fn type_begins(
 
 /// A form whose fixed tokens follow.
 #[inline(always)]
-fn due(
+fn push_due(
     pending: Owned<Pending>,
     place: u32,
     due: Due,
@@ -88,7 +91,7 @@ fn name_alone(
 
 /// A name begins an operand.
 #[inline(always)]
-fn opens(
+fn begin_opening(
     alloc: Global,
     opening: Opening,
     bytes: Bytes,
@@ -96,33 +99,33 @@ fn opens(
     pending: Owned<Pending>,
     reading: &mut Reading,
 ) -> Result<Option<Point>, AllocError>
-    ensures { IfOk result (λ p. state_at p reading.new ≡ opens opening bytes place pending reading.old.stack reading.old.script) }
+    ensures { IfOk result (λ p. state_at p reading.new ≡ begin_opening opening bytes place pending reading.old.stack reading.old.script) }
 {
     match opening {
         Opening::Plain => name_alone(alloc, bytes, place, pending, reading),
         Opening::Binding => name_alone(alloc, bytes, place, pending, reading),
         Opening::Call => {
             let purpose = Purpose::Call(pending, place);
-            Ok(Some(Point::Named(purpose, placed(place, bytes))))
+            Ok(Some(Point::Named(purpose, name_at(place, bytes))))
         }
         Opening::Make => {
             let goal = Goal::Make(pending, place);
-            type_begins(alloc, Sign::Name(bytes), place, goal, reading)
+            first_of_type(alloc, Terminal::Name(bytes), place, goal, reading)
         }
-        Opening::Latest => due(pending, place, Due::LatestDot, reading),
-        Opening::Spawn => due(pending, place, Due::SpawnDot, reading),
-        Opening::Quote => due(pending, place, Due::QuoteOpen, reading),
-        Opening::Fetch => due(pending, place, Due::FetchOpen, reading),
-        Opening::Print => due(pending, place, Due::PrintOpen(false), reading),
-        Opening::Println => due(pending, place, Due::PrintOpen(true), reading),
+        Opening::Latest => push_due(pending, place, Due::LatestDot, reading),
+        Opening::Spawn => push_due(pending, place, Due::SpawnDot, reading),
+        Opening::Quote => push_due(pending, place, Due::QuoteOpen, reading),
+        Opening::Fetch => push_due(pending, place, Due::FetchOpen, reading),
+        Opening::Print => push_due(pending, place, Due::PrintOpen(false), reading),
+        Opening::Println => push_due(pending, place, Due::PrintOpen(true), reading),
     }
 }
 
 /// Whether the left type of a comparison begins at the operand.
-fn begins_type(pending: &Pending, ahead: Ahead) -> bool
-    ensures { result ≡ begins_type (leads pending.now.levels) ahead }
+fn is_left_type(pending: &Pending, ahead: Ahead) -> bool
+    ensures { result ≡ is_left_type (is_comparison_start pending.now.levels) ahead }
 {
-    if !leads(&pending.levels) {
+    if !is_comparison_start(&pending.levels) {
         return false;
     }
     match ahead {
@@ -133,7 +136,7 @@ fn begins_type(pending: &Pending, ahead: Ahead) -> bool
 
 /// A name begins an operand, or the left type of a comparison.
 #[inline(always)]
-pub fn names(
+pub fn begin_name(
     alloc: Global,
     marks: Marks,
     bytes: Bytes,
@@ -141,53 +144,53 @@ pub fn names(
     pending: Owned<Pending>,
     reading: &mut Reading,
 ) -> Result<Option<Point>, AllocError>
-    ensures { IfOk result (λ p. state_at p reading.new ≡ names (begins_type (leads pending.levels) marks.ahead) marks.opening bytes place pending reading.old.stack reading.old.script) }
+    ensures { IfOk result (λ p. state_at p reading.new ≡ begin_name (is_left_type (is_comparison_start pending.levels) marks.ahead) marks.opening bytes place pending reading.old.stack reading.old.script) }
 {
-    if begins_type(pending.get(), marks.ahead) {
+    if is_left_type(pending.get(), marks.ahead) {
         let goal = Goal::Left(pending, place);
-        return type_begins(alloc, Sign::Name(bytes), place, goal, reading);
+        return first_of_type(alloc, Terminal::Name(bytes), place, goal, reading);
     }
-    opens(alloc, marks.opening, bytes, place, pending, reading)
+    begin_opening(alloc, marks.opening, bytes, place, pending, reading)
 }
 
 /// `(` begins an operand, or the left type of a comparison.
 #[inline(always)]
-fn brackets(
+fn begin_paren(
     alloc: Global,
     ahead: Ahead,
     place: u32,
     pending: Owned<Pending>,
     reading: &mut Reading,
 ) -> Result<Option<Point>, AllocError>
-    ensures { IfOk result (λ p. state_at p reading.new ≡ brackets (begins_type (leads pending.levels) ahead) place pending reading.old.stack reading.old.script) }
+    ensures { IfOk result (λ p. state_at p reading.new ≡ begin_paren (is_left_type (is_comparison_start pending.levels) ahead) place pending reading.old.stack reading.old.script) }
 {
-    if begins_type(pending.get(), ahead) {
+    if is_left_type(pending.get(), ahead) {
         let goal = Goal::Left(pending, place);
-        let sign = Sign::Operator(Operator::OpenParen);
-        return type_begins(alloc, sign, place, goal, reading);
+        let terminal = Terminal::Operator(Operator::OpenParen);
+        return first_of_type(alloc, terminal, place, goal, reading);
     }
     let point = Point::First(pending.get().returns);
-    inside(point, Frame::Paren(pending, place), reading)
+    push_frame(point, Frame::Paren(pending, place), reading)
 }
 
 /// An operator before its operand.
 #[inline(always)]
-fn prefixes(
+fn begin_prefix(
     place: u32,
     prefix: Prefix,
     pending: Owned<Pending>,
     reading: &mut Reading,
 ) -> Result<Option<Point>, AllocError>
-    ensures { IfOk result (λ p. state_at p reading.new ≡ prefixes place prefix pending reading.old.stack reading.old.script) }
+    ensures { IfOk result (λ p. state_at p reading.new ≡ begin_prefix place prefix pending reading.old.stack reading.old.script) }
 {
     let mut pending = pending;
-    behind_prefix(PrefixAt { at: place, prefix }, pending.get_mut())?;
+    levels_after_prefix(PrefixAt { at: place, prefix }, pending.get_mut())?;
     Ok(Some(Point::Want(pending)))
 }
 
 /// An operator or another mark begins an operand.
 #[inline(always)]
-pub fn begins_operator(
+pub fn begin_operator(
     alloc: Global,
     operator: Operator,
     ahead: Ahead,
@@ -195,12 +198,12 @@ pub fn begins_operator(
     pending: Owned<Pending>,
     reading: &mut Reading,
 ) -> Result<Option<Point>, AllocError>
-    ensures { IfOk result (λ p. state_at p reading.new ≡ begins_operator operator ahead place pending reading.old.stack reading.old.script) }
+    ensures { IfOk result (λ p. state_at p reading.new ≡ begin_operator operator ahead place pending reading.old.stack reading.old.script) }
 {
     match operator {
-        Operator::OpenParen => brackets(alloc, ahead, place, pending, reading),
-        Operator::Minus => prefixes(place, Prefix::Minus, pending, reading),
-        Operator::Not => prefixes(place, Prefix::Not, pending, reading),
+        Operator::OpenParen => begin_paren(alloc, ahead, place, pending, reading),
+        Operator::Minus => begin_prefix(place, Prefix::Minus, pending, reading),
+        Operator::Not => begin_prefix(place, Prefix::Not, pending, reading),
         _ => {
             drop(pending);
             Ok(None)
@@ -209,34 +212,34 @@ pub fn begins_operator(
 }
 
 /// `if` begins an operand.
-fn tests(
+fn begin_if(
     alloc: Global,
     place: u32,
     pending: Owned<Pending>,
     reading: &mut Reading,
 ) -> Result<Option<Point>, AllocError>
-    ensures { IfOk result (λ p. state_at p reading.new ≡ begins_word Word.If place pending reading.old.stack reading.old.script) }
+    ensures { IfOk result (λ p. state_at p reading.new ≡ begin_word Word.If place pending reading.old.stack reading.old.script) }
 {
-    let point = Point::Want(fresh(alloc, pending.get().returns)?);
+    let point = Point::Want(no_pending(alloc, pending.get().returns)?);
     let frame = Frame::Test(pending, place, no_branches(alloc), place);
-    inside(point, frame, reading)
+    push_frame(point, frame, reading)
 }
 
 /// `begin` begins an operand.
-fn blocks(
+fn begin_block(
     alloc: Global,
     place: u32,
     pending: Owned<Pending>,
     reading: &mut Reading,
 ) -> Result<Option<Point>, AllocError>
-    ensures { IfOk result (λ p. state_at p reading.new ≡ begins_word Word.Begin place pending reading.old.stack reading.old.script) }
+    ensures { IfOk result (λ p. state_at p reading.new ≡ begin_word Word.Begin place pending reading.old.stack reading.old.script) }
 {
     let kind = Owned::new(alloc, BlockKind::Begin(pending, place))?;
-    inside(Point::Entry, Frame::Block(kind, none(alloc)), reading)
+    push_frame(Point::Entry, Frame::Block(kind, no_forms(alloc)), reading)
 }
 
 /// `true` or `false` is an operand.
-fn truths(
+fn push_truth(
     alloc: Global,
     value: bool,
     place: u32,
@@ -250,7 +253,7 @@ fn truths(
 }
 
 /// `nothing` is an operand.
-fn nothings(
+fn push_nothing(
     alloc: Global,
     place: u32,
     pending: Owned<Pending>,
@@ -263,21 +266,21 @@ fn nothings(
 }
 
 /// A reserved word begins an operand.
-pub fn begins_word(
+pub fn begin_word(
     alloc: Global,
     word: Word,
     place: u32,
     pending: Owned<Pending>,
     reading: &mut Reading,
 ) -> Result<Option<Point>, AllocError>
-    ensures { IfOk result (λ p. state_at p reading.new ≡ begins_word word place pending reading.old.stack reading.old.script) }
+    ensures { IfOk result (λ p. state_at p reading.new ≡ begin_word word place pending reading.old.stack reading.old.script) }
 {
     match word {
-        Word::True => truths(alloc, true, place, pending, reading),
-        Word::False => truths(alloc, false, place, pending, reading),
-        Word::Nothing => nothings(alloc, place, pending, reading),
-        Word::If => tests(alloc, place, pending, reading),
-        Word::Begin => blocks(alloc, place, pending, reading),
+        Word::True => push_truth(alloc, true, place, pending, reading),
+        Word::False => push_truth(alloc, false, place, pending, reading),
+        Word::Nothing => push_nothing(alloc, place, pending, reading),
+        Word::If => begin_if(alloc, place, pending, reading),
+        Word::Begin => begin_block(alloc, place, pending, reading),
         _ => {
             drop(pending);
             Ok(None)
@@ -287,13 +290,13 @@ pub fn begins_word(
 
 /// A macro word begins an operand.
 #[inline(always)]
-fn macros(
+fn begin_macro(
     bytes: &Bytes,
     place: u32,
     pending: Owned<Pending>,
     reading: &mut Reading,
 ) -> Result<Option<Point>, AllocError>
-    ensures { IfOk result (λ p. state_at p reading.new ≡ macros (bytes_eq bytes.now (codes "eval")) place pending reading.old.stack reading.old.script) }
+    ensures { IfOk result (λ p. state_at p reading.new ≡ begin_macro (bytes_eq bytes.now (codes "eval")) place pending reading.old.stack reading.old.script) }
 {
     if bytes.as_slice() == b"eval".as_slice() {
         return Ok(Some(Point::AfterEval(pending, place)));
@@ -304,7 +307,7 @@ fn macros(
 
 /// A number is an operand.
 #[inline(always)]
-fn numbers(
+fn push_number(
     alloc: Global,
     value: i64,
     place: u32,
@@ -318,24 +321,24 @@ fn numbers(
 }
 
 /// An operand begins.
-pub fn begins(
+pub fn begin_operand(
     alloc: Global,
-    sign: &Sign,
+    terminal: &Terminal,
     marks: Marks,
     place: u32,
     pending: Owned<Pending>,
     reading: &mut Reading,
 ) -> Result<Option<Point>, AllocError>
-    ensures { IfOk result (λ p. state_at p reading.new ≡ begins sign.now marks place pending reading.old.stack reading.old.script) }
+    ensures { IfOk result (λ p. state_at p reading.new ≡ begin_operand terminal.now marks place pending reading.old.stack reading.old.script) }
 {
-    match sign {
-        Sign::Name(bytes) => names(alloc, marks, bytes.copy()?, place, pending, reading),
-        Sign::Number(value) => numbers(alloc, *value, place, pending, reading),
-        Sign::Word(word) => begins_word(alloc, *word, place, pending, reading),
-        Sign::Operator(operator) => {
-            begins_operator(alloc, *operator, marks.ahead, place, pending, reading)
+    match terminal {
+        Terminal::Name(bytes) => begin_name(alloc, marks, bytes.copy()?, place, pending, reading),
+        Terminal::Number(value) => push_number(alloc, *value, place, pending, reading),
+        Terminal::Word(word) => begin_word(alloc, *word, place, pending, reading),
+        Terminal::Operator(operator) => {
+            begin_operator(alloc, *operator, marks.ahead, place, pending, reading)
         }
-        Sign::Macro(bytes) => macros(bytes, place, pending, reading),
+        Terminal::Macro(bytes) => begin_macro(bytes, place, pending, reading),
         _ => {
             drop(pending);
             Ok(None)

@@ -5,7 +5,7 @@ use Rattle.jl_grammar.specs.declared.tree.Script.{Script}
 use Rattle.jl_written.specs.declared.fault.Fault.{Fault}
 use Rattle.jl_written.specs.declared.fault.StaticKind.{StaticKind}
 use Rattle.jl_resolve_forms.specs.TypesIn.{Tests}
-use Rattle.jl_resolve_forms.specs.Top.{Resolved, resolved}
+use Rattle.jl_resolve_forms.specs.Top.{Resolved, resolve}
 use Rattle.jl_judge.specs.Right.{IsRight}
 use Rattle.jl_judge.proofs.OneLemmas.{one_tests}
 use Rattle.jl_declare.specs.Declarations.{Declaring}
@@ -14,7 +14,7 @@ use Rattle.jl_declare.proofs.OneResult.{one_result}
 use Rattle.jl_resolve.specs.Program.{ComesTo, IsProgramOf, IsFaultOf}
 
 abbrev Meaning : Script → Tests → Declaring → Resolved
-Meaning s t d = resolved t (known_of s.items d.decls) s.items d.fault
+Meaning s t d = resolve t (known_of s.items d.decls) s.items d.fault
 
 both : (s : Script) (P Q : Program) (o r : Option Fault) → ComesTo s P o → ComesTo s Q r → (let x : Resolved = record { program = P; fault = o } in x) ≡ record { program = Q; fault = r }
 both s P Q o r a b =

@@ -5,7 +5,7 @@ use Rattle.jl_grammar.specs.declared.tree.Script.{Script}
 use Rattle.jl_written.specs.declared.fault.StaticKind.{StaticKind}
 use Rattle.jl_written.specs.declared.fault.Fault.{Fault}
 use Rattle.jl_resolve_forms.specs.TypesIn.{Tests}
-use Rattle.jl_resolve_forms.specs.Top.{resolved}
+use Rattle.jl_resolve_forms.specs.Top.{resolve}
 use Rattle.jl_judge.specs.Right.{IsRight}
 use Rattle.jl_declare.specs.Declarations.{Declaring, Declares, no_declaration}
 use Rattle.jl_declare.specs.Script.{known_of}
@@ -19,7 +19,7 @@ pub record ComesTo (s : Script) (P : Program) (o : Option Fault) : Type 0 where
   pub declares : Declares s.items no_declaration declaring
   pub tests : Tests
   pub right : IsRight (take declaring.allowed declaring.decls) tests
-  pub is : resolved tests (known_of s.items declaring.decls) s.items declaring.fault ≡ record { program = P; fault = o }
+  pub is : resolve tests (known_of s.items declaring.decls) s.items declaring.fault ≡ record { program = P; fault = o }
 
 -- the script is a program: it has no static fault
 abbrev pub IsProgramOf : Script → Program → Type 0

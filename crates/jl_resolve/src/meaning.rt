@@ -5,39 +5,39 @@ ghost use Rattle.jl_program.specs.Valid.{IsValid};
 ghost use Rattle.jl_formed.specs.Formed.{FormedScript};
 ghost use Rattle.jl_judge.specs.Right.{IsRight};
 ghost use Rattle.jl_resolve_forms.specs.TypesIn.{Tests};
-ghost use Rattle.jl_resolve_forms.specs.Top.{resolved};
+ghost use Rattle.jl_resolve_forms.specs.Top.{resolve};
 ghost use Rattle.jl_resolve_walk.specs.Steps.{resolved_as};
 ghost use Rattle.jl_resolve.specs.Program.{ComesTo, IsProgramOf, IsRefused};
 
 use crate::fault::StaticFault;
 use jl_declare::declarations::declarations;
-use jl_declare::known::known;
+use jl_declare::known::known_of;
 use jl_declare::state::Declarations;
 use jl_grammar::tree::{Item, Script};
-use jl_judge::{Kept, over, right};
+use jl_judge::{Kept, judge_over, law_judge_is_right};
 use jl_program::tree::Program;
 use jl_resolve_forms::known::Known;
 use jl_resolve_walk::program::Resolved;
-use jl_resolve_walk::top::resolved;
+use jl_resolve_walk::top::resolve;
 use jl_sig::Ready;
 use jl_types::Table;
 use jl_written::fault::Fault;
 use std::alloc::{AllocError, Global};
 
 /// What the items come to over the table of their declarations.
-fn resolved_over(
+fn resolve_over(
     alloc: Global,
     table: &Table,
     known: &Known,
     items: &[Item],
     fault: Option<Fault>,
 ) -> Result<Resolved, AllocError>
-    ensures { IfOk result (λ r. (t : Tests) × IsRight table.now t × (resolved_as r.program r.fault ≡ resolved t known.now items.now fault)) }
+    ensures { IfOk result (λ r. (t : Tests) × IsRight table.now t × (resolved_as r.program r.fault ≡ resolve t known.now items.now fault)) }
 {
-    let judge = over(table);
-    right(&judge);
+    let judge = judge_over(table);
+    law_judge_is_right(&judge);
     let kept = Kept::ask(alloc, &judge, table.count())?;
-    let resolved = resolved(alloc, &kept, known, items, fault);
+    let resolved = resolve(alloc, &kept, known, items, fault);
     drop(kept);
     let resolved = resolved?;
     Ok(resolved)
@@ -55,8 +55,8 @@ fn come_to(alloc: Global, script: &Script) -> Result<Resolved, AllocError>
         decls,
         fault,
     } = declarations(alloc, items)?;
-    let known = known(alloc, items, decls)?;
-    let resolved = resolved_over(alloc, &table, &known, items, fault);
+    let known = known_of(alloc, items, decls)?;
+    let resolved = resolve_over(alloc, &table, &known, items, fault);
     drop(known);
     table.valid();
     drop(table);

@@ -5,22 +5,22 @@ use Rattle.std.proofs.Math.Seq.{take-append_seam}
 use Rattle.jl_grammar.specs.declared.tree.Name.{Name}
 use Rattle.jl_resolve_forms.specs.declared.state.Scope.{Scope}
 use Rattle.jl_resolve_forms.specs.declared.state.State.{State}
-use Rattle.jl_resolve_forms.specs.Scopes.{with_slot, slotted, slot_of, clashing, bind}
+use Rattle.jl_resolve_forms.specs.Scopes.{with_slot, take_slot, slot_of, clashing, bind}
 use Rattle.jl_resolve_forms.specs.Expressions.{Says, binds, returns, does, all_said}
 
 abbrev with_slots : Scope → List (Option (List ℕ)) → Scope
 with_slots c more = record c { slots = c.slots ++ more }
 
-slotted_one : (n : Name) (c : Scope) (s : State) (o : Option ℕ) → (name : Option (List ℕ)) × ((slotted n c o s).value ≡ with_slot name c)
-slotted_one n c s None = (Some n.bytes, refl)
-slotted_one n c s (Some slot) = (None, refl)
+take_slot_one : (n : Name) (c : Scope) (s : State) (o : Option ℕ) → (name : Option (List ℕ)) × ((take_slot n c o s).value ≡ with_slot name c)
+take_slot_one n c s None = (Some n.bytes, refl)
+take_slot_one n c s (Some slot) = (None, refl)
 
 more_of : (xs : List Says) (c : Scope) (s : State) → (more : List (Option (List ℕ))) × ((all_said xs c s).value.1 ≡ with_slots c more)
 unfolding bind
 more_of [] c s = ([], ap (λ z. record c { slots = z }) (sym (append-nil c.slots)))
 more_of (binds n x ∷ xs) c s =
     let y = x c s in
-    let one = slotted_one n c (clashing n.at n.bytes y.after) (slot_of c.slots n.bytes) in
+    let one = take_slot_one n c (clashing n.at n.bytes y.after) (slot_of c.slots n.bytes) in
     let b = bind n c y.after in
     let rest = more_of xs b.value b.after in
     (one.0 ∷ rest.0, rest.1 ∙ ap (λ z. with_slots z rest.0) one.1 ∙ ap (λ z. record c { slots = z }) (append_assoc c.slots (one.0 ∷ []) rest.0))

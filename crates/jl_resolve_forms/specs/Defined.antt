@@ -27,8 +27,8 @@ own_name (C.Operator at o) = []
 abbrev pub Step : Type 0
 Step = List Name
 
-abbrev pub joined : List (List Name) → List Name
-joined xs = flat_map (λ x. x) xs
+abbrev pub join_names : List (List Name) → List Name
+join_names xs = flat_map (λ x. x) xs
 
 abbrev pub expr_step : Expr-F Step Step Step Step Step Step → List Name
 expr_step (F.Number at n) = []
@@ -36,9 +36,9 @@ expr_step (F.Bool at b) = []
 expr_step (F.Nothing at) = []
 expr_step (F.Name at n) = []
 expr_step (F.Paren at x) = x
-expr_step (F.Tuple at xs) = joined xs
-expr_step (F.Call at f xs) = joined xs
-expr_step (F.Make at ty xs) = joined xs
+expr_step (F.Tuple at xs) = join_names xs
+expr_step (F.Call at f xs) = join_names xs
+expr_step (F.Make at ty xs) = join_names xs
 expr_step (F.Field at x n) = x
 expr_step (F.Part at x n) = x
 expr_step (F.Prefix at o x) = x
@@ -46,20 +46,20 @@ expr_step (F.Infix at o a b) = a ++ b
 expr_step (F.Isa at x ty) = x
 expr_step (F.Sub at a b) = []
 expr_step (F.Choose at q a b) = q ++ a ++ b
-expr_step (F.If at bs) = joined bs
-expr_step (F.IfElse at bs ss) = joined bs ++ joined ss
-expr_step (F.Begin at ss) = joined ss
-expr_step (F.Latest at f xs) = joined xs
+expr_step (F.If at bs) = join_names bs
+expr_step (F.IfElse at bs ss) = join_names bs ++ join_names ss
+expr_step (F.Begin at ss) = join_names ss
+expr_step (F.Latest at f xs) = join_names xs
 expr_step (F.Spawn at x) = x
 expr_step (F.EvalMethod at m) = m
-expr_step (F.EvalBlock at xs) = joined xs
+expr_step (F.EvalBlock at xs) = join_names xs
 expr_step (F.EvalExpr at x) = x
-expr_step (F.EvalQuote at xs) = joined xs
+expr_step (F.EvalQuote at xs) = join_names xs
 expr_step (F.Fetch at x) = x
-expr_step (F.Print at line ps) = joined ps
+expr_step (F.Print at line ps) = join_names ps
 
 abbrev pub method_step : Method-F Step Step Step Step Step Step → List Name
-method_step (F.Long at h ss) = own_name h.callee ++ joined ss
+method_step (F.Long at h ss) = own_name h.callee ++ join_names ss
 method_step (F.Short at h x) = own_name h.callee ++ x
 
 abbrev pub stmt_step : Stmt-F Step Step Step Step Step Step → List Name
@@ -77,7 +77,7 @@ piece_step (F.Text at bytes) = []
 piece_step (F.Show x) = x
 
 abbrev pub branch_step : Branch-F Step Step Step Step Step Step → List Name
-branch_step b = b.test ++ joined b.block
+branch_step b = b.test ++ join_names b.block
 
 -- the names that the methods in an expression give to functions, evaluated ones included
 abbrev pub in_expr : Expr → List Name

@@ -57,10 +57,10 @@ use Rattle.jl_resolve_forms.specs.declared.state.SignatureRead.{SignatureRead}
 use Rattle.jl_resolve_forms.specs.declared.state.Signed.{Signed}
 use Rattle.jl_resolve_forms.specs.declared.state.State.{State}
 use Rattle.jl_resolve_forms.specs.Resolver.{Resolver, resolution, pure, modify, traverse, ◌>>=◌, ◌>>◌}
-use Rattle.jl_resolve_forms.specs.Scopes.{slot_of, note, noted, merged, with_slot, bind}
-use Rattle.jl_resolve_forms.specs.Functions.{place_of_callee, function_of, struct_named, called}
-use Rattle.jl_resolve_forms.specs.Parameters.{finds_parameters}
-use Rattle.jl_resolve_forms.specs.TypesIn.{Tests, declared_at, refusal, begins, one_type, body_written, made_at}
+use Rattle.jl_resolve_forms.specs.Scopes.{slot_of, note, note_if, merge_fault, with_slot, bind}
+use Rattle.jl_resolve_forms.specs.Functions.{place_of_callee, function_of, struct_named, callee_of}
+use Rattle.jl_resolve_forms.specs.Parameters.{has_usable_parameters_at}
+use Rattle.jl_resolve_forms.specs.TypesIn.{Tests, declared_at, refusal, start_of, one_type, type_in_body, make_at}
 
 -- ---- the parts of a form by what they mean
 
@@ -169,9 +169,9 @@ abbrev pub all_tried : List Tries → Scope → Resolver (List Arm)
 all_tried bs c = traverse (λ b. one_tried b c) bs
 
 -- an `elseif` is an `if` in the branch where it stands
-abbrev pub chained : List Arm → Code → Code
-chained [] e = e
-chained (a ∷ as_) e = X.If a.test a.then (chained as_ e)
+abbrev pub chain_arms : List Arm → Code → Code
+chain_arms [] e = e
+chain_arms (a ∷ as_) e = X.If a.test a.then (chain_arms as_ e)
 
 -- ---- forms
 
@@ -209,13 +209,13 @@ infix_code N.Divide x y = X.Call DIV (x ∷ y ∷ [])
 infix_code N.Remainder x y = X.Call REM (x ∷ y ∷ [])
 
 -- a counted call has at most 8 arguments
-abbrev pub counted : ℕ → List Code → State → State
-counted at xs s = if nat_lt MOST_ARGUMENTS (length xs) then note at kind.TooManyArguments s else s
+abbrev pub count_call : ℕ → List Code → State → State
+count_call at xs s = if nat_lt MOST_ARGUMENTS (length xs) then note at kind.TooManyArguments s else s
 
 -- the call of `invokelatest`
 unfoldable pub latest : ℕ → Option ℕ → List Code → Resolver Code
 latest at (Some f) xs = do
-  modify (counted at xs)
+  modify (count_call at xs)
   pure (X.Latest f xs)
 latest at None xs = do
   modify (note at kind.UnknownFunction)
@@ -242,15 +242,15 @@ part_number (pos n) = n
 part_number (negsuc n) = 0
 
 -- the struct of an explicit constructor, and the arguments in its braces
-abbrev pub made_struct : Known → TypeText-F ArgText TypeText VarText → Scope → Option ℕ
-made_struct k (T.Name at name) c = struct_named k name c
-made_struct k (T.Applied at name args) c = struct_named k name c
-made_struct k (T.Paren at ty vs) c = None
+abbrev pub make_struct : Known → TypeText-F ArgText TypeText VarText → Scope → Option ℕ
+make_struct k (T.Name at name) c = struct_named k name c
+make_struct k (T.Applied at name args) c = struct_named k name c
+make_struct k (T.Paren at ty vs) c = None
 
-abbrev pub made_args : TypeText-F ArgText TypeText VarText → List ArgText
-made_args (T.Name at name) = []
-made_args (T.Applied at name args) = args
-made_args (T.Paren at ty vs) = []
+abbrev pub make_args : TypeText-F ArgText TypeText VarText → List ArgText
+make_args (T.Name at name) = []
+make_args (T.Applied at name args) = args
+make_args (T.Paren at ty vs) = []
 
 -- ---- methods
 
@@ -309,20 +309,20 @@ abbrev pub site_of : Opening → Code → Site
 site_of o x = record { function = o.function; sig = o.sig; body = x }
 
 -- the next site, whose body is read after this
-unfoldable pub reserved : Opening → State → State
-reserved o s = record s { sites = s.sites ++ site_of o W.Nothing ∷ [] }
+unfoldable pub reserve_site : Opening → State → State
+reserve_site o s = record s { sites = s.sites ++ site_of o W.Nothing ∷ [] }
 
 -- its number
 abbrev pub next_site : Opening → Resolver ℕ
-next_site o s = resolution (length s.sites) (reserved o s)
+next_site o s = resolution (length s.sites) (reserve_site o s)
 
 -- the body of a site
-unfoldable pub closed : ℕ → Opening → Code → State → State
-closed n o x s = record s { sites = slice_set s.sites n (site_of o x) }
+unfoldable pub close_site : ℕ → Opening → Code → State → State
+close_site n o x s = record s { sites = slice_set s.sites n (site_of o x) }
 
 -- the signature of a method
-abbrev pub signed_as : Tests → Signature → Signed
-signed_as t sg =
+abbrev pub judge_signature : Tests → Signature → Signed
+judge_signature t sg =
     let w = written_of t.below sg.types in
     record { vars = sg.vars; sig = w; fault = sg.types.after.fault; refusal = refusal t.signature sg.types.after w }
 
@@ -330,30 +330,30 @@ signed_as t sg =
 abbrev pub opening : ℕ → Signed → Scope → Opening
 opening f g c = record { function = f; sig = g.sig; scope = c }
 
-abbrev pub opened_with : ℕ → ℕ → Signed → List Param → Resolver Opening
-opened_with f types g ps = do
+abbrev pub open_body : ℕ → ℕ → Signed → List Param → Resolver Opening
+open_body f types g ps = do
   c ← parameters ps (record { slots = []; statics = static_parameters g.sig g.vars; types = types })
   pure (opening f g c)
 
 -- the faults at the name of a method: its function, its signature, and its number
-abbrev pub named : Known → ℕ → Callee → Option ℕ → Signed → State → State
-named k at callee f g s =
-    let s1 = noted at (may_define k callee) (noted at (if_unknown f) s) in
-    let s2 = noted at g.refusal (merged g.fault s1) in
-    noted at (too_many s2) s2
+abbrev pub check_name : Known → ℕ → Callee → Option ℕ → Signed → State → State
+check_name k at callee f g s =
+    let s1 = note_if at (may_define k callee) (note_if at (if_unknown f) s) in
+    let s2 = note_if at g.refusal (merge_fault g.fault s1) in
+    note_if at (too_many s2) s2
 
 module _ (t : Tests) (k : Known) where
   -- a call of a function or a constructor
   abbrev pub inferred_refusal : ℕ → Option StaticKind
-  inferred_refusal p = if finds_parameters (slice_get k.decls p) then (if t.wide p then Some kind.TypeLimit else None) else Some kind.StaticParameterUse
+  inferred_refusal p = if has_usable_parameters_at (slice_get k.decls p) then (if t.wide p then Some kind.TypeLimit else None) else Some kind.StaticParameterUse
 
   unfoldable pub call : ℕ → Called → List Code → Resolver Code
   call at (D.Function f) xs = do
-    modify (counted at xs)
+    modify (count_call at xs)
     pure (X.Call f xs)
   call at (D.Bare p) xs = pure (X.Make (one_type (nominal p) []) xs)
   call at (D.Inferred p) xs = do
-    modify (noted at (inferred_refusal p))
+    modify (note_if at (inferred_refusal p))
     pure (X.Infer p xs)
   call at D.Unknown xs = do
     modify (note at kind.UnknownFunction)
@@ -366,37 +366,37 @@ module _ (t : Tests) (k : Known) where
     modify (note at kind.UnknownFunction)
     pure W.Nothing
   made at (Some p) args xs c = do
-    w ← made_at t k at p args c
+    w ← make_at t k at p args c
     ys ← all_coded xs c
     pure (X.Make w ys)
 
   abbrev pub is_a : Reads → TypeText → Reads
   is_a x ty c = do
     y ← x c
-    w ← body_written t k ty c
+    w ← type_in_body t k ty c
     pure (X.Isa y w)
 
   abbrev pub is_below : TypeText → TypeText → Reads
   is_below a b c = do
-    v ← body_written t k a c
-    w ← body_written t k b c
+    v ← type_in_body t k a c
+    w ← type_in_body t k b c
     pure (W.Sub v w)
 
-  abbrev pub signed : ℕ → Head → Signed
-  signed types h = signed_as t (signature (declared_at k types) (map type_of h.params) h.vars)
+  abbrev pub method_signature : ℕ → Head → Signed
+  method_signature types h = judge_signature t (signature (declared_at k types) (map type_of h.params) h.vars)
 
   -- a method up to its body
-  unfoldable pub opened : Head → ℕ → Resolver Opening
-  opened h types = do
+  unfoldable pub open_method : Head → ℕ → Resolver Opening
+  open_method h types = do
     let f = function_of k h.callee (bare_scope types)
-    let g = signed types h
-    modify (named k (place_of_callee h.callee) h.callee f g)
-    opened_with (defined_function f) types g h.params
+    let g = method_signature types h
+    modify (check_name k (place_of_callee h.callee) h.callee f g)
+    open_body (defined_function f) types g h.params
 
   -- a method up to its body, with the number of its site
   abbrev pub started : Head → ℕ → Resolver (ℕ × Opening)
   started h types = do
-    o ← opened h types
+    o ← open_method h types
     n ← next_site o
     pure (n, o)
 
@@ -405,7 +405,7 @@ module _ (t : Tests) (k : Known) where
   method h body types = do
     (n, o) ← started h types
     y ← body o.scope
-    modify (closed n o y)
+    modify (close_site n o y)
     pure n
 
   abbrev pub expr_step : Expr-F Evaluates Reads Defines Shows Says Tries → Reads
@@ -419,8 +419,8 @@ module _ (t : Tests) (k : Known) where
     pure (X.Parts ys)
   expr_step (F.Call at f xs) c = do
     ys ← all_coded xs c
-    call (place_of_callee f) (called k f c) ys
-  expr_step (F.Make at ty xs) c = made (begins ty) (made_struct k (out-TypeText ty) c) (made_args (out-TypeText ty)) xs c
+    call (place_of_callee f) (callee_of k f c) ys
+  expr_step (F.Make at ty xs) c = made (start_of ty) (make_struct k (out-TypeText ty) c) (make_args (out-TypeText ty)) xs c
   expr_step (F.Field at x n) c = do
     y ← x c
     pure (X.Field y n.bytes)
@@ -443,11 +443,11 @@ module _ (t : Tests) (k : Known) where
     pure (X.If z x y)
   expr_step (F.If at bs) c = do
     ys ← all_tried bs c
-    pure (chained ys W.Nothing)
+    pure (chain_arms ys W.Nothing)
   expr_step (F.IfElse at bs ss) c = do
     ys ← all_tried bs c
     z ← block_of ss c
-    pure (chained ys z)
+    pure (chain_arms ys z)
   expr_step (F.Begin at ss) c = block_of ss c
   expr_step (F.Latest at f xs) c = do
     ys ← all_coded xs c

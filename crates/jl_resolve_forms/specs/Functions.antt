@@ -67,10 +67,10 @@ struct_of k (C.Operator at o) c = None
 abbrev pub constructor : List Decl → ℕ → Called
 constructor ds p = if nat_eq (length (params_of (slice_get ds p))) 0 then D.Bare p else D.Inferred p
 
-abbrev pub called_from : List Decl → Option ℕ → Option ℕ → Called
-called_from ds (Some p) f = constructor ds p
-called_from ds None (Some f) = D.Function f
-called_from ds None None = D.Unknown
+abbrev pub callee_from : List Decl → Option ℕ → Option ℕ → Called
+callee_from ds (Some p) f = constructor ds p
+callee_from ds None (Some f) = D.Function f
+callee_from ds None None = D.Unknown
 
-unfoldable pub called : Known → Callee → Scope → Called
-called k f c = called_from k.decls (struct_of k f c) (function_of k f c)
+unfoldable pub callee_of : Known → Callee → Scope → Called
+callee_of k f c = callee_from k.decls (struct_of k f c) (function_of k f c)

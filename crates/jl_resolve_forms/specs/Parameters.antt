@@ -7,13 +7,13 @@ use Rattle.jl_model.specs.Usable.{is_usable}
 use Rattle.jl_program.specs.BodyTypes.{fields_written}
 
 -- the field types of a struct make all its parameters usable
-abbrev pub finds_all : Decl → Bool
-finds_all d = list_all (λ b. b) (each_var (is_usable (fields_written d)) 0 d.params)
+abbrev pub has_usable_parameters : Decl → Bool
+has_usable_parameters d = list_all (λ b. b) (each_var (is_usable (fields_written d)) 0 d.params)
 
-abbrev pub finds_parameters : Option Decl → Bool
-finds_parameters None = false
-finds_parameters (Some d) = finds_all d
+abbrev pub has_usable_parameters_at : Option Decl → Bool
+has_usable_parameters_at None = false
+has_usable_parameters_at (Some d) = has_usable_parameters d
 
 -- the same of each declaration
 abbrev pub all_find : List Decl → List Bool
-all_find ds = map finds_all ds
+all_find ds = map has_usable_parameters ds

@@ -24,14 +24,14 @@ abbrev pub note : ℕ → StaticKind → State → State
 note at k s = record s { fault = first_of s.fault (record { at = at; kind = k }) }
 
 -- a fault, where there is one
-abbrev pub noted : ℕ → Option StaticKind → State → State
-noted at None s = s
-noted at (Some k) s = note at k s
+abbrev pub note_if : ℕ → Option StaticKind → State → State
+note_if at None s = s
+note_if at (Some k) s = note at k s
 
 -- the first fault of a part that was read by itself
-abbrev pub merged : Option Fault → State → State
-merged None s = s
-merged (Some f) s = note f.at f.kind s
+abbrev pub merge_fault : Option Fault → State → State
+merge_fault None s = s
+merge_fault (Some f) s = note f.at f.kind s
 
 -- no script binds a built-in name
 abbrev pub clashing : ℕ → List ℕ → State → State
@@ -42,9 +42,9 @@ abbrev pub with_slot : Option (List ℕ) → Scope → Scope
 with_slot o c = record c { slots = c.slots ++ o ∷ [] }
 
 -- a name takes the next slot; where it is visible already the slot has no name
-abbrev pub slotted : Name → Scope → Option ℕ → Resolver Scope
-slotted n c None = pure (with_slot (Some n.bytes) c)
-slotted n c (Some _) = do
+abbrev pub take_slot : Name → Scope → Option ℕ → Resolver Scope
+take_slot n c None = pure (with_slot (Some n.bytes) c)
+take_slot n c (Some _) = do
   modify (note n.at kind.Rebound)
   pure (with_slot None c)
 
@@ -52,4 +52,4 @@ slotted n c (Some _) = do
 unfoldable pub bind : Name → Scope → Resolver Scope
 bind n c = do
   modify (clashing n.at n.bytes)
-  slotted n c (slot_of c.slots n.bytes)
+  take_slot n c (slot_of c.slots n.bytes)

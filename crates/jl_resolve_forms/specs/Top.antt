@@ -30,14 +30,14 @@ abbrev pub clash : ℕ → Option ℕ → State → State
 clash at None s = s
 clash at (Some other) s = note (max at other) kind.Rebound s
 
-abbrev pub clashes : Known → Name → State → State
-clashes k n s = clash n.at (first_at k.types n.bytes) (clash n.at (first_at k.methods n.bytes) s)
+abbrev pub note_clash : Known → Name → State → State
+note_clash k n s = clash n.at (first_at k.types n.bytes) (clash n.at (first_at k.methods n.bytes) s)
 
 -- a binding at the top, and what is visible after it
 abbrev pub top_bind : Known → Name → Scope → Resolver Scope
 top_bind k n c = do
   d ← bind n c
-  modify (clashes k n)
+  modify (note_clash k n)
   pure d
 
 -- its value takes the next slot
@@ -84,7 +84,7 @@ program_as k top s = record {
 }
 
 -- the items, behind the first fault of the declarations
-abbrev pub resolved : Tests → Known → List Item → Option Fault → Resolved
-resolved t k items f =
+abbrev pub resolve : Tests → Known → List Item → Option Fault → Resolved
+resolve t k items f =
     let r = all_top t k items (bare_scope BUILTIN_TYPES) (beginning f) in
     program_as k r.value.0 r.after

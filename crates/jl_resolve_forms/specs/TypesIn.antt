@@ -15,11 +15,11 @@ use Rattle.jl_written.specs.declared.fault.StaticKind.{StaticKind}
 use Rattle.jl_written.specs.declared.fault.StaticKind.TheVariants as kind
 use Rattle.jl_written.specs.declared.reading.Reading.{Reading}
 use Rattle.jl_written.specs.Reads.{Typed}
-use Rattle.jl_written.specs.Signatures.{adopted, body_type, constructor_type}
+use Rattle.jl_written.specs.Signatures.{adopt_bounds, body_type, constructor_type}
 use Rattle.jl_resolve_forms.specs.declared.known.Known.{Known}
 use Rattle.jl_resolve_forms.specs.declared.state.Scope.{Scope}
 use Rattle.jl_resolve_forms.specs.Resolver.{Resolver, pure, modify, ◌>>◌}
-use Rattle.jl_resolve_forms.specs.Scopes.{noted, merged}
+use Rattle.jl_resolve_forms.specs.Scopes.{note_if, merge_fault}
 
 -- What is asked of the table of declarations: whether a declared upper bound is below a bound; what refuses a signature, and a
 -- type in a body; and whether the signature of a struct's fields is too large.
@@ -39,46 +39,46 @@ abbrev pub refusal : (Written → Option StaticKind) → Reading → Written →
 refusal test r w = if r.misplaced then Some kind.VariablePlace else (if r.unclear then None else test w)
 
 -- where a type begins
-abbrev pub begins_layer : TypeText-F ArgText TypeText VarText → ℕ
-begins_layer (F.Name at n) = at
-begins_layer (F.Applied at n xs) = at
-begins_layer (F.Paren at t vs) = at
+abbrev pub start_of_layer : TypeText-F ArgText TypeText VarText → ℕ
+start_of_layer (F.Name at n) = at
+start_of_layer (F.Applied at n xs) = at
+start_of_layer (F.Paren at t vs) = at
 
-abbrev pub begins : TypeText → ℕ
-begins t = begins_layer (out-TypeText t)
+abbrev pub start_of : TypeText → ℕ
+start_of t = start_of_layer (out-TypeText t)
 
 abbrev pub one_type : Ty → List Bound → Written
 one_type t vars = record { vars = vars; parts = t ∷ [] }
 
 -- in an explicit constructor all arguments are written, and none is a fresh variable
-abbrev pub made_refusal : (Written → Option StaticKind) → Bool → Reading → Written → Option StaticKind
-made_refusal test counted r w =
+abbrev pub make_refusal : (Written → Option StaticKind) → Bool → Reading → Written → Option StaticKind
+make_refusal test counted r w =
     if r.misplaced then Some kind.VariablePlace
     else (if not (nat_eq (length r.vars) 0) || not counted then Some kind.WrongParameterCount else (if r.unclear then None else test w))
 
 -- a type in a body, which begins here
 abbrev pub type_at : Tests → ℕ → Typed → Resolver Written
 type_at t at ty = do
-  let w = one_type ty.ty (adopted t.below ty.after.places ty.after.vars)
-  modify (merged ty.after.fault)
-  modify (noted at (refusal t.body ty.after w))
+  let w = one_type ty.ty (adopt_bounds t.below ty.after.places ty.after.vars)
+  modify (merge_fault ty.after.fault)
+  modify (note_if at (refusal t.body ty.after w))
   pure w
 
 -- the type of an explicit constructor, which begins here, where its arguments are as many as declared or not
-abbrev pub made_type : Tests → ℕ → Typed → Bool → Resolver Written
-made_type t at ty counted = do
+abbrev pub make_type : Tests → ℕ → Typed → Bool → Resolver Written
+make_type t at ty counted = do
   let w = one_type ty.ty []
-  modify (merged ty.after.fault)
-  modify (noted at (made_refusal t.body counted ty.after w))
+  modify (merge_fault ty.after.fault)
+  modify (note_if at (make_refusal t.body counted ty.after w))
   pure w
 
 module _ (t : Tests) (k : Known) where
   -- a type in a body
-  unfoldable pub body_written : TypeText → Scope → Resolver Written
-  body_written text c = type_at t (begins text) (body_type (declared_at k c.types) c.statics text)
+  unfoldable pub type_in_body : TypeText → Scope → Resolver Written
+  type_in_body text c = type_at t (start_of text) (body_type (declared_at k c.types) c.statics text)
 
   -- the type of an explicit constructor, whose struct has number p
-  unfoldable pub made_at : ℕ → ℕ → List ArgText → Scope → Resolver Written
-  made_at at p xs c =
+  unfoldable pub make_at : ℕ → ℕ → List ArgText → Scope → Resolver Written
+  make_at at p xs c =
       let bs = params_of (slice_get k.decls p) in
-      made_type t at (constructor_type (declared_at k c.types) p bs c.statics xs) (nat_eq (length xs) (length bs))
+      make_type t at (constructor_type (declared_at k c.types) p bs c.statics xs) (nat_eq (length xs) (length bs))

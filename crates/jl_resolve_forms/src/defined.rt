@@ -2,7 +2,7 @@
 
 ghost use Rattle.std.specs.Prelude.{◌≡◌, ◌++◌, ◌∷◌, [], map, OnOk, IfOk};
 ghost use Rattle.jl_program.specs.Names.{is_among};
-ghost use Rattle.jl_resolve_forms.specs.Defined.{own_name, joined, in_expr, in_method, in_stmt, in_eval, in_piece, in_branch, in_item, type_name, methods_of, types_of, with_names, functions_of};
+ghost use Rattle.jl_resolve_forms.specs.Defined.{own_name, join_names, in_expr, in_method, in_stmt, in_eval, in_piece, in_branch, in_item, type_name, methods_of, types_of, with_names, functions_of};
 
 use jl_grammar::tree::{Branch, Callee, Eval, Expr, Item, Method, Name, Piece, Stmt};
 use jl_names::list::NameList;
@@ -32,7 +32,7 @@ fn put_own(out: &mut MarkedNames, callee: &Callee) -> Result<(), AllocError>
 
 #[cycle(names)]
 fn put_exprs(out: &mut MarkedNames, texts: &[Expr]) -> Result<(), AllocError>
-    ensures { OnOk result (out.new ≡ out.old ++ joined (map in_expr texts.now)) }
+    ensures { OnOk result (out.new ≡ out.old ++ join_names (map in_expr texts.now)) }
 {
     for text in texts {
         put_expr(out, text)?;
@@ -42,7 +42,7 @@ fn put_exprs(out: &mut MarkedNames, texts: &[Expr]) -> Result<(), AllocError>
 
 #[cycle(names)]
 fn put_stmts(out: &mut MarkedNames, texts: &[Stmt]) -> Result<(), AllocError>
-    ensures { OnOk result (out.new ≡ out.old ++ joined (map in_stmt texts.now)) }
+    ensures { OnOk result (out.new ≡ out.old ++ join_names (map in_stmt texts.now)) }
 {
     for text in texts {
         put_stmt(out, text)?;
@@ -52,7 +52,7 @@ fn put_stmts(out: &mut MarkedNames, texts: &[Stmt]) -> Result<(), AllocError>
 
 #[cycle(names)]
 fn put_evals(out: &mut MarkedNames, texts: &[Eval]) -> Result<(), AllocError>
-    ensures { OnOk result (out.new ≡ out.old ++ joined (map in_eval texts.now)) }
+    ensures { OnOk result (out.new ≡ out.old ++ join_names (map in_eval texts.now)) }
 {
     for text in texts {
         put_eval(out, text)?;
@@ -62,7 +62,7 @@ fn put_evals(out: &mut MarkedNames, texts: &[Eval]) -> Result<(), AllocError>
 
 #[cycle(names)]
 fn put_pieces(out: &mut MarkedNames, texts: &[Piece]) -> Result<(), AllocError>
-    ensures { OnOk result (out.new ≡ out.old ++ joined (map in_piece texts.now)) }
+    ensures { OnOk result (out.new ≡ out.old ++ join_names (map in_piece texts.now)) }
 {
     for text in texts {
         put_piece(out, text)?;
@@ -72,7 +72,7 @@ fn put_pieces(out: &mut MarkedNames, texts: &[Piece]) -> Result<(), AllocError>
 
 #[cycle(names)]
 fn put_branches(out: &mut MarkedNames, texts: &[Branch]) -> Result<(), AllocError>
-    ensures { OnOk result (out.new ≡ out.old ++ joined (map in_branch texts.now)) }
+    ensures { OnOk result (out.new ≡ out.old ++ join_names (map in_branch texts.now)) }
 {
     for text in texts {
         put_branch(out, text)?;

@@ -4,11 +4,11 @@ ghost use Rattle.std.specs.Prelude.{◌≡◌, ◌∷◌, [], IfOk, length};
 ghost use Rattle.jl_resolve_forms.specs.Scopes.{slot_of, bind};
 ghost use Rattle.jl_resolve_forms.specs.Resolver.{resolution, Resolves};
 ghost use Rattle.jl_program.specs.declared.tree.Expr.TheViews as C;
-ghost use Rattle.jl_resolve_forms.specs.Expressions.{bound, local, prefix_code, infix_code, counted, latest, call, chained, inferred_refusal, part_number};
+ghost use Rattle.jl_resolve_forms.specs.Expressions.{bound, local, prefix_code, infix_code, count_call, latest, call, chain_arms, inferred_refusal, part_number};
 
 use crate::judge::Judge;
 use crate::known::{Arm, Called, Known};
-use crate::scopes::{bind, note, noted, slot_of};
+use crate::scopes::{bind, note, note_if, slot_of};
 use crate::state::{Scope, State};
 use crate::types::one_type;
 use jl_grammar::tree::{Infix, Name, Prefix};
@@ -20,7 +20,7 @@ use jl_program::prelude::{
 };
 use jl_program::tree::{Expr as Code, Exprs as Codes, Item, Stmt};
 use jl_written::fault::StaticKind;
-use jl_written::names::small;
+use jl_written::names::to_u32;
 use std::alloc::{AllocError, Global};
 
 /// A name that is used as a value, by its slot.
@@ -134,8 +134,8 @@ pub fn infix_code(
 }
 
 /// A counted call has at most 8 arguments.
-fn counted(state: &mut State, at: u32, arguments: &Codes)
-    ensures { state.new ≡ counted at arguments.now state.old }
+fn count_call(state: &mut State, at: u32, arguments: &Codes)
+    ensures { state.new ≡ count_call at arguments.now state.old }
 {
     if arguments.len() > MOST_ARGUMENTS {
         note(state, at, StaticKind::TooManyArguments);
@@ -149,7 +149,7 @@ pub fn latest(state: &mut State, at: u32, function: Option<u32>, arguments: Code
 {
     match function {
         Some(function) => {
-            counted(state, at, &arguments);
+            count_call(state, at, &arguments);
             Code::Latest(function, arguments)
         }
         None => {
@@ -193,7 +193,7 @@ pub fn call<J: Judge>(
 {
     match called {
         Called::Function(function) => {
-            counted(state, at, &arguments);
+            count_call(state, at, &arguments);
             Ok(Code::Call(function, arguments))
         }
         Called::Bare(number) => {
@@ -203,7 +203,7 @@ pub fn call<J: Judge>(
         }
         Called::Inferred(number) => {
             let refusal = inferred_refusal(alloc, judge, known, number)?;
-            noted(state, at, refusal);
+            note_if(state, at, refusal);
             Ok(Code::Infer(number, arguments))
         }
         Called::Unknown => {
@@ -214,9 +214,9 @@ pub fn call<J: Judge>(
 }
 
 /// An `elseif` is an `if` in the branch where it stands.
-#[tactic(auto, using(crate::proofs::ArmLemmas::chained_last))]
-pub fn chained(alloc: Global, arms: Vec<Arm>, otherwise: Code) -> Result<Code, AllocError>
-    ensures { IfOk result (λ c. c ≡ chained arms.items otherwise) }
+#[tactic(auto, using(crate::proofs::ArmLemmas::chain_arms_last))]
+pub fn chain_arms(alloc: Global, arms: Vec<Arm>, otherwise: Code) -> Result<Code, AllocError>
+    ensures { IfOk result (λ c. c ≡ chain_arms arms.items otherwise) }
 {
     let mut left = arms;
     let mut code = otherwise;
@@ -228,17 +228,17 @@ pub fn chained(alloc: Global, arms: Vec<Arm>, otherwise: Code) -> Result<Code, A
 }
 
 /// A binding takes the next slot, and gives its number.
-fn placed(scope: &mut Scope, state: &mut State, name: &Name) -> Result<u32, AllocError>
+fn place_binding(scope: &mut Scope, state: &mut State, name: &Name) -> Result<u32, AllocError>
     ensures { IfOk result (λ n. (n ≡ length scope.old.slots) × (resolution scope.new state.new
         ≡ bind name.now scope.old state.old)) }
 {
-    let slot = small(scope.slots.len())?;
+    let slot = to_u32(scope.slots.len())?;
     bind(scope, state, name)?;
     Ok(slot)
 }
 
 /// A binding.
-pub fn bound(
+pub fn bind_local(
     scope: &mut Scope,
     state: &mut State,
     name: &Name,
@@ -247,7 +247,7 @@ pub fn bound(
     ensures { IfOk result (λ x. resolution (x, scope.new) state.new
         ≡ bound name.now scope.old code state.old) }
 {
-    match placed(scope, state, name) {
+    match place_binding(scope, state, name) {
         Ok(slot) => Ok(Stmt::Bind(slot, code)),
         Err(error) => {
             drop(code);

@@ -4,7 +4,7 @@ ghost use Rattle.std.specs.Prelude.{◌≡◌, map, List, ℕ};
 ghost use Rattle.jl_model.specs.declared.ty.Decl.{Decl};
 ghost use Rattle.jl_program.specs.Prelude.{prelude_functions};
 ghost use Rattle.jl_written.specs.Meaning.{place_of};
-ghost use Rattle.jl_resolve_forms.specs.Functions.{function_of_operator, place_of_callee, function_of, if_struct, struct_named, struct_of, constructor, called};
+ghost use Rattle.jl_resolve_forms.specs.Functions.{function_of_operator, place_of_callee, function_of, if_struct, struct_named, struct_of, constructor, callee_of};
 
 use crate::known::{Called, Known};
 use crate::scopes::slot_of;
@@ -165,9 +165,9 @@ fn constructor(decls: &[Decl], number: u32) -> Called
 }
 
 /// What a called name is.
-#[tactic(auto, unfolding(crate::specs::Functions::called))]
-pub fn called(known: &Known, callee: &Callee, scope: &Scope) -> Called
-    ensures { result ≡ called known.now callee.now scope.now }
+#[tactic(auto, unfolding(crate::specs::Functions::callee_of))]
+pub fn callee_of(known: &Known, callee: &Callee, scope: &Scope) -> Called
+    ensures { result ≡ callee_of known.now callee.now scope.now }
 {
     match struct_of(known, callee, scope) {
         Some(number) => constructor(known.decls.list().as_slice(), number),

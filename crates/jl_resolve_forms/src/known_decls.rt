@@ -2,7 +2,7 @@
 
 ghost use Rattle.std.specs.Prelude.{◌≡◌, slice_get, IfOk};
 ghost use Rattle.std.specs.List.{list_all};
-ghost use Rattle.jl_resolve_forms.specs.Parameters.{finds_all, finds_parameters, all_find};
+ghost use Rattle.jl_resolve_forms.specs.Parameters.{has_usable_parameters, has_usable_parameters_at, all_find};
 
 use jl_model::ty::Decl;
 use jl_names::decls::DeclList;
@@ -50,7 +50,7 @@ impl KnownDecls {
 
     /// Whether the field types of a struct make all its parameters usable.
     pub fn finds_parameters(&self, number: u32) -> bool
-        ensures { result ≡ finds_parameters (slice_get self.now number) }
+        ensures { result ≡ has_usable_parameters_at (slice_get self.now number) }
     {
         match self.finds.get(number as usize) {
             None => false,
@@ -65,14 +65,14 @@ fn all_find(alloc: Global, decls: &[Decl]) -> Result<Vec<bool>, AllocError>
 {
     let mut finds = Vec::new(alloc);
     for decl in decls {
-        finds.push(finds_all(alloc, decl)?)?;
+        finds.push(has_usable_parameters(alloc, decl)?)?;
     }
     Ok(finds)
 }
 
 /// Whether the field types of a struct make all its parameters usable.
-fn finds_all(alloc: Global, decl: &Decl) -> Result<bool, AllocError>
-    ensures { IfOk result (λ b. b ≡ finds_all decl.now) }
+fn has_usable_parameters(alloc: Global, decl: &Decl) -> Result<bool, AllocError>
+    ensures { IfOk result (λ b. b ≡ has_usable_parameters decl.now) }
 {
     let written = fields_written(alloc, decl)?;
     let flags = usable_variables(alloc, &written)?;

@@ -9,12 +9,12 @@ ghost use Rattle.jl_written.specs.Signatures.{all_read, signature, written_of};
 ghost use Rattle.jl_resolve_forms.specs.Functions.{function_of, place_of_callee};
 ghost use Rattle.jl_resolve_forms.specs.Resolver.{resolution, Resolves};
 ghost use Rattle.jl_resolve_forms.specs.TypesIn.{refusal};
-ghost use Rattle.jl_resolve_forms.specs.Expressions.{bare_scope, type_of, signature_as, parameters, static_parameter, static_parameters, signed_as, signed, opened_with, named, names_in, may_define, defined_function, if_unknown, too_many, opened, next_site, closed};
+ghost use Rattle.jl_resolve_forms.specs.Expressions.{bare_scope, type_of, signature_as, parameters, static_parameter, static_parameters, judge_signature, method_signature, open_body, check_name, names_in, may_define, defined_function, if_unknown, too_many, open_method, next_site, close_site};
 
 use crate::functions::{function_of, place_of_callee};
 use crate::judge::Judge;
 use crate::known::Known;
-use crate::scopes::{bind, merged, noted, push_unnamed};
+use crate::scopes::{bind, merge_fault, note_if, push_unnamed};
 use crate::state::{Opening, Scope, SignatureRead, Signed, State};
 use crate::types::declared_at;
 use jl_grammar::tree::{Callee, Head, Param};
@@ -30,10 +30,10 @@ use jl_program::tree::{Expr as Code, Site};
 use jl_sig::{is_usable, usable_variables};
 use jl_typeread::tree::VarText;
 use jl_written::fault::StaticKind;
-use jl_written::names::{is_builtin, small};
+use jl_written::names::{is_builtin, to_u32};
 use jl_written::reading::{Reading, TypeVar};
 use jl_written::reads::{bind_all, read_type};
-use jl_written::signatures::{adopted, unread};
+use jl_written::signatures::{adopt_bounds, no_reading};
 use jl_written::text_order::order_types;
 use jl_written::vars::{Around, TypeVars};
 use std::alloc::{AllocError, Global};
@@ -140,7 +140,7 @@ fn signature(
 {
     let around = Around::top(decls);
     let mut visible = TypeVars::new(alloc);
-    let mut reading = unread(alloc);
+    let mut reading = no_reading(alloc);
     bind_all(alloc, &around, &mut visible, &mut reading, vars, false)?;
     let types = all_read(alloc, &around, &mut visible, &mut reading, params)?;
     let types = order_types(alloc, &mut reading, types)?;
@@ -223,30 +223,34 @@ fn parameters(scope: &mut Scope, state: &mut State, params: &[Param]) -> Result<
 }
 
 /// The signature of a method.
-fn signed<J: Judge>(
+fn method_signature<J: Judge>(
     alloc: Global,
     judge: &J,
     known: &Known,
     types: u32,
     head: &Head,
 ) -> Result<Signed, AllocError>
-    ensures { IfOk result (λ g. g ≡ signed (J.tests judge.now) known.now types head.now) }
+    ensures { IfOk result (λ g. g ≡ method_signature (J.tests judge.now) known.now types head.now) }
 {
     let decls = declared_at(known, types);
     let read = signature(alloc, &decls, head.params.as_slice(), head.vars.as_slice())?;
-    let signed = signed_as(alloc, judge, read)?;
+    let signed = judge_signature(alloc, judge, read)?;
     Ok(signed)
 }
 
-fn signed_as<J: Judge>(alloc: Global, judge: &J, read: SignatureRead) -> Result<Signed, AllocError>
-    ensures { IfOk result (λ g. g ≡ signed_as (J.tests judge.now) (signature_as read)) }
+fn judge_signature<J: Judge>(
+    alloc: Global,
+    judge: &J,
+    read: SignatureRead,
+) -> Result<Signed, AllocError>
+    ensures { IfOk result (λ g. g ≡ judge_signature (J.tests judge.now) (signature_as read)) }
 {
     let SignatureRead {
         vars,
         types,
         reading,
     } = read;
-    let bounds = adopted(
+    let bounds = adopt_bounds(
         alloc,
         judge,
         reading.places.as_slice(),
@@ -274,7 +278,7 @@ fn function_at(alloc: Global, known: &Known, types: u32, callee: &Callee) -> Opt
 }
 
 /// The faults at the name of a method: its function, its signature, and its number.
-fn name_checked(
+fn check_name(
     known: &Known,
     state: &mut State,
     callee: &Callee,
@@ -282,19 +286,19 @@ fn name_checked(
     signed: &Signed,
 )
     ensures { state.new
-        ≡ named known.now (place_of_callee callee.now) callee.now function signed.now state.old }
+        ≡ check_name known.now (place_of_callee callee.now) callee.now function signed.now state.old }
 {
     let at = place_of_callee(callee);
-    noted(state, at, if_unknown(function));
-    noted(state, at, may_define(known, callee));
-    merged(state, signed.fault);
-    noted(state, at, signed.refusal);
+    note_if(state, at, if_unknown(function));
+    note_if(state, at, may_define(known, callee));
+    merge_fault(state, signed.fault);
+    note_if(state, at, signed.refusal);
     let refusal = too_many(state);
-    noted(state, at, refusal);
+    note_if(state, at, refusal);
 }
 
 /// What a body sees.
-fn opened_with(
+fn open_body(
     alloc: Global,
     state: &mut State,
     function: u32,
@@ -302,7 +306,7 @@ fn opened_with(
     signed: Signed,
     params: &[Param],
 ) -> Result<Opening, AllocError>
-    ensures { Resolves result state.new (opened_with function types signed params.now state.old) }
+    ensures { Resolves result state.new (open_body function types signed params.now state.old) }
 {
     let statics = static_parameters(alloc, &signed.sig, signed.vars.as_slice())?;
     let mut scope = Scope {
@@ -319,8 +323,8 @@ fn opened_with(
 }
 
 /// A method up to its body.
-#[tactic(auto, unfolding(crate::specs::Expressions::opened))]
-pub fn opened<J: Judge>(
+#[tactic(auto, unfolding(crate::specs::Expressions::open_method))]
+pub fn open_method<J: Judge>(
     alloc: Global,
     judge: &J,
     known: &Known,
@@ -329,22 +333,22 @@ pub fn opened<J: Judge>(
     head: &Head,
 ) -> Result<Opening, AllocError>
     ensures { Resolves result state.new
-        (opened (J.tests judge.now) known.now head.now types state.old) }
+        (open_method (J.tests judge.now) known.now head.now types state.old) }
 {
     let function = function_at(alloc, known, types, &head.callee);
-    let signed = signed(alloc, judge, known, types, head)?;
-    name_checked(known, state, &head.callee, function, &signed);
+    let signed = method_signature(alloc, judge, known, types, head)?;
+    check_name(known, state, &head.callee, function, &signed);
     let number = defined_function(function);
-    let opening = opened_with(alloc, state, number, types, signed, head.params.as_slice())?;
+    let opening = open_body(alloc, state, number, types, signed, head.params.as_slice())?;
     Ok(opening)
 }
 
 /// The next site, whose body is read behind this.
-#[tactic(auto, unfolding(crate::specs::Expressions::reserved))]
-pub fn reserved(state: &mut State, opening: &Opening) -> Result<u32, AllocError>
+#[tactic(auto, unfolding(crate::specs::Expressions::reserve_site))]
+pub fn reserve_site(state: &mut State, opening: &Opening) -> Result<u32, AllocError>
     ensures { Resolves result state.new (next_site opening.now state.old) }
 {
-    let number = small(state.sites.len())?;
+    let number = to_u32(state.sites.len())?;
     state.sites.push(Site {
         function: opening.function,
         sig: opening.sig.copy()?,
@@ -354,9 +358,9 @@ pub fn reserved(state: &mut State, opening: &Opening) -> Result<u32, AllocError>
 }
 
 /// The body of a site.
-#[tactic(auto, unfolding(crate::specs::Expressions::closed))]
-pub fn closed(state: &mut State, number: u32, opening: Opening, code: Code)
-    ensures { state.new ≡ closed number opening code state.old }
+#[tactic(auto, unfolding(crate::specs::Expressions::close_site))]
+pub fn close_site(state: &mut State, number: u32, opening: Opening, code: Code)
+    ensures { state.new ≡ close_site number opening code state.old }
 {
     let Opening {
         function,

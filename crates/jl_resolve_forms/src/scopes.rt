@@ -2,7 +2,7 @@
 
 ghost use Rattle.std.specs.Prelude.{◌≡◌, OnOk, Some, None};
 ghost use Rattle.jl_resolve_forms.specs.Resolver.{resolution};
-ghost use Rattle.jl_resolve_forms.specs.Scopes.{slot_of, note, noted, merged, clashing, slotted, with_slot, bind};
+ghost use Rattle.jl_resolve_forms.specs.Scopes.{slot_of, note, note_if, merge_fault, clashing, take_slot, with_slot, bind};
 
 use crate::state::{Scope, State};
 use jl_grammar::tree::Name;
@@ -29,8 +29,8 @@ pub fn note(state: &mut State, at: u32, kind: StaticKind)
 }
 
 /// A fault, where there is one.
-pub fn noted(state: &mut State, at: u32, kind: Option<StaticKind>)
-    ensures { state.new ≡ noted at kind state.old }
+pub fn note_if(state: &mut State, at: u32, kind: Option<StaticKind>)
+    ensures { state.new ≡ note_if at kind state.old }
 {
     if let Some(kind) = kind {
         note(state, at, kind);
@@ -38,8 +38,8 @@ pub fn noted(state: &mut State, at: u32, kind: Option<StaticKind>)
 }
 
 /// The first fault of a part that was read by itself.
-pub fn merged(state: &mut State, fault: Option<Fault>)
-    ensures { state.new ≡ merged fault state.old }
+pub fn merge_fault(state: &mut State, fault: Option<Fault>)
+    ensures { state.new ≡ merge_fault fault state.old }
 {
     if let Some(fault) = fault {
         note(state, fault.at, fault.kind);

@@ -3,7 +3,7 @@
 ghost use Rattle.std.specs.Prelude.{◌≡◌, ◌++◌, IfOk, OnOk, option_copied};
 ghost use Rattle.jl_program.specs.Prelude.{prelude_sites};
 ghost use Rattle.jl_resolve_forms.specs.Resolver.{resolution};
-ghost use Rattle.jl_resolve_forms.specs.Top.{first_at, clash, clashes, top_bind};
+ghost use Rattle.jl_resolve_forms.specs.Top.{first_at, clash, note_clash, top_bind};
 
 use crate::known::Known;
 use crate::scopes::{bind, note};
@@ -31,8 +31,8 @@ fn clash(state: &mut State, at: u32, other: Option<u32>)
 }
 
 /// A variable at the top has the name of no function and no type of the script.
-fn clashes(known: &Known, state: &mut State, name: &Name)
-    ensures { state.new ≡ clashes known.now name.now state.old }
+fn note_clash(known: &Known, state: &mut State, name: &Name)
+    ensures { state.new ≡ note_clash known.now name.now state.old }
 {
     let text = name.bytes.as_slice();
     clash(state, name.at, first_at(&known.methods, text));
@@ -50,6 +50,6 @@ pub fn top_bind(
         ≡ top_bind known.now name.now scope.old state.old) }
 {
     bind(scope, state, name)?;
-    clashes(known, state, name);
+    note_clash(known, state, name);
     Ok(())
 }

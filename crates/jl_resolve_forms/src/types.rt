@@ -4,14 +4,14 @@ ghost use Rattle.std.specs.Prelude.{◌≡◌, ◌∷◌, [], ◌==◌, length, 
 ghost use Rattle.jl_model.specs.Valid.{params_of};
 ghost use Rattle.jl_written.specs.Reads.{typed};
 ghost use Rattle.jl_resolve_forms.specs.Resolver.{Resolves};
-ghost use Rattle.jl_resolve_forms.specs.Expressions.{made_struct, made_args};
+ghost use Rattle.jl_resolve_forms.specs.Expressions.{make_struct, make_args};
 ghost use Rattle.jl_typeread.specs.declared.tree.ArgText.TheViews.{out-TypeText};
-ghost use Rattle.jl_resolve_forms.specs.TypesIn.{declared_at, begins, one_type, refusal, made_refusal, type_at, body_written, made_type, made_at};
+ghost use Rattle.jl_resolve_forms.specs.TypesIn.{declared_at, start_of, one_type, refusal, make_refusal, type_at, type_in_body, make_type, make_at};
 
 use crate::functions::struct_named;
 use crate::judge::Judge;
 use crate::known::Known;
-use crate::scopes::{merged, noted};
+use crate::scopes::{merge_fault, note_if};
 use crate::state::{Scope, State};
 use jl_model::shared::SharedList;
 use jl_model::ty::{Bound, Bounds, Decl, Ty, Written};
@@ -19,7 +19,7 @@ use jl_names::decls::FirstDecls;
 use jl_typeread::tree::{ArgText, TypeText};
 use jl_written::fault::StaticKind;
 use jl_written::reading::Reading;
-use jl_written::signatures::{adopted, body_type, constructor_type};
+use jl_written::signatures::{adopt_bounds, body_type, constructor_type};
 use std::alloc::{AllocError, Global};
 
 /// The types that are declared before a place.
@@ -30,8 +30,8 @@ pub fn declared_at(known: &Known, types: u32) -> FirstDecls<'_>
 }
 
 /// Where a type begins.
-pub fn begins(text: &TypeText) -> u32
-    ensures { result ≡ begins text.now }
+pub fn start_of(text: &TypeText) -> u32
+    ensures { result ≡ start_of text.now }
 {
     match text {
         TypeText::Name(at, _) => *at,
@@ -71,14 +71,14 @@ fn body_refusal<J: Judge>(
 }
 
 /// What refuses the type of an explicit constructor, where its arguments are as many as declared or not.
-fn made_refusal<J: Judge>(
+fn make_refusal<J: Judge>(
     alloc: Global,
     judge: &J,
     counted: bool,
     reading: &Reading,
     written: &Written,
 ) -> Result<Option<StaticKind>, AllocError>
-    ensures { IfOk result (λ k. k ≡ made_refusal (J.tests judge.now).body counted reading.now written.now) }
+    ensures { IfOk result (λ k. k ≡ make_refusal (J.tests judge.now).body counted reading.now written.now) }
 {
     if reading.misplaced {
         return Ok(Some(StaticKind::VariablePlace));
@@ -104,7 +104,7 @@ fn type_at<J: Judge>(
     ensures { Resolves result state.new
         (type_at (J.tests judge.now) at (typed ty reading.now) state.old) }
 {
-    let vars = adopted(
+    let vars = adopt_bounds(
         alloc,
         judge,
         reading.places.as_slice(),
@@ -112,13 +112,13 @@ fn type_at<J: Judge>(
     )?;
     let written = one_type(alloc, ty, SharedList::from_vec(alloc, vars)?)?;
     let refusal = body_refusal(alloc, judge, reading, &written)?;
-    merged(state, reading.fault);
-    noted(state, at, refusal);
+    merge_fault(state, reading.fault);
+    note_if(state, at, refusal);
     Ok(written)
 }
 
 /// A type in a body.
-pub fn body_written<J: Judge>(
+pub fn type_in_body<J: Judge>(
     alloc: Global,
     judge: &J,
     known: &Known,
@@ -127,16 +127,16 @@ pub fn body_written<J: Judge>(
     text: &TypeText,
 ) -> Result<Written, AllocError>
     ensures { Resolves result state.new
-        (body_written (J.tests judge.now) known.now text.now scope.now state.old) }
+        (type_in_body (J.tests judge.now) known.now text.now scope.now state.old) }
 {
     let decls = declared_at(known, scope.types);
     let (ty, reading) = body_type(alloc, &decls, &scope.statics, text)?;
-    let written = type_at(alloc, judge, state, begins(text), ty, &reading)?;
+    let written = type_at(alloc, judge, state, start_of(text), ty, &reading)?;
     Ok(written)
 }
 
 /// The type of an explicit constructor, which begins here.
-fn made_type<J: Judge>(
+fn make_type<J: Judge>(
     alloc: Global,
     judge: &J,
     state: &mut State,
@@ -146,12 +146,12 @@ fn made_type<J: Judge>(
     counted: bool,
 ) -> Result<Written, AllocError>
     ensures { Resolves result state.new
-        (made_type (J.tests judge.now) at (typed ty reading.now) counted state.old) }
+        (make_type (J.tests judge.now) at (typed ty reading.now) counted state.old) }
 {
     let written = one_type(alloc, ty, SharedList::empty())?;
-    let refusal = made_refusal(alloc, judge, counted, reading, &written)?;
-    merged(state, reading.fault);
-    noted(state, at, refusal);
+    let refusal = make_refusal(alloc, judge, counted, reading, &written)?;
+    merge_fault(state, reading.fault);
+    note_if(state, at, refusal);
     Ok(written)
 }
 
@@ -166,7 +166,7 @@ fn params_of(decls: &[Decl], number: u32) -> &[Bound]
 }
 
 /// The type of an explicit constructor of this struct, by the arguments in its braces.
-pub fn made_at<J: Judge>(
+pub fn make_at<J: Judge>(
     alloc: Global,
     judge: &J,
     known: &Known,
@@ -177,19 +177,19 @@ pub fn made_at<J: Judge>(
     texts: &[ArgText],
 ) -> Result<Written, AllocError>
     ensures { Resolves result state.new
-        (made_at (J.tests judge.now) known.now at number texts.now scope.now state.old) }
+        (make_at (J.tests judge.now) known.now at number texts.now scope.now state.old) }
 {
     let decls = declared_at(known, scope.types);
     let bounds = params_of(known.decls.list().as_slice(), number);
     let (ty, reading) = constructor_type(alloc, &decls, number, bounds, &scope.statics, texts)?;
     let counted = texts.len() == bounds.len();
-    let written = made_type(alloc, judge, state, at, ty, &reading, counted)?;
+    let written = make_type(alloc, judge, state, at, ty, &reading, counted)?;
     Ok(written)
 }
 
 /// The struct of an explicit constructor.
-pub fn made_struct(known: &Known, ty: &TypeText, scope: &Scope) -> Option<u32>
-    ensures { result ≡ made_struct known.now (out-TypeText ty.now) scope.now }
+pub fn make_struct(known: &Known, ty: &TypeText, scope: &Scope) -> Option<u32>
+    ensures { result ≡ make_struct known.now (out-TypeText ty.now) scope.now }
 {
     match ty {
         TypeText::Name(_, name) => struct_named(known, name.as_slice(), scope),
@@ -199,8 +199,8 @@ pub fn made_struct(known: &Known, ty: &TypeText, scope: &Scope) -> Option<u32>
 }
 
 /// The arguments in the braces of an explicit constructor.
-pub fn made_args(ty: &TypeText) -> &[ArgText]
-    ensures { result.now ≡ made_args (out-TypeText ty.now) }
+pub fn make_args(ty: &TypeText) -> &[ArgText]
+    ensures { result.now ≡ make_args (out-TypeText ty.now) }
 {
     match ty {
         TypeText::Name(_, _) => &[],

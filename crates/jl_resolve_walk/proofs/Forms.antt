@@ -28,10 +28,10 @@ use Rattle.jl_resolve_forms.specs.declared.state.Scope.{Scope}
 use Rattle.jl_resolve_forms.specs.declared.state.State.{State}
 use Rattle.jl_resolve_forms.specs.Resolver.{Resolution, resolution}
 use Rattle.jl_resolve_forms.specs.Scopes.{slot_of}
-use Rattle.jl_resolve_forms.specs.Functions.{place_of_callee, function_of, called}
-use Rattle.jl_resolve_forms.specs.TypesIn.{Tests, begins}
-use Rattle.jl_resolve_forms.specs.Expressions.{Reads, awaited, spawned_at, all_coded, all_shown, all_evaluated, all_tried, block_of, chained, local, prefix_code, infix_code, latest, spawned, part_number, made_struct, made_args, bare_scope, call, made, is_below, expr_step, expr_reads, method_reads, stmt_reads, eval_reads, piece_reads, branch_reads}
-use Rattle.jl_resolve_walk.specs.Steps.{begun_at, begun, ended, tested}
+use Rattle.jl_resolve_forms.specs.Functions.{place_of_callee, function_of, callee_of}
+use Rattle.jl_resolve_forms.specs.TypesIn.{Tests, start_of}
+use Rattle.jl_resolve_forms.specs.Expressions.{Reads, awaited, spawned_at, all_coded, all_shown, all_evaluated, all_tried, block_of, chain_arms, local, prefix_code, infix_code, latest, spawned, part_number, make_struct, make_args, bare_scope, call, made, is_below, expr_step, expr_reads, method_reads, stmt_reads, eval_reads, piece_reads, branch_reads}
+use Rattle.jl_resolve_walk.specs.Steps.{begin_make_at, begin_make, end_make, test_type}
 use Rattle.jl_resolve_walk.proofs.Layers as L
 
 module _ (t : Tests) (k : Known) where
@@ -73,28 +73,28 @@ module _ (t : Tests) (k : Known) where
       ∙ back text (E.Tuple at xs) (expr_step t k (F.Tuple at (map R xs))) c s is (L.expr-Tuple t k at xs)
 
   pub form-Call : (text : Expr) (at : ℕ) (f : Callee) (xs xs1 : List Expr) (c c1 : Scope) (s s1 s2 : State) (ys : List Code) (z : Code)
-      → text ≡ E.Call at f xs → xs1 ≡ xs → c1 ≡ c → resolution ys s1 ≡ all_coded (map R xs1) c s → resolution z s2 ≡ call t k (place_of_callee f) (called k f c1) ys s1
+      → text ≡ E.Call at f xs → xs1 ≡ xs → c1 ≡ c → resolution ys s1 ≡ all_coded (map R xs1) c s → resolution z s2 ≡ call t k (place_of_callee f) (callee_of k f c1) ys s1
       → resolution z s2 ≡ R text c s
   form-Call text at f xs xs1 c c1 s s1 s2 ys z is g h m made =
       made
-      ∙ ap (λ a. call t k (place_of_callee f) (called k f a) ys s1) h
-      ∙ ap (λ (a : Resolution (List Code)). call t k (place_of_callee f) (called k f c) a.value a.after) (m ∙ ap (λ a. all_coded (map R a) c s) g)
+      ∙ ap (λ a. call t k (place_of_callee f) (callee_of k f a) ys s1) h
+      ∙ ap (λ (a : Resolution (List Code)). call t k (place_of_callee f) (callee_of k f c) a.value a.after) (m ∙ ap (λ a. all_coded (map R a) c s) g)
       ∙ back text (E.Call at f xs) (expr_step t k (F.Call at f (map R xs))) c s is (L.expr-Call t k at f xs)
 
   made_is : (ty : TypeText) (o : Option ℕ) (xs : List Reads) (c : Scope) (s : State)
-      → ended (begins ty) (begun_at t k ty o c s).value (all_coded xs c (begun_at t k ty o c s).after).value (all_coded xs c (begun_at t k ty o c s).after).after ≡ made t k (begins ty) o (made_args (out-TypeText ty)) xs c s
+      → end_make (start_of ty) (begin_make_at t k ty o c s).value (all_coded xs c (begin_make_at t k ty o c s).after).value (all_coded xs c (begin_make_at t k ty o c s).after).after ≡ made t k (start_of ty) o (make_args (out-TypeText ty)) xs c s
   unfolding made
   made_is ty None xs c s = refl
   made_is ty (Some p) xs c s = refl
 
   pub form-Make : (text : Expr) (at : ℕ) (ty : TypeText) (xs xs1 : List Expr) (c : Scope) (s s1 s2 s3 : State) (w : Option Written) (ys : List Code) (z : Code)
-      → text ≡ E.Make at ty xs → resolution w s1 ≡ begun t k ty c s → xs1 ≡ xs → resolution ys s2 ≡ all_coded (map R xs1) c s1 → resolution z s3 ≡ ended (begins ty) w ys s2
+      → text ≡ E.Make at ty xs → resolution w s1 ≡ begin_make t k ty c s → xs1 ≡ xs → resolution ys s2 ≡ all_coded (map R xs1) c s1 → resolution z s3 ≡ end_make (start_of ty) w ys s2
       → resolution z s3 ≡ R text c s
   form-Make text at ty xs xs1 c s s1 s2 s3 w ys z is b g m done =
       done
-      ∙ ap (λ (a : Resolution (List Code)). ended (begins ty) w a.value a.after) (m ∙ ap (λ a. all_coded (map R a) c s1) g)
-      ∙ ap (λ (a : Resolution (Option Written)). ended (begins ty) a.value (all_coded (map R xs) c a.after).value (all_coded (map R xs) c a.after).after) b
-      ∙ made_is ty (made_struct k (out-TypeText ty) c) (map R xs) c s
+      ∙ ap (λ (a : Resolution (List Code)). end_make (start_of ty) w a.value a.after) (m ∙ ap (λ a. all_coded (map R a) c s1) g)
+      ∙ ap (λ (a : Resolution (Option Written)). end_make (start_of ty) a.value (all_coded (map R xs) c a.after).value (all_coded (map R xs) c a.after).after) b
+      ∙ made_is ty (make_struct k (out-TypeText ty) c) (map R xs) c s
       ∙ back text (E.Make at ty xs) (expr_step t k (F.Make at ty (map R xs))) c s is (L.expr-Make t k at ty xs)
 
   pub form-Field : (text : Expr) (at : ℕ) (x : Expr) (n : Name) (c : Scope) (s s1 : State) (y z : Code)
@@ -127,11 +127,11 @@ module _ (t : Tests) (k : Known) where
       ∙ back text (E.Infix at o a b) (expr_step t k (F.Infix at o (R a) (R b))) c s is (L.expr-Infix t k at o a b)
 
   pub form-Isa : (text : Expr) (at : ℕ) (x : Expr) (ty : TypeText) (c c1 : Scope) (s s1 s2 : State) (y z : Code)
-      → text ≡ E.Isa at x ty → c1 ≡ c → resolution y s1 ≡ R x c s → resolution z s2 ≡ tested t k y ty c1 s1 → resolution z s2 ≡ R text c s
+      → text ≡ E.Isa at x ty → c1 ≡ c → resolution y s1 ≡ R x c s → resolution z s2 ≡ test_type t k y ty c1 s1 → resolution z s2 ≡ R text c s
   form-Isa text at x ty c c1 s s1 s2 y z is h m made =
       made
-      ∙ ap (λ a. tested t k y ty a s1) h
-      ∙ ap (λ (p : Resolution Code). tested t k p.value ty c p.after) m
+      ∙ ap (λ a. test_type t k y ty a s1) h
+      ∙ ap (λ (p : Resolution Code). test_type t k p.value ty c p.after) m
       ∙ back text (E.Isa at x ty) (expr_step t k (F.Isa at (R x) ty)) c s is (L.expr-Isa t k at x ty)
 
   pub form-Sub : (text : Expr) (at : ℕ) (a b : TypeText) (c : Scope) (s s1 : State) (z : Code)
@@ -148,19 +148,19 @@ module _ (t : Tests) (k : Known) where
       ∙ back text (E.Choose at q a b) (expr_step t k (F.Choose at (R q) (R a) (R b))) c s is (L.expr-Choose t k at q a b)
 
   pub form-If : (text : Expr) (at : ℕ) (bs bs1 : List Branch) (c : Scope) (s s1 : State) (as_ : List Arm) (z : Code)
-      → text ≡ E.If at bs → bs1 ≡ bs → resolution as_ s1 ≡ all_tried (map (branch_reads t k) bs1) c s → z ≡ chained as_ W.Nothing → resolution z s1 ≡ R text c s
+      → text ≡ E.If at bs → bs1 ≡ bs → resolution as_ s1 ≡ all_tried (map (branch_reads t k) bs1) c s → z ≡ chain_arms as_ W.Nothing → resolution z s1 ≡ R text c s
   form-If text at bs bs1 c s s1 as_ z is g m made =
       ap (λ a. resolution a s1) made
-      ∙ ap (λ (p : Resolution (List Arm)). resolution (chained p.value W.Nothing) p.after) (m ∙ ap (λ a. all_tried (map (branch_reads t k) a) c s) g)
+      ∙ ap (λ (p : Resolution (List Arm)). resolution (chain_arms p.value W.Nothing) p.after) (m ∙ ap (λ a. all_tried (map (branch_reads t k) a) c s) g)
       ∙ back text (E.If at bs) (expr_step t k (F.If at (map (branch_reads t k) bs))) c s is (L.expr-If t k at bs)
 
   pub form-IfElse : (text : Expr) (at : ℕ) (bs bs1 : List Branch) (ss ss1 : List Stmt) (c c1 : Scope) (s s1 s2 : State) (as_ : List Arm) (y z : Code)
-      → text ≡ E.IfElse at bs ss → bs1 ≡ bs → resolution as_ s1 ≡ all_tried (map (branch_reads t k) bs1) c s → ss1 ≡ ss → c1 ≡ c → resolution y s2 ≡ block_of (map (stmt_reads t k) ss1) c1 s1 → z ≡ chained as_ y
+      → text ≡ E.IfElse at bs ss → bs1 ≡ bs → resolution as_ s1 ≡ all_tried (map (branch_reads t k) bs1) c s → ss1 ≡ ss → c1 ≡ c → resolution y s2 ≡ block_of (map (stmt_reads t k) ss1) c1 s1 → z ≡ chain_arms as_ y
       → resolution z s2 ≡ R text c s
   form-IfElse text at bs bs1 ss ss1 c c1 s s1 s2 as_ y z is g m g2 h n made =
       ap (λ a. resolution a s2) made
-      ∙ ap (λ (p : Resolution Code). resolution (chained as_ p.value) p.after) (n ∙ ap (λ a. block_of (map (stmt_reads t k) a) c1 s1) g2 ∙ ap (λ a. block_of (map (stmt_reads t k) ss) a s1) h)
-      ∙ ap (λ (p : Resolution (List Arm)). resolution (chained p.value (block_of (map (stmt_reads t k) ss) c p.after).value) (block_of (map (stmt_reads t k) ss) c p.after).after) (m ∙ ap (λ a. all_tried (map (branch_reads t k) a) c s) g)
+      ∙ ap (λ (p : Resolution Code). resolution (chain_arms as_ p.value) p.after) (n ∙ ap (λ a. block_of (map (stmt_reads t k) a) c1 s1) g2 ∙ ap (λ a. block_of (map (stmt_reads t k) ss) a s1) h)
+      ∙ ap (λ (p : Resolution (List Arm)). resolution (chain_arms p.value (block_of (map (stmt_reads t k) ss) c p.after).value) (block_of (map (stmt_reads t k) ss) c p.after).after) (m ∙ ap (λ a. all_tried (map (branch_reads t k) a) c s) g)
       ∙ back text (E.IfElse at bs ss) (expr_step t k (F.IfElse at (map (branch_reads t k) bs) (map (stmt_reads t k) ss))) c s is (L.expr-IfElse t k at bs ss)
 
   pub form-Begin : (text : Expr) (at : ℕ) (ss ss1 : List Stmt) (c : Scope) (s s1 : State) (z : Code)

@@ -27,7 +27,7 @@ use Rattle.jl_resolve_forms.specs.declared.state.Scope.{Scope}
 use Rattle.jl_resolve_forms.specs.declared.state.State.{State}
 use Rattle.jl_resolve_forms.specs.TypesIn.{Tests}
 use Rattle.jl_resolve_forms.specs.Resolver.{Resolution, resolution}
-use Rattle.jl_resolve_forms.specs.Expressions.{Reads, bound, arm, started, one_said, one_shown, one_evaluated, one_tried, block_of, bare_scope, closed, method, expr_reads, method_reads, stmt_reads, eval_reads, piece_reads, branch_reads}
+use Rattle.jl_resolve_forms.specs.Expressions.{Reads, bound, arm, started, one_said, one_shown, one_evaluated, one_tried, block_of, bare_scope, close_site, method, expr_reads, method_reads, stmt_reads, eval_reads, piece_reads, branch_reads}
 use Rattle.jl_resolve_walk.proofs.Layers as L
 
 module _ (t : Tests) (k : Known) where
@@ -101,22 +101,22 @@ module _ (t : Tests) (k : Known) where
 
   -- a method, whose body is read where its opening says
   method_is : (h : Head) (body : Reads) (types : ℕ) (o : Opening) (c1 : Scope) (s s1 s2 s3 : State) (n r : ℕ) (y : Code)
-      → resolution (n, o) s1 ≡ started t k h types s → c1 ≡ o.scope → resolution y s2 ≡ body o.scope s1 → resolution r s3 ≡ resolution n (closed n (record o { scope = c1 }) y s2)
+      → resolution (n, o) s1 ≡ started t k h types s → c1 ≡ o.scope → resolution y s2 ≡ body o.scope s1 → resolution r s3 ≡ resolution n (close_site n (record o { scope = c1 }) y s2)
       → resolution r s3 ≡ method t k h body types s
   method_is h body types o c1 s s1 s2 s3 n r y b kept m made =
-      made ∙ ap (λ a. resolution n a) (ap (λ a. closed n (record o { scope = a }) y s2) kept ∙ ap (λ (a : Resolution Code). closed n o a.value a.after) m)
-      ∙ ap (λ (p : Resolution (ℕ × Opening)). resolution p.value.0 (closed p.value.0 p.value.1 (body p.value.1.scope p.after).value (body p.value.1.scope p.after).after)) b
+      made ∙ ap (λ a. resolution n a) (ap (λ a. close_site n (record o { scope = a }) y s2) kept ∙ ap (λ (a : Resolution Code). close_site n o a.value a.after) m)
+      ∙ ap (λ (p : Resolution (ℕ × Opening)). resolution p.value.0 (close_site p.value.0 p.value.1 (body p.value.1.scope p.after).value (body p.value.1.scope p.after).after)) b
 
   pub method-long : (text : Method) (at : ℕ) (h : Head) (ss ss1 : List Stmt) (types : ℕ) (o : Opening) (c1 : Scope) (s s1 s2 s3 : State) (n r : ℕ) (y : Code)
       → text ≡ E.Long at h ss → resolution (n, o) s1 ≡ started t k h types s → ss1 ≡ ss → c1 ≡ o.scope → resolution y s2 ≡ block_of (map (stmt_reads t k) ss1) o.scope s1
-      → resolution r s3 ≡ resolution n (closed n (record o { scope = c1 }) y s2) → resolution r s3 ≡ method_reads t k text types s
+      → resolution r s3 ≡ resolution n (close_site n (record o { scope = c1 }) y s2) → resolution r s3 ≡ method_reads t k text types s
   method-long text at h ss ss1 types o c1 s s1 s2 s3 n r y is b g kept m made =
       method_is h (block_of (map (stmt_reads t k) ss)) types o c1 s s1 s2 s3 n r y b kept (m ∙ ap (λ a. block_of (map (stmt_reads t k) a) o.scope s1) g) made
       ∙ ap (λ a. a types s) (sym (ap (method_reads t k) is ∙ L.method-Long t k at h ss))
 
   pub method-short : (text : Method) (at : ℕ) (h : Head) (x x1 : Expr) (types : ℕ) (o : Opening) (c1 : Scope) (s s1 s2 s3 : State) (n r : ℕ) (y : Code)
       → text ≡ E.Short at h x → resolution (n, o) s1 ≡ started t k h types s → x1 ≡ x → c1 ≡ o.scope → resolution y s2 ≡ R x1 o.scope s1
-      → resolution r s3 ≡ resolution n (closed n (record o { scope = c1 }) y s2) → resolution r s3 ≡ method_reads t k text types s
+      → resolution r s3 ≡ resolution n (close_site n (record o { scope = c1 }) y s2) → resolution r s3 ≡ method_reads t k text types s
   method-short text at h x x1 types o c1 s s1 s2 s3 n r y is b g kept m made =
       method_is h (R x) types o c1 s s1 s2 s3 n r y b kept (m ∙ ap (λ a. R a o.scope s1) g) made
       ∙ ap (λ a. a types s) (sym (ap (method_reads t k) is ∙ L.method-Short t k at h x))

@@ -13,35 +13,35 @@ use Rattle.jl_resolve_forms.specs.declared.known.Known.{Known}
 use Rattle.jl_resolve_forms.specs.declared.state.Scope.{Scope}
 use Rattle.jl_resolve_forms.specs.Resolver.{Resolution, Resolver, resolution, pure, modify, ◌>>=◌, ◌>>◌}
 use Rattle.jl_resolve_forms.specs.Scopes.{note}
-use Rattle.jl_resolve_forms.specs.TypesIn.{Tests, begins, body_written, made_at}
+use Rattle.jl_resolve_forms.specs.TypesIn.{Tests, start_of, type_in_body, make_at}
 use Rattle.jl_resolve_forms.specs.Top.{Resolved}
-use Rattle.jl_resolve_forms.specs.Expressions.{made_struct, made_args}
+use Rattle.jl_resolve_forms.specs.Expressions.{make_struct, make_args}
 
 -- something is made only of what was made
 abbrev pub Gives : {A B E : Type 0} → Result A E → Result B E → (A → B → Type 0) → Type 0
 Gives {A} made result P = IfOk result (λ b. (a : A) × (made ≡ Ok a) × P a b)
 
 -- the type of an explicit constructor, where its name is that of a struct
-abbrev pub begun_at : Tests → Known → TypeText → Option ℕ → Scope → Resolver (Option Written)
-begun_at t k ty None c = pure None
-begun_at t k ty (Some p) c = do
-  w ← made_at t k (begins ty) p (made_args (out-TypeText ty)) c
+abbrev pub begin_make_at : Tests → Known → TypeText → Option ℕ → Scope → Resolver (Option Written)
+begin_make_at t k ty None c = pure None
+begin_make_at t k ty (Some p) c = do
+  w ← make_at t k (start_of ty) p (make_args (out-TypeText ty)) c
   pure (Some w)
 
-abbrev pub begun : Tests → Known → TypeText → Scope → Resolver (Option Written)
-begun t k ty c = begun_at t k ty (made_struct k (out-TypeText ty) c) c
+abbrev pub begin_make : Tests → Known → TypeText → Scope → Resolver (Option Written)
+begin_make t k ty c = begin_make_at t k ty (make_struct k (out-TypeText ty) c) c
 
 -- an explicit constructor, whose arguments are read
-abbrev pub ended : ℕ → Option Written → List Code → Resolver Code
-ended at None xs = do
+abbrev pub end_make : ℕ → Option Written → List Code → Resolver Code
+end_make at None xs = do
   modify (note at kind.UnknownFunction)
   pure W.Nothing
-ended at (Some w) xs = pure (X.Make w xs)
+end_make at (Some w) xs = pure (X.Make w xs)
 
 -- a test of a value's type, whose value is read
-abbrev pub tested : Tests → Known → Code → TypeText → Scope → Resolver Code
-tested t k y ty c = do
-  w ← body_written t k ty c
+abbrev pub test_type : Tests → Known → Code → TypeText → Scope → Resolver Code
+test_type t k y ty c = do
+  w ← type_in_body t k ty c
   pure (X.Isa y w)
 
 -- parts behind others

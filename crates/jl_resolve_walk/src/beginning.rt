@@ -15,7 +15,7 @@ use jl_resolve_forms::state::State;
 use jl_written::fault::Fault;
 use std::alloc::{AllocError, Global};
 
-fn named(number: u32) -> Ty
+fn declare_builtin(number: u32) -> Ty
     ensures { result ≡ named number }
 {
     Ty::Nominal(number, SharedList::empty())
@@ -26,15 +26,15 @@ fn types(alloc: Global, shape: Shape) -> Result<Tys, AllocError>
 {
     let mut types = Vec::new(alloc);
     match shape {
-        Shape::Integer => types.push(named(INT64))?,
+        Shape::Integer => types.push(declare_builtin(INT64))?,
         Shape::Integers => {
-            types.push(named(INT64))?;
-            types.push(named(INT64))?;
+            types.push(declare_builtin(INT64))?;
+            types.push(declare_builtin(INT64))?;
         }
-        Shape::Truth => types.push(named(BOOL))?,
+        Shape::Truth => types.push(declare_builtin(BOOL))?,
         Shape::Truths => {
-            types.push(named(BOOL))?;
-            types.push(named(BOOL))?;
+            types.push(declare_builtin(BOOL))?;
+            types.push(declare_builtin(BOOL))?;
         }
     }
     SharedList::from_vec(alloc, types)

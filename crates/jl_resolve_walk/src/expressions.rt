@@ -4,7 +4,7 @@ ghost use Rattle.std.specs.Prelude.{◌≡◌, map, IfOk, OnOk};
 ghost use Rattle.jl_resolve_forms.specs.Resolver.{resolution, Resolves};
 ghost use Rattle.jl_resolve_forms.specs.Expressions.{one_said, one_shown, one_evaluated, one_tried, all_coded, all_shown, all_evaluated, all_tried, block_of, expr_reads, stmt_reads, piece_reads, eval_reads, branch_reads, method_reads};
 
-use crate::made;
+use crate::assembly;
 use jl_grammar::tree::{Branch, Eval, Expr, Method, Piece, Stmt};
 use jl_model::rows::Row;
 use jl_program::tree::{
@@ -32,7 +32,7 @@ fn exprs<J: Judge>(
 {
     let mut out = Row::new(alloc);
     for text in texts {
-        made::put(&mut out, expr(alloc, judge, known, scope, state, text))?;
+        assembly::put(&mut out, expr(alloc, judge, known, scope, state, text))?;
     }
     out.into_shared(alloc)
 }
@@ -54,9 +54,9 @@ fn block<J: Judge>(
     let visible = scope.slots.len();
     let mut out = Row::new(alloc);
     for text in texts {
-        made::put(&mut out, stmt(alloc, judge, known, scope, state, text))?;
+        assembly::put(&mut out, stmt(alloc, judge, known, scope, state, text))?;
     }
-    made::block_ended(alloc, scope, visible, out)
+    assembly::end_block(alloc, scope, visible, out)
 }
 
 /// What a print writes.
@@ -75,7 +75,7 @@ fn pieces<J: Judge>(
 {
     let mut out = Row::new(alloc);
     for text in texts {
-        made::put(&mut out, piece(alloc, judge, known, scope, state, text))?;
+        assembly::put(&mut out, piece(alloc, judge, known, scope, state, text))?;
     }
     out.into_shared(alloc)
 }
@@ -95,7 +95,7 @@ fn evals<J: Judge>(
 {
     let mut out = Row::new(alloc);
     for text in texts {
-        made::put(&mut out, eval(alloc, judge, known, types, state, text))?;
+        assembly::put(&mut out, eval(alloc, judge, known, types, state, text))?;
     }
     out.into_shared(alloc)
 }
@@ -116,7 +116,7 @@ fn branches<J: Judge>(
 {
     let mut out = Vec::new(alloc);
     for text in texts {
-        made::put_arm(&mut out, branch(alloc, judge, known, scope, state, text))?;
+        assembly::put_arm(&mut out, branch(alloc, judge, known, scope, state, text))?;
     }
     Ok(out)
 }
@@ -137,11 +137,13 @@ fn stmt<J: Judge>(
     match text {
         Stmt::Bind(name, value) => {
             let code = expr(alloc, judge, known, scope, state, value);
-            made::bound(scope, state, name, code)
+            assembly::bind(scope, state, name, code)
         }
-        Stmt::Return(_, value) => made::returned(expr(alloc, judge, known, scope, state, value)),
+        Stmt::Return(_, value) => assembly::return_statement(expr(
+            alloc, judge, known, scope, state, value,
+        )),
         Stmt::ReturnNothing(_) => Ok(Statement::Return(Code::Nothing)),
-        Stmt::Do(value) => made::done(expr(alloc, judge, known, scope, state, value)),
+        Stmt::Do(value) => assembly::do_statement(expr(alloc, judge, known, scope, state, value)),
     }
 }
 
@@ -160,8 +162,8 @@ fn piece<J: Judge>(
     ensures kept { OnOk result (scope.new ≡ scope.old) }
 {
     match text {
-        Piece::Text(_, bytes) => made::text(bytes),
-        Piece::Show(value) => made::show(expr(alloc, judge, known, scope, state, value)),
+        Piece::Text(_, bytes) => assembly::text(bytes),
+        Piece::Show(value) => assembly::show(expr(alloc, judge, known, scope, state, value)),
     }
 }
 
@@ -179,10 +181,10 @@ fn eval<J: Judge>(
         (one_evaluated (eval_reads (J.tests judge.now) known.now text.now) types state.old) }
 {
     match text {
-        Eval::Method(text) => made::define(method(alloc, judge, known, types, state, text)),
+        Eval::Method(text) => assembly::define(method(alloc, judge, known, types, state, text)),
         Eval::Do(value) => {
             let mut scope = bare_scope(alloc, types);
-            made::evaluate(expr(alloc, judge, known, &mut scope, state, value))
+            assembly::evaluate(expr(alloc, judge, known, &mut scope, state, value))
         }
     }
 }
@@ -201,9 +203,9 @@ fn branch<J: Judge>(
         (one_tried (branch_reads (J.tests judge.now) known.now text.now) scope.old state.old) }
     ensures kept { OnOk result (scope.new ≡ scope.old) }
 {
-    let test = made::held(alloc, expr(alloc, judge, known, scope, state, &text.test))?;
+    let test = assembly::node_of(alloc, expr(alloc, judge, known, scope, state, &text.test))?;
     let then = block(alloc, judge, known, scope, state, text.block.as_slice());
-    made::arm(alloc, test, then)
+    assembly::arm(alloc, test, then)
 }
 
 /// A method, where so many types are declared before it. Its site has its number before those in its body.
@@ -221,7 +223,9 @@ pub fn method<J: Judge>(
 {
     match text {
         Method::Long(_, head, body) => {
-            let (number, mut opening) = made::started(alloc, judge, known, types, state, head)?;
+            let (number, mut opening) = assembly::start_method(
+                alloc, judge, known, types, state, head,
+            )?;
             let code = block(
                 alloc,
                 judge,
@@ -230,12 +234,14 @@ pub fn method<J: Judge>(
                 state,
                 body.as_slice(),
             );
-            made::finished(state, number, opening, code)
+            assembly::finish_method(state, number, opening, code)
         }
         Method::Short(_, head, body) => {
-            let (number, mut opening) = made::started(alloc, judge, known, types, state, head)?;
+            let (number, mut opening) = assembly::start_method(
+                alloc, judge, known, types, state, head,
+            )?;
             let code = expr(alloc, judge, known, &mut opening.scope, state, body.get());
-            made::finished(state, number, opening, code)
+            assembly::finish_method(state, number, opening, code)
         }
     }
 }
@@ -255,90 +261,98 @@ pub fn expr<J: Judge>(
     ensures kept { OnOk result (scope.new ≡ scope.old) }
 {
     match text {
-        Expr::Number(_, number) => Ok(made::number(number)),
+        Expr::Number(_, number) => Ok(assembly::number(number)),
         Expr::Bool(_, truth) => Ok(Code::Bool(*truth)),
         Expr::Nothing(_) => Ok(Code::Nothing),
-        Expr::Name(at, name) => Ok(made::name(scope, state, *at, name)),
+        Expr::Name(at, name) => Ok(assembly::name(scope, state, *at, name)),
         Expr::Paren(_, inner) => expr(alloc, judge, known, scope, state, inner.get()),
         Expr::Tuple(_, texts) => {
-            made::tuple(exprs(alloc, judge, known, scope, state, texts.as_slice()))
+            assembly::tuple(exprs(alloc, judge, known, scope, state, texts.as_slice()))
         }
         Expr::Call(_, callee, texts) => {
             let arguments = exprs(alloc, judge, known, scope, state, texts.as_slice());
-            made::call(alloc, judge, known, scope, state, callee, arguments)
+            assembly::call(alloc, judge, known, scope, state, callee, arguments)
         }
         Expr::Make(_, ty, texts) => {
-            let written = made::begun(alloc, judge, known, scope, state, ty)?;
+            let written = assembly::begin_make(alloc, judge, known, scope, state, ty)?;
             let arguments = exprs(alloc, judge, known, scope, state, texts.as_slice());
-            made::ended(state, ty, written, arguments)
+            assembly::end_make(state, ty, written, arguments)
         }
         Expr::Field(_, inner, name) => {
             let code = expr(alloc, judge, known, scope, state, inner.get());
-            made::field(alloc, code, name)
+            assembly::field(alloc, code, name)
         }
         Expr::Part(_, inner, number) => {
             let code = expr(alloc, judge, known, scope, state, inner.get());
-            made::part(alloc, code, number)
+            assembly::part(alloc, code, number)
         }
         Expr::Prefix(_, operator, inner) => {
             let code = expr(alloc, judge, known, scope, state, inner.get());
-            made::prefix(alloc, *operator, code)
+            assembly::prefix(alloc, *operator, code)
         }
         Expr::Infix(_, operator, left, right) => {
             let left = expr(alloc, judge, known, scope, state, left.get())?;
             let right = expr(alloc, judge, known, scope, state, right.get());
-            made::infix(alloc, *operator, left, right)
+            assembly::infix(alloc, *operator, left, right)
         }
         Expr::Isa(_, inner, ty) => {
             let code = expr(alloc, judge, known, scope, state, inner.get());
-            made::is_a(alloc, judge, known, scope, state, code, ty)
+            assembly::is_a(alloc, judge, known, scope, state, code, ty)
         }
-        Expr::Sub(_, left, right) => made::below(alloc, judge, known, scope, state, left, right),
+        Expr::Sub(_, left, right) => assembly::below(
+            alloc, judge, known, scope, state, left, right,
+        ),
         Expr::Choose(_, test, then, or_else) => {
-            let test = made::held(alloc, expr(alloc, judge, known, scope, state, test.get()))?;
-            let then = made::held(alloc, expr(alloc, judge, known, scope, state, then.get()))?;
+            let test = assembly::node_of(
+                alloc,
+                expr(alloc, judge, known, scope, state, test.get()),
+            )?;
+            let then = assembly::node_of(
+                alloc,
+                expr(alloc, judge, known, scope, state, then.get()),
+            )?;
             let or_else = expr(alloc, judge, known, scope, state, or_else.get());
-            made::choose(alloc, test, then, or_else)
+            assembly::choose(alloc, test, then, or_else)
         }
         Expr::If(_, texts) => {
             let arms = branches(alloc, judge, known, scope, state, texts.as_slice());
-            made::only_if(alloc, arms)
+            assembly::only_if(alloc, arms)
         }
         Expr::IfElse(_, texts, last) => {
             let arms = branches(alloc, judge, known, scope, state, texts.as_slice())?;
             let last = block(alloc, judge, known, scope, state, last.as_slice());
-            made::if_else(alloc, arms, last)
+            assembly::if_else(alloc, arms, last)
         }
         Expr::Begin(_, texts) => block(alloc, judge, known, scope, state, texts.as_slice()),
         Expr::Latest(_, callee, texts) => {
             let arguments = exprs(alloc, judge, known, scope, state, texts.as_slice());
-            made::latest(known, scope, state, callee, arguments)
+            assembly::latest(known, scope, state, callee, arguments)
         }
         Expr::Spawn(_, inner) => {
-            let place = made::awaited(state)?;
+            let place = assembly::reserve_spawn(state)?;
             let code = expr(alloc, judge, known, scope, state, inner.get());
-            made::spawned_at(state, place, code)
+            assembly::end_spawn(state, place, code)
         }
         Expr::EvalMethod(_, text) => {
             let site = method(alloc, judge, known, scope.types, state, text.get());
-            made::eval_method(alloc, site)
+            assembly::eval_method(alloc, site)
         }
         Expr::EvalBlock(_, texts) => {
-            made::eval_block(evals(alloc, judge, known, scope.types, state, texts.as_slice()))
+            assembly::eval_block(evals(alloc, judge, known, scope.types, state, texts.as_slice()))
         }
         Expr::EvalExpr(_, inner) => {
             let mut bare = bare_scope(alloc, scope.types);
             let code = expr(alloc, judge, known, &mut bare, state, inner.get());
-            made::eval_expr(alloc, code)
+            assembly::eval_expr(alloc, code)
         }
         Expr::EvalQuote(_, texts) => {
-            made::eval_block(evals(alloc, judge, known, scope.types, state, texts.as_slice()))
+            assembly::eval_block(evals(alloc, judge, known, scope.types, state, texts.as_slice()))
         }
         Expr::Fetch(_, inner) => {
-            made::fetch(alloc, expr(alloc, judge, known, scope, state, inner.get()))
+            assembly::fetch(alloc, expr(alloc, judge, known, scope, state, inner.get()))
         }
         Expr::Print(_, line, texts) => {
-            made::print(
+            assembly::print(
                 pieces(alloc, judge, known, scope, state, texts.as_slice()),
                 *line,
             )

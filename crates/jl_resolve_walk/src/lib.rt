@@ -1,8 +1,8 @@
 //! The walk over the tree of a script: what its parts become, and the program.
 #![tactic(auto)]
 
+pub mod assembly;
 pub mod beginning;
 pub mod expressions;
-pub mod made;
 pub mod program;
 pub mod top;

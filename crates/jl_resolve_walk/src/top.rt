@@ -2,7 +2,7 @@
 
 ghost use Rattle.std.specs.Prelude.{◌≡◌, ◌∷◌, ◌++◌, [], ◌+◌, drop, length, IfOk, OnOk};
 ghost use Rattle.jl_resolve_forms.specs.Resolver.{resolution};
-ghost use Rattle.jl_resolve_forms.specs.Top.{top_bind, top_bound, one_top, all_top, program_as, resolved};
+ghost use Rattle.jl_resolve_forms.specs.Top.{top_bind, top_bound, one_top, all_top, program_as, resolve};
 ghost use Rattle.jl_resolve_walk.specs.Steps.{scoped_behind, one_type_more, resolved_as};
 
 use crate::beginning::beginning;
@@ -20,19 +20,19 @@ use jl_resolve_forms::methods::bare_scope;
 use jl_resolve_forms::state::{Scope, State};
 use jl_resolve_forms::top::top_bind;
 use jl_written::fault::Fault;
-use jl_written::names::small;
+use jl_written::names::to_u32;
 use std::alloc::{AllocError, Global};
 
 /// Behind a declaration one type more is declared.
-fn declared(scope: &mut Scope) -> Result<(), AllocError>
+fn declare_type(scope: &mut Scope) -> Result<(), AllocError>
     ensures { OnOk result (scope.new ≡ one_type_more scope.old) }
 {
-    scope.types = small(scope.types as usize + 1)?;
+    scope.types = to_u32(scope.types as usize + 1)?;
     Ok(())
 }
 
 /// A binding at the top takes the next slot, and gives its number.
-fn placed(
+fn place_top(
     known: &Known,
     scope: &mut Scope,
     state: &mut State,
@@ -41,13 +41,13 @@ fn placed(
     ensures { IfOk result (λ n. (n ≡ length scope.old.slots) × (resolution scope.new state.new
         ≡ top_bind known.now name.now scope.old state.old)) }
 {
-    let slot = small(scope.slots.len())?;
+    let slot = to_u32(scope.slots.len())?;
     top_bind(known, scope, state, name)?;
     Ok(slot)
 }
 
 /// A binding at the top, whose value is read.
-fn bound(
+fn bind_top(
     known: &Known,
     scope: &mut Scope,
     state: &mut State,
@@ -57,7 +57,7 @@ fn bound(
     ensures { IfOk result (λ x. resolution (x ∷ [], scope.new) state.new
         ≡ top_bound known.now name.now scope.old code state.old) }
 {
-    match placed(known, scope, state, name) {
+    match place_top(known, scope, state, name) {
         Ok(slot) => Ok(Statement::Bind(slot, code)),
         Err(error) => {
             drop(code);
@@ -80,15 +80,15 @@ fn put_top<J: Judge>(
         ≡ scoped_behind out.old (one_top (J.tests judge.now) known.now text.now scope.old state.old)) }
 {
     match text {
-        Item::Abstract(_) => declared(scope),
-        Item::Struct(_) => declared(scope),
+        Item::Abstract(_) => declare_type(scope),
+        Item::Struct(_) => declare_type(scope),
         Item::Method(text) => {
             let site = method(alloc, judge, known, scope.types, state, text)?;
             out.push(Statement::Define(site))
         }
         Item::Bind(name, value) => {
             let code = expr(alloc, judge, known, scope, state, value)?;
-            let statement = bound(known, scope, state, name, code)?;
+            let statement = bind_top(known, scope, state, name, code)?;
             out.push(statement)
         }
         Item::Do(value) => {
@@ -119,7 +119,7 @@ fn all_top<J: Judge>(
 }
 
 /// The declarations behind the built-in ones.
-fn behind_builtin(decls: &[Decl]) -> &[Decl]
+fn after_builtin(decls: &[Decl]) -> &[Decl]
     ensures { result.now ≡ drop BUILTIN_TYPES decls.now }
 {
     if decls.len() < BUILTIN_TYPES as usize {
@@ -133,7 +133,7 @@ fn behind_builtin(decls: &[Decl]) -> &[Decl]
 fn own_decls(alloc: Global, decls: &[Decl]) -> Result<Decls, AllocError>
     ensures { IfOk result (λ ds. ds ≡ drop BUILTIN_TYPES decls.now) }
 {
-    let own = behind_builtin(decls);
+    let own = after_builtin(decls);
     let mut out = Row::new(alloc);
     for decl in own {
         out.push(copy_decl(decl)?)?;
@@ -158,7 +158,7 @@ fn program_as(
     } = state;
     let program = Program {
         decls: own_decls(alloc, known.decls.list().as_slice())?,
-        functions: known.functions.shared(alloc)?,
+        functions: known.functions.into_shared(alloc)?,
         sites: sites.into_shared(alloc)?,
         spawns: spawns.into_shared(alloc)?,
         top,
@@ -171,7 +171,7 @@ fn program_as(
 /// # Errors
 ///
 /// Want of memory alone.
-pub fn resolved<J: Judge>(
+pub fn resolve<J: Judge>(
     alloc: Global,
     judge: &J,
     known: &Known,
@@ -179,7 +179,7 @@ pub fn resolved<J: Judge>(
     fault: Option<Fault>,
 ) -> Result<Resolved, AllocError>
     ensures { IfOk result (λ r. resolved_as r.program r.fault
-        ≡ resolved (J.tests judge.now) known.now items.now fault) }
+        ≡ resolve (J.tests judge.now) known.now items.now fault) }
 {
     let mut scope = bare_scope(alloc, BUILTIN_TYPES);
     let mut state = beginning(alloc, fault)?;

@@ -22,7 +22,7 @@ use Rattle.jl_names.specs.Numbers.{names_of}
 use Rattle.jl_written.specs.declared.fault.Fault.{Fault}
 use Rattle.jl_written.specs.declared.fault.StaticKind.{StaticKind}
 use Rattle.jl_written.specs.declared.fault.StaticKind.TheVariants as kind
-use Rattle.jl_written.specs.Reads.{unread}
+use Rattle.jl_written.specs.Reads.{no_reading}
 use Rattle.jl_written.specs.Signatures.{all_bound, option_reads, all_read}
 use Rattle.jl_type_laws.proofs.DeclarationLemmas.{bounds_known, parent_known, fields_known}
 use Rattle.jl_type_laws.proofs.KnownMore.{declared_known}
@@ -32,8 +32,8 @@ use Rattle.jl_declare.specs.declared.judged.Judged.{Judged}
 use Rattle.jl_declare.specs.declared.judged.Judged.TheVariants as J
 use Rattle.jl_declare.specs.declared.read.ReadDecl.{ReadDecl}
 use Rattle.jl_declare.specs.Declaration.{fields_of, heading, declaration, outline}
-use Rattle.jl_declare.specs.Judgement.{kind_of, IsJudged, kept, refused, IsAnswer, shown, refusal_at}
-use Rattle.jl_declare.specs.Declarations.{Declaring, no_declaration, with_fault, named_fault, text_fault, IsJudgement, IsDeclared, DeclaresOne, Declares}
+use Rattle.jl_declare.specs.Judgement.{kind_of, IsJudged, kept, refused, IsAnswer, keep_shown, refusal_at}
+use Rattle.jl_declare.specs.Declarations.{Declaring, no_declaration, with_fault, name_fault, text_fault, IsJudgement, IsDeclared, DeclaresOne, Declares}
 use Rattle.jl_fault_laws.specs.Uses.{Names, Visible, Use, with_vars, brought, var_uses, option_uses, options_uses, type_names}
 use Rattle.jl_fault_laws.specs.Rows.{has_row, definitions}
 use Rattle.jl_fault_laws.proofs.Firsts.{In, in_left, in_right, in_either, Tells, nothing, two, one_fault}
@@ -44,7 +44,7 @@ use Rattle.jl_fault_laws.proofs.Texts.{bound_told, option_told, options_told}
 use Rattle.jl_row_laws.specs.Script.{types_only, declaration_uses, declarations_uses, IsRefusedAs, IsRefusedItem, RefusedFrom}
 use Rattle.jl_row_laws.proofs.RowTells.{TellsWith, NoFault, Both, alone, two_with, as_told, with_same}
 use Rattle.jl_row_laws.proofs.Same.{one_answer, split}
-use Rattle.jl_row_laws.proofs.Outlines.{shown_same, read_same}
+use Rattle.jl_row_laws.proofs.Outlines.{keep_shown_same, read_same}
 use Rattle.jl_row_laws.proofs.Sound.{Sound, same_length, stays_sound, sound_start}
 
 -- ---- what is answered for a declaration
@@ -222,11 +222,11 @@ module _ (t : Tests) (k : Known) where
       let w = with_vars bs v in
       let inside : Visible = record w { types = types ++ h.name.bytes ∷ [] } in
       let texts = map (λ (f : FieldText). f.ty) fields in
-      let s = all_bound ds h.params [] unread in
+      let s = all_bound ds h.params [] no_reading in
       let p = option_reads ds h.parent s.vars s.after in
       let x = heading ds kind_ h in
       let ts = all_read (ds ++ x.own ∷ []) texts x.vars x.reading in
-      let b = bound_told t k ds h.params [] v unread (record { names = λ name. refl; idle = λ name. refl }) e in
+      let b = bound_told t k ds h.params [] v no_reading (record { names = λ name. refl; idle = λ name. refl }) e in
       joined t k (brought bs v) (option_uses h.parent w ++ options_uses texts inside) None s.after.fault ts.after.fault b.0
       (joined t k (option_uses h.parent w) (options_uses texts inside) s.after.fault p.after.fault ts.after.fault
       (option_told t k ds h.parent s.vars w s.after b.1 e)
@@ -266,10 +266,10 @@ module _ (t : Tests) (k : Known) where
 
     found_told : (n : ℕ) → Tells (of_name ++ (of_reading n ++ of_answer)) st.fault (with_fault (text_fault h.name r st.fault) (refusal_at at d.0))
     found_told n =
-        let o1 = with_fault st.fault (named_fault at h.name.bytes) in
+        let o1 = with_fault st.fault (name_fault at h.name.bytes) in
         let o2 = with_fault o1 r.reading.fault in
         let o3 = with_fault o2 (refusal_at at d.0) in
-        two of_name (of_reading n ++ of_answer) st.fault o1 o3 (with_told of_name st.fault (named_fault at h.name.bytes) (named_told at (is_among h.name.bytes builtin_names)))
+        two of_name (of_reading n ++ of_answer) st.fault o1 o3 (with_told of_name st.fault (name_fault at h.name.bytes) (named_told at (is_among h.name.bytes builtin_names)))
         (two (of_reading n) of_answer o1 o2 o3 (with_told (of_reading n) o1 r.reading.fault (reading_told st.decls kind_ h fields types e n)) (with_told of_answer o2 (refusal_at at d.0) (listed_told (refusal_at at d.0))))
 
     only : (n : ℕ) (g : Fault) → In g (of_name ++ (of_reading n ++ of_answer)) → In g (of_uses n) ⊎ IsRefusedAs kind_ h fields st g
@@ -320,8 +320,8 @@ module _ (t : Tests) (k : Known) where
     declared_names : type_names new.decls ≡ types ++ h.name.bytes ∷ []
     declared_names =
         let name = (read_same st.decls kind_ h fields).0 in
-        let q = shown_same st.decls r.decl d.0 among r.reading.unknown r.whole all d.1 in
-        ap (λ (z : Declaring). type_names z.decls) d.2 ∙ names_more st.decls (shown d.0 r.decl) ∙ (λ i. e i ++ (q.0 ∙ name) i ∷ [])
+        let q = keep_shown_same st.decls r.decl d.0 among r.reading.unknown r.whole all d.1 in
+        ap (λ (z : Declaring). type_names z.decls) d.2 ∙ names_more st.decls (keep_shown d.0 r.decl) ∙ (λ i. e i ++ (q.0 ∙ name) i ∷ [])
 
   -- ---- the declarations one after another
 

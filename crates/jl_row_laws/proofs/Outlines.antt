@@ -25,7 +25,7 @@ use Rattle.jl_resolve_forms.specs.Functions.{if_struct}
 use Rattle.jl_declare.specs.declared.judged.Judged.{Judged}
 use Rattle.jl_declare.specs.declared.judged.Judged.TheVariants as J
 use Rattle.jl_declare.specs.Declaration.{fields_of, heading, declaration, outline}
-use Rattle.jl_declare.specs.Judgement.{IsJudged, kept, refused, IsAnswer, shown}
+use Rattle.jl_declare.specs.Judgement.{IsJudged, kept, refused, IsAnswer, keep_shown}
 use Rattle.jl_declare.specs.Declarations.{Declaring, no_declaration, IsDeclared, Declares}
 use Rattle.jl_declare.specs.Script.{known_of}
 use Rattle.jl_fault_laws.specs.Uses.{Names, Visible, Use, How, called, made, declares, names_told, makes, uses_of}
@@ -69,16 +69,16 @@ same_struct ds es h (Some p) = ap (λ b. is_some (let x : Option ℕ = cond (nat
 
 -- ---- what stands in the text
 
-pub shown_same : (ds : List Decl) (d : Decl) (j : Judged) (a b c all : Bool)
+pub keep_shown_same : (ds : List Decl) (d : Decl) (j : Judged) (a b c all : Bool)
     → IsAnswer ds d (cond a (Some (J.Refused kind.DuplicateType)) (cond b (Some J.Unjudged) (cond (not c) (Some (J.Refused kind.WrongParameterCount)) (cond all None (Some J.Unjudged))))) j
-    → ((shown j d).name ≡ d.name) × ((shown j d).kind ≡ d.kind)
-shown_same ds d j true b c all p = subst (λ x. ((shown x d).name ≡ d.name) × ((shown x d).kind ≡ d.kind)) (sym p) (refl, refl)
-shown_same ds d j false true c all p = subst (λ x. ((shown x d).name ≡ d.name) × ((shown x d).kind ≡ d.kind)) (sym p) (refl, refl)
-shown_same ds d j false false false all p = subst (λ x. ((shown x d).name ≡ d.name) × ((shown x d).kind ≡ d.kind)) (sym p) (refl, refl)
-shown_same ds d j false false true false p = subst (λ x. ((shown x d).name ≡ d.name) × ((shown x d).kind ≡ d.kind)) (sym p) (refl, refl)
-shown_same ds d j false false true true p = by j p
+    → ((keep_shown j d).name ≡ d.name) × ((keep_shown j d).kind ≡ d.kind)
+keep_shown_same ds d j true b c all p = subst (λ x. ((keep_shown x d).name ≡ d.name) × ((keep_shown x d).kind ≡ d.kind)) (sym p) (refl, refl)
+keep_shown_same ds d j false true c all p = subst (λ x. ((keep_shown x d).name ≡ d.name) × ((keep_shown x d).kind ≡ d.kind)) (sym p) (refl, refl)
+keep_shown_same ds d j false false false all p = subst (λ x. ((keep_shown x d).name ≡ d.name) × ((keep_shown x d).kind ≡ d.kind)) (sym p) (refl, refl)
+keep_shown_same ds d j false false true false p = subst (λ x. ((keep_shown x d).name ≡ d.name) × ((keep_shown x d).kind ≡ d.kind)) (sym p) (refl, refl)
+keep_shown_same ds d j false false true true p = by j p
   where
-    by : (x : Judged) → IsJudged ds d x → ((shown x d).name ≡ d.name) × ((shown x d).kind ≡ d.kind)
+    by : (x : Judged) → IsJudged ds d x → ((keep_shown x d).name ≡ d.name) × ((keep_shown x d).kind ≡ d.kind)
     by _ (kept e a k) = (k.name, k.kind)
     by _ (refused f k e r) = (refl, refl)
 
@@ -96,9 +96,9 @@ read_same ds k h fields =
 declared_same : (k : DeclKind) (h : Header) (fields : List FieldText) (st new : Declaring) (es : List Decl) → AreSame st.decls es → IsDeclared k h fields st new → AreSame new.decls (es ++ outline k h ∷ [])
 declared_same k h fields st new es a d =
     let r = declaration st.decls k h fields in
-    let s = shown_same st.decls r.decl d.0 (is_among r.decl.name (names_of st.decls)) r.reading.unknown r.whole (nat_eq st.allowed (length st.decls)) d.1 in
+    let s = keep_shown_same st.decls r.decl d.0 (is_among r.decl.name (names_of st.decls)) r.reading.unknown r.whole (nat_eq st.allowed (length st.decls)) d.1 in
     let q = read_same st.decls k h fields in
-    subst (λ (x : Declaring). AreSame x.decls (es ++ outline k h ∷ [])) (sym d.2) (same_more st.decls es (shown d.0 r.decl) (outline k h) a (s.0 ∙ q.0) (s.1 ∙ q.1))
+    subst (λ (x : Declaring). AreSame x.decls (es ++ outline k h ∷ [])) (sym d.2) (same_more st.decls es (keep_shown d.0 r.decl) (outline k h) a (s.0 ∙ q.0) (s.1 ∙ q.1))
 
 items_same : (xs : List Item) (st new : Declaring) (es : List Decl) → AreSame st.decls es → Declares xs st new → AreSame new.decls (es ++ declared_in xs)
 items_same [] st new es a d = subst (λ (x : Declaring). AreSame x.decls (es ++ [])) (sym d) (subst (AreSame st.decls) (sym (append-nil es)) a)

@@ -10,26 +10,26 @@ use Rattle.jl_written.specs.declared.fault.Fault.{Fault}
 use Rattle.jl_declare.specs.declared.judged.Judged.{Judged}
 use Rattle.jl_declare.specs.declared.read.ReadDecl.{ReadDecl}
 use Rattle.jl_declare.specs.Declaration.{declaration}
-use Rattle.jl_declare.specs.Judgement.{told, IsAnswer}
-use Rattle.jl_declare.specs.Declarations.{Declaring, text_fault, answered, IsJudgement, IsDeclared, DeclaresOne, Declares}
-use Rattle.jl_declare.proofs.StepLemmas.{told_none}
+use Rattle.jl_declare.specs.Judgement.{tell_alone, IsAnswer}
+use Rattle.jl_declare.specs.Declarations.{Declaring, text_fault, add_answer, IsJudgement, IsDeclared, DeclaresOne, Declares}
+use Rattle.jl_declare.proofs.StepLemmas.{tell_alone_none}
 use Rattle.jl_declare.proofs.OneAnswer.{judged_same}
 use Rattle.jl_row_laws.specs.Script.{IsRefusedItem, RefusedFrom}
 use Rattle.jl_row_laws.proofs.Sound.{Sound, same_length}
 
 pub one_answer : (st : Declaring) (r : ReadDecl) → Sound st → (i j : Judged) → IsJudgement st r i → IsJudgement st r j → i ≡ j
-one_answer st r s i j a b = go (told st.decls (nat_eq st.allowed (length st.decls)) r) refl a b
+one_answer st r s i j a b = go (tell_alone st.decls (nat_eq st.allowed (length st.decls)) r) refl a b
   where
-    go : (o : Option Judged) → told st.decls (nat_eq st.allowed (length st.decls)) r ≡ o → IsAnswer st.decls r.decl o i → IsAnswer st.decls r.decl o j → i ≡ j
+    go : (o : Option Judged) → tell_alone st.decls (nat_eq st.allowed (length st.decls)) r ≡ o → IsAnswer st.decls r.decl o i → IsAnswer st.decls r.decl o j → i ≡ j
     go (Some t) e p q = p ∙ sym q
     go None e p q =
-        let all = same_length st.allowed (length st.decls) (told_none st.decls (nat_eq st.allowed (length st.decls)) r e).1 in
+        let all = same_length st.allowed (length st.decls) (tell_alone_none st.decls (nat_eq st.allowed (length st.decls)) r e).1 in
         judged_same st.decls r.decl (s.valid all) i j p q
 
 declared_same : (k : DeclKind) (h : Header) (fields : List FieldText) (st m n : Declaring) → Sound st → IsDeclared k h fields st m → IsDeclared k h fields st n → m ≡ n
 declared_same k h fields st m n s x y =
     let r = declaration st.decls k h fields in
-    x.2 ∙ ap (λ j. answered h.name.at j r.decl st.decls st.allowed (text_fault h.name r st.fault)) (one_answer st r s x.0 y.0 x.1 y.1) ∙ sym y.2
+    x.2 ∙ ap (λ j. add_answer h.name.at j r.decl st.decls st.allowed (text_fault h.name r st.fault)) (one_answer st r s x.0 y.0 x.1 y.1) ∙ sym y.2
 
 item_same : (x : Item) (st m n : Declaring) → Sound st → DeclaresOne x st m → DeclaresOne x st n → m ≡ n
 item_same (N.Abstract a) st m n s p q = declared_same Abstract a.header [] st m n s p q

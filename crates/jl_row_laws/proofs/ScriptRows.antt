@@ -8,7 +8,7 @@ use Rattle.jl_written.specs.declared.fault.Fault.{Fault}
 use Rattle.jl_written.specs.declared.fault.StaticKind.{StaticKind}
 use Rattle.jl_written.specs.Answered.{comes_before}
 use Rattle.jl_resolve_forms.specs.declared.known.Known.{Known}
-use Rattle.jl_resolve_forms.specs.Top.{resolved}
+use Rattle.jl_resolve_forms.specs.Top.{resolve}
 use Rattle.jl_declare.specs.Declarations.{no_declaration}
 use Rattle.jl_declare.specs.Script.{known_of}
 use Rattle.jl_resolve.specs.Program.{ComesTo, IsProgramOf, IsFaultOf}
@@ -39,7 +39,7 @@ module _ (s : Script) (fs : FormedScript s) (g : Setting s) where
   in_items = uses_of (names_told told_of) s.items
 
   abbrev first_fault : Option Fault
-  first_fault = (resolved g.tests told_of s.items g.declaring.fault).fault
+  first_fault = (resolve g.tests told_of s.items g.declaring.fault).fault
 
   abbrev faults : List Fault
   faults = all_faults g.tests told_of 0 (in_declarations ++ in_items)
@@ -66,8 +66,8 @@ module _ (s : Script) (fs : FormedScript s) (g : Setting s) where
   -- a script has one first fault, whatever it is read over
   is_of : (P : Program) (o : Option Fault) → ComesTo s P o → first_fault ≡ o
   is_of P o c =
-      let own : ComesTo s (resolved g.tests told_of s.items g.declaring.fault).program first_fault = record { declaring = g.declaring; declares = g.declares; tests = g.tests; right = g.right; is = refl } in
-      one_fault s (resolved g.tests told_of s.items g.declaring.fault).program P first_fault o own c
+      let own : ComesTo s (resolve g.tests told_of s.items g.declaring.fault).program first_fault = record { declaring = g.declaring; declares = g.declares; tests = g.tests; right = g.right; is = refl } in
+      one_fault s (resolve g.tests told_of s.items g.declaring.fault).program P first_fault o own c
 
   of_use : (f : Fault) → In f faults → HoldsOf s f ⊎ RefusedOf s g f
   of_use f i = by (either g.tests told_of 0 (in_declarations ++ in_items) f i)

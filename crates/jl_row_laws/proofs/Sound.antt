@@ -14,10 +14,10 @@ use Rattle.jl_declare.specs.declared.judged.Judged.{Judged}
 use Rattle.jl_declare.specs.declared.judged.Judged.TheVariants as J
 use Rattle.jl_declare.specs.declared.read.ReadDecl.{ReadDecl}
 use Rattle.jl_declare.specs.Declaration.{declaration}
-use Rattle.jl_declare.specs.Judgement.{IsJudged, kept, refused, told, IsAnswer}
-use Rattle.jl_declare.specs.Declarations.{Declaring, no_declaration, text_fault, answered, IsJudgement, IsDeclared}
+use Rattle.jl_declare.specs.Judgement.{IsJudged, kept, refused, tell_alone, IsAnswer}
+use Rattle.jl_declare.specs.Declarations.{Declaring, no_declaration, text_fault, add_answer, IsJudgement, IsDeclared}
 use Rattle.jl_declare.proofs.Owned.{own_variables}
-use Rattle.jl_declare.proofs.StepLemmas.{told_none}
+use Rattle.jl_declare.proofs.StepLemmas.{tell_alone_none}
 use Rattle.jl_declare.proofs.OneAnswer.{kept_ready}
 
 -- no more are allowed than there are, and where all are, they are valid
@@ -41,7 +41,7 @@ judged_is ds d e j (refused f l i r) h = let g : J.Refused l ≡ J.Kept e = h in
 
 -- what is kept was asked of the table, and is ready
 more_valid : (st : Declaring) (k : DeclKind) (h : Header) (fields : List FieldText) (e : Decl) → Sound st → IsJudgement st (declaration st.decls k h fields) (J.Kept e) → Declared (st.decls ++ e ∷ [])
-more_valid st k h fields e s a = go (told ds all r) refl a
+more_valid st k h fields e s a = go (tell_alone ds all r) refl a
   where
     ds : List Decl
     ds = st.decls
@@ -52,16 +52,16 @@ more_valid st k h fields e s a = go (told ds all r) refl a
     all : Bool
     all = nat_eq st.allowed (length ds)
 
-    go : (o : Option Judged) → told ds all r ≡ o → IsAnswer ds r.decl o (J.Kept e) → Declared (ds ++ e ∷ [])
+    go : (o : Option Judged) → tell_alone ds all r ≡ o → IsAnswer ds r.decl o (J.Kept e) → Declared (ds ++ e ∷ [])
     go (Some t) i p = absurd (never_kept (is_among r.decl.name (names_of ds)) r.reading.unknown r.whole all e (i ∙ ap (λ z. Some z) (sym p)))
     go None i p =
-        let n = told_none ds all r i in
+        let n = tell_alone_none ds all r i in
         let v = s.valid (same_length st.allowed (length ds) n.1) in
         let q = judged_is ds r.decl e (J.Kept e) p refl in
         added ds e v (kept_ready ds r.decl e v (own_variables ds v k h fields n.0) q.0 q.1)
 
 sound_answer : (st : Declaring) (k : DeclKind) (h : Header) (fields : List FieldText) (j : Judged) → Sound st → IsJudgement st (declaration st.decls k h fields) j
-    → (let r = declaration st.decls k h fields in Sound (answered h.name.at j r.decl st.decls st.allowed (text_fault h.name r st.fault)))
+    → (let r = declaration st.decls k h fields in Sound (add_answer h.name.at j r.decl st.decls st.allowed (text_fault h.name r st.fault)))
 sound_answer st k h fields (J.Kept e) s a =
     let l = length-append st.decls (e ∷ []) in
     let w = s.within in

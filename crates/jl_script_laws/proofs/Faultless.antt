@@ -22,20 +22,20 @@ use Rattle.jl_formed.specs.Formed as G
 use Rattle.jl_formed.specs.Formed.{FormedHeader, FormedFields, FormedItem, FormedItems}
 use Rattle.jl_written.specs.declared.fault.Fault.{Fault}
 use Rattle.jl_written.specs.declared.fault.StaticKind.TheVariants as kind
-use Rattle.jl_written.specs.Reads.{unread}
+use Rattle.jl_written.specs.Reads.{no_reading}
 use Rattle.jl_written.specs.Signatures.{all_bound, option_reads}
 use Rattle.jl_type_laws.proofs.CarryLemmas.{nothing_carried}
 use Rattle.jl_type_laws.proofs.ReadLemmas.{option_law, all_law, bound_law}
 use Rattle.jl_declare.specs.declared.judged.Judged.{Judged}
 use Rattle.jl_declare.specs.declared.judged.Judged.TheVariants as J
 use Rattle.jl_declare.specs.Declaration.{fields_of, heading, field_of, outline, declaration}
-use Rattle.jl_declare.specs.Declarations.{Declaring, no_declaration, with_fault, named_fault, text_fault, IsDeclared, DeclaresOne, Declares}
-use Rattle.jl_resolve_forms.specs.Top.{resolved}
+use Rattle.jl_declare.specs.Declarations.{Declaring, no_declaration, with_fault, name_fault, text_fault, IsDeclared, DeclaresOne, Declares}
+use Rattle.jl_resolve_forms.specs.Top.{resolve}
 use Rattle.jl_resolve_forms.specs.TypesIn.{Tests}
 use Rattle.jl_valid.proofs.CleanTrees.{begins_clean}
 use Rattle.jl_declare.specs.Script.{known_of}
 use Rattle.jl_names.specs.Numbers.{names_of}
-use Rattle.jl_declare.specs.Judgement.{IsJudged, kept, refused, IsAnswer, kept_in, shown, refusal_at}
+use Rattle.jl_declare.specs.Judgement.{IsJudged, kept, refused, IsAnswer, kept_in, keep_shown, refusal_at}
 use Rattle.jl_valid.specs.Asked.{IsKnownOf, AreTold}
 use Rattle.jl_valid.proofs.AddsLemmas.{and, left, right}
 use Rattle.jl_valid.proofs.FaultLemmas.{some_none, first_some}
@@ -48,7 +48,7 @@ no_fault : (f g : Option Fault) → with_fault f g ≡ None → (f ≡ None) × 
 no_fault f None e = (e, refl)
 no_fault f (Some g) e = absurd (first_some f g e)
 
-no_named : (at : ℕ) (name : List ℕ) → named_fault at name ≡ None → is_among name builtin_names ≡ false
+no_named : (at : ℕ) (name : List ℕ) → name_fault at name ≡ None → is_among name builtin_names ≡ false
 no_named at name e = by (is_among name builtin_names) (record { at = at; kind = kind.NameClash }) e
   where
     by : (b : Bool) (f : Fault) → cond b (Some f) None ≡ None → b ≡ false
@@ -93,7 +93,7 @@ kept_named ds d e h n =
 
 -- ---- what is answered
 
-judged_named : (ds : List Decl) (d : Decl) (j : Judged) → IsJudged ds d j → is_named d ≡ true → is_named (shown j d) ≡ true
+judged_named : (ds : List Decl) (d : Decl) (j : Judged) → IsJudged ds d j → is_named d ≡ true → is_named (keep_shown j d) ≡ true
 judged_named ds d _ (kept e allowed is) n = kept_named ds d e is n
 judged_named ds d _ (refused f k named is) n = n
 
@@ -105,12 +105,12 @@ abbrev Told : List Decl → Decl → Bool → Bool → Bool → Bool → Judged 
 Told ds d among unknown part all j =
     IsAnswer ds d (cond among (Some (J.Refused kind.DuplicateType)) (cond unknown (Some J.Unjudged) (cond part (Some (J.Refused kind.WrongParameterCount)) (cond all None (Some J.Unjudged))))) j
 
-told_named : (ds : List Decl) (d : Decl) (among unknown part all : Bool) (j : Judged) → Told ds d among unknown part all j → is_named d ≡ true → is_named (shown j d) ≡ true
-told_named ds d true unclear part all j e n = ap (λ z. is_named (shown z d)) e ∙ n
-told_named ds d false true part all j e n = ap (λ z. is_named (shown z d)) e ∙ n
-told_named ds d false false true all j e n = ap (λ z. is_named (shown z d)) e ∙ n
+told_named : (ds : List Decl) (d : Decl) (among unknown part all : Bool) (j : Judged) → Told ds d among unknown part all j → is_named d ≡ true → is_named (keep_shown j d) ≡ true
+told_named ds d true unclear part all j e n = ap (λ z. is_named (keep_shown z d)) e ∙ n
+told_named ds d false true part all j e n = ap (λ z. is_named (keep_shown z d)) e ∙ n
+told_named ds d false false true all j e n = ap (λ z. is_named (keep_shown z d)) e ∙ n
 told_named ds d false false false true j e n = judged_named ds d j e n
-told_named ds d false false false false j e n = ap (λ z. is_named (shown z d)) e ∙ n
+told_named ds d false false false false j e n = ap (λ z. is_named (keep_shown z d)) e ∙ n
 
 told_kept :
     (ds : List Decl) (d : Decl) (among unknown part all : Bool) (j : Judged) (at : ℕ) → Told ds d among unknown part all j → refusal_at at j ≡ None → unknown ≡ false → all ≡ true
@@ -124,11 +124,11 @@ told_kept ds d false false false false j at e n u a = absurd (true≢false (sym 
 -- without a fault each name in a declaration means something
 meant : (ds : List Decl) (k : DeclKind) (h : Header) (fields : List FieldText) → (declaration ds k h fields).reading.fault ≡ None → (declaration ds k h fields).reading.unknown ≡ false
 meant ds k h fields e =
-    let s = all_bound ds h.params [] unread in
+    let s = all_bound ds h.params [] no_reading in
     let p = option_reads ds h.parent s.vars s.after in
     let x = heading ds k h in
     let own = ds ++ x.own ∷ [] in
-    let first = (bound_law ds _ _ _ _ (nothing_carried ds) h.params [] unread).grows in
+    let first = (bound_law ds _ _ _ _ (nothing_carried ds) h.params [] no_reading).grows in
     let second = (option_law ds _ _ _ _ (nothing_carried ds) h.parent s.vars s.after).grows in
     let third = (all_law own _ _ _ _ (nothing_carried own) (map (λ (f : FieldText). f.ty) fields) x.vars x.reading).grows in
     let e2 = third.faultless e in
@@ -148,13 +148,13 @@ declared_goes k h fs st z formed fields (j, judged, is) e =
     let r = declaration st.decls k h fs in
     let at = h.name.at in
     let outer = no_fault (text_fault h.name r st.fault) (refusal_at at j) (sym (ap (λ (y : Declaring). y.fault) is) ∙ e) in
-    let text = no_fault (with_fault st.fault (named_fault at h.name.bytes)) r.reading.fault outer.0 in
-    let name = no_fault st.fault (named_fault at h.name.bytes) text.0 in
+    let text = no_fault (with_fault st.fault (name_fault at h.name.bytes)) r.reading.fault outer.0 in
+    let name = no_fault st.fault (name_fault at h.name.bytes) text.0 in
     let free = free_from h.name.bytes formed.name (no_named at h.name.bytes name.1) in
     let own = declared_named (r.whole && not r.reading.unknown) k h (record (heading st.decls k h).own { fields = _ }) formed.name free refl (fields_named fs _ fields) in
     let among = is_among r.decl.name (names_of st.decls) in
     let all = nat_eq st.allowed (length st.decls) in
-    let d = shown j r.decl in
+    let d = keep_shown j r.decl in
     let decls : z.decls ≡ st.decls ++ d ∷ [] = ap (λ (y : Declaring). y.decls) is in
     record {
       clean = name.0;
@@ -218,7 +218,7 @@ known items d formed h declared e =
 
 pub program_valid :
     (t : Tests) (items : List Item) (d : Declaring) → FormedItems items → Declares items no_declaration d → Declared (take d.allowed d.decls) → AreTold (take d.allowed d.decls) t
-    → (resolved t (known_of items d.decls) items d.fault).fault ≡ None → IsValid (resolved t (known_of items d.decls) items d.fault).program
+    → (resolve t (known_of items d.decls) items d.fault).fault ≡ None → IsValid (resolve t (known_of items d.decls) items d.fault).program
 program_valid t items d formed h declared told e =
     let k = known_of items d.decls in
     let none = begins_clean t k items d.fault formed e in

@@ -7,7 +7,7 @@ ghost use Rattle.jl_model.specs.Refusals.{Declared};
 ghost use Rattle.jl_program.specs.Valid.{IsValid};
 ghost use Rattle.jl_grammar.specs.declared.tree.Item.{Item};
 ghost use Rattle.jl_formed.specs.Formed.{FormedItems};
-ghost use Rattle.jl_resolve_forms.specs.Top.{resolved};
+ghost use Rattle.jl_resolve_forms.specs.Top.{resolve};
 ghost use Rattle.jl_resolve_forms.specs.TypesIn.{Tests};
 ghost use Rattle.jl_judge.specs.Right.{IsRight};
 ghost use Rattle.jl_valid.specs.Asked.{AreTold};
@@ -32,5 +32,5 @@ pub fn law_right_tests()
 #[tactic(none)]
 pub fn law_program()
     ensures { (t : Tests) (items : List Item) (d : Declaring) → FormedItems items → Declares items no_declaration d → Declared (take d.allowed d.decls) → AreTold (take d.allowed d.decls) t
-        → (resolved t (known_of items d.decls) items d.fault).fault ≡ None → IsValid (resolved t (known_of items d.decls) items d.fault).program }
+        → (resolve t (known_of items d.decls) items d.fault).fault ≡ None → IsValid (resolve t (known_of items d.decls) items d.fault).program }
 {}

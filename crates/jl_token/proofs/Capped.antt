@@ -1,7 +1,7 @@
 -- A value that stops at the greatest number.
 use Rattle.std.proofs.Common.{◌≡◌, ℕ, ◌+◌, ◌-◌, ◌*◌, ◌^◌, ◌<◌, min, true, false, cond, ◌&&◌, ◌==◌, List, [], ◌∷◌, sym, ap, ◌∙◌, arith}
 use Rattle.std.specs.Char.{is_ascii_digit}
-use Rattle.jl_token.specs.Characters.{begins}
+use Rattle.jl_token.specs.Characters.{has_first}
 use Rattle.jl_token.specs.Reading.{digits}
 
 -- a value and a rest, where the value is at most the greatest `u64`
@@ -15,11 +15,11 @@ capped-once n d = omega arith
 pub capped-digits : (m n : ℕ) (cs : List ℕ) → min m (2 ^ 64 - 1) ≡ min n (2 ^ 64 - 1) → capped (digits m cs) ≡ capped (digits n cs)
 capped-digits m n [] e = ap (λ k. (k, [])) e
 capped-digits m n (c ∷ cs) e =
-    elim (is_ascii_digit c) as (λ t. capped (cond t (digits (10 * m + (c - 48)) cs) (cond ((c == 95) && begins is_ascii_digit cs) (digits m cs) (m, c ∷ cs)))
-    ≡ capped (cond t (digits (10 * n + (c - 48)) cs) (cond ((c == 95) && begins is_ascii_digit cs) (digits n cs) (n, c ∷ cs)))) [
+    elim (is_ascii_digit c) as (λ t. capped (cond t (digits (10 * m + (c - 48)) cs) (cond ((c == 95) && has_first is_ascii_digit cs) (digits m cs) (m, c ∷ cs)))
+    ≡ capped (cond t (digits (10 * n + (c - 48)) cs) (cond ((c == 95) && has_first is_ascii_digit cs) (digits n cs) (n, c ∷ cs)))) [
       | true ↦ capped-digits (10 * m + (c - 48)) (10 * n + (c - 48)) cs (omega arith)
       | false ↦
-          elim ((c == 95) && begins is_ascii_digit cs) as (λ t. capped (cond t (digits m cs) (m, c ∷ cs)) ≡ capped (cond t (digits n cs) (n, c ∷ cs))) [
+          elim ((c == 95) && has_first is_ascii_digit cs) as (λ t. capped (cond t (digits m cs) (m, c ∷ cs)) ≡ capped (cond t (digits n cs) (n, c ∷ cs))) [
             | true ↦ capped-digits m n cs e
             | false ↦ ap (λ k. (k, c ∷ cs)) e
           ]
@@ -29,7 +29,7 @@ capped-digits m n (c ∷ cs) e =
 pub capped-digit : (n sat c : ℕ) (rest after : List ℕ) (all : ℕ × List ℕ) → rest ≡ c ∷ after → is_ascii_digit c ≡ true
     → sat ≡ min (min (n * 10) (2 ^ 64 - 1) + (c - 48)) (2 ^ 64 - 1) → capped (digits n rest) ≡ all → capped (digits sat after) ≡ all
 capped-digit n sat c rest after all split digit is same =
-    let step : digits n rest ≡ digits (10 * n + (c - 48)) after = ap (digits n) split ∙ ap (λ t. cond t (digits (10 * n + (c - 48)) after) (cond ((c == 95) && begins is_ascii_digit after) (digits n after) (n, c ∷ after))) digit in
+    let step : digits n rest ≡ digits (10 * n + (c - 48)) after = ap (digits n) split ∙ ap (λ t. cond t (digits (10 * n + (c - 48)) after) (cond ((c == 95) && has_first is_ascii_digit after) (digits n after) (n, c ∷ after))) digit in
     capped-digits sat (10 * n + (c - 48)) after (omega arith) ∙ sym (ap capped step) ∙ same
 
 -- no more digits
@@ -38,10 +38,10 @@ capped-ends n rest all small ends same =
     let e : min n (2 ^ 64 - 1) ≡ min all.0 (2 ^ 64 - 1) = ap (λ p. p.0) (sym (ap capped ends) ∙ same) in
     omega arith
 
-pub digits-stop : (n c : ℕ) (rest after : List ℕ) → rest ≡ c ∷ after → is_ascii_digit c ≡ false → ((c == 95) && begins is_ascii_digit after) ≡ false → digits n rest ≡ (n, rest)
+pub digits-stop : (n c : ℕ) (rest after : List ℕ) → rest ≡ c ∷ after → is_ascii_digit c ≡ false → ((c == 95) && has_first is_ascii_digit after) ≡ false → digits n rest ≡ (n, rest)
 digits-stop n c rest after split other stop =
     ap (digits n) split
-    ∙ ap (λ t. cond t (digits (10 * n + (c - 48)) after) (cond ((c == 95) && begins is_ascii_digit after) (digits n after) (n, c ∷ after))) other
+    ∙ ap (λ t. cond t (digits (10 * n + (c - 48)) after) (cond ((c == 95) && has_first is_ascii_digit after) (digits n after) (n, c ∷ after))) other
     ∙ ap (λ t. cond t (digits n after) (n, c ∷ after)) stop
     ∙ ap (λ l. (n, l)) (sym split)
 

@@ -2,7 +2,7 @@
 use Rattle.std.proofs.Common.{◌≡◌, ℕ, zero, suc, ◌+◌, ◌-◌, Bool, true, false, cond, not, ◌==◌, List, [], ◌∷◌, ◌++◌, Option, Some, None, refl, sym, ap, ◌∙◌, subst, append_assoc, arith, add-one}
 use Rattle.std.specs.List.{AllByRecursion}
 use Rattle.std.proofs.lemmas.Bool.{eqb-true, ne_eqb}
-use Rattle.jl_token.specs.Characters.{closes, opens, begins}
+use Rattle.jl_token.specs.Characters.{is_comment_end, is_comment_start, has_first}
 use Rattle.jl_token.specs.Grammar.{Comment, ends, nested, inside}
 use Rattle.jl_token.specs.Reading.{after_line, after_comment}
 use Rattle.jl_token.proofs.Choices.{if-sound, both-and}
@@ -16,7 +16,7 @@ abbrev pub InLine : List ℕ → Type 0
 InLine = AllByRecursion (λ c. (c == 10) ≡ false)
 
 abbrev pub EndsLine : List ℕ → Type 0
-EndsLine rest = begins (λ c. not (c == 10)) rest ≡ false
+EndsLine rest = has_first (λ c. not (c == 10)) rest ≡ false
 
 -- the text is characters of the line, and this rest
 abbrev pub LineOf : List ℕ → List ℕ → Type 0
@@ -58,7 +58,7 @@ comment-goes _ ends around rest = refl
 comment-goes _ (nested v w a b) around rest =
     ap (after_comment (around + 1)) (append_assoc v w rest) ∙ comment-goes v a (around + 1) (w ++ rest) ∙ next-outer around (w ++ rest) ∙ comment-goes w b around rest
 comment-goes _ (inside c d w no_end no_begin a) around rest =
-    ap (λ b. cond b (next around (w ++ rest)) (cond (opens c d) (after_comment (around + 1) (w ++ rest)) (after_comment around (d ∷ w ++ rest)))) no_end
+    ap (λ b. cond b (next around (w ++ rest)) (cond (is_comment_start c d) (after_comment (around + 1) (w ++ rest)) (after_comment around (d ∷ w ++ rest)))) no_end
     ∙ ap (λ b. cond b (after_comment (around + 1) (w ++ rest)) (after_comment around (d ∷ w ++ rest))) no_begin
     ∙ comment-goes (d ∷ w) a around rest
 
@@ -73,7 +73,7 @@ comment-front _ (nested v w a b) = (35, 61 ∷ v ++ w, refl)
 comment-front _ (inside c d w x y a) = (c, d ∷ w, refl)
 
 -- one character more, which begins neither `=#` nor `#=`
-comment-more : (c d : ℕ) (w cs rest : List ℕ) → closes c d ≡ false → opens c d ≡ false → d ∷ cs ≡ w ++ rest → Comment w → Comment (c ∷ w)
+comment-more : (c d : ℕ) (w cs rest : List ℕ) → is_comment_end c d ≡ false → is_comment_start c d ≡ false → d ∷ cs ≡ w ++ rest → Comment w → Comment (c ∷ w)
 comment-more c d w cs rest x y split a =
     let front = comment-front w a in
     let whole : d ∷ cs ≡ front.0 ∷ front.1 ++ rest = split ∙ ap (λ l. l ++ rest) front.2 in
@@ -81,7 +81,7 @@ comment-more c d w cs rest x y split a =
     let form : w ≡ d ∷ front.1 = front.2 ∙ ap (λ k. k ∷ front.1) (sym same) in
     subst (λ l. Comment (c ∷ l)) (sym form) (inside c d front.1 x y (subst Comment form a))
 
-more-comments : (around c d : ℕ) (w cs rest : List ℕ) → closes c d ≡ false → opens c d ≡ false → d ∷ cs ≡ w ++ rest → Comments around w → Comments around (c ∷ w)
+more-comments : (around c d : ℕ) (w cs rest : List ℕ) → is_comment_end c d ≡ false → is_comment_start c d ≡ false → d ∷ cs ≡ w ++ rest → Comments around w → Comments around (c ∷ w)
 more-comments zero c d w cs rest x y split a = comment-more c d w cs rest x y split a
 more-comments (suc n) c d w cs rest x y split a =
     let first : d ∷ cs ≡ a.0 ++ (a.1 ++ rest) = split ∙ ap (λ l. l ++ rest) a.2 ∙ append_assoc a.0 a.1 rest in
@@ -107,7 +107,7 @@ opened-comments : (around : ℕ) (cs : List ℕ) (o : Option (List ℕ)) → Com
 opened-comments around cs None a = tt
 opened-comments around cs (Some rest) a = (35 ∷ 61 ∷ a.0, ap (λ l. 35 ∷ 61 ∷ l) a.1, within-comments around a.0 a.2)
 
-other-comments : (around c d : ℕ) (cs : List ℕ) (o : Option (List ℕ)) → closes c d ≡ false → opens c d ≡ false → CommentsOf around (d ∷ cs) o → CommentsOf around (c ∷ d ∷ cs) o
+other-comments : (around c d : ℕ) (cs : List ℕ) (o : Option (List ℕ)) → is_comment_end c d ≡ false → is_comment_start c d ≡ false → CommentsOf around (d ∷ cs) o → CommentsOf around (c ∷ d ∷ cs) o
 other-comments around c d cs None x y a = tt
 other-comments around c d cs (Some rest) x y a = (c ∷ a.0, ap (λ l. c ∷ l) a.1, more-comments around c d a.0 cs rest x y a.1 a.2)
 
@@ -124,11 +124,11 @@ pub comments-found : (around : ℕ) (cs : List ℕ) → CommentsOf around cs (af
 comments-found around [] = tt
 comments-found around (c ∷ []) = tt
 comments-found around (c ∷ d ∷ cs) =
-    if-sound (CommentsOf around (c ∷ d ∷ cs)) (closes c d) (next around cs) (cond (opens c d) (after_comment (around + 1) cs) (after_comment around (d ∷ cs)))
+    if-sound (CommentsOf around (c ∷ d ∷ cs)) (is_comment_end c d) (next around cs) (cond (is_comment_start c d) (after_comment (around + 1) cs) (after_comment around (d ∷ cs)))
     (λ is.
     let both = both-and (c == 61) (d == 35) is in
     subst (λ p. CommentsOf around (p.0 ∷ p.1 ∷ cs) (next around cs)) (sym (pair-is c d 61 35 (eqb-true c 61 both.0) (eqb-true d 35 both.1))) (next-comments around cs (λ n. comments-found n cs)))
-    (λ no_end. if-sound (CommentsOf around (c ∷ d ∷ cs)) (opens c d) (after_comment (around + 1) cs) (after_comment around (d ∷ cs))
+    (λ no_end. if-sound (CommentsOf around (c ∷ d ∷ cs)) (is_comment_start c d) (after_comment (around + 1) cs) (after_comment around (d ∷ cs))
     (λ is.
     let both = both-and (c == 35) (d == 61) is in
     let more : CommentsOf (suc around) cs (after_comment (around + 1) cs) = subst (λ n. CommentsOf n cs (after_comment (around + 1) cs)) (add-one around) (comments-found (around + 1) cs) in

@@ -6,7 +6,7 @@ use Rattle.jl_token.specs.declared.token.TokenKind.TheVariants as kind
 use Rattle.jl_token.specs.declared.token.TokenFault.{TokenFault}
 use Rattle.jl_token.specs.declared.token.TokenFault.TheVariants as fault
 use Rattle.jl_token.specs.Characters.{place}
-use Rattle.jl_token.specs.Prefix.{is_prefix_behind}
+use Rattle.jl_token.specs.Prefix.{is_prefix_after}
 use Rattle.jl_token.specs.Grammar.{Reads, at_end, faulty, between, token, with_token, UnlessMemory}
 use Rattle.jl_token.specs.Pieces.{piece, Fails}
 use Rattle.jl_token.proofs.OneReading.{Answer}
@@ -34,7 +34,7 @@ begins bytes whole found none r d = subst (Reads bytes true whole) (sym (ap (λ 
 
 -- behind a token
 pub takes : (bytes : ℕ) (whole : List ℕ) (found more : List Token) (prefix now : Bool) (text rest : List ℕ) (k : TokenKind) (at : ℕ) → (text ≡ [] → ⊥)
-    → piece bytes prefix text ≡ Ok (Some k, rest) → now ≡ is_prefix_behind k → at ≡ place bytes text → more ≡ found ++ record { kind = k; at = at } ∷ []
+    → piece bytes prefix text ≡ Ok (Some k, rest) → now ≡ is_prefix_after k → at ≡ place bytes text → more ≡ found ++ record { kind = k; at = at } ∷ []
     → SoFar bytes whole found prefix text → SoFar bytes whole more now rest
 takes bytes whole found more prefix now [] rest k at full is behind here grown so_far = absurd (full refl)
 takes bytes whole found more prefix now (c ∷ cs) rest k at full is behind here grown so_far = λ r d.

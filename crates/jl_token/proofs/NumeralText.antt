@@ -3,7 +3,7 @@ use Rattle.std.proofs.Common.{◌≡◌, ℕ, ◌+◌, ◌-◌, ◌*◌, true, f
 use Rattle.std.proofs.lemmas.Bool.{eqb-true}
 use Rattle.std.proofs.lemmas.List.{append-nil}
 use Rattle.std.specs.Char.{is_ascii_digit}
-use Rattle.jl_token.specs.Characters.{begins}
+use Rattle.jl_token.specs.Characters.{has_first}
 use Rattle.jl_token.specs.Grammar.{Numeral, digit, digit_more, digit_joined, NumeralEnds}
 use Rattle.jl_token.specs.Reading.{digits}
 use Rattle.jl_token.proofs.Choices.{if-sound, both-and}
@@ -12,7 +12,7 @@ abbrev step : ℕ → ℕ → ℕ
 step n c = 10 * n + (c - 48)
 
 pub digits-one : (n c : ℕ) (cs : List ℕ) → is_ascii_digit c ≡ true → digits n (c ∷ cs) ≡ digits (step n c) cs
-digits-one n c cs e = ap (λ t. cond t (digits (step n c) cs) (cond ((c == 95) && begins is_ascii_digit cs) (digits n cs) (n, c ∷ cs))) e
+digits-one n c cs e = ap (λ t. cond t (digits (step n c) cs) (cond ((c == 95) && has_first is_ascii_digit cs) (digits n cs) (n, c ∷ cs))) e
 
 pub digits-over : (n d : ℕ) (cs : List ℕ) → is_ascii_digit d ≡ true → digits n (95 ∷ d ∷ cs) ≡ digits (step n d) cs
 digits-over n d cs e = ap (λ t. cond t (digits n (d ∷ cs)) (n, 95 ∷ d ∷ cs)) e ∙ digits-one n d cs e
@@ -20,7 +20,7 @@ digits-over n d cs e = ap (λ t. cond t (digits n (d ∷ cs)) (n, 95 ∷ d ∷ c
 pub digits-last : (n : ℕ) (rest : List ℕ) → NumeralEnds rest → digits n rest ≡ (n, rest)
 digits-last n [] ends = refl
 digits-last n (c ∷ cs) ends =
-    ap (λ t. cond t (digits (step n c) cs) (cond ((c == 95) && begins is_ascii_digit cs) (digits n cs) (n, c ∷ cs))) ends.0
+    ap (λ t. cond t (digits (step n c) cs) (cond ((c == 95) && has_first is_ascii_digit cs) (digits n cs) (n, c ∷ cs))) ends.0
     ∙ ap (λ t. cond t (digits n cs) (n, c ∷ cs)) ends.1
 
 -- a numeral is read whole

@@ -5,7 +5,7 @@ use Rattle.jl_token.specs.declared.token.TokenKind.{TokenKind}
 use Rattle.jl_token.specs.declared.token.TokenKind.TheVariants as kind
 use Rattle.jl_token.specs.declared.token.TokenFault.{TokenFault}
 use Rattle.jl_token.specs.Characters.{place}
-use Rattle.jl_token.specs.Prefix.{is_prefix_behind}
+use Rattle.jl_token.specs.Prefix.{is_prefix_after}
 use Rattle.jl_token.specs.Grammar.{Spells, Numeral, Between, blank, line, block, FaultAt, large, large_negative, spoiled, spoiled_negative, wrong_escape, open_string, open_comment, stray, Reads, at_end, faulty, between, token, with_token}
 use Rattle.jl_token.specs.Pieces.{Piece, piece}
 use Rattle.jl_token.proofs.OperatorText.{operator_text, some-operator}
@@ -63,7 +63,7 @@ empty-reads _ _ _ _ (token bytes prefix w k rest r is ends d) e = absurd (token-
 
 abbrev GoesOn : ℕ → Bool → List ℕ → Answer → Option TokenKind → List ℕ → Type 0
 GoesOn bytes prefix text r None rest = Reads bytes prefix rest r
-GoesOn bytes prefix text r (Some k) rest = (s : Answer) × Reads bytes (is_prefix_behind k) rest s × (r ≡ with_token k (place bytes text) s)
+GoesOn bytes prefix text r (Some k) rest = (s : Answer) × Reads bytes (is_prefix_after k) rest s × (r ≡ with_token k (place bytes text) s)
 
 abbrev Goes : ℕ → Bool → List ℕ → Answer → Piece → Type 0
 Goes bytes prefix text r (Err f) = r ≡ Err f
@@ -85,4 +85,4 @@ one-reading _ _ _ _ q (between bytes prefix w rest r is d) other =
     one-reading bytes prefix rest r q d (subst (Goes bytes prefix (w ++ rest) q) (between-goes bytes prefix w rest is) (goes bytes prefix (w ++ rest) q other (between-full w rest is)))
 one-reading _ _ _ _ q (token bytes prefix w k rest r is ends d) other =
     let more = subst (Goes bytes prefix (w ++ rest) q) (token-goes bytes prefix w k rest is ends) (goes bytes prefix (w ++ rest) q other (token-full prefix w k rest is)) in
-    ap (with_token k (place bytes (w ++ rest))) (one-reading bytes (is_prefix_behind k) rest r more.0 d more.1) ∙ sym more.2
+    ap (with_token k (place bytes (w ++ rest))) (one-reading bytes (is_prefix_after k) rest r more.0 d more.1) ∙ sym more.2

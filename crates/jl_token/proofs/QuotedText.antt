@@ -4,7 +4,7 @@ use Rattle.std.specs.Char.{encode_utf8}
 use Rattle.std.proofs.lemmas.Bool.{eqb-true}
 use Rattle.jl_token.specs.Characters.{escape}
 use Rattle.jl_token.specs.Grammar.{Quoted, nothing, plain, escaped, is_plain, Ended, quote, taken, passed, IsWrongEscape}
-use Rattle.jl_token.specs.Reading.{after_string, unescaped, with_front, with_escape}
+use Rattle.jl_token.specs.Reading.{after_string, unescape, with_front, with_escape}
 use Rattle.jl_token.proofs.Choices.{if-sound}
 use Rattle.jl_token.proofs.StringText.{with_front-nil, with_front-twice}
 
@@ -65,15 +65,15 @@ escape-found : (c m : ℕ) (cs rest : List ℕ) (read : Result (List ℕ) (List 
 escape-found c m cs rest (Ok bytes) is b = (92 ∷ c ∷ b.0, ap (λ l. 92 ∷ c ∷ l) b.1, escaped c m b.0 bytes is b.2)
 escape-found c m cs rest (Err wrong) is b = (92 ∷ c ∷ b.0, encode_utf8 m ++ b.1, ap (λ l. 92 ∷ c ∷ l) b.2, escaped c m b.0 b.1 is b.3, b.4, b.5)
 
-slash-found : (o : Option ℕ) (c : ℕ) (cs rest : List ℕ) → escape c ≡ o → Ended cs → BodyOf cs rest (unescaped cs) → BodyOf (92 ∷ c ∷ cs) rest (with_escape o (92 ∷ c ∷ cs) (unescaped cs))
+slash-found : (o : Option ℕ) (c : ℕ) (cs rest : List ℕ) → escape c ≡ o → Ended cs → BodyOf cs rest (unescape cs) → BodyOf (92 ∷ c ∷ cs) rest (with_escape o (92 ∷ c ∷ cs) (unescape cs))
 slash-found None c cs rest is e b = ([], [], refl, nothing, inr (refl, is), taken c cs e)
-slash-found (Some m) c cs rest is e b = escape-found c m cs rest (unescaped cs) is b
+slash-found (Some m) c cs rest is e b = escape-found c m cs rest (unescape cs) is b
 
 more-found : (q d w : Bool) (c u : ℕ) (cs rest : List ℕ) → (c == 34) ≡ q → (c == 36) ≡ d → (c == 92) ≡ w
     → cond q (ends (u ∷ cs)) (cond w (after_string false cs) (after_string false (u ∷ cs))) ≡ ends rest
-    → (after_string false cs ≡ ends rest → BodyOf cs rest (unescaped cs))
-    → (after_string false (u ∷ cs) ≡ ends rest → BodyOf (u ∷ cs) rest (unescaped (u ∷ cs)))
-    → BodyOf (c ∷ u ∷ cs) rest (cond q (Ok []) (cond d (Err (c ∷ u ∷ cs)) (cond w (with_escape (escape u) (c ∷ u ∷ cs) (unescaped cs)) (with_front (encode_utf8 c) (unescaped (u ∷ cs))))))
+    → (after_string false cs ≡ ends rest → BodyOf cs rest (unescape cs))
+    → (after_string false (u ∷ cs) ≡ ends rest → BodyOf (u ∷ cs) rest (unescape (u ∷ cs)))
+    → BodyOf (c ∷ u ∷ cs) rest (cond q (Ok []) (cond d (Err (c ∷ u ∷ cs)) (cond w (with_escape (escape u) (c ∷ u ∷ cs) (unescape cs)) (with_front (encode_utf8 c) (unescape (u ∷ cs))))))
 more-found true d w c u cs rest is_quote is_dollar is_slash e inner next =
     let same : u ∷ cs ≡ rest = cc in
     ([], ap (λ k. k ∷ u ∷ cs) (eqb-true c 34 is_quote) ∙ ap (λ l. 34 ∷ l) same, nothing)
@@ -85,13 +85,13 @@ more-found false true false c u cs rest is_quote is_dollar is_slash e inner next
     ([], [], refl, nothing, inl (eqb-true c 36 is_dollar), passed c (u ∷ cs) is_quote is_slash (ended-is (u ∷ cs) rest e))
 more-found false false true c u cs rest is_quote is_dollar is_slash e inner next =
     let read = slash-found (escape u) u cs rest refl (ended-is cs rest e) (inner e) in
-    subst (λ k. BodyOf (k ∷ u ∷ cs) rest (with_escape (escape u) (k ∷ u ∷ cs) (unescaped cs))) (sym (eqb-true c 92 is_slash)) read
+    subst (λ k. BodyOf (k ∷ u ∷ cs) rest (with_escape (escape u) (k ∷ u ∷ cs) (unescape cs))) (sym (eqb-true c 92 is_slash)) read
 more-found false false false c u cs rest is_quote is_dollar is_slash e inner next =
     let is : is_plain c ≡ true = ap (λ b. not (b || (c == 92) || (c == 36))) is_quote ∙ ap (λ b. not (b || (c == 36))) is_slash ∙ ap not is_dollar in
-    plain-found c (u ∷ cs) rest (unescaped (u ∷ cs)) is (next e)
+    plain-found c (u ∷ cs) rest (unescape (u ∷ cs)) is (next e)
 
 -- what is found in a text that has an end
-pub string-found : (cs rest : List ℕ) → after_string false cs ≡ ends rest → BodyOf cs rest (unescaped cs)
+pub string-found : (cs rest : List ℕ) → after_string false cs ≡ ends rest → BodyOf cs rest (unescape cs)
 string-found [] rest e = absurd cc
 string-found (c ∷ []) rest e = last-found (c == 34) ((c == 36) || (c == 92)) c (encode_utf8 c ++ []) rest (eqb-true c 34) e
 string-found (c ∷ d ∷ cs) rest e =
@@ -115,26 +115,26 @@ quoted-ends _ _ (plain c cs bytes is q) t =
     ap (λ b. cond b (Some (cs ++ t)) (after_string (c == 92) (cs ++ t))) n.0 ∙ ap (λ b. after_string b (cs ++ t)) n.1 ∙ quoted-ends cs bytes q t
 quoted-ends _ _ (escaped c m cs bytes is q) t = quoted-ends cs bytes q t
 
-unescaped-plain : (c u : ℕ) (us : List ℕ) → is_plain c ≡ true → unescaped (c ∷ u ∷ us) ≡ with_front (encode_utf8 c) (unescaped (u ∷ us))
-unescaped-plain c u us is =
+unescape-plain : (c u : ℕ) (us : List ℕ) → is_plain c ≡ true → unescape (c ∷ u ∷ us) ≡ with_front (encode_utf8 c) (unescape (u ∷ us))
+unescape-plain c u us is =
     let n = not-plain c is in
-    let slash = cond (c == 92) (with_escape (escape u) (c ∷ u ∷ us) (unescaped us)) (with_front (encode_utf8 c) (unescaped (u ∷ us))) in
+    let slash = cond (c == 92) (with_escape (escape u) (c ∷ u ∷ us) (unescape us)) (with_front (encode_utf8 c) (unescape (u ∷ us))) in
     ap (λ b. cond b (Ok []) (cond (c == 36) (Err (c ∷ u ∷ us)) slash)) n.0
     ∙ ap (λ b. cond b (Err (c ∷ u ∷ us)) slash) n.2
-    ∙ ap (λ b. cond b (with_escape (escape u) (c ∷ u ∷ us) (unescaped us)) (with_front (encode_utf8 c) (unescaped (u ∷ us)))) n.1
+    ∙ ap (λ b. cond b (with_escape (escape u) (c ∷ u ∷ us) (unescape us)) (with_front (encode_utf8 c) (unescape (u ∷ us)))) n.1
 
-unescaped-front : (c x : ℕ) (cs t : List ℕ) → is_plain c ≡ true → unescaped (c ∷ cs ++ x ∷ t) ≡ with_front (encode_utf8 c) (unescaped (cs ++ x ∷ t))
-unescaped-front c x [] t is = unescaped-plain c x t is
-unescaped-front c x (u ∷ us) t is = unescaped-plain c u (us ++ x ∷ t) is
+unescape-front : (c x : ℕ) (cs t : List ℕ) → is_plain c ≡ true → unescape (c ∷ cs ++ x ∷ t) ≡ with_front (encode_utf8 c) (unescape (cs ++ x ∷ t))
+unescape-front c x [] t is = unescape-plain c x t is
+unescape-front c x (u ∷ us) t is = unescape-plain c u (us ++ x ∷ t) is
 
-pub quoted-goes : (body meant : List ℕ) → Quoted body meant → (x : ℕ) (t : List ℕ) → unescaped (body ++ x ∷ t) ≡ with_front meant (unescaped (x ∷ t))
-quoted-goes _ _ nothing x t = sym (with_front-nil (unescaped (x ∷ t)))
+pub quoted-goes : (body meant : List ℕ) → Quoted body meant → (x : ℕ) (t : List ℕ) → unescape (body ++ x ∷ t) ≡ with_front meant (unescape (x ∷ t))
+quoted-goes _ _ nothing x t = sym (with_front-nil (unescape (x ∷ t)))
 quoted-goes _ _ (plain c cs bytes is q) x t =
-    unescaped-front c x cs t is ∙ ap (with_front (encode_utf8 c)) (quoted-goes cs bytes q x t) ∙ with_front-twice (encode_utf8 c) bytes (unescaped (x ∷ t))
+    unescape-front c x cs t is ∙ ap (with_front (encode_utf8 c)) (quoted-goes cs bytes q x t) ∙ with_front-twice (encode_utf8 c) bytes (unescape (x ∷ t))
 quoted-goes _ _ (escaped c m cs bytes is q) x t =
-    ap (λ o. with_escape o (92 ∷ c ∷ cs ++ x ∷ t) (unescaped (cs ++ x ∷ t))) is
-    ∙ ap (with_front (encode_utf8 m)) (quoted-goes cs bytes q x t) ∙ with_front-twice (encode_utf8 m) bytes (unescaped (x ∷ t))
+    ap (λ o. with_escape o (92 ∷ c ∷ cs ++ x ∷ t) (unescape (cs ++ x ∷ t))) is
+    ∙ ap (with_front (encode_utf8 m)) (quoted-goes cs bytes q x t) ∙ with_front-twice (encode_utf8 m) bytes (unescape (x ∷ t))
 
-pub wrong-goes : (c d : ℕ) (cs : List ℕ) → IsWrongEscape (c ∷ d ∷ cs) → unescaped (c ∷ d ∷ cs) ≡ Err (c ∷ d ∷ cs)
-wrong-goes c d cs (inl dollar) = subst (λ k. unescaped (k ∷ d ∷ cs) ≡ Err (k ∷ d ∷ cs)) (sym dollar) refl
-wrong-goes c d cs (inr slash) = subst (λ k. unescaped (k ∷ d ∷ cs) ≡ Err (k ∷ d ∷ cs)) (sym slash.0) (ap (λ o. with_escape o (92 ∷ d ∷ cs) (unescaped cs)) slash.1)
+pub wrong-goes : (c d : ℕ) (cs : List ℕ) → IsWrongEscape (c ∷ d ∷ cs) → unescape (c ∷ d ∷ cs) ≡ Err (c ∷ d ∷ cs)
+wrong-goes c d cs (inl dollar) = subst (λ k. unescape (k ∷ d ∷ cs) ≡ Err (k ∷ d ∷ cs)) (sym dollar) refl
+wrong-goes c d cs (inr slash) = subst (λ k. unescape (k ∷ d ∷ cs) ≡ Err (k ∷ d ∷ cs)) (sym slash.0) (ap (λ o. with_escape o (92 ∷ d ∷ cs) (unescape cs)) slash.1)

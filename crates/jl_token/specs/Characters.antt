@@ -4,27 +4,27 @@ use Rattle.std.specs.Str.{encode_utf8_all}
 use Rattle.unicode_ident.specs.Ident.{is_xid_start, is_xid_continue}
 
 -- may begin an identifier: a start character of Unicode, or `_`
-abbrev pub starts_word : ℕ → Bool
-starts_word c = is_xid_start c || (c == 95)
+abbrev pub is_word_start : ℕ → Bool
+is_word_start c = is_xid_start c || (c == 95)
 
 -- may stand in an identifier behind its first character
-abbrev pub continues_word : ℕ → Bool
-continues_word c = is_xid_continue c || (c == 95)
+abbrev pub is_word_part : ℕ → Bool
+is_word_part c = is_xid_continue c || (c == 95)
 
 -- a space, a tab or a carriage return
 abbrev pub is_blank : ℕ → Bool
 is_blank c = (c == 32) || (c == 9) || (c == 13)
 
 -- may not stand directly behind a number: `.`, or what may begin an identifier
-abbrev pub spoils_number : ℕ → Bool
-spoils_number c = (c == 46) || starts_word c
+abbrev pub is_wrong_after_number : ℕ → Bool
+is_wrong_after_number c = (c == 46) || is_word_start c
 
 -- `=#` and `#=`
-abbrev pub closes : ℕ → ℕ → Bool
-closes c d = (c == 61) && (d == 35)
+abbrev pub is_comment_end : ℕ → ℕ → Bool
+is_comment_end c d = (c == 61) && (d == 35)
 
-abbrev pub opens : ℕ → ℕ → Bool
-opens c d = (c == 35) && (d == 61)
+abbrev pub is_comment_start : ℕ → ℕ → Bool
+is_comment_start c d = (c == 35) && (d == 61)
 
 -- what the character behind a backslash stands for
 abbrev pub escape : ℕ → Option ℕ
@@ -34,9 +34,9 @@ escape c =
     else (if (c == 92) || (c == 34) || (c == 36) then Some c else None))
 
 -- the text begins with a character that passes the test
-abbrev pub begins : (ℕ → Bool) → List ℕ → Bool
-begins p [] = false
-begins p (c ∷ cs) = p c
+abbrev pub has_first : (ℕ → Bool) → List ℕ → Bool
+has_first p [] = false
+has_first p (c ∷ cs) = p c
 
 -- how many bytes the characters take
 abbrev pub width : List ℕ → ℕ

@@ -14,15 +14,15 @@ use Rattle.jl_token.specs.declared.token.TokenKind.{TokenKind}
 use Rattle.jl_token.specs.declared.token.TokenKind.TheVariants as kind
 use Rattle.jl_token.specs.declared.token.TokenFault.{TokenFault}
 use Rattle.jl_token.specs.declared.token.TokenFault.TheVariants as fault
-use Rattle.jl_token.specs.Characters.{starts_word, continues_word, is_blank, spoils_number, escape, closes, opens, begins, place}
-use Rattle.jl_token.specs.Prefix.{is_prefix_behind}
+use Rattle.jl_token.specs.Characters.{is_word_start, is_word_part, is_blank, is_wrong_after_number, escape, is_comment_end, is_comment_start, has_first, place}
+use Rattle.jl_token.specs.Prefix.{is_prefix_after}
 
 -- ---- what text spells which token
 
 -- an identifier: a character that may begin one, and any number that may continue it
 abbrev pub IsWord : List ℕ → Type 0
 IsWord [] = ⊥
-IsWord (c ∷ cs) = (starts_word c ≡ true) × AllByRecursion (λ d. continues_word d ≡ true) cs
+IsWord (c ∷ cs) = (is_word_start c ≡ true) × AllByRecursion (λ d. is_word_part d ≡ true) cs
 
 -- ASCII digits with single `_` between digits, and the number that they write
 pub data Numeral : List ℕ → ℕ → Type 0 where
@@ -81,15 +81,15 @@ spelling op.OpenBrace = codes "{"
 spelling op.CloseBrace = codes "}"
 
 -- the number with the sign `-`
-abbrev pub minus : ℕ → ℤ
-minus zero = pos 0
-minus (suc n) = negsuc n
+abbrev pub negate : ℕ → ℤ
+negate zero = pos 0
+negate (suc n) = negsuc n
 
 -- these characters spell this token; and whether they stand in a prefix place
 abbrev pub Spells : Bool → List ℕ → TokenKind → Type 0
 Spells prefix w (kind.Identifier word) = IsWord w × (word ≡ encode_utf8_all w)
 Spells prefix w (kind.Number value) = (n : ℕ) × Numeral w n × (n < 2 ^ 63) × (value ≡ pos n)
-Spells prefix w (kind.Negative value) = (v : List ℕ) × (n : ℕ) × (prefix ≡ true) × (w ≡ 45 ∷ v) × Numeral v n × (n ≤ 2 ^ 63) × (value ≡ minus n)
+Spells prefix w (kind.Negative value) = (v : List ℕ) × (n : ℕ) × (prefix ≡ true) × (w ≡ 45 ∷ v) × Numeral v n × (n ≤ 2 ^ 63) × (value ≡ negate n)
 Spells prefix w (kind.Text meant) = (body : List ℕ) × (w ≡ 34 ∷ body ++ 34 ∷ []) × Quoted body meant
 Spells prefix w (kind.Macro word) = (v : List ℕ) × (w ≡ 64 ∷ v) × IsWord v × (word ≡ encode_utf8_all v)
 Spells prefix w (kind.Operator operator) = w ≡ spelling operator
@@ -99,13 +99,13 @@ Spells prefix w kind.End = ⊥
 -- ---- where a token may end
 
 -- the text begins with a `_` before a digit
-abbrev pub joins : List ℕ → Bool
-joins [] = false
-joins (c ∷ cs) = (c == 95) && begins is_ascii_digit cs
+abbrev pub has_separator_first : List ℕ → Bool
+has_separator_first [] = false
+has_separator_first (c ∷ cs) = (c == 95) && has_first is_ascii_digit cs
 
 -- no further digit follows
 abbrev pub NumeralEnds : List ℕ → Type 0
-NumeralEnds rest = (begins is_ascii_digit rest ≡ false) × (joins rest ≡ false)
+NumeralEnds rest = (has_first is_ascii_digit rest ≡ false) × (has_separator_first rest ≡ false)
 
 -- no longer operator stands there
 abbrev pub Longest : Operator → List ℕ → Type 0
@@ -118,12 +118,12 @@ may_be_sign prefix _ = false
 
 -- this token may end before this rest
 abbrev pub Ends : Bool → TokenKind → List ℕ → Type 0
-Ends prefix (kind.Identifier word) rest = begins continues_word rest ≡ false
-Ends prefix (kind.Number value) rest = NumeralEnds rest × (begins spoils_number rest ≡ false)
-Ends prefix (kind.Negative value) rest = NumeralEnds rest × (begins spoils_number rest ≡ false)
+Ends prefix (kind.Identifier word) rest = has_first is_word_part rest ≡ false
+Ends prefix (kind.Number value) rest = NumeralEnds rest × (has_first is_wrong_after_number rest ≡ false)
+Ends prefix (kind.Negative value) rest = NumeralEnds rest × (has_first is_wrong_after_number rest ≡ false)
 Ends prefix (kind.Text meant) rest = Unit {0}
-Ends prefix (kind.Macro word) rest = begins continues_word rest ≡ false
-Ends prefix (kind.Operator operator) rest = Longest operator rest × ((may_be_sign prefix operator && begins is_ascii_digit rest) ≡ false)
+Ends prefix (kind.Macro word) rest = has_first is_word_part rest ≡ false
+Ends prefix (kind.Operator operator) rest = Longest operator rest × ((may_be_sign prefix operator && has_first is_ascii_digit rest) ≡ false)
 Ends prefix kind.Newline rest = Unit {0}
 Ends prefix kind.End rest = Unit {0}
 
@@ -136,14 +136,14 @@ pub data Comment : List ℕ → Type 0 where
   -- another comment in it
   nested : (v w : List ℕ) → Comment v → Comment w → Comment (35 ∷ 61 ∷ v ++ w)
   -- a character that begins neither an end nor a comment
-  inside : (c d : ℕ) (w : List ℕ) → closes c d ≡ false → opens c d ≡ false → Comment (d ∷ w) → Comment (c ∷ d ∷ w)
+  inside : (c d : ℕ) (w : List ℕ) → is_comment_end c d ≡ false → is_comment_start c d ≡ false → Comment (d ∷ w) → Comment (c ∷ d ∷ w)
 
 -- these characters, before this rest, separate tokens: a blank, a comment to the end of its line, a block comment
 pub data Between : List ℕ → List ℕ → Type 0 where
   -- a space, a tab or a carriage return
   blank : (c : ℕ) (rest : List ℕ) → is_blank c ≡ true → Between (c ∷ []) rest
   -- `#` and all up to the newline or the end of the text, where no `=` stands behind the `#`
-  line : (w rest : List ℕ) → AllByRecursion (λ c. (c == 10) ≡ false) w → begins (λ c. c == 61) w ≡ false → begins (λ c. not (c == 10)) rest ≡ false → Between (35 ∷ w) rest
+  line : (w rest : List ℕ) → AllByRecursion (λ c. (c == 10) ≡ false) w → has_first (λ c. c == 61) w ≡ false → has_first (λ c. not (c == 10)) rest ≡ false → Between (35 ∷ w) rest
   -- `#=` up to its `=#`
   block : (w rest : List ℕ) → Comment w → Between (35 ∷ 61 ∷ w) rest
 
@@ -170,9 +170,9 @@ pub record IsStray (c : ℕ) (cs : List ℕ) : Type 0 where
   pub no_newline : (c == 10) ≡ false
   pub no_string : (c == 34) ≡ false
   pub no_comment : (c == 35) ≡ false
-  pub no_word : starts_word c ≡ false
+  pub no_word : is_word_start c ≡ false
   pub no_number : is_ascii_digit c ≡ false
-  pub no_macro : ((c == 64) && begins starts_word cs) ≡ false
+  pub no_macro : ((c == 64) && has_first is_word_start cs) ≡ false
   pub no_operator : (operator : Operator) (rest : List ℕ) → c ∷ cs ≡ spelling operator ++ rest → ⊥
 
 -- the text, the rest of a source of so many bytes, begins with this fault
@@ -182,9 +182,9 @@ pub data FaultAt : ℕ → Bool → List ℕ → TokenFault → Type 0 where
   -- a number past - 2 ^ 63, whose sign counts as its first character
   large_negative : (bytes : ℕ) (w : List ℕ) (n : ℕ) (rest : List ℕ) → Numeral w n → NumeralEnds rest → 2 ^ 63 < n → FaultAt bytes true (45 ∷ w ++ rest) (fault.NumberTooLarge (place bytes (45 ∷ w ++ rest)))
   -- a number within its limit, and directly behind it a `.` or what begins an identifier
-  spoiled : (bytes : ℕ) (prefix : Bool) (w : List ℕ) (n : ℕ) (rest : List ℕ) → Numeral w n → NumeralEnds rest → n < 2 ^ 63 → begins spoils_number rest ≡ true → FaultAt bytes prefix (w ++ rest) (fault.BadCharacter (place bytes rest))
+  spoiled : (bytes : ℕ) (prefix : Bool) (w : List ℕ) (n : ℕ) (rest : List ℕ) → Numeral w n → NumeralEnds rest → n < 2 ^ 63 → has_first is_wrong_after_number rest ≡ true → FaultAt bytes prefix (w ++ rest) (fault.BadCharacter (place bytes rest))
   -- the same behind a number with its sign
-  spoiled_negative : (bytes : ℕ) (w : List ℕ) (n : ℕ) (rest : List ℕ) → Numeral w n → NumeralEnds rest → n ≤ 2 ^ 63 → begins spoils_number rest ≡ true → FaultAt bytes true (45 ∷ w ++ rest) (fault.BadCharacter (place bytes rest))
+  spoiled_negative : (bytes : ℕ) (w : List ℕ) (n : ℕ) (rest : List ℕ) → Numeral w n → NumeralEnds rest → n ≤ 2 ^ 63 → has_first is_wrong_after_number rest ≡ true → FaultAt bytes true (45 ∷ w ++ rest) (fault.BadCharacter (place bytes rest))
   -- a string that has an end, and the first wrong escape in it
   wrong_escape : (bytes : ℕ) (prefix : Bool) (w meant rest : List ℕ) → Quoted w meant → IsWrongEscape rest → Ended rest → FaultAt bytes prefix (34 ∷ w ++ rest) (fault.BadCharacter (place bytes rest))
   -- a string that has no end
@@ -210,7 +210,7 @@ pub data Reads : ℕ → Bool → List ℕ → Result (List Token) TokenFault �
   -- what separates tokens, and what the rest reads as
   between : (bytes : ℕ) (prefix : Bool) (w rest : List ℕ) (r : Result (List Token) TokenFault) → Between w rest → Reads bytes prefix rest r → Reads bytes prefix (w ++ rest) r
   -- a token, and what the rest reads as
-  token : (bytes : ℕ) (prefix : Bool) (w : List ℕ) (k : TokenKind) (rest : List ℕ) (r : Result (List Token) TokenFault) → Spells prefix w k → Ends prefix k rest → Reads bytes (is_prefix_behind k) rest r
+  token : (bytes : ℕ) (prefix : Bool) (w : List ℕ) (k : TokenKind) (rest : List ℕ) (r : Result (List Token) TokenFault) → Spells prefix w k → Ends prefix k rest → Reads bytes (is_prefix_after k) rest r
       → Reads bytes prefix (w ++ rest) (with_token k (place bytes (w ++ rest)) r)
 
 -- what bytes read as: where they are no UTF-8, that is the fault

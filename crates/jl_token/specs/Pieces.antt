@@ -7,10 +7,10 @@ use Rattle.jl_token.specs.declared.token.TokenKind.{TokenKind}
 use Rattle.jl_token.specs.declared.token.TokenKind.TheVariants as kind
 use Rattle.jl_token.specs.declared.token.TokenFault.{TokenFault}
 use Rattle.jl_token.specs.declared.token.TokenFault.TheVariants as fault
-use Rattle.jl_token.specs.Characters.{starts_word, is_blank, spoils_number, begins, place}
-use Rattle.jl_token.specs.Reading.{word, after_word, after_line, after_comment, after_string, unescaped, digits}
-use Rattle.jl_token.specs.Grammar.{minus}
-use Rattle.jl_token.specs.Operators.{by, behind, operator}
+use Rattle.jl_token.specs.Characters.{is_word_start, is_blank, is_wrong_after_number, has_first, place}
+use Rattle.jl_token.specs.Reading.{word, after_word, after_line, after_comment, after_string, unescape, digits}
+use Rattle.jl_token.specs.Grammar.{negate}
+use Rattle.jl_token.specs.Operators.{by, rest_after, operator}
 
 -- a token and what follows it, or a fault
 abbrev pub Found : Type 0
@@ -27,14 +27,14 @@ Gives view (Ok x) read = read ≡ Ok (view x)
 Gives view (Err e) read = Fails e read
 
 -- a value of at most this size and what follows it, of a number that begins at `from`, its sign included
-abbrev pub limited : ℕ → List ℕ → ℕ → ℕ × List ℕ → Result (ℕ × List ℕ) TokenFault
-limited bytes from most found =
+abbrev pub limit_value : ℕ → List ℕ → ℕ → ℕ × List ℕ → Result (ℕ × List ℕ) TokenFault
+limit_value bytes from most found =
     if nat_lt most found.0 then Err (fault.NumberTooLarge (place bytes from))
-    else (if begins spoils_number found.1 then Err (fault.BadCharacter (place bytes found.1)) else Ok found)
+    else (if has_first is_wrong_after_number found.1 then Err (fault.BadCharacter (place bytes found.1)) else Ok found)
 
 -- the same of the digits at the front of a text
 abbrev pub magnitude : ℕ → List ℕ → ℕ → List ℕ → Result (ℕ × List ℕ) TokenFault
-magnitude bytes from most text = limited bytes from most (digits 0 text)
+magnitude bytes from most text = limit_value bytes from most (digits 0 text)
 
 -- a token of what was read, or the same fault
 abbrev pub as_kind : {A : Type 0} → (A → TokenKind) → Result (A × List ℕ) TokenFault → Found
@@ -45,8 +45,8 @@ as_kind make (Err f) = Err f
 abbrev pub number : ℕ → List ℕ → Found
 number bytes text = as_kind (λ n. kind.Number (pos n)) (magnitude bytes text 9223372036854775807 text)
 
-abbrev pub negative : ℕ → List ℕ → List ℕ → Found
-negative bytes text rest = as_kind (λ n. kind.Negative (minus n)) (magnitude bytes text 9223372036854775808 rest)
+abbrev pub negative_number : ℕ → List ℕ → List ℕ → Found
+negative_number bytes text rest = as_kind (λ n. kind.Negative (negate n)) (magnitude bytes text 9223372036854775808 rest)
 
 -- a string before this rest, by what its text stands for
 abbrev pub text_of : ℕ → List ℕ → Result (List ℕ) (List ℕ) → Found
@@ -55,16 +55,16 @@ text_of bytes rest (Err wrong) = Err (fault.BadCharacter (place bytes wrong))
 
 -- the string whose text behind its quote is `body`
 abbrev pub string : ℕ → List ℕ → List ℕ → Found
-string bytes text body = by (after_string false body) (Err (fault.OpenString (place bytes text))) (λ rest. text_of bytes rest (unescaped body))
+string bytes text body = by (after_string false body) (Err (fault.OpenString (place bytes text))) (λ rest. text_of bytes rest (unescape body))
 
 -- an identifier of this first character and this rest
-abbrev pub named : (List ℕ → TokenKind) → ℕ → List ℕ → TokenKind × List ℕ
-named make c cs = (make (encode_utf8_all (c ∷ word cs)), after_word cs)
+abbrev pub identifier_as : (List ℕ → TokenKind) → ℕ → List ℕ → TokenKind × List ℕ
+identifier_as make c cs = (make (encode_utf8_all (c ∷ word cs)), after_word cs)
 
 -- the macro word whose identifier stands behind its `@`
 abbrev pub macro_word : ℕ → List ℕ → List ℕ → Found
 macro_word bytes text [] = Err (fault.BadCharacter (place bytes text))
-macro_word bytes text (c ∷ cs) = if starts_word c then Ok (named kind.Macro c cs) else Err (fault.BadCharacter (place bytes text))
+macro_word bytes text (c ∷ cs) = if is_word_start c then Ok (identifier_as kind.Macro c cs) else Err (fault.BadCharacter (place bytes text))
 
 -- an operator, or the fault of a character that begins nothing
 abbrev pub operator_of : ℕ → ℕ → List ℕ → Found
@@ -73,12 +73,12 @@ operator_of bytes c cs = by (operator c cs) (Err (fault.BadCharacter (place byte
 -- the token of this first character and this rest
 abbrev pub token : ℕ → Bool → ℕ → List ℕ → Found
 token bytes prefix c cs =
-    if starts_word c then Ok (named kind.Identifier c cs)
+    if is_word_start c then Ok (identifier_as kind.Identifier c cs)
     else (if is_ascii_digit c then number bytes (c ∷ cs)
     else (if c == 10 then Ok (kind.Newline, cs)
     else (if c == 34 then string bytes (c ∷ cs) cs
     else (if c == 64 then macro_word bytes (c ∷ cs) cs
-    else (if (c == 45) && (prefix && begins is_ascii_digit cs) then negative bytes (c ∷ cs) cs else operator_of bytes c cs)))))
+    else (if (c == 45) && (prefix && has_first is_ascii_digit cs) then negative_number bytes (c ∷ cs) cs else operator_of bytes c cs)))))
 
 -- a token or nothing, and what follows; or a fault
 abbrev pub Piece : Type 0
@@ -87,7 +87,7 @@ Piece = Result (Option TokenKind × List ℕ) TokenFault
 -- the comment of this text, whose rest behind its `#` is `rest`
 abbrev pub comment : ℕ → List ℕ → List ℕ → Piece
 comment bytes text rest =
-    by (behind 61 rest) (Ok (None, after_line rest)) (λ body. by (after_comment 0 body) (Err (fault.OpenComment (place bytes text))) (λ after. Ok (None, after)))
+    by (rest_after 61 rest) (Ok (None, after_line rest)) (λ body. by (after_comment 0 body) (Err (fault.OpenComment (place bytes text))) (λ after. Ok (None, after)))
 
 -- a token as a piece
 abbrev pub as_piece : Found → Piece

@@ -9,11 +9,11 @@ use Rattle.jl_token.specs.declared.token.TokenKind.{TokenKind}
 use Rattle.jl_token.specs.declared.token.TokenKind.TheVariants as kind
 
 -- `)`, `]` or `}`
-abbrev pub closes_bracket : Operator → Bool
-closes_bracket op.CloseParen = true
-closes_bracket op.CloseBracket = true
-closes_bracket op.CloseBrace = true
-closes_bracket _ = false
+abbrev pub is_closing_bracket : Operator → Bool
+is_closing_bracket op.CloseParen = true
+is_closing_bracket op.CloseBracket = true
+is_closing_bracket op.CloseBrace = true
+is_closing_bracket _ = false
 
 -- the reserved words but `end`, `true`, `false` and `nothing`
 abbrev pub opening_words : List (List ℕ)
@@ -23,12 +23,12 @@ opening_words =
     ∷ codes "import" ∷ codes "using" ∷ codes "export" ∷ codes "const" ∷ codes "global" ∷ codes "local" ∷ codes "macro" ∷ codes "break" ∷ codes "continue" ∷ []
 
 -- the word is one of them
-abbrev pub opens_operand : List ℕ → Bool
-opens_operand word = list_any (λ opening. bytes_eq opening word) opening_words
+abbrev pub is_opening_word : List ℕ → Bool
+is_opening_word word = list_any (λ opening. bytes_eq opening word) opening_words
 
 -- behind this token is a prefix place: a newline, an operator but a closing bracket, or such a word
-abbrev pub is_prefix_behind : TokenKind → Bool
-is_prefix_behind kind.Newline = true
-is_prefix_behind (kind.Operator operator) = not (closes_bracket operator)
-is_prefix_behind (kind.Identifier word) = opens_operand word
-is_prefix_behind _ = false
+abbrev pub is_prefix_after : TokenKind → Bool
+is_prefix_after kind.Newline = true
+is_prefix_after (kind.Operator operator) = not (is_closing_bracket operator)
+is_prefix_after (kind.Identifier word) = is_opening_word word
+is_prefix_after _ = false

@@ -5,17 +5,17 @@ use Rattle.std.specs.Char.{is_ascii_digit, encode_utf8}
 use Rattle.std.specs.Str.{chars}
 use denote.Ref.{Bor}
 use Rattle.jl_token.specs.Operators.{by}
-use Rattle.jl_token.specs.Characters.{continues_word, escape, closes, opens, begins}
+use Rattle.jl_token.specs.Characters.{is_word_part, escape, is_comment_end, is_comment_start, has_first}
 
 -- the characters at the front that may continue an identifier
 abbrev pub word : List ℕ → List ℕ
 word [] = []
-word (c ∷ cs) = if continues_word c then c ∷ word cs else []
+word (c ∷ cs) = if is_word_part c then c ∷ word cs else []
 
 -- what follows them
 abbrev pub after_word : List ℕ → List ℕ
 after_word [] = []
-after_word (c ∷ cs) = if continues_word c then after_word cs else c ∷ cs
+after_word (c ∷ cs) = if is_word_part c then after_word cs else c ∷ cs
 
 -- what follows the line: its newline, or nothing
 abbrev pub after_line : List ℕ → List ℕ
@@ -27,8 +27,8 @@ abbrev pub after_comment : ℕ → List ℕ → Option (List ℕ)
 after_comment around [] = None
 after_comment around (c ∷ []) = None
 after_comment around (c ∷ d ∷ cs) =
-    if closes c d then (if around == 0 then Some cs else after_comment (around - 1) cs)
-    else (if opens c d then after_comment (around + 1) cs else after_comment around (d ∷ cs))
+    if is_comment_end c d then (if around == 0 then Some cs else after_comment (around - 1) cs)
+    else (if is_comment_start c d then after_comment (around + 1) cs else after_comment around (d ∷ cs))
 
 -- what follows a string's end: a `"` that no backslash takes; and whether a backslash stands before the text
 abbrev pub after_string : Bool → List ℕ → Option (List ℕ)
@@ -46,29 +46,29 @@ with_escape None text read = Err text
 with_escape (Some c) text read = with_front (encode_utf8 c) read
 
 -- the bytes that a string's text stands for, up to its end; or the text from the first wrong escape on
-abbrev pub unescaped : List ℕ → Result (List ℕ) (List ℕ)
-unescaped [] = Ok []
-unescaped (c ∷ []) = if c == 34 then Ok [] else (if (c == 36) || (c == 92) then Err (c ∷ []) else Ok (encode_utf8 c ++ []))
-unescaped (c ∷ d ∷ cs) =
+abbrev pub unescape : List ℕ → Result (List ℕ) (List ℕ)
+unescape [] = Ok []
+unescape (c ∷ []) = if c == 34 then Ok [] else (if (c == 36) || (c == 92) then Err (c ∷ []) else Ok (encode_utf8 c ++ []))
+unescape (c ∷ d ∷ cs) =
     if c == 34 then Ok []
     else (if c == 36 then Err (c ∷ d ∷ cs)
-    else (if c == 92 then with_escape (escape d) (c ∷ d ∷ cs) (unescaped cs) else with_front (encode_utf8 c) (unescaped (d ∷ cs))))
+    else (if c == 92 then with_escape (escape d) (c ∷ d ∷ cs) (unescape cs) else with_front (encode_utf8 c) (unescape (d ∷ cs))))
 
 -- the value of the digits at the front behind those of value n, with single `_` between digits, and what follows them
 abbrev pub digits : ℕ → List ℕ → ℕ × List ℕ
 digits n [] = (n, [])
 digits n (c ∷ cs) =
     if is_ascii_digit c then digits (10 * n + (c - 48)) cs
-    else (if (c == 95) && begins is_ascii_digit cs then digits n cs else (n, c ∷ cs))
+    else (if (c == 95) && has_first is_ascii_digit cs then digits n cs else (n, c ∷ cs))
 
 -- what an escape behind its backslash stands for, and what follows it
-abbrev pub escaped : List ℕ → Option (ℕ × List ℕ)
-escaped [] = None
-escaped (d ∷ cs) = by (escape d) None (λ c. Some (c, cs))
+abbrev pub read_escape : List ℕ → Option (ℕ × List ℕ)
+read_escape [] = None
+read_escape (d ∷ cs) = by (escape d) None (λ c. Some (c, cs))
 
 -- the character that the front of a string's text stands for, and what follows it; none at a wrong escape
 abbrev pub string_piece : ℕ → List ℕ → Option (ℕ × List ℕ)
-string_piece c cs = if c == 36 then None else (if c == 92 then escaped cs else Some (c, cs))
+string_piece c cs = if c == 36 then None else (if c == 92 then read_escape cs else Some (c, cs))
 
 -- what a function returned for the bytes of a string is what reading gives
 abbrev pub Means : Result (List ℕ) (Bor (List ℕ)) → Result (List ℕ) (List ℕ) → Type 0

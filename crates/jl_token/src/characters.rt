@@ -3,7 +3,7 @@
 ghost use Rattle.std.specs.Prelude.{◌≡◌, ◌∷◌, ◌≤◌, ◌<◌, ◌^◌, ◌+◌, length, [], MatchOption};
 ghost use Rattle.std.specs.Char.{is_ascii_digit};
 ghost use Rattle.std.specs.Str.{chars};
-ghost use Rattle.jl_token.specs.Characters.{starts_word, continues_word, is_blank, spoils_number, begins, place};
+ghost use Rattle.jl_token.specs.Characters.{is_word_start, is_word_part, is_blank, is_wrong_after_number, has_first, place};
 
 /// The first character, and what follows it.
 pub fn split_first(text: &str) -> Option<(char, &str)>
@@ -16,15 +16,15 @@ pub fn split_first(text: &str) -> Option<(char, &str)>
 }
 
 /// Whether an identifier may begin with the character.
-pub fn starts_word(character: char) -> bool
-    ensures { result ≡ starts_word character }
+pub fn is_word_start(character: char) -> bool
+    ensures { result ≡ is_word_start character }
 {
     unicode_ident::is_xid_start(character) || character == '_'
 }
 
 /// Whether the character may stand in an identifier behind its first one.
-pub fn continues_word(character: char) -> bool
-    ensures { result ≡ continues_word character }
+pub fn is_word_part(character: char) -> bool
+    ensures { result ≡ is_word_part character }
 {
     unicode_ident::is_xid_continue(character) || character == '_'
 }
@@ -37,8 +37,8 @@ pub fn is_blank(character: char) -> bool
 }
 
 /// Whether the text begins with a digit.
-pub fn begins_digit(text: &str) -> bool
-    ensures { result ≡ begins is_ascii_digit (chars text.now) }
+pub fn has_digit_first(text: &str) -> bool
+    ensures { result ≡ has_first is_ascii_digit (chars text.now) }
 {
     match split_first(text) {
         Some((first, _)) => first.is_ascii_digit(),
@@ -47,21 +47,21 @@ pub fn begins_digit(text: &str) -> bool
 }
 
 /// Whether the text begins with a character that may begin an identifier.
-pub fn begins_word(text: &str) -> bool
-    ensures { result ≡ begins starts_word (chars text.now) }
+pub fn has_word_first(text: &str) -> bool
+    ensures { result ≡ has_first is_word_start (chars text.now) }
 {
     match split_first(text) {
-        Some((first, _)) => starts_word(first),
+        Some((first, _)) => is_word_start(first),
         None => false,
     }
 }
 
 /// Whether the text begins with a character that may not stand directly behind a number.
-pub fn spoils_number(text: &str) -> bool
-    ensures { result ≡ begins spoils_number (chars text.now) }
+pub fn is_wrong_after_number(text: &str) -> bool
+    ensures { result ≡ has_first is_wrong_after_number (chars text.now) }
 {
     match split_first(text) {
-        Some((first, _)) => first == '.' || starts_word(first),
+        Some((first, _)) => first == '.' || is_word_start(first),
         None => false,
     }
 }

@@ -2,7 +2,7 @@
 
 ghost use Rattle.std.specs.Prelude.{◌≡◌, ◌≤◌, ◌<◌, ◌^◌, length, MatchOption, None, Some};
 ghost use Rattle.std.specs.Str.{chars};
-ghost use Rattle.jl_token.specs.Characters.{closes, opens};
+ghost use Rattle.jl_token.specs.Characters.{is_comment_end, is_comment_start};
 ghost use Rattle.jl_token.specs.Reading.{after_line, after_comment};
 
 use crate::characters::split_first;
@@ -23,15 +23,15 @@ pub fn after_line(text: &str) -> &str
 }
 
 /// Whether the two characters are `=#`.
-fn closes(first: char, second: char) -> bool
-    ensures { result ≡ closes first second }
+fn is_comment_end(first: char, second: char) -> bool
+    ensures { result ≡ is_comment_end first second }
 {
     first == '=' && second == '#'
 }
 
 /// Whether the two characters are `#=`.
-fn opens(first: char, second: char) -> bool
-    ensures { result ≡ opens first second }
+fn is_comment_start(first: char, second: char) -> bool
+    ensures { result ≡ is_comment_start first second }
 {
     first == '#' && second == '='
 }
@@ -46,13 +46,13 @@ pub fn after_comment(text: &str) -> Option<&str>
     let mut rest = text;
     while let Some((first, after)) = split_first(rest) {
         let (second, behind) = split_first(after)?;
-        if closes(first, second) {
+        if is_comment_end(first, second) {
             if around == 0 {
                 return Some(behind);
             }
             around -= 1;
             rest = behind;
-        } else if opens(first, second) {
+        } else if is_comment_start(first, second) {
             around += 1;
             rest = behind;
         } else {

@@ -3,16 +3,16 @@
 ghost use Rattle.std.specs.Prelude.{◌≡◌, ◌≤◌, ◌<◌, true, ◌^◌, ◌-◌, ◌==◌, ◌&&◌, length, min};
 ghost use Rattle.std.specs.Char.{is_ascii_digit};
 ghost use Rattle.std.specs.Str.{chars};
-ghost use Rattle.jl_token.specs.Characters.{begins};
+ghost use Rattle.jl_token.specs.Characters.{has_first};
 ghost use Rattle.jl_token.specs.Reading.{digits};
 
-use crate::characters::{begins_digit, split_first};
+use crate::characters::{has_digit_first, split_first};
 
 /// Whether the character is a `_` before a digit.
-fn joins_digits(first: char, after: &str) -> bool
-    ensures { result ≡ ((first == 95) && begins is_ascii_digit (chars after.now)) }
+fn is_separator(first: char, after: &str) -> bool
+    ensures { result ≡ ((first == 95) && has_first is_ascii_digit (chars after.now)) }
 {
-    first == '_' && begins_digit(after)
+    first == '_' && has_digit_first(after)
 }
 
 /// The value of the digits at the front, with single `_` between digits, and what follows them. A value that is too
@@ -21,7 +21,7 @@ pub fn digits(text: &str) -> (u64, &str)
     ensures value { result.0 ≡ min (digits 0 (chars text.now)).0 (2 ^ 64 - 1) }
     ensures rest { chars result.1.now ≡ (digits 0 (chars text.now)).1 }
     ensures shorter { length result.1.now ≤ length text.now }
-    ensures progress { begins is_ascii_digit (chars text.now) ≡ true → length result.1.now < length text.now }
+    ensures progress { has_first is_ascii_digit (chars text.now) ≡ true → length result.1.now < length text.now }
 {
     let mut value: u64 = 0;
     let mut rest = text;
@@ -30,7 +30,7 @@ pub fn digits(text: &str) -> (u64, &str)
             value = value
                 .saturating_mul(10)
                 .saturating_add(first as u64 - '0' as u64);
-        } else if !joins_digits(first, after) {
+        } else if !is_separator(first, after) {
             break;
         }
         rest = after;

@@ -2,17 +2,19 @@
 
 ghost use Rattle.std.specs.Prelude.{◌≡◌, ◌≤◌, ◌<◌, ◌^◌, ◌-◌, ◌∷◌, length, IfOk, List, ℕ, pos, Bool, true};
 ghost use Rattle.std.specs.Char.{is_ascii_digit};
-ghost use Rattle.jl_token.specs.Characters.{begins};
+ghost use Rattle.jl_token.specs.Characters.{has_first};
 ghost use Rattle.std.specs.Str.{chars, encode_utf8_all};
 ghost use Rattle.jl_token.specs.Reading.{word, after_word};
-ghost use Rattle.jl_token.specs.Grammar.{minus};
-ghost use Rattle.jl_token.specs.Pieces.{Gives, magnitude, number, negative, string, macro_word, operator_of, token, comment, piece};
+ghost use Rattle.jl_token.specs.Grammar.{negate};
+ghost use Rattle.jl_token.specs.Pieces.{Gives, magnitude, number, negative_number, string, macro_word, operator_of, token, comment, piece};
 
-use crate::characters::{begins_digit, is_blank, place, split_first, spoils_number, starts_word};
+use crate::characters::{
+    has_digit_first, is_blank, is_word_start, is_wrong_after_number, place, split_first,
+};
 use crate::comments::{after_comment, after_line};
 use crate::numbers::digits;
-use crate::operators::{behind, operator};
-use crate::strings::{after_string, unescaped};
+use crate::operators::{operator, rest_after};
+use crate::strings::{after_string, unescape};
 use crate::token::{TokenFault, TokenKind};
 use crate::words::{after_word, bytes_before};
 use jl_model::ty::Bytes;
@@ -31,23 +33,23 @@ fn magnitude<'a>(
     requires limit { most < 2 ^ 64 - 1 }
     ensures found { Gives (λ x. (x.0, chars x.1.now)) result (magnitude bytes (chars from.now) most (chars text.now)) }
     ensures limited { IfOk result (λ x. x.0 ≤ most) }
-    ensures progress { begins is_ascii_digit (chars text.now) ≡ true → IfOk result (λ x. length x.1.now < length text.now) }
+    ensures progress { has_first is_ascii_digit (chars text.now) ≡ true → IfOk result (λ x. length x.1.now < length text.now) }
     ensures shorter { IfOk result (λ x. length x.1.now ≤ length text.now) }
 {
     let (value, rest) = digits(text);
     if value > most {
         return Err(TokenFault::NumberTooLarge(place(bytes, from)));
     }
-    if spoils_number(rest) {
+    if is_wrong_after_number(rest) {
         return Err(TokenFault::BadCharacter(place(bytes, rest)));
     }
     Ok((value, rest))
 }
 
 /// The number with the sign `-`.
-fn minus(value: u64) -> i64
+fn negate(value: u64) -> i64
     requires { value ≤ 9223372036854775808 }
-    ensures { result ≡ minus value }
+    ensures { result ≡ negate value }
 {
     if value == 0 {
         return 0;
@@ -60,22 +62,26 @@ fn number(bytes: usize, text: &str) -> Result<(TokenKind, &str), TokenFault>
     requires small { bytes < 2 ^ 32 }
     requires within { length text.now ≤ bytes }
     ensures found { Gives (λ x. (x.0, chars x.1.now)) result (number bytes (chars text.now)) }
-    ensures progress { begins is_ascii_digit (chars text.now) ≡ true → IfOk result (λ x. length x.1.now < length text.now) }
+    ensures progress { has_first is_ascii_digit (chars text.now) ≡ true → IfOk result (λ x. length x.1.now < length text.now) }
 {
     let (value, rest) = magnitude(bytes, text, i64::MAX as u64, text)?;
     Ok((TokenKind::Number(value as i64), rest))
 }
 
 /// A number with its sign, whose digits stand behind it.
-fn negative<'a>(bytes: usize, text: &str, rest: &'a str) -> Result<(TokenKind, &'a str), TokenFault>
+fn negative_number<'a>(
+    bytes: usize,
+    text: &str,
+    rest: &'a str,
+) -> Result<(TokenKind, &'a str), TokenFault>
     requires small { bytes < 2 ^ 32 }
     requires within { length text.now ≤ bytes }
     requires inside { length rest.now ≤ bytes }
-    ensures found { Gives (λ x. (x.0, chars x.1.now)) result (negative bytes (chars text.now) (chars rest.now)) }
+    ensures found { Gives (λ x. (x.0, chars x.1.now)) result (negative_number bytes (chars text.now) (chars rest.now)) }
     ensures shorter { IfOk result (λ x. length x.1.now ≤ length rest.now) }
 {
     let (value, rest) = magnitude(bytes, text, 1 << 63, rest)?;
-    Ok((TokenKind::Negative(minus(value)), rest))
+    Ok((TokenKind::Negative(negate(value)), rest))
 }
 
 /// A string, whose text stands behind its first `"`.
@@ -94,7 +100,7 @@ fn string<'a>(
     let Some(rest) = after_string(body) else {
         return Err(TokenFault::OpenString(place(bytes, text)));
     };
-    match unescaped(alloc, body)? {
+    match unescape(alloc, body)? {
         Ok(meant) => Ok((TokenKind::Text(meant), rest)),
         Err(wrong) => Err(TokenFault::BadCharacter(place(bytes, wrong))),
     }
@@ -126,7 +132,7 @@ fn macro_word<'a>(
     let Some((first, rest)) = split_first(name) else {
         return Err(TokenFault::BadCharacter(place(bytes, text)));
     };
-    if !starts_word(first) {
+    if !is_word_start(first) {
         return Err(TokenFault::BadCharacter(place(bytes, text)));
     }
     let (word, after) = identifier(alloc, name, rest)?;
@@ -164,7 +170,7 @@ fn comment<'a>(
     ensures found { Gives (λ x. (x.0, chars x.1.now)) result (comment bytes (chars text.now) (chars rest.now)) }
     ensures shorter { IfOk result (λ x. length x.1.now ≤ length rest.now) }
 {
-    let Some(body) = behind('=', rest) else {
+    let Some(body) = rest_after('=', rest) else {
         return Ok((None, after_line(rest)));
     };
     match after_comment(body) {
@@ -189,7 +195,7 @@ fn token<'a>(
     ensures found { Gives (λ x. (x.0, chars x.1.now)) result (token bytes prefix first (chars rest.now)) }
     ensures shorter { IfOk result (λ x. length x.1.now < length text.now) }
 {
-    if starts_word(first) {
+    if is_word_start(first) {
         let (word, after) = identifier(alloc, text, rest)?;
         return Ok((TokenKind::Identifier(word), after));
     }
@@ -200,7 +206,7 @@ fn token<'a>(
         '\n' => Ok((TokenKind::Newline, rest)),
         '"' => string(alloc, bytes, text, rest),
         '@' => macro_word(alloc, bytes, text, rest),
-        '-' if prefix && begins_digit(rest) => negative(bytes, text, rest),
+        '-' if prefix && has_digit_first(rest) => negative_number(bytes, text, rest),
         _ => operator_of(bytes, text, first, rest),
     }
 }

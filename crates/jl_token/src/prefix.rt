@@ -1,7 +1,7 @@
 //! Prefix places, where a `-` before a digit is the sign of a number.
 
 ghost use Rattle.std.specs.Prelude.{◌≡◌};
-ghost use Rattle.jl_token.specs.Prefix.{closes_bracket, opens_operand, is_prefix_behind};
+ghost use Rattle.jl_token.specs.Prefix.{is_closing_bracket, is_opening_word, is_prefix_after};
 
 use crate::token::{Operator, TokenKind};
 
@@ -28,8 +28,8 @@ const WORDS_OF_8: [&[u8]; 3] = [b"abstract", b"function", b"continue"];
 const LONGER_WORDS: [&[u8]; 2] = [b"primitive", b"baremodule"];
 
 /// Whether an operand may follow the word.
-fn opens_operand(word: &[u8]) -> bool
-    ensures { result ≡ opens_operand word.now }
+fn is_opening_word(word: &[u8]) -> bool
+    ensures { result ≡ is_opening_word word.now }
 {
     match word.len() {
         0 | 1 => false,
@@ -45,8 +45,8 @@ fn opens_operand(word: &[u8]) -> bool
 }
 
 /// Whether the mark is `)`, `]` or `}`.
-fn closes_bracket(operator: Operator) -> bool
-    ensures { result ≡ closes_bracket operator }
+fn is_closing_bracket(operator: Operator) -> bool
+    ensures { result ≡ is_closing_bracket operator }
 {
     matches!(
         operator,
@@ -55,13 +55,13 @@ fn closes_bracket(operator: Operator) -> bool
 }
 
 /// Whether the place behind this token is a prefix place.
-pub fn is_prefix_behind(kind: &TokenKind) -> bool
-    ensures { result ≡ is_prefix_behind kind.now }
+pub fn is_prefix_after(kind: &TokenKind) -> bool
+    ensures { result ≡ is_prefix_after kind.now }
 {
     match kind {
         TokenKind::Newline => true,
-        TokenKind::Operator(operator) => !closes_bracket(*operator),
-        TokenKind::Identifier(word) => opens_operand(word.as_slice()),
+        TokenKind::Operator(operator) => !is_closing_bracket(*operator),
+        TokenKind::Identifier(word) => is_opening_word(word.as_slice()),
         _ => false,
     }
 }

@@ -8,7 +8,7 @@ ghost use Rattle.jl_token.specs.declared.token.TokenFault.TheVariants.{SourceToo
 
 use crate::characters::place;
 use crate::pieces::piece;
-use crate::prefix::is_prefix_behind;
+use crate::prefix::is_prefix_after;
 use crate::token::{Token, TokenFault, TokenKind, Tokens};
 use jl_model::limits::MOST_SOURCE_BYTES;
 use jl_model::shared::SharedList;
@@ -27,7 +27,7 @@ fn read(alloc: Global, source: &str) -> Result<Tokens, TokenFault>
     while !rest.is_empty() {
         let (kind, after) = piece(alloc, bytes, prefix, rest)?;
         if let Some(kind) = kind {
-            prefix = is_prefix_behind(&kind);
+            prefix = is_prefix_after(&kind);
             let at = place(bytes, rest);
             found.push(Token { kind, at })?;
         }

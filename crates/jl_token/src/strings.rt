@@ -3,7 +3,7 @@
 ghost use Rattle.std.specs.Prelude.{◌≡◌, ◌∷◌, ◌≤◌, length, MatchOption, None, Some, IfOk, false, MatchResult};
 ghost use Rattle.std.specs.Str.{chars};
 ghost use Rattle.jl_token.specs.Characters.{escape};
-ghost use Rattle.jl_token.specs.Reading.{after_string, string_piece, unescaped, Means};
+ghost use Rattle.jl_token.specs.Reading.{after_string, string_piece, unescape, Means};
 
 use crate::characters::split_first;
 use jl_model::shared::SharedList;
@@ -55,8 +55,8 @@ fn string_piece(first: char, rest: &str) -> Option<(char, &str)>
 }
 
 /// The bytes that a string's text stands for, up to its end; or the text from its first wrong escape on.
-pub fn unescaped(alloc: Global, text: &str) -> Result<Result<Bytes, &str>, AllocError>
-    ensures found { IfOk result (λ read. Means read (unescaped (chars text.now))) }
+pub fn unescape(alloc: Global, text: &str) -> Result<Result<Bytes, &str>, AllocError>
+    ensures found { IfOk result (λ read. Means read (unescape (chars text.now))) }
     ensures shorter { IfOk result (λ read. MatchResult read (λ _. Unit {0}) (λ wrong. length wrong.now ≤ length text.now)) }
 {
     let mut meant = String::new(alloc);

@@ -4,7 +4,7 @@ ghost use Rattle.std.specs.Prelude.{◌≡◌, ◌≤◌, ◌++◌, length, IfOk
 ghost use Rattle.std.specs.Str.{chars, encode_utf8_all};
 ghost use Rattle.jl_token.specs.Reading.{after_word};
 
-use crate::characters::{continues_word, split_first};
+use crate::characters::{is_word_part, split_first};
 use jl_model::shared::SharedList;
 use jl_model::ty::Bytes;
 use std::alloc::{AllocError, Global};
@@ -16,7 +16,7 @@ pub fn after_word(text: &str) -> &str
 {
     let mut rest = text;
     while let Some((first, after)) = split_first(rest) {
-        if !continues_word(first) {
+        if !is_word_part(first) {
             break;
         }
         rest = after;

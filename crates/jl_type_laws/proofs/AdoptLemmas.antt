@@ -5,7 +5,7 @@ use Rattle.jl_model.specs.declared.ty.Ty.{Ty}
 use Rattle.jl_model.specs.declared.ty.Bound.{Bound}
 use Rattle.jl_model.specs.Rows.{free}
 use Rattle.jl_written.specs.declared.reading.Place.{Place}
-use Rattle.jl_written.specs.Signatures.{with_high, adopted_at, adopted}
+use Rattle.jl_written.specs.Signatures.{with_high, adopt_bound, adopt_bounds}
 use Rattle.jl_type_laws.specs.Carried.{BoundHas, BoundsHave, PlacesHave}
 
 one_length : (a b : Bool) (bs : List Bound) (v : ℕ) (t : Ty) → length (cond a (cond b (with_high bs v t) bs) bs) ≡ length bs
@@ -13,10 +13,10 @@ one_length true true bs v t = length-set bs v (record { low = (get_or bs v free)
 one_length true false bs v t = refl
 one_length false b bs v t = refl
 
-pub adopted_length : (below : Ty → Ty → Bool) (ps : List Place) (bs : List Bound) → length (adopted below ps bs) ≡ length bs
-adopted_length below [] bs = refl
-adopted_length below (p ∷ ps) bs =
-    adopted_length below ps (adopted_at below p bs)
+pub adopt_bounds_length : (below : Ty → Ty → Bool) (ps : List Place) (bs : List Bound) → length (adopt_bounds below ps bs) ≡ length bs
+adopt_bounds_length below [] bs = refl
+adopt_bounds_length below (p ∷ ps) bs =
+    adopt_bounds_length below ps (adopt_bound below p bs)
     ∙ one_length (nat_lt p.var (length bs)) (below p.high (get_or bs p.var free).high) bs p.var p.high
 
 module _ (P : Ty → Type 0) where
@@ -37,7 +37,7 @@ module _ (P : Ty → Type 0) where
   one_has true false bs v t l u h g = h
   one_has false b bs v t l u h g = h
 
-  pub adopted_has : (below : Ty → Ty → Bool) (ps : List Place) (bs : List Bound) → P free.low → P free.high → BoundsHave P bs → PlacesHave P ps → BoundsHave P (adopted below ps bs)
-  adopted_has below [] bs l u h g = h
-  adopted_has below (p ∷ ps) bs l u h g =
-      adopted_has below ps (adopted_at below p bs) l u (one_has (nat_lt p.var (length bs)) (below p.high (get_or bs p.var free).high) bs p.var p.high l u h g.0) g.1
+  pub adopt_bounds_has : (below : Ty → Ty → Bool) (ps : List Place) (bs : List Bound) → P free.low → P free.high → BoundsHave P bs → PlacesHave P ps → BoundsHave P (adopt_bounds below ps bs)
+  adopt_bounds_has below [] bs l u h g = h
+  adopt_bounds_has below (p ∷ ps) bs l u h g =
+      adopt_bounds_has below ps (adopt_bound below p bs) l u (one_has (nat_lt p.var (length bs)) (below p.high (get_or bs p.var free).high) bs p.var p.high l u h g.0) g.1

@@ -19,20 +19,20 @@ use Rattle.jl_written.specs.declared.fault.StaticKind.{StaticKind}
 use Rattle.jl_written.specs.declared.fault.StaticKind.TheVariants as kind
 use Rattle.jl_written.specs.declared.reading.Reading.{Reading}
 use Rattle.jl_written.specs.declared.reading.TypeVar.{TypeVar}
-use Rattle.jl_written.specs.Reads.{unread, type_reads}
-use Rattle.jl_written.specs.Signatures.{adopted, shifted, width_of, body_type}
+use Rattle.jl_written.specs.Reads.{no_reading, type_reads}
+use Rattle.jl_written.specs.Signatures.{adopt_bounds, shifted, width_of, body_type}
 use Rattle.jl_written.specs.TextOrder.{text_places, number_in}
 use Rattle.jl_resolve_forms.specs.declared.known.Known.{Known}
 use Rattle.jl_resolve_forms.specs.declared.state.Scope.{Scope}
 use Rattle.jl_resolve_forms.specs.declared.state.State.{State}
-use Rattle.jl_resolve_forms.specs.Scopes.{noted, merged}
-use Rattle.jl_resolve_forms.specs.TypesIn.{Tests, declared_at, refusal, begins, one_type, type_at, body_written}
+use Rattle.jl_resolve_forms.specs.Scopes.{note_if, merge_fault}
+use Rattle.jl_resolve_forms.specs.TypesIn.{Tests, declared_at, refusal, start_of, one_type, type_at, type_in_body}
 use Rattle.jl_type_laws.specs.Carried.{Passes, vars_pass, AllHave, ReadingHas, Visible, WhereUsable, NumbersHave, IsCarried}
 use Rattle.jl_type_laws.specs.Scripts.{DeclsKnown}
 use Rattle.jl_type_laws.specs.Told.{StaticsFit, IsSeenType}
 use Rattle.jl_type_laws.proofs.GrowLemmas.{never_none, fault_at, or_left}
 use Rattle.jl_type_laws.proofs.CarryLemmas.{lt_true, all_pass, bounds_pass, all_join, all_flat, all_take, closed_params, known_carried, vars_carried, all_carried}
-use Rattle.jl_type_laws.proofs.AdoptLemmas.{adopted_length, adopted_has}
+use Rattle.jl_type_laws.proofs.AdoptLemmas.{adopt_bounds_length, adopt_bounds_has}
 use Rattle.jl_type_laws.specs.Grown.{SwapsFit}
 use Rattle.jl_type_laws.proofs.OrderLemmas.{number_below, number_kept, known_kept, vars_kept, one_ordered_passes, one_ordered_told}
 use Rattle.jl_type_laws.proofs.ReadLemmas.{type_law}
@@ -40,13 +40,13 @@ use Rattle.jl_type_laws.proofs.WideLemmas.{width_is}
 
 -- ---- faults
 
-pub noted_none : (at : ℕ) (o : Option StaticKind) (s : State) → (noted at o s).fault ≡ None → (o ≡ None) × (s.fault ≡ None)
-noted_none at None s e = (refl, e)
-noted_none at (Some k) s e = absurd (never_none s.fault (fault_at at k) e)
+pub note_if_none : (at : ℕ) (o : Option StaticKind) (s : State) → (note_if at o s).fault ≡ None → (o ≡ None) × (s.fault ≡ None)
+note_if_none at None s e = (refl, e)
+note_if_none at (Some k) s e = absurd (never_none s.fault (fault_at at k) e)
 
-pub merged_none : (f : Option Fault) (s : State) → (merged f s).fault ≡ None → (f ≡ None) × (s.fault ≡ None)
-merged_none None s e = (refl, e)
-merged_none (Some f) s e = absurd (never_none s.fault (fault_at f.at f.kind) e)
+pub merge_fault_none : (f : Option Fault) (s : State) → (merge_fault f s).fault ≡ None → (f ≡ None) × (s.fault ≡ None)
+merge_fault_none None s e = (refl, e)
+merge_fault_none (Some f) s e = absurd (never_none s.fault (fault_at f.at f.kind) e)
 
 pub untold : (misplaced unclear : Bool) (k : StaticKind) (o : Option StaticKind) → unclear ≡ false → cond misplaced (Some k) (cond unclear None o) ≡ None → o ≡ None
 untold true unclear k o u e = cc
@@ -70,10 +70,10 @@ every_at ds k types q = all_carried (take types ds) q (all_take (λ (d : Decl). 
 
 -- all types in a signature whose variables have the bounds that they have behind the step for the declared bounds
 pub types_pass : (p : Ty → Bool) (below : Ty → Ty → Bool) (r : Reading) (ts : List Ty) → p (V.Union []) ≡ true → p W.Any ≡ true → ReadingHas (Passes p) r → AllHave (Passes p) ts
-    → list_all p (types_in (record { vars = adopted below r.places r.vars; parts = ts })) ≡ true
+    → list_all p (types_in (record { vars = adopt_bounds below r.places r.vars; parts = ts })) ≡ true
 types_pass p below r ts l u h g =
-    let a = adopted below r.places r.vars in
-    all_join p (bound_types a) ts (bounds_pass p a (adopted_has (Passes p) below r.places r.vars l u h.bounds h.places)) (all_pass p ts g)
+    let a = adopt_bounds below r.places r.vars in
+    all_join p (bound_types a) ts (bounds_pass p a (adopt_bounds_has (Passes p) below r.places r.vars l u h.bounds h.places)) (all_pass p ts g)
 
 -- ---- static parameters
 
@@ -107,12 +107,12 @@ pub all_visible : (vs : List TypeVar) → Visible (λ v u. Unit {0}) vs
 all_visible [] = tt
 all_visible (v ∷ vs) = (tt, all_visible vs)
 
-pub nothing_has : (P : Ty → Type 0) → ReadingHas P unread
+pub nothing_has : (P : Ty → Type 0) → ReadingHas P no_reading
 nothing_has P = record { bounds = tt; places = tt }
 
 module _ (ds : List Decl) (flags : List Bool) (below : Ty → Ty → Bool) (ty : Ty) (r : Reading) where
   abbrev Seen : Written
-  Seen = one_type ty (adopted below r.places r.vars)
+  Seen = one_type ty (adopt_bounds below r.places r.vars)
 
   pub seen_of : (Passes (is_known (length ds)) ty × ReadingHas (Passes (is_known (length ds))) r) → is_known (length ds) (V.Union []) ≡ true → is_known (length ds) W.Any ≡ true
       → (Passes (vars_pass (may_stand (length r.vars) flags)) ty × ReadingHas (Passes (vars_pass (may_stand (length r.vars) flags))) r)
@@ -122,31 +122,31 @@ module _ (ds : List Decl) (flags : List Bool) (below : Ty → Ty → Bool) (ty :
       let q = may_stand (length r.vars) flags in
       let known = types_pass (is_known (length ds)) below r (ty ∷ []) kl ku k.1 (k.0, tt) in
       let vars = all_flat q (types_in Seen) ∙ types_pass (vars_pass q) below r (ty ∷ []) vl vu v.1 (v.0, tt) in
-      let own = ap (λ z. list_all (may_stand z flags) (flat_map vars_in (types_in Seen))) (adopted_length below r.places r.vars) ∙ vars in
+      let own = ap (λ z. list_all (may_stand z flags) (flat_map vars_in (types_in Seen))) (adopt_bounds_length below r.places r.vars) ∙ vars in
       both_true (list_all (is_known (length ds)) (types_in Seen)) (list_all (may_stand (length Seen.vars) flags) (flat_map vars_in (types_in Seen))) known own
 
 module _ (t : Tests) (k : Known) (declared : DeclsKnown k.decls) (flags : List Bool) (c : Scope) (s : State) (fit : StaticsFit flags c.statics) where
   abbrev Decls : List Decl
   Decls = declared_at k c.types
 
-  body_step : (text : TypeText) → (type_at t (begins text) (body_type Decls c.statics text) s).after.fault ≡ None
-      → IsSeenType t k.decls flags s (type_at t (begins text) (body_type Decls c.statics text) s)
+  body_step : (text : TypeText) → (type_at t (start_of text) (body_type Decls c.statics text) s).after.fault ≡ None
+      → IsSeenType t k.decls flags s (type_at t (start_of text) (body_type Decls c.statics text) s)
   body_step text e =
       let ty = body_type Decls c.statics text in
       let r = ty.after in
-      let w = one_type ty.ty (adopted t.below r.places r.vars) in
-      let n = noted_none (begins text) (refusal t.body r w) (merged r.fault s) e in
-      let m = merged_none r.fault s n.1 in
+      let w = one_type ty.ty (adopt_bounds t.below r.places r.vars) in
+      let n = note_if_none (start_of text) (refusal t.body r w) (merge_fault r.fault s) e in
+      let m = merge_fault_none r.fault s n.1 in
       let vars = shifted (width_of Decls c.statics text) c.statics in
-      let raw = type_reads Decls text vars false unread in
+      let raw = type_reads Decls text vars false no_reading in
       let as_it_was = one_ordered_told raw raw.after.swaps in
       let ck = known_at k.decls declared c.types in
       let q = may_stand (length raw.after.vars) flags in
       let cv = vars_at k.decls declared c.types q in
       let cw = vars_at k.decls declared c.types (may_stand (length r.vars) flags) in
       let wide = sym (width_is Decls c.statics text (width_of Decls c.statics text)) in
-      let lk = type_law Decls _ _ _ _ ck text vars false unread in
-      let lv = type_law Decls _ _ _ _ cv text vars false unread in
+      let lk = type_law Decls _ _ _ _ ck text vars false no_reading in
+      let lv = type_law Decls _ _ _ _ cv text vars false no_reading in
       let f = sym as_it_was.fault_is ∙ m.0 in
       let read = lk.holds tt (λ v l. tt) (all_visible vars) (nothing_has _) in
       let known = one_ordered_passes (is_known (length k.decls)) raw (known_kept (length k.decls) (text_places raw.after)) raw.after.swaps read.0 read.1 in
@@ -159,6 +159,6 @@ module _ (t : Tests) (k : Known) (declared : DeclsKnown k.decls) (flags : List B
         allowed = untold r.misplaced r.unclear kind.VariablePlace (t.body w) (as_it_was.unclear_is ∙ lv.grows.told f) n.0;
       }
 
-  pub body_seen : (text : TypeText) → (body_written t k text c s).after.fault ≡ None → IsSeenType t k.decls flags s (body_written t k text c s)
-  unfolding body_written
+  pub body_seen : (text : TypeText) → (type_in_body t k text c s).after.fault ≡ None → IsSeenType t k.decls flags s (type_in_body t k text c s)
+  unfolding type_in_body
   body_seen text e = body_step text e

@@ -14,7 +14,7 @@ use Rattle.jl_model.proofs.PutLemmas.{and_l, and_r, both_true}
 use Rattle.jl_written.specs.declared.fault.StaticKind.TheVariants as kind
 use Rattle.jl_model.specs.declared.ty.Ty.TheVariants as W
 use Rattle.jl_written.specs.declared.reading.Reading.{Reading}
-use Rattle.jl_written.specs.Reads.{used}
+use Rattle.jl_written.specs.Reads.{note_use}
 use Rattle.jl_type_laws.specs.Carried.{Passes, vars_pass, WhereUsable, AllHave, BoundsHave, IsCarried}
 use Rattle.jl_type_laws.proofs.GrowLemmas.{never_none, fault_at}
 
@@ -113,9 +113,9 @@ known_carried ds m l b h = record {
   bound = λ v e. tt;
 }
 
-used_passes : (q : ℕ → Bool) (at : ℕ) (r : Reading) (v : ℕ) (usable : Bool) → WhereUsable (λ n. q n ≡ true) v usable → (used at usable r).fault ≡ None → q v ≡ true
-used_passes q at r v true h e = h refl
-used_passes q at r v false h e = absurd (never_none r.fault (fault_at at kind.StaticParameterUse) e)
+note_use_passes : (q : ℕ → Bool) (at : ℕ) (r : Reading) (v : ℕ) (usable : Bool) → WhereUsable (λ n. q n ≡ true) v usable → (note_use at usable r).fault ≡ None → q v ≡ true
+note_use_passes q at r v true h e = h refl
+note_use_passes q at r v false h e = absurd (never_none r.fault (fault_at at kind.StaticParameterUse) e)
 
 module _ (ds : List Decl) (q : ℕ → Bool) (h : list_all (λ (d : Decl). list_all (vars_pass q) (bound_types d.params)) ds ≡ true) where
   vars_union : (ts : List Ty) → AllHave (Passes (vars_pass q)) ts → vars_pass q (V.Union ts) ≡ true
@@ -141,7 +141,7 @@ module _ (ds : List Decl) (q : ℕ → Bool) (h : list_all (λ (d : Decl). list_
     variable = vars_variable;
     params = params_have (vars_pass q) ds h;
     back = λ r s g e. g.faultless e;
-    visible = used_passes q;
+    visible = note_use_passes q;
     bound = λ v e u. e;
   }
 

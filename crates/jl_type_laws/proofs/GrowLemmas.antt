@@ -5,7 +5,7 @@ use Rattle.jl_written.specs.declared.fault.Fault.{Fault}
 use Rattle.jl_written.specs.declared.fault.StaticKind.{StaticKind}
 use Rattle.jl_written.specs.declared.reading.Reading.{Reading}
 use Rattle.jl_written.specs.Answered.{first_of, comes_before}
-use Rattle.jl_written.specs.Reads.{note, brought, fresh, swapped}
+use Rattle.jl_written.specs.Reads.{note, note_brought, fresh_variable, swap}
 use Rattle.jl_written.specs.declared.reading.Swap.{Swap}
 use Rattle.jl_type_laws.specs.Grown.{SwapsFit, Grows}
 
@@ -88,8 +88,8 @@ grows_unclear at k r = record {
   misplaced = λ e. e;
 }
 
-pub grows_brought : (inside : Bool) (r : Reading) → Grows r (brought inside r)
-grows_brought inside r = record {
+pub grows_note_brought : (inside : Bool) (r : Reading) → Grows r (note_brought inside r)
+grows_note_brought inside r = record {
   longer = le_refl (length r.vars);
   fits = λ h. h;
   faultless = λ e. e;
@@ -102,8 +102,8 @@ grows_brought inside r = record {
 pub grows_bound : (b : Bound) (r : Reading) → Grows r (record r { vars = r.vars ++ b ∷ [] })
 grows_bound b r = record { longer = no_shorter r.vars b; fits = swaps_wider (length r.vars) (length (r.vars ++ b ∷ [])) r.swaps (no_shorter r.vars b); faultless = λ e. e; named = λ e. refl; told = λ e. refl; unclear = λ e. e; misplaced = λ e. e }
 
-pub grows_fresh : (b : Bound) (inside : Bool) (r : Reading) → Grows r (fresh b inside r).after
-grows_fresh b inside r = grows_trans r (brought inside r) (fresh b inside r).after (grows_brought inside r) (grows_bound b (brought inside r))
+pub grows_fresh_variable : (b : Bound) (inside : Bool) (r : Reading) → Grows r (fresh_variable b inside r).after
+grows_fresh_variable b inside r = grows_trans r (note_brought inside r) (fresh_variable b inside r).after (grows_note_brought inside r) (grows_bound b (note_brought inside r))
 
 swap_case : (b : Bool) (s : Swap) (r : Reading) → s.stop ≡ length r.vars → Grows r (cond b (record r { swaps = r.swaps ++ s ∷ [] }) r)
 swap_case true s r e = record {
@@ -117,5 +117,5 @@ swap_case true s r e = record {
 }
 swap_case false s r e = grows_refl r
 
-pub grows_swapped : (start middle : ℕ) (r : Reading) → Grows r (swapped start middle r)
-grows_swapped start middle r = swap_case (nat_lt start middle && nat_lt middle (length r.vars)) (record { start = start; middle = middle; stop = length r.vars }) r refl
+pub grows_swap : (start middle : ℕ) (r : Reading) → Grows r (swap start middle r)
+grows_swap start middle r = swap_case (nat_lt start middle && nat_lt middle (length r.vars)) (record { start = start; middle = middle; stop = length r.vars }) r refl

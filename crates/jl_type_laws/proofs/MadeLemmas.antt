@@ -16,19 +16,19 @@ use Rattle.jl_typeread.specs.declared.tree.ArgText.{ArgText}
 use Rattle.jl_written.specs.declared.fault.StaticKind.{StaticKind}
 use Rattle.jl_written.specs.declared.fault.StaticKind.TheVariants as kind
 use Rattle.jl_written.specs.declared.reading.Reading.{Reading}
-use Rattle.jl_written.specs.Reads.{unread, arg_reads, arguments}
+use Rattle.jl_written.specs.Reads.{no_reading, arg_reads, read_arguments}
 use Rattle.jl_written.specs.Signatures.{shifted, constructor_type}
 use Rattle.jl_resolve_forms.specs.declared.known.Known.{Known}
 use Rattle.jl_resolve_forms.specs.declared.state.Scope.{Scope}
 use Rattle.jl_resolve_forms.specs.declared.state.State.{State}
-use Rattle.jl_resolve_forms.specs.Scopes.{merged}
-use Rattle.jl_resolve_forms.specs.TypesIn.{Tests, declared_at, made_refusal, one_type, made_type, made_at}
+use Rattle.jl_resolve_forms.specs.Scopes.{merge_fault}
+use Rattle.jl_resolve_forms.specs.TypesIn.{Tests, declared_at, make_refusal, one_type, make_type, make_at}
 use Rattle.jl_type_laws.specs.Carried.{vars_pass}
 use Rattle.jl_type_laws.specs.Scripts.{DeclsKnown}
 use Rattle.jl_type_laws.specs.Told.{StaticsFit, IsMadeType}
 use Rattle.jl_type_laws.proofs.CarryLemmas.{lt_true, all_pass, params_have, all_flat, closed_params}
-use Rattle.jl_type_laws.proofs.ReadLemmas.{arguments_law}
-use Rattle.jl_type_laws.proofs.BodyLemmas.{noted_none, merged_none, known_at, vars_at, shifted_fit, all_visible, nothing_has}
+use Rattle.jl_type_laws.proofs.ReadLemmas.{read_arguments_law}
+use Rattle.jl_type_laws.proofs.BodyLemmas.{note_if_none, merge_fault_none, known_at, vars_at, shifted_fit, all_visible, nothing_has}
 
 -- what a constructor's type is not refused by
 record Untold (r : Reading) (o : Option StaticKind) : Type 0 where
@@ -62,22 +62,22 @@ module _ (t : Tests) (k : Known) (declared : DeclsKnown k.decls) (flags : List B
   Decls = declared_at k c.types
 
   made_step : (at p : ℕ) → is_struct k.decls p ≡ true → (xs : List ArgText) (counted : Bool)
-      → (made_type t at (constructor_type Decls p (params_of (slice_get k.decls p)) c.statics xs) counted s).after.fault ≡ None
-      → IsMadeType t k.decls flags s (made_type t at (constructor_type Decls p (params_of (slice_get k.decls p)) c.statics xs) counted s)
+      → (make_type t at (constructor_type Decls p (params_of (slice_get k.decls p)) c.statics xs) counted s).after.fault ≡ None
+      → IsMadeType t k.decls flags s (make_type t at (constructor_type Decls p (params_of (slice_get k.decls p)) c.statics xs) counted s)
   made_step at p struct xs counted e =
       let bs = params_of (slice_get k.decls p) in
       let ty = constructor_type Decls p bs c.statics xs in
       let r = ty.after in
       let w = one_type ty.ty [] in
-      let n = noted_none at (made_refusal t.body counted r w) (merged r.fault s) e in
-      let m = merged_none r.fault s n.1 in
+      let n = note_if_none at (make_refusal t.body counted r w) (merge_fault r.fault s) e in
+      let m = merge_fault_none r.fault s n.1 in
       let vars = shifted 0 c.statics in
-      let ts = (arguments bs (map (arg_reads Decls) xs) vars false unread).tys in
+      let ts = (read_arguments bs (map (arg_reads Decls) xs) vars false no_reading).tys in
       let q = may_stand 0 flags in
       let ck = known_at k.decls declared c.types in
       let cv = vars_at k.decls declared c.types q in
-      let lk = arguments_law Decls _ _ _ _ ck bs (params_have (is_known (length k.decls)) k.decls declared.known p) xs vars false unread in
-      let lv = arguments_law Decls _ _ _ _ cv bs (params_have (vars_pass q) k.decls (closed_params q k.decls declared.closed) p) xs vars false unread in
+      let lk = read_arguments_law Decls _ _ _ _ ck bs (params_have (is_known (length k.decls)) k.decls declared.known p) xs vars false no_reading in
+      let lv = read_arguments_law Decls _ _ _ _ cv bs (params_have (vars_pass q) k.decls (closed_params q k.decls declared.closed) p) xs vars false no_reading in
       let h = three r.misplaced (not (nat_eq (length r.vars) 0) || not counted) r.unclear kind.VariablePlace kind.WrongParameterCount (t.body w) (lv.grows.told m.0) n.0 in
       let none = zero_of (length r.vars) counted h.0 in
       let below : p < length k.decls = struct_below k.decls p struct in
@@ -99,6 +99,6 @@ module _ (t : Tests) (k : Known) (declared : DeclsKnown k.decls) (flags : List B
         made = both_true (is_struct_type k.decls (out-Ty ty.ty)) true is_one refl;
       }
 
-  pub made_seen : (at p : ℕ) → is_struct k.decls p ≡ true → (xs : List ArgText) → (made_at t k at p xs c s).after.fault ≡ None → IsMadeType t k.decls flags s (made_at t k at p xs c s)
-  unfolding made_at
+  pub made_seen : (at p : ℕ) → is_struct k.decls p ≡ true → (xs : List ArgText) → (make_at t k at p xs c s).after.fault ≡ None → IsMadeType t k.decls flags s (make_at t k at p xs c s)
+  unfolding make_at
   made_seen at p struct xs e = made_step at p struct xs (nat_eq (length xs) (length (params_of (slice_get k.decls p)))) e

@@ -16,7 +16,7 @@ use Rattle.jl_written.specs.declared.reading.Place.{Place}
 use Rattle.jl_written.specs.declared.reading.Reading.{Reading}
 use Rattle.jl_written.specs.declared.reading.Swap.{Swap}
 use Rattle.jl_written.specs.Reads.{Types, Typed}
-use Rattle.jl_written.specs.TextOrder.{moved, is_in, moved_from, all_moved, counted_from, text_places, number_in, renumbered, renumbered_bound, renumbered_place, arranged, ordered_by, one_ordered_by}
+use Rattle.jl_written.specs.TextOrder.{move_place, is_in, move_places, move_by_all, count_from, text_places, number_in, renumber, renumber_bound, renumber_place, arrange, reorder_types, reorder_type}
 use Rattle.jl_type_laws.specs.Carried.{Passes, vars_pass, AllHave, BoundsHave, PlacesHave, ReadingHas}
 use Rattle.jl_type_laws.specs.Grown.{SwapsFit}
 use Rattle.jl_type_laws.proofs.AdoptLemmas.{set_has}
@@ -42,42 +42,42 @@ moved_case s n p false true c e l h = before_stop s.stop s.middle p n (grind (ar
 moved_case s n p false false true e l h = no_more p (s.middle - s.start) n h
 moved_case s n p false false false e l h = h
 
-moved_below : (s : Swap) (n p : ℕ) → s.stop ≤ n → p < n → moved s p < n
-moved_below s n p l h = moved_case s n p (nat_lt p s.start) (nat_lt p s.middle) (nat_lt p s.stop) refl l h
+move_place_below : (s : Swap) (n p : ℕ) → s.stop ≤ n → p < n → move_place s p < n
+move_place_below s n p l h = moved_case s n p (nat_lt p s.start) (nat_lt p s.middle) (nat_lt p s.stop) refl l h
 
 chosen_below : (b : Bool) (x y n : ℕ) → x < n → y < n → cond b x y < n
 chosen_below true x y n h g = h
 chosen_below false x y n h g = g
 
-moved_from_below : (s : Swap) (n v : ℕ) (ps : List ℕ) → s.stop ≤ n → Below n ps → Below n (moved_from s v ps)
-moved_from_below s n v [] l h = tt
-moved_from_below s n v (p ∷ ps) l h = (chosen_below (is_in s v) (moved s p) p n (moved_below s n p l h.0) h.0, moved_from_below s n (v + 1) ps l h.1)
+move_places_below : (s : Swap) (n v : ℕ) (ps : List ℕ) → s.stop ≤ n → Below n ps → Below n (move_places s v ps)
+move_places_below s n v [] l h = tt
+move_places_below s n v (p ∷ ps) l h = (chosen_below (is_in s v) (move_place s p) p n (move_place_below s n p l h.0) h.0, move_places_below s n (v + 1) ps l h.1)
 
-all_moved_below : (n : ℕ) (ss : List Swap) (ps : List ℕ) → SwapsFit n ss → Below n ps → Below n (all_moved ss ps)
-all_moved_below n [] ps f h = h
-all_moved_below n (s ∷ ss) ps f h = all_moved_below n ss (moved_from s 0 ps) f.1 (moved_from_below s n 0 ps f.0 h)
+move_by_all_below : (n : ℕ) (ss : List Swap) (ps : List ℕ) → SwapsFit n ss → Below n ps → Below n (move_by_all ss ps)
+move_by_all_below n [] ps f h = h
+move_by_all_below n (s ∷ ss) ps f h = move_by_all_below n ss (move_places s 0 ps) f.1 (move_places_below s n 0 ps f.0 h)
 
-counted_below : (n v : ℕ) (bs : List Bound) → v + length bs ≤ n → Below n (counted_from v bs)
+counted_below : (n v : ℕ) (bs : List Bound) → v + length bs ≤ n → Below n (count_from v bs)
 counted_below n v [] l = tt
 counted_below n v (b ∷ bs) l = (omega (arith, l), counted_below n (v + 1) bs (omega (arith, l)))
 
 places_below : (r : Reading) → SwapsFit (length r.vars) r.swaps → Below (length r.vars) (text_places r)
-places_below r f = all_moved_below (length r.vars) r.swaps (counted_from 0 r.vars) f (counted_below (length r.vars) 0 r.vars (omega arith))
+places_below r f = move_by_all_below (length r.vars) r.swaps (count_from 0 r.vars) f (counted_below (length r.vars) 0 r.vars (omega arith))
 
-moved_length : (s : Swap) (v : ℕ) (ps : List ℕ) → length (moved_from s v ps) ≡ length ps
+moved_length : (s : Swap) (v : ℕ) (ps : List ℕ) → length (move_places s v ps) ≡ length ps
 moved_length s v [] = refl
 moved_length s v (p ∷ ps) = ap suc (moved_length s (v + 1) ps)
 
-all_moved_length : (ss : List Swap) (ps : List ℕ) → length (all_moved ss ps) ≡ length ps
-all_moved_length [] ps = refl
-all_moved_length (s ∷ ss) ps = all_moved_length ss (moved_from s 0 ps) ∙ moved_length s 0 ps
+move_by_all_length : (ss : List Swap) (ps : List ℕ) → length (move_by_all ss ps) ≡ length ps
+move_by_all_length [] ps = refl
+move_by_all_length (s ∷ ss) ps = move_by_all_length ss (move_places s 0 ps) ∙ moved_length s 0 ps
 
-counted_length : (v : ℕ) (bs : List Bound) → length (counted_from v bs) ≡ length bs
+counted_length : (v : ℕ) (bs : List Bound) → length (count_from v bs) ≡ length bs
 counted_length v [] = refl
 counted_length v (b ∷ bs) = ap suc (counted_length (v + 1) bs)
 
 places_length : (r : Reading) → length (text_places r) ≡ length r.vars
-places_length r = all_moved_length r.swaps (counted_from 0 r.vars) ∙ counted_length 0 r.vars
+places_length r = move_by_all_length r.swaps (count_from 0 r.vars) ∙ counted_length 0 r.vars
 
 get_below : (n : ℕ) (ps : List ℕ) (v d : ℕ) → Below n ps → v < length ps → get_or ps v d < n
 get_below n [] v d h l = absurd (omega (arith, l))
@@ -124,7 +124,7 @@ put_passes p b f k = by_cases (λ t. p t ≡ true → p (put f t) ≡ true) (rec
 })
 
 abbrev Kept : List ℕ → (Ty → Bool) → Type 0
-Kept ps p = (t : Ty) → p t ≡ true → p (renumbered ps t) ≡ true
+Kept ps p = (t : Ty) → p t ≡ true → p (renumber ps t) ≡ true
 
 known_parts : (m : ℕ) → ByParts (is_known m)
 known_parts m = record { union = known-union m; tuple = known-tuple m; number = λ k. nat_lt k m; nominal = known-nominal m }
@@ -147,62 +147,62 @@ vars_kept q ps k = put_passes (vars_pass q) (vars_parts q) (λ v. W.Var (number_
 -- ---- what all types had
 
 module _ (p : Ty → Bool) (ps : List ℕ) (k : Kept ps p) where
-  arranged_has : (v : ℕ) (bs done : List Bound) → BoundsHave (Passes p) bs → BoundsHave (Passes p) done → BoundsHave (Passes p) (arranged ps v bs done)
-  arranged_has v [] done h g = g
-  arranged_has v (b ∷ bs) done h g =
-      arranged_has (v + 1) bs (slice_set done (number_in ps v) (renumbered_bound ps b)) h.1
-      (set_has (Passes p) done (number_in ps v) (renumbered_bound ps b) g (k b.low h.0.0, k b.high h.0.1))
+  arrange_has : (v : ℕ) (bs done : List Bound) → BoundsHave (Passes p) bs → BoundsHave (Passes p) done → BoundsHave (Passes p) (arrange ps v bs done)
+  arrange_has v [] done h g = g
+  arrange_has v (b ∷ bs) done h g =
+      arrange_has (v + 1) bs (slice_set done (number_in ps v) (renumber_bound ps b)) h.1
+      (set_has (Passes p) done (number_in ps v) (renumber_bound ps b) g (k b.low h.0.0, k b.high h.0.1))
 
-  places_have : (xs : List Place) → PlacesHave (Passes p) xs → PlacesHave (Passes p) (map (renumbered_place ps) xs)
+  places_have : (xs : List Place) → PlacesHave (Passes p) xs → PlacesHave (Passes p) (map (renumber_place ps) xs)
   places_have [] h = tt
   places_have (x ∷ xs) h = (h.0, places_have xs h.1)
 
-  all_have : (ts : List Ty) → AllHave (Passes p) ts → AllHave (Passes p) (map (renumbered ps) ts)
+  all_have : (ts : List Ty) → AllHave (Passes p) ts → AllHave (Passes p) (map (renumber ps) ts)
   all_have [] h = tt
   all_have (t ∷ ts) h = (k t h.0, all_have ts h.1)
 
 pub ordered_passes : (p : Ty → Bool) (ts : Types) → Kept (text_places ts.after) p → (ss : List Swap) → AllHave (Passes p) ts.tys → ReadingHas (Passes p) ts.after
-    → AllHave (Passes p) (ordered_by ss ts).tys × ReadingHas (Passes p) (ordered_by ss ts).after
+    → AllHave (Passes p) (reorder_types ss ts).tys × ReadingHas (Passes p) (reorder_types ss ts).after
 ordered_passes p ts k [] h g = (h, g)
 ordered_passes p ts k (s ∷ ss) h g = (
   all_have p (text_places ts.after) k ts.tys h,
   record {
-    bounds = arranged_has p (text_places ts.after) k 0 ts.after.vars ts.after.vars g.bounds g.bounds;
+    bounds = arrange_has p (text_places ts.after) k 0 ts.after.vars ts.after.vars g.bounds g.bounds;
     places = places_have p (text_places ts.after) k ts.after.places g.places;
   },
 )
 
 pub one_ordered_passes : (p : Ty → Bool) (t : Typed) → Kept (text_places t.after) p → (ss : List Swap) → Passes p t.ty → ReadingHas (Passes p) t.after
-    → Passes p (one_ordered_by ss t).ty × ReadingHas (Passes p) (one_ordered_by ss t).after
+    → Passes p (reorder_type ss t).ty × ReadingHas (Passes p) (reorder_type ss t).after
 one_ordered_passes p t k [] h g = (h, g)
 one_ordered_passes p t k (s ∷ ss) h g = (
   k t.ty h,
   record {
-    bounds = arranged_has p (text_places t.after) k 0 t.after.vars t.after.vars g.bounds g.bounds;
+    bounds = arrange_has p (text_places t.after) k 0 t.after.vars t.after.vars g.bounds g.bounds;
     places = places_have p (text_places t.after) k t.after.places g.places;
   },
 )
 
 -- ---- what stays as it was
 
-arranged_length : (ps : List ℕ) (v : ℕ) (bs done : List Bound) → length (arranged ps v bs done) ≡ length done
-arranged_length ps v [] done = refl
-arranged_length ps v (b ∷ bs) done =
-    arranged_length ps (v + 1) bs (slice_set done (number_in ps v) (renumbered_bound ps b)) ∙ length-set done (number_in ps v) (renumbered_bound ps b)
+arrange_length : (ps : List ℕ) (v : ℕ) (bs done : List Bound) → length (arrange ps v bs done) ≡ length done
+arrange_length ps v [] done = refl
+arrange_length ps v (b ∷ bs) done =
+    arrange_length ps (v + 1) bs (slice_set done (number_in ps v) (renumber_bound ps b)) ∙ length-set done (number_in ps v) (renumber_bound ps b)
 
 pub record Told (r s : Reading) : Type 0 where
   pub length_is : length s.vars ≡ length r.vars
   pub fault_is : s.fault ≡ r.fault
   pub unclear_is : s.unclear ≡ r.unclear
 
-pub ordered_told : (ts : Types) (ss : List Swap) → Told ts.after (ordered_by ss ts).after
+pub ordered_told : (ts : Types) (ss : List Swap) → Told ts.after (reorder_types ss ts).after
 ordered_told ts [] = record { length_is = refl; fault_is = refl; unclear_is = refl }
-ordered_told ts (s ∷ ss) = record { length_is = arranged_length (text_places ts.after) 0 ts.after.vars ts.after.vars; fault_is = refl; unclear_is = refl }
+ordered_told ts (s ∷ ss) = record { length_is = arrange_length (text_places ts.after) 0 ts.after.vars ts.after.vars; fault_is = refl; unclear_is = refl }
 
-pub one_ordered_told : (t : Typed) (ss : List Swap) → Told t.after (one_ordered_by ss t).after
+pub one_ordered_told : (t : Typed) (ss : List Swap) → Told t.after (reorder_type ss t).after
 one_ordered_told t [] = record { length_is = refl; fault_is = refl; unclear_is = refl }
-one_ordered_told t (s ∷ ss) = record { length_is = arranged_length (text_places t.after) 0 t.after.vars t.after.vars; fault_is = refl; unclear_is = refl }
+one_ordered_told t (s ∷ ss) = record { length_is = arrange_length (text_places t.after) 0 t.after.vars t.after.vars; fault_is = refl; unclear_is = refl }
 
-pub ordered_count : (ts : Types) (ss : List Swap) → length (ordered_by ss ts).tys ≡ length ts.tys
+pub ordered_count : (ts : Types) (ss : List Swap) → length (reorder_types ss ts).tys ≡ length ts.tys
 ordered_count ts [] = refl
-ordered_count ts (s ∷ ss) = length-map ts.tys (renumbered (text_places ts.after))
+ordered_count ts (s ∷ ss) = length-map ts.tys (renumber (text_places ts.after))

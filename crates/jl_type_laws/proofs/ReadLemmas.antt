@@ -12,11 +12,11 @@ use Rattle.jl_typeread.specs.declared.tree.ArgText.TheOpen as F
 use Rattle.jl_typeread.specs.declared.tree.ArgText.TheFolds.{fold-roll-TypeText, fold-roll-ArgText, fold-roll-VarText}
 use Rattle.jl_written.specs.declared.reading.Reading.{Reading}
 use Rattle.jl_written.specs.declared.reading.TypeVar.{TypeVar}
-use Rattle.jl_written.specs.Reads.{TypeReads, ArgReads, VarReads, type_step, arg_step, var_step, type_reads, arg_reads, var_reads, arguments}
+use Rattle.jl_written.specs.Reads.{TypeReads, ArgReads, VarReads, type_step, arg_step, var_step, type_reads, arg_reads, var_reads, read_arguments}
 use Rattle.jl_written.specs.Signatures.{option_reads, all_read, all_bound}
 use Rattle.jl_type_laws.specs.Carried.{AllHave, BoundHas, BoundsHave, Visible, IsCarried}
 use Rattle.jl_type_laws.proofs.TextInduction.{EachText, TextCases, by_type, by_arg, by_var}
-use Rattle.jl_type_laws.proofs.StepLemmas.{Steps, TypeLaw, ArgLaw, VarLaw, still, then_, pair, behind_, fresh_steps, within_law, name_law, applied_law, arguments_steps, bind_all_steps}
+use Rattle.jl_type_laws.proofs.StepLemmas.{Steps, TypeLaw, ArgLaw, VarLaw, still, then_, pair, behind_, fresh_variable_steps, within_law, name_law, read_applied_law, read_arguments_steps, bind_all_steps}
 
 pub each_map : {A B : Type 0} (P : B → Type 0) (f : A → B) (xs : List A) → EachText (λ x. P (f x)) xs → EachText P (map f xs)
 each_map P f [] h = tt
@@ -43,19 +43,19 @@ module _ (ds : List Decl) (P : Ty → Type 0) (N : ℕ → Type 0) (S : ℕ → 
   below_law at t l vars outer inner r =
       let b = t vars inner r in
       let bound : Bound = record { low = V.Union []; high = b.ty } in
-      then_ ds P N S Ok c (behind_ ds P N S Ok c (λ g. let h : BoundHas P bound = (c.union [] tt, g) in h) (l vars inner r)) (fresh_steps ds P N S Ok c bound outer b.after)
+      then_ ds P N S Ok c (behind_ ds P N S Ok c (λ g. let h : BoundHas P bound = (c.union [] tt, g) in h) (l vars inner r)) (fresh_variable_steps ds P N S Ok c bound outer b.after)
 
   above_law : (at : ℕ) (t : TypeReads) → TypeLawOf t → ArgLawOf (arg_step ds (F.ArgText::Above at t))
   above_law at t l vars outer inner r =
       let b = t vars inner r in
       let bound : Bound = record { low = b.ty; high = W.Any } in
-      then_ ds P N S Ok c (behind_ ds P N S Ok c (λ g. let h : BoundHas P bound = (g, c.any) in h) (l vars inner r)) (fresh_steps ds P N S Ok c bound outer b.after)
+      then_ ds P N S Ok c (behind_ ds P N S Ok c (λ g. let h : BoundHas P bound = (g, c.any) in h) (l vars inner r)) (fresh_variable_steps ds P N S Ok c bound outer b.after)
 
   cases : TextCases (λ t. ArgLawOf (arg_reads ds t)) (λ t. TypeLawOf (type_reads ds t)) (λ t. VarLawOf (var_reads ds t))
   cases = record {
     name = λ at n. subst TypeLawOf (sym (fold-roll-TypeText ArgReads TypeReads VarReads (arg_step ds) (type_step ds) (var_step ds) (F.Name at n))) (name_law ds P N S Ok c at n);
     applied = λ at n xs l. subst TypeLawOf (sym (fold-roll-TypeText ArgReads TypeReads VarReads (arg_step ds) (type_step ds) (var_step ds) (F.Applied at n xs)))
-        (applied_law ds P N S Ok c at n (map (arg_reads ds) xs) (each_map ArgLawOf (arg_reads ds) xs l));
+        (read_applied_law ds P N S Ok c at n (map (arg_reads ds) xs) (each_map ArgLawOf (arg_reads ds) xs l));
     paren = λ at t vs k l. subst TypeLawOf (sym (fold-roll-TypeText ArgReads TypeReads VarReads (arg_step ds) (type_step ds) (var_step ds) (F.Paren at t vs)))
         (within_law ds P N S Ok c (type_reads ds t) k (map (var_reads ds) vs) (each_map VarLawOf (var_reads ds) vs l));
     exact = λ t l. subst ArgLawOf (sym (fold-roll-ArgText ArgReads TypeReads VarReads (arg_step ds) (type_step ds) (var_step ds) (F.Exact t))) (exact_law (type_reads ds t) l);
@@ -93,6 +93,6 @@ module _ (ds : List Decl) (P : Ty → Type 0) (N : ℕ → Type 0) (S : ℕ → 
   pub bound_law : (vs : List VarText) (vars : List TypeVar) (r : Reading) → Steps ds P N S Ok c r (all_bound ds vs vars r).after (Visible S vars) (Visible S (all_bound ds vs vars r).vars)
   bound_law vs vars r = bind_all_steps ds P N S Ok c (map (var_reads ds) vs) (each_map VarLawOf (var_reads ds) vs (each_all (λ v. VarLawOf (var_reads ds v)) var_law vs)) vars false r
 
-  pub arguments_law : (bs : List Bound) → BoundsHave P bs → (xs : List ArgText) (vars : List TypeVar) (inside : Bool) (r : Reading)
-      → Steps ds P N S Ok c r (arguments bs (map (arg_reads ds) xs) vars inside r).after (Visible S vars) (AllHave P (arguments bs (map (arg_reads ds) xs) vars inside r).tys)
-  arguments_law bs h xs vars inside r = arguments_steps ds P N S Ok c bs h (map (arg_reads ds) xs) (each_map ArgLawOf (arg_reads ds) xs (each_all (λ x. ArgLawOf (arg_reads ds x)) arg_law xs)) vars inside r
+  pub read_arguments_law : (bs : List Bound) → BoundsHave P bs → (xs : List ArgText) (vars : List TypeVar) (inside : Bool) (r : Reading)
+      → Steps ds P N S Ok c r (read_arguments bs (map (arg_reads ds) xs) vars inside r).after (Visible S vars) (AllHave P (read_arguments bs (map (arg_reads ds) xs) vars inside r).tys)
+  read_arguments_law bs h xs vars inside r = read_arguments_steps ds P N S Ok c bs h (map (arg_reads ds) xs) (each_map ArgLawOf (arg_reads ds) xs (each_all (λ x. ArgLawOf (arg_reads ds x)) arg_law xs)) vars inside r

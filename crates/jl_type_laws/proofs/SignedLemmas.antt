@@ -15,11 +15,11 @@ use Rattle.jl_written.specs.declared.fault.StaticKind.TheVariants as kind
 use Rattle.jl_written.specs.declared.reading.Reading.{Reading}
 use Rattle.jl_written.specs.declared.reading.TypeVar.{TypeVar}
 use Rattle.jl_written.specs.Meaning.{var_of}
-use Rattle.jl_written.specs.Reads.{VarReads, unread, bound_name, guarded, bind, bind_all, var_reads}
+use Rattle.jl_written.specs.Reads.{VarReads, no_reading, bind_name, note_builtin, bind, bind_all, var_reads}
 use Rattle.jl_written.specs.Signatures.{all_bound, all_read, option_reads, written_of}
 use Rattle.jl_written.specs.TextOrder.{in_text_order, text_places, number_in}
 use Rattle.jl_resolve_forms.specs.declared.known.Known.{Known}
-use Rattle.jl_resolve_forms.specs.Expressions.{type_of, static_parameters, signed}
+use Rattle.jl_resolve_forms.specs.Expressions.{type_of, static_parameters, method_signature}
 use Rattle.jl_resolve_forms.specs.TypesIn.{Tests, declared_at}
 use Rattle.jl_resolve_forms.proofs.FlagLemmas.{each_var_at}
 use Rattle.jl_type_laws.specs.Carried.{vars_pass, Visible, WhereUsable}
@@ -27,7 +27,7 @@ use Rattle.jl_type_laws.specs.Scripts.{DeclsKnown}
 use Rattle.jl_type_laws.specs.Told.{StaticsFit, IsGoodSignature}
 use Rattle.jl_type_laws.proofs.GrowLemmas.{grows_trans}
 use Rattle.jl_type_laws.proofs.CarryLemmas.{lt_true, all_pass, all_flat}
-use Rattle.jl_type_laws.proofs.AdoptLemmas.{adopted_length}
+use Rattle.jl_type_laws.proofs.AdoptLemmas.{adopt_bounds_length}
 use Rattle.jl_type_laws.proofs.OrderLemmas.{number_below, known_kept, vars_kept, ordered_passes, ordered_told, ordered_count}
 use Rattle.jl_type_laws.proofs.ReadLemmas.{all_law, bound_law}
 use Rattle.jl_type_laws.proofs.BodyLemmas.{untold, known_at, vars_at, types_pass, nothing_has}
@@ -42,7 +42,7 @@ usable_append : (vs : List TypeVar) (v : TypeVar) → AllUsable vs → v.usable 
 usable_append [] v h g = (g, tt)
 usable_append (u ∷ vs) v h g = (h.0, usable_append vs v h.1 g)
 
-bound_usable : (at : ℕ) (name : List ℕ) (b : Bound) (vars : List TypeVar) (r : Reading) (o : Option TypeVar) → AllUsable vars → AllUsable (bound_name at name b vars r o).vars
+bound_usable : (at : ℕ) (name : List ℕ) (b : Bound) (vars : List TypeVar) (r : Reading) (o : Option TypeVar) → AllUsable vars → AllUsable (bind_name at name b vars r o).vars
 bound_usable at name b vars r o h = usable_append vars (record { name = name; number = length r.vars; usable = true }) h refl
 
 pub all_usable : (vs : List VarReads) (vars : List TypeVar) (inside : Bool) (r : Reading) → AllUsable vars → AllUsable (bind_all vs vars inside r).vars
@@ -50,7 +50,7 @@ all_usable [] vars inside r h = h
 all_usable (v ∷ vs) vars inside r h =
     let b = v.bounds vars inside r in
     let s = bind v vars inside r in
-    all_usable vs s.vars inside s.after (bound_usable v.at v.name b.bound vars (guarded v.at v.name b.after) (var_of vars v.name) h)
+    all_usable vs s.vars inside s.after (bound_usable v.at v.name b.bound vars (note_builtin v.at v.name b.after) (var_of vars v.name) h)
 
 -- ---- static parameters
 
@@ -75,11 +75,11 @@ types_length [] = refl
 types_length (p ∷ ps) = ap suc (types_length ps)
 
 module _ (t : Tests) (k : Known) (declared : DeclsKnown k.decls) (types : ℕ) (head : Head) where
-  pub signed_good : (signed t k types head).fault ≡ None → (signed t k types head).refusal ≡ None → IsGoodSignature t k.decls head (signed t k types head)
-  signed_good e n =
+  pub method_signature_good : (method_signature t k types head).fault ≡ None → (method_signature t k types head).refusal ≡ None → IsGoodSignature t k.decls head (method_signature t k types head)
+  method_signature_good e n =
       let ds = declared_at k types in
       let texts = map type_of head.params in
-      let s = all_bound ds head.vars [] unread in
+      let s = all_bound ds head.vars [] no_reading in
       let ts = all_read ds texts s.vars s.after in
       let r = ts.after in
       let us = in_text_order ts in
@@ -89,12 +89,12 @@ module _ (t : Tests) (k : Known) (declared : DeclsKnown k.decls) (types : ℕ) (
       let q : ℕ → Bool = λ v. nat_lt v (length r.vars) in
       let ck = known_at k.decls declared types in
       let cv = vars_at k.decls declared types q in
-      let bk = bound_law ds _ _ _ _ ck head.vars [] unread in
-      let bv = bound_law ds _ _ _ _ cv head.vars [] unread in
+      let bk = bound_law ds _ _ _ _ ck head.vars [] no_reading in
+      let bv = bound_law ds _ _ _ _ cv head.vars [] no_reading in
       let lk = all_law ds _ _ _ _ ck texts s.vars s.after in
       let lv = all_law ds _ _ _ _ cv texts s.vars s.after in
       let long = lv.grows.longer in
-      let grown = grows_trans unread s.after r bv.grows lv.grows in
+      let grown = grows_trans no_reading s.after r bv.grows lv.grows in
       let known_vars = bk.holds tt (λ v l. tt) tt (nothing_has _) in
       let read = lk.holds tt (λ v l. tt) known_vars.0 known_vars.1 in
       let known = ordered_passes (is_known (length k.decls)) ts (known_kept (length k.decls) (text_places r)) r.swaps read.0 read.1 in
@@ -102,13 +102,13 @@ module _ (t : Tests) (k : Known) (declared : DeclsKnown k.decls) (types : ℕ) (
       let owned = lv.holds f (λ v l. lt_true v (length r.vars) l) own_vars.0 own_vars.1 in
       let stays : (v : ℕ) → q v ≡ true → q (number_in (text_places r) v) ≡ true = λ v h. lt_true (number_in (text_places r) v) (length r.vars) (number_below r (grown.fits tt) v (lt_of v (length r.vars) h)) in
       let own = ordered_passes (vars_pass q) ts (vars_kept q (text_places r) stays) r.swaps owned.0 owned.1 in
-      let same : length w.vars ≡ length r.vars = adopted_length t.below us.after.places us.after.vars ∙ as_it_was.length_is in
+      let same : length w.vars ≡ length r.vars = adopt_bounds_length t.below us.after.places us.after.vars ∙ as_it_was.length_is in
       record {
         own = ap (λ z. list_all (λ v. nat_lt v z) (flat_map vars_in us.tys)) same ∙ all_flat q us.tys ∙ all_pass (vars_pass q) us.tys own.0;
         known = types_pass (is_known (length k.decls)) t.below us.after us.tys (ck.union [] tt) ck.any known.1 known.0;
         allowed = untold us.after.misplaced us.after.unclear kind.VariablePlace (t.signature w) (as_it_was.unclear_is ∙ grown.told f) n;
         counted = sym (ordered_count ts r.swaps ∙ read_length ds texts s.vars s.after ∙ types_length head.params);
-        statics = statics_fit w s.vars (widened w.vars s.vars (sym same) own_vars.0) (all_usable (map (var_reads ds) head.vars) [] false unread tt);
+        statics = statics_fit w s.vars (widened w.vars s.vars (sym same) own_vars.0) (all_usable (map (var_reads ds) head.vars) [] false no_reading tt);
       }
     where
       widened : {n : ℕ} (bs : List Bound) (vs : List TypeVar) → n ≡ length bs → Visible (WhereUsable (λ v. nat_lt v n ≡ true)) vs → Visible (WhereUsable (λ v. nat_lt v (length bs) ≡ true)) vs

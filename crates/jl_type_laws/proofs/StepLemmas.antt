@@ -16,11 +16,11 @@ use Rattle.jl_written.specs.declared.reading.Place.{Place}
 use Rattle.jl_written.specs.declared.reading.Reading.{Reading}
 use Rattle.jl_written.specs.declared.reading.Swap.{Swap}
 use Rattle.jl_written.specs.declared.reading.TypeVar.{TypeVar}
-use Rattle.jl_written.specs.Meaning.{place_from, place_of, later, var_of, nominal_of, word_of, var_or, named}
-use Rattle.jl_written.specs.Reads.{TypeReads, ArgReads, VarReads, note, unknown, used, fresh, missing, placed, placed_layer, arguments, members, rebound, bound_name, guarded, bind, bind_all, where_at, swapped, within, plain, applied}
+use Rattle.jl_written.specs.Meaning.{place_from, place_of, later, var_of, nominal_of, word_of, var_or, meaning_of}
+use Rattle.jl_written.specs.Reads.{TypeReads, ArgReads, VarReads, note, note_unknown, note_use, fresh_variable, missing_arguments, note_place, note_place_of, read_arguments, read_members, rebound, bind_name, note_builtin, bind, bind_all, bind_where, swap, within, read_plain, read_applied}
 use Rattle.jl_type_laws.specs.Grown.{Grows}
 use Rattle.jl_type_laws.specs.Carried.{AllHave, BoundHas, BoundsHave, PlacesHave, ReadingHas, Visible, NumbersHave, IsCarried}
-use Rattle.jl_type_laws.proofs.GrowLemmas.{one_longer, grows_refl, grows_trans, grows_note, grows_unknown, grows_unclear, grows_brought, grows_bound, grows_fresh, grows_swapped}
+use Rattle.jl_type_laws.proofs.GrowLemmas.{one_longer, grows_refl, grows_trans, grows_note, grows_unknown, grows_unclear, grows_note_brought, grows_bound, grows_fresh_variable, grows_swap}
 use Rattle.jl_type_laws.proofs.TextInduction.{EachText}
 
 pub bounds_append : (P : Ty → Type 0) (bs : List Bound) (b : Bound) → BoundsHave P bs → BoundHas P b → BoundsHave P (bs ++ b ∷ [])
@@ -83,43 +83,43 @@ module _ (ds : List Decl) (P : Ty → Type 0) (N : ℕ → Type 0) (S : ℕ → 
 
   -- ---- single steps
 
-  pub unknown_steps : {F : Type 0} (at : ℕ) (r : Reading) → Steps r (unknown at r).after F (P W.Any)
-  unknown_steps at r = record { grows = grows_unknown at kind.UnknownType r; holds = λ e n g h. (c.any, record { bounds = h.bounds; places = h.places }) }
+  pub note_unknown_steps : {F : Type 0} (at : ℕ) (r : Reading) → Steps r (note_unknown at r).after F (P W.Any)
+  note_unknown_steps at r = record { grows = grows_unknown at kind.UnknownType r; holds = λ e n g h. (c.any, record { bounds = h.bounds; places = h.places }) }
 
-  used_grows : (at : ℕ) (usable : Bool) (r : Reading) → Grows r (used at usable r)
-  used_grows at true r = grows_refl r
-  used_grows at false r = grows_note at kind.StaticParameterUse r
+  note_use_grows : (at : ℕ) (usable : Bool) (r : Reading) → Grows r (note_use at usable r)
+  note_use_grows at true r = grows_refl r
+  note_use_grows at false r = grows_note at kind.StaticParameterUse r
 
-  used_has : (at : ℕ) (usable : Bool) (r : Reading) → ReadingHas P r → ReadingHas P (used at usable r)
-  used_has at true r h = h
-  used_has at false r h = record { bounds = h.bounds; places = h.places }
+  note_use_has : (at : ℕ) (usable : Bool) (r : Reading) → ReadingHas P r → ReadingHas P (note_use at usable r)
+  note_use_has at true r h = h
+  note_use_has at false r h = record { bounds = h.bounds; places = h.places }
 
-  pub used_steps : {F : Type 0} (at : ℕ) (usable : Bool) (v : ℕ) (r : Reading) → (F → S v usable) → Steps r (used at usable r) F (P (W.Var v))
-  used_steps at usable v r f = record { grows = used_grows at usable r; holds = λ e n g h. (c.variable v (c.visible at r v usable (f g) e), used_has at usable r h) }
+  pub note_use_steps : {F : Type 0} (at : ℕ) (usable : Bool) (v : ℕ) (r : Reading) → (F → S v usable) → Steps r (note_use at usable r) F (P (W.Var v))
+  note_use_steps at usable v r f = record { grows = note_use_grows at usable r; holds = λ e n g h. (c.variable v (c.visible at r v usable (f g) e), note_use_has at usable r h) }
 
-  pub fresh_steps : (b : Bound) (inside : Bool) (r : Reading) → Steps r (fresh b inside r).after (BoundHas P b) (P (W.Var (length r.vars)))
-  fresh_steps b inside r = record {
-    grows = grows_fresh b inside r;
+  pub fresh_variable_steps : (b : Bound) (inside : Bool) (r : Reading) → Steps r (fresh_variable b inside r).after (BoundHas P b) (P (W.Var (length r.vars)))
+  fresh_variable_steps b inside r = record {
+    grows = grows_fresh_variable b inside r;
     holds = λ e n g h. (c.variable (length r.vars) (n (length r.vars) (one_longer r.vars b)), record { bounds = bounds_append P r.vars b h.bounds g; places = h.places });
   }
 
-  pub missing_steps : {F : Type 0} (bs : List Bound) → BoundsHave P bs → (inside : Bool) (r : Reading) → Steps r (missing bs inside r).after F (AllHave P (missing bs inside r).tys)
-  missing_steps [] h inside r = still r (λ g. tt)
-  missing_steps (b ∷ bs) h inside r = pair (before (λ g. h.0) (fresh_steps b inside r)) (missing_steps bs h.1 inside (fresh b inside r).after)
+  pub missing_arguments_steps : {F : Type 0} (bs : List Bound) → BoundsHave P bs → (inside : Bool) (r : Reading) → Steps r (missing_arguments bs inside r).after F (AllHave P (missing_arguments bs inside r).tys)
+  missing_arguments_steps [] h inside r = still r (λ g. tt)
+  missing_arguments_steps (b ∷ bs) h inside r = pair (before (λ g. h.0) (fresh_variable_steps b inside r)) (missing_arguments_steps bs h.1 inside (fresh_variable b inside r).after)
 
-  placed_layer_steps : {F : Type 0} (high : Ty) (y : Ty-F Ty) (r : Reading) → P high → Steps r (placed_layer high y r) F F
-  placed_layer_steps high (L.Var v) r p = record {
+  note_place_of_steps : {F : Type 0} (high : Ty) (y : Ty-F Ty) (r : Reading) → P high → Steps r (note_place_of high y r) F F
+  note_place_of_steps high (L.Var v) r p = record {
     grows = let g = grows_refl r in record { longer = g.longer; fits = g.fits; faultless = g.faultless; named = g.named; told = g.told; unclear = g.unclear; misplaced = g.misplaced };
     holds = λ e n g h. (g, record { bounds = h.bounds; places = places_append P r.places (record { var = v; high = high }) h.places p });
   }
-  placed_layer_steps high L.Any r p = still r (λ g. g)
-  placed_layer_steps high (L.Union ts) r p = still r (λ g. g)
-  placed_layer_steps high (L.Tuple ts) r p = still r (λ g. g)
-  placed_layer_steps high (L.Nominal k ts) r p = still r (λ g. g)
+  note_place_of_steps high L.Any r p = still r (λ g. g)
+  note_place_of_steps high (L.Union ts) r p = still r (λ g. g)
+  note_place_of_steps high (L.Tuple ts) r p = still r (λ g. g)
+  note_place_of_steps high (L.Nominal k ts) r p = still r (λ g. g)
 
-  pub placed_steps : {F : Type 0} (bs : List Bound) → BoundsHave P bs → (t : Ty) (r : Reading) → Steps r (placed bs t r) F F
-  placed_steps [] h t r = still r (λ g. g)
-  placed_steps (b ∷ bs) h t r = placed_layer_steps b.high (out-Ty t) r h.0.1
+  pub note_place_steps : {F : Type 0} (bs : List Bound) → BoundsHave P bs → (t : Ty) (r : Reading) → Steps r (note_place bs t r) F F
+  note_place_steps [] h t r = still r (λ g. g)
+  note_place_steps (b ∷ bs) h t r = note_place_of_steps b.high (out-Ty t) r h.0.1
 
   -- ---- what is said of a text
 
@@ -132,18 +132,18 @@ module _ (ds : List Decl) (P : Ty → Type 0) (N : ℕ → Type 0) (S : ℕ → 
   abbrev pub VarLaw : VarReads → Type 0
   VarLaw v = (vars : List TypeVar) (inside : Bool) (r : Reading) → Steps r (v.bounds vars inside r).after (Visible S vars) (BoundHas P (v.bounds vars inside r).bound)
 
-  pub arguments_steps : (bs : List Bound) → BoundsHave P bs → (xs : List ArgReads) → EachText ArgLaw xs → (vars : List TypeVar) (inside : Bool) (r : Reading)
-      → Steps r (arguments bs xs vars inside r).after (Visible S vars) (AllHave P (arguments bs xs vars inside r).tys)
-  arguments_steps bs h [] l vars inside r = missing_steps bs h inside r
-  arguments_steps bs h (x ∷ xs) l vars inside r =
+  pub read_arguments_steps : (bs : List Bound) → BoundsHave P bs → (xs : List ArgReads) → EachText ArgLaw xs → (vars : List TypeVar) (inside : Bool) (r : Reading)
+      → Steps r (read_arguments bs xs vars inside r).after (Visible S vars) (AllHave P (read_arguments bs xs vars inside r).tys)
+  read_arguments_steps bs h [] l vars inside r = missing_arguments_steps bs h inside r
+  read_arguments_steps bs h (x ∷ xs) l vars inside r =
       let t = x vars inside true r in
-      let s = placed bs t.ty t.after in
-      pair (l.0 vars inside true r) (then_ (placed_steps bs h t.ty t.after) (arguments_steps (drop 1 bs) (bounds_drop P bs h) xs l.1 vars inside s))
+      let s = note_place bs t.ty t.after in
+      pair (l.0 vars inside true r) (then_ (note_place_steps bs h t.ty t.after) (read_arguments_steps (drop 1 bs) (bounds_drop P bs h) xs l.1 vars inside s))
 
-  pub members_steps : (xs : List ArgReads) → EachText ArgLaw xs → (vars : List TypeVar) (inside : Bool) (r : Reading)
-      → Steps r (members xs vars inside r).after (Visible S vars) (AllHave P (members xs vars inside r).tys)
-  members_steps [] l vars inside r = still r (λ g. tt)
-  members_steps (x ∷ xs) l vars inside r = pair (l.0 vars inside inside r) (members_steps xs l.1 vars inside (x vars inside inside r).after)
+  pub read_members_steps : (xs : List ArgReads) → EachText ArgLaw xs → (vars : List TypeVar) (inside : Bool) (r : Reading)
+      → Steps r (read_members xs vars inside r).after (Visible S vars) (AllHave P (read_members xs vars inside r).tys)
+  read_members_steps [] l vars inside r = still r (λ g. tt)
+  read_members_steps (x ∷ xs) l vars inside r = pair (l.0 vars inside inside r) (read_members_steps xs l.1 vars inside (x vars inside inside r).after)
 
   -- ---- variables
 
@@ -159,10 +159,10 @@ module _ (ds : List Decl) (P : Ty → Type 0) (N : ℕ → Type 0) (S : ℕ → 
   bound_has at None bs r h g = record { bounds = h; places = g }
   bound_has at (Some v) bs r h g = record { bounds = h; places = g }
 
-  bound_name_steps : (at : ℕ) (name : List ℕ) (b : Bound) (vars : List TypeVar) (r : Reading) (o : Option TypeVar)
-      → Steps r (bound_name at name b vars r o).after (BoundHas P b × Visible S vars) (Visible S (bound_name at name b vars r o).vars)
-  bound_name_steps at name b vars r o = record {
-    grows = grows_trans r (rebound at o r) (bound_name at name b vars r o).after (rebound_grows at o r) (bound_grows at o b r);
+  bind_name_steps : (at : ℕ) (name : List ℕ) (b : Bound) (vars : List TypeVar) (r : Reading) (o : Option TypeVar)
+      → Steps r (bind_name at name b vars r o).after (BoundHas P b × Visible S vars) (Visible S (bind_name at name b vars r o).vars)
+  bind_name_steps at name b vars r o = record {
+    grows = grows_trans r (rebound at o r) (bind_name at name b vars r o).after (rebound_grows at o r) (bound_grows at o b r);
     holds = λ e n g h. (visible_append S vars (record { name = name; number = length r.vars; usable = true }) g.1 (c.bound (length r.vars) (n (length r.vars) (one_longer r.vars b))), bound_has at o (r.vars ++ b ∷ []) r (bounds_append P r.vars b h.bounds g.0) h.places);
   }
 
@@ -173,33 +173,33 @@ module _ (ds : List Decl) (P : Ty → Type 0) (N : ℕ → Type 0) (S : ℕ → 
   pub bind_steps : (v : VarReads) → VarLaw v → (vars : List TypeVar) (inside : Bool) (r : Reading) → Steps r (bind v vars inside r).after (Visible S vars) (Visible S (bind v vars inside r).vars)
   bind_steps v l vars inside r =
       let b = v.bounds vars inside r in
-      then_ (keep (l vars inside r)) (then_ (guarded_case v.at (is_among v.name builtin_names) b.after) (bound_name_steps v.at v.name b.bound vars (guarded v.at v.name b.after) (var_of vars v.name)))
+      then_ (keep (l vars inside r)) (then_ (guarded_case v.at (is_among v.name builtin_names) b.after) (bind_name_steps v.at v.name b.bound vars (note_builtin v.at v.name b.after) (var_of vars v.name)))
 
   pub bind_all_steps : (vs : List VarReads) → EachText VarLaw vs → (vars : List TypeVar) (inside : Bool) (r : Reading)
       → Steps r (bind_all vs vars inside r).after (Visible S vars) (Visible S (bind_all vs vars inside r).vars)
   bind_all_steps [] l vars inside r = still r (λ g. g)
   bind_all_steps (v ∷ vs) l vars inside r = let s = bind v vars inside r in then_ (bind_steps v l.0 vars inside r) (bind_all_steps vs l.1 s.vars inside s.after)
 
-  where_steps : {F : Type 0} (vs : List VarReads) (inside : Bool) (r : Reading) → Steps r (where_at vs inside r) F F
+  where_steps : {F : Type 0} (vs : List VarReads) (inside : Bool) (r : Reading) → Steps r (bind_where vs inside r) F F
   where_steps [] inside r = still r (λ g. g)
-  where_steps (v ∷ vs) inside r = record { grows = grows_brought inside r; holds = λ e n g h. (g, record { bounds = h.bounds; places = h.places }) }
+  where_steps (v ∷ vs) inside r = record { grows = grows_note_brought inside r; holds = λ e n g h. (g, record { bounds = h.bounds; places = h.places }) }
 
   swapped_has : (b : Bool) (s : Swap) (r : Reading) → ReadingHas P r → ReadingHas P (cond b (record r { swaps = r.swaps ++ s ∷ [] }) r)
   swapped_has true s r h = record { bounds = h.bounds; places = h.places }
   swapped_has false s r h = h
 
-  swapped_steps : {F : Type 0} (start middle : ℕ) (r : Reading) → Steps r (swapped start middle r) F F
-  swapped_steps start middle r = record {
-    grows = grows_swapped start middle r;
+  swap_steps : {F : Type 0} (start middle : ℕ) (r : Reading) → Steps r (swap start middle r) F F
+  swap_steps start middle r = record {
+    grows = grows_swap start middle r;
     holds = λ e n g h. (g, swapped_has (nat_lt start middle && nat_lt middle (length r.vars)) (record { start = start; middle = middle; stop = length r.vars }) r h);
   }
 
   pub within_law : (t : TypeReads) → TypeLaw t → (vs : List VarReads) → EachText VarLaw vs → TypeLaw (within t vs)
   within_law t k vs l vars inside r =
-      let s = bind_all vs vars inside (where_at vs inside r) in
+      let s = bind_all vs vars inside (bind_where vs inside r) in
       let u = t s.vars inside s.after in
       then_ (where_steps vs inside r)
-      (then_ (bind_all_steps vs l vars inside (where_at vs inside r)) (then_ (k s.vars inside s.after) (swapped_steps (length r.vars) (length s.after.vars) u.after)))
+      (then_ (bind_all_steps vs l vars inside (bind_where vs inside r)) (then_ (k s.vars inside s.after) (swap_steps (length r.vars) (length s.after.vars) u.after)))
 
   -- ---- names
 
@@ -247,37 +247,37 @@ module _ (ds : List Decl) (P : Ty → Type 0) (N : ℕ → Type 0) (S : ℕ → 
   var_fits vars [] name w f g = g
   var_fits vars (v ∷ vs) name w f g = var_case vars (same_text name v.name) v (var_of vs name) w (λ h. (f h).0) g (var_fits vars vs name w (λ h. (f h).1) g)
 
-  named_fits : (vars : List TypeVar) (name : List ℕ) → Fits vars (named ds vars name)
-  named_fits vars name = var_fits vars vars name (word_of ds name) (λ h. h) (word_fits vars name)
+  meaning_of_fits : (vars : List TypeVar) (name : List ℕ) → Fits vars (meaning_of ds vars name)
+  meaning_of_fits vars name = var_fits vars vars name (word_of ds name) (λ h. h) (word_fits vars name)
 
   nominal_have : (k : ℕ) → (k < length ds) ⊎ (k ≡ 4) → (ts : List Ty) → AllHave P ts → P (V.Nominal k ts)
   nominal_have k (inl l) ts h = c.declared k ts l h
   nominal_have k (inr e) ts h = rw e (c.int ts h)
 
-  plain_steps : (at : ℕ) (n : Named) (vars : List TypeVar) → Fits vars n → (inside : Bool) (r : Reading) → Steps r (plain ds at n inside r).after (Visible S vars) (P (plain ds at n inside r).ty)
-  plain_steps at (M.Variable v usable) vars f inside r = used_steps at usable v r f
-  plain_steps at M.Any vars f inside r = still r (λ g. c.any)
-  plain_steps at M.Union vars f inside r = unknown_steps at r
-  plain_steps at M.Tuple vars f inside r = unknown_steps at r
-  plain_steps at (M.Nominal k) vars f inside r =
+  read_plain_steps : (at : ℕ) (n : Named) (vars : List TypeVar) → Fits vars n → (inside : Bool) (r : Reading) → Steps r (read_plain ds at n inside r).after (Visible S vars) (P (read_plain ds at n inside r).ty)
+  read_plain_steps at (M.Variable v usable) vars f inside r = note_use_steps at usable v r f
+  read_plain_steps at M.Any vars f inside r = still r (λ g. c.any)
+  read_plain_steps at M.Union vars f inside r = note_unknown_steps at r
+  read_plain_steps at M.Tuple vars f inside r = note_unknown_steps at r
+  read_plain_steps at (M.Nominal k) vars f inside r =
       let bs = params_of (slice_get ds k) in
-      behind_ (nominal_have k f (missing bs inside r).tys) (missing_steps bs (c.params k) inside r)
-  plain_steps at M.Unknown vars f inside r = unknown_steps at r
+      behind_ (nominal_have k f (missing_arguments bs inside r).tys) (missing_arguments_steps bs (c.params k) inside r)
+  read_plain_steps at M.Unknown vars f inside r = note_unknown_steps at r
 
-  applied_steps : (at : ℕ) (n : Named) (xs : List ArgReads) → EachText ArgLaw xs → (vars : List TypeVar) → Fits vars n → (inside : Bool) (r : Reading)
-      → Steps r (applied ds at n xs vars inside r).after (Visible S vars) (P (applied ds at n xs vars inside r).ty)
-  applied_steps at (M.Variable v usable) xs l vars f inside r = unknown_steps at r
-  applied_steps at M.Any xs l vars f inside r = unknown_steps at r
-  applied_steps at M.Union xs l vars f inside r = behind_ (c.union (members xs vars inside r).tys) (members_steps xs l vars inside r)
-  applied_steps at M.Tuple xs l vars f inside r = behind_ (c.tuple (members xs vars inside r).tys) (members_steps xs l vars inside r)
-  applied_steps at (M.Nominal k) xs l vars f inside r =
+  read_applied_steps : (at : ℕ) (n : Named) (xs : List ArgReads) → EachText ArgLaw xs → (vars : List TypeVar) → Fits vars n → (inside : Bool) (r : Reading)
+      → Steps r (read_applied ds at n xs vars inside r).after (Visible S vars) (P (read_applied ds at n xs vars inside r).ty)
+  read_applied_steps at (M.Variable v usable) xs l vars f inside r = note_unknown_steps at r
+  read_applied_steps at M.Any xs l vars f inside r = note_unknown_steps at r
+  read_applied_steps at M.Union xs l vars f inside r = behind_ (c.union (read_members xs vars inside r).tys) (read_members_steps xs l vars inside r)
+  read_applied_steps at M.Tuple xs l vars f inside r = behind_ (c.tuple (read_members xs vars inside r).tys) (read_members_steps xs l vars inside r)
+  read_applied_steps at (M.Nominal k) xs l vars f inside r =
       let bs = params_of (slice_get ds k) in
-      behind_ (nominal_have k f (arguments bs xs vars inside r).tys) (arguments_steps bs (c.params k) xs l vars inside r)
-  applied_steps at M.Unknown xs l vars f inside r = unknown_steps at r
+      behind_ (nominal_have k f (read_arguments bs xs vars inside r).tys) (read_arguments_steps bs (c.params k) xs l vars inside r)
+  read_applied_steps at M.Unknown xs l vars f inside r = note_unknown_steps at r
 
-  pub name_law : (at : ℕ) (name : List ℕ) (vars : List TypeVar) (inside : Bool) (r : Reading) → Steps r (plain ds at (named ds vars name) inside r).after (Visible S vars) (P (plain ds at (named ds vars name) inside r).ty)
-  name_law at name vars inside r = plain_steps at (named ds vars name) vars (named_fits vars name) inside r
+  pub name_law : (at : ℕ) (name : List ℕ) (vars : List TypeVar) (inside : Bool) (r : Reading) → Steps r (read_plain ds at (meaning_of ds vars name) inside r).after (Visible S vars) (P (read_plain ds at (meaning_of ds vars name) inside r).ty)
+  name_law at name vars inside r = read_plain_steps at (meaning_of ds vars name) vars (meaning_of_fits vars name) inside r
 
-  pub applied_law : (at : ℕ) (name : List ℕ) (xs : List ArgReads) → EachText ArgLaw xs → (vars : List TypeVar) (inside : Bool) (r : Reading)
-      → Steps r (applied ds at (named ds vars name) xs vars inside r).after (Visible S vars) (P (applied ds at (named ds vars name) xs vars inside r).ty)
-  applied_law at name xs l vars inside r = applied_steps at (named ds vars name) xs l vars (named_fits vars name) inside r
+  pub read_applied_law : (at : ℕ) (name : List ℕ) (xs : List ArgReads) → EachText ArgLaw xs → (vars : List TypeVar) (inside : Bool) (r : Reading)
+      → Steps r (read_applied ds at (meaning_of ds vars name) xs vars inside r).after (Visible S vars) (P (read_applied ds at (meaning_of ds vars name) xs vars inside r).ty)
+  read_applied_law at name xs l vars inside r = read_applied_steps at (meaning_of ds vars name) xs l vars (meaning_of_fits vars name) inside r

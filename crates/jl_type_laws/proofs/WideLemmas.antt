@@ -17,7 +17,7 @@ use Rattle.jl_written.specs.declared.reading.Reading.{Reading}
 use Rattle.jl_written.specs.declared.reading.Swap.{Swap}
 use Rattle.jl_written.specs.declared.reading.TypeVar.{TypeVar}
 use Rattle.jl_written.specs.Meaning.{names_of, later, var_of, word_of, var_or}
-use Rattle.jl_written.specs.Reads.{TypeReads, ArgReads, VarReads, note, unread, used, fresh, missing, placed, placed_layer, arguments, members, bound_name, guarded, bind, bind_all, where_at, swapped, within, plain, applied, type_step, arg_step, var_step, type_reads, arg_reads, var_reads}
+use Rattle.jl_written.specs.Reads.{TypeReads, ArgReads, VarReads, note, no_reading, note_use, fresh_variable, missing_arguments, note_place, note_place_of, read_arguments, read_members, bind_name, note_builtin, bind, bind_all, bind_where, swap, within, read_plain, read_applied, type_step, arg_step, var_step, type_reads, arg_reads, var_reads}
 use Rattle.jl_written.specs.Signatures.{shifted, width_of}
 use Rattle.jl_type_laws.proofs.TextInduction.{EachText, TextCases, by_type}
 use Rattle.jl_type_laws.proofs.ReadLemmas.{each_map}
@@ -28,30 +28,30 @@ Same r q = length r.vars ≡ length q.vars
 longer : (r q : Reading) (b d : Bound) → Same r q → length (r.vars ++ b ∷ []) ≡ length (q.vars ++ d ∷ [])
 longer r q b d h = let e = length-append r.vars (b ∷ []) in let f = length-append q.vars (d ∷ []) in omega (arith, e, f, h)
 
-used_same : (at : ℕ) (usable : Bool) (r : Reading) → (used at usable r).vars ≡ r.vars
-used_same at true r = refl
-used_same at false r = refl
+note_use_same : (at : ℕ) (usable : Bool) (r : Reading) → (note_use at usable r).vars ≡ r.vars
+note_use_same at true r = refl
+note_use_same at false r = refl
 
-missing_wide : (bs : List Bound) (i : Bool) (r q : Reading) → Same r q → Same (missing bs i r).after (missing bs i q).after
-missing_wide [] i r q h = h
-missing_wide (b ∷ bs) i r q h = missing_wide bs i (fresh b i r).after (fresh b i q).after (longer r q b b h)
+missing_arguments_wide : (bs : List Bound) (i : Bool) (r q : Reading) → Same r q → Same (missing_arguments bs i r).after (missing_arguments bs i q).after
+missing_arguments_wide [] i r q h = h
+missing_arguments_wide (b ∷ bs) i r q h = missing_arguments_wide bs i (fresh_variable b i r).after (fresh_variable b i q).after (longer r q b b h)
 
-layer_same : (high : Ty) (y : Ty-F Ty) (r : Reading) → (placed_layer high y r).vars ≡ r.vars
+layer_same : (high : Ty) (y : Ty-F Ty) (r : Reading) → (note_place_of high y r).vars ≡ r.vars
 layer_same high (L.Var v) r = refl
 layer_same high L.Any r = refl
 layer_same high (L.Union ts) r = refl
 layer_same high (L.Tuple ts) r = refl
 layer_same high (L.Nominal k ts) r = refl
 
-placed_same : (bs : List Bound) (t : Ty) (r : Reading) → (placed bs t r).vars ≡ r.vars
-placed_same [] t r = refl
-placed_same (b ∷ bs) t r = layer_same b.high (out-Ty t) r
+note_place_same : (bs : List Bound) (t : Ty) (r : Reading) → (note_place bs t r).vars ≡ r.vars
+note_place_same [] t r = refl
+note_place_same (b ∷ bs) t r = layer_same b.high (out-Ty t) r
 
 pub guarded_same : (at : ℕ) (b : Bool) (r : Reading) → (cond b (note at kind.NameClash r) r).vars ≡ r.vars
 guarded_same at true r = refl
 guarded_same at false r = refl
 
-where_same : (vs : List VarReads) (i : Bool) (r : Reading) → (where_at vs i r).vars ≡ r.vars
+where_same : (vs : List VarReads) (i : Bool) (r : Reading) → (bind_where vs i r).vars ≡ r.vars
 where_same [] i r = refl
 where_same (v ∷ vs) i r = refl
 
@@ -59,7 +59,7 @@ swap_same : (b : Bool) (s : Swap) (r : Reading) → (cond b (record r { swaps = 
 swap_same true s r = refl
 swap_same false s r = refl
 
-swapped_same : (start middle : ℕ) (r : Reading) → (swapped start middle r).vars ≡ r.vars
+swapped_same : (start middle : ℕ) (r : Reading) → (swap start middle r).vars ≡ r.vars
 swapped_same start middle r = swap_same (nat_lt start middle && nat_lt middle (length r.vars)) (record { start = start; middle = middle; stop = length r.vars }) r
 
 abbrev TypeWide : TypeReads → Type 0
@@ -71,20 +71,20 @@ ArgWide x = (a b : List TypeVar) → names_of a ≡ names_of b → (o i : Bool) 
 abbrev VarWide : VarReads → Type 0
 VarWide v = (a b : List TypeVar) → names_of a ≡ names_of b → (i : Bool) (r q : Reading) → Same r q → Same (v.bounds a i r).after (v.bounds b i q).after
 
-arguments_wide : (bs : List Bound) (xs : List ArgReads) → EachText ArgWide xs → (a b : List TypeVar) → names_of a ≡ names_of b → (i : Bool) (r q : Reading) → Same r q
-    → Same (arguments bs xs a i r).after (arguments bs xs b i q).after
-arguments_wide bs [] l a b n i r q h = missing_wide bs i r q h
-arguments_wide bs (x ∷ xs) l a b n i r q h =
+read_arguments_wide : (bs : List Bound) (xs : List ArgReads) → EachText ArgWide xs → (a b : List TypeVar) → names_of a ≡ names_of b → (i : Bool) (r q : Reading) → Same r q
+    → Same (read_arguments bs xs a i r).after (read_arguments bs xs b i q).after
+read_arguments_wide bs [] l a b n i r q h = missing_arguments_wide bs i r q h
+read_arguments_wide bs (x ∷ xs) l a b n i r q h =
     let t = x a i true r in
     let u = x b i true q in
-    let e = ap (λ z. length z) (placed_same bs t.ty t.after) in
-    let f = ap (λ z. length z) (placed_same bs u.ty u.after) in
-    arguments_wide (drop 1 bs) xs l.1 a b n i (placed bs t.ty t.after) (placed bs u.ty u.after) (e ∙ l.0 a b n i true r q h ∙ sym f)
+    let e = ap (λ z. length z) (note_place_same bs t.ty t.after) in
+    let f = ap (λ z. length z) (note_place_same bs u.ty u.after) in
+    read_arguments_wide (drop 1 bs) xs l.1 a b n i (note_place bs t.ty t.after) (note_place bs u.ty u.after) (e ∙ l.0 a b n i true r q h ∙ sym f)
 
-members_wide : (xs : List ArgReads) → EachText ArgWide xs → (a b : List TypeVar) → names_of a ≡ names_of b → (i : Bool) (r q : Reading) → Same r q
-    → Same (members xs a i r).after (members xs b i q).after
-members_wide [] l a b n i r q h = h
-members_wide (x ∷ xs) l a b n i r q h = members_wide xs l.1 a b n i (x a i i r).after (x b i i q).after (l.0 a b n i i r q h)
+read_members_wide : (xs : List ArgReads) → EachText ArgWide xs → (a b : List TypeVar) → names_of a ≡ names_of b → (i : Bool) (r q : Reading) → Same r q
+    → Same (read_members xs a i r).after (read_members xs b i q).after
+read_members_wide [] l a b n i r q h = h
+read_members_wide (x ∷ xs) l a b n i r q h = read_members_wide xs l.1 a b n i (x a i i r).after (x b i i q).after (l.0 a b n i i r q h)
 
 -- ---- names
 
@@ -112,37 +112,37 @@ alike : (a b : List TypeVar) (name : List ℕ) → names_of a ≡ names_of b →
 alike a b name n = has_found a name ∙ ap (λ z. found z name) n ∙ sym (has_found b name)
 
 module _ (ds : List Decl) where
-  word_wide : (at : ℕ) (w : Named) (i : Bool) (r q : Reading) → Same r q → Same (plain ds at w i r).after (plain ds at w i q).after
-  word_wide at (M.Variable v usable) i r q h = ap (λ z. length z) (used_same at usable r) ∙ h ∙ sym (ap (λ z. length z) (used_same at usable q))
+  word_wide : (at : ℕ) (w : Named) (i : Bool) (r q : Reading) → Same r q → Same (read_plain ds at w i r).after (read_plain ds at w i q).after
+  word_wide at (M.Variable v usable) i r q h = ap (λ z. length z) (note_use_same at usable r) ∙ h ∙ sym (ap (λ z. length z) (note_use_same at usable q))
   word_wide at M.Any i r q h = h
   word_wide at M.Union i r q h = h
   word_wide at M.Tuple i r q h = h
-  word_wide at (M.Nominal k) i r q h = missing_wide (params_of (slice_get ds k)) i r q h
+  word_wide at (M.Nominal k) i r q h = missing_arguments_wide (params_of (slice_get ds k)) i r q h
   word_wide at M.Unknown i r q h = h
 
-  plain_wide : (at : ℕ) (o p : Option TypeVar) (w : Named) → has o ≡ has p → (i : Bool) (r q : Reading) → Same r q → Same (plain ds at (var_or o w) i r).after (plain ds at (var_or p w) i q).after
+  read_plain_wide : (at : ℕ) (o p : Option TypeVar) (w : Named) → has o ≡ has p → (i : Bool) (r q : Reading) → Same r q → Same (read_plain ds at (var_or o w) i r).after (read_plain ds at (var_or p w) i q).after
   unfolding has
-  plain_wide at None None w e i r q h = word_wide at w i r q h
-  plain_wide at (Some v) (Some u) w e i r q h = ap (λ z. length z) (used_same at v.usable r) ∙ h ∙ sym (ap (λ z. length z) (used_same at u.usable q))
-  plain_wide at None (Some u) w e i r q h = cc
-  plain_wide at (Some v) None w e i r q h = cc
+  read_plain_wide at None None w e i r q h = word_wide at w i r q h
+  read_plain_wide at (Some v) (Some u) w e i r q h = ap (λ z. length z) (note_use_same at v.usable r) ∙ h ∙ sym (ap (λ z. length z) (note_use_same at u.usable q))
+  read_plain_wide at None (Some u) w e i r q h = cc
+  read_plain_wide at (Some v) None w e i r q h = cc
 
   braces_wide : (at : ℕ) (w : Named) (xs : List ArgReads) → EachText ArgWide xs → (a b : List TypeVar) → names_of a ≡ names_of b → (i : Bool) (r q : Reading) → Same r q
-      → Same (applied ds at w xs a i r).after (applied ds at w xs b i q).after
+      → Same (read_applied ds at w xs a i r).after (read_applied ds at w xs b i q).after
   braces_wide at (M.Variable v usable) xs l a b n i r q h = h
   braces_wide at M.Any xs l a b n i r q h = h
-  braces_wide at M.Union xs l a b n i r q h = members_wide xs l a b n i r q h
-  braces_wide at M.Tuple xs l a b n i r q h = members_wide xs l a b n i r q h
-  braces_wide at (M.Nominal k) xs l a b n i r q h = arguments_wide (params_of (slice_get ds k)) xs l a b n i r q h
+  braces_wide at M.Union xs l a b n i r q h = read_members_wide xs l a b n i r q h
+  braces_wide at M.Tuple xs l a b n i r q h = read_members_wide xs l a b n i r q h
+  braces_wide at (M.Nominal k) xs l a b n i r q h = read_arguments_wide (params_of (slice_get ds k)) xs l a b n i r q h
   braces_wide at M.Unknown xs l a b n i r q h = h
 
-  applied_wide : (at : ℕ) (o p : Option TypeVar) (w : Named) → has o ≡ has p → (xs : List ArgReads) → EachText ArgWide xs → (a b : List TypeVar) → names_of a ≡ names_of b → (i : Bool) (r q : Reading) → Same r q
-      → Same (applied ds at (var_or o w) xs a i r).after (applied ds at (var_or p w) xs b i q).after
+  read_applied_wide : (at : ℕ) (o p : Option TypeVar) (w : Named) → has o ≡ has p → (xs : List ArgReads) → EachText ArgWide xs → (a b : List TypeVar) → names_of a ≡ names_of b → (i : Bool) (r q : Reading) → Same r q
+      → Same (read_applied ds at (var_or o w) xs a i r).after (read_applied ds at (var_or p w) xs b i q).after
   unfolding has
-  applied_wide at None None w e xs l a b n i r q h = braces_wide at w xs l a b n i r q h
-  applied_wide at (Some v) (Some u) w e xs l a b n i r q h = h
-  applied_wide at None (Some u) w e xs l a b n i r q h = cc
-  applied_wide at (Some v) None w e xs l a b n i r q h = cc
+  read_applied_wide at None None w e xs l a b n i r q h = braces_wide at w xs l a b n i r q h
+  read_applied_wide at (Some v) (Some u) w e xs l a b n i r q h = h
+  read_applied_wide at None (Some u) w e xs l a b n i r q h = cc
+  read_applied_wide at (Some v) None w e xs l a b n i r q h = cc
 
 -- ---- variables
 
@@ -154,7 +154,7 @@ abbrev VarsAlike : (a b : List TypeVar) (r q : Reading) → Type 0
 VarsAlike a b r q = (names_of a ≡ names_of b) × Same r q
 
 bound_wide : (at : ℕ) (name : List ℕ) (c d : Bound) (a b : List TypeVar) → names_of a ≡ names_of b → (r q : Reading) → Same r q → (o p : Option TypeVar) → has o ≡ has p
-    → VarsAlike (bound_name at name c a r o).vars (bound_name at name d b q p).vars (bound_name at name c a r o).after (bound_name at name d b q p).after
+    → VarsAlike (bind_name at name c a r o).vars (bind_name at name d b q p).vars (bind_name at name c a r o).after (bind_name at name d b q p).after
 bound_wide at name c d a b n r q h o p e =
     let v : TypeVar = record { name = name; number = length r.vars; usable = true } in
     let u : TypeVar = record { name = name; number = length q.vars; usable = true } in
@@ -167,7 +167,7 @@ bind_wide v l a b n i r q h =
     let d = v.bounds b i q in
     let e = ap (λ z. length z) (guarded_same v.at (is_among v.name builtin_names) c.after) in
     let f = ap (λ z. length z) (guarded_same v.at (is_among v.name builtin_names) d.after) in
-    bound_wide v.at v.name c.bound d.bound a b n (guarded v.at v.name c.after) (guarded v.at v.name d.after) (e ∙ l a b n i r q h ∙ sym f) (var_of a v.name) (var_of b v.name) (alike a b v.name n)
+    bound_wide v.at v.name c.bound d.bound a b n (note_builtin v.at v.name c.after) (note_builtin v.at v.name d.after) (e ∙ l a b n i r q h ∙ sym f) (var_of a v.name) (var_of b v.name) (alike a b v.name n)
 
 bind_all_wide : (vs : List VarReads) → EachText VarWide vs → (a b : List TypeVar) → names_of a ≡ names_of b → (i : Bool) (r q : Reading) → Same r q
     → VarsAlike (bind_all vs a i r).vars (bind_all vs b i q).vars (bind_all vs a i r).after (bind_all vs b i q).after
@@ -182,9 +182,9 @@ within_wide : (t : TypeReads) → TypeWide t → (vs : List VarReads) → EachTe
 within_wide t k vs l a b n i r q h =
     let e = ap (λ z. length z) (where_same vs i r) in
     let f = ap (λ z. length z) (where_same vs i q) in
-    let s = bind_all vs a i (where_at vs i r) in
-    let u = bind_all vs b i (where_at vs i q) in
-    let w = bind_all_wide vs l a b n i (where_at vs i r) (where_at vs i q) (e ∙ h ∙ sym f) in
+    let s = bind_all vs a i (bind_where vs i r) in
+    let u = bind_all vs b i (bind_where vs i q) in
+    let w = bind_all_wide vs l a b n i (bind_where vs i r) (bind_where vs i q) (e ∙ h ∙ sym f) in
     let x = t s.vars i s.after in
     let y = t u.vars i u.after in
     ap (λ z. length z) (swapped_same (length r.vars) (length s.after.vars) x.after)
@@ -195,9 +195,9 @@ module _ (ds : List Decl) where
   cases : TextCases (λ t. ArgWide (arg_reads ds t)) (λ t. TypeWide (type_reads ds t)) (λ t. VarWide (var_reads ds t))
   cases = record {
     name = λ at n. subst TypeWide (sym (fold-roll-TypeText ArgReads TypeReads VarReads (arg_step ds) (type_step ds) (var_step ds) (F.Name at n)))
-        (λ a b m i r q h. plain_wide ds at (var_of a n) (var_of b n) (word_of ds n) (alike a b n m) i r q h);
+        (λ a b m i r q h. read_plain_wide ds at (var_of a n) (var_of b n) (word_of ds n) (alike a b n m) i r q h);
     applied = λ at n xs l. subst TypeWide (sym (fold-roll-TypeText ArgReads TypeReads VarReads (arg_step ds) (type_step ds) (var_step ds) (F.Applied at n xs)))
-        (λ a b m i r q h. applied_wide ds at (var_of a n) (var_of b n) (word_of ds n) (alike a b n m) (map (arg_reads ds) xs) (each_map ArgWide (arg_reads ds) xs l) a b m i r q h);
+        (λ a b m i r q h. read_applied_wide ds at (var_of a n) (var_of b n) (word_of ds n) (alike a b n m) (map (arg_reads ds) xs) (each_map ArgWide (arg_reads ds) xs l) a b m i r q h);
     paren = λ at t vs k l. subst TypeWide (sym (fold-roll-TypeText ArgReads TypeReads VarReads (arg_step ds) (type_step ds) (var_step ds) (F.Paren at t vs)))
         (within_wide (type_reads ds t) k (map (var_reads ds) vs) (each_map VarWide (var_reads ds) vs l));
     exact = λ t l. subst ArgWide (sym (fold-roll-ArgText ArgReads TypeReads VarReads (arg_step ds) (type_step ds) (var_step ds) (F.Exact t))) (λ a b n o i r q h. l a b n i r q h);
@@ -220,5 +220,5 @@ shifted_names n [] = refl
 shifted_names n (v ∷ vs) = ap (λ z. v.name ∷ z) (shifted_names n vs)
 
 -- a type in a body brings as many variables as are counted before its static parameters
-pub width_is : (ds : List Decl) (statics : List TypeVar) (t : TypeText) (n : ℕ) → length (type_reads ds t (shifted n statics) false unread).after.vars ≡ width_of ds statics t
-width_is ds statics t n = type_wide ds t (shifted n statics) (shifted 0 statics) (shifted_names n statics ∙ sym (shifted_names 0 statics)) false unread unread refl
+pub width_is : (ds : List Decl) (statics : List TypeVar) (t : TypeText) (n : ℕ) → length (type_reads ds t (shifted n statics) false no_reading).after.vars ≡ width_of ds statics t
+width_is ds statics t n = type_wide ds t (shifted n statics) (shifted 0 statics) (shifted_names n statics ∙ sym (shifted_names 0 statics)) false no_reading no_reading refl

@@ -12,7 +12,7 @@ use Rattle.jl_model.specs.Valid.{params_of}
 use Rattle.jl_written.specs.declared.reading.Place.{Place}
 use Rattle.jl_written.specs.declared.reading.Reading.{Reading}
 use Rattle.jl_written.specs.declared.reading.TypeVar.{TypeVar}
-use Rattle.jl_written.specs.Reads.{Typed, used}
+use Rattle.jl_written.specs.Reads.{Typed, note_use}
 use Rattle.jl_type_laws.specs.Grown.{Grows}
 
 -- a type passes a test
@@ -76,5 +76,5 @@ pub record IsCarried (ds : List Decl) (P : Ty → Type 0) (N : ℕ → Type 0) (
   pub variable : (v : ℕ) → N v → P (W.Var v)
   pub params : (k : ℕ) → BoundsHave P (params_of (slice_get ds k))
   pub back : (r s : Reading) → Grows r s → Ok s → Ok r
-  pub visible : (at : ℕ) (r : Reading) (v : ℕ) (usable : Bool) → S v usable → Ok (used at usable r) → N v
+  pub visible : (at : ℕ) (r : Reading) (v : ℕ) (usable : Bool) → S v usable → Ok (note_use at usable r) → N v
   pub bound : (v : ℕ) → N v → S v true

@@ -8,25 +8,25 @@ ghost use Rattle.jl_typeread.specs.declared.tree.TypeText.{TypeText};
 ghost use Rattle.jl_resolve_forms.specs.declared.known.Known.{Known};
 ghost use Rattle.jl_resolve_forms.specs.declared.state.Scope.{Scope};
 ghost use Rattle.jl_resolve_forms.specs.declared.state.State.{State};
-ghost use Rattle.jl_resolve_forms.specs.Expressions.{signed};
-ghost use Rattle.jl_resolve_forms.specs.TypesIn.{Tests, body_written, made_at};
+ghost use Rattle.jl_resolve_forms.specs.Expressions.{method_signature};
+ghost use Rattle.jl_resolve_forms.specs.TypesIn.{Tests, type_in_body, make_at};
 ghost use Rattle.jl_type_laws.specs.Scripts.{DeclsKnown};
 ghost use Rattle.jl_type_laws.specs.Told.{StaticsFit, IsSeenType, IsMadeType, IsGoodSignature};
 
 /// A type in a body, behind which no fault stands, may stand where its static parameters are visible.
 pub fn law_body_type()
     ensures { (t : Tests) (k : Known) → DeclsKnown k.decls → (flags : List Bool) (c : Scope) → StaticsFit flags c.statics → (text : TypeText) (s : State)
-        → (body_written t k text c s).after.fault ≡ None → IsSeenType t k.decls flags s (body_written t k text c s) }
+        → (type_in_body t k text c s).after.fault ≡ None → IsSeenType t k.decls flags s (type_in_body t k text c s) }
 {}
 
 /// The type of an explicit constructor of a declared struct, behind which no fault stands, is a type of that struct.
 pub fn law_constructor_type()
     ensures { (t : Tests) (k : Known) → DeclsKnown k.decls → (flags : List Bool) (c : Scope) → StaticsFit flags c.statics → (at p : ℕ) → IsTrue (is_struct k.decls p) → (xs : List ArgText) (s : State)
-        → (made_at t k at p xs c s).after.fault ≡ None → IsMadeType t k.decls flags s (made_at t k at p xs c s) }
+        → (make_at t k at p xs c s).after.fault ≡ None → IsMadeType t k.decls flags s (make_at t k at p xs c s) }
 {}
 
 /// The signature of a method without a fault that nothing refuses is a good one.
 pub fn law_signature()
     ensures { (t : Tests) (k : Known) → DeclsKnown k.decls → (types : ℕ) (h : Head)
-        → (signed t k types h).fault ≡ None → (signed t k types h).refusal ≡ None → IsGoodSignature t k.decls h (signed t k types h) }
+        → (method_signature t k types h).fault ≡ None → (method_signature t k types h).refusal ≡ None → IsGoodSignature t k.decls h (method_signature t k types h) }
 {}

@@ -7,7 +7,7 @@ ghost use Rattle.jl_typeread.specs.declared.tree.TypeText.{TypeText};
 ghost use Rattle.jl_typeread.specs.declared.tree.VarText.{VarText};
 ghost use Rattle.jl_written.specs.declared.reading.Reading.{Reading};
 ghost use Rattle.jl_written.specs.declared.reading.TypeVar.{TypeVar};
-ghost use Rattle.jl_written.specs.Reads.{unread, type_reads};
+ghost use Rattle.jl_written.specs.Reads.{no_reading, type_reads};
 ghost use Rattle.jl_written.specs.Signatures.{option_reads, all_read, all_bound, shifted, width_of};
 ghost use Rattle.jl_type_laws.specs.Carried.{Passes, vars_pass, AllHave, ReadPasses, ReadingHas, Visible, WhereUsable, NumbersHave};
 ghost use Rattle.jl_type_laws.specs.Grown.{Grows};
@@ -20,8 +20,8 @@ pub fn law_reading_only_adds()
     ensures optional { (ds : List Decl) (t : Option TypeText) (vars : List TypeVar) (r : Reading) → Grows r (option_reads ds t vars r).after }
     ensures many { (ds : List Decl) (ts : List (Option TypeText)) (vars : List TypeVar) (r : Reading) → Grows r (all_read ds ts vars r).after }
     ensures variables { (ds : List Decl) (vs : List VarText) (vars : List TypeVar) (r : Reading) → Grows r (all_bound ds vs vars r).after }
-    ensures named { (ds : List Decl) (t : TypeText) (vars : List TypeVar) (inside : Bool) → (type_reads ds t vars inside unread).after.fault ≡ None → (type_reads ds t vars inside unread).after.unknown ≡ false }
-    ensures clear { (ds : List Decl) (t : TypeText) (vars : List TypeVar) (inside : Bool) → (type_reads ds t vars inside unread).after.fault ≡ None → (type_reads ds t vars inside unread).after.unclear ≡ false }
+    ensures named { (ds : List Decl) (t : TypeText) (vars : List TypeVar) (inside : Bool) → (type_reads ds t vars inside no_reading).after.fault ≡ None → (type_reads ds t vars inside no_reading).after.unknown ≡ false }
+    ensures clear { (ds : List Decl) (t : TypeText) (vars : List TypeVar) (inside : Bool) → (type_reads ds t vars inside no_reading).after.fault ≡ None → (type_reads ds t vars inside no_reading).after.unclear ≡ false }
 {}
 
 /// What is read names only types of the script, also where only some of its declarations are seen: the type, the bounds of all
@@ -67,5 +67,5 @@ pub fn law_variables_are_visible()
 
 /// How many variables a type in a body brings does not depend on the numbers that the static parameters have.
 pub fn law_width_of_a_type()
-    ensures { (ds : List Decl) (statics : List TypeVar) (t : TypeText) (n : ℕ) → length (type_reads ds t (shifted n statics) false unread).after.vars ≡ width_of ds statics t }
+    ensures { (ds : List Decl) (statics : List TypeVar) (t : TypeText) (n : ℕ) → length (type_reads ds t (shifted n statics) false no_reading).after.vars ≡ width_of ds statics t }
 {}

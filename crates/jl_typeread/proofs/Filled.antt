@@ -2,18 +2,18 @@
 use Rattle.std.proofs.Common.{ℕ, List, [], ◌∷◌, ◌++◌, ◌≡◌, codes, refl, sym, subst}
 use Rattle.std.proofs.lemmas.List.{append_assoc, append-nil}
 use Rattle.jl_token.specs.declared.token.Operator.TheVariants as op
-use Rattle.jl_typeread.specs.declared.sign.Word.TheVariants as words
-use Rattle.jl_typeread.specs.declared.sign.Lexeme.{Lexeme}
+use Rattle.jl_typeread.specs.declared.terminal.Word.TheVariants as words
+use Rattle.jl_typeread.specs.declared.terminal.Lexeme.{Lexeme}
 use Rattle.jl_typeread.specs.declared.tree.TypeText.{TypeText}
 use Rattle.jl_typeread.specs.declared.tree.VarText.{VarText}
 use Rattle.jl_typeread.specs.declared.tree.TypeText.TheVariants as T
 use Rattle.jl_typeread.specs.declared.tree.VarText.TheVariants as V
 use Rattle.jl_typeread.specs.declared.tree.ArgText.TheViews as W
 use Rattle.jl_typeread.specs.declared.deep.Mark.TheVariants as marks
-use Rattle.jl_typeread.specs.declared.state.Begun.TheVariants.{Whole}
+use Rattle.jl_typeread.specs.declared.state.TypeSoFar.TheVariants.{Whole}
 use Rattle.jl_typeread.specs.declared.state.Bound.TheVariants as B
-use Rattle.jl_typeread.specs.declared.state.Listed.{Listed}
-use Rattle.jl_typeread.specs.declared.state.Listed.TheVariants.{One}
+use Rattle.jl_typeread.specs.declared.state.Enclosure.{Enclosure}
+use Rattle.jl_typeread.specs.declared.state.Enclosure.TheVariants.{One}
 use Rattle.jl_typeread.specs.declared.state.Frame.{Frame}
 use Rattle.jl_typeread.specs.declared.state.Frame.TheVariants as K
 use Rattle.jl_typeread.specs.declared.state.Point.{Point}
@@ -91,7 +91,7 @@ mutual
       subst (Fills g) (sym (append_assoc ts ws us)) (fills_variable g l k ts p v.0 (ws ++ us) v.2)
 
   -- a variable ends where one may stand
-  pub fills_variable : (g : Goal) (l : Listed) (k : List Frame) (ts : List Lexeme) → Before g l k ts → (v : VarText) (us : List Lexeme) → IsVariable v us → Fills g (ts ++ us)
+  pub fills_variable : (g : Goal) (l : Enclosure) (k : List Frame) (ts : List Lexeme) → Before g l k ts → (v : VarText) (us : List Lexeme) → IsVariable v us → Fills g (ts ++ us)
   fills_variable _ _ _ _ (one_variable _ _ _ (where_alone b)) v us d = fills_none a_where (word words.Where b ∷ us) (v ∷ [], G.alone b v us d)
   fills_variable _ _ _ _ (one_variable _ _ _ (where_of g k ts ws a t b o i)) v us d =
       fills_by g ((ts ++ (mark op.OpenParen a ∷ ws) ++ word words.Where b ∷ []) ++ us) (mark op.CloseParen 0) (plain_paren 0)

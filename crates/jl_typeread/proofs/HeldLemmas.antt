@@ -14,7 +14,7 @@ use Rattle.jl_typeread.specs.declared.tree.ArgText.TheViews as W
 use Rattle.jl_typeread.specs.declared.deep.Deep.TheVariants.{Built, TooDeep}
 use Rattle.jl_typeread.specs.declared.deep.Mark.{Mark}
 use Rattle.jl_typeread.specs.declared.deep.Mark.TheVariants as mark
-use Rattle.jl_typeread.specs.Depth.{greatest, type_depth_step, argument_depth_step, variable_depth_step, type_depth, argument_depth, variable_depth, arguments_depth, variables_depth, depth_limit, held, held_type, held_arguments, held_variable, held_variables, around, around_both, mapped, joined, plain, argument, with_argument, with_variable, applied, paren, below_bound, above_bound, between_bound}
+use Rattle.jl_typeread.specs.Depth.{greatest, type_depth_step, argument_depth_step, variable_depth_step, type_depth, argument_depth, variable_depth, arguments_depth, variables_depth, depth_limit, held, held_type, held_arguments, held_variable, held_variables, around, around_both, map_deep, join_deep, plain_type, argument, with_argument, with_variable, applied_type, paren, below_bound, above_bound, between_bound}
 
 -- ---- held trees
 
@@ -36,12 +36,12 @@ around_held f d x = elim (nat_le d depth_limit) as (λ b. nat_le d depth_limit �
   | false ↦ λ h. let l : depth_limit < d = leb-false d depth_limit h in sym (held_no (d + 1) (f x) (omega arith))
 ] refl
 
-pub mapped_held : {X Y : Type 0} (f : X → Y) (d : ℕ) (x : X) → mapped f (held d x) ≡ held d (f x)
-mapped_held f d x = elim (nat_le d depth_limit) as (λ b. mapped f (cond b (Built x d) TooDeep) ≡ cond b (Built (f x) d) TooDeep) [ true ↦ refl | false ↦ refl ]
+pub map_deep_held : {X Y : Type 0} (f : X → Y) (d : ℕ) (x : X) → map_deep f (held d x) ≡ held d (f x)
+map_deep_held f d x = elim (nat_le d depth_limit) as (λ b. map_deep f (cond b (Built x d) TooDeep) ≡ cond b (Built (f x) d) TooDeep) [ true ↦ refl | false ↦ refl ]
 
-pub joined_held : {X Y Z : Type 0} (f : X → Y → Z) (d : ℕ) (x : X) (e : ℕ) (y : Y) → joined f (held d x) (held e y) ≡ held (max d e) (f x y)
-joined_held f d x e y = elim (nat_le d depth_limit) as (λ b. nat_le d depth_limit ≡ b → joined f (cond b (Built x d) TooDeep) (held e y) ≡ held (max d e) (f x y)) [
-  | true ↦ λ h. elim (nat_le e depth_limit) as (λ c. nat_le e depth_limit ≡ c → joined f (Built x d) (cond c (Built y e) TooDeep) ≡ held (max d e) (f x y)) [
+pub join_deep_held : {X Y Z : Type 0} (f : X → Y → Z) (d : ℕ) (x : X) (e : ℕ) (y : Y) → join_deep f (held d x) (held e y) ≡ held (max d e) (f x y)
+join_deep_held f d x e y = elim (nat_le d depth_limit) as (λ b. nat_le d depth_limit ≡ b → join_deep f (cond b (Built x d) TooDeep) (held e y) ≡ held (max d e) (f x y)) [
+  | true ↦ λ h. elim (nat_le e depth_limit) as (λ c. nat_le e depth_limit ≡ c → join_deep f (Built x d) (cond c (Built y e) TooDeep) ≡ held (max d e) (f x y)) [
     | true ↦ λ k. let l : d ≤ depth_limit = leb-true d depth_limit h in let m : e ≤ depth_limit = leb-true e depth_limit k in sym (held_yes (max d e) (f x y) (omega arith))
     | false ↦ λ k. let m : depth_limit < e = leb-false e depth_limit k in sym (held_no (max d e) (f x y) (omega arith))
   ] refl
@@ -104,18 +104,18 @@ more_variables_depth vs v = ap greatest (map-append variable_depth vs (v ∷ [])
 
 -- ---- each form, held
 
-pub held_plain : (a : ℕ) (n : List ℕ) → held_type (T.Name a n) ≡ plain a n
-held_plain a n = ap (λ d. held d (T.Name a n)) (plain_depth a n)
+pub held_plain_type : (a : ℕ) (n : List ℕ) → held_type (T.Name a n) ≡ plain_type a n
+held_plain_type a n = ap (λ d. held d (T.Name a n)) (plain_depth a n)
 
-pub held_applied : (a : ℕ) (n : List ℕ) (xs : List ArgText) → held_type (W.Applied a n xs) ≡ applied a n (held_arguments xs)
-held_applied a n xs = ap (λ d. held d (W.Applied a n xs)) (applied_depth a n xs) ∙ sym (around_held (W.Applied a n) (arguments_depth xs) xs)
+pub held_applied_type : (a : ℕ) (n : List ℕ) (xs : List ArgText) → held_type (W.Applied a n xs) ≡ applied_type a n (held_arguments xs)
+held_applied_type a n xs = ap (λ d. held d (W.Applied a n xs)) (applied_depth a n xs) ∙ sym (around_held (W.Applied a n) (arguments_depth xs) xs)
 
 pub held_paren : (a : ℕ) (t : TypeText) (vs : List VarText) → held_type (W.Paren a t vs) ≡ paren a (held_type t) (held_variables vs)
 held_paren a t vs = ap (λ d. held d (W.Paren a t vs)) (paren_depth a t vs) ∙ sym (around_both_held (W.Paren a) (type_depth t) t (variables_depth vs) vs)
 
 pub held_argument : (xs : List ArgText) (m : Mark) (t : TypeText) → with_argument (held_arguments xs) m (held_type t) ≡ held_arguments (xs ++ argument m t ∷ [])
 held_argument xs m t =
-    joined_held (λ ys y. ys ++ argument m y ∷ []) (arguments_depth xs) xs (type_depth t) t
+    join_deep_held (λ ys y. ys ++ argument m y ∷ []) (arguments_depth xs) xs (type_depth t) t
     ∙ ap (λ d. held d (xs ++ argument m t ∷ [])) (ap (max (arguments_depth xs)) (sym (as_argument m t)) ∙ sym (more_arguments_depth xs (argument m t)))
   where
     as_argument : (m : Mark) (t : TypeText) → argument_depth (argument m t) ≡ type_depth t
@@ -125,19 +125,19 @@ held_argument xs m t =
 
 pub held_one_more : (vs : List VarText) (v : VarText) → with_variable (held_variables vs) (held_variable v) ≡ held_variables (vs ++ v ∷ [])
 held_one_more vs v =
-    joined_held (λ ys y. ys ++ y ∷ []) (variables_depth vs) vs (variable_depth v) v
+    join_deep_held (λ ys y. ys ++ y ∷ []) (variables_depth vs) vs (variable_depth v) v
     ∙ ap (λ d. held d (vs ++ v ∷ [])) (sym (more_variables_depth vs v))
 
 pub held_free : (a : ℕ) (n : List ℕ) → held_variable (V.Free a n) ≡ Built (V.Free a n) 0
 held_free a n = ap (λ d. held d (V.Free a n)) (free_depth a n)
 
 pub held_below : (a : ℕ) (n : List ℕ) (t : TypeText) → held_variable (V.Below a n t) ≡ below_bound a n (held_type t)
-held_below a n t = ap (λ d. held d (V.Below a n t)) (below_depth a n t) ∙ sym (mapped_held (V.Below a n) (type_depth t) t)
+held_below a n t = ap (λ d. held d (V.Below a n t)) (below_depth a n t) ∙ sym (map_deep_held (V.Below a n) (type_depth t) t)
 
 pub held_above : (a : ℕ) (n : List ℕ) (t : TypeText) → held_variable (V.Above a n t) ≡ above_bound a n (held_type t)
-held_above a n t = ap (λ d. held d (V.Above a n t)) (above_depth a n t) ∙ sym (mapped_held (V.Above a n) (type_depth t) t)
+held_above a n t = ap (λ d. held d (V.Above a n t)) (above_depth a n t) ∙ sym (map_deep_held (V.Above a n) (type_depth t) t)
 
 pub held_between : (low : TypeText) (a : ℕ) (n : List ℕ) (high : TypeText) → held_variable (V.Between low a n high) ≡ between_bound (held_type low) a n (held_type high)
 held_between low a n high =
     ap (λ d. held d (V.Between low a n high)) (between_depth low a n high)
-    ∙ sym (joined_held (λ l h. V.Between l a n h) (type_depth low) low (type_depth high) high)
+    ∙ sym (join_deep_held (λ l h. V.Between l a n h) (type_depth low) low (type_depth high) high)

@@ -1,5 +1,5 @@
 -- The depth of a written type, and trees beside their depth.
-use Rattle.std.specs.Prelude.{ℕ, ◌+◌, max, cond, nat_lt, nat_le, List, [], ◌∷◌, ◌++◌, map}
+use Rattle.std.specs.Prelude.{ℕ, ◌+◌, max, if◌then◌else◌, nat_lt, nat_le, List, [], ◌∷◌, ◌++◌, map}
 use Rattle.jl_model.specs.declared.limits.TheConstants.{MOST_TYPE_DEPTH}
 use Rattle.jl_typeread.specs.declared.tree.TypeText.{TypeText}
 use Rattle.jl_typeread.specs.declared.tree.ArgText.{ArgText}
@@ -68,7 +68,7 @@ depth_limit = MOST_TYPE_DEPTH
 
 -- a tree of this depth, where that is within the limit
 abbrev pub held : {X : Type 0} → ℕ → X → Deep X
-held d x = cond (nat_le d depth_limit) (Built x d) TooDeep
+held d x = if nat_le d depth_limit then Built x d else TooDeep
 
 -- a type with its depth
 abbrev pub held_type : TypeText → Deep TypeText
@@ -88,29 +88,29 @@ held_variables vs = held (variables_depth vs) vs
 
 -- one level more around a tree
 abbrev pub around : {X Y : Type 0} → (X → Y) → Deep X → Deep Y
-around f (Built x d) = cond (nat_lt d depth_limit) (Built (f x) (d + 1)) TooDeep
+around f (Built x d) = if nat_lt d depth_limit then Built (f x) (d + 1) else TooDeep
 around f TooDeep = TooDeep
 
 -- one level more around two trees
 abbrev pub around_both : {X Y Z : Type 0} → (X → Y → Z) → Deep X → Deep Y → Deep Z
-around_both f (Built x d) (Built y e) = cond (nat_lt (max d e) depth_limit) (Built (f x y) (max d e + 1)) TooDeep
+around_both f (Built x d) (Built y e) = if nat_lt (max d e) depth_limit then Built (f x y) (max d e + 1) else TooDeep
 around_both f (Built x d) TooDeep = TooDeep
 around_both f TooDeep y = TooDeep
 
 -- a tree of the same depth
-abbrev pub mapped : {X Y : Type 0} → (X → Y) → Deep X → Deep Y
-mapped f (Built x d) = Built (f x) d
-mapped f TooDeep = TooDeep
+abbrev pub map_deep : {X Y : Type 0} → (X → Y) → Deep X → Deep Y
+map_deep f (Built x d) = Built (f x) d
+map_deep f TooDeep = TooDeep
 
 -- two trees side by side
-abbrev pub joined : {X Y Z : Type 0} → (X → Y → Z) → Deep X → Deep Y → Deep Z
-joined f (Built x d) (Built y e) = Built (f x y) (max d e)
-joined f (Built x d) TooDeep = TooDeep
-joined f TooDeep y = TooDeep
+abbrev pub join_deep : {X Y Z : Type 0} → (X → Y → Z) → Deep X → Deep Y → Deep Z
+join_deep f (Built x d) (Built y e) = Built (f x y) (max d e)
+join_deep f (Built x d) TooDeep = TooDeep
+join_deep f TooDeep y = TooDeep
 
 -- a name alone
-abbrev pub plain : ℕ → List ℕ → Deep TypeText
-plain at name = Built (T.Name at name) 1
+abbrev pub plain_type : ℕ → List ℕ → Deep TypeText
+plain_type at name = Built (T.Name at name) 1
 
 -- no arguments
 abbrev pub no_arguments : Deep (List ArgText)
@@ -128,15 +128,15 @@ argument (mark.Above at) t = A.Above at t
 
 -- the arguments and one more
 abbrev pub with_argument : Deep (List ArgText) → Mark → Deep TypeText → Deep (List ArgText)
-with_argument arguments m t = joined (λ xs x. xs ++ argument m x ∷ []) arguments t
+with_argument arguments m t = join_deep (λ xs x. xs ++ argument m x ∷ []) arguments t
 
 -- the variables and one more
 abbrev pub with_variable : Deep (List VarText) → Deep VarText → Deep (List VarText)
-with_variable variables v = joined (λ xs x. xs ++ x ∷ []) variables v
+with_variable variables v = join_deep (λ xs x. xs ++ x ∷ []) variables v
 
 -- a name with its arguments
-abbrev pub applied : ℕ → List ℕ → Deep (List ArgText) → Deep TypeText
-applied at name arguments = around (W.Applied at name) arguments
+abbrev pub applied_type : ℕ → List ℕ → Deep (List ArgText) → Deep TypeText
+applied_type at name arguments = around (W.Applied at name) arguments
 
 -- a type in parentheses, with its variables
 abbrev pub paren : ℕ → Deep TypeText → Deep (List VarText) → Deep TypeText
@@ -144,12 +144,12 @@ paren at t variables = around_both (W.Paren at) t variables
 
 -- a variable with an upper bound
 abbrev pub below_bound : ℕ → List ℕ → Deep TypeText → Deep VarText
-below_bound at name t = mapped (V.Below at name) t
+below_bound at name t = map_deep (V.Below at name) t
 
 -- a variable with a lower bound
 abbrev pub above_bound : ℕ → List ℕ → Deep TypeText → Deep VarText
-above_bound at name t = mapped (V.Above at name) t
+above_bound at name t = map_deep (V.Above at name) t
 
 -- a variable with both bounds
 abbrev pub between_bound : Deep TypeText → ℕ → List ℕ → Deep TypeText → Deep VarText
-between_bound low at name high = joined (λ l h. V.Between l at name h) low high
+between_bound low at name high = join_deep (λ l h. V.Between l at name h) low high

@@ -2,10 +2,10 @@
 use Rattle.std.specs.Prelude.{ℕ, List, [], ◌∷◌, ◌++◌}
 use Rattle.jl_token.specs.declared.token.Operator.{Operator}
 use Rattle.jl_token.specs.declared.token.Operator.TheVariants as op
-use Rattle.jl_typeread.specs.declared.sign.Word.{Word}
-use Rattle.jl_typeread.specs.declared.sign.Word.TheVariants as words
-use Rattle.jl_typeread.specs.declared.sign.Sign.TheVariants as S
-use Rattle.jl_typeread.specs.declared.sign.Lexeme.{Lexeme}
+use Rattle.jl_typeread.specs.declared.terminal.Word.{Word}
+use Rattle.jl_typeread.specs.declared.terminal.Word.TheVariants as words
+use Rattle.jl_typeread.specs.declared.terminal.Terminal.TheVariants as S
+use Rattle.jl_typeread.specs.declared.terminal.Lexeme.{Lexeme}
 use Rattle.jl_typeread.specs.declared.tree.TypeText.{TypeText}
 use Rattle.jl_typeread.specs.declared.tree.ArgText.{ArgText}
 use Rattle.jl_typeread.specs.declared.tree.VarText.{VarText}
@@ -16,15 +16,15 @@ use Rattle.jl_typeread.specs.declared.tree.ArgText.TheViews as W
 
 -- a name at a place
 abbrev pub name : ℕ → List ℕ → Lexeme
-name a n = record { sign = S.Name n; at = a }
+name a n = record { terminal = S.Name n; at = a }
 
 -- a mark at a place
 abbrev pub mark : Operator → ℕ → Lexeme
-mark o a = record { sign = S.Operator o; at = a }
+mark o a = record { terminal = S.Operator o; at = a }
 
 -- a reserved word at a place
 abbrev pub word : Word → ℕ → Lexeme
-word w a = record { sign = S.Word w; at = a }
+word w a = record { terminal = S.Word w; at = a }
 
 mutual
   -- type = name [targs] | "(" type [where] ")"

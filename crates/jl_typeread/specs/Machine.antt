@@ -1,10 +1,10 @@
 -- The reading of types and of variables, token by token.
 use Rattle.std.specs.Prelude.{ℕ, Bool, true, false, List, [], ◌∷◌, Option, Some, None}
 use Rattle.jl_token.specs.declared.token.Operator.TheVariants as op
-use Rattle.jl_typeread.specs.declared.sign.Word.TheVariants as word
-use Rattle.jl_typeread.specs.declared.sign.Sign.{Sign}
-use Rattle.jl_typeread.specs.declared.sign.Sign.TheVariants as S
-use Rattle.jl_typeread.specs.declared.sign.Lexeme.{Lexeme}
+use Rattle.jl_typeread.specs.declared.terminal.Word.TheVariants as word
+use Rattle.jl_typeread.specs.declared.terminal.Terminal.{Terminal}
+use Rattle.jl_typeread.specs.declared.terminal.Terminal.TheVariants as S
+use Rattle.jl_typeread.specs.declared.terminal.Lexeme.{Lexeme}
 use Rattle.jl_typeread.specs.declared.tree.TypeText.{TypeText}
 use Rattle.jl_typeread.specs.declared.tree.VarText.{VarText}
 use Rattle.jl_typeread.specs.declared.tree.VarText.TheVariants as V
@@ -12,12 +12,12 @@ use Rattle.jl_typeread.specs.declared.deep.Deep.{Deep}
 use Rattle.jl_typeread.specs.declared.deep.Deep.TheVariants.{Built}
 use Rattle.jl_typeread.specs.declared.deep.Mark.{Mark}
 use Rattle.jl_typeread.specs.declared.deep.Mark.TheVariants as mark
-use Rattle.jl_typeread.specs.declared.state.Begun.{Begun}
-use Rattle.jl_typeread.specs.declared.state.Begun.TheVariants.{Plain, Whole}
+use Rattle.jl_typeread.specs.declared.state.TypeSoFar.{TypeSoFar}
+use Rattle.jl_typeread.specs.declared.state.TypeSoFar.TheVariants.{Plain, Whole}
 use Rattle.jl_typeread.specs.declared.state.Bound.{Bound}
 use Rattle.jl_typeread.specs.declared.state.Bound.TheVariants as B
-use Rattle.jl_typeread.specs.declared.state.Listed.{Listed}
-use Rattle.jl_typeread.specs.declared.state.Listed.TheVariants.{One, Braces}
+use Rattle.jl_typeread.specs.declared.state.Enclosure.{Enclosure}
+use Rattle.jl_typeread.specs.declared.state.Enclosure.TheVariants.{One, Braces}
 use Rattle.jl_typeread.specs.declared.state.Frame.{Frame}
 use Rattle.jl_typeread.specs.declared.state.Frame.TheVariants.{Argument, Paren, Where, Variable}
 use Rattle.jl_typeread.specs.declared.state.Point.{Point}
@@ -25,83 +25,83 @@ use Rattle.jl_typeread.specs.declared.state.Point.TheVariants as P
 use Rattle.jl_typeread.specs.declared.state.Turn.{Turn}
 use Rattle.jl_typeread.specs.declared.state.Turn.TheVariants.{Goes, Wrong}
 use Rattle.jl_typeread.specs.declared.state.Turn.TheVariants as turn
-use Rattle.jl_typeread.specs.Depth.{plain, no_arguments, no_variables, with_argument, with_variable, applied, paren, below_bound, above_bound, between_bound}
+use Rattle.jl_typeread.specs.Depth.{plain_type, no_arguments, no_variables, with_argument, with_variable, applied_type, paren, below_bound, above_bound, between_bound}
 
 -- the reading goes on at this point
 abbrev pub at : Point → List Frame → Turn
 at p K = Goes (record { point = p; stack = K })
 
 -- a type that was read, as a tree
-abbrev pub typed : Begun → Deep TypeText
-typed (Plain a n) = plain a n
-typed (Whole t) = t
+abbrev pub tree_of : TypeSoFar → Deep TypeText
+tree_of (Plain a n) = plain_type a n
+tree_of (Whole t) = t
 
 -- a variable that ends with this type
-abbrev pub variable : Bound → Begun → Option (Deep VarText)
+abbrev pub variable : Bound → TypeSoFar → Option (Deep VarText)
 variable B.First (Plain a n) = Some (Built (V.Free a n) 0)
 variable B.First (Whole t) = None
-variable (B.Below a n) h = Some (below_bound a n (typed h))
-variable (B.Above a n) h = Some (above_bound a n (typed h))
-variable (B.Between low a n) h = Some (between_bound low a n (typed h))
+variable (B.Below a n) h = Some (below_bound a n (tree_of h))
+variable (B.Above a n) h = Some (above_bound a n (tree_of h))
+variable (B.Between low a n) h = Some (between_bound low a n (tree_of h))
 
 -- a type begins
-abbrev pub begins : Sign → ℕ → List Frame → Turn
-begins (S.Name n) a K = at (P.Have (Plain a n)) K
-begins (S.Operator op.OpenParen) a K = at P.Want (Paren a ∷ K)
-begins s a K = Wrong
+abbrev pub begin_type : Terminal → ℕ → List Frame → Turn
+begin_type (S.Name n) a K = at (P.Have (Plain a n)) K
+begin_type (S.Operator op.OpenParen) a K = at P.Want (Paren a ∷ K)
+begin_type s a K = Wrong
 
 -- a type behind the mark of an argument
-abbrev pub marked : Mark → List Frame → Turn
-marked m (Argument a n xs other ∷ K) = at P.Want (Argument a n xs m ∷ K)
-marked m K = Wrong
+abbrev pub after_mark : Mark → List Frame → Turn
+after_mark m (Argument a n xs other ∷ K) = at P.Want (Argument a n xs m ∷ K)
+after_mark m K = Wrong
 
 -- an argument begins, behind its mark if it has one
-abbrev pub at_next : Sign → ℕ → List Frame → Turn
-at_next (S.Operator op.Subtype) b K = marked (mark.Below b) K
-at_next (S.Operator op.Supertype) b K = marked (mark.Above b) K
-at_next s b K = begins s b K
+abbrev pub at_next : Terminal → ℕ → List Frame → Turn
+at_next (S.Operator op.Subtype) b K = after_mark (mark.Below b) K
+at_next (S.Operator op.Supertype) b K = after_mark (mark.Above b) K
+at_next s b K = begin_type s b K
 
 -- `}` behind `{`
-abbrev pub closes_empty : List Frame → Turn
-closes_empty (Argument a n xs m ∷ K) = at (P.Have (Whole (applied a n xs))) K
-closes_empty K = Wrong
+abbrev pub close_empty : List Frame → Turn
+close_empty (Argument a n xs m ∷ K) = at (P.Have (Whole (applied_type a n xs))) K
+close_empty K = Wrong
 
 -- the same behind `{`, where the braces may also end
-abbrev pub at_first : Sign → ℕ → List Frame → Turn
-at_first (S.Operator op.CloseBrace) b K = closes_empty K
+abbrev pub at_first : Terminal → ℕ → List Frame → Turn
+at_first (S.Operator op.CloseBrace) b K = close_empty K
 at_first s b K = at_next s b K
 
 -- a token behind variables that have ended, alone
-abbrev pub ended : Option (Deep VarText) → List Frame → Turn
-ended (Some v) [] = turn.Variables (with_variable no_variables v)
-ended v K = Wrong
+abbrev pub end_of_variable : Option (Deep VarText) → List Frame → Turn
+end_of_variable (Some v) [] = turn.Variables (with_variable no_variables v)
+end_of_variable v K = Wrong
 
 -- a token that is not of the type before it
-abbrev pub over : Begun → List Frame → Turn
-over h [] = turn.Type (typed h)
-over h (Variable v One ∷ K) = ended (variable v h) K
-over h K = Wrong
+abbrev pub end_of_type : TypeSoFar → List Frame → Turn
+end_of_type h [] = turn.Type (tree_of h)
+end_of_type h (Variable v One ∷ K) = end_of_variable (variable v h) K
+end_of_type h K = Wrong
 
 -- `{` behind a type
-abbrev pub opens : Begun → List Frame → Turn
-opens (Plain a n) K = at P.First (Argument a n no_arguments mark.Exact ∷ K)
-opens (Whole t) K = over (Whole t) K
+abbrev pub open_brace : TypeSoFar → List Frame → Turn
+open_brace (Plain a n) K = at P.First (Argument a n no_arguments mark.Exact ∷ K)
+open_brace (Whole t) K = end_of_type (Whole t) K
 
 -- `}` behind a variable
-abbrev pub closes_variables : Option (Deep VarText) → Deep (List VarText) → List Frame → Turn
-closes_variables (Some v) vs K = at (P.Closed (with_variable vs v)) K
-closes_variables None vs K = Wrong
+abbrev pub close_variables : Option (Deep VarText) → Deep (List VarText) → List Frame → Turn
+close_variables (Some v) vs K = at (P.Closed (with_variable vs v)) K
+close_variables None vs K = Wrong
 
 -- `}` behind a variable, if that stands in braces
-abbrev pub closes_listed : Option (Deep VarText) → Listed → List Frame → Turn
-closes_listed v One K = ended v K
-closes_listed v (Braces vs) K = closes_variables v vs K
+abbrev pub close_enclosure : Option (Deep VarText) → Enclosure → List Frame → Turn
+close_enclosure v One K = end_of_variable v K
+close_enclosure v (Braces vs) K = close_variables v vs K
 
 -- `}` behind a type
-abbrev pub closes_brace : Begun → List Frame → Turn
-closes_brace h (Argument a n xs m ∷ K) = at (P.Have (Whole (applied a n (with_argument xs m (typed h))))) K
-closes_brace h (Variable v l ∷ K) = closes_listed (variable v h) l K
-closes_brace h K = over h K
+abbrev pub close_brace : TypeSoFar → List Frame → Turn
+close_brace h (Argument a n xs m ∷ K) = at (P.Have (Whole (applied_type a n (with_argument xs m (tree_of h))))) K
+close_brace h (Variable v l ∷ K) = close_enclosure (variable v h) l K
+close_brace h K = end_of_type h K
 
 -- `,` behind a variable
 abbrev pub next_variable : Option (Deep VarText) → Deep (List VarText) → List Frame → Turn
@@ -109,116 +109,116 @@ next_variable (Some v) vs K = at P.Variable (Variable B.First (Braces (with_vari
 next_variable None vs K = Wrong
 
 -- `,` behind a variable, if that stands in braces
-abbrev pub next_listed : Option (Deep VarText) → Listed → List Frame → Turn
-next_listed v One K = ended v K
-next_listed v (Braces vs) K = next_variable v vs K
+abbrev pub next_in_enclosure : Option (Deep VarText) → Enclosure → List Frame → Turn
+next_in_enclosure v One K = end_of_variable v K
+next_in_enclosure v (Braces vs) K = next_variable v vs K
 
 -- `,` behind a type
-abbrev pub goes_on : Begun → List Frame → Turn
-goes_on h (Argument a n xs m ∷ K) = at P.Next (Argument a n (with_argument xs m (typed h)) mark.Exact ∷ K)
-goes_on h (Variable v l ∷ K) = next_listed (variable v h) l K
-goes_on h K = over h K
+abbrev pub after_comma : TypeSoFar → List Frame → Turn
+after_comma h (Argument a n xs m ∷ K) = at P.Next (Argument a n (with_argument xs m (tree_of h)) mark.Exact ∷ K)
+after_comma h (Variable v l ∷ K) = next_in_enclosure (variable v h) l K
+after_comma h K = end_of_type h K
 
 -- `)` behind the one variable of a `where`
-abbrev pub closes_where : Option (Deep VarText) → List Frame → Turn
-closes_where (Some v) (Where a t ∷ K) = at (P.Have (Whole (paren a t (with_variable no_variables v)))) K
-closes_where v K = ended v K
+abbrev pub close_where : Option (Deep VarText) → List Frame → Turn
+close_where (Some v) (Where a t ∷ K) = at (P.Have (Whole (paren a t (with_variable no_variables v)))) K
+close_where v K = end_of_variable v K
 
 -- `)` behind a type
-abbrev pub closes_paren : Begun → List Frame → Turn
-closes_paren h (Paren a ∷ K) = at (P.Have (Whole (paren a (typed h) no_variables))) K
-closes_paren h (Variable v One ∷ K) = closes_where (variable v h) K
-closes_paren h K = over h K
+abbrev pub close_paren : TypeSoFar → List Frame → Turn
+close_paren h (Paren a ∷ K) = at (P.Have (Whole (paren a (tree_of h) no_variables))) K
+close_paren h (Variable v One ∷ K) = close_where (variable v h) K
+close_paren h K = end_of_type h K
 
 -- `where` behind a type
-abbrev pub wheres : Begun → List Frame → Turn
-wheres h (Paren a ∷ K) = at P.Where (Where a (typed h) ∷ K)
-wheres h K = over h K
+abbrev pub after_where : TypeSoFar → List Frame → Turn
+after_where h (Paren a ∷ K) = at P.Where (Where a (tree_of h) ∷ K)
+after_where h K = end_of_type h K
 
 -- `<:` behind the first type of a variable, which is its name or its lower bound
-abbrev pub lower : Begun → Listed → List Frame → Turn
-lower (Plain a n) l K = at P.Want (Variable (B.Below a n) l ∷ K)
-lower (Whole t) l K = at (P.Low t) (Variable B.First l ∷ K)
+abbrev pub first_subtype : TypeSoFar → Enclosure → List Frame → Turn
+first_subtype (Plain a n) l K = at P.Want (Variable (B.Below a n) l ∷ K)
+first_subtype (Whole t) l K = at (P.Low t) (Variable B.First l ∷ K)
 
 -- `<:` behind what was read as a name, `<:` and a type: where that type is a name, it is the variable's name
-abbrev pub upper : ℕ → List ℕ → Begun → Listed → List Frame → Turn
-upper a n (Plain b m) l K = at P.Want (Variable (B.Between (plain a n) b m) l ∷ K)
-upper a n (Whole t) l K = over (Whole t) (Variable (B.Below a n) l ∷ K)
+abbrev pub second_subtype : ℕ → List ℕ → TypeSoFar → Enclosure → List Frame → Turn
+second_subtype a n (Plain b m) l K = at P.Want (Variable (B.Between (plain_type a n) b m) l ∷ K)
+second_subtype a n (Whole t) l K = end_of_type (Whole t) (Variable (B.Below a n) l ∷ K)
 
 -- `<:` behind a type of a variable
-abbrev pub bound_below : Bound → Begun → Listed → List Frame → Turn
-bound_below B.First h l K = lower h l K
-bound_below (B.Below a n) h l K = upper a n h l K
-bound_below v h l K = over h (Variable v l ∷ K)
+abbrev pub subtype_in_variable : Bound → TypeSoFar → Enclosure → List Frame → Turn
+subtype_in_variable B.First h l K = first_subtype h l K
+subtype_in_variable (B.Below a n) h l K = second_subtype a n h l K
+subtype_in_variable v h l K = end_of_type h (Variable v l ∷ K)
 
 -- `<:` behind a type
-abbrev pub subtype : Begun → List Frame → Turn
-subtype h (Variable v l ∷ K) = bound_below v h l K
-subtype h K = over h K
+abbrev pub after_subtype : TypeSoFar → List Frame → Turn
+after_subtype h (Variable v l ∷ K) = subtype_in_variable v h l K
+after_subtype h K = end_of_type h K
 
 -- `>:` behind the first type of a variable, which must be its name
-abbrev pub raises : Begun → Listed → List Frame → Turn
-raises (Plain a n) l K = at P.Want (Variable (B.Above a n) l ∷ K)
-raises (Whole t) l K = over (Whole t) (Variable B.First l ∷ K)
+abbrev pub lower_bound : TypeSoFar → Enclosure → List Frame → Turn
+lower_bound (Plain a n) l K = at P.Want (Variable (B.Above a n) l ∷ K)
+lower_bound (Whole t) l K = end_of_type (Whole t) (Variable B.First l ∷ K)
 
 -- `>:` behind a type
-abbrev pub supertype : Begun → List Frame → Turn
-supertype h (Variable B.First l ∷ K) = raises h l K
-supertype h K = over h K
+abbrev pub after_supertype : TypeSoFar → List Frame → Turn
+after_supertype h (Variable B.First l ∷ K) = lower_bound h l K
+after_supertype h K = end_of_type h K
 
 -- a token behind a type
-abbrev pub follows : Sign → Begun → List Frame → Turn
-follows (S.Operator op.OpenBrace) h K = opens h K
-follows (S.Operator op.CloseBrace) h K = closes_brace h K
-follows (S.Operator op.Comma) h K = goes_on h K
-follows (S.Operator op.CloseParen) h K = closes_paren h K
-follows (S.Operator op.Subtype) h K = subtype h K
-follows (S.Operator op.Supertype) h K = supertype h K
-follows (S.Word word.Where) h K = wheres h K
-follows s h K = over h K
+abbrev pub after_type : Terminal → TypeSoFar → List Frame → Turn
+after_type (S.Operator op.OpenBrace) h K = open_brace h K
+after_type (S.Operator op.CloseBrace) h K = close_brace h K
+after_type (S.Operator op.Comma) h K = after_comma h K
+after_type (S.Operator op.CloseParen) h K = close_paren h K
+after_type (S.Operator op.Subtype) h K = after_subtype h K
+after_type (S.Operator op.Supertype) h K = after_supertype h K
+after_type (S.Word word.Where) h K = after_where h K
+after_type s h K = end_of_type h K
 
 -- a token behind `where`
-abbrev pub at_where : Sign → ℕ → List Frame → Turn
+abbrev pub at_where : Terminal → ℕ → List Frame → Turn
 at_where (S.Operator op.OpenBrace) a K = at P.Variable (Variable B.First (Braces no_variables) ∷ K)
-at_where s a K = begins s a (Variable B.First One ∷ K)
+at_where s a K = begin_type s a (Variable B.First One ∷ K)
 
 -- a token behind a variable's lower bound and `<:`
-abbrev pub at_low : Sign → ℕ → Deep TypeText → List Frame → Turn
+abbrev pub at_low : Terminal → ℕ → Deep TypeText → List Frame → Turn
 at_low (S.Name n) a t K = at (P.Named t a n) K
 at_low s a t K = Wrong
 
 -- `<:` behind a variable's lower bound, `<:` and its name
-abbrev pub bounds : Deep TypeText → ℕ → List ℕ → List Frame → Turn
-bounds t a n (Variable v l ∷ K) = at P.Want (Variable (B.Between t a n) l ∷ K)
-bounds t a n K = Wrong
+abbrev pub upper_bound : Deep TypeText → ℕ → List ℕ → List Frame → Turn
+upper_bound t a n (Variable v l ∷ K) = at P.Want (Variable (B.Between t a n) l ∷ K)
+upper_bound t a n K = Wrong
 
 -- a token behind a variable's lower bound, `<:` and its name
-abbrev pub at_named : Sign → Deep TypeText → ℕ → List ℕ → List Frame → Turn
-at_named (S.Operator op.Subtype) t a n K = bounds t a n K
+abbrev pub at_named : Terminal → Deep TypeText → ℕ → List ℕ → List Frame → Turn
+at_named (S.Operator op.Subtype) t a n K = upper_bound t a n K
 at_named s t a n K = Wrong
 
 -- a token that is not of the variables before it
-abbrev pub over_variables : Deep (List VarText) → List Frame → Turn
-over_variables vs [] = turn.Variables vs
-over_variables vs K = Wrong
+abbrev pub end_of_variables : Deep (List VarText) → List Frame → Turn
+end_of_variables vs [] = turn.Variables vs
+end_of_variables vs K = Wrong
 
 -- `)` behind the `}` of variables
-abbrev pub closes_closed : Deep (List VarText) → List Frame → Turn
-closes_closed vs (Where a t ∷ K) = at (P.Have (Whole (paren a t vs))) K
-closes_closed vs K = over_variables vs K
+abbrev pub close_after_variables : Deep (List VarText) → List Frame → Turn
+close_after_variables vs (Where a t ∷ K) = at (P.Have (Whole (paren a t vs))) K
+close_after_variables vs K = end_of_variables vs K
 
 -- a token behind the `}` of variables
-abbrev pub at_closed : Sign → Deep (List VarText) → List Frame → Turn
-at_closed (S.Operator op.CloseParen) vs K = closes_closed vs K
-at_closed s vs K = over_variables vs K
+abbrev pub at_closed : Terminal → Deep (List VarText) → List Frame → Turn
+at_closed (S.Operator op.CloseParen) vs K = close_after_variables vs K
+at_closed s vs K = end_of_variables vs K
 
 -- what a token makes of a state
-abbrev pub step_at : Sign → ℕ → Point → List Frame → Turn
-step_at s a P.Want K = begins s a K
-step_at s a P.Variable K = begins s a K
+abbrev pub step_at : Terminal → ℕ → Point → List Frame → Turn
+step_at s a P.Want K = begin_type s a K
+step_at s a P.Variable K = begin_type s a K
 step_at s a P.First K = at_first s a K
 step_at s a P.Next K = at_next s a K
-step_at s a (P.Have h) K = follows s h K
+step_at s a (P.Have h) K = after_type s h K
 step_at s a P.Where K = at_where s a K
 step_at s a (P.Low t) K = at_low s a t K
 step_at s a (P.Named t b n) K = at_named s t b n K
@@ -226,13 +226,13 @@ step_at s a (P.Closed vs) K = at_closed s vs K
 
 -- what a token makes of a reading; one that is over does not go on
 abbrev pub step : Lexeme → Turn → Turn
-step l (Goes s) = step_at l.sign l.at s.point s.stack
+step l (Goes s) = step_at l.terminal l.at s.point s.stack
 step l t = Wrong
 
 -- all these tokens, one after another
-abbrev pub goes : List Lexeme → Turn → Turn
-goes [] t = t
-goes (l ∷ ls) t = goes ls (step l t)
+abbrev pub step_all : List Lexeme → Turn → Turn
+step_all [] t = t
+step_all (l ∷ ls) t = step_all ls (step l t)
 
 -- the beginning of a type
 abbrev pub type_start : Turn
@@ -247,20 +247,20 @@ abbrev pub header_start : Turn
 header_start = at P.Variable (Variable B.First (Braces no_variables) ∷ [])
 
 -- a type must follow. Where a variable must, its name may, so no type must
-abbrev pub wants_type : Point → Bool
-wants_type P.Want = true
-wants_type P.First = true
-wants_type P.Next = true
-wants_type p = false
+abbrev pub is_type_wanted : Point → Bool
+is_type_wanted P.Want = true
+is_type_wanted P.First = true
+is_type_wanted P.Next = true
+is_type_wanted p = false
 
 -- no type goes on with this token behind a whole one
-abbrev pub stops_type : Sign → Bool
-stops_type (S.Operator op.OpenBrace) = false
-stops_type s = true
+abbrev pub is_end_of_type : Terminal → Bool
+is_end_of_type (S.Operator op.OpenBrace) = false
+is_end_of_type s = true
 
 -- no variables go on with this token behind whole ones
-abbrev pub stops_variables : Sign → Bool
-stops_variables (S.Operator op.OpenBrace) = false
-stops_variables (S.Operator op.Subtype) = false
-stops_variables (S.Operator op.Supertype) = false
-stops_variables s = true
+abbrev pub is_end_of_variables : Terminal → Bool
+is_end_of_variables (S.Operator op.OpenBrace) = false
+is_end_of_variables (S.Operator op.Subtype) = false
+is_end_of_variables (S.Operator op.Supertype) = false
+is_end_of_variables s = true

@@ -1,11 +1,11 @@
 -- What reading a type answers. Between the brackets of a type a newline is no token.
-use Rattle.std.specs.Prelude.{◌≡◌, ℕ, zero, suc, ◌+◌, ◌-◌, ◌≤◌, ◌<◌, Bool, true, false, cond, List, [], ◌∷◌, ◌++◌, length, Option, Some, None, Result, Ok, Err}
+use Rattle.std.specs.Prelude.{◌≡◌, ℕ, zero, suc, ◌+◌, ◌-◌, ◌≤◌, ◌<◌, Bool, true, false, if◌then◌else◌, List, [], ◌∷◌, ◌++◌, length, Option, Some, None, Result, Ok, Err}
 use Rattle.jl_token.specs.declared.token.Operator.TheVariants as op
 use Rattle.jl_token.specs.declared.token.Token.{Token}
 use Rattle.jl_token.specs.declared.token.TokenKind.TheVariants as kind
-use Rattle.jl_typeread.specs.declared.sign.Sign.{Sign}
-use Rattle.jl_typeread.specs.declared.sign.Sign.TheVariants as S
-use Rattle.jl_typeread.specs.declared.sign.Lexeme.{Lexeme}
+use Rattle.jl_typeread.specs.declared.terminal.Terminal.{Terminal}
+use Rattle.jl_typeread.specs.declared.terminal.Terminal.TheVariants as S
+use Rattle.jl_typeread.specs.declared.terminal.Lexeme.{Lexeme}
 use Rattle.jl_typeread.specs.declared.tree.TypeText.{TypeText}
 use Rattle.jl_typeread.specs.declared.deep.Deep.TheVariants.{Built, TooDeep}
 use Rattle.jl_typeread.specs.declared.state.State.{State}
@@ -15,39 +15,39 @@ use Rattle.jl_typeread.specs.declared.fault.TypeFault.{TypeFault}
 use Rattle.jl_typeread.specs.declared.fault.TypeFault.TheVariants as fault
 use Rattle.jl_typeread.specs.Depth.{type_depth, depth_limit}
 use Rattle.jl_typeread.specs.Grammar.{IsType}
-use Rattle.jl_typeread.specs.Machine.{goes}
+use Rattle.jl_typeread.specs.Machine.{step_all}
 
 -- how many brackets are open behind a token
-abbrev pub inside : ℕ → Sign → ℕ
-inside n (S.Operator op.OpenParen) = n + 1
-inside n (S.Operator op.OpenBrace) = n + 1
-inside n (S.Operator op.CloseParen) = n - 1
-inside n (S.Operator op.CloseBrace) = n - 1
-inside n s = n
+abbrev pub depth_after : ℕ → Terminal → ℕ
+depth_after n (S.Operator op.OpenParen) = n + 1
+depth_after n (S.Operator op.OpenBrace) = n + 1
+depth_after n (S.Operator op.CloseParen) = n - 1
+depth_after n (S.Operator op.CloseBrace) = n - 1
+depth_after n s = n
 
 -- the token is a newline between brackets
-abbrev pub is_passed : ℕ → Sign → Bool
+abbrev pub is_passed : ℕ → Terminal → Bool
 is_passed zero s = false
 is_passed (suc n) S.Newline = true
 is_passed (suc n) s = false
 
 -- what of a token the grammar sees
-abbrev pub shown : ℕ → Lexeme → List Lexeme
-shown n l = cond (is_passed n l.sign) [] (l ∷ [])
+abbrev pub show : ℕ → Lexeme → List Lexeme
+show n l = if is_passed n l.terminal then [] else l ∷ []
 
 -- what of a text the grammar sees, where so many brackets are open before it
-abbrev pub bare : ℕ → List Lexeme → List Lexeme
-bare n [] = []
-bare n (l ∷ ls) = shown n l ++ bare (inside n l.sign) ls
+abbrev pub drop_newlines : ℕ → List Lexeme → List Lexeme
+drop_newlines n [] = []
+drop_newlines n (l ∷ ls) = show n l ++ drop_newlines (depth_after n l.terminal) ls
 
 -- how many brackets are open behind a text
-abbrev pub all_inside : ℕ → List Lexeme → ℕ
-all_inside n [] = n
-all_inside n (l ∷ ls) = all_inside (inside n l.sign) ls
+abbrev pub depth_after_all : ℕ → List Lexeme → ℕ
+depth_after_all n [] = n
+depth_after_all n (l ∷ ls) = depth_after_all (depth_after n l.terminal) ls
 
 -- the text is this type, newlines between its brackets aside
 abbrev pub Spells : TypeText → List Lexeme → Type 0
-Spells t ls = IsType t (bare 0 ls)
+Spells t ls = IsType t (drop_newlines 0 ls)
 
 -- some type begins with this text
 abbrev pub Begins : List Lexeme → Type 0
@@ -87,12 +87,12 @@ EndsAlone (t ∷ u ∷ ts) = (t.kind ≡ kind.End → ⊥) × EndsAlone (u ∷ t
 
 -- one token: what ends the reading, or what comes of it
 abbrev pub Took : ℕ → Lexeme → State → State → ℕ → Option Turn → Type 0
-Took n l s s1 n1 None = (goes (shown n l) (turn.Goes s) ≡ turn.Goes s1) × (n1 ≡ inside n l.sign)
+Took n l s s1 n1 None = (step_all (show n l) (turn.Goes s) ≡ turn.Goes s1) × (n1 ≡ depth_after n l.terminal)
 Took n l s s1 n1 (Some (turn.Goes x)) = ⊥
-Took n l s s1 n1 (Some t) = goes (shown n l) (turn.Goes s) ≡ t
+Took n l s s1 n1 (Some t) = step_all (show n l) (turn.Goes s) ≡ t
 
 -- the answer at a token that ends the reading, of this place, with this many tokens before it
-abbrev pub finished : Turn → ℕ → ℕ → Result (TypeText × ℕ) TypeFault
-finished (turn.Type (Built t d)) place next = Ok (t, next)
-finished (turn.Type TooDeep) place next = Err (fault.TooDeep next)
-finished t place next = Err (fault.BadType place)
+abbrev pub final_answer : Turn → ℕ → ℕ → Result (TypeText × ℕ) TypeFault
+final_answer (turn.Type (Built t d)) place next = Ok (t, next)
+final_answer (turn.Type TooDeep) place next = Err (fault.TooDeep next)
+final_answer t place next = Err (fault.BadType place)

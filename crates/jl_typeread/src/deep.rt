@@ -2,7 +2,7 @@
 
 ghost use Rattle.std.specs.Prelude.{◌≡◌, ◌≤◌, IfOk, [], max};
 ghost use Rattle.jl_typeread.specs.declared.deep.Deep.TheVariants as D;
-ghost use Rattle.jl_typeread.specs.Depth.{plain, no_arguments, no_variables, argument, with_argument, with_variable, applied, paren, below_bound, above_bound, between_bound};
+ghost use Rattle.jl_typeread.specs.Depth.{plain_type, no_arguments, no_variables, argument, with_argument, with_variable, applied_type, paren, below_bound, above_bound, between_bound};
 
 use crate::tree::{ArgText, ArgTexts, TypeText, VarText, VarTexts};
 use jl_model::limits::MOST_TYPE_DEPTH;
@@ -30,8 +30,8 @@ pub enum Mark {
 }
 
 /// The type that is a name alone.
-pub(crate) fn plain(at: u32, name: Bytes) -> Deep<TypeText>
-    ensures { result ≡ plain at name }
+pub(crate) fn plain_type(at: u32, name: Bytes) -> Deep<TypeText>
+    ensures { result ≡ plain_type at name }
 {
     Deep::Built(TypeText::Name(at, name), 1)
 }
@@ -107,13 +107,13 @@ pub(crate) fn with_variable(
 }
 
 /// A name with its arguments.
-pub(crate) fn applied(
+pub(crate) fn applied_type(
     alloc: Global,
     at: u32,
     name: Bytes,
     arguments: Deep<Row<ArgText>>,
 ) -> Result<Deep<TypeText>, AllocError>
-    ensures { IfOk result (λ d. d ≡ applied at name arguments) }
+    ensures { IfOk result (λ d. d ≡ applied_type at name arguments) }
 {
     match arguments {
         Deep::Built(items, depth) if depth < MOST_TYPE_DEPTH => {

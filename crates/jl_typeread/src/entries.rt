@@ -1,11 +1,11 @@
 //! Where a reading begins and goes on, and how a type begins.
 
 ghost use Rattle.std.specs.Prelude.{◌≡◌, ◌∷◌, IfOk};
-ghost use Rattle.jl_typeread.specs.Machine.{at, typed, begins, type_start, where_start, header_start, wants_type};
+ghost use Rattle.jl_typeread.specs.Machine.{at, tree_of, begin_type, type_start, where_start, header_start, is_type_wanted};
 
-use crate::deep::{Deep, no_variables, plain};
-use crate::sign::{Lexeme, Sign};
-use crate::state::{Begun, Bound, Frame, Listed, Point, State, Turn};
+use crate::deep::{Deep, no_variables, plain_type};
+use crate::state::{Bound, Enclosure, Frame, Point, State, Turn, TypeSoFar};
+use crate::terminal::{Lexeme, Terminal};
 use crate::tree::TypeText;
 use jl_model::rows::Stack;
 use jl_token::token::Operator;
@@ -19,7 +19,7 @@ pub(crate) fn at(point: Point, stack: Stack<Frame>) -> Result<Turn, AllocError>
 }
 
 /// The reading goes on inside of one more form.
-pub(crate) fn inside(
+pub(crate) fn push_frame(
     point: Point,
     frame: Frame,
     mut stack: Stack<Frame>,
@@ -36,22 +36,29 @@ pub(crate) fn inside(
 }
 
 /// A type that was read, as a tree.
-pub(crate) fn typed(begun: Begun) -> Deep<TypeText>
-    ensures { result ≡ typed begun }
+pub(crate) fn tree_of(begun: TypeSoFar) -> Deep<TypeText>
+    ensures { result ≡ tree_of begun }
 {
     match begun {
-        Begun::Plain(at, name) => plain(at, name),
-        Begun::Whole(ty) => ty,
+        TypeSoFar::Plain(at, name) => plain_type(at, name),
+        TypeSoFar::Whole(ty) => ty,
     }
 }
 
 /// A type begins.
-pub(crate) fn begins(lexeme: &Lexeme, stack: Stack<Frame>) -> Result<Turn, AllocError>
-    ensures { IfOk result (λ t. t ≡ begins lexeme.now.sign lexeme.now.at stack) }
+pub(crate) fn begin_type(lexeme: &Lexeme, stack: Stack<Frame>) -> Result<Turn, AllocError>
+    ensures { IfOk result (λ t. t ≡ begin_type lexeme.now.terminal lexeme.now.at stack) }
 {
-    match &lexeme.sign {
-        Sign::Name(name) => at(Point::Have(Begun::Plain(lexeme.at, name.copy()?)), stack),
-        Sign::Operator(Operator::OpenParen) => inside(Point::Want, Frame::Paren(lexeme.at), stack),
+    match &lexeme.terminal {
+        Terminal::Name(name) => at(
+            Point::Have(TypeSoFar::Plain(lexeme.at, name.copy()?)),
+            stack,
+        ),
+        Terminal::Operator(Operator::OpenParen) => push_frame(
+            Point::Want,
+            Frame::Paren(lexeme.at),
+            stack,
+        ),
         _ => Ok(Turn::Wrong),
     }
 }
@@ -81,7 +88,7 @@ pub fn header_start(alloc: Global) -> Result<State, AllocError>
     ensures { IfOk result (λ s. Turn.Goes s ≡ header_start) }
 {
     let mut stack = Stack::new(alloc);
-    let listed = Listed::Braces(no_variables(alloc));
+    let listed = Enclosure::Braces(no_variables(alloc));
     stack.push(Frame::Variable(Bound::First, listed))?;
     Ok(State {
         point: Point::Variable,
@@ -89,8 +96,8 @@ pub fn header_start(alloc: Global) -> Result<State, AllocError>
     })
 }
 /// Whether a type must follow. Where a variable must, its name may, so no type must.
-pub fn wants_type(point: &Point) -> bool
-    ensures { result ≡ wants_type point.now }
+pub fn is_type_wanted(point: &Point) -> bool
+    ensures { result ≡ is_type_wanted point.now }
 {
     matches!(point, Point::Want | Point::First | Point::Next)
 }

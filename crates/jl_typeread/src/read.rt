@@ -1,18 +1,18 @@
 //! A type at a place of a source.
 
 ghost use Rattle.std.specs.Prelude.{List, ◌≡◌, ◌<◌, ◌≤◌, IfOk, drop, length};
-ghost use Rattle.jl_typeread.specs.declared.sign.Lexeme.{Lexeme};
+ghost use Rattle.jl_typeread.specs.declared.terminal.Lexeme.{Lexeme};
 ghost use Rattle.jl_typeread.specs.declared.tree.TypeText.{TypeText};
 ghost use Rattle.jl_typeread.specs.Lexemes.{lexemes};
 ghost use Rattle.jl_typeread.specs.Depth.{type_depth, depth_limit};
 ghost use Rattle.jl_typeread.specs.Grammar.{IsType};
-ghost use Rattle.jl_typeread.specs.Reads.{inside, is_passed, Reads, UnlessMemory, IsOnly, EndsAlone, Took, finished};
+ghost use Rattle.jl_typeread.specs.Reads.{depth_after, is_passed, Reads, UnlessMemory, IsOnly, EndsAlone, Took, final_answer};
 
 use crate::deep::Deep;
 use crate::entries::type_start;
 use crate::fault::TypeFault;
-use crate::sign::{Lexeme, Sign};
 use crate::state::{State, Turn};
+use crate::terminal::{Lexeme, Terminal};
 use crate::tree::TypeText;
 use crate::turns::step;
 use jl_token::token::{Operator, Token};
@@ -33,25 +33,25 @@ impl Drop for Reader {
 }
 
 /// How many brackets are open behind a token.
-fn inside(depth: usize, sign: &Sign) -> usize
+fn depth_after(depth: usize, terminal: &Terminal) -> usize
     requires { depth < usize.MAX }
-    ensures { result ≡ inside depth sign.now }
+    ensures { result ≡ depth_after depth terminal.now }
 {
-    match sign {
-        Sign::Operator(Operator::OpenParen) => depth + 1,
-        Sign::Operator(Operator::OpenBrace) => depth + 1,
-        Sign::Operator(Operator::CloseParen) => depth.saturating_sub(1),
-        Sign::Operator(Operator::CloseBrace) => depth.saturating_sub(1),
+    match terminal {
+        Terminal::Operator(Operator::OpenParen) => depth + 1,
+        Terminal::Operator(Operator::OpenBrace) => depth + 1,
+        Terminal::Operator(Operator::CloseParen) => depth.saturating_sub(1),
+        Terminal::Operator(Operator::CloseBrace) => depth.saturating_sub(1),
         _ => depth,
     }
 }
 
 /// Whether the token is a newline between brackets, which is none for the grammar.
-fn is_passed(depth: usize, sign: &Sign) -> bool
-    ensures { result ≡ is_passed depth sign.now }
+fn is_passed(depth: usize, terminal: &Terminal) -> bool
+    ensures { result ≡ is_passed depth terminal.now }
 {
-    match sign {
-        Sign::Newline => depth > 0,
+    match terminal {
+        Terminal::Newline => depth > 0,
         _ => false,
     }
 }
@@ -61,7 +61,7 @@ fn take(alloc: Global, reader: &mut Reader, lexeme: &Lexeme) -> Result<Option<Tu
     requires { reader.old.depth < usize.MAX }
     ensures { IfOk result (λ ended. Took reader.old.depth lexeme.now reader.old.state reader.new.state reader.new.depth ended) }
 {
-    if !is_passed(reader.depth, &lexeme.sign) {
+    if !is_passed(reader.depth, &lexeme.terminal) {
         let state = mem::replace(&mut reader.state, type_start(alloc));
         match step(alloc, lexeme, state)? {
             Turn::Goes(next) => drop(mem::replace(&mut reader.state, next)),
@@ -70,13 +70,13 @@ fn take(alloc: Global, reader: &mut Reader, lexeme: &Lexeme) -> Result<Option<Tu
             Turn::Wrong => return Ok(Some(Turn::Wrong)),
         }
     }
-    reader.depth = inside(reader.depth, &lexeme.sign);
+    reader.depth = depth_after(reader.depth, &lexeme.terminal);
     Ok(None)
 }
 
 /// The answer at a token that ends the reading, of this place, with this many tokens before it.
-fn finished(turn: Turn, place: u32, next: usize) -> Result<(TypeText, usize), TypeFault>
-    ensures { result ≡ finished turn place next }
+fn final_answer(turn: Turn, place: u32, next: usize) -> Result<(TypeText, usize), TypeFault>
+    ensures { result ≡ final_answer turn place next }
 {
     match turn {
         Turn::Type(Deep::Built(ty, _)) => Ok((ty, next)),
@@ -113,7 +113,7 @@ pub fn read_type(
     for (count, token) in rest.iter().enumerate() {
         let lexeme = Lexeme::of(token)?;
         if let Some(turn) = take(alloc, &mut reader, &lexeme)? {
-            return finished(turn, token.at, from + count);
+            return final_answer(turn, token.at, from + count);
         }
     }
     unreachable!()
@@ -121,5 +121,6 @@ pub fn read_type(
 
 /// A text of a type within the limit of depth is no other type.
 pub fn one_type()
-    ensures { (t u : TypeText) (ts : List Lexeme) → IsType t ts → IsType u ts → type_depth t ≤ depth_limit → t ≡ u }
+    ensures { (t u : TypeText) (ts : List Lexeme)
+        → IsType t ts → IsType u ts → type_depth t ≤ depth_limit → t ≡ u }
 {}

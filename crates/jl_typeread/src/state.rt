@@ -7,7 +7,7 @@ use jl_model::ty::Bytes;
 
 /// A type that was read: a name, behind which braces may follow, or a type that nothing can follow.
 #[derive(Drop)]
-pub enum Begun {
+pub enum TypeSoFar {
     Plain(u32, Bytes),
     Whole(Deep<TypeText>),
 }
@@ -27,7 +27,7 @@ pub enum Bound {
 
 /// The variables before the one that is being read.
 #[derive(Drop)]
-pub enum Listed {
+pub enum Enclosure {
     /// It stands alone, without braces.
     One,
     /// Those in the same braces.
@@ -44,7 +44,7 @@ pub enum Frame {
     /// `(`, a type and `where`.
     Where(u32, Deep<TypeText>),
     /// A variable, and those before it.
-    Variable(Bound, Listed),
+    Variable(Bound, Enclosure),
 }
 
 /// What was read last, and so what may follow.
@@ -59,7 +59,7 @@ pub enum Point {
     /// A comma between arguments: an argument must follow.
     Next,
     /// A type.
-    Have(Begun),
+    Have(TypeSoFar),
     /// `where`: a variable or `{` must follow.
     Where,
     /// In a variable, a type and `<:`: a name must follow.

@@ -1,14 +1,14 @@
 //! One token of variables, or of what follows one.
 
 ghost use Rattle.std.specs.Prelude.{◌≡◌, ◌∷◌, IfOk, None, Some};
-ghost use Rattle.jl_typeread.specs.Machine.{variable, ended, closes_variables, closes_listed, next_variable, next_listed, closes_where, lower, at_where, at_low, bounds, at_named, over_variables, closes_closed, at_closed};
+ghost use Rattle.jl_typeread.specs.Machine.{variable, end_of_variable, close_variables, close_enclosure, next_variable, next_in_enclosure, close_where, first_subtype, at_where, at_low, upper_bound, at_named, end_of_variables, close_after_variables, at_closed};
 
 use crate::deep::{
     Deep, above_bound, below_bound, between_bound, no_variables, paren, with_variable,
 };
-use crate::entries::{at, begins, inside, typed};
-use crate::sign::{Lexeme, Sign};
-use crate::state::{Begun, Bound, Frame, Listed, Point, Turn};
+use crate::entries::{at, begin_type, push_frame, tree_of};
+use crate::state::{Bound, Enclosure, Frame, Point, Turn, TypeSoFar};
+use crate::terminal::{Lexeme, Terminal};
 use crate::tree::{TypeText, VarText};
 use jl_model::rows::{Row, Stack};
 use jl_model::ty::Bytes;
@@ -16,30 +16,30 @@ use jl_token::token::Operator;
 use std::alloc::{AllocError, Global};
 
 /// A variable that ends with this type.
-pub(crate) fn variable(bound: Bound, begun: Begun) -> Option<Deep<VarText>>
+pub(crate) fn variable(bound: Bound, begun: TypeSoFar) -> Option<Deep<VarText>>
     ensures { result ≡ variable bound begun }
 {
     match bound {
         Bound::First => match begun {
-            Begun::Plain(at, name) => Some(Deep::Built(VarText::Free(at, name), 0)),
-            Begun::Whole(ty) => {
+            TypeSoFar::Plain(at, name) => Some(Deep::Built(VarText::Free(at, name), 0)),
+            TypeSoFar::Whole(ty) => {
                 drop(ty);
                 None
             }
         },
-        Bound::Below(at, name) => Some(below_bound(at, name, typed(begun))),
-        Bound::Above(at, name) => Some(above_bound(at, name, typed(begun))),
-        Bound::Between(low, at, name) => Some(between_bound(low, at, name, typed(begun))),
+        Bound::Below(at, name) => Some(below_bound(at, name, tree_of(begun))),
+        Bound::Above(at, name) => Some(above_bound(at, name, tree_of(begun))),
+        Bound::Between(low, at, name) => Some(between_bound(low, at, name, tree_of(begun))),
     }
 }
 
 /// A token behind variables that have ended, alone.
-pub(crate) fn ended(
+pub(crate) fn end_of_variable(
     alloc: Global,
     variable: Option<Deep<VarText>>,
     mut stack: Stack<Frame>,
 ) -> Result<Turn, AllocError>
-    ensures { IfOk result (λ t. t ≡ ended variable stack) }
+    ensures { IfOk result (λ t. t ≡ end_of_variable variable stack) }
 {
     let Some(variable) = variable else {
         return Ok(Turn::Wrong);
@@ -58,12 +58,12 @@ pub(crate) fn ended(
 }
 
 /// `}` behind a variable.
-pub(crate) fn closes_variables(
+pub(crate) fn close_variables(
     variable: Option<Deep<VarText>>,
     variables: Deep<Row<VarText>>,
     stack: Stack<Frame>,
 ) -> Result<Turn, AllocError>
-    ensures { IfOk result (λ t. t ≡ closes_variables variable variables stack) }
+    ensures { IfOk result (λ t. t ≡ close_variables variable variables stack) }
 {
     match variable {
         Some(variable) => at(Point::Closed(with_variable(variables, variable)?), stack),
@@ -75,17 +75,17 @@ pub(crate) fn closes_variables(
 }
 
 /// `}` behind a variable, if that stands in braces.
-pub(crate) fn closes_listed(
+pub(crate) fn close_enclosure(
     alloc: Global,
     variable: Option<Deep<VarText>>,
-    listed: Listed,
+    listed: Enclosure,
     stack: Stack<Frame>,
 ) -> Result<Turn, AllocError>
-    ensures { IfOk result (λ t. t ≡ closes_listed variable listed stack) }
+    ensures { IfOk result (λ t. t ≡ close_enclosure variable listed stack) }
 {
     match listed {
-        Listed::One => ended(alloc, variable, stack),
-        Listed::Braces(variables) => closes_variables(variable, variables, stack),
+        Enclosure::One => end_of_variable(alloc, variable, stack),
+        Enclosure::Braces(variables) => close_variables(variable, variables, stack),
     }
 }
 
@@ -100,8 +100,8 @@ pub(crate) fn next_variable(
     match variable {
         Some(variable) => {
             let variables = with_variable(variables, variable)?;
-            let frame = Frame::Variable(Bound::First, Listed::Braces(variables));
-            inside(Point::Variable, frame, stack)
+            let frame = Frame::Variable(Bound::First, Enclosure::Braces(variables));
+            push_frame(Point::Variable, frame, stack)
         }
         None => {
             drop(variables);
@@ -111,37 +111,37 @@ pub(crate) fn next_variable(
 }
 
 /// `,` behind a variable, if that stands in braces.
-pub(crate) fn next_listed(
+pub(crate) fn next_in_enclosure(
     alloc: Global,
     variable: Option<Deep<VarText>>,
-    listed: Listed,
+    listed: Enclosure,
     stack: Stack<Frame>,
 ) -> Result<Turn, AllocError>
-    ensures { IfOk result (λ t. t ≡ next_listed variable listed stack) }
+    ensures { IfOk result (λ t. t ≡ next_in_enclosure variable listed stack) }
 {
     match listed {
-        Listed::One => ended(alloc, variable, stack),
-        Listed::Braces(variables) => next_variable(variable, variables, stack),
+        Enclosure::One => end_of_variable(alloc, variable, stack),
+        Enclosure::Braces(variables) => next_variable(variable, variables, stack),
     }
 }
 
 /// `)` behind the one variable of a `where`.
-pub(crate) fn closes_where(
+pub(crate) fn close_where(
     alloc: Global,
     variable: Option<Deep<VarText>>,
     mut stack: Stack<Frame>,
 ) -> Result<Turn, AllocError>
-    ensures { IfOk result (λ t. t ≡ closes_where variable stack) }
+    ensures { IfOk result (λ t. t ≡ close_where variable stack) }
 {
     let Some(variable) = variable else {
         return Ok(Turn::Wrong);
     };
     match stack.pop() {
-        None => ended(alloc, Some(variable), stack),
+        None => end_of_variable(alloc, Some(variable), stack),
         Some(Frame::Where(place, ty)) => match with_variable(no_variables(alloc), variable) {
             Ok(variables) => {
                 let ty = paren(alloc, place, ty, variables)?;
-                at(Point::Have(Begun::Whole(ty)), stack)
+                at(Point::Have(TypeSoFar::Whole(ty)), stack)
             }
             Err(error) => {
                 drop(ty);
@@ -157,15 +157,23 @@ pub(crate) fn closes_where(
 }
 
 /// `<:` behind the first type of a variable, which is its name or its lower bound.
-pub(crate) fn lower(begun: Begun, listed: Listed, stack: Stack<Frame>) -> Result<Turn, AllocError>
-    ensures { IfOk result (λ t. t ≡ lower begun listed stack) }
+pub(crate) fn first_subtype(
+    begun: TypeSoFar,
+    listed: Enclosure,
+    stack: Stack<Frame>,
+) -> Result<Turn, AllocError>
+    ensures { IfOk result (λ t. t ≡ first_subtype begun listed stack) }
 {
     match begun {
-        Begun::Plain(at, name) => {
+        TypeSoFar::Plain(at, name) => {
             let frame = Frame::Variable(Bound::Below(at, name), listed);
-            inside(Point::Want, frame, stack)
+            push_frame(Point::Want, frame, stack)
         }
-        Begun::Whole(ty) => inside(Point::Low(ty), Frame::Variable(Bound::First, listed), stack),
+        TypeSoFar::Whole(ty) => push_frame(
+            Point::Low(ty),
+            Frame::Variable(Bound::First, listed),
+            stack,
+        ),
     }
 }
 
@@ -175,20 +183,20 @@ pub(crate) fn at_where(
     lexeme: &Lexeme,
     mut stack: Stack<Frame>,
 ) -> Result<Turn, AllocError>
-    ensures { IfOk result (λ t. t ≡ at_where lexeme.now.sign lexeme.now.at stack) }
+    ensures { IfOk result (λ t. t ≡ at_where lexeme.now.terminal lexeme.now.at stack) }
 {
-    match &lexeme.sign {
-        Sign::Operator(Operator::OpenBrace) => {
-            let listed = Listed::Braces(no_variables(alloc));
-            inside(
+    match &lexeme.terminal {
+        Terminal::Operator(Operator::OpenBrace) => {
+            let listed = Enclosure::Braces(no_variables(alloc));
+            push_frame(
                 Point::Variable,
                 Frame::Variable(Bound::First, listed),
                 stack,
             )
         }
         _ => {
-            stack.push(Frame::Variable(Bound::First, Listed::One))?;
-            begins(lexeme, stack)
+            stack.push(Frame::Variable(Bound::First, Enclosure::One))?;
+            begin_type(lexeme, stack)
         }
     }
 }
@@ -199,10 +207,10 @@ pub(crate) fn at_low(
     low: Deep<TypeText>,
     stack: Stack<Frame>,
 ) -> Result<Turn, AllocError>
-    ensures { IfOk result (λ t. t ≡ at_low lexeme.now.sign lexeme.now.at low stack) }
+    ensures { IfOk result (λ t. t ≡ at_low lexeme.now.terminal lexeme.now.at low stack) }
 {
-    match &lexeme.sign {
-        Sign::Name(name) => match name.copy() {
+    match &lexeme.terminal {
+        Terminal::Name(name) => match name.copy() {
             Ok(name) => at(Point::Named(low, lexeme.at, name), stack),
             Err(error) => {
                 drop(low);
@@ -217,19 +225,19 @@ pub(crate) fn at_low(
 }
 
 /// `<:` behind a variable's lower bound, `<:` and its name.
-pub(crate) fn bounds(
+pub(crate) fn upper_bound(
     low: Deep<TypeText>,
     at: u32,
     name: Bytes,
     mut stack: Stack<Frame>,
 ) -> Result<Turn, AllocError>
-    ensures { IfOk result (λ t. t ≡ bounds low at name stack) }
+    ensures { IfOk result (λ t. t ≡ upper_bound low at name stack) }
 {
     match stack.pop() {
         Some(Frame::Variable(before, listed)) => {
             drop(before);
             let bound = Bound::Between(low, at, name);
-            inside(Point::Want, Frame::Variable(bound, listed), stack)
+            push_frame(Point::Want, Frame::Variable(bound, listed), stack)
         }
         Some(frame) => {
             drop(frame);
@@ -245,16 +253,16 @@ pub(crate) fn bounds(
 
 /// A token behind a variable's lower bound, `<:` and its name.
 pub(crate) fn at_named(
-    sign: &Sign,
+    terminal: &Terminal,
     low: Deep<TypeText>,
     at: u32,
     name: Bytes,
     stack: Stack<Frame>,
 ) -> Result<Turn, AllocError>
-    ensures { IfOk result (λ t. t ≡ at_named sign.now low at name stack) }
+    ensures { IfOk result (λ t. t ≡ at_named terminal.now low at name stack) }
 {
-    match sign {
-        Sign::Operator(Operator::Subtype) => bounds(low, at, name, stack),
+    match terminal {
+        Terminal::Operator(Operator::Subtype) => upper_bound(low, at, name, stack),
         _ => {
             drop(low);
             Ok(Turn::Wrong)
@@ -263,11 +271,11 @@ pub(crate) fn at_named(
 }
 
 /// A token that is not of the variables before it.
-pub(crate) fn over_variables(
+pub(crate) fn end_of_variables(
     variables: Deep<Row<VarText>>,
     mut stack: Stack<Frame>,
 ) -> Result<Turn, AllocError>
-    ensures { IfOk result (λ t. t ≡ over_variables variables stack) }
+    ensures { IfOk result (λ t. t ≡ end_of_variables variables stack) }
 {
     match stack.pop() {
         None => Ok(Turn::Variables(variables)),
@@ -280,18 +288,18 @@ pub(crate) fn over_variables(
 }
 
 /// `)` behind the `}` of variables.
-pub(crate) fn closes_closed(
+pub(crate) fn close_after_variables(
     alloc: Global,
     variables: Deep<Row<VarText>>,
     mut stack: Stack<Frame>,
 ) -> Result<Turn, AllocError>
-    ensures { IfOk result (λ t. t ≡ closes_closed variables stack) }
+    ensures { IfOk result (λ t. t ≡ close_after_variables variables stack) }
 {
     match stack.pop() {
         None => Ok(Turn::Variables(variables)),
         Some(Frame::Where(place, ty)) => {
             let ty = paren(alloc, place, ty, variables)?;
-            at(Point::Have(Begun::Whole(ty)), stack)
+            at(Point::Have(TypeSoFar::Whole(ty)), stack)
         }
         Some(frame) => {
             drop(frame);
@@ -304,14 +312,14 @@ pub(crate) fn closes_closed(
 /// A token behind the `}` of variables.
 pub(crate) fn at_closed(
     alloc: Global,
-    sign: &Sign,
+    terminal: &Terminal,
     variables: Deep<Row<VarText>>,
     stack: Stack<Frame>,
 ) -> Result<Turn, AllocError>
-    ensures { IfOk result (λ t. t ≡ at_closed sign.now variables stack) }
+    ensures { IfOk result (λ t. t ≡ at_closed terminal.now variables stack) }
 {
-    match sign {
-        Sign::Operator(Operator::CloseParen) => closes_closed(alloc, variables, stack),
-        _ => over_variables(variables, stack),
+    match terminal {
+        Terminal::Operator(Operator::CloseParen) => close_after_variables(alloc, variables, stack),
+        _ => end_of_variables(variables, stack),
     }
 }

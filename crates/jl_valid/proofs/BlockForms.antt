@@ -24,7 +24,7 @@ use Rattle.jl_resolve_forms.specs.declared.state.Scope.{Scope}
 use Rattle.jl_resolve_forms.specs.declared.state.State.{State}
 use Rattle.jl_resolve_forms.specs.Scopes.{bind}
 use Rattle.jl_resolve_forms.specs.TypesIn.{Tests}
-use Rattle.jl_resolve_forms.specs.Expressions.{Reads, Defines, Says, binds, returns, does, Evaluates, defines, evaluates, Shows, writes, shows, Tries, one_said, all_said, block_of, one_shown, all_shown, bare_scope, one_evaluated, all_evaluated, one_tried, all_tried, chained, evaluated, expr_step}
+use Rattle.jl_resolve_forms.specs.Expressions.{Reads, Defines, Says, binds, returns, does, Evaluates, defines, evaluates, Shows, writes, shows, Tries, one_said, all_said, block_of, one_shown, all_shown, bare_scope, one_evaluated, all_evaluated, one_tried, all_tried, chain_arms, evaluated, expr_step}
 use Rattle.jl_valid.specs.Adds.{Got, got, no_got, got_both, got_in, Adds}
 use Rattle.jl_valid.specs.Parts.{Sees, standing, Passes, IsCode, IsGood, IsSite, IsGoodMethod, IsGoodStmt, IsGoodEval, IsGoodPiece, IsGoodBranch, Each}
 use Rattle.jl_valid.proofs.FaultLemmas.{clean}
@@ -120,11 +120,11 @@ top_bind_got i e = λ j. got (in-top-bind own_place i e j) (in-top-bind own_type
 got_assoc : (a b c : Got) → got_both (got_both a b) c ≡ got_both a (got_both b c)
 got_assoc a b c = λ i. got (append_assoc a.places b.places c.places i) (append_assoc a.types b.types c.types i) (append_assoc a.structs b.structs c.structs i)
 
-chained_got : Tests → Known → (xs : List Arm) (e : Code) → got_in (chained xs e) ≡ got_both (got_arms xs) (got_in e)
-chained_got t k [] e = refl
-chained_got t k (x ∷ xs) e =
+chain_arms_got : Tests → Known → (xs : List Arm) (e : Code) → got_in (chain_arms xs e) ≡ got_both (got_arms xs) (got_in e)
+chain_arms_got t k [] e = refl
+chain_arms_got t k (x ∷ xs) e =
     let behind : Got → Got = λ z. got_both (got_arm x) z in
-    if_got t k x.test x.then (chained xs e) ∙ ap behind (chained_got t k xs e) ∙ sym (got_assoc (got_arm x) (got_arms xs) (got_in e))
+    if_got t k x.test x.then (chain_arms xs e) ∙ ap behind (chain_arms_got t k xs e) ∙ sym (got_assoc (got_arm x) (got_arms xs) (got_in e))
 
 module _ (t : Tests) (k : Known) where
   -- ---- blocks
@@ -216,24 +216,24 @@ module _ (t : Tests) (k : Known) where
       two k v r s y.after ys.after ns (flat_map (λ n. n) nss) (got_arm y.value) (got_arms ys.value) (λ P all p. is_valid_expr P all y.value.test p && is_valid_expr P all y.value.then p) (λ P all. arms_pass P all ys.value)
       (one_tried_good r ns b h.0 c v s see rest.clean) rest
 
-  chained_passes :
+  chain_arms_passes :
       (P : Program) (all : List View) (v : View) (r : Bool) (n : ℕ) (xs : List Arm) (e : Code)
-      → Passes v r n (arms_pass P all xs) → IsCode v r n e P all → IsCode v r n (chained xs e) P all
-  chained_passes P all v r n [] e h g = g
-  chained_passes P all v r n (x ∷ xs) e h g =
-      let rest = chained_passes P all v r n xs e (λ least l. right (is_valid_expr P all x.test (standing v r least) && is_valid_expr P all x.then (standing v r least)) (arms_pass P all xs (standing v r least)) (h least l)) g in
-      if_passes t k P all v r n x.test x.then (chained xs e) (λ least l.
+      → Passes v r n (arms_pass P all xs) → IsCode v r n e P all → IsCode v r n (chain_arms xs e) P all
+  chain_arms_passes P all v r n [] e h g = g
+  chain_arms_passes P all v r n (x ∷ xs) e h g =
+      let rest = chain_arms_passes P all v r n xs e (λ least l. right (is_valid_expr P all x.test (standing v r least) && is_valid_expr P all x.then (standing v r least)) (arms_pass P all xs (standing v r least)) (h least l)) g in
+      if_passes t k P all v r n x.test x.then (chain_arms xs e) (λ least l.
       let one = is_valid_expr P all x.test (standing v r least) && is_valid_expr P all x.then (standing v r least) in
-      and one (is_valid_expr P all (chained xs e) (standing v r least)) (left one (arms_pass P all xs (standing v r least)) (h least l)) (rest least l))
+      and one (is_valid_expr P all (chain_arms xs e) (standing v r least)) (left one (arms_pass P all xs (standing v r least)) (h least l)) (rest least l))
 
   pub if_end : (r : Bool) (at : ℕ) (nss : List (List Name)) (bs : List Tries) → Each (IsGoodBranch k r) nss bs → IsGood k r (flat_map (λ n. n) nss) (expr_step t k (F.If at bs))
   if_end r at nss bs h c v s see e =
       let ys = all_tried bs c s in
       let behind : Got → Got = λ z. got_both (got_arms ys.value) z in
-      formed k s ys.after (flat_map (λ n. n) nss) (got_arms ys.value) (chained ys.value W.Nothing) (λ P all. Passes v r (length s.spawns) (arms_pass P all ys.value)) (IsCode v r (length s.spawns) (chained ys.value W.Nothing))
-      (chained_got t k ys.value W.Nothing ∙ ap behind nothing_got ∙ nil_behind (got_arms ys.value))
+      formed k s ys.after (flat_map (λ n. n) nss) (got_arms ys.value) (chain_arms ys.value W.Nothing) (λ P all. Passes v r (length s.spawns) (arms_pass P all ys.value)) (IsCode v r (length s.spawns) (chain_arms ys.value W.Nothing))
+      (chain_arms_got t k ys.value W.Nothing ∙ ap behind nothing_got ∙ nil_behind (got_arms ys.value))
       (all_tried_good r nss bs h c v s see e)
-      (λ P all f a. chained_passes P all v r (length s.spawns) ys.value W.Nothing a
+      (λ P all f a. chain_arms_passes P all v r (length s.spawns) ys.value W.Nothing a
       (by_layer v r (length s.spawns) (is_valid_expr P all W.Nothing) (valid_step P all V.Nothing) (valid-nothing P all) (λ least l. refl)))
 
   pub if_else :
@@ -245,10 +245,10 @@ module _ (t : Tests) (k : Known) where
       let ys = all_tried bs c s in
       let z = block_of xs c ys.after in
       let rest = block_good r mss xs g c v ys.after see e in
-      formed k s z.after (ns ++ ms) (got_both (got_arms ys.value) (got_in z.value)) (chained ys.value z.value) (λ P all. Passes v r (length s.spawns) (λ p. arms_pass P all ys.value p && is_valid_expr P all z.value p))
-      (IsCode v r (length s.spawns) (chained ys.value z.value)) (chained_got t k ys.value z.value)
+      formed k s z.after (ns ++ ms) (got_both (got_arms ys.value) (got_in z.value)) (chain_arms ys.value z.value) (λ P all. Passes v r (length s.spawns) (λ p. arms_pass P all ys.value p && is_valid_expr P all z.value p))
+      (IsCode v r (length s.spawns) (chain_arms ys.value z.value)) (chain_arms_got t k ys.value z.value)
       (two k v r s ys.after z.after ns ms (got_arms ys.value) (got_in z.value) (λ P all. arms_pass P all ys.value) (λ P all. is_valid_expr P all z.value) (all_tried_good r nss bs h c v s see rest.clean) rest)
-      (λ P all f a. chained_passes P all v r (length s.spawns) ys.value z.value
+      (λ P all f a. chain_arms_passes P all v r (length s.spawns) ys.value z.value
       (λ least l. left (arms_pass P all ys.value (standing v r least)) (is_valid_expr P all z.value (standing v r least)) (a least l))
       (λ least l. right (arms_pass P all ys.value (standing v r least)) (is_valid_expr P all z.value (standing v r least)) (a least l)))
 

@@ -21,17 +21,17 @@ use Rattle.jl_formed.specs.Formed.{FormedType, FormedArgs, FormedCallee, FormedH
 use Rattle.jl_resolve_forms.specs.declared.known.Known.{Known}
 use Rattle.jl_resolve_forms.specs.TypesIn.{Tests}
 use Rattle.jl_resolve_forms.specs.Expressions as R
-use Rattle.jl_resolve_forms.specs.Expressions.{Reads, Defines, Says, Evaluates, Shows, Tries, made_args, part_number, expr_reads, method_reads, stmt_reads, eval_reads, piece_reads, branch_reads}
+use Rattle.jl_resolve_forms.specs.Expressions.{Reads, Defines, Says, Evaluates, Shows, Tries, make_args, part_number, expr_reads, method_reads, stmt_reads, eval_reads, piece_reads, branch_reads}
 use Rattle.jl_grammar.specs.declared.tree.Item.{Item}
 use Rattle.jl_formed.specs.Formed.{FormedItem, FormedItems}
 use Rattle.jl_written.specs.declared.fault.Fault.{Fault}
 use Rattle.jl_resolve_forms.specs.declared.state.Scope.{Scope}
 use Rattle.jl_resolve_forms.specs.declared.state.State.{State}
-use Rattle.jl_resolve_forms.specs.Functions.{place_of_callee, function_of, called}
+use Rattle.jl_resolve_forms.specs.Functions.{place_of_callee, function_of, callee_of}
 use Rattle.jl_resolve_forms.specs.Scopes.{slot_of}
-use Rattle.jl_resolve_forms.specs.Top.{top_bind, one_top, all_top, beginning, resolved}
-use Rattle.jl_resolve_forms.specs.TypesIn.{begins}
-use Rattle.jl_resolve_forms.specs.Expressions.{defines, evaluates, all_coded, all_tried, block_of, bare_scope, made_struct}
+use Rattle.jl_resolve_forms.specs.Top.{top_bind, one_top, all_top, beginning, resolve}
+use Rattle.jl_resolve_forms.specs.TypesIn.{start_of}
+use Rattle.jl_resolve_forms.specs.Expressions.{defines, evaluates, all_coded, all_tried, block_of, bare_scope, make_struct}
 use Rattle.jl_valid.specs.Adds.{Every}
 use Rattle.jl_valid.proofs.CleanForms as C
 use Rattle.jl_valid.proofs.FaultLemmas.{clean}
@@ -95,10 +95,10 @@ module _ (t : Tests) (k : Known) where
     expr_clean _ _ (G.tuple r a es fs) = expr_at (F.Tuple a es) (E.Tuple a es) (E.rolls-Tuple a es) (C.coded_clean (map (expr_reads t k) es) (exprs_clean r es fs))
     expr_clean _ _ (G.call r a g es is fs) =
         expr_at (F.Call a g es) (E.Call a g es) (E.rolls-Call a g es)
-        (λ c s e. C.coded_clean (map (expr_reads t k) es) (exprs_clean r es fs) c s (C.call_clean t k (place_of_callee g) (called k g c) (all_coded (map (expr_reads t k) es) c s) e))
+        (λ c s e. C.coded_clean (map (expr_reads t k) es) (exprs_clean r es fs) c s (C.call_clean t k (place_of_callee g) (callee_of k g c) (all_coded (map (expr_reads t k) es) c s) e))
     expr_clean _ _ (G.make r a ty es is fs) =
         expr_at (F.Make a ty es) (E.Make a ty es) (E.rolls-Make a ty es)
-        (λ c s e. C.made_clean t k (begins ty) (made_struct k (out-TypeText ty) c) (made_args (out-TypeText ty)) (map (expr_reads t k) es) (exprs_clean r es fs) c s e)
+        (λ c s e. C.made_clean t k (start_of ty) (make_struct k (out-TypeText ty) c) (make_args (out-TypeText ty)) (map (expr_reads t k) es) (exprs_clean r es fs) c s e)
     expr_clean _ _ (G.field r a e x f is) = expr_at (F.Field a e x) (E.Field a e x) (E.rolls-Field a e x) (expr_clean r e f)
     expr_clean _ _ (G.part r a e n f is) = expr_at (F.Part a e n) (E.Part a e n) (E.rolls-Part a e n) (expr_clean r e f)
     expr_clean _ _ (G.prefixed r a o e f) = expr_at (F.Prefix a o e) (E.Prefix a o e) (E.rolls-Prefix a o e) (expr_clean r e f)
@@ -187,5 +187,5 @@ module _ (t : Tests) (k : Known) where
       top_clean x f c s (tops_clean xs fs y.value.1 y.after e)
 
   -- a program without a fault begins without one
-  pub begins_clean : (items : List Item) (f : Option Fault) → FormedItems items → (resolved t k items f).fault ≡ None → f ≡ None
+  pub begins_clean : (items : List Item) (f : Option Fault) → FormedItems items → (resolve t k items f).fault ≡ None → f ≡ None
   begins_clean items f formed e = tops_clean items formed (bare_scope 8) (beginning f) e

@@ -4,7 +4,7 @@ use Rattle.jl_written.specs.declared.fault.Fault.{Fault}
 use Rattle.jl_written.specs.declared.fault.StaticKind.{StaticKind}
 use Rattle.jl_written.specs.Answered.{first_of, comes_before}
 use Rattle.jl_resolve_forms.specs.declared.state.State.{State}
-use Rattle.jl_resolve_forms.specs.Scopes.{note, noted, merged}
+use Rattle.jl_resolve_forms.specs.Scopes.{note, note_if, merge_fault}
 
 abbrev some : Option Fault → Bool
 some None = false
@@ -24,21 +24,21 @@ first_some (Some g) f e = by (comes_before f g) e
 pub no_note : (at : ℕ) (k : StaticKind) (s : State) → (note at k s).fault ≡ None → ⊥
 no_note at k s e = first_some s.fault (record { at = at; kind = k }) e
 
-pub noted_none : (at : ℕ) (o : Option StaticKind) (s : State) → (noted at o s).fault ≡ None → o ≡ None
-noted_none at None s e = refl
-noted_none at (Some k) s e = absurd (no_note at k s e)
+pub note_if_none : (at : ℕ) (o : Option StaticKind) (s : State) → (note_if at o s).fault ≡ None → o ≡ None
+note_if_none at None s e = refl
+note_if_none at (Some k) s e = absurd (no_note at k s e)
 
-pub noted_same : (at : ℕ) (o : Option StaticKind) (s : State) → (noted at o s).fault ≡ None → noted at o s ≡ s
-noted_same at None s e = refl
-noted_same at (Some k) s e = absurd (no_note at k s e)
+pub note_if_same : (at : ℕ) (o : Option StaticKind) (s : State) → (note_if at o s).fault ≡ None → note_if at o s ≡ s
+note_if_same at None s e = refl
+note_if_same at (Some k) s e = absurd (no_note at k s e)
 
-pub merged_none : (o : Option Fault) (s : State) → (merged o s).fault ≡ None → o ≡ None
-merged_none None s e = refl
-merged_none (Some f) s e = absurd (no_note f.at f.kind s e)
+pub merge_fault_none : (o : Option Fault) (s : State) → (merge_fault o s).fault ≡ None → o ≡ None
+merge_fault_none None s e = refl
+merge_fault_none (Some f) s e = absurd (no_note f.at f.kind s e)
 
-pub merged_same : (o : Option Fault) (s : State) → (merged o s).fault ≡ None → merged o s ≡ s
-merged_same None s e = refl
-merged_same (Some f) s e = absurd (no_note f.at f.kind s e)
+pub merge_fault_same : (o : Option Fault) (s : State) → (merge_fault o s).fault ≡ None → merge_fault o s ≡ s
+merge_fault_same None s e = refl
+merge_fault_same (Some f) s e = absurd (no_note f.at f.kind s e)
 
 -- a note under a test
 pub test_false : (b : Bool) (at : ℕ) (k : StaticKind) (s : State) → (cond b (note at k s) s).fault ≡ None → b ≡ false

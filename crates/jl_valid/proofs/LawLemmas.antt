@@ -13,7 +13,7 @@ use Rattle.jl_type_laws.specs.Told.{StaticsFit}
 use Rattle.jl_type_laws.proofs.BodyLemmas.{body_seen}
 use Rattle.jl_type_laws.proofs.KnownMore.{declared_known}
 use Rattle.jl_type_laws.proofs.MadeLemmas.{made_seen, struct_below}
-use Rattle.jl_type_laws.proofs.SignedLemmas.{signed_good}
+use Rattle.jl_type_laws.proofs.SignedLemmas.{method_signature_good}
 use Rattle.jl_grammar.specs.declared.tree.Item.{Item}
 use Rattle.jl_valid.specs.Adds.{Every}
 use Rattle.jl_valid.specs.Asked.{IsKnownOf, AreTold}
@@ -44,7 +44,7 @@ laws_hold t k items known told =
           let h = made_seen t k ds v.statics c s (fits v.statics c.statics see.statics) at p is xs e in
           record { seen = h.type.seen; made = h.made; allowed = told.body _ (seen_known k.decls v.statics _ h.type.seen) h.type.allowed };
       heads = λ h types e f.
-          let g = signed_good t k ds types h e f in
+          let g = method_signature_good t k ds types h e f in
           record { valid = record { own = g.own; known = g.known; allowed = told.signature _ g.own g.known g.allowed }; statics = flagged _ _ g.statics };
       small = λ p is wide. told.wide p (struct_below k.decls p is) wide;
     }

@@ -25,7 +25,7 @@ use Rattle.jl_grammar.specs.declared.tree.Param.TheVariants as A
 use Rattle.jl_written.specs.declared.fault.StaticKind.TheVariants as kind
 use Rattle.jl_written.specs.declared.reading.Reading.{Reading}
 use Rattle.jl_written.specs.declared.reading.TypeVar.{TypeVar}
-use Rattle.jl_written.specs.Reads.{unread}
+use Rattle.jl_written.specs.Reads.{no_reading}
 use Rattle.jl_written.specs.Signatures.{all_bound, all_read, option_reads}
 use Rattle.jl_resolve_forms.specs.declared.known.Known.{Known}
 use Rattle.jl_resolve_forms.specs.declared.state.Opening.{Opening}
@@ -35,13 +35,13 @@ use Rattle.jl_resolve_forms.specs.declared.state.State.{State}
 use Rattle.jl_resolve_forms.specs.Resolver.{Resolution}
 use Rattle.jl_resolve_forms.specs.Defined.{own_name}
 use Rattle.jl_resolve_forms.specs.Functions.{place_of_callee, function_of}
-use Rattle.jl_resolve_forms.specs.Scopes.{noted, merged, with_slot, bind}
+use Rattle.jl_resolve_forms.specs.Scopes.{note_if, merge_fault, with_slot, bind}
 use Rattle.jl_resolve_forms.specs.TypesIn.{Tests, declared_at}
-use Rattle.jl_resolve_forms.specs.Expressions.{Reads, Says, block_of, bare_scope, spawned, type_of, parameters, static_parameters, names_in, may_define, defined_function, if_unknown, too_many, site_of, reserved, closed, signed, named, opened, method, method_step, expr_step}
+use Rattle.jl_resolve_forms.specs.Expressions.{Reads, Says, block_of, bare_scope, spawned, type_of, parameters, static_parameters, names_in, may_define, defined_function, if_unknown, too_many, site_of, reserve_site, close_site, method_signature, check_name, open_method, method, method_step, expr_step}
 use Rattle.jl_type_laws.proofs.OrderLemmas.{ordered_count}
 use Rattle.jl_valid.specs.Adds.{got, no_got, got_in, got_codes, bodies, stands, Gathers, Every, IsFree, Views, Within, Adds}
 use Rattle.jl_valid.specs.Parts.{Sees, IsCode, flags_of, IsGood, IsSite, IsGoodMethod, IsGoodStmt, Each, IsKnown, IsGoodName, IsGoodHead}
-use Rattle.jl_valid.proofs.FaultLemmas.{noted_none, noted_same, merged_none, merged_same, clean}
+use Rattle.jl_valid.proofs.FaultLemmas.{note_if_none, note_if_same, merge_fault_none, merge_fault_same, clean}
 use Rattle.jl_valid.proofs.AddsLemmas.{got_is, times_append, both_allowed, none_allowed, and, left, right, every_append, last_views, view_at, view_within, by_layer}
 use Rattle.jl_valid.proofs.FormLemmas.{got_at, clean_of}
 use Rattle.jl_valid.proofs.BlockForms.{block_good}
@@ -237,10 +237,10 @@ module _ (t : Tests) (k : Known) where
   as_many_types ds [] vs r = refl
   as_many_types ds (ty ∷ ts) vs r = ap suc (as_many_types ds ts vs (option_reads ds ty vs r).after)
 
-  as_many_parts : (types : ℕ) (h : Head) → length (signed t k types h).sig.parts ≡ length h.params
+  as_many_parts : (types : ℕ) (h : Head) → length (method_signature t k types h).sig.parts ≡ length h.params
   as_many_parts types h =
       let ds = declared_at k types in
-      let s = all_bound ds h.vars [] unread in
+      let s = all_bound ds h.vars [] no_reading in
       let ts = all_read ds (map type_of h.params) s.vars s.after in
       ordered_count ts ts.after.swaps ∙ as_many_types ds (map type_of h.params) s.vars s.after ∙ length-map h.params type_of
 
@@ -269,49 +269,49 @@ module _ (t : Tests) (k : Known) where
 
   -- no fault stands at the name of a method
   pub record Names (at : ℕ) (callee : Callee) (f : Option ℕ) (g : Signed) (s : State) : Type 0 where
-    pub same : named k at callee f g s ≡ s
+    pub same : check_name k at callee f g s ≡ s
     pub may : may_define k callee ≡ None
     pub found : if_unknown f ≡ None
     pub read : g.fault ≡ None
     pub allowed : g.refusal ≡ None
 
-  pub names_none : (at : ℕ) (callee : Callee) (f : Option ℕ) (g : Signed) (s : State) → (named k at callee f g s).fault ≡ None → Names at callee f g s
+  pub names_none : (at : ℕ) (callee : Callee) (f : Option ℕ) (g : Signed) (s : State) → (check_name k at callee f g s).fault ≡ None → Names at callee f g s
   names_none at callee f g s e =
-      let s0 = noted at (if_unknown f) s in
-      let s1 = noted at (may_define k callee) s0 in
-      let m = merged g.fault s1 in
-      let s2 = noted at g.refusal m in
-      let s3 = noted at (too_many s2) s2 in
-      let same3 = noted_same at (too_many s2) s2 e in
+      let s0 = note_if at (if_unknown f) s in
+      let s1 = note_if at (may_define k callee) s0 in
+      let m = merge_fault g.fault s1 in
+      let s2 = note_if at g.refusal m in
+      let s3 = note_if at (too_many s2) s2 in
+      let same3 = note_if_same at (too_many s2) s2 e in
       let e2 = clean s2 s3 e same3 in
-      let same2 = noted_same at g.refusal m e2 in
+      let same2 = note_if_same at g.refusal m e2 in
       let em = clean m s2 e2 same2 in
-      let same1 = merged_same g.fault s1 em in
+      let same1 = merge_fault_same g.fault s1 em in
       let e1 = clean s1 m em same1 in
-      let same0 = noted_same at (may_define k callee) s0 e1 in
+      let same0 = note_if_same at (may_define k callee) s0 e1 in
       let e0 = clean s0 s1 e1 same0 in
       record {
-        same = same3 ∙ same2 ∙ same1 ∙ same0 ∙ noted_same at (if_unknown f) s e0;
-        may = noted_none at (may_define k callee) s0 e1;
-        found = noted_none at (if_unknown f) s e0;
-        read = merged_none g.fault s1 em;
-        allowed = noted_none at g.refusal m e2;
+        same = same3 ∙ same2 ∙ same1 ∙ same0 ∙ note_if_same at (if_unknown f) s e0;
+        may = note_if_none at (may_define k callee) s0 e1;
+        found = note_if_none at (if_unknown f) s e0;
+        read = merge_fault_none g.fault s1 em;
+        allowed = note_if_none at g.refusal m e2;
       }
 
   -- a method up to its body
   record Opens (h : Head) (types : ℕ) (s : State) : Type 0 where
-    same : (opened t k h types s).after ≡ s
-    function : (opened t k h types s).value.function < length k.functions
-    signature : IsValidSig k.decls (opened t k h types s).value.sig
-    sees : Sees (opened t k h types s).value.scope (in_body (opened t k h types s).value.sig).view
+    same : (open_method t k h types s).after ≡ s
+    function : (open_method t k h types s).value.function < length k.functions
+    signature : IsValidSig k.decls (open_method t k h types s).value.sig
+    sees : Sees (open_method t k h types s).value.scope (in_body (open_method t k h types s).value.sig).view
     free : Every IsFree (own_name h.callee)
 
-  opens : IsKnown k → (h : Head) → IsGoodHead k t h → (types : ℕ) (s : State) → (opened t k h types s).after.fault ≡ None → Opens h types s
-  unfolding opened
+  opens : IsKnown k → (h : Head) → IsGoodHead k t h → (types : ℕ) (s : State) → (open_method t k h types s).after.fault ≡ None → Opens h types s
+  unfolding open_method
   opens known h head types s e =
       let f = function_of k h.callee (bare_scope types) in
-      let g = signed t k types h in
-      let z = named k (place_of_callee h.callee) h.callee f g s in
+      let g = method_signature t k types h in
+      let z = check_name k (place_of_callee h.callee) h.callee f g s in
       let c : Scope = record { slots = []; statics = static_parameters g.sig g.vars; types = types } in
       let none : View = record { slots = 0; statics = flags_of g.sig } in
       let b = parameters h.params c z in
@@ -383,10 +383,10 @@ module _ (t : Tests) (k : Known) where
       }
 
   pub method_good : IsKnown k → (h : Head) → IsGoodHead k t h → (ns : List Name) (x : Reads) → IsGood k true ns x → IsGoodMethod k (own_name h.callee ++ ns) (method t k h x)
-  unfolding reserved closed
+  unfolding reserve_site close_site
   method_good known h head ns x good types s e =
-      let o = opened t k h types s in
-      let first = clean_of k true ns x good o.value.scope (reserved o.value o.after) e in
+      let o = open_method t k h types s in
+      let first = clean_of k true ns x good o.value.scope (reserve_site o.value o.after) e in
       let facts = opens known h head types s first in
       let adds = body_adds ns x good o.value o.after facts.function facts.signature facts.sees e (own_name h.callee) facts.free in
       subst (λ (z : State). Adds k z (method t k h x types s).after (own_name h.callee ++ ns) no_got (IsSite k (method t k h x types s).value)) facts.same adds

@@ -9,7 +9,7 @@ use Rattle.jl_written.specs.declared.reading.TypeVar.{TypeVar}
 use Rattle.jl_written.specs.Meaning.{place_from}
 use Rattle.jl_resolve_forms.specs.declared.state.Scope.{Scope}
 use Rattle.jl_resolve_forms.specs.declared.state.State.{State}
-use Rattle.jl_resolve_forms.specs.Scopes.{slot_from, slot_of, clashing, with_slot, slotted, bind}
+use Rattle.jl_resolve_forms.specs.Scopes.{slot_from, slot_of, clashing, with_slot, take_slot, bind}
 use Rattle.jl_valid.specs.Adds.{Every}
 use Rattle.jl_valid.specs.Parts.{IsFlagged, Sees}
 use Rattle.jl_valid.proofs.FaultLemmas.{no_note, test_same}
@@ -60,24 +60,24 @@ one_more v = record { slots = v.slots + 1; statics = v.statics }
 pub sees_slot : (o : Option (List ℕ)) (c : Scope) (v : View) → Sees c v → Sees (with_slot o c) (one_more v)
 sees_slot o c v h = record { slots = omega (arith, length-append c.slots (o ∷ []), h.slots); statics = h.statics }
 
-slotted_sees : (n : Name) (c : Scope) (s : State) (o : Option ℕ) (v : View) → Sees c v → Sees (slotted n c o s).value (one_more v)
-slotted_sees n c s None v h = sees_slot (Some n.bytes) c v h
-slotted_sees n c s (Some i) v h = sees_slot None c v h
+take_slot_sees : (n : Name) (c : Scope) (s : State) (o : Option ℕ) (v : View) → Sees c v → Sees (take_slot n c o s).value (one_more v)
+take_slot_sees n c s None v h = sees_slot (Some n.bytes) c v h
+take_slot_sees n c s (Some i) v h = sees_slot None c v h
 
 pub bind_sees : (n : Name) (c : Scope) (s : State) (v : View) → Sees c v → Sees (bind n c s).value (one_more v)
 unfolding bind
-bind_sees n c s v h = slotted_sees n c (clashing n.at n.bytes s) (slot_of c.slots n.bytes) v h
+bind_sees n c s v h = take_slot_sees n c (clashing n.at n.bytes s) (slot_of c.slots n.bytes) v h
 
-slotted_same : (n : Name) (c : Scope) (s : State) (o : Option ℕ) → (slotted n c o s).after.fault ≡ None → (slotted n c o s).after ≡ s
-slotted_same n c s None e = refl
-slotted_same n c s (Some i) e = absurd (no_note n.at kind.Rebound s e)
+take_slot_same : (n : Name) (c : Scope) (s : State) (o : Option ℕ) → (take_slot n c o s).after.fault ≡ None → (take_slot n c o s).after ≡ s
+take_slot_same n c s None e = refl
+take_slot_same n c s (Some i) e = absurd (no_note n.at kind.Rebound s e)
 
 -- a binding adds nothing to the state
 pub bind_same : (n : Name) (c : Scope) (s : State) → (bind n c s).after.fault ≡ None → (bind n c s).after ≡ s
 unfolding bind
 bind_same n c s e =
     let z = clashing n.at n.bytes s in
-    let first = slotted_same n c z (slot_of c.slots n.bytes) e in
+    let first = take_slot_same n c z (slot_of c.slots n.bytes) e in
     first ∙ test_same (is_among n.bytes builtin_names) n.at kind.NameClash s (ap (λ (y : State). y.fault) (sym first) ∙ e)
 
 -- of every scope something is seen

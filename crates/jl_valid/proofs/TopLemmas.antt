@@ -30,7 +30,7 @@ use Rattle.jl_resolve_forms.specs.declared.state.State.{State}
 use Rattle.jl_resolve_forms.specs.Defined.{methods_of, in_item, in_expr, in_method}
 use Rattle.jl_resolve_forms.specs.Expressions.{expr_reads, method_reads, bare_scope}
 use Rattle.jl_resolve_forms.specs.Scopes.{bind}
-use Rattle.jl_resolve_forms.specs.Top.{resolved, first_at, clash, clashes, top_bind, one_top, all_top, beginning}
+use Rattle.jl_resolve_forms.specs.Top.{resolve, first_at, clash, note_clash, top_bind, one_top, all_top, beginning}
 use Rattle.jl_resolve_forms.specs.TypesIn.{Tests}
 use Rattle.jl_valid.specs.Asked.{IsKnownOf, AreTold}
 use Rattle.jl_valid.specs.Adds.{got, no_got, got_both, got_in, got_codes, gathered, bodies, stands, Fits, Views, Within, Adds}
@@ -50,17 +50,17 @@ clash_same : (at : ℕ) (o : Option ℕ) (s : State) → (clash at o s).fault �
 clash_same at None s e = refl
 clash_same at (Some other) s e = absurd (no_note (max at other) kind.Rebound s e)
 
-clashes_same : (k : Known) (n : Name) (s : State) → (clashes k n s).fault ≡ None → clashes k n s ≡ s
-clashes_same k n s e =
+note_clash_same : (k : Known) (n : Name) (s : State) → (note_clash k n s).fault ≡ None → note_clash k n s ≡ s
+note_clash_same k n s e =
     let m = clash n.at (first_at k.methods n.bytes) s in
     let outer = clash_same n.at (first_at k.types n.bytes) m e in
-    outer ∙ clash_same n.at (first_at k.methods n.bytes) s (clean m (clashes k n s) e outer)
+    outer ∙ clash_same n.at (first_at k.methods n.bytes) s (clean m (note_clash k n s) e outer)
 
 pub top_bind_same : (k : Known) (n : Name) (c : Scope) (s : State) → (top_bind k n c s).after.fault ≡ None → (top_bind k n c s).after ≡ s
 top_bind_same k n c s e =
     let b = bind n c s in
-    let outer = clashes_same k n b.after e in
-    outer ∙ bind_same n c s (clean b.after (clashes k n b.after) e outer)
+    let outer = note_clash_same k n b.after e in
+    outer ∙ bind_same n c s (clean b.after (note_clash k n b.after) e outer)
 
 -- what is visible behind an item
 abbrev pub view_behind : Item → View → View
@@ -178,7 +178,7 @@ in_all own e P sites is =
 
 pub valid :
     (t : Tests) (k : Known) (items : List Item) (f : Option Fault) → FormedItems items → IsKnownOf items k → AreTold k.decls t
-    → (resolved t k items f).fault ≡ None → IsValid (resolved t k items f).program
+    → (resolve t k items f).fault ≡ None → IsValid (resolve t k items f).program
 valid t k items f formed of told_all e =
     let laws = laws_hold t k items of told_all in
     let twelve : length prelude_functions ≡ 12 = refl in
@@ -186,7 +186,7 @@ valid t k items f formed of told_all e =
     let start = beginning f in
     let top = all_top t k items (bare_scope 8) start in
     let adds = all_top_good t k known laws items formed (bare_scope 8) nothing_seen start (record { slots = refl; statics = tt }) e in
-    let P = (resolved t k items f).program in
+    let P = (resolve t k items f).program in
     let names = adds_names prelude_functions (methods_of items) adds.free in
     let types : all_types P ≡ k.decls = ap (λ ds. ds ++ drop 8 k.decls) (sym of.builtins) ∙ take-append-drop 8 k.decls in
     let fits : Fits k (length top.after.sites) P = record { functions = refl; types = types; count = omega arith } in

@@ -27,7 +27,7 @@ use Rattle.jl_resolve_forms.specs.Defined as D
 use Rattle.jl_resolve_forms.specs.Defined.{Step, own_name, in_expr, in_method, in_stmt, in_eval, in_piece, in_branch}
 use Rattle.jl_resolve_forms.specs.TypesIn.{Tests}
 use Rattle.jl_resolve_forms.specs.Expressions as R
-use Rattle.jl_resolve_forms.specs.Expressions.{Reads, Defines, Says, Evaluates, Shows, Tries, made_args, part_number, expr_reads, method_reads, stmt_reads, eval_reads, piece_reads, branch_reads}
+use Rattle.jl_resolve_forms.specs.Expressions.{Reads, Defines, Says, Evaluates, Shows, Tries, make_args, part_number, expr_reads, method_reads, stmt_reads, eval_reads, piece_reads, branch_reads}
 use Rattle.jl_valid.specs.Adds.{Every}
 use Rattle.jl_valid.specs.Parts.{IsGood, IsGoodMethod, IsGoodStmt, IsGoodEval, IsGoodPiece, IsGoodBranch, Each, IsKnown, IsGoodName, AreGoodArgs, IsGoodHead}
 use Rattle.jl_valid.specs.TypeLaws.{TypeLaws}
@@ -110,10 +110,10 @@ module _ (t : Tests) (k : Known) (known : IsKnown k) (laws : TypeLaws t k) where
 
   -- ---- types and heads
 
-  args_in : (ty : TypeText) → FormedType ty → AreGoodArgs k t (made_args (out-TypeText ty))
-  args_in _ (G.plain_type a n is) = subst (λ l. AreGoodArgs k t (made_args l)) (sym (O.outs-Name a n)) (laws.args [])
-  args_in _ (G.applied_type a n xs is h) = subst (λ l. AreGoodArgs k t (made_args l)) (sym (O.outs-Applied a n xs)) (laws.args xs)
-  args_in _ (G.paren_type a ty vs h g) = subst (λ l. AreGoodArgs k t (made_args l)) (sym (O.outs-Paren a ty vs)) (laws.args [])
+  args_in : (ty : TypeText) → FormedType ty → AreGoodArgs k t (make_args (out-TypeText ty))
+  args_in _ (G.plain_type a n is) = subst (λ l. AreGoodArgs k t (make_args l)) (sym (O.outs-Name a n)) (laws.args [])
+  args_in _ (G.applied_type a n xs is h) = subst (λ l. AreGoodArgs k t (make_args l)) (sym (O.outs-Applied a n xs)) (laws.args xs)
+  args_in _ (G.paren_type a ty vs h g) = subst (λ l. AreGoodArgs k t (make_args l)) (sym (O.outs-Paren a ty vs)) (laws.args [])
 
   callee_name : (f : Callee) → FormedCallee f → Every IsGoodName (own_name f)
   callee_name _ (G.plain_name x is) = (is, tt)

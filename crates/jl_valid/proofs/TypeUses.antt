@@ -33,21 +33,21 @@ use Rattle.jl_written.specs.declared.fault.StaticKind.{StaticKind}
 use Rattle.jl_written.specs.declared.fault.StaticKind.TheVariants as kind
 use Rattle.jl_written.specs.Meaning.{place_of}
 use Rattle.jl_written.specs.Reads.{Typed}
-use Rattle.jl_written.specs.Signatures.{adopted, body_type, constructor_type}
+use Rattle.jl_written.specs.Signatures.{adopt_bounds, body_type, constructor_type}
 use Rattle.jl_resolve_forms.specs.declared.known.Known.{Known}
 use Rattle.jl_resolve_forms.specs.declared.known.Called.{Called}
 use Rattle.jl_resolve_forms.specs.declared.known.Called.TheVariants as D
 use Rattle.jl_resolve_forms.specs.declared.state.Scope.{Scope}
 use Rattle.jl_resolve_forms.specs.declared.state.State.{State}
 use Rattle.jl_resolve_forms.specs.Resolver.{Resolution}
-use Rattle.jl_resolve_forms.specs.Scopes.{slot_of, noted, merged}
-use Rattle.jl_resolve_forms.specs.Functions.{function_of_operator, place_of_callee, unless_slot, function_of, if_struct, struct_named, struct_of, constructor, called_from, called}
-use Rattle.jl_resolve_forms.specs.Parameters.{finds_parameters}
-use Rattle.jl_resolve_forms.specs.TypesIn.{Tests, declared_at, refusal, begins, one_type, made_refusal, type_at, made_type, body_written, made_at}
-use Rattle.jl_resolve_forms.specs.Expressions.{Reads, all_coded, counted, latest, inferred_refusal, call, made_struct, made_args, made, expr_step}
+use Rattle.jl_resolve_forms.specs.Scopes.{slot_of, note_if, merge_fault}
+use Rattle.jl_resolve_forms.specs.Functions.{function_of_operator, place_of_callee, unless_slot, function_of, if_struct, struct_named, struct_of, constructor, callee_from, callee_of}
+use Rattle.jl_resolve_forms.specs.Parameters.{has_usable_parameters_at}
+use Rattle.jl_resolve_forms.specs.TypesIn.{Tests, declared_at, refusal, start_of, one_type, make_refusal, type_at, make_type, type_in_body, make_at}
+use Rattle.jl_resolve_forms.specs.Expressions.{Reads, all_coded, count_call, latest, inferred_refusal, call, make_struct, make_args, made, expr_step}
 use Rattle.jl_valid.specs.Adds.{got, no_got, got_both, got_in, got_codes, Fits, Adds}
 use Rattle.jl_valid.specs.Parts.{Sees, standing, Passes, IsCode, IsGood, Each, IsKnown, IsGoodType, AreGoodArgs}
-use Rattle.jl_valid.proofs.FaultLemmas.{no_note, noted_none, noted_same, merged_same, test_false, test_same, clean}
+use Rattle.jl_valid.proofs.FaultLemmas.{no_note, note_if_none, note_if_same, merge_fault_same, test_false, test_same, clean}
 use Rattle.jl_valid.proofs.AddsLemmas.{formed, got_is, with_own, and, right, nothing, ends_at, by_layer}
 use Rattle.jl_valid.proofs.BareType.{bare_allowed}
 use Rattle.jl_valid.proofs.FormLemmas.{got_at, codes_pass, all_good, call_passes, latest_passes}
@@ -111,13 +111,13 @@ constructor_there k p h = by (nat_eq (length (params_of (slice_get k.decls p))) 
     by true e = (h, e)
     by false e = (h, e)
 
-called_there : (k : Known) (a b : Option ℕ) → ((p : ℕ) → a ≡ Some p → is_struct k.decls p ≡ true) → ((f : ℕ) → b ≡ Some f → f < length k.functions) → IsThere k (called_from k.decls a b)
+called_there : (k : Known) (a b : Option ℕ) → ((p : ℕ) → a ≡ Some p → is_struct k.decls p ≡ true) → ((f : ℕ) → b ≡ Some f → f < length k.functions) → IsThere k (callee_from k.decls a b)
 called_there k (Some p) b s f = constructor_there k p (s p refl)
 called_there k None (Some i) s f = f i refl
 called_there k None None s f = tt
 
-pub callee_there : (k : Known) → IsKnown k → (g : Callee) (c : Scope) → IsThere k (called k g c)
-unfolding called
+pub callee_there : (k : Known) → IsKnown k → (g : Callee) (c : Scope) → IsThere k (callee_of k g c)
+unfolding callee_of
 callee_there k h g c = called_there k (struct_of k g c) (function_of k g c) (callee_struct k g c) (function_there k h g c)
 
 -- ---- structs without parameters
@@ -152,7 +152,7 @@ some_parameter : (n : ℕ) → nat_eq n 0 ≡ false → nat_le 1 n ≡ true
 some_parameter zero e = absurd (true≢false e)
 some_parameter (suc n) e = le-leb 1 (suc n) (omega arith)
 
-finds : (o : Option Decl) → nat_eq (length (params_of o)) 0 ≡ false → finds_parameters o ≡ true → finds_variables (fields_of o) ≡ true
+finds : (o : Option Decl) → nat_eq (length (params_of o)) 0 ≡ false → has_usable_parameters_at o ≡ true → finds_variables (fields_of o) ≡ true
 finds None e f = absurd (true≢false (sym f))
 finds (Some d) e f = and (nat_le 1 (length d.params)) _ (some_parameter (length d.params) e) f
 
@@ -176,27 +176,27 @@ narrow_from false z is e = absurd (no_kind kind.StaticParameterUse e)
 
 at_same : (t : Tests) (at : ℕ) (ty : Typed) (s : State) → (type_at t at ty s).after.fault ≡ None → (type_at t at ty s).after ≡ s
 at_same t at ty s e =
-    let w = one_type ty.ty (adopted t.below ty.after.places ty.after.vars) in
-    let m = merged ty.after.fault s in
-    let first = noted_same at (refusal t.body ty.after w) m e in
-    first ∙ merged_same ty.after.fault s (clean m (type_at t at ty s).after e first)
+    let w = one_type ty.ty (adopt_bounds t.below ty.after.places ty.after.vars) in
+    let m = merge_fault ty.after.fault s in
+    let first = note_if_same at (refusal t.body ty.after w) m e in
+    first ∙ merge_fault_same ty.after.fault s (clean m (type_at t at ty s).after e first)
 
-pub body_same : (t : Tests) (k : Known) (text : TypeText) (c : Scope) (s : State) → (body_written t k text c s).after.fault ≡ None → (body_written t k text c s).after ≡ s
-unfolding body_written
-body_same t k text c s e = at_same t (begins text) (body_type (declared_at k c.types) c.statics text) s e
+pub body_same : (t : Tests) (k : Known) (text : TypeText) (c : Scope) (s : State) → (type_in_body t k text c s).after.fault ≡ None → (type_in_body t k text c s).after ≡ s
+unfolding type_in_body
+body_same t k text c s e = at_same t (start_of text) (body_type (declared_at k c.types) c.statics text) s e
 
-made_type_same : (t : Tests) (at : ℕ) (ty : Typed) (counts : Bool) (s : State) → (made_type t at ty counts s).after.fault ≡ None → (made_type t at ty counts s).after ≡ s
-made_type_same t at ty counts s e =
+make_type_same : (t : Tests) (at : ℕ) (ty : Typed) (counts : Bool) (s : State) → (make_type t at ty counts s).after.fault ≡ None → (make_type t at ty counts s).after ≡ s
+make_type_same t at ty counts s e =
     let w = one_type ty.ty [] in
-    let m = merged ty.after.fault s in
-    let first = noted_same at (made_refusal t.body counts ty.after w) m e in
-    first ∙ merged_same ty.after.fault s (clean m (made_type t at ty counts s).after e first)
+    let m = merge_fault ty.after.fault s in
+    let first = note_if_same at (make_refusal t.body counts ty.after w) m e in
+    first ∙ merge_fault_same ty.after.fault s (clean m (make_type t at ty counts s).after e first)
 
-pub made_same : (t : Tests) (k : Known) (at p : ℕ) (xs : List ArgText) (c : Scope) (s : State) → (made_at t k at p xs c s).after.fault ≡ None → (made_at t k at p xs c s).after ≡ s
-unfolding made_at
+pub made_same : (t : Tests) (k : Known) (at p : ℕ) (xs : List ArgText) (c : Scope) (s : State) → (make_at t k at p xs c s).after.fault ≡ None → (make_at t k at p xs c s).after ≡ s
+unfolding make_at
 made_same t k at p xs c s e =
     let bs = params_of (slice_get k.decls p) in
-    made_type_same t at (constructor_type (declared_at k c.types) p bs c.statics xs) (nat_eq (length xs) (length bs)) s e
+    make_type_same t at (constructor_type (declared_at k c.types) p bs c.statics xs) (nat_eq (length xs) (length bs)) s e
 
 module _ (t : Tests) (k : Known) where
   -- ---- forms with types
@@ -219,7 +219,7 @@ module _ (t : Tests) (k : Known) where
   pub isa : (r : Bool) (at : ℕ) (ns : List Name) (x : Reads) (ty : TypeText) → IsGood k r ns x → IsGoodType k t ty → IsGood k r ns (expr_step t k (F.Isa at x ty))
   isa r at ns x ty good typed c v s see e =
       let y = x c s in
-      let w = body_written t k ty c y.after in
+      let w = type_in_body t k ty c y.after in
       let same = body_same t k ty c y.after e in
       let seen = typed c v y.after see e in
       let own = got [] (w.value ∷ []) [] in
@@ -232,8 +232,8 @@ module _ (t : Tests) (k : Known) where
 
   pub sub : (r : Bool) (at : ℕ) (a b : TypeText) → IsGoodType k t a → IsGoodType k t b → IsGood k r [] (expr_step t k (F.Sub at a b))
   sub r at a b good other c v s see e =
-      let y = body_written t k a c s in
-      let w = body_written t k b c y.after in
+      let y = type_in_body t k a c s in
+      let w = type_in_body t k b c y.after in
       let same = body_same t k b c y.after e in
       let none = clean y.after w.after e same in
       let first = body_same t k a c s none in
@@ -256,20 +256,20 @@ module _ (t : Tests) (k : Known) where
     Given = ys.after.fault ≡ None → Adds k s ys.after ns (got_codes ys.value) (λ P all. Passes v r (length s.spawns) (codes_pass P all ys.value))
 
     -- a counted call has at most 8 arguments
-    counted_adds :
-        (at : ℕ) (x : Code) → got_in x ≡ got_codes ys.value → Given → (counted at ys.value ys.after).fault ≡ None
+    count_call_adds :
+        (at : ℕ) (x : Code) → got_in x ≡ got_codes ys.value → Given → (count_call at ys.value ys.after).fault ≡ None
         → ((P : Program) (all : List View) → Fits k (length ys.after.sites) P → length ys.value ≤ 8 → Passes v r (length s.spawns) (codes_pass P all ys.value) → IsCode v r (length s.spawns) x P all)
-        → Adds k s (counted at ys.value ys.after) ns (got_in x) (IsCode v r (length s.spawns) x)
-    counted_adds at x stands g e h =
+        → Adds k s (count_call at ys.value ys.after) ns (got_in x) (IsCode v r (length s.spawns) x)
+    count_call_adds at x stands g e h =
         let same = test_same (nat_lt 8 (length ys.value)) at kind.TooManyArguments ys.after e in
         let few = ltb-false 8 (length ys.value) (test_false (nat_lt 8 (length ys.value)) at kind.TooManyArguments ys.after e) in
-        ends_at k s ys.after (counted at ys.value ys.after) ns (got_in x) (IsCode v r (length s.spawns) x) same
-        (formed k s ys.after ns (got_codes ys.value) x (λ P all. Passes v r (length s.spawns) (codes_pass P all ys.value)) (IsCode v r (length s.spawns) x) stands (g (clean ys.after (counted at ys.value ys.after) e same))
+        ends_at k s ys.after (count_call at ys.value ys.after) ns (got_in x) (IsCode v r (length s.spawns) x) same
+        (formed k s ys.after ns (got_codes ys.value) x (λ P all. Passes v r (length s.spawns) (codes_pass P all ys.value)) (IsCode v r (length s.spawns) x) stands (g (clean ys.after (count_call at ys.value ys.after) e same))
         (λ P all f a. h P all f few a))
 
     call_adds : ((p : ℕ) → is_struct k.decls p ≡ true → t.wide p ≡ false → IsSmallStruct k.decls p) → (at : ℕ) (d : Called) → IsThere k d → Given → (call t k at d ys.value ys.after).after.fault ≡ None → Adds k s (call t k at d ys.value ys.after).after ns (got_in (call t k at d ys.value ys.after).value) (IsCode v r (length s.spawns) (call t k at d ys.value ys.after).value)
     unfolding call
-    call_adds small at (D.Function f) there g e = counted_adds at (X.Call f ys.value) (got_at (V.Call f ys.value) (X.Call f ys.value) (X.rolls-Call f ys.value)) g e (λ P all fit few a. call_passes t k P all v r (length s.spawns) (length ys.after.sites) f ys.value fit there few a)
+    call_adds small at (D.Function f) there g e = count_call_adds at (X.Call f ys.value) (got_at (V.Call f ys.value) (X.Call f ys.value) (X.rolls-Call f ys.value)) g e (λ P all fit few a. call_passes t k P all v r (length s.spawns) (length ys.after.sites) f ys.value fit there few a)
     call_adds small at (D.Bare p) there g e =
         let w = one_type (nominal p) [] in
         let own = got [] (w ∷ []) [] in
@@ -280,27 +280,27 @@ module _ (t : Tests) (k : Known) where
         (λ P all f a. make_passes P all v r (length s.spawns) (length ys.after.sites) (one_type (nominal p) []) ys.value f (bare_seen k.decls v.statics p there.0) (bare_made k.decls p there.0) a)
     call_adds small at (D.Inferred p) there g e =
         let o = inferred_refusal t k p in
-        let same = noted_same at o ys.after e in
-        let found = finds_from (finds_parameters (slice_get k.decls p)) (cond (t.wide p) (Some kind.TypeLimit) None) (noted_none at o ys.after e) in
+        let same = note_if_same at o ys.after e in
+        let found = finds_from (has_usable_parameters_at (slice_get k.decls p)) (cond (t.wide p) (Some kind.TypeLimit) None) (note_if_none at o ys.after e) in
         let inferable = and (is_struct k.decls p) (finds_variables (fields_of (slice_get k.decls p))) there.0 (finds (slice_get k.decls p) there.1 found) in
-        let narrow = narrow_from (finds_parameters (slice_get k.decls p)) (t.wide p) found (noted_none at o ys.after e) in
+        let narrow = narrow_from (has_usable_parameters_at (slice_get k.decls p)) (t.wide p) found (note_if_none at o ys.after e) in
         let own = got [] [] (p ∷ []) in
         let Before : Program → List View → Type 0 = λ P all. Passes v r (length s.spawns) (codes_pass P all ys.value) in
-        ends_at k s ys.after (noted at o ys.after) ns (got_in (X.Infer p ys.value)) (IsCode v r (length s.spawns) (X.Infer p ys.value)) same
+        ends_at k s ys.after (note_if at o ys.after) ns (got_in (X.Infer p ys.value)) (IsCode v r (length s.spawns) (X.Infer p ys.value)) same
         (formed k s ys.after ns (got_both own (got_codes ys.value)) (X.Infer p ys.value) Before (IsCode v r (length s.spawns) (X.Infer p ys.value))
         (got_at (V.Infer p ys.value) (X.Infer p ys.value) (X.rolls-Infer p ys.value))
-        (with_own k s ys.after ns own (got_codes ys.value) Before refl (record { types = tt; structs = (small p there.0 narrow, tt) }) (g (clean ys.after (noted at o ys.after) e same)))
+        (with_own k s ys.after ns own (got_codes ys.value) Before refl (record { types = tt; structs = (small p there.0 narrow, tt) }) (g (clean ys.after (note_if at o ys.after) e same)))
         (λ P all f a. infer_passes P all v r (length s.spawns) (length ys.after.sites) p ys.value f inferable a))
     call_adds small at D.Unknown there g e = absurd (no_note at kind.UnknownFunction ys.after e)
 
     latest_adds : (at : ℕ) (o : Option ℕ) → ((f : ℕ) → o ≡ Some f → f < length k.functions) → Given → (latest at o ys.value ys.after).after.fault ≡ None → Adds k s (latest at o ys.value ys.after).after ns (got_in (latest at o ys.value ys.after).value) (IsCode v r (length s.spawns) (latest at o ys.value ys.after).value)
     unfolding latest
-    latest_adds at (Some f) there g e = counted_adds at (X.Latest f ys.value) (got_at (V.Latest f ys.value) (X.Latest f ys.value) (X.rolls-Latest f ys.value)) g e (λ P all fit few a. latest_passes t k P all v r (length s.spawns) (length ys.after.sites) f ys.value fit (there f refl) few a)
+    latest_adds at (Some f) there g e = count_call_adds at (X.Latest f ys.value) (got_at (V.Latest f ys.value) (X.Latest f ys.value) (X.rolls-Latest f ys.value)) g e (λ P all fit few a. latest_passes t k P all v r (length s.spawns) (length ys.after.sites) f ys.value fit (there f refl) few a)
     latest_adds at None there g e = absurd (no_note at kind.UnknownFunction ys.after e)
 
   pub call_good : IsKnown k → ((p : ℕ) → is_struct k.decls p ≡ true → t.wide p ≡ false → IsSmallStruct k.decls p) → (r : Bool) (at : ℕ) (f : Callee) (nss : List (List Name)) (xs : List Reads) → Each (IsGood k r) nss xs → IsGood k r (flat_map (λ n. n) nss) (expr_step t k (F.Call at f xs))
   call_good h small r at f nss xs good c v s see e =
-      call_adds r (flat_map (λ n. n) nss) v s (all_coded xs c s) small (place_of_callee f) (called k f c) (callee_there k h f c) (all_good t k r nss xs good c v s see) e
+      call_adds r (flat_map (λ n. n) nss) v s (all_coded xs c s) small (place_of_callee f) (callee_of k f c) (callee_there k h f c) (all_good t k r nss xs good c v s see) e
 
   pub latest_good : IsKnown k → (r : Bool) (at : ℕ) (f : Callee) (nss : List (List Name)) (xs : List Reads) → Each (IsGood k r) nss xs → IsGood k r (flat_map (λ n. n) nss) (expr_step t k (F.Latest at f xs))
   latest_good h r at f nss xs good c v s see e =
@@ -315,7 +315,7 @@ module _ (t : Tests) (k : Known) where
   unfolding made
   made_adds r at None args nss xs c v s there typed good see e = absurd (no_note at kind.UnknownFunction (all_coded xs c s).after e)
   made_adds r at (Some p) args nss xs c v s there typed good see e =
-      let w = made_at t k at p args c s in
+      let w = make_at t k at p args c s in
       let ys = all_coded xs c w.after in
       let rest = all_good t k r nss xs good c v w.after see e in
       let same = made_same t k at p args c s rest.clean in
@@ -329,13 +329,13 @@ module _ (t : Tests) (k : Known) where
       (with_own k s ys.after (flat_map (λ n. n) nss) own (got_codes ys.value) Before refl (record { types = (given.allowed, tt); structs = tt }) from)
       (λ P all f a. make_passes P all v r (length s.spawns) (length ys.after.sites) w.value ys.value f given.seen given.made a)
 
-  struct_there : (l : T.TypeText-F ArgText TypeText VarText) (c : Scope) (p : ℕ) → made_struct k l c ≡ Some p → is_struct k.decls p ≡ true
+  struct_there : (l : T.TypeText-F ArgText TypeText VarText) (c : Scope) (p : ℕ) → make_struct k l c ≡ Some p → is_struct k.decls p ≡ true
   struct_there (T.Name at name) c p e = named_struct k name c p e
   struct_there (T.Applied at name args) c p e = named_struct k name c p e
   struct_there (T.Paren at ty vs) c p e = absurd (no_number p e)
 
   pub make_good :
-      (r : Bool) (at : ℕ) (ty : TypeText) (nss : List (List Name)) (xs : List Reads) → AreGoodArgs k t (made_args (out-TypeText ty)) → Each (IsGood k r) nss xs
+      (r : Bool) (at : ℕ) (ty : TypeText) (nss : List (List Name)) (xs : List Reads) → AreGoodArgs k t (make_args (out-TypeText ty)) → Each (IsGood k r) nss xs
       → IsGood k r (flat_map (λ n. n) nss) (expr_step t k (F.Make at ty xs))
   make_good r at ty nss xs typed good c v s see e =
-      made_adds r (begins ty) (made_struct k (out-TypeText ty) c) (made_args (out-TypeText ty)) nss xs c v s (struct_there (out-TypeText ty) c) typed good see e
+      made_adds r (start_of ty) (make_struct k (out-TypeText ty) c) (make_args (out-TypeText ty)) nss xs c v s (struct_there (out-TypeText ty) c) typed good see e

@@ -22,8 +22,8 @@ use Rattle.jl_resolve_forms.specs.declared.known.Known.{Known}
 use Rattle.jl_resolve_forms.specs.declared.state.Scope.{Scope}
 use Rattle.jl_resolve_forms.specs.declared.state.State.{State}
 use Rattle.jl_resolve_forms.specs.Defined.{own_name}
-use Rattle.jl_resolve_forms.specs.Expressions.{Reads, Defines, Says, binds, returns, does, Evaluates, defines, evaluates, Shows, writes, shows, Tries, signed, static_parameters}
-use Rattle.jl_resolve_forms.specs.TypesIn.{Tests, body_written, made_at}
+use Rattle.jl_resolve_forms.specs.Expressions.{Reads, Defines, Says, binds, returns, does, Evaluates, defines, evaluates, Shows, writes, shows, Tries, method_signature, static_parameters}
+use Rattle.jl_resolve_forms.specs.TypesIn.{Tests, type_in_body, make_at}
 use Rattle.jl_valid.specs.Adds.{no_got, got_in, Every, Adds}
 
 -- a name that may stand in a text
@@ -99,29 +99,29 @@ module _ (k : Known) where
   module _ (t : Tests) where
     -- a type in a body: it is allowed, and names what is visible
     pub record IsWrittenIn (c : Scope) (v : View) (text : TypeText) (s : State) : Type 0 where
-      pub seen : IsTrue (is_seen k.decls v.statics (body_written t k text c s).value)
-      pub allowed : IsAllowedType k.decls (body_written t k text c s).value
+      pub seen : IsTrue (is_seen k.decls v.statics (type_in_body t k text c s).value)
+      pub allowed : IsAllowedType k.decls (type_in_body t k text c s).value
 
     abbrev pub IsGoodType : TypeText → Type 0
-    IsGoodType text = (c : Scope) (v : View) (s : State) → Sees c v → (body_written t k text c s).after.fault ≡ None → IsWrittenIn c v text s
+    IsGoodType text = (c : Scope) (v : View) (s : State) → Sees c v → (type_in_body t k text c s).after.fault ≡ None → IsWrittenIn c v text s
 
     -- the arguments in the braces of an explicit constructor
     pub record IsMadeOf (c : Scope) (v : View) (at p : ℕ) (args : List ArgText) (s : State) : Type 0 where
-      pub seen : IsTrue (is_seen k.decls v.statics (made_at t k at p args c s).value)
-      pub made : IsTrue (is_made k.decls (made_at t k at p args c s).value)
-      pub allowed : IsAllowedType k.decls (made_at t k at p args c s).value
+      pub seen : IsTrue (is_seen k.decls v.statics (make_at t k at p args c s).value)
+      pub made : IsTrue (is_made k.decls (make_at t k at p args c s).value)
+      pub allowed : IsAllowedType k.decls (make_at t k at p args c s).value
 
     abbrev pub AreGoodArgs : List ArgText → Type 0
-    AreGoodArgs args = (at p : ℕ) (c : Scope) (v : View) (s : State) → Sees c v → IsTrue (is_struct k.decls p) → (made_at t k at p args c s).after.fault ≡ None → IsMadeOf c v at p args s
+    AreGoodArgs args = (at p : ℕ) (c : Scope) (v : View) (s : State) → Sees c v → IsTrue (is_struct k.decls p) → (make_at t k at p args c s).after.fault ≡ None → IsMadeOf c v at p args s
 
     -- the head of a method
     pub record IsSignedBy (types : ℕ) (h : Head) : Type 0 where
-      pub valid : IsValidSig k.decls (signed t k types h).sig
-      pub statics : Every (IsFlagged (flags_of (signed t k types h).sig)) (static_parameters (signed t k types h).sig (signed t k types h).vars)
+      pub valid : IsValidSig k.decls (method_signature t k types h).sig
+      pub statics : Every (IsFlagged (flags_of (method_signature t k types h).sig)) (static_parameters (method_signature t k types h).sig (method_signature t k types h).vars)
 
     pub record IsGoodHead (h : Head) : Type 0 where
       pub name : Every IsGoodName (own_name h.callee)
-      pub signed_by : (types : ℕ) → (signed t k types h).fault ≡ None → (signed t k types h).refusal ≡ None → IsSignedBy types h
+      pub signed_by : (types : ℕ) → (method_signature t k types h).fault ≡ None → (method_signature t k types h).refusal ≡ None → IsSignedBy types h
 
 -- what is true of what is known of a script
 pub record IsKnown (k : Known) : Type 0 where

@@ -11,7 +11,7 @@ ghost use Rattle.jl_written.specs.declared.fault.Fault.{Fault};
 ghost use Rattle.jl_resolve_forms.specs.declared.known.Known.{Known};
 ghost use Rattle.jl_resolve_forms.specs.Defined.{in_expr, in_method};
 ghost use Rattle.jl_resolve_forms.specs.Expressions.{expr_reads, method_reads};
-ghost use Rattle.jl_resolve_forms.specs.Top.{resolved};
+ghost use Rattle.jl_resolve_forms.specs.Top.{resolve};
 ghost use Rattle.jl_resolve_forms.specs.TypesIn.{Tests};
 ghost use Rattle.jl_valid.specs.Asked.{IsKnownOf, AreTold};
 ghost use Rattle.jl_valid.specs.Parts.{IsGood, IsGoodMethod, IsKnown};
@@ -22,7 +22,7 @@ ghost use Rattle.jl_valid.specs.TypeLaws.{TypeLaws};
 #[tactic(none)]
 pub fn law_valid()
     ensures { (t : Tests) (k : Known) (items : List Item) (f : Option Fault) → FormedItems items → IsKnownOf items k → AreTold k.decls t
-        → (resolved t k items f).fault ≡ None → IsValid (resolved t k items f).program }
+        → (resolve t k items f).fault ≡ None → IsValid (resolve t k items f).program }
 {}
 
 /// What a well-formed expression becomes is valid where it stands, and so are the sites and the spawn places in it, and the names
@@ -47,5 +47,5 @@ pub fn law_types()
 /// A fault stays: a program without one begins without one.
 #[tactic(none)]
 pub fn law_faults_stay()
-    ensures { (t : Tests) (k : Known) (items : List Item) (f : Option Fault) → FormedItems items → (resolved t k items f).fault ≡ None → f ≡ None }
+    ensures { (t : Tests) (k : Known) (items : List Item) (f : Option Fault) → FormedItems items → (resolve t k items f).fault ≡ None → f ≡ None }
 {}

@@ -5,17 +5,17 @@ use Rattle.jl_model.specs.declared.ty.Bound.{Bound}
 use Rattle.jl_model.proofs.FormLemmas.{put-any, put-union, put-tuple, put-nominal, put-var}
 use Rattle.jl_written.specs.declared.reading.Swap.{Swap}
 use Rattle.jl_written.specs.Reads.{Types, Typed}
-use Rattle.jl_written.specs.TextOrder.{moved, is_in, moved_from, counted_from, number_in, renumbered_bound, arranged, ordered_by, one_ordered_by}
+use Rattle.jl_written.specs.TextOrder.{move_place, is_in, move_places, count_from, number_in, renumber_bound, arrange, reorder_types, reorder_type}
 
 pub ruleset puts = (put-any, put-union, put-tuple, put-nominal, put-var)
 
 -- ---- where nothing changes places
 
-pub nothing_ordered : (ss : List Swap) (ts : Types) → length ss ≡ 0 → ordered_by ss ts ≡ ts
+pub nothing_ordered : (ss : List Swap) (ts : Types) → length ss ≡ 0 → reorder_types ss ts ≡ ts
 nothing_ordered [] ts h = refl
 nothing_ordered (s ∷ ss) ts h = absurd (omega (arith, h))
 
-pub nothing_one : (ss : List Swap) (t : Typed) → length ss ≡ 0 → one_ordered_by ss t ≡ t
+pub nothing_one : (ss : List Swap) (t : Typed) → length ss ≡ 0 → reorder_type ss t ≡ t
 nothing_one [] t h = refl
 nothing_one (s ∷ ss) t h = absurd (omega (arith, h))
 
@@ -23,7 +23,7 @@ nothing_one (s ∷ ss) t h = absurd (omega (arith, h))
 
 abbrev pub moved_to : Swap → ℕ → ℕ → List ℕ → List ℕ
 moved_to s e v [] = []
-moved_to s e v (p ∷ ps) = cond (is_in s v && nat_lt v e) (moved s p) p ∷ moved_to s e (v + 1) ps
+moved_to s e v (p ∷ ps) = cond (is_in s v && nat_lt v e) (move_place s p) p ∷ moved_to s e (v + 1) ps
 
 both : (a b c : Bool) (x y : ℕ) → (a ≡ true → b ≡ c) → cond (a && b) x y ≡ cond (a && c) x y
 both true b c x y h = ap (λ z. cond z x y) (h refl)
@@ -43,7 +43,7 @@ lt_true v e h = grind (arith, h)
 past : (s : Swap) (e v : ℕ) (ps : List ℕ) → e ≤ v → moved_to s e v ps ≡ ps
 past s e v [] h = refl
 past s e v (p ∷ ps) h =
-    let x = neither (is_in s v) (nat_lt v e) (moved s p) p (lt_false v e h) in
+    let x = neither (is_in s v) (nat_lt v e) (move_place s p) p (lt_false v e h) in
     let y = past s e (v + 1) ps (omega (arith, h)) in cc
 
 not_before : (a b : Bool) (x y : ℕ) → cond ((not a && b) && a) x y ≡ y
@@ -55,7 +55,7 @@ not_before false false x y = refl
 pub at_start : (s : Swap) (v : ℕ) (ps : List ℕ) → moved_to s s.start v ps ≡ ps
 at_start s v [] = refl
 at_start s v (p ∷ ps) =
-    let x = not_before (nat_lt v s.start) (nat_lt v s.stop) (moved s p) p in
+    let x = not_before (nat_lt v s.start) (nat_lt v s.stop) (move_place s p) p in
     let y = at_start s (v + 1) ps in cc
 
 inside : (s : Swap) (v : ℕ) → s.start ≤ v → v < s.stop → is_in s v ≡ true
@@ -70,22 +70,22 @@ holds true b x y h g = ap (λ z. cond z x y) g
 holds false b x y h g = cc
 
 -- one more is done
-pub one_moved : (s : Swap) (e v i : ℕ) (d : ℕ) (ps : List ℕ) → e ≡ v + i → s.start ≤ e → e < s.stop → i < length ps
-    → slice_set (moved_to s e v ps) i (moved s (get_or (moved_to s e v ps) i d)) ≡ moved_to s (suc e) v ps
-one_moved s e v i d [] h a b l = absurd (omega (arith, l))
-one_moved s e v zero d (p ∷ ps) h a b l =
+pub one_move_place : (s : Swap) (e v i : ℕ) (d : ℕ) (ps : List ℕ) → e ≡ v + i → s.start ≤ e → e < s.stop → i < length ps
+    → slice_set (moved_to s e v ps) i (move_place s (get_or (moved_to s e v ps) i d)) ≡ moved_to s (suc e) v ps
+one_move_place s e v i d [] h a b l = absurd (omega (arith, l))
+one_move_place s e v zero d (p ∷ ps) h a b l =
     let f : e ≤ v = omega (arith, h) in
     let g : v ≤ e = omega (arith, h) in
-    let x = neither (is_in s v) (nat_lt v e) (moved s p) p (lt_false v e f) in
+    let x = neither (is_in s v) (nat_lt v e) (move_place s p) p (lt_false v e f) in
     let y = past s e (v + 1) ps (omega (arith, h)) in
-    let z = holds (is_in s v) (nat_lt v (suc e)) (moved s p) p (inside s v (omega (arith, a, f)) (omega (arith, b, g))) (lt_true v (suc e) (omega (arith, g))) in
+    let z = holds (is_in s v) (nat_lt v (suc e)) (move_place s p) p (inside s v (omega (arith, a, f)) (omega (arith, b, g))) (lt_true v (suc e) (omega (arith, g))) in
     let w = past s (suc e) (v + 1) ps (omega (arith, h)) in
-    ap (λ q. moved s q ∷ moved_to s e (v + 1) ps) x ∙ ap (λ qs. moved s p ∷ qs) (y ∙ sym w) ∙ ap (λ q. q ∷ moved_to s (suc e) (v + 1) ps) (sym z)
-one_moved s e v (suc i) d (p ∷ ps) h a b l =
-    let x = both (is_in s v) (nat_lt v e) (nat_lt v (suc e)) (moved s p) p (λ t. lt_true v e (omega (arith, h)) ∙ sym (lt_true v (suc e) (omega (arith, h)))) in
-    let y = one_moved s e (v + 1) i d ps (omega (arith, h)) a b (omega (arith, l)) in
-    ap (λ q. q ∷ slice_set (moved_to s e (v + 1) ps) i (moved s (get_or (moved_to s e (v + 1) ps) i d))) x
-    ∙ ap (λ qs. cond (is_in s v && nat_lt v (suc e)) (moved s p) p ∷ qs) y
+    ap (λ q. move_place s q ∷ moved_to s e (v + 1) ps) x ∙ ap (λ qs. move_place s p ∷ qs) (y ∙ sym w) ∙ ap (λ q. q ∷ moved_to s (suc e) (v + 1) ps) (sym z)
+one_move_place s e v (suc i) d (p ∷ ps) h a b l =
+    let x = both (is_in s v) (nat_lt v e) (nat_lt v (suc e)) (move_place s p) p (λ t. lt_true v e (omega (arith, h)) ∙ sym (lt_true v (suc e) (omega (arith, h)))) in
+    let y = one_move_place s e (v + 1) i d ps (omega (arith, h)) a b (omega (arith, l)) in
+    ap (λ q. q ∷ slice_set (moved_to s e (v + 1) ps) i (move_place s (get_or (moved_to s e (v + 1) ps) i d))) x
+    ∙ ap (λ qs. cond (is_in s v && nat_lt v (suc e)) (move_place s p) p ∷ qs) y
 
 also : (a b : Bool) (x y : ℕ) → (a ≡ true → b ≡ true) → cond (a && b) x y ≡ cond a x y
 also true b x y h = ap (λ z. cond z x y) (h refl)
@@ -96,10 +96,10 @@ below_stop true v e h = absurd (let f : false ≡ true = h in cc)
 below_stop false v e h = grind (arith, h)
 
 -- all are done
-pub all_done : (s : Swap) (e v : ℕ) (ps : List ℕ) → ((w : ℕ) → w < v + length ps → w < s.stop → w < e) → moved_to s e v ps ≡ moved_from s v ps
+pub all_done : (s : Swap) (e v : ℕ) (ps : List ℕ) → ((w : ℕ) → w < v + length ps → w < s.stop → w < e) → moved_to s e v ps ≡ move_places s v ps
 all_done s e v [] h = refl
 all_done s e v (p ∷ ps) h =
-    let x = also (is_in s v) (nat_lt v e) (moved s p) p (λ t. lt_true v e (h v (omega arith) (below_stop (nat_lt v s.start) v s.stop t))) in
+    let x = also (is_in s v) (nat_lt v e) (move_place s p) p (λ t. lt_true v e (h v (omega arith) (below_stop (nat_lt v s.start) v s.stop t))) in
     let y = all_done s e (v + 1) ps (λ w l g. h w (omega (arith, l)) g) in cc
 
 pub moved_length : (s : Swap) (e v : ℕ) (ps : List ℕ) → length (moved_to s e v ps) ≡ length ps
@@ -110,22 +110,22 @@ moved_length s e v (p ∷ ps) = ap suc (moved_length s e (v + 1) ps)
 abbrev pub IsMovedTo : Swap → ℕ → List ℕ → List ℕ → Type 0
 IsMovedTo s e ps init = (ps ≡ moved_to s e 0 init) × (s.start ≤ e)
 
-pub move_step : (s : Swap) (init ps : List ℕ) (e x y stop : ℕ) → IsMovedTo s e ps init → e < stop → stop ≡ min s.stop (length init) → x ≡ get_or ps e x → y ≡ moved s x
+pub move_step : (s : Swap) (init ps : List ℕ) (e x y stop : ℕ) → IsMovedTo s e ps init → e < stop → stop ≡ min s.stop (length init) → x ≡ get_or ps e x → y ≡ move_place s x
     → IsMovedTo s (e + 1) (slice_set ps e y) init
 move_step s init ps e x y stop i l m h g =
     let f = i.1 in
     let a = min-le_left s.stop (length init) in
     let b = min-le_right s.stop (length init) in
-    let one = one_moved s e 0 e x init (omega arith) f (omega (arith, l, m, a)) (omega (arith, l, m, b)) in
+    let one = one_move_place s e 0 e x init (omega arith) f (omega (arith, l, m, a)) (omega (arith, l, m, b)) in
     let next : suc e ≡ e + 1 = omega arith in (
-      ap (λ n. slice_set ps e n) (g ∙ ap (moved s) h)
-          ∙ ap (λ zs. slice_set zs e (moved s (get_or zs e x))) i.0
+      ap (λ n. slice_set ps e n) (g ∙ ap (move_place s) h)
+          ∙ ap (λ zs. slice_set zs e (move_place s (get_or zs e x))) i.0
           ∙ one
           ∙ ap (λ n. moved_to s n 0 init) next,
       omega (arith, f),
     )
 
-pub move_end : (s : Swap) (init ps : List ℕ) (e stop : ℕ) → IsMovedTo s e ps init → stop ≤ e → stop ≡ min s.stop (length init) → ps ≡ moved_from s 0 init
+pub move_end : (s : Swap) (init ps : List ℕ) (e stop : ℕ) → IsMovedTo s e ps init → stop ≤ e → stop ≡ min s.stop (length init) → ps ≡ move_places s 0 init
 move_end s init ps e stop i l m = i.0 ∙ all_done s e 0 init (λ w a b. within w a b)
   where
     within : (w : ℕ) → w < 0 + length init → w < s.stop → w < e
@@ -137,29 +137,29 @@ move_end s init ps e stop i l m = i.0 ∙ all_done s e 0 init (λ w a b. within 
 
 -- ---- loops by index
 
-counted_at : (bs : List Bound) (i v k : ℕ) → i < length bs → k ≡ suc i → counted_from v (drop i bs) ≡ v ∷ counted_from (v + 1) (drop k bs)
+counted_at : (bs : List Bound) (i v k : ℕ) → i < length bs → k ≡ suc i → count_from v (drop i bs) ≡ v ∷ count_from (v + 1) (drop k bs)
 counted_at [] i v k h e = absurd (omega (arith, h))
 counted_at (b ∷ bs) i v zero h e = absurd (omega (arith, e))
 counted_at (b ∷ bs) zero v (suc k) h e = let f : k ≡ 0 = omega (arith, e) in rw f refl
 counted_at (b ∷ bs) (suc i) v (suc k) h e = counted_at bs i v k (omega (arith, h)) (omega (arith, e))
 
-pub one_counted : (bs : List Bound) (i : ℕ) → i < length bs → counted_from i (drop i bs) ≡ i ∷ counted_from (i + 1) (drop (i + 1) bs)
+pub one_counted : (bs : List Bound) (i : ℕ) → i < length bs → count_from i (drop i bs) ≡ i ∷ count_from (i + 1) (drop (i + 1) bs)
 one_counted bs i h = counted_at bs i i (i + 1) h (omega arith)
 
 -- one more variable has its place
-pub one_more_place : (bs : List Bound) (ps qs : List ℕ) (i v : ℕ) → ps ++ counted_from i (drop i bs) ≡ counted_from 0 bs → i < length bs → v ≡ i → qs ≡ ps ++ v ∷ []
-    → qs ++ counted_from (i + 1) (drop (i + 1) bs) ≡ counted_from 0 bs
+pub one_more_place : (bs : List Bound) (ps qs : List ℕ) (i v : ℕ) → ps ++ count_from i (drop i bs) ≡ count_from 0 bs → i < length bs → v ≡ i → qs ≡ ps ++ v ∷ []
+    → qs ++ count_from (i + 1) (drop (i + 1) bs) ≡ count_from 0 bs
 one_more_place bs ps qs i v h l e f =
-    let rest = counted_from (i + 1) (drop (i + 1) bs) in
+    let rest = count_from (i + 1) (drop (i + 1) bs) in
     ap (λ zs. zs ++ rest) f ∙ ap (λ n. (ps ++ n ∷ []) ++ rest) e ∙ append_assoc ps (i ∷ []) rest ∙ ap (λ zs. ps ++ zs) (sym (one_counted bs i l)) ∙ h
 
-arranged_at : (ps : List ℕ) (bs done : List Bound) (i v k : ℕ) (d : Bound) → i < length bs → k ≡ suc i
-    → arranged ps v (drop i bs) done ≡ arranged ps (v + 1) (drop k bs) (slice_set done (number_in ps v) (renumbered_bound ps (get_or bs i d)))
-arranged_at ps [] done i v k d h e = absurd (omega (arith, h))
-arranged_at ps (b ∷ bs) done i v zero d h e = absurd (omega (arith, e))
-arranged_at ps (b ∷ bs) done zero v (suc k) d h e = let f : k ≡ 0 = omega (arith, e) in rw f refl
-arranged_at ps (b ∷ bs) done (suc i) v (suc k) d h e = arranged_at ps bs done i v k d (omega (arith, h)) (omega (arith, e))
+arrange_at : (ps : List ℕ) (bs done : List Bound) (i v k : ℕ) (d : Bound) → i < length bs → k ≡ suc i
+    → arrange ps v (drop i bs) done ≡ arrange ps (v + 1) (drop k bs) (slice_set done (number_in ps v) (renumber_bound ps (get_or bs i d)))
+arrange_at ps [] done i v k d h e = absurd (omega (arith, h))
+arrange_at ps (b ∷ bs) done i v zero d h e = absurd (omega (arith, e))
+arrange_at ps (b ∷ bs) done zero v (suc k) d h e = let f : k ≡ 0 = omega (arith, e) in rw f refl
+arrange_at ps (b ∷ bs) done (suc i) v (suc k) d h e = arrange_at ps bs done i v k d (omega (arith, h)) (omega (arith, e))
 
-pub one_arranged : (ps : List ℕ) (bs done : List Bound) (i : ℕ) (d : Bound) → i < length bs
-    → arranged ps i (drop i bs) done ≡ arranged ps (i + 1) (drop (i + 1) bs) (slice_set done (number_in ps i) (renumbered_bound ps (get_or bs i d)))
-one_arranged ps bs done i d h = arranged_at ps bs done i i (i + 1) d h (omega arith)
+pub one_arrange : (ps : List ℕ) (bs done : List Bound) (i : ℕ) (d : Bound) → i < length bs
+    → arrange ps i (drop i bs) done ≡ arrange ps (i + 1) (drop (i + 1) bs) (slice_set done (number_in ps i) (renumber_bound ps (get_or bs i d)))
+one_arrange ps bs done i d h = arrange_at ps bs done i i (i + 1) d h (omega arith)

@@ -13,16 +13,16 @@ use Rattle.jl_typeread.specs.declared.tree.VarText.{VarText}
 use Rattle.jl_typeread.specs.declared.tree.ArgText.TheViews as A
 use Rattle.jl_typeread.specs.declared.tree.ArgText.TheOpen as F
 use Rattle.jl_typeread.specs.declared.tree.ArgText.TheFolds.{fold-roll-TypeText}
-use Rattle.jl_written.specs.Reads.{arg_step, type_step, var_step, ArgReads, type_reads, var_reads, TypeReads, VarReads, Typed, Scoped, typed, scoped, bound_name, bind, bind_all, guarded, where_at, swapped, within}
+use Rattle.jl_written.specs.Reads.{arg_step, type_step, var_step, ArgReads, type_reads, var_reads, TypeReads, VarReads, Typed, Scoped, typed, scoped, bind_name, bind, bind_all, note_builtin, bind_where, swap, within}
 
-one_more : (at : ℕ) (name : List ℕ) (b : Bound) (vars : List TypeVar) (r : Reading) (o : Option TypeVar) → (more : List TypeVar) × ((bound_name at name b vars r o).vars ≡ vars ++ more)
+one_more : (at : ℕ) (name : List ℕ) (b : Bound) (vars : List TypeVar) (r : Reading) (o : Option TypeVar) → (more : List TypeVar) × ((bind_name at name b vars r o).vars ≡ vars ++ more)
 one_more at name b vars r o = (_, refl)
 
 more_of : (vs : List VarReads) (vars : List TypeVar) (inside : Bool) (r : Reading) → (more : List TypeVar) × ((bind_all vs vars inside r).vars ≡ vars ++ more)
 more_of [] vars inside r = ([], sym (append-nil vars))
 more_of (v ∷ vs) vars inside r =
     let b = v.bounds vars inside r in
-    let one = one_more v.at v.name b.bound vars (guarded v.at v.name b.after) (var_of vars v.name) in
+    let one = one_more v.at v.name b.bound vars (note_builtin v.at v.name b.after) (var_of vars v.name) in
     let s = bind v vars inside r in
     let rest = more_of vs s.vars inside s.after in
     (one.0 ++ rest.0, rest.1 ∙ ap (λ x. x ++ rest.0) one.1 ∙ append_assoc vars one.0 rest.0)
@@ -31,13 +31,13 @@ more_of (v ∷ vs) vars inside r =
 pub within_steps :
     (t : TypeReads) (vs : List VarReads) (vars vars1 : List TypeVar) (inside : Bool) (r r1 r2 r3 r4 : Reading) (ty : Ty) (start middle : ℕ)
     → start ≡ length r.vars → middle ≡ length r2.vars
-    → r1 ≡ where_at vs inside r → scoped vars1 r2 ≡ bind_all vs vars inside r1 → typed ty r3 ≡ t vars1 inside r2 → r4 ≡ swapped start middle r3
+    → r1 ≡ bind_where vs inside r → scoped vars1 r2 ≡ bind_all vs vars inside r1 → typed ty r3 ≡ t vars1 inside r2 → r4 ≡ swap start middle r3
     → typed ty r4 ≡ within t vs vars inside r
 within_steps t vs vars vars1 inside r r1 r2 r3 r4 ty start middle f g w b e s =
     let read = b ∙ ap (bind_all vs vars inside) w in
-    ap (typed ty) (s ∙ ap (λ n. swapped n middle r3) f ∙ ap (λ n. swapped (length r.vars) n r3) g)
-    ∙ ap (λ (z : Typed). typed z.ty (swapped (length r.vars) (length r2.vars) z.after)) e
-    ∙ ap (λ (z : Scoped). let u = t z.vars inside z.after in typed u.ty (swapped (length r.vars) (length z.after.vars) u.after)) read
+    ap (typed ty) (s ∙ ap (λ n. swap n middle r3) f ∙ ap (λ n. swap (length r.vars) n r3) g)
+    ∙ ap (λ (z : Typed). typed z.ty (swap (length r.vars) (length r2.vars) z.after)) e
+    ∙ ap (λ (z : Scoped). let u = t z.vars inside z.after in typed u.ty (swap (length r.vars) (length z.after.vars) u.after)) read
 
 -- cut to their number, the variables behind it are those of before
 pub within_kept :
@@ -58,10 +58,10 @@ paren_is ds at t vs vars inside r =
 pub paren_read :
     (ds : List Decl) (text t t1 : TypeText) (at : ℕ) (vs vs1 vs2 : List VarText) (vars vars1 : List TypeVar) (inside : Bool) (r r1 r2 r3 r4 : Reading) (ty : Ty) (start middle : ℕ)
     → text ≡ A.Paren at t vs → t1 ≡ t → vs1 ≡ vs → vs2 ≡ vs → start ≡ length r.vars → middle ≡ length r2.vars
-    → r1 ≡ where_at (map (var_reads ds) vs1) inside r → scoped vars1 r2 ≡ bind_all (map (var_reads ds) vs2) vars inside r1 → typed ty r3 ≡ type_reads ds t1 vars1 inside r2
-    → r4 ≡ swapped start middle r3 → typed ty r4 ≡ type_reads ds text vars inside r
+    → r1 ≡ bind_where (map (var_reads ds) vs1) inside r → scoped vars1 r2 ≡ bind_all (map (var_reads ds) vs2) vars inside r1 → typed ty r3 ≡ type_reads ds t1 vars1 inside r2
+    → r4 ≡ swap start middle r3 → typed ty r4 ≡ type_reads ds text vars inside r
 paren_read ds text t t1 at vs vs1 vs2 vars vars1 inside r r1 r2 r3 r4 ty start middle i g e1 e2 l m w b e s =
-    let w1 = w ∙ ap (λ (z : List VarText). where_at (map (var_reads ds) z) inside r) e1 in
+    let w1 = w ∙ ap (λ (z : List VarText). bind_where (map (var_reads ds) z) inside r) e1 in
     let b1 = b ∙ ap (λ (z : List VarText). bind_all (map (var_reads ds) z) vars inside r1) e2 in
     let e3 = e ∙ ap (λ (z : TypeText). type_reads ds z vars1 inside r2) g in
     within_steps (type_reads ds t) (map (var_reads ds) vs) vars vars1 inside r r1 r2 r3 r4 ty start middle l m w1 b1 e3 s

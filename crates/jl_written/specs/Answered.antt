@@ -1,5 +1,5 @@
 -- Which of several static faults is answered: the one at the least place, of several there the one with the least number.
-use Rattle.std.specs.Prelude.{ℕ, Bool, ◌||◌, ◌&&◌, nat_lt, nat_eq, cond, Option, Some, None}
+use Rattle.std.specs.Prelude.{ℕ, Bool, ◌||◌, ◌&&◌, nat_lt, nat_eq, if◌then◌else◌, Option, Some, None}
 use Rattle.jl_written.specs.declared.fault.Fault.{Fault}
 use Rattle.jl_written.specs.declared.fault.StaticKind.{StaticKind}
 use Rattle.jl_written.specs.declared.fault.StaticKind.TheVariants as kind
@@ -33,4 +33,4 @@ comes_before f g = nat_lt f.at g.at || (nat_eq f.at g.at && nat_lt (number_of f.
 -- the first of a fault that stands already, if one does, and a further one
 abbrev pub first_of : Option Fault → Fault → Option Fault
 first_of None f = Some f
-first_of (Some g) f = cond (comes_before f g) (Some f) (Some g)
+first_of (Some g) f = if comes_before f g then Some f else Some g

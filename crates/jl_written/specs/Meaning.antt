@@ -1,5 +1,5 @@
 -- What a name means where a type must stand. The declared types before the place are ds, the built-in ones first.
-use Rattle.std.specs.Prelude.{ℕ, ◌+◌, cond, codes, List, [], ◌∷◌, map, Option, Some, None}
+use Rattle.std.specs.Prelude.{ℕ, ◌+◌, if◌then◌else◌, codes, List, [], ◌∷◌, map, Option, Some, None}
 use Rattle.jl_model.specs.declared.builtin.TheConstants.{INT64}
 use Rattle.jl_model.specs.declared.ty.Decl.{Decl}
 use Rattle.jl_program.specs.Names.{same_text}
@@ -10,7 +10,7 @@ use Rattle.jl_written.specs.declared.reading.TypeVar.{TypeVar}
 -- the place of a name in a list of names whose first has number i, the first of several
 abbrev pub place_from : ℕ → List (List ℕ) → List ℕ → Option ℕ
 place_from i [] name = None
-place_from i (n ∷ ns) name = cond (same_text name n) (Some i) (place_from (i + 1) ns name)
+place_from i (n ∷ ns) name = if same_text name n then Some i else place_from (i + 1) ns name
 
 abbrev pub place_of : List (List ℕ) → List ℕ → Option ℕ
 place_of names name = place_from 0 names name
@@ -26,7 +26,7 @@ later o (Some v) = Some v
 -- the visible type variable of a name, the last of several
 abbrev pub var_of : List TypeVar → List ℕ → Option TypeVar
 var_of [] name = None
-var_of (v ∷ vs) name = later (cond (same_text name v.name) (Some v) None) (var_of vs name)
+var_of (v ∷ vs) name = later (if same_text name v.name then Some v else None) (var_of vs name)
 
 -- the declared type of a name
 abbrev pub nominal_of : Option ℕ → Named
@@ -36,15 +36,16 @@ nominal_of (Some k) = Nominal k
 -- `Int` is `Int64`
 abbrev pub word_of : List Decl → List ℕ → Named
 word_of ds name =
-    cond (same_text name (codes "Any")) Any
-    (cond (same_text name (codes "Union")) Union
-    (cond (same_text name (codes "Tuple")) Tuple
-    (cond (same_text name (codes "Int")) (Nominal INT64) (nominal_of (place_of (map (λ (d : Decl). d.name) ds) name)))))
+    if same_text name (codes "Any") then Any
+    else if same_text name (codes "Union") then Union
+    else if same_text name (codes "Tuple") then Tuple
+    else if same_text name (codes "Int") then Nominal INT64
+    else nominal_of (place_of (map (λ (d : Decl). d.name) ds) name)
 
 abbrev pub var_or : Option TypeVar → Named → Named
 var_or None n = n
 var_or (Some v) n = Variable v.number v.usable
 
 -- a visible type variable hides a declared type of its name
-abbrev pub named : List Decl → List TypeVar → List ℕ → Named
-named ds vars name = var_or (var_of vars name) (word_of ds name)
+abbrev pub meaning_of : List Decl → List TypeVar → List ℕ → Named
+meaning_of ds vars name = var_or (var_of vars name) (word_of ds name)

@@ -2,7 +2,7 @@
 -- Types). A type, an argument and a variable are read from left to right, the variables of a `where` before the type in front
 -- of it, which names them: each gives what it means, and what is known behind it. A variable has the number of those that were
 -- read before it; `TextOrder` gives it the one that it has in the text.
-use Rattle.std.specs.Prelude.{ℕ, Bool, true, false, ◌||◌, ◌&&◌, cond, nat_lt, List, [], ◌∷◌, ◌++◌, length, drop, Option, Some, None, slice_get}
+use Rattle.std.specs.Prelude.{ℕ, Bool, true, false, ◌||◌, ◌&&◌, if◌then◌else◌, nat_lt, List, [], ◌∷◌, ◌++◌, length, drop, Option, Some, None, slice_get}
 use Rattle.jl_model.specs.declared.ty.Ty.{Ty, out-Ty}
 use Rattle.jl_model.specs.declared.ty.Ty.TheOpen.{Ty-F}
 use Rattle.jl_model.specs.declared.ty.Ty.TheOpen as L
@@ -26,7 +26,7 @@ use Rattle.jl_written.specs.declared.reading.Named.TheVariants as N
 use Rattle.jl_written.specs.declared.reading.Reading.{Reading}
 use Rattle.jl_written.specs.declared.reading.TypeVar.{TypeVar}
 use Rattle.jl_written.specs.Answered.{first_of}
-use Rattle.jl_written.specs.Meaning.{var_of, named}
+use Rattle.jl_written.specs.Meaning.{var_of, meaning_of}
 
 -- ---- what is known, and one step of it
 
@@ -55,49 +55,49 @@ abbrev pub scoped : List TypeVar → Reading → Scoped
 scoped vs r = record { vars = vs; after = r }
 
 -- types behind others
-abbrev pub behind : List Ty → Types → Types
-behind us ts = record { tys = us ++ ts.tys; after = ts.after }
+abbrev pub prepend_types : List Ty → Types → Types
+prepend_types us ts = record { tys = us ++ ts.tys; after = ts.after }
 
 -- nothing is known yet
-abbrev pub unread : Reading
-unread = record { vars = []; places = []; swaps = []; fault = None; unknown = false; unclear = false; misplaced = false }
+abbrev pub no_reading : Reading
+no_reading = record { vars = []; places = []; swaps = []; fault = None; unknown = false; unclear = false; misplaced = false }
 
 -- a fault stands at this place
 abbrev pub note : ℕ → StaticKind → Reading → Reading
 note at k r = record r { fault = first_of r.fault (record { at = at; kind = k }) }
 
 -- a name that means no type: the text is no type, and `Any` stands for it
-abbrev pub unknown : ℕ → Reading → Typed
-unknown at r = record { ty = W.Any; after = record (note at kind.UnknownType r) { unknown = true; unclear = true } }
+abbrev pub note_unknown : ℕ → Reading → Typed
+note_unknown at r = record { ty = W.Any; after = record (note at kind.UnknownType r) { unknown = true; unclear = true } }
 
 -- a variable of the signature that no body may use
-abbrev pub used : ℕ → Bool → Reading → Reading
-used at usable r = cond usable r (note at kind.StaticParameterUse r)
+abbrev pub note_use : ℕ → Bool → Reading → Reading
+note_use at usable r = if usable then r else note at kind.StaticParameterUse r
 
 -- a variable is brought at a place that is `inside` an argument of a nominal type, or not
-abbrev pub brought : Bool → Reading → Reading
-brought inside r = record r { misplaced = r.misplaced || inside }
+abbrev pub note_brought : Bool → Reading → Reading
+note_brought inside r = record r { misplaced = r.misplaced || inside }
 
 -- a variable without a name, with these bounds
-abbrev pub fresh : Bound → Bool → Reading → Typed
-fresh b inside r = record { ty = W.Var (length r.vars); after = record (brought inside r) { vars = r.vars ++ b ∷ [] } }
+abbrev pub fresh_variable : Bound → Bool → Reading → Typed
+fresh_variable b inside r = record { ty = W.Var (length r.vars); after = record (note_brought inside r) { vars = r.vars ++ b ∷ [] } }
 
 -- the arguments that are missing: fresh variables with the declared bounds
-abbrev pub missing : List Bound → Bool → Reading → Types
-missing [] inside r = record { tys = []; after = r }
-missing (b ∷ bs) inside r =
-    let t = fresh b inside r in
-    let ts = missing bs inside t.after in
+abbrev pub missing_arguments : List Bound → Bool → Reading → Types
+missing_arguments [] inside r = record { tys = []; after = r }
+missing_arguments (b ∷ bs) inside r =
+    let t = fresh_variable b inside r in
+    let ts = missing_arguments bs inside t.after in
     record { tys = t.ty ∷ ts.tys; after = ts.after }
 
 -- an argument that is a variable, where this upper bound is declared for it
-abbrev pub placed_layer : Ty → Ty-F Ty → Reading → Reading
-placed_layer high (L.Var v) r = record r { places = r.places ++ record { var = v; high = high } ∷ [] }
-placed_layer high _ r = r
+abbrev pub note_place_of : Ty → Ty-F Ty → Reading → Reading
+note_place_of high (L.Var v) r = record r { places = r.places ++ record { var = v; high = high } ∷ [] }
+note_place_of high _ r = r
 
-abbrev pub placed : List Bound → Ty → Reading → Reading
-placed [] t r = r
-placed (b ∷ bs) t r = placed_layer b.high (out-Ty t) r
+abbrev pub note_place : List Bound → Ty → Reading → Reading
+note_place [] t r = r
+note_place (b ∷ bs) t r = note_place_of b.high (out-Ty t) r
 
 -- ---- the parts of a text by what they mean
 
@@ -123,19 +123,19 @@ pub record VarReads : Type 0 where
   pub bounds : List TypeVar → Bool → Reading → Bounded
 
 -- the arguments of a nominal type, with their declared bounds: all in an invariant place
-abbrev pub arguments : List Bound → List ArgReads → List TypeVar → Bool → Reading → Types
-arguments bs [] vars inside r = missing bs inside r
-arguments bs (x ∷ xs) vars inside r =
+abbrev pub read_arguments : List Bound → List ArgReads → List TypeVar → Bool → Reading → Types
+read_arguments bs [] vars inside r = missing_arguments bs inside r
+read_arguments bs (x ∷ xs) vars inside r =
     let t = x vars inside true r in
-    let ts = arguments (drop 1 bs) xs vars inside (placed bs t.ty t.after) in
+    let ts = read_arguments (drop 1 bs) xs vars inside (note_place bs t.ty t.after) in
     record { tys = t.ty ∷ ts.tys; after = ts.after }
 
 -- the members of a union, or the parts of a tuple
-abbrev pub members : List ArgReads → List TypeVar → Bool → Reading → Types
-members [] vars inside r = record { tys = []; after = r }
-members (x ∷ xs) vars inside r =
+abbrev pub read_members : List ArgReads → List TypeVar → Bool → Reading → Types
+read_members [] vars inside r = record { tys = []; after = r }
+read_members (x ∷ xs) vars inside r =
     let t = x vars inside inside r in
-    let ts = members xs vars inside t.after in
+    let ts = read_members xs vars inside t.after in
     record { tys = t.ty ∷ ts.tys; after = ts.after }
 
 abbrev pub union_of : Types → Typed
@@ -155,20 +155,20 @@ rebound at None r = r
 rebound at (Some _) r = record (note at kind.Rebound r) { unclear = true }
 
 -- the next variable takes a name, and hides one that has it already
-abbrev pub bound_name : ℕ → List ℕ → Bound → List TypeVar → Reading → Option TypeVar → Scoped
-bound_name at name b vars r o = record {
+abbrev pub bind_name : ℕ → List ℕ → Bound → List TypeVar → Reading → Option TypeVar → Scoped
+bind_name at name b vars r o = record {
   vars = vars ++ record { name = name; number = length r.vars; usable = true } ∷ [];
   after = record (rebound at o r) { vars = r.vars ++ b ∷ [] };
 }
 
 -- a built-in name is bound
-abbrev pub guarded : ℕ → List ℕ → Reading → Reading
-guarded at name r = cond (is_among name builtin_names) (note at kind.NameClash r) r
+abbrev pub note_builtin : ℕ → List ℕ → Reading → Reading
+note_builtin at name r = if is_among name builtin_names then note at kind.NameClash r else r
 
 abbrev pub bind : VarReads → List TypeVar → Bool → Reading → Scoped
 bind v vars inside r =
     let b = v.bounds vars inside r in
-    bound_name v.at v.name b.bound vars (guarded v.at v.name b.after) (var_of vars v.name)
+    bind_name v.at v.name b.bound vars (note_builtin v.at v.name b.after) (var_of vars v.name)
 
 -- the variables of a list, each visible in what follows it
 abbrev pub bind_all : List VarReads → List TypeVar → Bool → Reading → Scoped
@@ -176,53 +176,53 @@ bind_all [] vars inside r = record { vars = vars; after = r }
 bind_all (v ∷ vs) vars inside r = let s = bind v vars inside r in bind_all vs s.vars inside s.after
 
 -- a `where` brings variables
-abbrev pub where_at : List VarReads → Bool → Reading → Reading
-where_at [] inside r = r
-where_at (v ∷ vs) inside r = brought inside r
+abbrev pub bind_where : List VarReads → Bool → Reading → Reading
+bind_where [] inside r = r
+bind_where (v ∷ vs) inside r = note_brought inside r
 
 -- In the text, the variables that were read from `start` to `middle` come after those that were read from `middle` until now.
-abbrev pub swapped : ℕ → ℕ → Reading → Reading
-swapped start middle r =
-    cond (nat_lt start middle && nat_lt middle (length r.vars)) (record r { swaps = r.swaps ++ record { start = start; middle = middle; stop = length r.vars } ∷ [] }) r
+abbrev pub swap : ℕ → ℕ → Reading → Reading
+swap start middle r =
+    if nat_lt start middle && nat_lt middle (length r.vars) then record r { swaps = r.swaps ++ record { start = start; middle = middle; stop = length r.vars } ∷ [] } else r
 
 -- a type with the variables of its `where`, which end with it, and come after those of the type
 abbrev pub within : TypeReads → List VarReads → List TypeVar → Bool → Reading → Typed
 within t vs vars inside r =
-    let s = bind_all vs vars inside (where_at vs inside r) in
+    let s = bind_all vs vars inside (bind_where vs inside r) in
     let u = t s.vars inside s.after in
-    record { ty = u.ty; after = swapped (length r.vars) (length s.after.vars) u.after }
+    record { ty = u.ty; after = swap (length r.vars) (length s.after.vars) u.after }
 
 -- ---- each rule
 
 module _ (ds : List Decl) where
   -- a name without braces
-  abbrev pub plain : ℕ → Named → Bool → Reading → Typed
-  plain at (N.Variable v usable) inside r = record { ty = W.Var v; after = used at usable r }
-  plain at N.Any inside r = record { ty = W.Any; after = r }
-  plain at N.Union inside r = unknown at r
-  plain at N.Tuple inside r = unknown at r
-  plain at (N.Nominal k) inside r = nominal_of k (missing (params_of (slice_get ds k)) inside r)
-  plain at N.Unknown inside r = unknown at r
+  abbrev pub read_plain : ℕ → Named → Bool → Reading → Typed
+  read_plain at (N.Variable v usable) inside r = record { ty = W.Var v; after = note_use at usable r }
+  read_plain at N.Any inside r = record { ty = W.Any; after = r }
+  read_plain at N.Union inside r = note_unknown at r
+  read_plain at N.Tuple inside r = note_unknown at r
+  read_plain at (N.Nominal k) inside r = nominal_of k (missing_arguments (params_of (slice_get ds k)) inside r)
+  read_plain at N.Unknown inside r = note_unknown at r
 
   -- a name with braces
-  abbrev pub applied : ℕ → Named → List ArgReads → List TypeVar → Bool → Reading → Typed
-  applied at (N.Variable v usable) xs vars inside r = unknown at r
-  applied at N.Any xs vars inside r = unknown at r
-  applied at N.Union xs vars inside r = union_of (members xs vars inside r)
-  applied at N.Tuple xs vars inside r = tuple_of (members xs vars inside r)
-  applied at (N.Nominal k) xs vars inside r = nominal_of k (arguments (params_of (slice_get ds k)) xs vars inside r)
-  applied at N.Unknown xs vars inside r = unknown at r
+  abbrev pub read_applied : ℕ → Named → List ArgReads → List TypeVar → Bool → Reading → Typed
+  read_applied at (N.Variable v usable) xs vars inside r = note_unknown at r
+  read_applied at N.Any xs vars inside r = note_unknown at r
+  read_applied at N.Union xs vars inside r = union_of (read_members xs vars inside r)
+  read_applied at N.Tuple xs vars inside r = tuple_of (read_members xs vars inside r)
+  read_applied at (N.Nominal k) xs vars inside r = nominal_of k (read_arguments (params_of (slice_get ds k)) xs vars inside r)
+  read_applied at N.Unknown xs vars inside r = note_unknown at r
 
   abbrev pub type_step : TypeText-F ArgReads TypeReads VarReads → TypeReads
-  type_step (F.Name at name) vars inside r = plain at (named ds vars name) inside r
-  type_step (F.Applied at name xs) vars inside r = applied at (named ds vars name) xs vars inside r
+  type_step (F.Name at name) vars inside r = read_plain at (meaning_of ds vars name) inside r
+  type_step (F.Applied at name xs) vars inside r = read_applied at (meaning_of ds vars name) xs vars inside r
   type_step (F.Paren at t vs) vars inside r = within t vs vars inside r
 
   -- `<:B` and `>:B` are fresh variables with that bound
   abbrev pub arg_step : ArgText-F ArgReads TypeReads VarReads → ArgReads
   arg_step (F.Exact t) vars outer inner r = t vars inner r
-  arg_step (F.ArgText::Below at t) vars outer inner r = let b = t vars inner r in fresh (record { low = V.Union []; high = b.ty }) outer b.after
-  arg_step (F.ArgText::Above at t) vars outer inner r = let b = t vars inner r in fresh (record { low = b.ty; high = W.Any }) outer b.after
+  arg_step (F.ArgText::Below at t) vars outer inner r = let b = t vars inner r in fresh_variable (record { low = V.Union []; high = b.ty }) outer b.after
+  arg_step (F.ArgText::Above at t) vars outer inner r = let b = t vars inner r in fresh_variable (record { low = b.ty; high = W.Any }) outer b.after
 
   abbrev pub var_step : VarText-F ArgReads TypeReads VarReads → VarReads
   var_step (F.Free at name) = record { at = at; name = name; bounds = λ vars inside r. record { bound = free; after = r } }

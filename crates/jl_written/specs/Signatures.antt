@@ -1,5 +1,5 @@
 -- What the types of a signature, of a body and of a declaration mean.
-use Rattle.std.specs.Prelude.{ℕ, ◌+◌, ◌^◌, ◌≤◌, Bool, false, cond, nat_lt, List, [], ◌∷◌, map, length, Option, Some, None, get_or, slice_set}
+use Rattle.std.specs.Prelude.{ℕ, ◌+◌, ◌^◌, ◌≤◌, Bool, false, if◌then◌else◌, nat_lt, List, [], ◌∷◌, map, length, Option, Some, None, slice_index_or, slice_set}
 use Rattle.jl_model.specs.declared.ty.Ty.{Ty}
 use Rattle.jl_model.specs.declared.ty.Ty.TheVariants as W
 use Rattle.jl_model.specs.declared.ty.Bound.{Bound}
@@ -12,7 +12,7 @@ use Rattle.jl_typeread.specs.declared.tree.VarText.{VarText}
 use Rattle.jl_written.specs.declared.reading.Place.{Place}
 use Rattle.jl_written.specs.declared.reading.Reading.{Reading}
 use Rattle.jl_written.specs.declared.reading.TypeVar.{TypeVar}
-use Rattle.jl_written.specs.Reads.{Types, Typed, Scoped, unread, bind_all, arguments, nominal_of, type_reads, arg_reads, var_reads}
+use Rattle.jl_written.specs.Reads.{Types, Typed, Scoped, no_reading, bind_all, read_arguments, nominal_of, type_reads, arg_reads, var_reads}
 use Rattle.jl_written.specs.TextOrder.{in_text_order, one_in_text_order}
 
 -- a parameter or a field without a type has the type `Any`
@@ -35,18 +35,18 @@ all_bound ds vs vars r = bind_all (map (var_reads ds) vs) vars false r
 -- The step for the declared bounds, where `below` tells whether a declared upper bound is below a bound: at each place in
 -- text order, the declared bound becomes the upper bound of the variable where it is below that.
 abbrev pub with_high : List Bound → ℕ → Ty → List Bound
-with_high bs v t = slice_set bs v (record { low = (get_or bs v free).low; high = t })
+with_high bs v t = slice_set bs v (record { low = (slice_index_or bs v free).low; high = t })
 
-abbrev pub adopted_at : (Ty → Ty → Bool) → Place → List Bound → List Bound
-adopted_at below p bs = cond (nat_lt p.var (length bs)) (cond (below p.high (get_or bs p.var free).high) (with_high bs p.var p.high) bs) bs
+abbrev pub adopt_bound : (Ty → Ty → Bool) → Place → List Bound → List Bound
+adopt_bound below p bs = if nat_lt p.var (length bs) then (if below p.high (slice_index_or bs p.var free).high then with_high bs p.var p.high else bs) else bs
 
-abbrev pub adopted : (Ty → Ty → Bool) → List Place → List Bound → List Bound
-adopted below [] bs = bs
-adopted below (p ∷ ps) bs = adopted below ps (adopted_at below p bs)
+abbrev pub adopt_bounds : (Ty → Ty → Bool) → List Place → List Bound → List Bound
+adopt_bounds below [] bs = bs
+adopt_bounds below (p ∷ ps) bs = adopt_bounds below ps (adopt_bound below p bs)
 
 -- a signature: the variables with the bounds that they have behind that step, and the types
 abbrev pub written_of : (Ty → Ty → Bool) → Types → Written
-written_of below ts = record { vars = adopted below ts.after.places ts.after.vars; parts = ts.tys }
+written_of below ts = record { vars = adopt_bounds below ts.after.places ts.after.vars; parts = ts.tys }
 
 -- The types of a method's parameters, where the variables of its `where` are visible. These come first, and all others after them
 -- in text order.
@@ -55,7 +55,7 @@ pub record Signature : Type 0 where
   pub types : Types
 
 abbrev pub signature : List Decl → List (Option TypeText) → List VarText → Signature
-signature ds ts vs = let s = all_bound ds vs [] unread in record { vars = s.vars; types = in_text_order (all_read ds ts s.vars s.after) }
+signature ds ts vs = let s = all_bound ds vs [] no_reading in record { vars = s.vars; types = in_text_order (all_read ds ts s.vars s.after) }
 
 -- the static parameters of a body, where the variables of the type itself have the numbers before them
 abbrev pub shifted : ℕ → List TypeVar → List TypeVar
@@ -73,14 +73,14 @@ or_no_vars (Some vars) = vars
 
 -- how many variables a type in a body brings
 abbrev pub width_of : List Decl → List TypeVar → TypeText → ℕ
-width_of ds statics t = length (type_reads ds t (shifted 0 statics) false unread).after.vars
+width_of ds statics t = length (type_reads ds t (shifted 0 statics) false no_reading).after.vars
 
 -- A type in a body, whose variables stand in text order: a static parameter has the number of the variables of the type, and its
 -- own after that.
 abbrev pub body_type : List Decl → List TypeVar → TypeText → Typed
-body_type ds statics t = one_in_text_order (type_reads ds t (shifted (width_of ds statics t) statics) false unread)
+body_type ds statics t = one_in_text_order (type_reads ds t (shifted (width_of ds statics t) statics) false no_reading)
 
 -- The type of an explicit constructor, by the arguments in its braces, whose declared bounds are bs. It is allowed only where
 -- it brings no variable, so that a static parameter has its own number.
 abbrev pub constructor_type : List Decl → ℕ → List Bound → List TypeVar → List ArgText → Typed
-constructor_type ds number bs statics xs = nominal_of number (arguments bs (map (arg_reads ds) xs) (shifted 0 statics) false unread)
+constructor_type ds number bs statics xs = nominal_of number (read_arguments bs (map (arg_reads ds) xs) (shifted 0 statics) false no_reading)

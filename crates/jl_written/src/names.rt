@@ -63,7 +63,7 @@ pub fn is_builtin(word: &[u8]) -> bool
 }
 
 /// A number of a variable or a type. The one error, which stands for want of memory, comes exactly from 2^32 on.
-pub fn small(number: usize) -> Result<u32, AllocError>
+pub fn to_u32(number: usize) -> Result<u32, AllocError>
     ensures number { IfOk result (λ n. n ≡ number) }
     ensures limit { OnErr result (2 ^ 32 ≤ number) }
 {

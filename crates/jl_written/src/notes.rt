@@ -2,10 +2,10 @@
 
 ghost use Rattle.std.specs.Prelude.{◌≡◌, ◌++◌, ◌∷◌, [], length, drop, IfOk, OnOk, Bool};
 ghost use Rattle.jl_written.specs.Answered.{number_of, comes_before, first_of};
-ghost use Rattle.jl_written.specs.Reads.{typed, types, behind, note, unknown, used, brought, fresh, missing, placed, swapped};
+ghost use Rattle.jl_written.specs.Reads.{typed, types, prepend_types, note, note_unknown, note_use, note_brought, fresh_variable, missing_arguments, note_place, swap};
 
 use crate::fault::{Fault, StaticKind};
-use crate::names::small;
+use crate::names::to_u32;
 use crate::reading::{Place, Reading, Swap};
 use jl_model::rows::Row;
 use jl_model::ty::{Bound, Ty};
@@ -67,8 +67,8 @@ pub(crate) fn note(state: &mut Reading, at: u32, kind: StaticKind)
 }
 
 /// A name that means no type.
-pub(crate) fn unknown(state: &mut Reading, at: u32) -> Ty
-    ensures { typed result state.new ≡ unknown at state.old }
+pub(crate) fn note_unknown(state: &mut Reading, at: u32) -> Ty
+    ensures { typed result state.new ≡ note_unknown at state.old }
 {
     note(state, at, StaticKind::UnknownType);
     state.unknown = true;
@@ -77,8 +77,8 @@ pub(crate) fn unknown(state: &mut Reading, at: u32) -> Ty
 }
 
 /// A variable that stands at this place, whether it may or not.
-pub(crate) fn used(state: &mut Reading, at: u32, usable: bool)
-    ensures { state.new ≡ used at usable state.old }
+pub(crate) fn note_use(state: &mut Reading, at: u32, usable: bool)
+    ensures { state.new ≡ note_use at usable state.old }
 {
     if !usable {
         note(state, at, StaticKind::StaticParameterUse);
@@ -86,18 +86,22 @@ pub(crate) fn used(state: &mut Reading, at: u32, usable: bool)
 }
 
 /// A variable is brought at a place that is inside an argument of a nominal type, or not.
-pub(crate) fn brought(state: &mut Reading, inside: bool)
-    ensures { state.new ≡ brought inside state.old }
+pub(crate) fn note_brought(state: &mut Reading, inside: bool)
+    ensures { state.new ≡ note_brought inside state.old }
 {
     state.misplaced = state.misplaced || inside;
 }
 
 /// A variable without a name.
-pub(crate) fn fresh(state: &mut Reading, bound: Bound, inside: bool) -> Result<Ty, AllocError>
-    ensures { IfOk result (λ t. typed t state.new ≡ fresh bound inside state.old) }
+pub(crate) fn fresh_variable(
+    state: &mut Reading,
+    bound: Bound,
+    inside: bool,
+) -> Result<Ty, AllocError>
+    ensures { IfOk result (λ t. typed t state.new ≡ fresh_variable bound inside state.old) }
 {
-    let number = small(state.vars.len())?;
-    brought(state, inside);
+    let number = to_u32(state.vars.len())?;
+    note_brought(state, inside);
     state.vars.push(bound)?;
     Ok(Ty::Var(number))
 }
@@ -124,25 +128,25 @@ pub(crate) fn copy_bounds(alloc: Global, vars: &[Bound]) -> Result<Vec<Bound>, A
 }
 
 /// The arguments that are missing, behind those that are written.
-pub(crate) fn missing(
+pub(crate) fn missing_arguments(
     state: &mut Reading,
     tys: &mut Row<Ty>,
     bounds: &[Bound],
     inside: bool,
 ) -> Result<(), AllocError>
-    ensures { OnOk result (types tys.new state.new ≡ behind tys.old (missing bounds.now inside state.old)) }
+    ensures { OnOk result (types tys.new state.new ≡ prepend_types tys.old (missing_arguments bounds.now inside state.old)) }
 {
     for bound in bounds {
         let bound = copy_bound(bound)?;
-        let ty = fresh(state, bound, inside)?;
+        let ty = fresh_variable(state, bound, inside)?;
         tys.push(ty)?;
     }
     Ok(())
 }
 
 /// An argument that is a variable takes part in the step for the declared bounds.
-pub(crate) fn placed(state: &mut Reading, bounds: &[Bound], ty: &Ty) -> Result<(), AllocError>
-    ensures { OnOk result (state.new ≡ placed bounds.now ty.now state.old) }
+pub(crate) fn note_place(state: &mut Reading, bounds: &[Bound], ty: &Ty) -> Result<(), AllocError>
+    ensures { OnOk result (state.new ≡ note_place bounds.now ty.now state.old) }
 {
     if let [bound, ..] = bounds {
         if let Ty::Var(var) = ty {
@@ -155,14 +159,14 @@ pub(crate) fn placed(state: &mut Reading, bounds: &[Bound], ty: &Ty) -> Result<(
 
 /// In the text, the variables that were read from `start` to `middle` come after those that were read since.
 pub(crate) fn swap(state: &mut Reading, start: usize, middle: usize) -> Result<(), AllocError>
-    ensures { OnOk result (state.new ≡ swapped start middle state.old) }
+    ensures { OnOk result (state.new ≡ swap start middle state.old) }
 {
     let stop = state.vars.len();
     if start < middle && middle < stop {
         state.swaps.push(Swap {
-            start: small(start)?,
-            middle: small(middle)?,
-            stop: small(stop)?,
+            start: to_u32(start)?,
+            middle: to_u32(middle)?,
+            stop: to_u32(stop)?,
         })?;
     }
     Ok(())

@@ -5,13 +5,15 @@ ghost use Rattle.jl_model.specs.Valid.{params_of};
 ghost use Rattle.jl_model.specs.declared.ty.Decl.{Decl};
 ghost use Rattle.jl_model.specs.declared.ty.Ty.TheViews as V;
 ghost use Rattle.jl_written.specs.Meaning.{var_of};
-ghost use Rattle.jl_written.specs.Reads.{typed, types, scoped, bounded, within, nominal_of, missing, plain, applied, arguments, members, bind, bind_all, bound_name, guarded, where_at, type_reads, arg_reads, var_reads};
+ghost use Rattle.jl_written.specs.Reads.{typed, types, scoped, bounded, within, nominal_of, missing_arguments, read_plain, read_applied, read_arguments, read_members, bind, bind_all, bind_name, note_builtin, bind_where, type_reads, arg_reads, var_reads};
 
 use crate::fault::StaticKind;
-use crate::names::{is_builtin, small};
-use crate::notes::{brought, fresh, missing, note, placed, swap, unknown, used};
+use crate::names::{is_builtin, to_u32};
+use crate::notes::{
+    fresh_variable, missing_arguments, note, note_brought, note_place, note_unknown, note_use, swap,
+};
 use crate::reading::{Named, Reading, TypeVar};
-use crate::vars::{Around, TypeVars, is_bound, named};
+use crate::vars::{Around, TypeVars, is_bound, meaning_of};
 use jl_model::rows::Row;
 use jl_model::ty::{Bound, Bytes, Ty, Tys};
 use jl_names::decls::FirstDecls;
@@ -29,22 +31,22 @@ fn params_of<'a>(decls: &'a FirstDecls<'_>, number: u32) -> &'a [Bound]
 }
 
 /// A nominal type of which no argument is written.
-fn bare(
+fn read_bare(
     alloc: Global,
     decls: &FirstDecls<'_>,
     state: &mut Reading,
     number: u32,
     inside: bool,
 ) -> Result<Ty, AllocError>
-    ensures { IfOk result (λ t. typed t state.new ≡ nominal_of number (missing (params_of (slice_get decls.now number)) inside state.old)) }
+    ensures { IfOk result (λ t. typed t state.new ≡ nominal_of number (missing_arguments (params_of (slice_get decls.now number)) inside state.old)) }
 {
     let mut tys = Row::new(alloc);
-    missing(state, &mut tys, params_of(decls, number), inside)?;
+    missing_arguments(state, &mut tys, params_of(decls, number), inside)?;
     Ok(Ty::Nominal(number, tys.into_shared(alloc)?))
 }
 
 /// A name without braces.
-fn plain(
+fn read_plain(
     alloc: Global,
     decls: &FirstDecls<'_>,
     state: &mut Reading,
@@ -52,24 +54,24 @@ fn plain(
     name: Named,
     inside: bool,
 ) -> Result<Ty, AllocError>
-    ensures { IfOk result (λ t. typed t state.new ≡ plain decls.now at name inside state.old) }
+    ensures { IfOk result (λ t. typed t state.new ≡ read_plain decls.now at name inside state.old) }
 {
     match name {
         Named::Variable(number, usable) => {
-            used(state, at, usable);
+            note_use(state, at, usable);
             Ok(Ty::Var(number))
         }
         Named::Any => Ok(Ty::Any),
-        Named::Nominal(number) => bare(alloc, decls, state, number, inside),
-        Named::Union => Ok(unknown(state, at)),
-        Named::Tuple => Ok(unknown(state, at)),
-        Named::Unknown => Ok(unknown(state, at)),
+        Named::Nominal(number) => read_bare(alloc, decls, state, number, inside),
+        Named::Union => Ok(note_unknown(state, at)),
+        Named::Tuple => Ok(note_unknown(state, at)),
+        Named::Unknown => Ok(note_unknown(state, at)),
     }
 }
 
 /// A name with braces.
 #[cycle(types)]
-fn applied(
+fn read_applied(
     alloc: Global,
     around: &Around<'_>,
     vars: &mut TypeVars,
@@ -79,26 +81,26 @@ fn applied(
     texts: &[ArgText],
     inside: bool,
 ) -> Result<Ty, AllocError>
-    ensures means { IfOk result (λ t. typed t state.new ≡ applied around.now.decls.now at name (map (arg_reads around.now.decls.now) texts.now) (around.now.statics ++ vars.old) inside state.old) }
+    ensures means { IfOk result (λ t. typed t state.new ≡ read_applied around.now.decls.now at name (map (arg_reads around.now.decls.now) texts.now) (around.now.statics ++ vars.old) inside state.old) }
     ensures kept { OnOk result (vars.new ≡ vars.old) }
 {
     match name {
-        Named::Union => Ok(Ty::Union(members(alloc, around, vars, state, texts, inside)?)),
-        Named::Tuple => Ok(Ty::Tuple(members(alloc, around, vars, state, texts, inside)?)),
+        Named::Union => Ok(Ty::Union(read_members(alloc, around, vars, state, texts, inside)?)),
+        Named::Tuple => Ok(Ty::Tuple(read_members(alloc, around, vars, state, texts, inside)?)),
         Named::Nominal(number) => {
             let bounds = params_of(around.decls, number);
-            let tys = arguments(alloc, around, vars, state, bounds, texts, inside)?;
+            let tys = read_arguments(alloc, around, vars, state, bounds, texts, inside)?;
             Ok(Ty::Nominal(number, tys))
         }
-        Named::Variable(_, _) => Ok(unknown(state, at)),
-        Named::Any => Ok(unknown(state, at)),
-        Named::Unknown => Ok(unknown(state, at)),
+        Named::Variable(_, _) => Ok(note_unknown(state, at)),
+        Named::Any => Ok(note_unknown(state, at)),
+        Named::Unknown => Ok(note_unknown(state, at)),
     }
 }
 
 /// The members of a union, or the parts of a tuple.
 #[cycle(types)]
-fn members(
+fn read_members(
     alloc: Global,
     around: &Around<'_>,
     vars: &mut TypeVars,
@@ -106,12 +108,12 @@ fn members(
     texts: &[ArgText],
     inside: bool,
 ) -> Result<Tys, AllocError>
-    ensures means { IfOk result (λ ts. types ts state.new ≡ members (map (arg_reads around.now.decls.now) texts.now) (around.now.statics ++ vars.old) inside state.old) }
+    ensures means { IfOk result (λ ts. types ts state.new ≡ read_members (map (arg_reads around.now.decls.now) texts.now) (around.now.statics ++ vars.old) inside state.old) }
     ensures kept { OnOk result (vars.new ≡ vars.old) }
 {
     let mut tys = Row::new(alloc);
     for text in texts {
-        let ty = argument(alloc, around, vars, state, text, inside, inside)?;
+        let ty = read_argument(alloc, around, vars, state, text, inside, inside)?;
         tys.push(ty)?;
     }
     tys.into_shared(alloc)
@@ -119,7 +121,7 @@ fn members(
 
 /// The arguments of a nominal type, with their declared bounds.
 #[cycle(types)]
-pub(crate) fn arguments(
+pub(crate) fn read_arguments(
     alloc: Global,
     around: &Around<'_>,
     vars: &mut TypeVars,
@@ -128,23 +130,23 @@ pub(crate) fn arguments(
     texts: &[ArgText],
     inside: bool,
 ) -> Result<Tys, AllocError>
-    ensures means { IfOk result (λ ts. types ts state.new ≡ arguments bounds.now (map (arg_reads around.now.decls.now) texts.now) (around.now.statics ++ vars.old) inside state.old) }
+    ensures means { IfOk result (λ ts. types ts state.new ≡ read_arguments bounds.now (map (arg_reads around.now.decls.now) texts.now) (around.now.statics ++ vars.old) inside state.old) }
     ensures kept { OnOk result (vars.new ≡ vars.old) }
 {
     let mut tys = Row::new(alloc);
     let mut left = bounds;
     for text in texts {
-        let ty = argument(alloc, around, vars, state, text, inside, true)?;
-        placed(state, left, &ty)?;
+        let ty = read_argument(alloc, around, vars, state, text, inside, true)?;
+        note_place(state, left, &ty)?;
         tys.push(ty)?;
-        left = behind_first(left);
+        left = after_first(left);
     }
-    missing(state, &mut tys, left, inside)?;
+    missing_arguments(state, &mut tys, left, inside)?;
     tys.into_shared(alloc)
 }
 
 /// All but the first.
-fn behind_first(bounds: &[Bound]) -> &[Bound]
+fn after_first(bounds: &[Bound]) -> &[Bound]
     ensures { result.now ≡ drop 1 bounds.now }
 {
     match bounds {
@@ -155,7 +157,7 @@ fn behind_first(bounds: &[Bound]) -> &[Bound]
 
 /// An argument. What stands in the braces around it may be inside an argument of a nominal type where those are not.
 #[cycle(types)]
-fn argument(
+fn read_argument(
     alloc: Global,
     around: &Around<'_>,
     vars: &mut TypeVars,
@@ -171,17 +173,24 @@ fn argument(
         ArgText::Exact(ty) => read_type(alloc, around, vars, state, ty, inner),
         ArgText::Below(_, ty) => {
             let high = read_type(alloc, around, vars, state, ty, inner)?;
-            fresh(state, Bound { low: none(), high }, outer)
+            fresh_variable(
+                state,
+                Bound {
+                    low: empty_type(),
+                    high,
+                },
+                outer,
+            )
         }
         ArgText::Above(_, ty) => {
             let low = read_type(alloc, around, vars, state, ty, inner)?;
-            fresh(state, Bound { low, high: Ty::Any }, outer)
+            fresh_variable(state, Bound { low, high: Ty::Any }, outer)
         }
     }
 }
 
 /// The type without values.
-fn none() -> Ty
+fn empty_type() -> Ty
     ensures { result ≡ V.Union [] }
 {
     Ty::Union(Tys::empty())
@@ -202,12 +211,12 @@ pub fn read_type(
 {
     match text {
         TypeText::Name(at, name) => {
-            let name = named(around, vars, name.as_slice())?;
-            plain(alloc, around.decls, state, *at, name, inside)
+            let name = meaning_of(around, vars, name.as_slice())?;
+            read_plain(alloc, around.decls, state, *at, name, inside)
         }
         TypeText::Applied(at, name, texts) => {
-            let name = named(around, vars, name.as_slice())?;
-            applied(
+            let name = meaning_of(around, vars, name.as_slice())?;
+            read_applied(
                 alloc,
                 around,
                 vars,
@@ -221,7 +230,7 @@ pub fn read_type(
         TypeText::Paren(_, ty, variables) => {
             let visible = vars.len();
             let start = state.vars.len();
-            where_at(state, variables.as_slice(), inside);
+            bind_where(state, variables.as_slice(), inside);
             bind_all(alloc, around, vars, state, variables.as_slice(), inside)?;
             let middle = state.vars.len();
             let ty = read_type(alloc, around, vars, state, ty.get(), inside)?;
@@ -233,11 +242,11 @@ pub fn read_type(
 }
 
 /// A `where` brings variables.
-fn where_at(state: &mut Reading, variables: &[VarText], inside: bool)
-    ensures { (ds : List Decl) → state.new ≡ where_at (map (var_reads ds) variables.now) inside state.old }
+fn bind_where(state: &mut Reading, variables: &[VarText], inside: bool)
+    ensures { (ds : List Decl) → state.new ≡ bind_where (map (var_reads ds) variables.now) inside state.old }
 {
     if !variables.is_empty() {
-        brought(state, inside);
+        note_brought(state, inside);
     }
 }
 
@@ -271,7 +280,7 @@ fn bind(
 ) -> Result<(), AllocError>
     ensures { OnOk result (scoped (around.now.statics ++ vars.new) state.new ≡ bind (var_reads around.now.decls.now variable.now) (around.now.statics ++ vars.old) inside state.old) }
 {
-    let bound = bounds(alloc, around, vars, state, variable, inside)?;
+    let bound = read_bounds(alloc, around, vars, state, variable, inside)?;
     match variable {
         VarText::Free(at, name) => bind_name(around, vars, state, *at, name, bound),
         VarText::Below(at, name, _) => bind_name(around, vars, state, *at, name, bound),
@@ -289,12 +298,12 @@ fn bind_name(
     name: &Bytes,
     bound: Bound,
 ) -> Result<(), AllocError>
-    ensures { OnOk result (scoped (around.now.statics ++ vars.new) state.new ≡ bound_name at name.now bound (around.now.statics ++ vars.old) (guarded at name.now state.old) (var_of (around.now.statics ++ vars.old) name.now)) }
+    ensures { OnOk result (scoped (around.now.statics ++ vars.new) state.new ≡ bind_name at name.now bound (around.now.statics ++ vars.old) (note_builtin at name.now state.old) (var_of (around.now.statics ++ vars.old) name.now)) }
 {
     if is_builtin(name.as_slice()) {
         note(state, at, StaticKind::NameClash);
     }
-    let number = small(state.vars.len())?;
+    let number = to_u32(state.vars.len())?;
     state.vars.push(bound)?;
     if is_bound(around, vars, name.as_slice()) {
         note(state, at, StaticKind::Rebound);
@@ -309,7 +318,7 @@ fn bind_name(
 
 /// The bounds of a variable: without a written upper bound `Any`, without a lower one `Union{}`.
 #[cycle(types)]
-fn bounds(
+fn read_bounds(
     alloc: Global,
     around: &Around<'_>,
     vars: &mut TypeVars,
@@ -322,12 +331,15 @@ fn bounds(
 {
     match variable {
         VarText::Free(_, _) => Ok(Bound {
-            low: none(),
+            low: empty_type(),
             high: Ty::Any,
         }),
         VarText::Below(_, _, ty) => {
             let high = read_type(alloc, around, vars, state, ty, inside)?;
-            Ok(Bound { low: none(), high })
+            Ok(Bound {
+                low: empty_type(),
+                high,
+            })
         }
         VarText::Above(_, _, ty) => {
             let low = read_type(alloc, around, vars, state, ty, inside)?;

@@ -2,12 +2,12 @@
 
 ghost use Rattle.std.specs.Prelude.{◌≡◌, ◌+◌, OnOk, IfOk, Bool, false};
 ghost use Rattle.jl_model.specs.declared.ty.Ty.{Ty};
-ghost use Rattle.jl_written.specs.Reads.{typed, unread, type_reads};
-ghost use Rattle.jl_written.specs.Signatures.{adopted_at, adopted, width_of, body_type, constructor_type};
+ghost use Rattle.jl_written.specs.Reads.{typed, no_reading, type_reads};
+ghost use Rattle.jl_written.specs.Signatures.{adopt_bound, adopt_bounds, shifted, width_of, body_type, constructor_type};
 
 use crate::notes::copy_bounds;
 use crate::reading::{Place, Reading};
-use crate::reads::{arguments, read_type};
+use crate::reads::{read_arguments, read_type};
 use crate::text_order::order_type;
 use crate::vars::{Around, Statics, TypeVars};
 use jl_model::rows::Row;
@@ -17,8 +17,8 @@ use jl_typeread::tree::{ArgText, TypeText};
 use std::alloc::{AllocError, Global};
 
 /// Nothing is read yet.
-pub fn unread(alloc: Global) -> Reading
-    ensures { result ≡ unread }
+pub fn no_reading(alloc: Global) -> Reading
+    ensures { result ≡ no_reading }
 {
     Reading {
         vars: Row::new(alloc),
@@ -40,13 +40,13 @@ pub trait Order {
 }
 
 /// The bounds behind the step at one place.
-fn adopted_at<O: Order>(
+fn adopt_bound<O: Order>(
     alloc: Global,
     order: &O,
     place: &Place,
     bounds: &mut Vec<Bound>,
 ) -> Result<(), AllocError>
-    ensures { OnOk result (bounds.new.items ≡ adopted_at (O.below order.now) place.now bounds.old.items) }
+    ensures { OnOk result (bounds.new.items ≡ adopt_bound (O.below order.now) place.now bounds.old.items) }
 {
     let number = place.var as usize;
     if number >= bounds.len() {
@@ -63,39 +63,63 @@ fn adopted_at<O: Order>(
 
 /// The step for the declared bounds: at each place in text order, the declared upper bound becomes that of the variable
 /// where it is below that.
-pub fn adopted<O: Order>(
+pub fn adopt_bounds<O: Order>(
     alloc: Global,
     order: &O,
     places: &[Place],
     vars: &[Bound],
 ) -> Result<Vec<Bound>, AllocError>
-    ensures { IfOk result (λ bs. bs.items ≡ adopted (O.below order.now) places.now vars.now) }
+    ensures { IfOk result (λ bs. bs.items ≡ adopt_bounds (O.below order.now) places.now vars.now) }
 {
     let mut bounds = copy_bounds(alloc, vars)?;
     for place in places {
-        adopted_at(alloc, order, place, &mut bounds)?;
+        adopt_bound(alloc, order, place, &mut bounds)?;
     }
     Ok(bounds)
 }
 
-/// How many variables a type in a body brings.
-fn width_of(
+/// What a type in a body means, in the order in which its variables are read, where the static parameters of the method have the
+/// numbers from `width` on.
+fn read_behind(
+    alloc: Global,
+    decls: &FirstDecls<'_>,
+    statics: &TypeVars,
+    width: usize,
+    text: &TypeText,
+) -> Result<(Ty, Reading), AllocError>
+    ensures { IfOk result (λ r. typed r.0 r.1 ≡ type_reads decls.now text.now (shifted width statics.now) false no_reading) }
+{
+    let around = Around {
+        decls,
+        statics: Statics::behind(statics, width)?,
+    };
+    let mut vars = TypeVars::new(alloc);
+    let mut state = no_reading(alloc);
+    let ty = read_type(alloc, &around, &mut vars, &mut state, text, false)?;
+    Ok((ty, state))
+}
+
+/// The same, where the static parameters have the numbers behind those of the type's own variables. The text is read again only
+/// where it has both.
+fn read_whole(
     alloc: Global,
     decls: &FirstDecls<'_>,
     statics: &TypeVars,
     text: &TypeText,
-) -> Result<usize, AllocError>
-    ensures { IfOk result (λ n. n ≡ width_of decls.now statics.now text.now) }
+) -> Result<(Ty, Reading), AllocError>
+    ensures { IfOk result (λ r. typed r.0 r.1 ≡ type_reads decls.now text.now (shifted (width_of decls.now statics.now text.now) statics.now) false no_reading) }
 {
-    let around = Around {
-        decls,
-        statics: Statics::behind(statics, 0)?,
-    };
-    let mut vars = TypeVars::new(alloc);
-    let mut state = unread(alloc);
-    let ty = read_type(alloc, &around, &mut vars, &mut state, text, false)?;
-    drop(ty);
-    Ok(state.vars.len())
+    let first = read_behind(alloc, decls, statics, 0, text)?;
+    let width = first.1.vars.len();
+    if width == 0 {
+        return Ok(first);
+    }
+    if statics.len() == 0 {
+        return Ok(first);
+    }
+    drop(first);
+    let read = read_behind(alloc, decls, statics, width, text)?;
+    Ok(read)
 }
 
 /// What a type in a body means, with its variables in text order, and what is known behind it. A static parameter of the
@@ -108,14 +132,7 @@ pub fn body_type(
 ) -> Result<(Ty, Reading), AllocError>
     ensures { IfOk result (λ r. typed r.0 r.1 ≡ body_type decls.now statics.now text.now) }
 {
-    let width = width_of(alloc, decls, statics, text)?;
-    let around = Around {
-        decls,
-        statics: Statics::behind(statics, width)?,
-    };
-    let mut vars = TypeVars::new(alloc);
-    let mut state = unread(alloc);
-    let ty = read_type(alloc, &around, &mut vars, &mut state, text, false)?;
+    let (ty, mut state) = read_whole(alloc, decls, statics, text)?;
     let ty = order_type(alloc, &mut state, ty)?;
     Ok((ty, state))
 }
@@ -136,7 +153,7 @@ pub fn constructor_type(
         statics: Statics::behind(statics, 0)?,
     };
     let mut vars = TypeVars::new(alloc);
-    let mut state = unread(alloc);
-    let tys = arguments(alloc, &around, &mut vars, &mut state, bounds, texts, false)?;
+    let mut state = no_reading(alloc);
+    let tys = read_arguments(alloc, &around, &mut vars, &mut state, bounds, texts, false)?;
     Ok((Ty::Nominal(number, tys), state))
 }

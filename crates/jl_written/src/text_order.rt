@@ -2,9 +2,9 @@
 
 ghost use Rattle.std.specs.Prelude.{◌≡◌, map, slice_set, IfOk, OnOk};
 ghost use Rattle.jl_written.specs.Reads.{typed, types};
-ghost use Rattle.jl_written.specs.TextOrder.{moved, moved_from, text_places, number_in, renumbered, renumbered_bound, renumbered_place, arranged, reordered, in_text_order, one_in_text_order};
+ghost use Rattle.jl_written.specs.TextOrder.{move_place, move_places, text_places, number_in, renumber, renumber_bound, renumber_place, arrange, reorder, in_text_order, one_in_text_order};
 
-use crate::names::small;
+use crate::names::to_u32;
 use crate::notes::{copy_bound, copy_bounds};
 use crate::reading::{Place, Reading, Swap};
 use jl_model::rows::Row;
@@ -13,7 +13,7 @@ use std::alloc::{AllocError, Global};
 
 /// Where the variable at this place stands after a swap.
 fn place_after(swap: &Swap, place: u32) -> u32
-    ensures { result ≡ moved swap.now place }
+    ensures { result ≡ move_place swap.now place }
 {
     if place < swap.start {
         return place;
@@ -29,7 +29,7 @@ fn place_after(swap: &Swap, place: u32) -> u32
 
 /// The places of the variables after a swap, which concerns those from its start to its stop.
 fn move_all(swap: &Swap, places: &mut Vec<u32>)
-    ensures { places.new.items ≡ moved_from swap.now 0 places.old.items }
+    ensures { places.new.items ≡ move_places swap.now 0 places.old.items }
 {
     let stop = (swap.stop as usize).min(places.len());
     for at in swap.start as usize..stop {
@@ -43,7 +43,7 @@ fn find_places(alloc: Global, reading: &Reading) -> Result<Vec<u32>, AllocError>
 {
     let mut places = Vec::new(alloc);
     for place in 0..reading.vars.len() {
-        places.push(small(place)?)?;
+        places.push(to_u32(place)?)?;
     }
     for swap in reading.swaps.as_slice() {
         move_all(swap, &mut places);
@@ -65,7 +65,7 @@ fn number_in(places: &[u32], var: u32) -> u32
 #[cycle(renumber)]
 #[tactic(auto, using(crate::proofs::OrderLemmas::puts))]
 fn renumber_all(alloc: Global, parts: &[Ty], places: &[u32]) -> Result<Tys, AllocError>
-    ensures { IfOk result (λ ts. ts ≡ map (renumbered places.now) parts.now) }
+    ensures { IfOk result (λ ts. ts ≡ map (renumber places.now) parts.now) }
 {
     let mut tys = Row::new(alloc);
     for part in parts {
@@ -78,7 +78,7 @@ fn renumber_all(alloc: Global, parts: &[Ty], places: &[u32]) -> Result<Tys, Allo
 #[cycle(renumber)]
 #[tactic(auto, using(crate::proofs::OrderLemmas::puts))]
 fn renumber(alloc: Global, ty: &Ty, places: &[u32]) -> Result<Ty, AllocError>
-    ensures { IfOk result (λ t. t ≡ renumbered places.now ty.now) }
+    ensures { IfOk result (λ t. t ≡ renumber places.now ty.now) }
 {
     match ty {
         Ty::Any => Ok(Ty::Any),
@@ -93,7 +93,7 @@ fn renumber(alloc: Global, ty: &Ty, places: &[u32]) -> Result<Ty, AllocError>
 }
 
 fn renumber_bound(alloc: Global, bound: &Bound, places: &[u32]) -> Result<Bound, AllocError>
-    ensures { IfOk result (λ b. b ≡ renumbered_bound places.now bound.now) }
+    ensures { IfOk result (λ b. b ≡ renumber_bound places.now bound.now) }
 {
     Ok(Bound {
         low: renumber(alloc, &bound.low, places)?,
@@ -111,12 +111,12 @@ fn set_bound(bounds: &mut Vec<Bound>, at: usize, bound: Bound)
 
 /// The bounds, each at the place of its variable.
 fn arrange(alloc: Global, bounds: &[Bound], places: &[u32]) -> Result<Vec<Bound>, AllocError>
-    ensures { IfOk result (λ bs. bs.items ≡ arranged places.now 0 bounds.now bounds.now) }
+    ensures { IfOk result (λ bs. bs.items ≡ arrange places.now 0 bounds.now bounds.now) }
 {
     let mut arranged = copy_bounds(alloc, bounds)?;
     for at in 0..bounds.len() {
         let bound = renumber_bound(alloc, &bounds[at], places)?;
-        let place = number_in(places, small(at)?);
+        let place = number_in(places, to_u32(at)?);
         set_bound(&mut arranged, place as usize, bound);
     }
     Ok(arranged)
@@ -135,7 +135,7 @@ fn make_row(alloc: Global, bounds: &[Bound]) -> Result<Row<Bound>, AllocError>
 
 /// The places of declared bounds, by the numbers that the variables have in the text.
 fn renumber_places(alloc: Global, known: &[Place], places: &[u32]) -> Result<Row<Place>, AllocError>
-    ensures { IfOk result (λ ps. ps ≡ map (renumbered_place places.now) known.now) }
+    ensures { IfOk result (λ ps. ps ≡ map (renumber_place places.now) known.now) }
 {
     let mut row = Row::new(alloc);
     for place in known {
@@ -150,7 +150,7 @@ fn renumber_places(alloc: Global, known: &[Place], places: &[u32]) -> Result<Row
 
 /// What is known of the variables, by the numbers that they have in the text.
 fn reorder(alloc: Global, reading: &mut Reading, places: &[u32]) -> Result<(), AllocError>
-    ensures { OnOk result (reading.new ≡ reordered places.now reading.old) }
+    ensures { OnOk result (reading.new ≡ reorder places.now reading.old) }
 {
     let bounds = arrange(alloc, reading.vars.as_slice(), places)?;
     let vars = make_row(alloc, bounds.as_slice())?;

@@ -1,10 +1,10 @@
 //! The type variables that are visible where a type stands, and what a name means there.
 
 ghost use Rattle.std.specs.Prelude.{◌≡◌, ◌++◌, ◌∷◌, [], length, take, is_some, slice_get, option_copied, ◌≤◌, ◌^◌, IfOk, OnOk, OnErr};
-ghost use Rattle.jl_written.specs.Meaning.{var_of, var_or, named};
+ghost use Rattle.jl_written.specs.Meaning.{var_of, var_or, meaning_of};
 ghost use Rattle.jl_written.specs.Signatures.{shifted, HasLargeNumber};
 
-use crate::names::{small, word_of};
+use crate::names::{to_u32, word_of};
 use crate::reading::{Named, TypeVar};
 use jl_names::decls::FirstDecls;
 use jl_names::stack::NameStack;
@@ -132,7 +132,7 @@ impl<'a> Statics<'a> {
     {
         Ok(Statics {
             vars: Some(vars),
-            by: small(by)?,
+            by: to_u32(by)?,
         })
     }
 
@@ -157,7 +157,7 @@ impl<'a> Statics<'a> {
             Some(vars) => match vars.find(name) {
                 None => Ok(other),
                 Some(var) => {
-                    let number = small(self.by as usize + var.number as usize)?;
+                    let number = to_u32(self.by as usize + var.number as usize)?;
                     Ok(Named::Variable(number, var.usable))
                 }
             },
@@ -193,8 +193,12 @@ pub(crate) fn is_bound(around: &Around<'_>, vars: &TypeVars, name: &[u8]) -> boo
 }
 
 /// What a name means where a type must stand: a visible type variable hides a declared type of its name.
-pub(crate) fn named(around: &Around<'_>, vars: &TypeVars, name: &[u8]) -> Result<Named, AllocError>
-    ensures { IfOk result (λ n. n ≡ named around.now.decls.now (around.now.statics ++ vars.now) name.now) }
+pub(crate) fn meaning_of(
+    around: &Around<'_>,
+    vars: &TypeVars,
+    name: &[u8],
+) -> Result<Named, AllocError>
+    ensures { IfOk result (λ n. n ≡ meaning_of around.now.decls.now (around.now.statics ++ vars.now) name.now) }
 {
     match vars.find(name) {
         Some(var) => Ok(Named::Variable(var.number, var.usable)),

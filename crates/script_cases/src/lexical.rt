@@ -3,8 +3,8 @@
 use crate::outline_types::put_type;
 use crate::text::Written;
 use crate::type_places::put_type_places;
-use jl_marks::marks::marked;
-use jl_marks::newlines::bare;
+use jl_marks::marks::with_marks;
+use jl_marks::newlines::drop_newlines;
 use jl_model::ty::Bytes;
 use jl_token::token::{Token, TokenFault, TokenKind, Tokens};
 use jl_token::{line_tokens, tokens};
@@ -117,9 +117,9 @@ pub fn type_tree(alloc: Global, source: &[u8], from: usize) -> Result<String, Al
 
 /// How many tokens of these the grammar sees, and the marks of the first of them.
 fn mark_text(alloc: Global, found: &[Token]) -> Result<String, AllocError> {
-    let seen = bare(alloc, found)?;
+    let seen = drop_newlines(alloc, found)?;
     let count = seen.len();
-    let marked = marked(alloc, seen)?;
+    let marked = with_marks(alloc, seen)?;
     match marked.top() {
         None => format!(in alloc; "no token"),
         Some(first) => {

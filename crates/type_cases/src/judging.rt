@@ -4,7 +4,7 @@ use crate::halt::Halt;
 use crate::heads::read_signature;
 use crate::reading::read_type;
 use crate::types::plain_scope;
-use jl_judge::over;
+use jl_judge::judge_over;
 use jl_model::ty::Ty;
 use jl_resolve_forms::judge::Judge;
 use jl_types::Table;
@@ -19,7 +19,7 @@ fn yes_or_no(answer: bool) -> &'static str {
 /// Whether a type is below one that is read.
 fn below_read(alloc: Global, table: &Table, low: &Ty, text: &str) -> Result<&'static str, Halt> {
     let high = read_type(alloc, plain_scope(table), text)?;
-    let answer = over(table).below(alloc, low, &high);
+    let answer = judge_over(table).below(alloc, low, &high);
     drop(high);
     Ok(yes_or_no(answer?))
 }
@@ -36,19 +36,19 @@ fn below(alloc: Global, table: &Table, text: &str) -> Result<&'static str, Halt>
 /// What refuses a signature.
 fn of_signature(alloc: Global, table: &Table, text: &str) -> Result<Option<StaticKind>, Halt> {
     let written = read_signature(alloc, table, text)?;
-    Ok(over(table).refuses_signature(alloc, &written)?)
+    Ok(judge_over(table).refuses_signature(alloc, &written)?)
 }
 
 /// What refuses a type in a body.
 fn of_body(alloc: Global, table: &Table, text: &str) -> Result<Option<StaticKind>, Halt> {
     let written = read_signature(alloc, table, text)?;
-    Ok(over(table).refuses_body(alloc, &written)?)
+    Ok(judge_over(table).refuses_body(alloc, &written)?)
 }
 
 /// Whether the signature of the fields of a type is too large.
 fn wide(alloc: Global, table: &Table, text: &str) -> Result<&'static str, Halt> {
     let number = text.parse::<u32>().unwrap_or(u32::MAX);
-    Ok(yes_or_no(over(table).is_wide(alloc, number)?))
+    Ok(yes_or_no(judge_over(table).is_wide(alloc, number)?))
 }
 
 fn refusal_text(alloc: Global, refusal: Option<StaticKind>) -> Result<String, Halt> {

@@ -30,16 +30,16 @@ generated-requires-clause-number g c = λ κs bounds. (rw c.in-Gen.is at c.requi
 
 pub returns-in-Run : goal.returns-in-Run
 returns-in-Run g c =
-    all_owed c.owed.result c.args.command (C.Run c.in-Run.threads c.in-Run.fuel) (W.Run (whole_setup c.in-Run.threads c.in-Run.fuel) T.Text) (W.Run c.with_whole_cache.result T.Text) c.args.bytes.now c.in-Run.is
-    (ap (λ (s : Setup). W.Run s T.Text) (setup_is c.with_whole_cache.result c.in-Run.threads c.in-Run.fuel c.with_whole_cache.ensures.given c.with_whole_cache.ensures.cache)) refl c.owed.ensures
+    all_owed c.owe.result c.args.command (C.Run c.in-Run.threads c.in-Run.fuel) (W.Run (whole_setup c.in-Run.threads c.in-Run.fuel) T.Text) (W.Run c.with_whole_cache.result T.Text) c.args.bytes.now c.in-Run.is
+    (ap (λ (s : Setup). W.Run s T.Text) (setup_is c.with_whole_cache.result c.in-Run.threads c.in-Run.fuel c.with_whole_cache.ensures.given c.with_whole_cache.ensures.cache)) refl c.owe.ensures
 
 pub returns-in-Trace : goal.returns-in-Trace
 returns-in-Trace g c =
-    all_owed c.owed-in-Trace.result c.args.command (C.Trace c.in-Trace.threads c.in-Trace.fuel) (W.Run (whole_setup c.in-Trace.threads c.in-Trace.fuel) T.Trace) (W.Run c.with_whole_cache-in-Trace.result T.Trace) c.args.bytes.now c.in-Trace.is
-    (ap (λ (s : Setup). W.Run s T.Trace) (setup_is c.with_whole_cache-in-Trace.result c.in-Trace.threads c.in-Trace.fuel c.with_whole_cache-in-Trace.ensures.given c.with_whole_cache-in-Trace.ensures.cache)) refl c.owed-in-Trace.ensures
+    all_owed c.owe-in-Trace.result c.args.command (C.Trace c.in-Trace.threads c.in-Trace.fuel) (W.Run (whole_setup c.in-Trace.threads c.in-Trace.fuel) T.Trace) (W.Run c.with_whole_cache-in-Trace.result T.Trace) c.args.bytes.now c.in-Trace.is
+    (ap (λ (s : Setup). W.Run s T.Trace) (setup_is c.with_whole_cache-in-Trace.result c.in-Trace.threads c.in-Trace.fuel c.with_whole_cache-in-Trace.ensures.given c.with_whole_cache-in-Trace.ensures.cache)) refl c.owe-in-Trace.ensures
 
 pub returns-in-Check : goal.returns-in-Check
-returns-in-Check g c = all_owed c.owed-in-Check.result c.args.command C.Check W.Check W.Check c.args.bytes.now c.in-Check.is refl refl c.owed-in-Check.ensures
+returns-in-Check g c = all_owed c.owe-in-Check.result c.args.command C.Check W.Check W.Check c.args.bytes.now c.in-Check.is refl refl c.owe-in-Check.ensures
 
 pub replayed-requires : goal.replayed-requires
 replayed-requires g c = rw c.in-Replay.is at c.requires.limited

@@ -1,5 +1,5 @@
 use Rattle.std.proofs.Common.{[], ◌∷◌, ◌≡◌, ◌∙◌, sym, ap, subst}
-use Rattle.jl_grammar.specs.Marks.{marked}
+use Rattle.jl_grammar.specs.Marks.{with_marks}
 use Rattle.jl_reader.specs.Answers.{state_of}
 use Rattle.jl_reader.proofs.Ended.{SoFar, script_given, fault_given, one_more}
 use Rattle.jl_reader.proofs.StaysMachine.{depth_of}
@@ -8,7 +8,7 @@ use Rattle.jl_reader.proofs.reading.read.Goals as goal
 pub loop-token-init : goal.loop-token-init
 loop-token-init c = record {
   front = [];
-  split = c.in_ok-left.ensures ∙ ap marked c.in_ok-lexemes.ensures;
+  split = c.in_ok-left.ensures ∙ ap with_marks c.in_ok-lexemes.ensures;
   state = sym c.start-reading.ensures;
   none = ap (λ x. depth_of x) c.start-reading.ensures;
 }

@@ -210,8 +210,8 @@ expr-returns-in_ok-written-in-Make g t c =
     let sc = c.args.scope.now in
     let e = c.args.text.now in
     record {
-      means = given c.exprs-arguments-in-Make.result c.ended.result _ _ _ c.ended.ensures c.exprs-arguments-in-Make.ensures.means (λ y z m d. form-Make ts k e c.in-Make.field-0 c.in-Make.ty c.in-Make.texts c.as_slice-in-Make.result.now sc st c.begun.new.state c.exprs-arguments-in-Make.new.state c.ended.new.state c.in_ok-written-in-Make.written y z c.in-Make.is c.in_ok-written-in-Make.ensures c.as_slice-in-Make.ensures m d);
-      kept = given_on c.exprs-arguments-in-Make.result c.ended.result _ _ _ c.ended.ensures c.exprs-arguments-in-Make.ensures.kept (λ h. h);
+      means = given c.exprs-arguments-in-Make.result c.end_make.result _ _ _ c.end_make.ensures c.exprs-arguments-in-Make.ensures.means (λ y z m d. form-Make ts k e c.in-Make.field-0 c.in-Make.ty c.in-Make.texts c.as_slice-in-Make.result.now sc st c.begin_make.new.state c.exprs-arguments-in-Make.new.state c.end_make.new.state c.in_ok-written-in-Make.written y z c.in-Make.is c.in_ok-written-in-Make.ensures c.as_slice-in-Make.ensures m d);
+      kept = given_on c.exprs-arguments-in-Make.result c.end_make.result _ _ _ c.end_make.ensures c.exprs-arguments-in-Make.ensures.kept (λ h. h);
     }
 
 pub expr-returns-in_ok-left-in-Infix : goal.expr-returns-in_ok-left-in-Infix
@@ -297,8 +297,8 @@ expr-returns-in_ok-place-in-Spawn g t c =
     let sc = c.args.scope.now in
     let e = c.args.text.now in
     record {
-      means = given c.expr-code-in-Spawn.result c.spawned_at.result _ _ _ c.spawned_at.ensures c.expr-code-in-Spawn.ensures.means (λ y z m d. form-Spawn ts k e c.in-Spawn.field-0 c.in-Spawn.inner sc st c.awaited.new.state c.expr-code-in-Spawn.new.state c.spawned_at.new.state c.in_ok-place-in-Spawn.place y z c.in-Spawn.is c.in_ok-place-in-Spawn.ensures (part ts k c.in-Spawn.inner c.get-in-Spawn.result.now y y sc sc c.awaited.new.state c.expr-code-in-Spawn.new.state refl c.get-in-Spawn.ensures refl m) d);
-      kept = given_on c.expr-code-in-Spawn.result c.spawned_at.result _ _ _ c.spawned_at.ensures c.expr-code-in-Spawn.ensures.kept (λ h. h);
+      means = given c.expr-code-in-Spawn.result c.end_spawn.result _ _ _ c.end_spawn.ensures c.expr-code-in-Spawn.ensures.means (λ y z m d. form-Spawn ts k e c.in-Spawn.field-0 c.in-Spawn.inner sc st c.reserve_spawn.new.state c.expr-code-in-Spawn.new.state c.end_spawn.new.state c.in_ok-place-in-Spawn.place y z c.in-Spawn.is c.in_ok-place-in-Spawn.ensures (part ts k c.in-Spawn.inner c.get-in-Spawn.result.now y y sc sc c.reserve_spawn.new.state c.expr-code-in-Spawn.new.state refl c.get-in-Spawn.ensures refl m) d);
+      kept = given_on c.expr-code-in-Spawn.result c.end_spawn.result _ _ _ c.end_spawn.ensures c.expr-code-in-Spawn.ensures.kept (λ h. h);
     }
 
 pub expr-returns-in-EvalMethod : goal.expr-returns-in-EvalMethod
@@ -447,8 +447,8 @@ block-returns g t c =
     let k = c.args.known.now in
     let st = c.args.state.now in
     record {
-      means = weaker c.block_ended.result _ _ c.block_ended.ensures.means (λ z d. block_end (stmt_reads ts k) c.args.texts.now c.loop-text.text-index c.loop-text.out c.loop-text.scope c.args.scope.now c.loop-text.state st z c.loop-text.invariant c.loop-text-test.false d);
-      kept = always c.block_ended.result _ (block_kept (stmt_reads ts k) c.args.texts.now c.loop-text.text-index c.loop-text.out c.loop-text.scope c.args.scope.now c.block_ended.new.scope c.loop-text.state st c.len-visible.result c.loop-text.invariant c.loop-text-test.false c.len-visible.ensures c.block_ended.ensures.kept);
+      means = weaker c.end_block.result _ _ c.end_block.ensures.means (λ z d. block_end (stmt_reads ts k) c.args.texts.now c.loop-text.text-index c.loop-text.out c.loop-text.scope c.args.scope.now c.loop-text.state st z c.loop-text.invariant c.loop-text-test.false d);
+      kept = always c.end_block.result _ (block_kept (stmt_reads ts k) c.args.texts.now c.loop-text.text-index c.loop-text.out c.loop-text.scope c.args.scope.now c.end_block.new.scope c.loop-text.state st c.len-visible.result c.loop-text.invariant c.loop-text-test.false c.len-visible.ensures c.end_block.ensures.kept);
     }
 
 pub stmt-returns-in-Bind : goal.stmt-returns-in-Bind
@@ -458,7 +458,7 @@ stmt-returns-in-Bind g t c =
     let st = c.args.state.now in
     let sc = c.args.scope.now in
     let e = c.args.text.now in
-    both_given c.expr-code.result c.bound.result _ _ _ _ c.bound.ensures c.expr-code.ensures.means c.expr-code.ensures.kept (λ y z m h d. says-Bind ts k e c.in-Bind.name c.in-Bind.value sc c.expr-code.new.scope c.bound.new.scope st c.expr-code.new.state c.bound.new.state y z c.in-Bind.is h m d)
+    both_given c.expr-code.result c.bind.result _ _ _ _ c.bind.ensures c.expr-code.ensures.means c.expr-code.ensures.kept (λ y z m h d. says-Bind ts k e c.in-Bind.name c.in-Bind.value sc c.expr-code.new.scope c.bind.new.scope st c.expr-code.new.state c.bind.new.state y z c.in-Bind.is h m d)
 
 pub stmt-returns-in-Return : goal.stmt-returns-in-Return
 stmt-returns-in-Return g t c =
@@ -467,7 +467,7 @@ stmt-returns-in-Return g t c =
     let st = c.args.state.now in
     let sc = c.args.scope.now in
     let e = c.args.text.now in
-    both_given c.expr.result c.returned.result _ _ _ _ c.returned.ensures c.expr.ensures.means c.expr.ensures.kept (λ y z m h d. says-Return ts k e c.in-Return.field-0 c.in-Return.value sc c.expr.new.scope st c.expr.new.state y z c.in-Return.is h m d)
+    both_given c.expr.result c.return_statement.result _ _ _ _ c.return_statement.ensures c.expr.ensures.means c.expr.ensures.kept (λ y z m h d. says-Return ts k e c.in-Return.field-0 c.in-Return.value sc c.expr.new.scope st c.expr.new.state y z c.in-Return.is h m d)
 
 pub stmt-returns-in-ReturnNothing : goal.stmt-returns-in-ReturnNothing
 stmt-returns-in-ReturnNothing g t c =
@@ -485,7 +485,7 @@ stmt-returns-in-Do g t c =
     let st = c.args.state.now in
     let sc = c.args.scope.now in
     let e = c.args.text.now in
-    both_given c.expr-in-Do.result c.done.result _ _ _ _ c.done.ensures c.expr-in-Do.ensures.means c.expr-in-Do.ensures.kept (λ y z m h d. says-Do ts k e c.in-Do.value sc c.expr-in-Do.new.scope st c.expr-in-Do.new.state y z c.in-Do.is h m d)
+    both_given c.expr-in-Do.result c.do_statement.result _ _ _ _ c.do_statement.ensures c.expr-in-Do.ensures.means c.expr-in-Do.ensures.kept (λ y z m h d. says-Do ts k e c.in-Do.value sc c.expr-in-Do.new.scope st c.expr-in-Do.new.state y z c.in-Do.is h m d)
 
 pub piece-returns-in-Text : goal.piece-returns-in-Text
 piece-returns-in-Text g t c =
@@ -546,7 +546,7 @@ method-returns-in_ok-number-in-Long g t c =
     let k = c.args.known.now in
     let st = c.args.state.now in
     let e = c.args.text.now in
-    both_given c.block-code.result c.finished.result _ _ _ _ c.finished.ensures c.block-code.ensures.means c.block-code.ensures.kept (λ y z m h d. method-long ts k e c.in-Long.field-0 c.in-Long.head c.in-Long.body c.as_slice.result.now c.args.types c.in_ok-number-in-Long.opening c.block-code.new.scope st c.started.new.state c.block-code.new.state c.finished.new.state c.in_ok-number-in-Long.number z y c.in-Long.is c.in_ok-number-in-Long.ensures c.as_slice.ensures h m d)
+    both_given c.block-code.result c.finish_method.result _ _ _ _ c.finish_method.ensures c.block-code.ensures.means c.block-code.ensures.kept (λ y z m h d. method-long ts k e c.in-Long.field-0 c.in-Long.head c.in-Long.body c.as_slice.result.now c.args.types c.in_ok-number-in-Long.opening c.block-code.new.scope st c.start_method.new.state c.block-code.new.state c.finish_method.new.state c.in_ok-number-in-Long.number z y c.in-Long.is c.in_ok-number-in-Long.ensures c.as_slice.ensures h m d)
 
 pub method-returns-in_ok-number-in-Short : goal.method-returns-in_ok-number-in-Short
 method-returns-in_ok-number-in-Short g t c =
@@ -554,7 +554,7 @@ method-returns-in_ok-number-in-Short g t c =
     let k = c.args.known.now in
     let st = c.args.state.now in
     let e = c.args.text.now in
-    both_given c.expr-code.result c.finished-in-Short.result _ _ _ _ c.finished-in-Short.ensures c.expr-code.ensures.means c.expr-code.ensures.kept (λ y z m h d. method-short ts k e c.in-Short.field-0 c.in-Short.head c.in-Short.body c.get.result.now c.args.types c.in_ok-number-in-Short.opening c.expr-code.new.scope st c.started-in-Short.new.state c.expr-code.new.state c.finished-in-Short.new.state c.in_ok-number-in-Short.number z y c.in-Short.is c.in_ok-number-in-Short.ensures c.get.ensures h m d)
+    both_given c.expr-code.result c.finish_method-in-Short.result _ _ _ _ c.finish_method-in-Short.ensures c.expr-code.ensures.means c.expr-code.ensures.kept (λ y z m h d. method-short ts k e c.in-Short.field-0 c.in-Short.head c.in-Short.body c.get.result.now c.args.types c.in_ok-number-in-Short.opening c.expr-code.new.scope st c.start_method-in-Short.new.state c.expr-code.new.state c.finish_method-in-Short.new.state c.in_ok-number-in-Short.number z y c.in-Short.is c.in_ok-number-in-Short.ensures c.get.ensures h m d)
 
 pub method-block-code-requires : goal.method-block-code-requires
 method-block-code-requires g t c = λ κs h.

@@ -5,14 +5,14 @@ use Rattle.jl_resolve_walk.proofs.top.put_top.Goals as goal
 pub returns-in-Abstract : goal.returns-in-Abstract
 returns-in-Abstract g c =
     let ts = g.J.Judge.tests c.args.judge.now in
-    weaker_on c.declared.result _ _ c.declared.ensures
-    (λ h. top-Abstract ts c.args.known.now c.args.text.now c.in-Abstract.field-0 c.args.out.now c.args.scope.now c.declared.new.scope c.args.state.now c.in-Abstract.is h)
+    weaker_on c.declare_type.result _ _ c.declare_type.ensures
+    (λ h. top-Abstract ts c.args.known.now c.args.text.now c.in-Abstract.field-0 c.args.out.now c.args.scope.now c.declare_type.new.scope c.args.state.now c.in-Abstract.is h)
 
 pub returns-in-Struct : goal.returns-in-Struct
 returns-in-Struct g c =
     let ts = g.J.Judge.tests c.args.judge.now in
-    weaker_on c.declared-in-Struct.result _ _ c.declared-in-Struct.ensures
-    (λ h. top-Struct ts c.args.known.now c.args.text.now c.in-Struct.field-0 c.args.out.now c.args.scope.now c.declared-in-Struct.new.scope c.args.state.now c.in-Struct.is h)
+    weaker_on c.declare_type-in-Struct.result _ _ c.declare_type-in-Struct.ensures
+    (λ h. top-Struct ts c.args.known.now c.args.text.now c.in-Struct.field-0 c.args.out.now c.args.scope.now c.declare_type-in-Struct.new.scope c.args.state.now c.in-Struct.is h)
 
 pub returns-in_ok-site-in-Method : goal.returns-in_ok-site-in-Method
 returns-in_ok-site-in-Method g c =
@@ -24,7 +24,7 @@ pub returns-in_ok-statement-in-Bind : goal.returns-in_ok-statement-in-Bind
 returns-in_ok-statement-in-Bind g c =
     let ts = g.J.Judge.tests c.args.judge.now in
     weaker_on c.push-in-Bind.result _ _ c.push-in-Bind.ensures
-    (λ h. top-Bind ts c.args.known.now c.args.text.now c.in-Bind.name c.in-Bind.value c.args.out.now c.push-in-Bind.new.self c.args.scope.now c.expr.new.scope c.bound.new.scope c.args.state.now c.expr.new.state c.bound.new.state c.in_ok-code-in-Bind.code c.in_ok-statement-in-Bind.statement c.in-Bind.is c.in_ok-code-in-Bind.ensures.means c.in_ok-code-in-Bind.ensures.kept c.in_ok-statement-in-Bind.ensures h)
+    (λ h. top-Bind ts c.args.known.now c.args.text.now c.in-Bind.name c.in-Bind.value c.args.out.now c.push-in-Bind.new.self c.args.scope.now c.expr.new.scope c.bind_top.new.scope c.args.state.now c.expr.new.state c.bind_top.new.state c.in_ok-code-in-Bind.code c.in_ok-statement-in-Bind.statement c.in-Bind.is c.in_ok-code-in-Bind.ensures.means c.in_ok-code-in-Bind.ensures.kept c.in_ok-statement-in-Bind.ensures h)
 
 pub returns-in_ok-code-in-Do : goal.returns-in_ok-code-in-Do
 returns-in_ok-code-in-Do g c =

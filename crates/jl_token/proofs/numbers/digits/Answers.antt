@@ -4,7 +4,7 @@ use Rattle.jl_token.specs.Reading.{digits}
 use Rattle.jl_token.proofs.Capped.{capped-digit, capped-ends, capped-rest, digits-stop, digits-end}
 use Rattle.jl_token.proofs.DigitText.{digits-progress}
 use Rattle.jl_token.proofs.numbers.digits.Goals as goal
-use Rattle.jl_token.proofs.numbers.digits.Goals.{in-Some+else-is_ascii_digit+then-not-joins_digits, in_default}
+use Rattle.jl_token.proofs.numbers.digits.Goals.{in-Some+else-is_ascii_digit+then-not-is_separator, in_default}
 
 pub loop-first-preserved-then-is_ascii_digit : goal.loop-first-preserved-then-is_ascii_digit
 loop-first-preserved-then-is_ascii_digit c = (
@@ -20,8 +20,8 @@ returns-clause-value c =
     let rest = chars c.loop-first.rest.now in
     let whole = digits 0 (chars c.args.text.now) in
     elim c.match-split_first.branch [
-      | in-Some+else-is_ascii_digit+then-not-joins_digits w ↦
-          capped-ends value rest whole c.loop-first.invariant.3 (digits-stop value w.in-Some.first rest (chars w.in-Some.after.now) w.in-Some.ensures.split (sym w.if-is_ascii_digit.ensures.value) (sym w.if-not-joins_digits.ensures)) c.loop-first.invariant.1
+      | in-Some+else-is_ascii_digit+then-not-is_separator w ↦
+          capped-ends value rest whole c.loop-first.invariant.3 (digits-stop value w.in-Some.first rest (chars w.in-Some.after.now) w.in-Some.ensures.split (sym w.if-is_ascii_digit.ensures.value) (sym w.if-not-is_separator.ensures)) c.loop-first.invariant.1
       | in_default w ↦ capped-ends value rest whole c.loop-first.invariant.3 (digits-end value rest w.in_default.ensures.split) c.loop-first.invariant.1
     ]
 
@@ -32,8 +32,8 @@ returns-clause-progress c = λ digit.
     let whole = digits 0 (chars c.args.text.now) in
     let is : rest ≡ whole.1 =
     elim c.match-split_first.branch [
-      | in-Some+else-is_ascii_digit+then-not-joins_digits w ↦
-          capped-rest value rest whole (digits-stop value w.in-Some.first rest (chars w.in-Some.after.now) w.in-Some.ensures.split (sym w.if-is_ascii_digit.ensures.value) (sym w.if-not-joins_digits.ensures)) c.loop-first.invariant.1
+      | in-Some+else-is_ascii_digit+then-not-is_separator w ↦
+          capped-rest value rest whole (digits-stop value w.in-Some.first rest (chars w.in-Some.after.now) w.in-Some.ensures.split (sym w.if-is_ascii_digit.ensures.value) (sym w.if-not-is_separator.ensures)) c.loop-first.invariant.1
       | in_default w ↦ capped-rest value rest whole (digits-end value rest w.in_default.ensures.split) c.loop-first.invariant.1
     ] in
     digits-progress c.args.text.now c.loop-first.rest.now c.utf8.text c.loop-first.invariant.0 is digit

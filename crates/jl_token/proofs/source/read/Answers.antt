@@ -16,7 +16,7 @@ loop-rest-preserved-in_ok-push c =
     let full = full-chars c.loop-rest.rest.now c.loop-rest.invariant.0 (sym c.loop-rest-test.ensures) in
     let after = chars c.in_ok-kind.after.now in (
       search rules,
-      takes _ _ c.loop-rest.found.items _ c.loop-rest.prefix _ _ after c.in-Some.kind c.place-at.result full (c.in_ok-kind.ensures.found ∙ ap (λ o. Ok (o, after)) c.in-Some.is) c.is_prefix_behind-prefix.ensures c.place-at.ensures c.in_ok-push.ensures.items c.loop-rest.invariant.1,
+      takes _ _ c.loop-rest.found.items _ c.loop-rest.prefix _ _ after c.in-Some.kind c.place-at.result full (c.in_ok-kind.ensures.found ∙ ap (λ o. Ok (o, after)) c.in-Some.is) c.is_prefix_after-prefix.ensures c.place-at.ensures c.in_ok-push.ensures.items c.loop-rest.invariant.1,
       omega (arith, c.in_ok-kind.ensures.shorter (full-bytes c.loop-rest.rest.now (sym c.loop-rest-test.ensures))),
     )
 

@@ -1,8 +1,8 @@
 use Rattle.std.proofs.Common.{◌≡◌, ◌∙◌, sym, ap}
 use Rattle.std.specs.Option.{option_copied_mut}
-use Rattle.jl_names.specs.Numbers.{number_in, renumbered}
+use Rattle.jl_names.specs.Numbers.{number_in, renumber}
 use Rattle.jl_names.specs.contracts.table.NameMap.{the_view}
-use Rattle.jl_names.proofs.EntryLemmas.{same_bytes, looked, renumbered_is, renumbered_none, pairs}
+use Rattle.jl_names.proofs.EntryLemmas.{same_bytes, looked, renumber_is, renumber_none, pairs}
 use Rattle.jl_names.proofs.table.NameMap.renumber.Goals as goal
 use Rattle.jl_names.proofs.table.NameMap.renumber.Goals.{in-Some, in_default}
 
@@ -10,11 +10,11 @@ pub returns : goal.returns
 returns c = elim c.match-get_mut.branch [
   | in-Some w ↦
       ap the_view w.self-inside-is ∙ ap (pairs (λ k. k.items)) (c.get_mut.follows.holds c.args.number).0
-      ∙ renumbered_is (λ k. k.items) _ c.args.name.now c.args.number (λ k. same_bytes c.args.name.now k.items) c.self.inside.numbers.entries
-      ∙ ap (λ z. renumbered z (c.args.name.now, c.args.number)) c.self.view_is
+      ∙ renumber_is (λ k. k.items) _ c.args.name.now c.args.number (λ k. same_bytes c.args.name.now k.items) c.self.inside.numbers.entries
+      ∙ ap (λ z. renumber z (c.args.name.now, c.args.number)) c.self.view_is
   | in_default w ↦
       ap the_view w.self-inside-is ∙ ap (λ m. pairs (λ k. k.items) m.entries) c.get_mut.follows.holds-at-none ∙ c.self.view_is
-      ∙ sym (renumbered_none c.args.name.now c.args.number c.args.self.now
+      ∙ sym (renumber_none c.args.name.now c.args.number c.args.self.now
       (ap (λ z. number_in z c.args.name.now) (sym c.self.view_is) ∙ sym (looked (λ k. k.items) _ c.args.name.now (λ k. same_bytes c.args.name.now k.items) c.self.inside.numbers.entries)
       ∙ sym c.get_mut.ensures.value ∙ ap option_copied_mut w.in_default.is))
 ]

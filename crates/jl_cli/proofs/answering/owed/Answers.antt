@@ -1,5 +1,0 @@
-use Rattle.jl_cli.proofs.Running.{refused_so}
-use Rattle.jl_cli.proofs.answering.owed.Goals as goal
-
-pub returns-in-Err : goal.returns-in-Err
-returns-in-Err g c = refused_so c.refused.result c.args.work c.args.bytes.now c.in-Err.line (rw c.in-Err.is at c.in_ok-script.ensures) c.refused.ensures

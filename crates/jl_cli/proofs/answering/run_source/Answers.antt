@@ -1,0 +1,11 @@
+use Rattle.jl_cli.proofs.Running.{ran_so}
+use Rattle.jl_cli.proofs.answering.run_source.Goals as goal
+
+pub told-requires : goal.told-requires
+told-requires g c = c.in_ok-history.ensures.legal.so_far.stand
+
+pub returns : goal.returns
+returns g c =
+    ran_so c.args.setup c.args.telling c.args.ready.now c.in_ok-history.history _ _
+    (record { legal = c.in_ok-history.ensures.legal; begun = c.in_ok-history.ensures.begun; cached = c.in_ok-history.ensures.cached })
+    c.status-status.ensures c.in_ok-text.ensures

@@ -1,5 +1,0 @@
-use Rattle.jl_judge.proofs.TestLemmas.{right}
-use Rattle.jl_judge.proofs.judge.right.Goals as goal
-
-pub returns : goal.returns
-returns c = right c.args.judge.now.table.now c.args.judge.now.declared c.valid.ensures
