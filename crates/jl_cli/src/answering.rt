@@ -80,7 +80,8 @@ fn run_source<R: Threads + Wait + Sync, G: Gate>(
     ops: &HostOps,
 ) -> Result<Due, AllocError>
     requires { IsSetup setup }
-    ensures { IfOk result (λ due. IsResult (W.Run setup telling) ready.now due.status due.history due.text) }
+    ensures { IfOk result
+        (λ due. IsResult (W.Run setup telling) ready.now due.status due.history due.text) }
 {
     let history = run_tasks(rt, alloc, ready, &setup, gate, ops)?;
     let text = told(alloc, telling, ready, &history)?;
@@ -156,7 +157,8 @@ fn owed_for_run<R: Threads + Wait + Sync, G: Gate>(
 ) -> Result<Due, AllocError>
     requires script { AreScript bytes.now script.now }
     requires setup { IsSetup setup }
-    ensures { IfOk result (λ due. IsOwed (W.Run setup telling) bytes.now due.status due.history due.text) }
+    ensures { IfOk result
+        (λ due. IsOwed (W.Run setup telling) bytes.now due.status due.history due.text) }
 {
     match program(alloc, script) {
         Ok(ready) => {
@@ -227,7 +229,8 @@ fn generated<R: Threads + Wait + Sync, G: Gate>(
 ) -> Result<Due, AllocError>
     requires number { n ≤ MOST_NUMBER }
     requires setup { IsSetup setup }
-    ensures { IfOk result (λ due. IsOwed (W.Run setup (T.Summary n)) (script_text n) due.status due.history due.text) }
+    ensures { IfOk result (λ due. IsOwed (W.Run setup (T.Summary n)) (script_text n)
+        due.status due.history due.text) }
 {
     let text = script_of(alloc, n)?;
     owe(

@@ -18,7 +18,8 @@ use std::alloc::{AllocError, Global};
 /// What the judgement of a history over a program comes to.
 fn judged(alloc: Global, ready: &Ready, history: &[u8], ops: &HostOps) -> Result<Due, AllocError>
     requires { length history.now ≤ MOST_HISTORY_BYTES }
-    ensures { IfOk result (λ due. IsVerdictTold ready.now history.now due.status due.text × (due.history ≡ None)) }
+    ensures { IfOk result (λ due. IsVerdictTold ready.now history.now due.status due.text
+        × (due.history ≡ None)) }
 {
     let verdict = replay(alloc, ready, history, ops)?;
     let text = verdict_line(alloc, verdict)?;
@@ -39,7 +40,8 @@ fn judged_for(
 ) -> Result<Due, AllocError>
     requires script { AreScript bytes.now script.now }
     requires short { length history.now ≤ MOST_HISTORY_BYTES }
-    ensures { IfOk result (λ due. IsJudged bytes.now history.now due.status due.text × (due.history ≡ None)) }
+    ensures { IfOk result (λ due. IsJudged bytes.now history.now due.status due.text
+        × (due.history ≡ None)) }
 {
     match program(alloc, script) {
         Ok(ready) => {
@@ -58,7 +60,8 @@ fn judged_for(
 /// What the judgement of a history of the script that these bytes are comes to.
 fn judge(alloc: Global, bytes: &[u8], history: &[u8], ops: &HostOps) -> Result<Due, AllocError>
     requires { length history.now ≤ MOST_HISTORY_BYTES }
-    ensures { IfOk result (λ due. IsJudged bytes.now history.now due.status due.text × (due.history ≡ None)) }
+    ensures { IfOk result (λ due. IsJudged bytes.now history.now due.status due.text
+        × (due.history ≡ None)) }
 {
     let script = match script(alloc, bytes)? {
         Ok(script) => script,

@@ -10,31 +10,42 @@ ghost use Rattle.jl_cli.specs.Laws.{ChecksTo, IsHistoryOf, IsRefusalLine};
 
 /// Status 2 is due exactly where the words are no command.
 pub fn law_usage()
-    ensures { (asked : Option AnyCommand) (bytes : List ℕ) (status : ℕ) (h : Option AnyHistory) (text : List ℕ) → IsDue asked bytes status h text → (status ≡ 2) ↔ (asked ≡ None) }
+    ensures { (asked : Option AnyCommand) (bytes : List ℕ)
+        (status : ℕ) (h : Option AnyHistory) (text : List ℕ)
+        → IsDue asked bytes status h text → (status ≡ 2) ↔ (asked ≡ None) }
 {}
 
 /// What `check` owes is the counts of a program with status 0, or the line of a fault with status 3, and never a history.
 pub fn law_check()
-    ensures { (bytes : List ℕ) (status : ℕ) (h : Option AnyHistory) (text : List ℕ) → IsDue (Some Check) bytes status h text ↔ ChecksTo bytes status h text }
+    ensures { (bytes : List ℕ) (status : ℕ) (h : Option AnyHistory) (text : List ℕ)
+        → IsDue (Some Check) bytes status h text ↔ ChecksTo bytes status h text }
 {}
 
 /// A history that is handed out, with whatever status, is one that the run of the program of the command's script may have.
 pub fn law_history()
-    ensures { (asked : Option AnyCommand) (bytes written : List ℕ) (s s' k k' : ℕ) (status : ℕ) (h : AnyHistory) → IsAnswer asked bytes written (Rose s s') (Rose k k') status (Some h)
+    ensures { (asked : Option AnyCommand) (bytes written : List ℕ) (s s' k k' : ℕ)
+        (status : ℕ) (h : AnyHistory)
+        → IsAnswer asked bytes written (Rose s s') (Rose k k') status (Some h)
         → (c : AnyCommand) × (asked ≡ Some c) × IsHistoryOf c bytes h }
 {}
 
 /// With status 2 exactly the usage line is written, and with status 3 exactly the line that tells why nothing was done. There is no
 /// history then.
 pub fn law_refused()
-    ensures usage { (asked : Option AnyCommand) (bytes written : List ℕ) (s s' k k' : ℕ) (h : Option AnyHistory) → IsAnswer asked bytes written (Rose s s') (Rose k k') 2 h
+    ensures usage { (asked : Option AnyCommand) (bytes written : List ℕ) (s s' k k' : ℕ)
+        (h : Option AnyHistory)
+        → IsAnswer asked bytes written (Rose s s') (Rose k k') 2 h
         → (asked ≡ None) × (written ≡ usage_line) × (h ≡ None) }
-    ensures fault { (asked : Option AnyCommand) (bytes written : List ℕ) (s s' k k' : ℕ) (h : Option AnyHistory) → IsAnswer asked bytes written (Rose s s') (Rose k k') 3 h
+    ensures fault { (asked : Option AnyCommand) (bytes written : List ℕ) (s s' k k' : ℕ)
+        (h : Option AnyHistory)
+        → IsAnswer asked bytes written (Rose s s') (Rose k k') 3 h
         → (c : AnyCommand) × (asked ≡ Some c) × IsRefusalLine c bytes written × (h ≡ None) }
 {}
 
 /// Where no count of faults rose and memory was not refused, exactly what is due was answered and written.
 pub fn law_complete()
-    ensures { (asked : Option AnyCommand) (bytes written : List ℕ) (s s' k k' : ℕ) (status : ℕ) (h : Option AnyHistory) → IsAnswer asked bytes written (Rose s s') (Rose k k') status h
+    ensures { (asked : Option AnyCommand) (bytes written : List ℕ) (s s' k k' : ℕ)
+        (status : ℕ) (h : Option AnyHistory)
+        → IsAnswer asked bytes written (Rose s s') (Rose k k') status h
         → (Rose s s' → ⊥) → (Rose k k' → ⊥) → (status ≡ 6 → ⊥) → IsDue asked bytes status h written }
 {}

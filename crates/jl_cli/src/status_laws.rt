@@ -18,26 +18,42 @@ ghost use Rattle.jl_cli.specs.Laws.{IsProgram, HasProgram, IsJudgedOver, IsToldI
 /// Status 3 is due exactly where there is no program: the script is none, or the input of `replay` is too long or has no history.
 /// For `check`, status 0 is due exactly where it is one.
 pub fn law_program_status()
-    ensures none { (c : AnyCommand) (bytes : List ℕ) (status : ℕ) (h : Option AnyHistory) (text : List ℕ) → IsDue (Some c) bytes status h text → (status ≡ 3) ↔ (HasProgram c bytes → ⊥) }
-    ensures checked { (bytes : List ℕ) (status : ℕ) (h : Option AnyHistory) (text : List ℕ) → IsDue (Some Check) bytes status h text → (status ≡ 0) ↔ IsProgram bytes }
+    ensures none { (c : AnyCommand) (bytes : List ℕ)
+        (status : ℕ) (h : Option AnyHistory) (text : List ℕ)
+        → IsDue (Some c) bytes status h text → (status ≡ 3) ↔ (HasProgram c bytes → ⊥) }
+    ensures checked { (bytes : List ℕ) (status : ℕ) (h : Option AnyHistory) (text : List ℕ)
+        → IsDue (Some Check) bytes status h text → (status ≡ 0) ↔ IsProgram bytes }
 {}
 
 /// A command that runs its script owes a history exactly where the script is a program. Its status is then 0 where the root
 /// ended with a value, and 1 where it ended with a fault.
 pub fn law_run_status()
-    ensures history { (c : AnyCommand) (setup : AnySetup) (telling : AnyTelling) (bytes : List ℕ) (status : ℕ) (h : Option AnyHistory) (text : List ℕ) → work_of c ≡ Some (W.Run setup telling)
+    ensures history { (c : AnyCommand) (setup : AnySetup) (telling : AnyTelling) (bytes : List ℕ)
+        (status : ℕ) (h : Option AnyHistory) (text : List ℕ)
+        → work_of c ≡ Some (W.Run setup telling)
         → IsDue (Some c) bytes status h text → IsSome h ↔ IsProgram (script_of c bytes) }
-    ensures outcome { (c : AnyCommand) (bytes : List ℕ) (status : ℕ) (h : AnyHistory) (text : List ℕ) → IsDue (Some c) bytes status (Some h) text → status ≡ status_of h.events }
+    ensures outcome { (c : AnyCommand) (bytes : List ℕ) (status : ℕ)
+        (h : AnyHistory) (text : List ℕ)
+        → IsDue (Some c) bytes status (Some h) text → status ≡ status_of h.events }
 {}
 
 /// Status 7 is due only for `replay`, and exactly where its input is a program with a history that is not legal; with it the line of
 /// the verdict is. Status 0 is due of `replay` exactly where its input is a program with a history that is legal.
 pub fn law_replay_status()
-    ensures alone { (asked : Option AnyCommand) (bytes : List ℕ) (h : Option AnyHistory) (text : List ℕ) → IsDue asked bytes 7 h text → (asked ≡ Some Replay) × (h ≡ None) }
-    ensures illegal { (bytes : List ℕ) (h : Option AnyHistory) (text : List ℕ) → IsDue (Some Replay) bytes 7 h text → (P : Program) × IsJudgedOver bytes P × IsToldIllegal P (history_in bytes) text }
-    ensures legal { (bytes : List ℕ) (h : Option AnyHistory) (text : List ℕ) → IsDue (Some Replay) bytes 0 h text → (P : Program) × IsJudgedOver bytes P × IsToldLegal P (history_in bytes) text }
-    ensures found { (bytes : List ℕ) (P : Program) (n : ℕ) → IsJudgedOver bytes P → IsLegalText P (history_in bytes) n
-        → (status : ℕ) (h : Option AnyHistory) (text : List ℕ) → IsDue (Some Replay) bytes status h text → status ≡ 0 }
-    ensures refuted { (bytes : List ℕ) (P : Program) → IsJudgedOver bytes P → ((n : ℕ) → IsLegalText P (history_in bytes) n → ⊥)
-        → (status : ℕ) (h : Option AnyHistory) (text : List ℕ) → IsDue (Some Replay) bytes status h text → status ≡ 7 }
+    ensures alone { (asked : Option AnyCommand) (bytes : List ℕ) (h : Option AnyHistory) (text : List ℕ)
+        → IsDue asked bytes 7 h text → (asked ≡ Some Replay) × (h ≡ None) }
+    ensures illegal { (bytes : List ℕ) (h : Option AnyHistory) (text : List ℕ)
+        → IsDue (Some Replay) bytes 7 h text
+        → (P : Program) × IsJudgedOver bytes P × IsToldIllegal P (history_in bytes) text }
+    ensures legal { (bytes : List ℕ) (h : Option AnyHistory) (text : List ℕ)
+        → IsDue (Some Replay) bytes 0 h text
+        → (P : Program) × IsJudgedOver bytes P × IsToldLegal P (history_in bytes) text }
+    ensures found { (bytes : List ℕ) (P : Program) (n : ℕ) → IsJudgedOver bytes P
+        → IsLegalText P (history_in bytes) n
+        → (status : ℕ) (h : Option AnyHistory) (text : List ℕ)
+        → IsDue (Some Replay) bytes status h text → status ≡ 0 }
+    ensures refuted { (bytes : List ℕ) (P : Program) → IsJudgedOver bytes P
+        → ((n : ℕ) → IsLegalText P (history_in bytes) n → ⊥)
+        → (status : ℕ) (h : Option AnyHistory) (text : List ℕ)
+        → IsDue (Some Replay) bytes status h text → status ≡ 7 }
 {}

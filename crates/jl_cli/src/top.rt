@@ -44,7 +44,9 @@ fn without_history(status: u8) -> Ended
 fn deliver<K: Sink>(sink: &mut K, status: u8, history: Option<History>, text: &[u8]) -> Ended
     ensures counted { K.faults sink.old ≤ K.faults sink.new }
     ensures quiet { (result.status ≡ 5 → ⊥) → K.faults sink.new ≡ K.faults sink.old }
-    ensures delivered { IsDelivered (K.written sink.old) (K.written sink.new) (Rose (K.faults sink.old) (K.faults sink.new)) status history text.now result.status result.history }
+    ensures delivered { IsDelivered (K.written sink.old) (K.written sink.new)
+        (Rose (K.faults sink.old) (K.faults sink.new))
+        status history text.now result.status result.history }
 {
     match write_all(sink, text) {
         Ok(()) => Ended { status, history },
@@ -68,7 +70,12 @@ fn obey<R: Threads + Wait + Sync, S: Source, K: Sink, G: Gate>(
     ensures writes_counted { K.faults sink.old ≤ K.faults sink.new }
     ensures reads_quiet { (result.status ≡ 4 → ⊥) → S.faults source.new ≡ S.faults source.old }
     ensures writes_quiet { (result.status ≡ 5 → ⊥) → K.faults sink.new ≡ K.faults sink.old }
-    ensures ran { HasRun (Some command) (S.left source.old) (S.left source.new) (K.written sink.old) (K.written sink.new) (Rose (S.faults source.old) (S.faults source.new)) (Rose (K.faults sink.old) (K.faults sink.new)) result.status result.history }
+    ensures ran { HasRun (Some command)
+        (S.left source.old) (S.left source.new)
+        (K.written sink.old) (K.written sink.new)
+        (Rose (S.faults source.old) (S.faults source.new))
+        (Rose (K.faults sink.old) (K.faults sink.new))
+        result.status result.history }
 {
     let bytes = match read_up_to(alloc, source, most_read(command)) {
         Ok(bytes) => bytes,
@@ -116,7 +123,12 @@ pub fn run<R: Threads + Wait + Sync, S: Source, K: Sink, G: Gate>(
     ensures writes_counted { K.faults sink.old ≤ K.faults sink.new }
     ensures reads_quiet { (result.status ≡ 4 → ⊥) → S.faults source.new ≡ S.faults source.old }
     ensures writes_quiet { (result.status ≡ 5 → ⊥) → K.faults sink.new ≡ K.faults sink.old }
-    ensures ran { HasRun (command_of (texts words.now)) (S.left source.old) (S.left source.new) (K.written sink.old) (K.written sink.new) (Rose (S.faults source.old) (S.faults source.new)) (Rose (K.faults sink.old) (K.faults sink.new)) result.status result.history }
+    ensures ran { HasRun (command_of (texts words.now))
+        (S.left source.old) (S.left source.new)
+        (K.written sink.old) (K.written sink.new)
+        (Rose (S.faults source.old) (S.faults source.new))
+        (Rose (K.faults sink.old) (K.faults sink.new))
+        result.status result.history }
 {
     match command(alloc, words) {
         Ok(command) => obey(rt, alloc, command, source, sink, gate, &ops),

@@ -75,9 +75,11 @@ fn judgement(
 ) -> Result<Judged, AllocError>
     requires table { table.old ≡ take (length table.old) decls.now }
     requires own { Declared decls.now → read.now.whole ≡ true → HasOwnVariables read.now.decl }
-    ensures judged { IfOk result (λ j. IsAnswer decls.now read.now.decl (tell_alone decls.now (nat_eq (length table.old) (length decls.now)) read.now) j) }
+    ensures judged { IfOk result (λ j. IsAnswer decls.now read.now.decl
+        (tell_alone decls.now (nat_eq (length table.old) (length decls.now)) read.now) j) }
     ensures added { IfOk result (λ j. table.new ≡ table.old ++ kept_in j) }
-    ensures table { IfOk result (λ j. table.new ≡ take (length table.new) (decls.now ++ keep_shown j read.now.decl ∷ [])) }
+    ensures table { IfOk result (λ j. table.new
+        ≡ take (length table.new) (decls.now ++ keep_shown j read.now.decl ∷ [])) }
 {
     let all_allowed = table.count() as usize == decls.len();
     table.valid();
@@ -99,7 +101,8 @@ fn add(
     fields: &[FieldText],
 ) -> Result<(), AllocError>
     requires { HasAllowed state.old }
-    ensures declared { OnOk result (IsDeclared kind header.now fields.now (declaring_of state.old) (declaring_of state.new)) }
+    ensures declared { OnOk result
+        (IsDeclared kind header.now fields.now (declaring_of state.old) (declaring_of state.new)) }
     ensures table { OnOk result (HasAllowed state.new) }
 {
     let read = read(alloc, &mut state.decls, kind, header, fields)?;
@@ -113,7 +116,8 @@ fn add(
 /// Adds what an item declares.
 fn add_item(alloc: Global, state: &mut Declarations, item: &Item) -> Result<(), AllocError>
     requires { HasAllowed state.old }
-    ensures declared { OnOk result (DeclaresOne item.now (declaring_of state.old) (declaring_of state.new)) }
+    ensures declared { OnOk result
+        (DeclaresOne item.now (declaring_of state.old) (declaring_of state.new)) }
     ensures table { OnOk result (HasAllowed state.new) }
 {
     match item {

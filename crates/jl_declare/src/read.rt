@@ -47,7 +47,8 @@ fn read_option(
     reading: &mut Reading,
     text: &Option<TypeText>,
 ) -> Result<Ty, AllocError>
-    ensures means { IfOk result (λ t. typed t reading.new ≡ option_reads around.now.decls.now text.now (around.now.statics ++ vars.old) reading.old) }
+    ensures means { IfOk result (λ t. typed t reading.new
+        ≡ option_reads around.now.decls.now text.now (around.now.statics ++ vars.old) reading.old) }
     ensures kept { OnOk result (vars.new ≡ vars.old) }
 {
     match text {
@@ -90,7 +91,9 @@ fn read_types(
     reading: &mut Reading,
     fields: &[FieldText],
 ) -> Result<Row<Ty>, AllocError>
-    ensures means { IfOk result (λ ts. types ts reading.new ≡ all_read around.now.decls.now (map (λ (f : FieldOf). f.ty) fields.now) (around.now.statics ++ vars.old) reading.old) }
+    ensures means { IfOk result (λ ts. types ts reading.new
+        ≡ all_read around.now.decls.now (map (λ (f : FieldOf). f.ty) fields.now)
+        (around.now.statics ++ vars.old) reading.old) }
     ensures kept { OnOk result (vars.new ≡ vars.old) }
 {
     let mut tys = Row::new(alloc);
@@ -137,7 +140,9 @@ fn own_types(
     heading: &mut Heading,
     fields: &[FieldText],
 ) -> Result<Row<Ty>, AllocError>
-    ensures means { IfOk result (λ ts. types ts heading.new.reading ≡ all_read (decls.old ++ heading.old.own ∷ []) (map (λ (f : FieldOf). f.ty) fields.now) heading.old.vars heading.old.reading) }
+    ensures means { IfOk result (λ ts. types ts heading.new.reading
+        ≡ all_read (decls.old ++ heading.old.own ∷ []) (map (λ (f : FieldOf). f.ty) fields.now)
+        heading.old.vars heading.old.reading) }
     ensures own { OnOk result (heading.new.own ≡ heading.old.own) }
     ensures kept { OnOk result (decls.new ≡ decls.old) }
 {
@@ -220,7 +225,8 @@ fn term_or_outline(
     unknown: bool,
     header: &Header,
 ) -> Result<Decl, AllocError>
-    ensures { IfOk result (λ d. d ≡ cond (whole && not unknown) decl (outline decl.kind header.now)) }
+    ensures { IfOk result (λ d.
+        d ≡ cond (whole && not unknown) decl (outline decl.kind header.now)) }
 {
     if whole && !unknown {
         return Ok(decl);

@@ -18,9 +18,11 @@ ghost use Rattle.jl_fault_laws.specs.TypeRows.{RefusedAt};
 /// had it. `least`: where a row holds of a use, its fault is reported, or one that it does not come before.
 #[tactic(none)]
 pub fn law_rows()
-    ensures only { (t : Tests) → TellTypes t → (k : Known) (items : List Item) (o : Option Fault) → FormedItems items → (f : Fault) → has_row f.kind ≡ true
+    ensures only { (t : Tests) → TellTypes t → (k : Known) (items : List Item) (o : Option Fault)
+        → FormedItems items → (f : Fault) → has_row f.kind ≡ true
         → (resolve t k items o).fault ≡ Some f → (o ≡ Some f) ⊎ HoldsAt k items f }
-    ensures least { (t : Tests) → TellTypes t → (k : Known) (items : List Item) (o : Option Fault) → FormedItems items → (f : Fault) → HoldsAt k items f
+    ensures least { (t : Tests) → TellTypes t → (k : Known) (items : List Item) (o : Option Fault)
+        → FormedItems items → (f : Fault) → HoldsAt k items f
         → IsReportedBy (resolve t k items o).fault f }
 {}
 
@@ -29,9 +31,11 @@ pub fn law_rows()
 /// that fault is reported, or one that it does not come before.
 #[tactic(none)]
 pub fn law_each_fault()
-    ensures only { (t : Tests) (k : Known) (items : List Item) (o : Option Fault) → FormedItems items → (f : Fault)
+    ensures only { (t : Tests) (k : Known) (items : List Item) (o : Option Fault)
+        → FormedItems items → (f : Fault)
         → (resolve t k items o).fault ≡ Some f → (o ≡ Some f) ⊎ HoldsAt k items f ⊎ RefusedAt t k items f }
-    ensures least { (t : Tests) (k : Known) (items : List Item) (o : Option Fault) → FormedItems items → (f : Fault) → RefusedAt t k items f
+    ensures least { (t : Tests) (k : Known) (items : List Item) (o : Option Fault)
+        → FormedItems items → (f : Fault) → RefusedAt t k items f
         → IsReportedBy (resolve t k items o).fault f }
 {}
 
@@ -47,6 +51,8 @@ pub fn law_examples()
     ensures binding { HoldsAt known with_two_bindings (fault 18 Rebound) }
     ensures function_name { HoldsAt known with_function_name (fault 18 Rebound) }
     ensures built_in { HoldsAt known with_built_in (fault 18 NameClash) }
-    ensures sites { (n at : ℕ) → MOST_SITES ≤ n → HoldsAt known (lines n 0 ++ method_at at ∷ []) (fault at TooManySites) }
-    ensures inferred { (t : Tests) → RefusedAt t known_struct with_inferred (fault 16 StaticParameterUse) }
+    ensures sites { (n at : ℕ) → MOST_SITES ≤ n
+        → HoldsAt known (lines n 0 ++ method_at at ∷ []) (fault at TooManySites) }
+    ensures inferred { (t : Tests)
+        → RefusedAt t known_struct with_inferred (fault 16 StaticParameterUse) }
 {}

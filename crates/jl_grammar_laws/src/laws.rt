@@ -10,6 +10,8 @@ ghost use Rattle.jl_grammar_laws.specs.Must.{TypeMust};
 /// with a token that begins no type and no argument of one, and none with a variable. And only there: at each other point the
 /// grammar allows another token, or does not allow each type.
 pub fn law_type_must()
-    ensures told { (ts : Text) (s : State) → NoEnd ts → step_all ts start ≡ Some s → is_type_wanted s.point ≡ true → TypeMust ts }
-    ensures only { (ts : Text) (s : State) → NoEnd ts → step_all ts start ≡ Some s → TypeMust ts → is_type_wanted s.point ≡ true }
+    ensures told { (ts : Text) (s : State) → NoEnd ts → step_all ts start ≡ Some s
+        → is_type_wanted s.point ≡ true → TypeMust ts }
+    ensures only { (ts : Text) (s : State) → NoEnd ts → step_all ts start ≡ Some s → TypeMust ts
+        → is_type_wanted s.point ≡ true }
 {}

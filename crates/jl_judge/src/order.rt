@@ -13,7 +13,8 @@ use std::alloc::{AllocError, Global};
 
 /// The normal form of a type, or none where the type can't be judged.
 fn judge_type(alloc: Global, table: &Table, ty: &Ty) -> Result<Option<Ty>, AllocError>
-    ensures { IfOk result (λ form. MatchOption form (CanBeJudged table.now ty.now → ⊥) (IsJudgedAs table.now ty.now)) }
+    ensures { IfOk result (λ form. MatchOption form
+        (CanBeJudged table.now ty.now → ⊥) (IsJudgedAs table.now ty.now)) }
 {
     if !is_known(ty, u64::from(table.count())) {
         return Ok(None);

@@ -67,7 +67,8 @@ fn print_name(line: bool) -> &'static [u8]
 
 /// A name, `.` and a macro word.
 fn put_spawn(out: &mut Row<Terminal>, alloc: Global) -> Result<(), AllocError>
-    ensures { OnOk result (out.new ≡ out.old ++ S.Name (codes "Threads") ∷ S.Operator o.Dot ∷ S.Macro (codes "spawn") ∷ []) }
+    ensures { OnOk result (out.new
+        ≡ out.old ++ S.Name (codes "Threads") ∷ S.Operator o.Dot ∷ S.Macro (codes "spawn") ∷ []) }
 {
     put_text(out, alloc, b"Threads")?;
     put_mark(out, Operator::Dot)?;
@@ -90,7 +91,8 @@ fn put_dotted(
     first: &[u8],
     second: &[u8],
 ) -> Result<(), AllocError>
-    ensures { OnOk result (out.new ≡ out.old ++ S.Name first.now ∷ S.Operator o.Dot ∷ S.Name second.now ∷ []) }
+    ensures { OnOk result (out.new
+        ≡ out.old ++ S.Name first.now ∷ S.Operator o.Dot ∷ S.Name second.now ∷ []) }
 {
     put_text(out, alloc, first)?;
     put_mark(out, Operator::Dot)?;
@@ -107,7 +109,8 @@ fn put_field(out: &mut Row<Terminal>, name: &Name) -> Result<(), AllocError>
 
 /// A part of an expression.
 fn put_part(out: &mut Row<Terminal>, number: i64) -> Result<(), AllocError>
-    ensures { OnOk result (out.new ≡ out.old ++ S.Operator o.OpenBracket ∷ S.Number number ∷ S.Operator o.CloseBracket ∷ []) }
+    ensures { OnOk result (out.new
+        ≡ out.old ++ S.Operator o.OpenBracket ∷ S.Number number ∷ S.Operator o.CloseBracket ∷ []) }
 {
     put_mark(out, Operator::OpenBracket)?;
     out.push(Terminal::Number(number))?;
@@ -116,7 +119,8 @@ fn put_part(out: &mut Row<Terminal>, number: i64) -> Result<(), AllocError>
 
 /// Two types with `<:` between them.
 fn put_sub(out: &mut Row<Terminal>, low: &TypeText, high: &TypeText) -> Result<(), AllocError>
-    ensures { OnOk result (out.new ≡ out.old ++ (type_terminals low.now ++ S.Operator o.Subtype ∷ type_terminals high.now)) }
+    ensures { OnOk result (out.new
+        ≡ out.old ++ (type_terminals low.now ++ S.Operator o.Subtype ∷ type_terminals high.now)) }
 {
     put_type(out, low)?;
     put_mark(out, Operator::Subtype)?;
@@ -180,7 +184,8 @@ fn put_given(
     callee: &Callee,
     arguments: &[Expr],
 ) -> Result<(), AllocError>
-    ensures { OnOk result (out.new ≡ out.old ++ join (callee_terminals callee.now ∷ map expr_terminals arguments.now)) }
+    ensures { OnOk result (out.new
+        ≡ out.old ++ join (callee_terminals callee.now ∷ map expr_terminals arguments.now)) }
 {
     put_callee(out, alloc, callee)?;
     put_more_exprs(out, alloc, arguments)
@@ -194,7 +199,8 @@ fn put_given_in_parens(
     callee: &Callee,
     arguments: &[Expr],
 ) -> Result<(), AllocError>
-    ensures { OnOk result (out.new ≡ out.old ++ in_parens (callee_terminals callee.now ∷ map expr_terminals arguments.now)) }
+    ensures { OnOk result (out.new
+        ≡ out.old ++ in_parens (callee_terminals callee.now ∷ map expr_terminals arguments.now)) }
 {
     put_mark(out, Operator::OpenParen)?;
     put_given(out, alloc, callee, arguments)?;
@@ -209,7 +215,10 @@ fn put_latest_call(
     callee: &Callee,
     arguments: &[Expr],
 ) -> Result<(), AllocError>
-    ensures { OnOk result (out.new ≡ out.old ++ S.Name (codes "Base") ∷ S.Operator o.Dot ∷ S.Name (codes "invokelatest") ∷ in_parens (callee_terminals callee.now ∷ map expr_terminals arguments.now)) }
+    ensures { OnOk result (out.new
+        ≡ out.old
+        ++ S.Name (codes "Base") ∷ S.Operator o.Dot ∷ S.Name (codes "invokelatest")
+        ∷ in_parens (callee_terminals callee.now ∷ map expr_terminals arguments.now)) }
 {
     put_dotted(out, alloc, b"Base", b"invokelatest")?;
     put_given_in_parens(out, alloc, callee, arguments)
@@ -218,7 +227,9 @@ fn put_latest_call(
 /// An expression in parentheses.
 #[cycle(forms)]
 fn put_paren(out: &mut Row<Terminal>, alloc: Global, expr: &Expr) -> Result<(), AllocError>
-    ensures { OnOk result (out.new ≡ out.old ++ S.Operator o.OpenParen ∷ (expr_terminals expr.now ++ S.Operator o.CloseParen ∷ [])) }
+    ensures { OnOk result (out.new
+        ≡ out.old
+        ++ S.Operator o.OpenParen ∷ (expr_terminals expr.now ++ S.Operator o.CloseParen ∷ [])) }
 {
     put_mark(out, Operator::OpenParen)?;
     put_expr(out, alloc, expr)?;
@@ -272,7 +283,10 @@ fn put_eval_block(out: &mut Row<Terminal>, alloc: Global, evals: &[Eval]) -> Res
 /// `eval(quote .. end)`
 #[cycle(forms)]
 fn put_quote(out: &mut Row<Terminal>, alloc: Global, evals: &[Eval]) -> Result<(), AllocError>
-    ensures { OnOk result (out.new ≡ out.old ++ S.Name (codes "eval") ∷ S.Operator o.OpenParen ∷ S.Word w.Quote ∷ (block_step (map eval_terminals evals.now) ++ S.Operator o.CloseParen ∷ [])) }
+    ensures { OnOk result (out.new
+        ≡ out.old
+        ++ S.Name (codes "eval") ∷ S.Operator o.OpenParen ∷ S.Word w.Quote
+        ∷ (block_step (map eval_terminals evals.now) ++ S.Operator o.CloseParen ∷ [])) }
 {
     put_text(out, alloc, b"eval")?;
     put_mark(out, Operator::OpenParen)?;
@@ -339,7 +353,8 @@ fn put_print(
     line: bool,
     pieces: &[Piece],
 ) -> Result<(), AllocError>
-    ensures { OnOk result (out.new ≡ out.old ++ S.Name (print_name line) ∷ in_parens (map piece_terminals pieces.now)) }
+    ensures { OnOk result (out.new
+        ≡ out.old ++ S.Name (print_name line) ∷ in_parens (map piece_terminals pieces.now)) }
 {
     put_text(out, alloc, print_name(line))?;
     put_mark(out, Operator::OpenParen)?;
@@ -393,7 +408,8 @@ pub(crate) fn put_binding(
     name: &Name,
     expr: &Expr,
 ) -> Result<(), AllocError>
-    ensures { OnOk result (out.new ≡ out.old ++ S.Name name.now.bytes ∷ S.Operator o.Assign ∷ expr_terminals expr.now) }
+    ensures { OnOk result (out.new
+        ≡ out.old ++ S.Name name.now.bytes ∷ S.Operator o.Assign ∷ expr_terminals expr.now) }
 {
     put_name(out, &name.bytes)?;
     put_mark(out, Operator::Assign)?;

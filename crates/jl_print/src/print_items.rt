@@ -44,7 +44,10 @@ fn put_body(out: &mut Row<Terminal>, fields: &[Field]) -> Result<(), AllocError>
 
 /// The declaration of an abstract type.
 fn put_abstract(out: &mut Row<Terminal>, alloc: Global, header: &Header) -> Result<(), AllocError>
-    ensures { OnOk result (out.new ≡ out.old ++ S.Word w.Abstract ∷ S.Name (codes "type") ∷ (header_terminals header.now ++ S.Word w.End ∷ [])) }
+    ensures { OnOk result (out.new
+        ≡ out.old
+        ++ S.Word w.Abstract ∷ S.Name (codes "type")
+        ∷ (header_terminals header.now ++ S.Word w.End ∷ [])) }
 {
     put_word(out, Word::Abstract)?;
     put_text(out, alloc, b"type")?;

@@ -8,6 +8,8 @@ ghost use Rattle.jl_resolve.specs.Program.{ComesTo};
 
 /// A script comes to one program and to one first fault; so a script that is a program has no fault.
 pub fn law_one_meaning()
-    ensures program { (s : Script) (P Q : Program) (o r : Option Fault) → ComesTo s P o → ComesTo s Q r → P ≡ Q }
-    ensures fault { (s : Script) (P Q : Program) (o r : Option Fault) → ComesTo s P o → ComesTo s Q r → o ≡ r }
+    ensures program { (s : Script) (P Q : Program) (o r : Option Fault)
+        → ComesTo s P o → ComesTo s Q r → P ≡ Q }
+    ensures fault { (s : Script) (P Q : Program) (o r : Option Fault)
+        → ComesTo s P o → ComesTo s Q r → o ≡ r }
 {}

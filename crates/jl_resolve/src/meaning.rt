@@ -32,7 +32,8 @@ fn resolve_over(
     items: &[Item],
     fault: Option<Fault>,
 ) -> Result<Resolved, AllocError>
-    ensures { IfOk result (λ r. (t : Tests) × IsRight table.now t × (resolved_as r.program r.fault ≡ resolve t known.now items.now fault)) }
+    ensures { IfOk result (λ r. (t : Tests) × IsRight table.now t
+        × (resolved_as r.program r.fault ≡ resolve t known.now items.now fault)) }
 {
     let judge = judge_over(table);
     law_judge_is_right(&judge);
@@ -69,7 +70,8 @@ fn come_to(alloc: Global, script: &Script) -> Result<Resolved, AllocError>
 /// one that the reader gives.
 pub fn check_script(alloc: Global, script: &Script) -> Result<Program, StaticFault>
     requires { FormedScript script.now }
-    ensures means { MatchResult result (λ program. IsProgramOf script.now program) (λ fault. IsRefused fault script.now) }
+    ensures means { MatchResult result (λ program. IsProgramOf script.now program)
+        (λ fault. IsRefused fault script.now) }
     ensures valid { IfOk result IsValid }
 {
     let Resolved { program, fault } = come_to(alloc, script)?;
@@ -82,7 +84,8 @@ pub fn check_script(alloc: Global, script: &Script) -> Result<Program, StaticFau
 /// The same program, ready to be run.
 pub fn program(alloc: Global, script: &Script) -> Result<Ready, StaticFault>
     requires { FormedScript script.now }
-    ensures { MatchResult result (λ ready. IsProgramOf script.now ready) (λ fault. IsRefused fault script.now) }
+    ensures { MatchResult result (λ ready. IsProgramOf script.now ready)
+        (λ fault. IsRefused fault script.now) }
 {
     match check_script(alloc, script) {
         Ok(program) => Ok(Ready::make(alloc, program)?),

@@ -113,7 +113,8 @@ fn all_read(
     params: &[Param],
 ) -> Result<Tys, AllocError>
     ensures means { IfOk result (λ ts. types ts reading.new
-        ≡ all_read around.now.decls.now (map type_of params.now) (around.now.statics ++ vars.old) reading.old) }
+        ≡ all_read around.now.decls.now (map type_of params.now)
+        (around.now.statics ++ vars.old) reading.old) }
     ensures kept { OnOk result (vars.new ≡ vars.old) }
 {
     let mut tys = Row::new(alloc);
@@ -136,7 +137,8 @@ fn signature(
     params: &[Param],
     vars: &[VarText],
 ) -> Result<SignatureRead, AllocError>
-    ensures { IfOk result (λ r. signature_as r ≡ signature decls.now (map type_of params.now) vars.now) }
+    ensures { IfOk result (λ r. signature_as r
+        ≡ signature decls.now (map type_of params.now) vars.now) }
 {
     let around = Around::top(decls);
     let mut visible = TypeVars::new(alloc);
@@ -210,7 +212,8 @@ fn static_parameters(
 
 /// Parameters have the slots from 0 on; an unnamed one binds nothing.
 fn parameters(scope: &mut Scope, state: &mut State, params: &[Param]) -> Result<(), AllocError>
-    ensures { OnOk result (resolution scope.new state.new ≡ parameters params.now scope.old state.old) }
+    ensures { OnOk result (resolution scope.new state.new
+        ≡ parameters params.now scope.old state.old) }
 {
     for param in params {
         match param {

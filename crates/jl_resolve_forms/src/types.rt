@@ -78,7 +78,8 @@ fn make_refusal<J: Judge>(
     reading: &Reading,
     written: &Written,
 ) -> Result<Option<StaticKind>, AllocError>
-    ensures { IfOk result (λ k. k ≡ make_refusal (J.tests judge.now).body counted reading.now written.now) }
+    ensures { IfOk result (λ k.
+        k ≡ make_refusal (J.tests judge.now).body counted reading.now written.now) }
 {
     if reading.misplaced {
         return Ok(Some(StaticKind::VariablePlace));

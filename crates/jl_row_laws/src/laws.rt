@@ -30,11 +30,14 @@ pub fn law_right_tests_tell_types()
 /// of a program no row holds.
 #[tactic(none)]
 pub fn law_program_rows()
-    ensures only { (s : Script) → FormedScript s → (at : ℕ) (kind : StaticKind) → has_row kind ≡ true → IsFaultOf s at kind
+    ensures only { (s : Script) → FormedScript s → (at : ℕ) (kind : StaticKind)
+        → has_row kind ≡ true → IsFaultOf s at kind
         → HoldsOf s (record { at = at; kind = kind }) }
-    ensures first { (s : Script) → FormedScript s → (at : ℕ) (kind : StaticKind) → IsFaultOf s at kind → (f : Fault) → HoldsOf s f
+    ensures first { (s : Script) → FormedScript s → (at : ℕ) (kind : StaticKind)
+        → IsFaultOf s at kind → (f : Fault) → HoldsOf s f
         → comes_before f (record { at = at; kind = kind }) ≡ false }
-    ensures none { (s : Script) → FormedScript s → (P : Program) → IsProgramOf s P → (f : Fault) → HoldsOf s f → ⊥ }
+    ensures none { (s : Script) → FormedScript s → (P : Program) → IsProgramOf s P
+        → (f : Fault) → HoldsOf s f → ⊥ }
 {}
 
 /// Each static fault of a script. `only`: it is the first one only where its row of names holds of a use at its place, where a use at its
@@ -43,11 +46,17 @@ pub fn law_program_rows()
 /// a script comes to, it has a setting.
 #[tactic(none)]
 pub fn law_each_program_fault()
-    ensures only { (s : Script) → FormedScript s → (g : Setting s) (at : ℕ) (kind : StaticKind) → IsFaultOf s at kind
-        → HoldsOf s (record { at = at; kind = kind }) ⊎ RefusedOf s g (record { at = at; kind = kind }) ⊎ RefusedDeclaration s (record { at = at; kind = kind }) }
-    ensures first { (s : Script) → FormedScript s → (g : Setting s) (at : ℕ) (kind : StaticKind) → IsFaultOf s at kind → (f : Fault)
-        → RefusedOf s g f ⊎ RefusedDeclaration s f → comes_before f (record { at = at; kind = kind }) ≡ false }
-    ensures none { (s : Script) → FormedScript s → (g : Setting s) (P : Program) → IsProgramOf s P → (f : Fault)
+    ensures only { (s : Script) → FormedScript s
+        → (g : Setting s) (at : ℕ) (kind : StaticKind) → IsFaultOf s at kind
+        → HoldsOf s (record { at = at; kind = kind })
+        ⊎ RefusedOf s g (record { at = at; kind = kind })
+        ⊎ RefusedDeclaration s (record { at = at; kind = kind }) }
+    ensures first { (s : Script) → FormedScript s → (g : Setting s) (at : ℕ) (kind : StaticKind)
+        → IsFaultOf s at kind → (f : Fault)
+        → RefusedOf s g f ⊎ RefusedDeclaration s f
+        → comes_before f (record { at = at; kind = kind }) ≡ false }
+    ensures none { (s : Script) → FormedScript s → (g : Setting s) (P : Program)
+        → IsProgramOf s P → (f : Fault)
         → RefusedOf s g f ⊎ RefusedDeclaration s f → ⊥ }
     ensures setting { (s : Script) (P : Program) (o : Option Fault) → ComesTo s P o → Setting s }
 {}
@@ -62,5 +71,6 @@ pub fn law_declared_examples()
     ensures unknown { HoldsOf with_unknown_type (fault 12 UnknownType) }
     ensures parameters { HoldsOf with_two_parameters (fault 12 Rebound) }
     ensures refused { RefusedDeclaration with_built_in_type (fault 14 DuplicateType) }
-    ensures many { (g : Setting with_nine_parameters) → RefusedOf with_nine_parameters g (fault 0 TooManyParameters) }
+    ensures many { (g : Setting with_nine_parameters)
+        → RefusedOf with_nine_parameters g (fault 0 TooManyParameters) }
 {}

@@ -18,7 +18,8 @@ ghost use Rattle.jl_script_laws.specs.Faultless.{AreFaultless};
 /// Where the declarations of well-formed items have no fault, all are allowed, and their names are names that a script may give.
 #[tactic(none)]
 pub fn law_faultless()
-    ensures { (items : List Item) (d : Declaring) → FormedItems items → Declares items no_declaration d → d.fault ≡ None → AreFaultless d }
+    ensures { (items : List Item) (d : Declaring) → FormedItems items
+        → Declares items no_declaration d → d.fault ≡ None → AreFaultless d }
 {}
 
 /// Tests that tell what holds over the declarations refuse what is not allowed.
@@ -31,6 +32,9 @@ pub fn law_right_tests()
 /// tests over these refuse what is not allowed.
 #[tactic(none)]
 pub fn law_program()
-    ensures { (t : Tests) (items : List Item) (d : Declaring) → FormedItems items → Declares items no_declaration d → Declared (take d.allowed d.decls) → AreTold (take d.allowed d.decls) t
-        → (resolve t (known_of items d.decls) items d.fault).fault ≡ None → IsValid (resolve t (known_of items d.decls) items d.fault).program }
+    ensures { (t : Tests) (items : List Item) (d : Declaring) → FormedItems items
+        → Declares items no_declaration d → Declared (take d.allowed d.decls)
+        → AreTold (take d.allowed d.decls) t
+        → (resolve t (known_of items d.decls) items d.fault).fault ≡ None
+        → IsValid (resolve t (known_of items d.decls) items d.fault).program }
 {}

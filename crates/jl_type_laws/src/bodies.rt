@@ -15,18 +15,25 @@ ghost use Rattle.jl_type_laws.specs.Told.{StaticsFit, IsSeenType, IsMadeType, Is
 
 /// A type in a body, behind which no fault stands, may stand where its static parameters are visible.
 pub fn law_body_type()
-    ensures { (t : Tests) (k : Known) → DeclsKnown k.decls → (flags : List Bool) (c : Scope) → StaticsFit flags c.statics → (text : TypeText) (s : State)
-        → (type_in_body t k text c s).after.fault ≡ None → IsSeenType t k.decls flags s (type_in_body t k text c s) }
+    ensures { (t : Tests) (k : Known) → DeclsKnown k.decls → (flags : List Bool) (c : Scope)
+        → StaticsFit flags c.statics → (text : TypeText) (s : State)
+        → (type_in_body t k text c s).after.fault ≡ None
+        → IsSeenType t k.decls flags s (type_in_body t k text c s) }
 {}
 
 /// The type of an explicit constructor of a declared struct, behind which no fault stands, is a type of that struct.
 pub fn law_constructor_type()
-    ensures { (t : Tests) (k : Known) → DeclsKnown k.decls → (flags : List Bool) (c : Scope) → StaticsFit flags c.statics → (at p : ℕ) → IsTrue (is_struct k.decls p) → (xs : List ArgText) (s : State)
-        → (make_at t k at p xs c s).after.fault ≡ None → IsMadeType t k.decls flags s (make_at t k at p xs c s) }
+    ensures { (t : Tests) (k : Known) → DeclsKnown k.decls → (flags : List Bool) (c : Scope)
+        → StaticsFit flags c.statics → (at p : ℕ) → IsTrue (is_struct k.decls p)
+        → (xs : List ArgText) (s : State)
+        → (make_at t k at p xs c s).after.fault ≡ None
+        → IsMadeType t k.decls flags s (make_at t k at p xs c s) }
 {}
 
 /// The signature of a method without a fault that nothing refuses is a good one.
 pub fn law_signature()
     ensures { (t : Tests) (k : Known) → DeclsKnown k.decls → (types : ℕ) (h : Head)
-        → (method_signature t k types h).fault ≡ None → (method_signature t k types h).refusal ≡ None → IsGoodSignature t k.decls h (method_signature t k types h) }
+        → (method_signature t k types h).fault ≡ None
+        → (method_signature t k types h).refusal ≡ None
+        → IsGoodSignature t k.decls h (method_signature t k types h) }
 {}

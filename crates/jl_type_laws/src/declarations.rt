@@ -19,13 +19,26 @@ pub fn law_declared_bounds()
 /// The types of a declaration name those before it, and in the fields itself. Where all its arguments are written they have no
 /// variables but its parameters. Where no fault stands in them each name means something, and none is bound twice.
 pub fn law_declared_types()
-    ensures known { (ds : List Decl) → DeclsKnown ds → (params : List VarText) (parent : Option TypeText) (make : List Bound → Ty → Decl) → ((bs : List Bound) (p : Ty) → (make bs p).params ≡ bs)
+    ensures known { (ds : List Decl) → DeclsKnown ds
+        → (params : List VarText) (parent : Option TypeText) (make : List Bound → Ty → Decl)
+        → ((bs : List Bound) (p : Ty) → (make bs p).params ≡ bs)
         → (fields : List (Option TypeText)) → AreKnownParts ds (read_parts ds params parent make fields) }
-    ensures own { (ds : List Decl) → DeclsKnown ds → (params : List VarText) (parent : Option TypeText) (make : List Bound → Ty → Decl) → ((bs : List Bound) (p : Ty) → (make bs p).params ≡ bs)
+    ensures own { (ds : List Decl) → DeclsKnown ds
+        → (params : List VarText) (parent : Option TypeText) (make : List Bound → Ty → Decl)
+        → ((bs : List Bound) (p : Ty) → (make bs p).params ≡ bs)
         → (fields : List (Option TypeText))
-        → length (read_parts ds params parent make fields).after.vars ≡ length params → AreOwnParts (read_parts ds params parent make fields) }
-    ensures named { (ds : List Decl) → DeclsKnown ds → (params : List VarText) (parent : Option TypeText) (make : List Bound → Ty → Decl) → ((bs : List Bound) (p : Ty) → (make bs p).params ≡ bs)
-        → (fields : List (Option TypeText)) → (read_parts ds params parent make fields).after.fault ≡ None → (read_parts ds params parent make fields).after.unknown ≡ false }
-    ensures clear { (ds : List Decl) → DeclsKnown ds → (params : List VarText) (parent : Option TypeText) (make : List Bound → Ty → Decl) → ((bs : List Bound) (p : Ty) → (make bs p).params ≡ bs)
-        → (fields : List (Option TypeText)) → (read_parts ds params parent make fields).after.fault ≡ None → (read_parts ds params parent make fields).after.unclear ≡ false }
+        → length (read_parts ds params parent make fields).after.vars ≡ length params
+        → AreOwnParts (read_parts ds params parent make fields) }
+    ensures named { (ds : List Decl) → DeclsKnown ds
+        → (params : List VarText) (parent : Option TypeText) (make : List Bound → Ty → Decl)
+        → ((bs : List Bound) (p : Ty) → (make bs p).params ≡ bs)
+        → (fields : List (Option TypeText))
+        → (read_parts ds params parent make fields).after.fault ≡ None
+        → (read_parts ds params parent make fields).after.unknown ≡ false }
+    ensures clear { (ds : List Decl) → DeclsKnown ds
+        → (params : List VarText) (parent : Option TypeText) (make : List Bound → Ty → Decl)
+        → ((bs : List Bound) (p : Ty) → (make bs p).params ≡ bs)
+        → (fields : List (Option TypeText))
+        → (read_parts ds params parent make fields).after.fault ≡ None
+        → (read_parts ds params parent make fields).after.unclear ≡ false }
 {}

@@ -21,7 +21,8 @@ ghost use Rattle.jl_valid.specs.TypeLaws.{TypeLaws};
 /// what is not allowed.
 #[tactic(none)]
 pub fn law_valid()
-    ensures { (t : Tests) (k : Known) (items : List Item) (f : Option Fault) → FormedItems items → IsKnownOf items k → AreTold k.decls t
+    ensures { (t : Tests) (k : Known) (items : List Item) (f : Option Fault) → FormedItems items
+        → IsKnownOf items k → AreTold k.decls t
         → (resolve t k items f).fault ≡ None → IsValid (resolve t k items f).program }
 {}
 
@@ -29,23 +30,27 @@ pub fn law_valid()
 /// that are given in it.
 #[tactic(none)]
 pub fn law_expression()
-    ensures { (t : Tests) (k : Known) → IsKnown k → TypeLaws t k → (r : Bool) (e : Expr) → FormedExpr r e → IsGood k r (in_expr e) (expr_reads t k e) }
+    ensures { (t : Tests) (k : Known) → IsKnown k → TypeLaws t k → (r : Bool) (e : Expr)
+        → FormedExpr r e → IsGood k r (in_expr e) (expr_reads t k e) }
 {}
 
 /// The same of a method, of which the site is there.
 #[tactic(none)]
 pub fn law_method()
-    ensures { (t : Tests) (k : Known) → IsKnown k → TypeLaws t k → (m : Method) → FormedMethod m → IsGoodMethod k (in_method m) (method_reads t k m) }
+    ensures { (t : Tests) (k : Known) → IsKnown k → TypeLaws t k → (m : Method) → FormedMethod m
+        → IsGoodMethod k (in_method m) (method_reads t k m) }
 {}
 
 /// The written types of a script are good, where its declarations are valid and the tests refuse what is not allowed.
 #[tactic(none)]
 pub fn law_types()
-    ensures { (t : Tests) (k : Known) (items : List Item) → IsKnownOf items k → AreTold k.decls t → TypeLaws t k }
+    ensures { (t : Tests) (k : Known) (items : List Item) → IsKnownOf items k
+        → AreTold k.decls t → TypeLaws t k }
 {}
 
 /// A fault stays: a program without one begins without one.
 #[tactic(none)]
 pub fn law_faults_stay()
-    ensures { (t : Tests) (k : Known) (items : List Item) (f : Option Fault) → FormedItems items → (resolve t k items f).fault ≡ None → f ≡ None }
+    ensures { (t : Tests) (k : Known) (items : List Item) (f : Option Fault) → FormedItems items
+        → (resolve t k items f).fault ≡ None → f ≡ None }
 {}
