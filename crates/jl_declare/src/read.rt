@@ -149,6 +149,7 @@ fn own_types(
     if fields.is_empty() {
         return Ok(Row::new(alloc));
     }
+    // At the end for as long as its fields are read: a longer copy of the list for each declaration would be quadratic.
     decls.push(copy_decl(&heading.own)?)?;
     let tys = read_types(
         alloc,
@@ -202,7 +203,9 @@ fn param_fields(alloc: Global, name: &Bytes, params: &[Bound]) -> Result<Fields,
     SharedList::from_vec(alloc, out)
 }
 
-/// What stands for a declaration that is no term.
+/// What stands for a declaration that is no term. It has no bounds, and its fields determine all parameters: so a
+/// type or a call that names it is tested by its own text and by their number alone, and the fault of the declaration
+/// brings no other.
 fn outline(alloc: Global, kind: DeclKind, header: &Header) -> Result<Decl, AllocError>
     ensures { IfOk result (λ d. d ≡ outline kind header.now) }
 {

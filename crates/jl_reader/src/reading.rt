@@ -1,4 +1,7 @@
 //! The script of a source's tokens.
+//!
+//! It is one loop, with the open forms on a list, and no recursion: a text may open as many forms as it has tokens,
+//! and must not take the program's stack for them.
 
 ghost use Rattle.std.specs.Prelude.{◌≡◌, Option, Some, None, Result, Err};
 ghost use Rattle.jl_typeread.specs.Reads.{EndsAlone};

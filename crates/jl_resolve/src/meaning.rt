@@ -1,4 +1,7 @@
 //! The program of a script.
+//!
+//! A table or a list of names is dropped by a call before the `?` that follows: with two ways out, the check would
+//! unroll its drop on both.
 
 ghost use Rattle.std.specs.Prelude.{◌≡◌, MatchResult, IfOk, None};
 ghost use Rattle.jl_program.specs.Valid.{IsValid};

@@ -1,4 +1,5 @@
-//! A list that grows, and whose members can be replaced.
+//! A list that grows, and whose members can be replaced: a site and a spawn place have their numbers before what is
+//! in them is read, so an empty one is put in first, and what was read takes its place.
 
 ghost use Rattle.std.specs.Prelude.{◌≡◌, ◌++◌, ◌∷◌, [], length, slice_set, OnOk, IfOk};
 

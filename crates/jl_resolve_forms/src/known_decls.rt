@@ -1,4 +1,6 @@
 //! The declarations of a script, and which structs have constructors whose type arguments are inferred.
+//!
+//! The second is asked at each call of such a constructor, and an answer walks over all fields, so it is kept.
 
 ghost use Rattle.std.specs.Prelude.{◌≡◌, slice_get, IfOk};
 ghost use Rattle.std.specs.List.{list_all};

@@ -84,6 +84,7 @@ fn if_unknown(function: Option<u32>) -> Option<StaticKind>
     }
 }
 
+/// The function of a method. Where it is none there is a fault, so no program has the number that stands for it.
 fn defined_function(function: Option<u32>) -> u32
     ensures { result ≡ defined_function function }
 {
@@ -153,7 +154,8 @@ fn signature(
     })
 }
 
-/// What refuses a signature.
+/// What refuses a signature. Where it is unclear what a name in it means, a fault is noted at the name, and no test
+/// is asked about what was put in its place.
 fn signature_refusal<J: Judge>(
     alloc: Global,
     judge: &J,
@@ -182,7 +184,8 @@ fn is_flagged(written: &Written, flags: &[bool], number: u32) -> bool
     }
 }
 
-/// A static parameter, with whether it is usable in the body.
+/// A static parameter, with whether it is usable in the body. The flags come from one walk over the signature;
+/// without them each variable would take a walk of its own.
 fn static_parameter(written: &Written, flags: &[bool], var: &TypeVar) -> Result<TypeVar, AllocError>
     requires { flags.now ≡ each_var (is_usable written.now) 0 written.now.vars }
     ensures { IfOk result (λ v. v ≡ static_parameter written.now var.now) }
@@ -346,7 +349,7 @@ pub fn open_method<J: Judge>(
     Ok(opening)
 }
 
-/// The next site, whose body is read behind this.
+/// The next site, whose body is read after this: the methods in the body have greater numbers.
 #[tactic(auto, unfolding(crate::specs::Expressions::reserve_site))]
 pub fn reserve_site(state: &mut State, opening: &Opening) -> Result<u32, AllocError>
     ensures { Resolves result state.new (next_site opening.now state.old) }

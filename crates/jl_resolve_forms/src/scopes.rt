@@ -21,7 +21,8 @@ pub fn slot_of(slots: &Slots, name: &[u8]) -> Option<u32>
     slots.find(name)
 }
 
-/// A fault stands at this place.
+/// A fault is at this place. The walk goes on after it: the fault of a script is the one at the least offset, which
+/// may be found later, as what refuses a signature is found after its types and is at the name before them.
 pub fn note(state: &mut State, at: u32, kind: StaticKind)
     ensures { state.new ≡ note at kind state.old }
 {
@@ -62,7 +63,8 @@ fn push_named(scope: &mut Scope, name: Bytes) -> Result<(), AllocError>
     scope.slots.push(name)
 }
 
-/// A name takes the next slot; where it is visible already the slot has no name.
+/// A name takes the next slot; where it is visible already the slot has no name. It takes one all the same, so that
+/// each parameter has the slot of its place.
 #[tactic(auto, unfolding(crate::specs::Scopes::bind))]
 pub fn bind(scope: &mut Scope, state: &mut State, name: &Name) -> Result<(), AllocError>
     ensures { OnOk result (resolution scope.new state.new ≡ bind name.now scope.old state.old) }

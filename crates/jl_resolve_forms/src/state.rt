@@ -1,4 +1,7 @@
 //! What is visible at a place, and what the text so far has given.
+//!
+//! They are apart because a block gives back what is visible when it ends, and keeps its sites, spawn places and
+//! faults.
 
 use crate::cells::Cells;
 use jl_model::ty::{Tys, Written};

@@ -70,7 +70,9 @@ fn body_refusal<J: Judge>(
     judge.refuses_body(alloc, written)
 }
 
-/// What refuses the type of an explicit constructor, where its arguments are as many as declared or not.
+/// What refuses the type of an explicit constructor, where its arguments are as many as declared or not. A variable
+/// in it, as of an argument that is left out further inside, counts as a missing one: a constructor makes values of
+/// one type.
 fn make_refusal<J: Judge>(
     alloc: Global,
     judge: &J,
