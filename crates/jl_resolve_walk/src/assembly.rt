@@ -1,8 +1,8 @@
-//! What a form becomes, once its parts are read: the steps of the walk that go to no other part. Where memory ran out for a
-//! part, it did for the form.
+//! What a form becomes, once its parts are read: the steps of the walk that go to no other part. Where memory ran out
+//! for a part, it did for the form.
 //!
-//! A step takes the `Result` of its last part, so that the `?` is here, outside of the cycle of the walk: there the drop of
-//! what is held would be unrolled at each `?` by the forms of the tree, and the check of the cycle take many times as long.
+//! A step takes the `Result` of its last part, so that the `?` is here, outside of the cycle of the walk: there the drop
+//! of what is held would be unrolled at each `?` by the forms of the tree, and the cycle's check take many times as long.
 
 ghost use Rattle.std.specs.Prelude.{◌≡◌, ◌∷◌, ◌++◌, [], IfOk, OnOk, take};
 ghost use Rattle.jl_program.specs.declared.tree.Expr.TheViews as C;
