@@ -99,7 +99,8 @@ pub(crate) fn call<J: Judge>(
     arguments: Result<Codes, AllocError>,
 ) -> Result<Code, AllocError>
     ensures { Gives arguments result (λ ys c. resolution c state.new
-        ≡ call (J.tests judge.now) known.now (place_of_callee callee.now) (callee_of known.now callee.now scope.now) ys state.old) }
+        ≡ call (J.tests judge.now) known.now (place_of_callee callee.now)
+        (callee_of known.now callee.now scope.now) ys state.old) }
 {
     let arguments = arguments?;
     let called = callee_of(known, callee, scope);
