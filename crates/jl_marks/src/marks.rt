@@ -160,7 +160,8 @@ fn is_base(name: &[u8]) -> bool
 
 /// What follows the round brackets that begin with this token, by what follows the bracket that ends it.
 fn round(terminal: &Terminal, over: NextToken) -> NextToken
-    ensures { (ss : List Terminal) → over ≡ next_after_match (mate terminal.now) ss → result ≡ next_after (round (terminal.now ∷ ss)) }
+    ensures { (ss : List Terminal) → over ≡ next_after_match (mate terminal.now) ss
+        → result ≡ next_after (round (terminal.now ∷ ss)) }
 {
     match terminal {
         Terminal::Operator(Operator::OpenParen) => over,
@@ -170,7 +171,8 @@ fn round(terminal: &Terminal, over: NextToken) -> NextToken
 
 /// What follows the curly brackets that begin with this token.
 fn curly(terminal: &Terminal, over: NextToken) -> NextToken
-    ensures { (ss : List Terminal) → over ≡ next_after_match (mate terminal.now) ss → result ≡ next_after (curly (terminal.now ∷ ss)) }
+    ensures { (ss : List Terminal) → over ≡ next_after_match (mate terminal.now) ss
+        → result ≡ next_after (curly (terminal.now ∷ ss)) }
 {
     match terminal {
         Terminal::Operator(Operator::OpenBrace) => over,
@@ -180,7 +182,8 @@ fn curly(terminal: &Terminal, over: NextToken) -> NextToken
 
 /// What follows the parameters, behind `Base.:`.
 fn colon_head(terminal: &Terminal, brackets: NextToken) -> NextToken
-    ensures { (ss : List Terminal) → brackets ≡ next_after (round ss) → result ≡ next_after (colon_head (terminal.now ∷ ss)) }
+    ensures { (ss : List Terminal) → brackets ≡ next_after (round ss)
+        → result ≡ next_after (colon_head (terminal.now ∷ ss)) }
 {
     match terminal {
         Terminal::Operator(operator) => {
@@ -195,7 +198,8 @@ fn colon_head(terminal: &Terminal, brackets: NextToken) -> NextToken
 
 /// What follows the parameters, behind `Base.`.
 fn dot_head(terminal: &Terminal, brackets: NextToken, colon: NextToken) -> NextToken
-    ensures { (ss : List Terminal) → brackets ≡ next_after (round ss) → colon ≡ next_after (colon_head ss) → result ≡ next_after (dot_head (terminal.now ∷ ss)) }
+    ensures { (ss : List Terminal) → brackets ≡ next_after (round ss)
+        → colon ≡ next_after (colon_head ss) → result ≡ next_after (dot_head (terminal.now ∷ ss)) }
 {
     match terminal {
         Terminal::Name(_) => brackets,
@@ -206,7 +210,8 @@ fn dot_head(terminal: &Terminal, brackets: NextToken, colon: NextToken) -> NextT
 
 /// What follows the parameters, behind `Base`.
 fn base_head(terminal: &Terminal, dot: NextToken) -> NextToken
-    ensures { (ss : List Terminal) → dot ≡ next_after (dot_head ss) → result ≡ next_after (base_head (terminal.now ∷ ss)) }
+    ensures { (ss : List Terminal) → dot ≡ next_after (dot_head ss)
+        → result ≡ next_after (base_head (terminal.now ∷ ss)) }
 {
     match terminal {
         Terminal::Operator(Operator::Dot) => dot,
@@ -216,7 +221,8 @@ fn base_head(terminal: &Terminal, dot: NextToken) -> NextToken
 
 /// Whether the head of a method begins with this token.
 fn is_head_start(terminal: &Terminal, brackets: NextToken, base: NextToken) -> bool
-    ensures { (ss : List Terminal) → brackets ≡ next_after (round ss) → base ≡ next_after (base_head ss) → result ≡ is_head_start (terminal.now ∷ ss) }
+    ensures { (ss : List Terminal) → brackets ≡ next_after (round ss)
+        → base ≡ next_after (base_head ss) → result ≡ is_head_start (terminal.now ∷ ss) }
 {
     match terminal {
         Terminal::Name(name) => is_definition(brackets)
@@ -228,7 +234,9 @@ fn is_head_start(terminal: &Terminal, brackets: NextToken, base: NextToken) -> b
 /// Whether the left type of a comparison begins with this token; the last argument is what follows the round brackets that
 /// begin with it.
 fn is_left_start(terminal: &Terminal, follows: NextToken, braces: NextToken, own: NextToken) -> bool
-    ensures { (ss : List Terminal) → follows ≡ next_of ss → braces ≡ next_after (curly ss) → own ≡ next_after (round (terminal.now ∷ ss)) → result ≡ is_left_start (terminal.now ∷ ss) }
+    ensures { (ss : List Terminal) → follows ≡ next_of ss → braces ≡ next_after (curly ss)
+        → own ≡ next_after (round (terminal.now ∷ ss))
+        → result ≡ is_left_start (terminal.now ∷ ss) }
 {
     match terminal {
         Terminal::Name(_) => is_subtype(follows) || is_subtype(braces),
@@ -280,7 +288,8 @@ fn base_call(is_call: bool, name: &[u8]) -> Opening
 
 /// What this token begins behind `Base.`.
 fn base_opening(terminal: &Terminal, calls: bool) -> Opening
-    ensures { (ss : List Terminal) → calls ≡ is_call ss → result ≡ base_opening (terminal.now ∷ ss) }
+    ensures { (ss : List Terminal) → calls ≡ is_call ss
+        → result ≡ base_opening (terminal.now ∷ ss) }
 {
     match terminal {
         Terminal::Name(name) => base_call(calls, name.as_slice()),
@@ -306,7 +315,8 @@ fn threads_opening(terminal: &Terminal) -> Opening
 
 /// What this token is behind a name.
 fn after_name(terminal: &Terminal, base: Opening, threads: Opening) -> Named
-    ensures { (ss : List Terminal) → base ≡ base_opening ss → threads ≡ threads_opening ss → result ≡ after_name (terminal.now ∷ ss) }
+    ensures { (ss : List Terminal) → base ≡ base_opening ss → threads ≡ threads_opening ss
+        → result ≡ after_name (terminal.now ∷ ss) }
 {
     match terminal {
         Terminal::Operator(Operator::OpenParen) => Named::Called,
@@ -369,7 +379,8 @@ fn nothing_near() -> Near
 
 /// What is known of the tokens from this one on, by what is known of those behind it.
 fn nearer(terminal: &Terminal, near: Near, over: NextToken) -> Near
-    ensures { (ss : List Terminal) → near ≡ near_of ss → over ≡ next_after_match (mate terminal.now) ss → result ≡ near_of (terminal.now ∷ ss) }
+    ensures { (ss : List Terminal) → near ≡ near_of ss
+        → over ≡ next_after_match (mate terminal.now) ss → result ≡ near_of (terminal.now ∷ ss) }
 {
     Near {
         told: next_as_terminal(terminal),
@@ -387,7 +398,8 @@ fn nearer(terminal: &Terminal, near: Near, over: NextToken) -> Near
 
 /// What is told by the token behind a matching bracket.
 fn ahead(begins_head: bool, begins_left: bool) -> Ahead
-    ensures { result ≡ (if begins_head then Ahead.Method else if begins_left then Ahead.Sub else Ahead.Nothing) }
+    ensures { result ≡ (if begins_head then Ahead.Method else if begins_left then
+        Ahead.Sub else Ahead.Nothing) }
 {
     if begins_head {
         return Ahead::Method;
@@ -400,7 +412,8 @@ fn ahead(begins_head: bool, begins_left: bool) -> Ahead
 
 /// The marks of a token, by what is known of the tokens behind it, and what follows the round brackets that begin with it.
 fn marks_of(terminal: &Terminal, near: Near, own: NextToken) -> Marks
-    ensures { (ss : List Terminal) → near ≡ near_of ss → own ≡ next_after (round (terminal.now ∷ ss)) → result ≡ marks_of (terminal.now ∷ ss) }
+    ensures { (ss : List Terminal) → near ≡ near_of ss
+        → own ≡ next_after (round (terminal.now ∷ ss)) → result ≡ marks_of (terminal.now ∷ ss) }
 {
     let begins_head = is_head_start(terminal, near.round, near.base_head);
     let begins_left = is_left_start(terminal, near.told, near.curly, own);
@@ -412,7 +425,8 @@ fn marks_of(terminal: &Terminal, near: Near, own: NextToken) -> Marks
 
 /// One token more to the left.
 fn turn(alloc: Global, lexeme: Lexeme, scan: Scan) -> Result<Scan, AllocError>
-    ensures { (ls : List Lexeme) → scan ≡ scan_all ls → IfOk result (λ s. s ≡ scan_all (lexeme ∷ ls)) }
+    ensures { (ls : List Lexeme) → scan ≡ scan_all ls
+        → IfOk result (λ s. s ≡ scan_all (lexeme ∷ ls)) }
 {
     let Scan {
         mut tokens,

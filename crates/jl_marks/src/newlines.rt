@@ -176,7 +176,8 @@ fn is_shown(terminal: &Terminal, around: &Stack<Around>, previous: Previous) -> 
 
 /// One token more, if the grammar sees it.
 fn show(lexemes: &mut Vec<Lexeme>, lexeme: Lexeme, is_shown: bool) -> Result<(), AllocError>
-    ensures { OnOk result (lexemes.new.items ≡ lexemes.old.items ++ (if is_shown then lexeme ∷ [] else [])) }
+    ensures { OnOk result (lexemes.new.items
+        ≡ lexemes.old.items ++ (if is_shown then lexeme ∷ [] else [])) }
 {
     if is_shown {
         lexemes.push(lexeme)?;

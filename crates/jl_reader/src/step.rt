@@ -60,7 +60,8 @@ pub(crate) fn is_type_wanted(point: &Point) -> bool
 
 /// What a token is to a type, of whose reading then nothing is left.
 fn turn(alloc: Global, lexeme: &Lexeme, state: &mut TypeState) -> Result<Turn, AllocError>
-    ensures { IfOk result (λ t. t ≡ step_at lexeme.now.terminal lexeme.now.at state.old.point state.old.stack) }
+    ensures { IfOk result (λ t. t
+        ≡ step_at lexeme.now.terminal lexeme.now.at state.old.point state.old.stack) }
 {
     let before = mem::replace(state, type_start(alloc));
     turns::step(alloc, lexeme, before)
@@ -74,7 +75,8 @@ pub(crate) fn step_anywhere(
     point: Point,
     reading: &mut Reading,
 ) -> Result<Option<Point>, AllocError>
-    ensures { IfOk result (λ p. state_at p reading.new ≡ step token.now (state_at (Some point) reading.old)) }
+    ensures { IfOk result (λ p. state_at p reading.new
+        ≡ step token.now (state_at (Some point) reading.old)) }
 {
     let lexeme = &token.lexeme;
     let terminal = &lexeme.terminal;
@@ -164,7 +166,8 @@ pub(crate) fn step_often(
     point: Point,
     reading: &mut Reading,
 ) -> Result<Option<Point>, AllocError>
-    ensures { IfOk result (λ p. state_at p reading.new ≡ step token.now (state_at (Some point) reading.old)) }
+    ensures { IfOk result (λ p. state_at p reading.new
+        ≡ step token.now (state_at (Some point) reading.old)) }
 {
     let terminal = &token.lexeme.terminal;
     let at = token.lexeme.at;
@@ -187,7 +190,8 @@ pub(crate) fn step_in_type(
     point: Point,
     reading: &mut Reading,
 ) -> Result<Option<Point>, AllocError>
-    ensures { IfOk result (λ p. state_at p reading.new ≡ step token.now (state_at (Some point) reading.old)) }
+    ensures { IfOk result (λ p. state_at p reading.new
+        ≡ step token.now (state_at (Some point) reading.old)) }
 {
     let lexeme = &token.lexeme;
     let terminal = &lexeme.terminal;

@@ -24,7 +24,8 @@ pub fn push_frame(
     frame: Frame,
     reading: &mut Reading,
 ) -> Result<Option<Point>, AllocError>
-    ensures { IfOk result (λ p. state_at p reading.new ≡ at point (frame ∷ reading.old.stack) reading.old.script) }
+    ensures { IfOk result (λ p. state_at p reading.new
+        ≡ at point (frame ∷ reading.old.stack) reading.old.script) }
 {
     match reading.stack.push(frame) {
         Ok(()) => Ok(Some(point)),
@@ -141,7 +142,8 @@ fn end_body(
     stmts: Forms<Stmt>,
     reading: &mut Reading,
 ) -> Result<Option<Point>, AllocError>
-    ensures { IfOk result (λ p. state_at p reading.new ≡ end_block (BlockKind.Body place head) stmts reading.old.stack reading.old.script) }
+    ensures { IfOk result (λ p. state_at p reading.new
+        ≡ end_block (BlockKind.Body place head) stmts reading.old.stack reading.old.script) }
 {
     let method = long_method(alloc, head, stmts)?;
     match place {
@@ -160,7 +162,8 @@ pub fn end_block(
     stmts: Forms<Stmt>,
     reading: &mut Reading,
 ) -> Result<Option<Point>, AllocError>
-    ensures { IfOk result (λ p. state_at p reading.new ≡ end_block kind stmts reading.old.stack reading.old.script) }
+    ensures { IfOk result (λ p. state_at p reading.new
+        ≡ end_block kind stmts reading.old.stack reading.old.script) }
 {
     match kind {
         BlockKind::Begin(pending, place) => {
@@ -188,7 +191,8 @@ pub fn block_elseif(
     stmts: Forms<Stmt>,
     reading: &mut Reading,
 ) -> Result<Option<Point>, AllocError>
-    ensures { IfOk result (λ p. state_at p reading.new ≡ block_elseif place kind stmts reading.old.stack reading.old.script) }
+    ensures { IfOk result (λ p. state_at p reading.new
+        ≡ block_elseif place kind stmts reading.old.stack reading.old.script) }
 {
     match kind {
         BlockKind::Branch(pending, start, branched, word, test) => {
@@ -211,7 +215,8 @@ pub fn block_else(
     stmts: Forms<Stmt>,
     reading: &mut Reading,
 ) -> Result<Option<Point>, AllocError>
-    ensures { IfOk result (λ p. state_at p reading.new ≡ block_else kind stmts reading.old.stack reading.old.script) }
+    ensures { IfOk result (λ p. state_at p reading.new
+        ≡ block_else kind stmts reading.old.stack reading.old.script) }
 {
     match kind {
         BlockKind::Branch(pending, place, branched, word, test) => {
@@ -235,7 +240,8 @@ pub fn block_word(
     stmts: Forms<Stmt>,
     reading: &mut Reading,
 ) -> Result<Option<Point>, AllocError>
-    ensures { IfOk result (λ p. state_at p reading.new ≡ block_word word place kind stmts reading.old.stack reading.old.script) }
+    ensures { IfOk result (λ p. state_at p reading.new
+        ≡ block_word word place kind stmts reading.old.stack reading.old.script) }
 {
     match word {
         Word::End => end_block(alloc, kind, stmts, reading),
@@ -255,7 +261,8 @@ pub fn end_evals(
     evals: Forms<Eval>,
     reading: &mut Reading,
 ) -> Result<Option<Point>, AllocError>
-    ensures { IfOk result (λ p. state_at p reading.new ≡ end_evals kind evals reading.old.stack reading.old.script) }
+    ensures { IfOk result (λ p. state_at p reading.new
+        ≡ end_evals kind evals reading.old.stack reading.old.script) }
 {
     match kind {
         EvalKind::Begin(pending, place) => {
@@ -277,7 +284,8 @@ pub fn evals_word(
     evals: Forms<Eval>,
     reading: &mut Reading,
 ) -> Result<Option<Point>, AllocError>
-    ensures { IfOk result (λ p. state_at p reading.new ≡ evals_word word kind evals reading.old.stack reading.old.script) }
+    ensures { IfOk result (λ p. state_at p reading.new
+        ≡ evals_word word kind evals reading.old.stack reading.old.script) }
 {
     match word {
         Word::End => end_evals(alloc, kind, evals, reading),

@@ -119,7 +119,8 @@ fn with_operand(
 
 /// The operand as a term.
 fn as_term(alloc: Global, levels: &mut Levels, e: Form<Expr>) -> Result<Form<Expr>, AllocError>
-    ensures { IfOk result (λ r. (r ≡ as_term levels.old e) × (levels.new ≡ record levels.old { term = None; prefixes = [] })) }
+    ensures { IfOk result (λ r. (r ≡ as_term levels.old e)
+        × (levels.new ≡ record levels.old { term = None; prefixes = [] })) }
 {
     let unary = with_prefixes(alloc, &mut levels.prefixes, e)?;
     with_left(alloc, &mut levels.term, unary)
@@ -127,7 +128,8 @@ fn as_term(alloc: Global, levels: &mut Levels, e: Form<Expr>) -> Result<Form<Exp
 
 /// The operand as a sum.
 fn as_sum(alloc: Global, levels: &mut Levels, e: Form<Expr>) -> Result<Form<Expr>, AllocError>
-    ensures { IfOk result (λ r. (r ≡ as_sum levels.old e) × (levels.new ≡ record levels.old { sum = None; term = None; prefixes = [] })) }
+    ensures { IfOk result (λ r. (r ≡ as_sum levels.old e)
+        × (levels.new ≡ record levels.old { sum = None; term = None; prefixes = [] })) }
 {
     let term = as_term(alloc, levels, e)?;
     with_left(alloc, &mut levels.sum, term)
@@ -139,7 +141,8 @@ fn as_comparison(
     levels: &mut Levels,
     e: Form<Expr>,
 ) -> Result<Form<Expr>, AllocError>
-    ensures { IfOk result (λ r. (r ≡ as_comparison levels.old e) × (levels.new ≡ levels_after_type levels.old)) }
+    ensures { IfOk result (λ r. (r ≡ as_comparison levels.old e)
+        × (levels.new ≡ levels_after_type levels.old)) }
 {
     let sum = as_sum(alloc, levels, e)?;
     with_left(alloc, &mut levels.comparison, sum)
@@ -151,7 +154,8 @@ pub fn take_sum(
     pending: &mut Pending,
     e: Form<Expr>,
 ) -> Result<Form<Expr>, AllocError>
-    ensures { IfOk result (λ r. (r ≡ as_sum pending.old.levels e) × (pending.new ≡ with_levels (levels_after_type pending.old.levels) pending.old)) }
+    ensures { IfOk result (λ r. (r ≡ as_sum pending.old.levels e)
+        × (pending.new ≡ with_levels (levels_after_type pending.old.levels) pending.old)) }
 {
     let levels = &mut pending.levels;
     let sum = as_sum(alloc, levels, e)?;
@@ -165,14 +169,16 @@ pub fn end_comparison(
     pending: &mut Pending,
     e: Form<Expr>,
 ) -> Result<Form<Expr>, AllocError>
-    ensures { IfOk result (λ r. (r ≡ as_comparison pending.old.levels e) × (pending.new ≡ with_levels (levels_after_type pending.old.levels) pending.old)) }
+    ensures { IfOk result (λ r. (r ≡ as_comparison pending.old.levels e)
+        × (pending.new ≡ with_levels (levels_after_type pending.old.levels) pending.old)) }
 {
     as_comparison(alloc, &mut pending.levels, e)
 }
 
 /// A comparison as a disjunction.
 fn as_or(alloc: Global, levels: &mut Levels, e: Form<Expr>) -> Result<Form<Expr>, AllocError>
-    ensures { IfOk result (λ r. (r ≡ as_or levels.old e) × (levels.new ≡ record levels.old { or = None; and = None })) }
+    ensures { IfOk result (λ r. (r ≡ as_or levels.old e)
+        × (levels.new ≡ record levels.old { or = None; and = None })) }
 {
     let e = with_operand(alloc, &mut levels.and, Infix::And, e)?;
     with_operand(alloc, &mut levels.or, Infix::Or, e)
@@ -193,7 +199,8 @@ pub fn test_of(
     pending: &mut Pending,
     e: Form<Expr>,
 ) -> Result<Form<Expr>, AllocError>
-    ensures { IfOk result (λ r. (r ≡ as_or pending.old.levels e) × (pending.new ≡ with_levels no_levels pending.old)) }
+    ensures { IfOk result (λ r. (r ≡ as_or pending.old.levels e)
+        × (pending.new ≡ with_levels no_levels pending.old)) }
 {
     let test = as_or(alloc, &mut pending.levels, e)?;
     drop(take_levels(alloc, &mut pending.levels));
@@ -239,7 +246,8 @@ fn end_all_outer(
 
 /// A comparison as the whole expression that ends with it.
 fn whole_expr(alloc: Global, pending: &mut Pending, e: Form<Expr>) -> Result<Form<Expr>, AllocError>
-    ensures { IfOk result (λ r. (r ≡ expression pending.old e) × (pending.new.lead ≡ pending.old.lead)) }
+    ensures { IfOk result (λ r. (r ≡ expression pending.old e)
+        × (pending.new.lead ≡ pending.old.lead)) }
 {
     let e = as_or(alloc, &mut pending.levels, e)?;
     end_all_outer(alloc, &mut pending.outer, e)
@@ -262,7 +270,8 @@ pub fn expression(
 
 /// An operator before an operand.
 pub fn levels_after_prefix(prefix: PrefixAt, pending: &mut Pending) -> Result<(), AllocError>
-    ensures { OnOk result (pending.new ≡ with_levels (levels_after_prefix prefix pending.old.levels) pending.old) }
+    ensures { OnOk result (pending.new
+        ≡ with_levels (levels_after_prefix prefix pending.old.levels) pending.old) }
 {
     pending.levels.prefixes.push(prefix)
 }
@@ -274,7 +283,8 @@ pub fn levels_after_term(
     pending: &mut Pending,
     e: Form<Expr>,
 ) -> Result<(), AllocError>
-    ensures { OnOk result (pending.new ≡ with_levels (levels_after_term operator pending.old.levels e) pending.old) }
+    ensures { OnOk result (pending.new
+        ≡ with_levels (levels_after_term operator pending.old.levels e) pending.old) }
 {
     let levels = &mut pending.levels;
     let left = as_term(alloc, levels, e)?;
@@ -290,7 +300,8 @@ pub fn levels_after_sum(
     pending: &mut Pending,
     e: Form<Expr>,
 ) -> Result<(), AllocError>
-    ensures { OnOk result (pending.new ≡ with_levels (levels_after_sum operator pending.old.levels e) pending.old) }
+    ensures { OnOk result (pending.new
+        ≡ with_levels (levels_after_sum operator pending.old.levels e) pending.old) }
 {
     let levels = &mut pending.levels;
     let left = as_sum(alloc, levels, e)?;
@@ -306,7 +317,8 @@ pub fn levels_after_comparison(
     pending: &mut Pending,
     e: Form<Expr>,
 ) -> Result<(), AllocError>
-    ensures { OnOk result (pending.new ≡ with_levels (levels_after_comparison operator pending.old.levels e) pending.old) }
+    ensures { OnOk result (pending.new
+        ≡ with_levels (levels_after_comparison operator pending.old.levels e) pending.old) }
 {
     let levels = &mut pending.levels;
     let left = as_sum(alloc, levels, e)?;
@@ -321,7 +333,8 @@ pub fn levels_after_and(
     pending: &mut Pending,
     e: Form<Expr>,
 ) -> Result<(), AllocError>
-    ensures { OnOk result (pending.new ≡ with_levels (levels_after_and pending.old.levels e) pending.old) }
+    ensures { OnOk result (pending.new
+        ≡ with_levels (levels_after_and pending.old.levels e) pending.old) }
 {
     let levels = &mut pending.levels;
     let left = with_operand(alloc, &mut levels.and, Infix::And, e)?;
@@ -339,7 +352,8 @@ pub fn levels_after_or(
     pending: &mut Pending,
     e: Form<Expr>,
 ) -> Result<(), AllocError>
-    ensures { OnOk result (pending.new ≡ with_levels (levels_after_or pending.old.levels e) pending.old) }
+    ensures { OnOk result (pending.new
+        ≡ with_levels (levels_after_or pending.old.levels e) pending.old) }
 {
     let levels = &mut pending.levels;
     let left = as_or(alloc, levels, e)?;

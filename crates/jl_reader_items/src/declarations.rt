@@ -22,7 +22,8 @@ use std::mem;
 
 /// The word behind `abstract`.
 fn begin_abstract(is_type: bool, place: u32, reading: &mut Reading) -> Option<Point>
-    ensures { state_at result reading.new ≡ begin_abstract is_type place reading.old.stack reading.old.script }
+    ensures { state_at result reading.new
+        ≡ begin_abstract is_type place reading.old.stack reading.old.script }
 {
     if is_type {
         return Some(Point::DeclName(place, false));
@@ -32,7 +33,8 @@ fn begin_abstract(is_type: bool, place: u32, reading: &mut Reading) -> Option<Po
 
 /// A token behind `abstract`.
 pub fn at_abstract(terminal: &Terminal, place: u32, reading: &mut Reading) -> Option<Point>
-    ensures { state_at result reading.new ≡ at_abstract terminal.now place reading.old.stack reading.old.script }
+    ensures { state_at result reading.new
+        ≡ at_abstract terminal.now place reading.old.stack reading.old.script }
 {
     match terminal {
         Terminal::Name(name) => {
@@ -52,7 +54,8 @@ pub fn at_decl(
     is_struct: bool,
     reading: &mut Reading,
 ) -> Result<Option<Point>, AllocError>
-    ensures { IfOk result (λ p. state_at p reading.new ≡ at_decl terminal.now next place is_struct reading.old.stack reading.old.script) }
+    ensures { IfOk result (λ p. state_at p reading.new
+        ≡ at_decl terminal.now next place is_struct reading.old.stack reading.old.script) }
 {
     match terminal {
         Terminal::Name(name) => {
@@ -70,7 +73,8 @@ pub fn at_decl(
 
 /// The fields of a struct begin.
 fn begin_fields(alloc: Global, header: Form<Header>) -> Result<Option<Point>, AllocError>
-    ensures { IfOk result (λ p. p ≡ Some (Point.Fields (record { header = header; fields = no_forms }))) }
+    ensures { IfOk result (λ p. p
+        ≡ Some (Point.Fields (record { header = header; fields = no_forms }))) }
 {
     let fielding = Fielding {
         header,
@@ -86,7 +90,8 @@ fn token_after_struct(
     header: Form<Header>,
     reading: &mut Reading,
 ) -> Result<Option<Point>, AllocError>
-    ensures { IfOk result (λ p. state_at p reading.new ≡ token_after_struct terminal.now header reading.old.stack reading.old.script) }
+    ensures { IfOk result (λ p. state_at p reading.new
+        ≡ token_after_struct terminal.now header reading.old.stack reading.old.script) }
 {
     match terminal {
         Terminal::Newline => begin_fields(alloc, header),
@@ -106,7 +111,8 @@ fn token_after_abstract(
     header: Form<Header>,
     reading: &mut Reading,
 ) -> Result<Option<Point>, AllocError>
-    ensures { IfOk result (λ p. state_at p reading.new ≡ token_after_abstract terminal.now header reading.old.stack reading.old.script) }
+    ensures { IfOk result (λ p. state_at p reading.new
+        ≡ token_after_abstract terminal.now header reading.old.stack reading.old.script) }
 {
     match terminal {
         Terminal::Word(Word::End) => {
@@ -125,7 +131,8 @@ fn token_after_header(
     header: Form<Header>,
     reading: &mut Reading,
 ) -> Result<Option<Point>, AllocError>
-    ensures { IfOk result (λ p. state_at p reading.new ≡ token_after_header is_struct terminal.now header reading.old.stack reading.old.script) }
+    ensures { IfOk result (λ p. state_at p reading.new
+        ≡ token_after_header is_struct terminal.now header reading.old.stack reading.old.script) }
 {
     if is_struct {
         return token_after_struct(alloc, terminal, header, reading);
@@ -141,7 +148,8 @@ pub(crate) fn end_header(
     parent: Option<TypeForm>,
     reading: &mut Reading,
 ) -> Result<Option<Point>, AllocError>
-    ensures { IfOk result (λ p. state_at p reading.new ≡ end_header terminal.now declaring parent reading.old.stack reading.old.script) }
+    ensures { IfOk result (λ p. state_at p reading.new
+        ≡ end_header terminal.now declaring parent reading.old.stack reading.old.script) }
 {
     let Declaring {
         at,
@@ -160,7 +168,8 @@ fn token_after_params(
     declaring: Owned<Declaring>,
     reading: &mut Reading,
 ) -> Result<Option<Point>, AllocError>
-    ensures { IfOk result (λ p. state_at p reading.new ≡ token_after_params terminal.now declaring reading.old.stack reading.old.script) }
+    ensures { IfOk result (λ p. state_at p reading.new
+        ≡ token_after_params terminal.now declaring reading.old.stack reading.old.script) }
 {
     match terminal {
         Terminal::Operator(operator) => match operator {
@@ -178,7 +187,8 @@ pub fn at_declared(
     declaring: Owned<Declaring>,
     reading: &mut Reading,
 ) -> Result<Option<Point>, AllocError>
-    ensures { IfOk result (λ p. state_at p reading.new ≡ at_declared terminal.now declaring reading.old.stack reading.old.script) }
+    ensures { IfOk result (λ p. state_at p reading.new
+        ≡ at_declared terminal.now declaring reading.old.stack reading.old.script) }
 {
     match terminal {
         Terminal::Operator(operator) => match operator {
@@ -201,7 +211,8 @@ pub fn params_turn(
     state: Owned<TypeState>,
     reading: &mut Reading,
 ) -> Result<Option<Point>, AllocError>
-    ensures { IfOk result (λ p. state_at p reading.new ≡ params_turn turn terminal.now declaring reading.old.stack reading.old.script) }
+    ensures { IfOk result (λ p. state_at p reading.new
+        ≡ params_turn turn terminal.now declaring reading.old.stack reading.old.script) }
 {
     match turn {
         Turn::Goes(next) => {
@@ -228,7 +239,8 @@ pub(crate) fn token_after_field(
     fielding: Owned<Fielding>,
     reading: &mut Reading,
 ) -> Result<Option<Point>, AllocError>
-    ensures { IfOk result (λ p. state_at p reading.new ≡ token_after_field terminal.now fielding reading.old.stack reading.old.script) }
+    ensures { IfOk result (λ p. state_at p reading.new
+        ≡ token_after_field terminal.now fielding reading.old.stack reading.old.script) }
 {
     match terminal {
         Terminal::Newline => Ok(Some(Point::Fields(fielding))),
@@ -250,7 +262,8 @@ pub fn at_fields(
     fielding: Owned<Fielding>,
     reading: &mut Reading,
 ) -> Result<Option<Point>, AllocError>
-    ensures { IfOk result (λ p. state_at p reading.new ≡ at_fields terminal.now place fielding reading.old.stack reading.old.script) }
+    ensures { IfOk result (λ p. state_at p reading.new
+        ≡ at_fields terminal.now place fielding reading.old.stack reading.old.script) }
 {
     match terminal {
         Terminal::Name(name) => {
@@ -281,7 +294,9 @@ fn end_bare_field(
     name: Name,
     reading: &mut Reading,
 ) -> Result<Option<Point>, AllocError>
-    ensures { IfOk result (λ p. state_at p reading.new ≡ token_after_field terminal.now (with_field fielding name None 0) reading.old.stack reading.old.script) }
+    ensures { IfOk result (λ p. state_at p reading.new
+        ≡ token_after_field terminal.now (with_field fielding name None 0)
+        reading.old.stack reading.old.script) }
 {
     let mut fielding = fielding;
     add_field(fielding.get_mut(), name, None, 0)?;
@@ -296,7 +311,8 @@ pub fn at_field(
     name: Name,
     reading: &mut Reading,
 ) -> Result<Option<Point>, AllocError>
-    ensures { IfOk result (λ p. state_at p reading.new ≡ at_field terminal.now fielding name reading.old.stack reading.old.script) }
+    ensures { IfOk result (λ p. state_at p reading.new
+        ≡ at_field terminal.now fielding name reading.old.stack reading.old.script) }
 {
     match terminal {
         Terminal::Operator(operator) => match operator {
@@ -312,7 +328,8 @@ fn separator_after_item(
     item: Form<Item>,
     reading: &mut Reading,
 ) -> Result<Option<Point>, AllocError>
-    ensures { IfOk result (λ p. state_at p reading.new ≡ separator_after_item item reading.old.stack reading.old.script) }
+    ensures { IfOk result (λ p. state_at p reading.new
+        ≡ separator_after_item item reading.old.stack reading.old.script) }
 {
     if reading.stack.is_empty() {
         with_item(&mut reading.script, item)?;
@@ -328,7 +345,8 @@ pub fn at_made(
     item: Form<Item>,
     reading: &mut Reading,
 ) -> Result<Option<Point>, AllocError>
-    ensures { IfOk result (λ p. state_at p reading.new ≡ at_made terminal.now item reading.old.stack reading.old.script) }
+    ensures { IfOk result (λ p. state_at p reading.new
+        ≡ at_made terminal.now item reading.old.stack reading.old.script) }
 {
     match terminal {
         Terminal::Newline => separator_after_item(item, reading),
@@ -344,7 +362,8 @@ fn separator_after_method(
     method: Form<Method>,
     reading: &mut Reading,
 ) -> Result<Option<Point>, AllocError>
-    ensures { IfOk result (λ p. state_at p reading.new ≡ separator_after_method method reading.old.stack reading.old.script) }
+    ensures { IfOk result (λ p. state_at p reading.new
+        ≡ separator_after_method method reading.old.stack reading.old.script) }
 {
     match reading.stack.pop() {
         None => {
@@ -370,7 +389,8 @@ fn end_after_method(
     method: Form<Method>,
     reading: &mut Reading,
 ) -> Result<Option<Point>, AllocError>
-    ensures { IfOk result (λ p. state_at p reading.new ≡ end_after_method method reading.old.stack reading.old.script) }
+    ensures { IfOk result (λ p. state_at p reading.new
+        ≡ end_after_method method reading.old.stack reading.old.script) }
 {
     match reading.stack.pop() {
         Some(Frame::Evals(kind, evals)) => {
@@ -395,7 +415,8 @@ fn source_end_after_method(
     method: Form<Method>,
     reading: &mut Reading,
 ) -> Result<Option<Point>, AllocError>
-    ensures { IfOk result (λ p. state_at p reading.new ≡ source_end_after_method method reading.old.stack reading.old.script) }
+    ensures { IfOk result (λ p. state_at p reading.new
+        ≡ source_end_after_method method reading.old.stack reading.old.script) }
 {
     if reading.stack.is_empty() {
         let item = method_item(alloc, method)?;
@@ -413,7 +434,8 @@ pub fn at_made_method(
     method: Form<Method>,
     reading: &mut Reading,
 ) -> Result<Option<Point>, AllocError>
-    ensures { IfOk result (λ p. state_at p reading.new ≡ at_made_method terminal.now method reading.old.stack reading.old.script) }
+    ensures { IfOk result (λ p. state_at p reading.new
+        ≡ at_made_method terminal.now method reading.old.stack reading.old.script) }
 {
     match terminal {
         Terminal::Newline => separator_after_method(alloc, method, reading),

@@ -56,7 +56,9 @@ fn begin_head(
     place: u32,
     reading: &mut Reading,
 ) -> Result<Option<Point>, AllocError>
-    ensures { IfOk result (λ p. state_at p reading.new ≡ at (Named (Head (record { place = Entry; long = false; at = place })) (name_at place name)) reading.old.stack reading.old.script) }
+    ensures { IfOk result (λ p. state_at p reading.new
+        ≡ at (Named (Head (record { place = Entry; long = false; at = place }))
+        (name_at place name)) reading.old.stack reading.old.script) }
 {
     let start = Start {
         place: Place::Entry,
@@ -77,7 +79,8 @@ fn begin_item(
     place: u32,
     reading: &mut Reading,
 ) -> Result<Option<Point>, AllocError>
-    ensures { IfOk result (λ p. state_at p reading.new ≡ begin_item is_method is_binding marks name place reading.old.stack reading.old.script) }
+    ensures { IfOk result (λ p. state_at p reading.new
+        ≡ begin_item is_method is_binding marks name place reading.old.stack reading.old.script) }
 {
     if is_method {
         return begin_head(alloc, name, place, reading);
@@ -99,7 +102,8 @@ fn begin_stmt(
     place: u32,
     reading: &mut Reading,
 ) -> Result<Option<Point>, AllocError>
-    ensures { IfOk result (λ p. state_at p reading.new ≡ begin_stmt is_binding returns marks name place reading.old.stack reading.old.script) }
+    ensures { IfOk result (λ p. state_at p reading.new
+        ≡ begin_stmt is_binding returns marks name place reading.old.stack reading.old.script) }
 {
     if is_binding {
         return Ok(Some(Point::Bound(name_at(place, name))));
@@ -117,7 +121,8 @@ fn begin_eval(
     place: u32,
     reading: &mut Reading,
 ) -> Result<Option<Point>, AllocError>
-    ensures { IfOk result (λ p. state_at p reading.new ≡ begin_eval is_method marks name place reading.old.stack reading.old.script) }
+    ensures { IfOk result (λ p. state_at p reading.new
+        ≡ begin_eval is_method marks name place reading.old.stack reading.old.script) }
 {
     if is_method {
         return begin_head(alloc, name, place, reading);
@@ -134,7 +139,8 @@ fn entry_name(
     place: u32,
     reading: &mut Reading,
 ) -> Result<Option<Point>, AllocError>
-    ensures { IfOk result (λ p. state_at p reading.new ≡ entry_name marks name place reading.old.stack reading.old.script) }
+    ensures { IfOk result (λ p. state_at p reading.new
+        ≡ entry_name marks name place reading.old.stack reading.old.script) }
 {
     let is_method = is_method(marks.ahead);
     let is_binding = is_binding(marks.opening);
@@ -156,7 +162,8 @@ pub(crate) fn begin_long(
     place: u32,
     reading: &mut Reading,
 ) -> Result<Option<Point>, AllocError>
-    ensures { IfOk result (λ p. state_at p reading.new ≡ begin_long method place reading.old.stack reading.old.script) }
+    ensures { IfOk result (λ p. state_at p reading.new
+        ≡ begin_long method place reading.old.stack reading.old.script) }
 {
     let start = Start {
         place: method,
@@ -174,7 +181,8 @@ fn item_word(
     place: u32,
     reading: &mut Reading,
 ) -> Result<Option<Point>, AllocError>
-    ensures { IfOk result (λ p. state_at p reading.new ≡ item_word word place reading.old.stack reading.old.script) }
+    ensures { IfOk result (λ p. state_at p reading.new
+        ≡ item_word word place reading.old.stack reading.old.script) }
 {
     match word {
         Word::Abstract => Ok(Some(Point::AbstractWord(place))),
@@ -190,7 +198,8 @@ fn begin_return(
     place: u32,
     reading: &mut Reading,
 ) -> Result<Option<Point>, AllocError>
-    ensures { IfOk result (λ p. state_at p reading.new ≡ begin_return allowed place reading.old.stack reading.old.script) }
+    ensures { IfOk result (λ p. state_at p reading.new
+        ≡ begin_return allowed place reading.old.stack reading.old.script) }
 {
     if allowed {
         return Ok(Some(Point::Returned(place)));
@@ -207,7 +216,9 @@ fn begin_stmt_word(
     statements: Forms<Stmt>,
     reading: &mut Reading,
 ) -> Result<Option<Point>, AllocError>
-    ensures { IfOk result (λ p. state_at p reading.new ≡ begin_word word place (no_pending (is_return_allowed kind)) (Block kind statements ∷ reading.old.stack) reading.old.script) }
+    ensures { IfOk result (λ p. state_at p reading.new
+        ≡ begin_word word place (no_pending (is_return_allowed kind))
+        (Block kind statements ∷ reading.old.stack) reading.old.script) }
 {
     let returns = is_return_allowed(kind.get());
     reading.stack.push(Frame::Block(kind, statements))?;
@@ -223,7 +234,8 @@ fn stmt_word(
     statements: Forms<Stmt>,
     reading: &mut Reading,
 ) -> Result<Option<Point>, AllocError>
-    ensures { IfOk result (λ p. state_at p reading.new ≡ stmt_word word place kind statements reading.old.stack reading.old.script) }
+    ensures { IfOk result (λ p. state_at p reading.new
+        ≡ stmt_word word place kind statements reading.old.stack reading.old.script) }
 {
     match word {
         Word::End => end_block(alloc, kind.take(), statements, reading),
@@ -247,7 +259,8 @@ fn eval_word(
     evals: Forms<Eval>,
     reading: &mut Reading,
 ) -> Result<Option<Point>, AllocError>
-    ensures { IfOk result (λ p. state_at p reading.new ≡ eval_word word place kind evals reading.old.stack reading.old.script) }
+    ensures { IfOk result (λ p. state_at p reading.new
+        ≡ eval_word word place kind evals reading.old.stack reading.old.script) }
 {
     match word {
         Word::End => end_evals(alloc, kind, evals, reading),
@@ -269,7 +282,8 @@ fn entry_word(
     place: u32,
     reading: &mut Reading,
 ) -> Result<Option<Point>, AllocError>
-    ensures { IfOk result (λ p. state_at p reading.new ≡ entry_word word place reading.old.stack reading.old.script) }
+    ensures { IfOk result (λ p. state_at p reading.new
+        ≡ entry_word word place reading.old.stack reading.old.script) }
 {
     match reading.stack.pop() {
         None => item_word(alloc, word, place, reading),
@@ -286,7 +300,8 @@ fn entry_word(
 
 /// The source's end at an entry.
 fn entry_end(reading: &mut Reading) -> Result<Option<Point>, AllocError>
-    ensures { IfOk result (λ p. state_at p reading.new ≡ entry_end reading.old.stack reading.old.script) }
+    ensures { IfOk result (λ p. state_at p reading.new
+        ≡ entry_end reading.old.stack reading.old.script) }
 {
     if reading.stack.is_empty() {
         return Ok(Some(Point::Entry));
@@ -302,7 +317,8 @@ fn entry_operator(
     place: u32,
     reading: &mut Reading,
 ) -> Result<Option<Point>, AllocError>
-    ensures { IfOk result (λ p. state_at p reading.new ≡ entry_operator operator marks place reading.old.stack reading.old.script) }
+    ensures { IfOk result (λ p. state_at p reading.new
+        ≡ entry_operator operator marks place reading.old.stack reading.old.script) }
 {
     match operator {
         Operator::Semicolon => Ok(Some(Point::Entry)),
@@ -321,7 +337,10 @@ fn begin_entry(
     place: u32,
     reading: &mut Reading,
 ) -> Result<Option<Point>, AllocError>
-    ensures { IfOk result (λ p. state_at p reading.new ≡ begin_operand terminal.now marks place (no_pending (is_return_allowed_in reading.old.stack)) reading.old.stack reading.old.script) }
+    ensures { IfOk result (λ p. state_at p reading.new
+        ≡ begin_operand terminal.now marks place
+        (no_pending (is_return_allowed_in reading.old.stack))
+        reading.old.stack reading.old.script) }
 {
     let pending = no_pending(alloc, is_return_allowed_in(&reading.stack))?;
     begin_operand(alloc, terminal, marks, place, pending, reading)
@@ -335,7 +354,8 @@ pub fn at_entry(
     place: u32,
     reading: &mut Reading,
 ) -> Result<Option<Point>, AllocError>
-    ensures { IfOk result (λ p. state_at p reading.new ≡ at_entry terminal.now marks place reading.old.stack reading.old.script) }
+    ensures { IfOk result (λ p. state_at p reading.new
+        ≡ at_entry terminal.now marks place reading.old.stack reading.old.script) }
 {
     match terminal {
         Terminal::Newline => Ok(Some(Point::Entry)),
@@ -356,7 +376,8 @@ pub fn at_bound(
     name: Name,
     reading: &mut Reading,
 ) -> Result<Option<Point>, AllocError>
-    ensures { IfOk result (λ p. state_at p reading.new ≡ at_bound terminal.now name reading.old.stack reading.old.script) }
+    ensures { IfOk result (λ p. state_at p reading.new
+        ≡ at_bound terminal.now name reading.old.stack reading.old.script) }
 {
     match terminal {
         Terminal::Operator(Operator::Assign) => {
@@ -373,7 +394,8 @@ pub fn at_bound(
 
 /// A separator behind `return`.
 fn separator_after_return(place: u32, reading: &mut Reading) -> Result<Option<Point>, AllocError>
-    ensures { IfOk result (λ p. state_at p reading.new ≡ separator_after_return place reading.old.stack reading.old.script) }
+    ensures { IfOk result (λ p. state_at p reading.new
+        ≡ separator_after_return place reading.old.stack reading.old.script) }
 {
     match reading.stack.pop() {
         Some(Frame::Block(kind, statements)) => {
@@ -396,7 +418,8 @@ fn end_return(
     place: u32,
     reading: &mut Reading,
 ) -> Result<Option<Point>, AllocError>
-    ensures { IfOk result (λ p. state_at p reading.new ≡ end_return word next place reading.old.stack reading.old.script) }
+    ensures { IfOk result (λ p. state_at p reading.new
+        ≡ end_return word next place reading.old.stack reading.old.script) }
 {
     match reading.stack.pop() {
         Some(Frame::Block(kind, statements)) => {
@@ -419,7 +442,8 @@ fn return_word(
     place: u32,
     reading: &mut Reading,
 ) -> Result<Option<Point>, AllocError>
-    ensures { IfOk result (λ p. state_at p reading.new ≡ return_word word next place reading.old.stack reading.old.script) }
+    ensures { IfOk result (λ p. state_at p reading.new
+        ≡ return_word word next place reading.old.stack reading.old.script) }
 {
     match word {
         Word::End => end_return(alloc, Word::End, next, place, reading),
@@ -441,7 +465,8 @@ fn return_operator(
     place: u32,
     reading: &mut Reading,
 ) -> Result<Option<Point>, AllocError>
-    ensures { IfOk result (λ p. state_at p reading.new ≡ return_operator operator marks next place reading.old.stack reading.old.script) }
+    ensures { IfOk result (λ p. state_at p reading.new
+        ≡ return_operator operator marks next place reading.old.stack reading.old.script) }
 {
     match operator {
         Operator::Semicolon => separator_after_return(place, reading),
@@ -461,7 +486,8 @@ pub fn at_returned(
     place: u32,
     reading: &mut Reading,
 ) -> Result<Option<Point>, AllocError>
-    ensures { IfOk result (λ p. state_at p reading.new ≡ at_returned terminal.now marks next place reading.old.stack reading.old.script) }
+    ensures { IfOk result (λ p. state_at p reading.new
+        ≡ at_returned terminal.now marks next place reading.old.stack reading.old.script) }
 {
     match terminal {
         Terminal::Newline => separator_after_return(place, reading),

@@ -36,7 +36,8 @@ pub fn at_function(
     purpose: Purpose,
     reading: &mut Reading,
 ) -> Result<Option<Point>, AllocError>
-    ensures { IfOk result (λ p. state_at p reading.new ≡ at_function terminal.now place purpose reading.old.stack reading.old.script) }
+    ensures { IfOk result (λ p. state_at p reading.new
+        ≡ at_function terminal.now place purpose reading.old.stack reading.old.script) }
 {
     match terminal {
         Terminal::Name(name) => {
@@ -64,7 +65,9 @@ pub(crate) fn open_call(
     called: Called,
     reading: &mut Reading,
 ) -> Result<Option<Point>, AllocError>
-    ensures { IfOk result (λ p. state_at p reading.new ≡ at (Point.First pending.returns) (Frame.Args pending place called no_forms ∷ reading.old.stack) reading.old.script) }
+    ensures { IfOk result (λ p. state_at p reading.new
+        ≡ at (Point.First pending.returns)
+        (Frame.Args pending place called no_forms ∷ reading.old.stack) reading.old.script) }
 {
     let called = Owned::new(alloc, called)?;
     let point = Point::First(pending.get().returns);
@@ -80,7 +83,8 @@ fn open_known(
     callee: Callee,
     reading: &mut Reading,
 ) -> Result<Option<Point>, AllocError>
-    ensures { IfOk result (λ p. state_at p reading.new ≡ open_known purpose callee reading.old.stack reading.old.script) }
+    ensures { IfOk result (λ p. state_at p reading.new
+        ≡ open_known purpose callee reading.old.stack reading.old.script) }
 {
     match purpose {
         Purpose::Call(pending, place) => {
@@ -109,7 +113,8 @@ fn known_comma(
     callee: Callee,
     reading: &mut Reading,
 ) -> Result<Option<Point>, AllocError>
-    ensures { IfOk result (λ p. state_at p reading.new ≡ known_comma purpose callee reading.old.stack reading.old.script) }
+    ensures { IfOk result (λ p. state_at p reading.new
+        ≡ known_comma purpose callee reading.old.stack reading.old.script) }
 {
     match purpose {
         Purpose::Latest(pending, place) => {
@@ -133,7 +138,8 @@ fn close_known(
     callee: Callee,
     reading: &mut Reading,
 ) -> Result<Option<Point>, AllocError>
-    ensures { IfOk result (λ p. state_at p reading.new ≡ close_known purpose callee reading.old.stack reading.old.script) }
+    ensures { IfOk result (λ p. state_at p reading.new
+        ≡ close_known purpose callee reading.old.stack reading.old.script) }
 {
     match purpose {
         Purpose::Latest(pending, place) => {
@@ -157,7 +163,8 @@ pub fn at_known(
     callee: Callee,
     reading: &mut Reading,
 ) -> Result<Option<Point>, AllocError>
-    ensures { IfOk result (λ p. state_at p reading.new ≡ at_known terminal.now purpose callee reading.old.stack reading.old.script) }
+    ensures { IfOk result (λ p. state_at p reading.new
+        ≡ at_known terminal.now purpose callee reading.old.stack reading.old.script) }
 {
     match terminal {
         Terminal::Operator(Operator::OpenParen) => open_known(alloc, purpose, callee, reading),
@@ -178,7 +185,8 @@ fn dot_after_base(
     base: u32,
     reading: &mut Reading,
 ) -> Result<Option<Point>, AllocError>
-    ensures { IfOk result (λ p. state_at p reading.new ≡ dot_after_base is_base purpose base reading.old.stack reading.old.script) }
+    ensures { IfOk result (λ p. state_at p reading.new
+        ≡ dot_after_base is_base purpose base reading.old.stack reading.old.script) }
 {
     if is_base {
         return Ok(Some(Point::Dotted(purpose, base)));
@@ -196,7 +204,8 @@ pub fn at_named(
     name: Name,
     reading: &mut Reading,
 ) -> Result<Option<Point>, AllocError>
-    ensures { IfOk result (λ p. state_at p reading.new ≡ at_named terminal.now purpose name reading.old.stack reading.old.script) }
+    ensures { IfOk result (λ p. state_at p reading.new
+        ≡ at_named terminal.now purpose name reading.old.stack reading.old.script) }
 {
     match terminal {
         Terminal::Operator(operator) => match operator {
@@ -231,7 +240,8 @@ pub fn at_dotted(
     base: u32,
     reading: &mut Reading,
 ) -> Result<Option<Point>, AllocError>
-    ensures { IfOk result (λ p. state_at p reading.new ≡ at_dotted terminal.now place purpose base reading.old.stack reading.old.script) }
+    ensures { IfOk result (λ p. state_at p reading.new
+        ≡ at_dotted terminal.now place purpose base reading.old.stack reading.old.script) }
 {
     match terminal {
         Terminal::Name(name) => match base_function(alloc, name, place, base) {
@@ -259,7 +269,9 @@ fn operator_after_base(
     base: u32,
     reading: &mut Reading,
 ) -> Result<Option<Point>, AllocError>
-    ensures { IfOk result (λ p. state_at p reading.new ≡ operator_after_base is_function operator purpose base reading.old.stack reading.old.script) }
+    ensures { IfOk result (λ p. state_at p reading.new
+        ≡ operator_after_base is_function operator purpose base
+        reading.old.stack reading.old.script) }
 {
     if is_function {
         return match Owned::new(alloc, Callee::Operator(base, operator)) {
@@ -282,7 +294,8 @@ pub fn at_colon(
     base: u32,
     reading: &mut Reading,
 ) -> Result<Option<Point>, AllocError>
-    ensures { IfOk result (λ p. state_at p reading.new ≡ at_colon terminal.now purpose base reading.old.stack reading.old.script) }
+    ensures { IfOk result (λ p. state_at p reading.new
+        ≡ at_colon terminal.now purpose base reading.old.stack reading.old.script) }
 {
     match terminal {
         Terminal::Operator(operator) => {
@@ -311,7 +324,8 @@ pub fn next_param(
     heading: Owned<Heading>,
     reading: &mut Reading,
 ) -> Result<Option<Point>, AllocError>
-    ensures { IfOk result (λ p. state_at p reading.new ≡ next_param terminal.now place heading reading.old.stack reading.old.script) }
+    ensures { IfOk result (λ p. state_at p reading.new
+        ≡ next_param terminal.now place heading reading.old.stack reading.old.script) }
 {
     match terminal {
         Terminal::Name(name) => {
@@ -333,7 +347,8 @@ pub fn first_param(
     heading: Owned<Heading>,
     reading: &mut Reading,
 ) -> Result<Option<Point>, AllocError>
-    ensures { IfOk result (λ p. state_at p reading.new ≡ first_param terminal.now place heading reading.old.stack reading.old.script) }
+    ensures { IfOk result (λ p. state_at p reading.new
+        ≡ first_param terminal.now place heading reading.old.stack reading.old.script) }
 {
     match terminal {
         Terminal::Operator(operator) => match operator {
@@ -350,7 +365,8 @@ pub(crate) fn token_after_param(
     heading: Owned<Heading>,
     reading: &mut Reading,
 ) -> Result<Option<Point>, AllocError>
-    ensures { IfOk result (λ p. state_at p reading.new ≡ token_after_param terminal.now heading reading.old.stack reading.old.script) }
+    ensures { IfOk result (λ p. state_at p reading.new
+        ≡ token_after_param terminal.now heading reading.old.stack reading.old.script) }
 {
     match terminal {
         Terminal::Operator(Operator::Comma) => Ok(Some(Point::NextParam(heading))),
@@ -366,7 +382,9 @@ fn end_bare_param(
     name: Name,
     reading: &mut Reading,
 ) -> Result<Option<Point>, AllocError>
-    ensures { IfOk result (λ p. state_at p reading.new ≡ token_after_param terminal.now (with_param heading (Param.Name name) 0) reading.old.stack reading.old.script) }
+    ensures { IfOk result (λ p. state_at p reading.new
+        ≡ token_after_param terminal.now (with_param heading (Param.Name name) 0)
+        reading.old.stack reading.old.script) }
 {
     let mut heading = heading;
     add_param(heading.get_mut(), Param::Name(name), 0)?;
@@ -382,7 +400,8 @@ pub fn at_param(
     name: Name,
     reading: &mut Reading,
 ) -> Result<Option<Point>, AllocError>
-    ensures { IfOk result (λ p. state_at p reading.new ≡ at_param terminal.now place heading name reading.old.stack reading.old.script) }
+    ensures { IfOk result (λ p. state_at p reading.new
+        ≡ at_param terminal.now place heading name reading.old.stack reading.old.script) }
 {
     match terminal {
         Terminal::Operator(operator) => match operator {
@@ -403,7 +422,8 @@ fn define(
     place: u32,
     head: Owned<Form<Head>>,
 ) -> Result<(), AllocError>
-    ensures { OnOk result (pending.new ≡ push_outer (Outer.Short pending.old.levels place head) true pending.old) }
+    ensures { OnOk result (pending.new
+        ≡ push_outer (Outer.Short pending.old.levels place head) true pending.old) }
 {
     let levels = take_levels(alloc, &mut pending.levels);
     begin_form(alloc, Outer::Short(levels, place, head), true, pending)
@@ -416,7 +436,8 @@ fn begin_body(
     head: Owned<Form<Head>>,
     reading: &mut Reading,
 ) -> Result<Option<Point>, AllocError>
-    ensures { IfOk result (λ p. state_at p reading.new ≡ begin_body method head reading.old.stack reading.old.script) }
+    ensures { IfOk result (λ p. state_at p reading.new
+        ≡ begin_body method head reading.old.stack reading.old.script) }
 {
     match method {
         Place::Entry => {
@@ -439,7 +460,8 @@ fn token_after_short_head(
     head: Form<Head>,
     reading: &mut Reading,
 ) -> Result<Option<Point>, AllocError>
-    ensures { IfOk result (λ p. state_at p reading.new ≡ token_after_short_head terminal.now method head reading.old.stack reading.old.script) }
+    ensures { IfOk result (λ p. state_at p reading.new
+        ≡ token_after_short_head terminal.now method head reading.old.stack reading.old.script) }
 {
     match terminal {
         Terminal::Operator(Operator::Assign) => {
@@ -461,7 +483,9 @@ fn token_after_head(
     head: Form<Head>,
     reading: &mut Reading,
 ) -> Result<Option<Point>, AllocError>
-    ensures { IfOk result (λ p. state_at p reading.new ≡ token_after_head long terminal.now marks next method head reading.old.stack reading.old.script) }
+    ensures { IfOk result (λ p. state_at p reading.new
+        ≡ token_after_head long terminal.now marks next method head
+        reading.old.stack reading.old.script) }
 {
     if long {
         let kind = Owned::new(alloc, BlockKind::Body(method, head))?;
@@ -481,7 +505,8 @@ fn end_head(
     vars: VarsForm,
     reading: &mut Reading,
 ) -> Result<Option<Point>, AllocError>
-    ensures { IfOk result (λ p. state_at p reading.new ≡ end_head terminal.now marks next heading vars reading.old.stack reading.old.script) }
+    ensures { IfOk result (λ p. state_at p reading.new
+        ≡ end_head terminal.now marks next heading vars reading.old.stack reading.old.script) }
 {
     let Heading {
         start,
@@ -506,7 +531,8 @@ pub fn at_headed(
     heading: Owned<Heading>,
     reading: &mut Reading,
 ) -> Result<Option<Point>, AllocError>
-    ensures { IfOk result (λ p. state_at p reading.new ≡ at_headed terminal.now marks next heading reading.old.stack reading.old.script) }
+    ensures { IfOk result (λ p. state_at p reading.new
+        ≡ at_headed terminal.now marks next heading reading.old.stack reading.old.script) }
 {
     match terminal {
         Terminal::Word(word) => match word {
@@ -531,7 +557,8 @@ pub fn where_turn(
     state: Owned<TypeState>,
     reading: &mut Reading,
 ) -> Result<Option<Point>, AllocError>
-    ensures { IfOk result (λ p. state_at p reading.new ≡ where_turn turn terminal.now marks next heading reading.old.stack reading.old.script) }
+    ensures { IfOk result (λ p. state_at p reading.new
+        ≡ where_turn turn terminal.now marks next heading reading.old.stack reading.old.script) }
 {
     match turn {
         Turn::Goes(next) => {

@@ -30,7 +30,8 @@ fn evaluate(alloc: Global, pending: &mut Pending, place: u32) -> Result<(), Allo
 
 /// What stands before the expression behind `Threads.@spawn`.
 fn spawn(alloc: Global, pending: &mut Pending, place: u32) -> Result<(), AllocError>
-    ensures { OnOk result (pending.new ≡ push_outer (Outer.Spawn pending.old.levels place) false pending.old) }
+    ensures { OnOk result (pending.new
+        ≡ push_outer (Outer.Spawn pending.old.levels place) false pending.old) }
 {
     let levels = take_levels(alloc, &mut pending.levels);
     begin_form(alloc, Outer::Spawn(levels, place), false, pending)
@@ -47,7 +48,9 @@ fn name_after_eval(
     place: u32,
     reading: &mut Reading,
 ) -> Result<Option<Point>, AllocError>
-    ensures { IfOk result (λ p. state_at p reading.new ≡ name_after_eval is_method marks name next pending place reading.old.stack reading.old.script) }
+    ensures { IfOk result (λ p. state_at p reading.new
+        ≡ name_after_eval is_method marks name next pending place
+        reading.old.stack reading.old.script) }
 {
     if is_method {
         let start = Start {
@@ -72,7 +75,8 @@ fn word_after_eval(
     place: u32,
     reading: &mut Reading,
 ) -> Result<Option<Point>, AllocError>
-    ensures { IfOk result (λ p. state_at p reading.new ≡ word_after_eval word next pending place reading.old.stack reading.old.script) }
+    ensures { IfOk result (λ p. state_at p reading.new
+        ≡ word_after_eval word next pending place reading.old.stack reading.old.script) }
 {
     match word {
         Word::Begin => {
@@ -98,7 +102,9 @@ pub fn token_after_eval(
     place: u32,
     reading: &mut Reading,
 ) -> Result<Option<Point>, AllocError>
-    ensures { IfOk result (λ p. state_at p reading.new ≡ token_after_eval terminal.now marks next pending place reading.old.stack reading.old.script) }
+    ensures { IfOk result (λ p. state_at p reading.new
+        ≡ token_after_eval terminal.now marks next pending place
+        reading.old.stack reading.old.script) }
 {
     match terminal {
         Terminal::Name(name) => {
@@ -122,7 +128,8 @@ fn due_dot(
     place: u32,
     reading: &mut Reading,
 ) -> Result<Option<Point>, AllocError>
-    ensures { IfOk result (λ p. state_at p reading.new ≡ due_dot due pending place reading.old.stack reading.old.script) }
+    ensures { IfOk result (λ p. state_at p reading.new
+        ≡ due_dot due pending place reading.old.stack reading.old.script) }
 {
     match due {
         Due::SpawnDot => Ok(Some(Point::Due(pending, place, Due::SpawnMacro))),
@@ -139,7 +146,8 @@ fn due_open(
     place: u32,
     reading: &mut Reading,
 ) -> Result<Option<Point>, AllocError>
-    ensures { IfOk result (λ p. state_at p reading.new ≡ due_open due pending place reading.old.stack reading.old.script) }
+    ensures { IfOk result (λ p. state_at p reading.new
+        ≡ due_open due pending place reading.old.stack reading.old.script) }
 {
     match due {
         Due::LatestOpen => Ok(Some(Point::Function(Purpose::Latest(pending, place)))),
@@ -164,7 +172,8 @@ fn due_name(
     place: u32,
     reading: &mut Reading,
 ) -> Result<Option<Point>, AllocError>
-    ensures { IfOk result (λ p. state_at p reading.new ≡ due_name due pending place reading.old.stack reading.old.script) }
+    ensures { IfOk result (λ p. state_at p reading.new
+        ≡ due_name due pending place reading.old.stack reading.old.script) }
 {
     match due {
         Due::LatestName => Ok(Some(Point::Due(pending, place, Due::LatestOpen))),
@@ -180,7 +189,8 @@ fn due_macro(
     place: u32,
     reading: &mut Reading,
 ) -> Result<Option<Point>, AllocError>
-    ensures { IfOk result (λ p. state_at p reading.new ≡ due_macro due pending place reading.old.stack reading.old.script) }
+    ensures { IfOk result (λ p. state_at p reading.new
+        ≡ due_macro due pending place reading.old.stack reading.old.script) }
 {
     match due {
         Due::SpawnMacro => {
@@ -200,7 +210,8 @@ fn due_quote(
     place: u32,
     reading: &mut Reading,
 ) -> Result<Option<Point>, AllocError>
-    ensures { IfOk result (λ p. state_at p reading.new ≡ due_quote due pending place reading.old.stack reading.old.script) }
+    ensures { IfOk result (λ p. state_at p reading.new
+        ≡ due_quote due pending place reading.old.stack reading.old.script) }
 {
     match due {
         Due::QuoteWord => {
@@ -220,7 +231,8 @@ pub fn at_due(
     due: Due,
     reading: &mut Reading,
 ) -> Result<Option<Point>, AllocError>
-    ensures { IfOk result (λ p. state_at p reading.new ≡ at_due terminal.now pending place due reading.old.stack reading.old.script) }
+    ensures { IfOk result (λ p. state_at p reading.new
+        ≡ at_due terminal.now pending place due reading.old.stack reading.old.script) }
 {
     match terminal {
         Terminal::Operator(Operator::Dot) => due_dot(due, pending, place, reading),

@@ -28,7 +28,8 @@ fn token_after_left(
     ty: TypeForm,
     reading: &mut Reading,
 ) -> Result<Option<Point>, AllocError>
-    ensures { IfOk result (λ p. state_at p reading.new ≡ token_after_left terminal.now pending place ty reading.old.stack reading.old.script) }
+    ensures { IfOk result (λ p. state_at p reading.new
+        ≡ token_after_left terminal.now pending place ty reading.old.stack reading.old.script) }
 {
     match terminal {
         Terminal::Operator(Operator::Subtype) => {
@@ -47,7 +48,8 @@ fn open_make(
     ty: TypeForm,
     reading: &mut Reading,
 ) -> Result<Option<Point>, AllocError>
-    ensures { IfOk result (λ p. state_at p reading.new ≡ open_make terminal.now pending place ty reading.old.stack reading.old.script) }
+    ensures { IfOk result (λ p. state_at p reading.new
+        ≡ open_make terminal.now pending place ty reading.old.stack reading.old.script) }
 {
     match terminal {
         Terminal::Operator(Operator::OpenParen) => {
@@ -66,7 +68,9 @@ fn end_typed_param(
     ty: TypeForm,
     reading: &mut Reading,
 ) -> Result<Option<Point>, AllocError>
-    ensures { IfOk result (λ p. state_at p reading.new ≡ token_after_param terminal.now (with_param heading (typed_param name place ty) ty.depth) reading.old.stack reading.old.script) }
+    ensures { IfOk result (λ p. state_at p reading.new
+        ≡ token_after_param terminal.now (with_param heading (typed_param name place ty) ty.depth)
+        reading.old.stack reading.old.script) }
 {
     let depth = ty.depth;
     let mut heading = heading;
@@ -83,7 +87,9 @@ fn end_typed_field(
     ty: TypeForm,
     reading: &mut Reading,
 ) -> Result<Option<Point>, AllocError>
-    ensures { IfOk result (λ p. state_at p reading.new ≡ token_after_field terminal.now (with_field fielding name (Some ty.tree) ty.depth) reading.old.stack reading.old.script) }
+    ensures { IfOk result (λ p. state_at p reading.new
+        ≡ token_after_field terminal.now (with_field fielding name (Some ty.tree) ty.depth)
+        reading.old.stack reading.old.script) }
 {
     let TypeForm { tree, depth } = ty;
     let mut fielding = fielding;
@@ -100,7 +106,8 @@ fn token_after_type(
     ty: TypeForm,
     reading: &mut Reading,
 ) -> Result<Option<Point>, AllocError>
-    ensures { IfOk result (λ p. state_at p reading.new ≡ token_after_type terminal.now next goal ty reading.old.stack reading.old.script) }
+    ensures { IfOk result (λ p. state_at p reading.new
+        ≡ token_after_type terminal.now next goal ty reading.old.stack reading.old.script) }
 {
     match goal {
         Goal::Isa(pending, e) => {
@@ -135,7 +142,8 @@ pub fn type_step(
     state: Owned<TypeState>,
     reading: &mut Reading,
 ) -> Result<Option<Point>, AllocError>
-    ensures { IfOk result (λ p. state_at p reading.new ≡ type_step turn terminal.now next goal reading.old.stack reading.old.script) }
+    ensures { IfOk result (λ p. state_at p reading.new
+        ≡ type_step turn terminal.now next goal reading.old.stack reading.old.script) }
 {
     match turn {
         Turn::Goes(next) => {

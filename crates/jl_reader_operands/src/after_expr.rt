@@ -41,7 +41,8 @@ fn end_stmt(
     kind: Owned<BlockKind>,
     reading: &mut Reading,
 ) -> Result<Option<Point>, AllocError>
-    ensures { IfOk result (λ p. state_at p reading.new ≡ end_stmt stmts kind reading.old.stack reading.old.script) }
+    ensures { IfOk result (λ p. state_at p reading.new
+        ≡ end_stmt stmts kind reading.old.stack reading.old.script) }
 {
     match stmts {
         None => Ok(None),
@@ -55,7 +56,8 @@ fn end_eval(
     kind: EvalKind,
     reading: &mut Reading,
 ) -> Result<Option<Point>, AllocError>
-    ensures { IfOk result (λ p. state_at p reading.new ≡ end_eval evals kind reading.old.stack reading.old.script) }
+    ensures { IfOk result (λ p. state_at p reading.new
+        ≡ end_eval evals kind reading.old.stack reading.old.script) }
 {
     match evals {
         None => Ok(None),
@@ -88,7 +90,8 @@ fn separator_after_expr(
     e: Form<Expr>,
     reading: &mut Reading,
 ) -> Result<Option<Point>, AllocError>
-    ensures { IfOk result (λ p. state_at p reading.new ≡ separator_after_expr lead e reading.old.stack reading.old.script) }
+    ensures { IfOk result (λ p. state_at p reading.new
+        ≡ separator_after_expr lead e reading.old.stack reading.old.script) }
 {
     match reading.stack.pop() {
         None => {
@@ -123,7 +126,8 @@ fn source_end_after_expr(
     e: Form<Expr>,
     reading: &mut Reading,
 ) -> Result<Option<Point>, AllocError>
-    ensures { IfOk result (λ p. state_at p reading.new ≡ source_end_after_expr lead e reading.old.stack reading.old.script) }
+    ensures { IfOk result (λ p. state_at p reading.new
+        ≡ source_end_after_expr lead e reading.old.stack reading.old.script) }
 {
     match reading.stack.pop() {
         None => {
@@ -146,7 +150,8 @@ fn word_after_stmts(
     kind: Owned<BlockKind>,
     reading: &mut Reading,
 ) -> Result<Option<Point>, AllocError>
-    ensures { IfOk result (λ p. state_at p reading.new ≡ word_after_stmts stmts word place kind reading.old.stack reading.old.script) }
+    ensures { IfOk result (λ p. state_at p reading.new
+        ≡ word_after_stmts stmts word place kind reading.old.stack reading.old.script) }
 {
     match stmts {
         None => Ok(None),
@@ -162,7 +167,8 @@ fn word_after_evals(
     kind: EvalKind,
     reading: &mut Reading,
 ) -> Result<Option<Point>, AllocError>
-    ensures { IfOk result (λ p. state_at p reading.new ≡ word_after_evals evals word kind reading.old.stack reading.old.script) }
+    ensures { IfOk result (λ p. state_at p reading.new
+        ≡ word_after_evals evals word kind reading.old.stack reading.old.script) }
 {
     match evals {
         None => Ok(None),
@@ -179,7 +185,8 @@ pub(crate) fn word_after_expr(
     e: Form<Expr>,
     reading: &mut Reading,
 ) -> Result<Option<Point>, AllocError>
-    ensures { IfOk result (λ p. state_at p reading.new ≡ word_after_expr word place lead e reading.old.stack reading.old.script) }
+    ensures { IfOk result (λ p. state_at p reading.new
+        ≡ word_after_expr word place lead e reading.old.stack reading.old.script) }
 {
     match reading.stack.pop() {
         Some(Frame::Block(kind, stmts)) => {
@@ -207,7 +214,8 @@ fn first_part(
     e: Form<Expr>,
     reading: &mut Reading,
 ) -> Result<Option<Point>, AllocError>
-    ensures { IfOk result (λ p. state_at p reading.new ≡ comma_after_expr e (Paren pending place ∷ reading.old.stack) reading.old.script) }
+    ensures { IfOk result (λ p. state_at p reading.new
+        ≡ comma_after_expr e (Paren pending place ∷ reading.old.stack) reading.old.script) }
 {
     let returns = pending.get().returns;
     let parts = with_expr(no_forms(alloc), e)?;
@@ -225,7 +233,8 @@ fn next_part(
     e: Form<Expr>,
     reading: &mut Reading,
 ) -> Result<Option<Point>, AllocError>
-    ensures { IfOk result (λ p. state_at p reading.new ≡ comma_after_expr e (Tuple pending place parts ∷ reading.old.stack) reading.old.script) }
+    ensures { IfOk result (λ p. state_at p reading.new
+        ≡ comma_after_expr e (Tuple pending place parts ∷ reading.old.stack) reading.old.script) }
 {
     let want = no_pending(alloc, pending.get().returns)?;
     let parts = with_expr(parts, e)?;
@@ -244,7 +253,9 @@ fn next_argument(
     e: Form<Expr>,
     reading: &mut Reading,
 ) -> Result<Option<Point>, AllocError>
-    ensures { IfOk result (λ p. state_at p reading.new ≡ comma_after_expr e (Args pending place function arguments ∷ reading.old.stack) reading.old.script) }
+    ensures { IfOk result (λ p. state_at p reading.new
+        ≡ comma_after_expr e
+        (Args pending place function arguments ∷ reading.old.stack) reading.old.script) }
 {
     let want = no_pending(alloc, pending.get().returns)?;
     let arguments = with_expr(arguments, e)?;
@@ -261,7 +272,9 @@ fn next_piece(
     e: Form<Expr>,
     reading: &mut Reading,
 ) -> Result<Option<Point>, AllocError>
-    ensures { IfOk result (λ p. state_at p reading.new ≡ comma_after_expr e (Print pending place line pieces ∷ reading.old.stack) reading.old.script) }
+    ensures { IfOk result (λ p. state_at p reading.new
+        ≡ comma_after_expr e
+        (Print pending place line pieces ∷ reading.old.stack) reading.old.script) }
 {
     let returns = pending.get().returns;
     let pieces = with_show(pieces, e)?;
@@ -276,7 +289,8 @@ fn comma_after_expr(
     e: Form<Expr>,
     reading: &mut Reading,
 ) -> Result<Option<Point>, AllocError>
-    ensures { IfOk result (λ p. state_at p reading.new ≡ comma_after_expr e reading.old.stack reading.old.script) }
+    ensures { IfOk result (λ p. state_at p reading.new
+        ≡ comma_after_expr e reading.old.stack reading.old.script) }
 {
     match reading.stack.pop() {
         Some(Frame::Paren(pending, place)) => { first_part(alloc, pending, place, e, reading) }
@@ -306,7 +320,8 @@ fn end_paren(
     e: Form<Expr>,
     reading: &mut Reading,
 ) -> Result<Option<Point>, AllocError>
-    ensures { IfOk result (λ p. state_at p reading.new ≡ at (Point.Have pending (paren place e)) reading.old.stack reading.old.script) }
+    ensures { IfOk result (λ p. state_at p reading.new
+        ≡ at (Point.Have pending (paren place e)) reading.old.stack reading.old.script) }
 {
     let e = paren(alloc, place, e)?;
     Ok(Some(Point::Have(pending, e)))
@@ -322,7 +337,9 @@ fn last_part(
     e: Form<Expr>,
     reading: &mut Reading,
 ) -> Result<Option<Point>, AllocError>
-    ensures { IfOk result (λ p. state_at p reading.new ≡ at (Point.Have pending (tuple place (with_expr parts e))) reading.old.stack reading.old.script) }
+    ensures { IfOk result (λ p. state_at p reading.new
+        ≡ at (Point.Have pending (tuple place (with_expr parts e)))
+        reading.old.stack reading.old.script) }
 {
     let parts = with_expr(parts, e)?;
     let e = tuple(alloc, place, parts)?;
@@ -340,7 +357,9 @@ fn last_argument(
     e: Form<Expr>,
     reading: &mut Reading,
 ) -> Result<Option<Point>, AllocError>
-    ensures { IfOk result (λ p. state_at p reading.new ≡ at (Point.Have pending (call_expr place function (with_expr arguments e))) reading.old.stack reading.old.script) }
+    ensures { IfOk result (λ p. state_at p reading.new
+        ≡ at (Point.Have pending (call_expr place function (with_expr arguments e)))
+        reading.old.stack reading.old.script) }
 {
     let arguments = with_expr(arguments, e)?;
     let e = call_expr(alloc, place, function.take(), arguments)?;
@@ -355,7 +374,8 @@ fn end_fetch(
     e: Form<Expr>,
     reading: &mut Reading,
 ) -> Result<Option<Point>, AllocError>
-    ensures { IfOk result (λ p. state_at p reading.new ≡ at (Point.Have pending (fetch_expr place e)) reading.old.stack reading.old.script) }
+    ensures { IfOk result (λ p. state_at p reading.new
+        ≡ at (Point.Have pending (fetch_expr place e)) reading.old.stack reading.old.script) }
 {
     let e = fetch_expr(alloc, place, e)?;
     Ok(Some(Point::Have(pending, e)))
@@ -371,7 +391,9 @@ fn last_piece(
     e: Form<Expr>,
     reading: &mut Reading,
 ) -> Result<Option<Point>, AllocError>
-    ensures { IfOk result (λ p. state_at p reading.new ≡ at (Point.Have pending (print_expr place line (with_show pieces e))) reading.old.stack reading.old.script) }
+    ensures { IfOk result (λ p. state_at p reading.new
+        ≡ at (Point.Have pending (print_expr place line (with_show pieces e)))
+        reading.old.stack reading.old.script) }
 {
     let pieces = with_show(pieces, e)?;
     let e = print_expr(alloc, place, line, pieces)?;
@@ -385,7 +407,8 @@ fn paren_after_expr(
     e: Form<Expr>,
     reading: &mut Reading,
 ) -> Result<Option<Point>, AllocError>
-    ensures { IfOk result (λ p. state_at p reading.new ≡ paren_after_expr e reading.old.stack reading.old.script) }
+    ensures { IfOk result (λ p. state_at p reading.new
+        ≡ paren_after_expr e reading.old.stack reading.old.script) }
 {
     match reading.stack.pop() {
         Some(Frame::Paren(pending, place)) => end_paren(alloc, pending, place, e, reading),
@@ -413,7 +436,8 @@ fn colon_after_expr(
     e: Form<Expr>,
     reading: &mut Reading,
 ) -> Result<Option<Point>, AllocError>
-    ensures { IfOk result (λ p. state_at p reading.new ≡ colon_after_expr e reading.old.stack reading.old.script) }
+    ensures { IfOk result (λ p. state_at p reading.new
+        ≡ colon_after_expr e reading.old.stack reading.old.script) }
 {
     match reading.stack.pop() {
         Some(Frame::Then(pending, test)) => {
@@ -439,7 +463,8 @@ pub(crate) fn operator_after_expr(
     e: Form<Expr>,
     reading: &mut Reading,
 ) -> Result<Option<Point>, AllocError>
-    ensures { IfOk result (λ p. state_at p reading.new ≡ operator_after_expr operator lead e reading.old.stack reading.old.script) }
+    ensures { IfOk result (λ p. state_at p reading.new
+        ≡ operator_after_expr operator lead e reading.old.stack reading.old.script) }
 {
     match operator {
         Operator::Comma => {
@@ -468,7 +493,8 @@ pub(crate) fn token_after_expr(
     e: Form<Expr>,
     reading: &mut Reading,
 ) -> Result<Option<Point>, AllocError>
-    ensures { IfOk result (λ p. state_at p reading.new ≡ token_after_expr terminal.now place lead e reading.old.stack reading.old.script) }
+    ensures { IfOk result (λ p. state_at p reading.new
+        ≡ token_after_expr terminal.now place lead e reading.old.stack reading.old.script) }
 {
     match terminal {
         Terminal::Operator(operator) => operator_after_expr(alloc, *operator, lead, e, reading),

@@ -28,7 +28,9 @@ fn push_and(
     e: Form<Expr>,
     reading: &mut Reading,
 ) -> Result<Option<Point>, AllocError>
-    ensures { IfOk result (λ p. state_at p reading.new ≡ at (Point.Want (with_levels (levels_after_and pending.levels e) pending)) reading.old.stack reading.old.script) }
+    ensures { IfOk result (λ p. state_at p reading.new
+        ≡ at (Point.Want (with_levels (levels_after_and pending.levels e) pending))
+        reading.old.stack reading.old.script) }
 {
     let mut pending = pending;
     levels_after_and(alloc, pending.get_mut(), e)?;
@@ -43,7 +45,9 @@ fn push_or(
     e: Form<Expr>,
     reading: &mut Reading,
 ) -> Result<Option<Point>, AllocError>
-    ensures { IfOk result (λ p. state_at p reading.new ≡ at (Point.Want (with_levels (levels_after_or pending.levels e) pending)) reading.old.stack reading.old.script) }
+    ensures { IfOk result (λ p. state_at p reading.new
+        ≡ at (Point.Want (with_levels (levels_after_or pending.levels e) pending))
+        reading.old.stack reading.old.script) }
 {
     let mut pending = pending;
     levels_after_or(alloc, pending.get_mut(), e)?;
@@ -58,7 +62,10 @@ fn push_choose(
     e: Form<Expr>,
     reading: &mut Reading,
 ) -> Result<Option<Point>, AllocError>
-    ensures { IfOk result (λ p. state_at p reading.new ≡ at (Point.Want (no_pending pending.returns)) (Frame.Then (with_levels no_levels pending) (as_or pending.levels e) ∷ reading.old.stack) reading.old.script) }
+    ensures { IfOk result (λ p. state_at p reading.new
+        ≡ at (Point.Want (no_pending pending.returns))
+        (Frame.Then (with_levels no_levels pending) (as_or pending.levels e)
+        ∷ reading.old.stack) reading.old.script) }
 {
     let mut pending = pending;
     let test = test_of(alloc, pending.get_mut(), e)?;
@@ -77,7 +84,8 @@ fn operator_after_comparison(
     e: Form<Expr>,
     reading: &mut Reading,
 ) -> Result<Option<Point>, AllocError>
-    ensures { IfOk result (λ p. state_at p reading.new ≡ operator_after_comparison operator place pending e reading.old.stack reading.old.script) }
+    ensures { IfOk result (λ p. state_at p reading.new
+        ≡ operator_after_comparison operator place pending e reading.old.stack reading.old.script) }
 {
     match operator {
         Operator::And => push_and(alloc, pending, e, reading),
@@ -99,7 +107,9 @@ pub fn token_after_comparison(
     e: Form<Expr>,
     reading: &mut Reading,
 ) -> Result<Option<Point>, AllocError>
-    ensures { IfOk result (λ p. state_at p reading.new ≡ token_after_comparison terminal.now place pending e reading.old.stack reading.old.script) }
+    ensures { IfOk result (λ p. state_at p reading.new
+        ≡ token_after_comparison terminal.now place pending e
+        reading.old.stack reading.old.script) }
 {
     match terminal {
         Terminal::Operator(operator) => {
@@ -121,7 +131,8 @@ fn push_term(
     e: Form<Expr>,
     reading: &mut Reading,
 ) -> Result<Option<Point>, AllocError>
-    ensures { IfOk result (λ p. state_at p reading.new ≡ push_term operator pending e reading.old.stack reading.old.script) }
+    ensures { IfOk result (λ p. state_at p reading.new
+        ≡ push_term operator pending e reading.old.stack reading.old.script) }
 {
     let mut pending = pending;
     levels_after_term(alloc, operator, pending.get_mut(), e)?;
@@ -137,7 +148,8 @@ fn push_sum(
     e: Form<Expr>,
     reading: &mut Reading,
 ) -> Result<Option<Point>, AllocError>
-    ensures { IfOk result (λ p. state_at p reading.new ≡ push_sum operator pending e reading.old.stack reading.old.script) }
+    ensures { IfOk result (λ p. state_at p reading.new
+        ≡ push_sum operator pending e reading.old.stack reading.old.script) }
 {
     let mut pending = pending;
     levels_after_sum(alloc, operator, pending.get_mut(), e)?;
@@ -153,7 +165,9 @@ fn push_comparison(
     e: Form<Expr>,
     reading: &mut Reading,
 ) -> Result<Option<Point>, AllocError>
-    ensures { IfOk result (λ p. state_at p reading.new ≡ at (Point.Want (with_levels (levels_after_comparison operator pending.levels e) pending)) reading.old.stack reading.old.script) }
+    ensures { IfOk result (λ p. state_at p reading.new
+        ≡ at (Point.Want (with_levels (levels_after_comparison operator pending.levels e) pending))
+        reading.old.stack reading.old.script) }
 {
     let mut pending = pending;
     levels_after_comparison(alloc, operator, pending.get_mut(), e)?;
@@ -168,7 +182,9 @@ fn push_first_comparison(
     e: Form<Expr>,
     reading: &mut Reading,
 ) -> Result<Option<Point>, AllocError>
-    ensures { IfOk result (λ p. state_at p reading.new ≡ push_first_comparison (has_no_comparison pending.levels) operator pending e reading.old.stack reading.old.script) }
+    ensures { IfOk result (λ p. state_at p reading.new
+        ≡ push_first_comparison (has_no_comparison pending.levels) operator pending e
+        reading.old.stack reading.old.script) }
 {
     if !has_no_comparison(&pending.get().levels) {
         return Ok(None);
@@ -202,7 +218,9 @@ fn push_isa(
     e: Form<Expr>,
     reading: &mut Reading,
 ) -> Result<Option<Point>, AllocError>
-    ensures { IfOk result (λ p. state_at p reading.new ≡ push_isa (has_no_comparison pending.levels) pending e reading.old.stack reading.old.script) }
+    ensures { IfOk result (λ p. state_at p reading.new
+        ≡ push_isa (has_no_comparison pending.levels) pending e
+        reading.old.stack reading.old.script) }
 {
     if !has_no_comparison(&pending.get().levels) {
         return Ok(None);
@@ -222,7 +240,9 @@ fn operator_past_comparison(
     e: Form<Expr>,
     reading: &mut Reading,
 ) -> Result<Option<Point>, AllocError>
-    ensures { IfOk result (λ p. state_at p reading.new ≡ operator_after_comparison operator place pending (as_comparison pending.levels e) reading.old.stack reading.old.script) }
+    ensures { IfOk result (λ p. state_at p reading.new
+        ≡ operator_after_comparison operator place pending (as_comparison pending.levels e)
+        reading.old.stack reading.old.script) }
 {
     let mut pending = pending;
     let e = end_comparison(alloc, pending.get_mut(), e)?;
@@ -239,7 +259,8 @@ fn operator_after_operand(
     e: Form<Expr>,
     reading: &mut Reading,
 ) -> Result<Option<Point>, AllocError>
-    ensures { IfOk result (λ p. state_at p reading.new ≡ operator_after_operand operator place pending e reading.old.stack reading.old.script) }
+    ensures { IfOk result (λ p. state_at p reading.new
+        ≡ operator_after_operand operator place pending e reading.old.stack reading.old.script) }
 {
     match operator {
         Operator::Dot => Ok(Some(Point::Dot(pending, e))),
@@ -282,7 +303,8 @@ fn word_after_operand(
     e: Form<Expr>,
     reading: &mut Reading,
 ) -> Result<Option<Point>, AllocError>
-    ensures { IfOk result (λ p. state_at p reading.new ≡ word_after_operand word place pending e reading.old.stack reading.old.script) }
+    ensures { IfOk result (λ p. state_at p reading.new
+        ≡ word_after_operand word place pending e reading.old.stack reading.old.script) }
 {
     match word {
         Word::Isa => push_isa(alloc, pending, e, reading),
@@ -305,7 +327,8 @@ pub fn token_after_operand(
     e: Form<Expr>,
     reading: &mut Reading,
 ) -> Result<Option<Point>, AllocError>
-    ensures { IfOk result (λ p. state_at p reading.new ≡ token_after_operand terminal.now place pending e reading.old.stack reading.old.script) }
+    ensures { IfOk result (λ p. state_at p reading.new
+        ≡ token_after_operand terminal.now place pending e reading.old.stack reading.old.script) }
 {
     match terminal {
         Terminal::Operator(operator) => {

@@ -21,7 +21,8 @@ use std::alloc::{AllocError, Global};
 /// `)` behind a bracket that may be empty.
 #[inline(always)]
 fn close_first(alloc: Global, reading: &mut Reading) -> Result<Option<Point>, AllocError>
-    ensures { IfOk result (λ p. state_at p reading.new ≡ close_first reading.old.stack reading.old.script) }
+    ensures { IfOk result (λ p. state_at p reading.new
+        ≡ close_first reading.old.stack reading.old.script) }
 {
     match reading.stack.pop() {
         Some(Frame::Paren(pending, place)) => {
@@ -46,7 +47,8 @@ fn close_first(alloc: Global, reading: &mut Reading) -> Result<Option<Point>, Al
 
 /// A string.
 fn push_string(place: u32, text: Bytes, reading: &mut Reading) -> Result<Option<Point>, AllocError>
-    ensures { IfOk result (λ p. state_at p reading.new ≡ push_string place text reading.old.stack reading.old.script) }
+    ensures { IfOk result (λ p. state_at p reading.new
+        ≡ push_string place text reading.old.stack reading.old.script) }
 {
     match reading.stack.pop() {
         Some(Frame::Print(pending, start, line, pieces)) => {
@@ -72,7 +74,9 @@ fn begin_first(
     returns: bool,
     reading: &mut Reading,
 ) -> Result<Option<Point>, AllocError>
-    ensures { IfOk result (λ p. state_at p reading.new ≡ begin_operand terminal.now marks place (no_pending returns) reading.old.stack reading.old.script) }
+    ensures { IfOk result (λ p. state_at p reading.new
+        ≡ begin_operand terminal.now marks place (no_pending returns)
+        reading.old.stack reading.old.script) }
 {
     let pending = no_pending(alloc, returns)?;
     begin_operand(alloc, terminal, marks, place, pending, reading)
@@ -88,7 +92,8 @@ pub fn at_first(
     returns: bool,
     reading: &mut Reading,
 ) -> Result<Option<Point>, AllocError>
-    ensures { IfOk result (λ p. state_at p reading.new ≡ at_first terminal.now marks place returns reading.old.stack reading.old.script) }
+    ensures { IfOk result (λ p. state_at p reading.new
+        ≡ at_first terminal.now marks place returns reading.old.stack reading.old.script) }
 {
     match terminal {
         Terminal::Operator(operator) => match operator {
@@ -102,7 +107,8 @@ pub fn at_first(
 
 /// `)` behind the comma after a tuple's only part.
 fn close_again(alloc: Global, reading: &mut Reading) -> Result<Option<Point>, AllocError>
-    ensures { IfOk result (λ p. state_at p reading.new ≡ close_again reading.old.stack reading.old.script) }
+    ensures { IfOk result (λ p. state_at p reading.new
+        ≡ close_again reading.old.stack reading.old.script) }
 {
     match reading.stack.pop() {
         Some(Frame::Tuple(pending, place, parts)) => {
@@ -127,7 +133,8 @@ pub fn at_again(
     returns: bool,
     reading: &mut Reading,
 ) -> Result<Option<Point>, AllocError>
-    ensures { IfOk result (λ p. state_at p reading.new ≡ at_again terminal.now marks place returns reading.old.stack reading.old.script) }
+    ensures { IfOk result (λ p. state_at p reading.new
+        ≡ at_again terminal.now marks place returns reading.old.stack reading.old.script) }
 {
     match terminal {
         Terminal::Operator(operator) => match operator {
@@ -147,7 +154,8 @@ pub fn at_piece(
     returns: bool,
     reading: &mut Reading,
 ) -> Result<Option<Point>, AllocError>
-    ensures { IfOk result (λ p. state_at p reading.new ≡ at_piece terminal.now marks place returns reading.old.stack reading.old.script) }
+    ensures { IfOk result (λ p. state_at p reading.new
+        ≡ at_piece terminal.now marks place returns reading.old.stack reading.old.script) }
 {
     match terminal {
         Terminal::Text(text) => push_string(place, text.copy()?, reading),
@@ -157,7 +165,8 @@ pub fn at_piece(
 
 /// `)` behind a string.
 fn close_text(alloc: Global, reading: &mut Reading) -> Result<Option<Point>, AllocError>
-    ensures { IfOk result (λ p. state_at p reading.new ≡ close_text reading.old.stack reading.old.script) }
+    ensures { IfOk result (λ p. state_at p reading.new
+        ≡ close_text reading.old.stack reading.old.script) }
 {
     match reading.stack.pop() {
         Some(Frame::Print(pending, place, line, pieces)) => {
@@ -174,7 +183,8 @@ fn close_text(alloc: Global, reading: &mut Reading) -> Result<Option<Point>, All
 
 /// `,` behind a string.
 fn text_comma(reading: &mut Reading) -> Result<Option<Point>, AllocError>
-    ensures { IfOk result (λ p. state_at p reading.new ≡ text_comma reading.old.stack reading.old.script) }
+    ensures { IfOk result (λ p. state_at p reading.new
+        ≡ text_comma reading.old.stack reading.old.script) }
 {
     match reading.stack.pop() {
         Some(Frame::Print(pending, place, line, pieces)) => {
@@ -196,7 +206,8 @@ pub fn at_texted(
     terminal: &Terminal,
     reading: &mut Reading,
 ) -> Result<Option<Point>, AllocError>
-    ensures { IfOk result (λ p. state_at p reading.new ≡ at_texted terminal.now reading.old.stack reading.old.script) }
+    ensures { IfOk result (λ p. state_at p reading.new
+        ≡ at_texted terminal.now reading.old.stack reading.old.script) }
 {
     match terminal {
         Terminal::Operator(Operator::CloseParen) => close_text(alloc, reading),
@@ -214,7 +225,8 @@ pub fn at_dot(
     e: Form<Expr>,
     reading: &mut Reading,
 ) -> Result<Option<Point>, AllocError>
-    ensures { IfOk result (λ p. state_at p reading.new ≡ at_dot terminal.now place pending e reading.old.stack reading.old.script) }
+    ensures { IfOk result (λ p. state_at p reading.new
+        ≡ at_dot terminal.now place pending e reading.old.stack reading.old.script) }
 {
     match terminal {
         Terminal::Name(bytes) => {
@@ -232,7 +244,8 @@ pub fn at_index(
     e: Form<Expr>,
     reading: &mut Reading,
 ) -> Option<Point>
-    ensures { state_at result reading.new ≡ at_index terminal.now pending e reading.old.stack reading.old.script }
+    ensures { state_at result reading.new
+        ≡ at_index terminal.now pending e reading.old.stack reading.old.script }
 {
     match terminal {
         Terminal::Number(number) if *number >= 1 => { Some(Point::Indexed(pending, e, *number)) }
@@ -249,7 +262,8 @@ pub fn at_indexed(
     number: i64,
     reading: &mut Reading,
 ) -> Result<Option<Point>, AllocError>
-    ensures { IfOk result (λ p. state_at p reading.new ≡ at_indexed terminal.now pending e number reading.old.stack reading.old.script) }
+    ensures { IfOk result (λ p. state_at p reading.new
+        ≡ at_indexed terminal.now pending e number reading.old.stack reading.old.script) }
 {
     match terminal {
         Terminal::Operator(Operator::CloseBracket) => {
@@ -267,7 +281,8 @@ pub fn at_quoted(
     e: Form<Expr>,
     reading: &mut Reading,
 ) -> Option<Point>
-    ensures { state_at result reading.new ≡ at_quoted terminal.now pending e reading.old.stack reading.old.script }
+    ensures { state_at result reading.new
+        ≡ at_quoted terminal.now pending e reading.old.stack reading.old.script }
 {
     match terminal {
         Terminal::Operator(Operator::CloseParen) => Some(Point::Have(pending, e)),

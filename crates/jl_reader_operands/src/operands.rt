@@ -30,7 +30,8 @@ fn type_turn(
     goal: Owned<Goal>,
     reading: &mut Reading,
 ) -> Result<Option<Point>, AllocError>
-    ensures { IfOk result (λ p. state_at p reading.new ≡ type_turn turn goal reading.old.stack reading.old.script) }
+    ensures { IfOk result (λ p. state_at p reading.new
+        ≡ type_turn turn goal reading.old.stack reading.old.script) }
 {
     match turn {
         Turn::Goes(state) => Ok(Some(Point::Type(goal, Owned::new(alloc, state)?))),
@@ -50,7 +51,8 @@ fn first_of_type(
     goal: Goal,
     reading: &mut Reading,
 ) -> Result<Option<Point>, AllocError>
-    ensures { IfOk result (λ p. state_at p reading.new ≡ first_of_type terminal place goal reading.old.stack reading.old.script) }
+    ensures { IfOk result (λ p. state_at p reading.new
+        ≡ first_of_type terminal place goal reading.old.stack reading.old.script) }
 {
     let lexeme = Lexeme {
         terminal,
@@ -69,7 +71,8 @@ fn push_due(
     due: Due,
     reading: &mut Reading,
 ) -> Result<Option<Point>, AllocError>
-    ensures { IfOk result (λ p. state_at p reading.new ≡ at (Point.Due pending place due) reading.old.stack reading.old.script) }
+    ensures { IfOk result (λ p. state_at p reading.new
+        ≡ at (Point.Due pending place due) reading.old.stack reading.old.script) }
 {
     Ok(Some(Point::Due(pending, place, due)))
 }
@@ -83,7 +86,8 @@ fn name_alone(
     pending: Owned<Pending>,
     reading: &mut Reading,
 ) -> Result<Option<Point>, AllocError>
-    ensures { IfOk result (λ p. state_at p reading.new ≡ at (Point.Have pending (name place bytes)) reading.old.stack reading.old.script) }
+    ensures { IfOk result (λ p. state_at p reading.new
+        ≡ at (Point.Have pending (name place bytes)) reading.old.stack reading.old.script) }
 {
     let e = name(alloc, place, bytes)?;
     Ok(Some(Point::Have(pending, e)))
@@ -99,7 +103,8 @@ fn begin_opening(
     pending: Owned<Pending>,
     reading: &mut Reading,
 ) -> Result<Option<Point>, AllocError>
-    ensures { IfOk result (λ p. state_at p reading.new ≡ begin_opening opening bytes place pending reading.old.stack reading.old.script) }
+    ensures { IfOk result (λ p. state_at p reading.new
+        ≡ begin_opening opening bytes place pending reading.old.stack reading.old.script) }
 {
     match opening {
         Opening::Plain => name_alone(alloc, bytes, place, pending, reading),
@@ -144,7 +149,9 @@ pub fn begin_name(
     pending: Owned<Pending>,
     reading: &mut Reading,
 ) -> Result<Option<Point>, AllocError>
-    ensures { IfOk result (λ p. state_at p reading.new ≡ begin_name (is_left_type (is_comparison_start pending.levels) marks.ahead) marks.opening bytes place pending reading.old.stack reading.old.script) }
+    ensures { IfOk result (λ p. state_at p reading.new
+        ≡ begin_name (is_left_type (is_comparison_start pending.levels) marks.ahead) marks.opening
+        bytes place pending reading.old.stack reading.old.script) }
 {
     if is_left_type(pending.get(), marks.ahead) {
         let goal = Goal::Left(pending, place);
@@ -162,7 +169,9 @@ fn begin_paren(
     pending: Owned<Pending>,
     reading: &mut Reading,
 ) -> Result<Option<Point>, AllocError>
-    ensures { IfOk result (λ p. state_at p reading.new ≡ begin_paren (is_left_type (is_comparison_start pending.levels) ahead) place pending reading.old.stack reading.old.script) }
+    ensures { IfOk result (λ p. state_at p reading.new
+        ≡ begin_paren (is_left_type (is_comparison_start pending.levels) ahead) place pending
+        reading.old.stack reading.old.script) }
 {
     if is_left_type(pending.get(), ahead) {
         let goal = Goal::Left(pending, place);
@@ -181,7 +190,8 @@ fn begin_prefix(
     pending: Owned<Pending>,
     reading: &mut Reading,
 ) -> Result<Option<Point>, AllocError>
-    ensures { IfOk result (λ p. state_at p reading.new ≡ begin_prefix place prefix pending reading.old.stack reading.old.script) }
+    ensures { IfOk result (λ p. state_at p reading.new
+        ≡ begin_prefix place prefix pending reading.old.stack reading.old.script) }
 {
     let mut pending = pending;
     levels_after_prefix(PrefixAt { at: place, prefix }, pending.get_mut())?;
@@ -198,7 +208,8 @@ pub fn begin_operator(
     pending: Owned<Pending>,
     reading: &mut Reading,
 ) -> Result<Option<Point>, AllocError>
-    ensures { IfOk result (λ p. state_at p reading.new ≡ begin_operator operator ahead place pending reading.old.stack reading.old.script) }
+    ensures { IfOk result (λ p. state_at p reading.new
+        ≡ begin_operator operator ahead place pending reading.old.stack reading.old.script) }
 {
     match operator {
         Operator::OpenParen => begin_paren(alloc, ahead, place, pending, reading),
@@ -218,7 +229,8 @@ fn begin_if(
     pending: Owned<Pending>,
     reading: &mut Reading,
 ) -> Result<Option<Point>, AllocError>
-    ensures { IfOk result (λ p. state_at p reading.new ≡ begin_word Word.If place pending reading.old.stack reading.old.script) }
+    ensures { IfOk result (λ p. state_at p reading.new
+        ≡ begin_word Word.If place pending reading.old.stack reading.old.script) }
 {
     let point = Point::Want(no_pending(alloc, pending.get().returns)?);
     let frame = Frame::Test(pending, place, no_branches(alloc), place);
@@ -232,7 +244,8 @@ fn begin_block(
     pending: Owned<Pending>,
     reading: &mut Reading,
 ) -> Result<Option<Point>, AllocError>
-    ensures { IfOk result (λ p. state_at p reading.new ≡ begin_word Word.Begin place pending reading.old.stack reading.old.script) }
+    ensures { IfOk result (λ p. state_at p reading.new
+        ≡ begin_word Word.Begin place pending reading.old.stack reading.old.script) }
 {
     let kind = Owned::new(alloc, BlockKind::Begin(pending, place))?;
     push_frame(Point::Entry, Frame::Block(kind, no_forms(alloc)), reading)
@@ -246,7 +259,8 @@ fn push_truth(
     pending: Owned<Pending>,
     reading: &mut Reading,
 ) -> Result<Option<Point>, AllocError>
-    ensures { IfOk result (λ p. state_at p reading.new ≡ at (Point.Have pending (truth place value)) reading.old.stack reading.old.script) }
+    ensures { IfOk result (λ p. state_at p reading.new
+        ≡ at (Point.Have pending (truth place value)) reading.old.stack reading.old.script) }
 {
     let e = truth(alloc, place, value)?;
     Ok(Some(Point::Have(pending, e)))
@@ -259,7 +273,8 @@ fn push_nothing(
     pending: Owned<Pending>,
     reading: &mut Reading,
 ) -> Result<Option<Point>, AllocError>
-    ensures { IfOk result (λ p. state_at p reading.new ≡ at (Point.Have pending (nothing place)) reading.old.stack reading.old.script) }
+    ensures { IfOk result (λ p. state_at p reading.new
+        ≡ at (Point.Have pending (nothing place)) reading.old.stack reading.old.script) }
 {
     let e = nothing(alloc, place)?;
     Ok(Some(Point::Have(pending, e)))
@@ -273,7 +288,8 @@ pub fn begin_word(
     pending: Owned<Pending>,
     reading: &mut Reading,
 ) -> Result<Option<Point>, AllocError>
-    ensures { IfOk result (λ p. state_at p reading.new ≡ begin_word word place pending reading.old.stack reading.old.script) }
+    ensures { IfOk result (λ p. state_at p reading.new
+        ≡ begin_word word place pending reading.old.stack reading.old.script) }
 {
     match word {
         Word::True => push_truth(alloc, true, place, pending, reading),
@@ -296,7 +312,9 @@ fn begin_macro(
     pending: Owned<Pending>,
     reading: &mut Reading,
 ) -> Result<Option<Point>, AllocError>
-    ensures { IfOk result (λ p. state_at p reading.new ≡ begin_macro (bytes_eq bytes.now (codes "eval")) place pending reading.old.stack reading.old.script) }
+    ensures { IfOk result (λ p. state_at p reading.new
+        ≡ begin_macro (bytes_eq bytes.now (codes "eval")) place pending
+        reading.old.stack reading.old.script) }
 {
     if bytes.as_slice() == b"eval".as_slice() {
         return Ok(Some(Point::AfterEval(pending, place)));
@@ -314,7 +332,8 @@ fn push_number(
     pending: Owned<Pending>,
     reading: &mut Reading,
 ) -> Result<Option<Point>, AllocError>
-    ensures { IfOk result (λ p. state_at p reading.new ≡ at (Point.Have pending (number place value)) reading.old.stack reading.old.script) }
+    ensures { IfOk result (λ p. state_at p reading.new
+        ≡ at (Point.Have pending (number place value)) reading.old.stack reading.old.script) }
 {
     let e = number(alloc, place, value)?;
     Ok(Some(Point::Have(pending, e)))
@@ -329,7 +348,8 @@ pub fn begin_operand(
     pending: Owned<Pending>,
     reading: &mut Reading,
 ) -> Result<Option<Point>, AllocError>
-    ensures { IfOk result (λ p. state_at p reading.new ≡ begin_operand terminal.now marks place pending reading.old.stack reading.old.script) }
+    ensures { IfOk result (λ p. state_at p reading.new
+        ≡ begin_operand terminal.now marks place pending reading.old.stack reading.old.script) }
 {
     match terminal {
         Terminal::Name(bytes) => begin_name(alloc, marks, bytes.copy()?, place, pending, reading),

@@ -59,7 +59,9 @@ fn is_passed(depth: usize, terminal: &Terminal) -> bool
 /// Takes a token, or tells what ends the reading at it.
 fn take(alloc: Global, reader: &mut Reader, lexeme: &Lexeme) -> Result<Option<Turn>, AllocError>
     requires { reader.old.depth < usize.MAX }
-    ensures { IfOk result (λ ended. Took reader.old.depth lexeme.now reader.old.state reader.new.state reader.new.depth ended) }
+    ensures { IfOk result
+        (λ ended.
+        Took reader.old.depth lexeme.now reader.old.state reader.new.state reader.new.depth ended) }
 {
     if !is_passed(reader.depth, &lexeme.terminal) {
         let state = mem::replace(&mut reader.state, type_start(alloc));

@@ -304,7 +304,8 @@ fn after_type(
 
 /// What a token makes of a state.
 pub fn step(alloc: Global, lexeme: &Lexeme, state: State) -> Result<Turn, AllocError>
-    ensures { IfOk result (λ t. t ≡ step_at lexeme.now.terminal lexeme.now.at state.point state.stack) }
+    ensures { IfOk result (λ t. t
+        ≡ step_at lexeme.now.terminal lexeme.now.at state.point state.stack) }
 {
     let State { point, stack } = state;
     match point {
