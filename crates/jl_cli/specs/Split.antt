@@ -1,5 +1,5 @@
 -- Where the history begins in the input of `replay`.
-use Rattle.std.specs.Prelude.{ℕ, ◌+◌, ◌&&◌, Bool, true, cond, nat_eq, codes, List, [], ◌∷◌, length, take, drop, slice_get, bytes_eq, Option, None, Some}
+use Rattle.std.specs.Prelude.{ℕ, ◌+◌, ◌&&◌, Bool, true, nat_eq, codes, List, [], ◌∷◌, length, take, drop, slice_get, bytes_eq, Option, None, Some}
 
 -- the first line of a history, which parts it from the script
 abbrev pub separator : List ℕ
@@ -17,7 +17,8 @@ begins_history bytes = bytes_eq (take (length separator) bytes) separator && end
 -- the place of the first line that is exactly the separator, among bytes from a place on, where a line begins with them or not
 abbrev pub separator_from : ℕ → Bool → List ℕ → Option ℕ
 separator_from place begins_line [] = None
-separator_from place begins_line (b ∷ bs) = cond (begins_line && begins_history (b ∷ bs)) (Some place) (separator_from (place + 1) (nat_eq b 10) bs)
+separator_from place begins_line (b ∷ bs) =
+    if begins_line && begins_history (b ∷ bs) then Some place else separator_from (place + 1) (nat_eq b 10) bs
 
 abbrev pub separator_at : List ℕ → Option ℕ
 separator_at bytes = separator_from 0 true bytes

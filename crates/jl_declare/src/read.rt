@@ -1,6 +1,6 @@
 //! Declarations as they are read.
 
-ghost use Rattle.std.specs.Prelude.{◌≡◌, ◌++◌, ◌∷◌, [], ◌&&◌, not, cond, map, drop, IfOk, OnOk};
+ghost use Rattle.std.specs.Prelude.{◌≡◌, ◌++◌, ◌∷◌, [], ◌&&◌, not, map, drop, IfOk, OnOk};
 ghost use Rattle.jl_model.specs.AllRows.{each_var};
 ghost use Rattle.jl_model.specs.Rows.{free};
 ghost use Rattle.jl_grammar.specs.declared.tree.Field.{Field as FieldOf};
@@ -229,7 +229,7 @@ fn term_or_outline(
     header: &Header,
 ) -> Result<Decl, AllocError>
     ensures { IfOk result (λ d.
-        d ≡ cond (whole && not unknown) decl (outline decl.kind header.now)) }
+        d ≡ (if whole && not unknown then decl else outline decl.kind header.now)) }
 {
     if whole && !unknown {
         return Ok(decl);
