@@ -1,5 +1,5 @@
 -- Where the history begins in the input of `replay`.
-use Rattle.std.specs.Prelude.{ℕ, ◌+◌, ◌&&◌, Bool, true, nat_eq, codes, List, [], ◌∷◌, length, take, drop, slice_get, bytes_eq, Option, None, Some}
+use Rattle.std.specs.Prelude.{ℕ, ◌+◌, ◌&&◌, Bool, true, if◌then◌else◌, nat_eq, codes, List, [], ◌∷◌, length, take, drop, slice_get, bytes_eq, Option, None, Some}
 
 -- the first line of a history, which parts it from the script
 abbrev pub separator : List ℕ

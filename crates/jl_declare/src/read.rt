@@ -1,6 +1,6 @@
 //! Declarations as they are read.
 
-ghost use Rattle.std.specs.Prelude.{◌≡◌, ◌++◌, ◌∷◌, [], ◌&&◌, not, map, drop, IfOk, OnOk};
+ghost use Rattle.std.specs.Prelude.{◌≡◌, ◌++◌, ◌∷◌, [], ◌&&◌, not, if◌then◌else◌, map, drop, IfOk, OnOk};
 ghost use Rattle.jl_model.specs.AllRows.{each_var};
 ghost use Rattle.jl_model.specs.Rows.{free};
 ghost use Rattle.jl_grammar.specs.declared.tree.Field.{Field as FieldOf};

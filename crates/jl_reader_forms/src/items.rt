@@ -1,6 +1,6 @@
 //! Methods and items with their depth, as they are made; and the items of a script.
 
-ghost use Rattle.std.specs.Prelude.{◌≡◌, IfOk, OnOk, None, Some, cond, nat_lt};
+ghost use Rattle.std.specs.Prelude.{◌≡◌, IfOk, OnOk, None, Some, if◌then◌else◌, nat_lt};
 ghost use Rattle.jl_grammar.specs.Forms.{head, long_method, short_method, typed_param, header, abstract_item, struct_item, method_item, binding_item, expr_item, first_place, with_item};
 
 use crate::forms::depth_around;
@@ -176,7 +176,7 @@ pub(crate) fn expr_item(alloc: Global, e: Form<Expr>) -> Result<Form<Item>, Allo
 
 /// The place of the first item that is too deep, where this one comes behind.
 fn first_deep(before: Option<u32>, at: u32, depth: u32) -> Option<u32>
-    ensures { result ≡ first_place before (cond (nat_lt MOST_ITEM_DEPTH depth) (Some at) None) }
+    ensures { result ≡ first_place before (if nat_lt MOST_ITEM_DEPTH depth then Some at else None) }
 {
     match before {
         Some(place) => Some(place),
