@@ -1,8 +1,9 @@
 -- A word is looked for only among those of its own length.
-use Rattle.std.proofs.Common.{◌≡◌, ◌≢◌, ◌∙◌, refl, ap, sym, ℕ, ◌<◌, arith, Bool, true, false, cond, ◌||◌, nat_eq, nat_lt, List, [], ◌∷◌, length}
+use Rattle.std.proofs.Common.{◌≡◌, ◌≢◌, ◌∙◌, refl, ap, sym, ℕ, ◌<◌, arith, Bool, true, false, cond, ◌||◌, ◌&&◌, nat_eq, nat_lt, List, [], ◌∷◌, length}
 use Rattle.std.specs.List.{filter, list_any}
 use Rattle.std.specs.Str.{bytes_eq}
 use Rattle.std.specs.Cmp.Lexicographic.{unequal}
+use Rattle.jl_token.specs.Characters.{is_small}
 
 -- the word is in the list
 abbrev pub is_in : List ℕ → List (List ℕ) → Bool
@@ -25,3 +26,28 @@ of_length us w n e = kept w (λ u. nat_eq (length u) n) (λ u no same. grind (ar
 -- a longer word
 pub longer : (us : List (List ℕ)) (w : List ℕ) (n : ℕ) → n < length w → is_in w (filter (λ u. nat_lt n (length u)) us) ≡ is_in w us
 longer us w n e = kept w (λ u. nat_lt n (length u)) (λ u no same. grind (arith, no, same, e)) us
+
+same_word : (xs ys : List ℕ) → bytes_eq xs ys ≡ true → xs ≡ ys
+same_word [] [] h = refl
+same_word [] (y ∷ ys) h = absurd (let f : false ≡ true = h in cc)
+same_word (x ∷ xs) [] h = absurd (let f : false ≡ true = h in cc)
+same_word (x ∷ xs) (y ∷ ys) h = by (nat_eq x y) refl h (same_word xs ys)
+  where
+    by : (b : Bool) → nat_eq x y ≡ b → (b && bytes_eq xs ys) ≡ true → (bytes_eq xs ys ≡ true → xs ≡ ys) → x ∷ xs ≡ y ∷ ys
+    by true e g r = let p : x ≡ y = grind (arith, e) in let q = r g in cc
+    by false e g r = absurd (let f : false ≡ true = g in cc)
+
+-- each word of a list begins small
+abbrev pub are_small : List (List ℕ) → Bool
+are_small [] = true
+are_small (u ∷ us) = is_small u && are_small us
+
+-- what does not begin small is none of words that do
+pub not_in : (us : List (List ℕ)) (w : List ℕ) → are_small us ≡ true → is_small w ≡ false → is_in w us ≡ false
+not_in [] w h e = refl
+not_in (u ∷ us) w h e = by (is_small u) (bytes_eq u w) refl refl h (λ z. not_in us w z e)
+  where
+    by : (s b : Bool) → is_small u ≡ s → bytes_eq u w ≡ b → (s && are_small us) ≡ true → (are_small us ≡ true → is_in w us ≡ false) → (b || is_in w us) ≡ false
+    by false b f g h1 r = absurd (let z : false ≡ true = h1 in cc)
+    by true false f g h1 r = r h1
+    by true true f g h1 r = let i = same_word u w g in absurd (let z : true ≡ false = sym f ∙ ap is_small i ∙ e in cc)

@@ -1,5 +1,5 @@
 -- Kinds of characters, by their codes, and the width of a text.
-use Rattle.std.specs.Prelude.{ℕ, Bool, false, ◌||◌, ◌&&◌, ◌==◌, ◌-◌, if◌then◌else◌, Option, Some, None, List, [], ◌∷◌, length}
+use Rattle.std.specs.Prelude.{ℕ, Bool, false, not, nat_lt, ◌||◌, ◌&&◌, ◌==◌, ◌-◌, if◌then◌else◌, Option, Some, None, List, [], ◌∷◌, length}
 use Rattle.std.specs.Str.{encode_utf8_all}
 use Rattle.unicode_ident.specs.Ident.{is_xid_start, is_xid_continue}
 
@@ -45,3 +45,8 @@ width cs = length (encode_utf8_all cs)
 -- where the rest of a source of so many bytes begins: how many bytes stand before it
 abbrev pub place : ℕ → List ℕ → ℕ
 place bytes rest = bytes - width rest
+
+-- the bytes begin with a small letter, or with what comes after those
+abbrev pub is_small : List ℕ → Bool
+is_small [] = false
+is_small (c ∷ cs) = not (nat_lt c 97)

@@ -3,6 +3,7 @@
 
 mod characters;
 mod comments;
+mod known;
 mod numbers;
 mod operators;
 mod pieces;

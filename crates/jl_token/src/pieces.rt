@@ -12,6 +12,7 @@ use crate::characters::{
     has_digit_first, is_blank, is_word_start, is_wrong_after_number, place, split_first,
 };
 use crate::comments::{after_comment, after_line};
+use crate::known::KnownWords;
 use crate::numbers::digits;
 use crate::operators::{operator, rest_after};
 use crate::strings::{after_string, unescape};
@@ -107,19 +108,23 @@ fn string<'a>(
 }
 
 /// The bytes of an identifier whose text is this and whose text behind the first character is `rest`.
-fn identifier<'a>(alloc: Global, text: &str, rest: &'a str) -> Result<(Bytes, &'a str), AllocError>
+fn identifier<'a>(
+    known: &mut KnownWords,
+    text: &str,
+    rest: &'a str,
+) -> Result<(Bytes, &'a str), AllocError>
     requires { length rest.now ≤ length text.now }
     ensures word { IfOk result (λ x. (c : ℕ) → chars text.now ≡ c ∷ chars rest.now → x.0 ≡ encode_utf8_all (c ∷ word (chars rest.now))) }
     ensures rest { IfOk result (λ x. chars x.1.now ≡ after_word (chars rest.now)) }
     ensures shorter { IfOk result (λ x. length x.1.now ≤ length rest.now) }
 {
     let after = after_word(rest);
-    Ok((bytes_before(alloc, text, after)?, after))
+    Ok((bytes_before(known, text, after)?, after))
 }
 
 /// A macro word, whose identifier stands behind its `@`.
 fn macro_word<'a>(
-    alloc: Global,
+    known: &mut KnownWords,
     bytes: usize,
     text: &str,
     name: &'a str,
@@ -135,7 +140,7 @@ fn macro_word<'a>(
     if !is_word_start(first) {
         return Err(TokenFault::BadCharacter(place(bytes, text)));
     }
-    let (word, after) = identifier(alloc, name, rest)?;
+    let (word, after) = identifier(known, name, rest)?;
     Ok((TokenKind::Macro(word), after))
 }
 
@@ -181,7 +186,7 @@ fn comment<'a>(
 
 /// The token at the front of a text of this first character and this rest.
 fn token<'a>(
-    alloc: Global,
+    known: &mut KnownWords,
     bytes: usize,
     prefix: bool,
     text: &'a str,
@@ -196,7 +201,7 @@ fn token<'a>(
     ensures shorter { IfOk result (λ x. length x.1.now < length text.now) }
 {
     if is_word_start(first) {
-        let (word, after) = identifier(alloc, text, rest)?;
+        let (word, after) = identifier(known, text, rest)?;
         return Ok((TokenKind::Identifier(word), after));
     }
     if first.is_ascii_digit() {
@@ -204,20 +209,20 @@ fn token<'a>(
     }
     match first {
         '\n' => Ok((TokenKind::Newline, rest)),
-        '"' => string(alloc, bytes, text, rest),
-        '@' => macro_word(alloc, bytes, text, rest),
+        '"' => string(known.alloc, bytes, text, rest),
+        '@' => macro_word(known, bytes, text, rest),
         '-' if prefix && has_digit_first(rest) => negative_number(bytes, text, rest),
         _ => operator_of(bytes, text, first, rest),
     }
 }
 
 /// The piece at the front of a text: a token, or nothing where a blank or a comment stands there; and what follows it.
-pub fn piece(
-    alloc: Global,
+pub fn piece<'a>(
+    known: &mut KnownWords,
     bytes: usize,
     prefix: bool,
-    text: &str,
-) -> Result<(Option<TokenKind>, &str), TokenFault>
+    text: &'a str,
+) -> Result<(Option<TokenKind>, &'a str), TokenFault>
     requires small { bytes < 2 ^ 32 }
     requires within { length text.now ≤ bytes }
     ensures found { Gives (λ x. (x.0, chars x.1.now)) result (piece bytes prefix (chars text.now)) }
@@ -232,6 +237,6 @@ pub fn piece(
     if first == '#' {
         return comment(bytes, text, rest);
     }
-    let (kind, after) = token(alloc, bytes, prefix, text, first, rest)?;
+    let (kind, after) = token(known, bytes, prefix, text, first, rest)?;
     Ok((Some(kind), after))
 }

@@ -2,6 +2,7 @@
 
 ghost use Rattle.std.specs.Prelude.{◌≡◌};
 ghost use Rattle.jl_token.specs.Prefix.{is_closing_bracket, is_opening_word, is_prefix_after};
+ghost use Rattle.jl_token.specs.Characters.{is_small};
 
 use crate::token::{Operator, TokenKind};
 
@@ -27,8 +28,18 @@ const WORDS_OF_8: [&[u8]; 3] = [b"abstract", b"function", b"continue"];
 
 const LONGER_WORDS: [&[u8]; 2] = [b"primitive", b"baremodule"];
 
-/// Whether an operand may follow the word.
-fn is_opening_word(word: &[u8]) -> bool
+/// Whether the word begins as a reserved word may, so with no capital letter.
+fn is_small(word: &[u8]) -> bool
+    ensures { result ≡ is_small word.now }
+{
+    match word {
+        [] => false,
+        [first, ..] => *first >= 97,
+    }
+}
+
+/// Whether an operand may follow the word. It is looked for among those of its length.
+fn is_listed(word: &[u8]) -> bool
     ensures { result ≡ is_opening_word word.now }
 {
     match word.len() {
@@ -42,6 +53,13 @@ fn is_opening_word(word: &[u8]) -> bool
         8 => WORDS_OF_8.contains(&word),
         _ => LONGER_WORDS.contains(&word),
     }
+}
+
+/// Whether an operand may follow the word. The name of a type mostly begins with a capital letter, and is not looked for.
+fn is_opening_word(word: &[u8]) -> bool
+    ensures { result ≡ is_opening_word word.now }
+{
+    is_small(word) && is_listed(word)
 }
 
 /// Whether the mark is `)`, `]` or `}`.

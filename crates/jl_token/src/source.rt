@@ -7,6 +7,7 @@ ghost use Rattle.jl_token.specs.Grammar.{EndsOnce, IsOnly, Reads, ReadsBytes, Re
 ghost use Rattle.jl_token.specs.declared.token.TokenFault.TheVariants.{SourceTooLong};
 
 use crate::characters::place;
+use crate::known::KnownWords;
 use crate::pieces::piece;
 use crate::prefix::is_prefix_after;
 use crate::token::{Token, TokenFault, TokenKind, Tokens};
@@ -21,11 +22,12 @@ fn read(alloc: Global, source: &str) -> Result<Tokens, TokenFault>
     ensures { UnlessMemory result (Reads (length source.now) true (chars source.now)) }
 {
     let bytes = source.len();
+    let mut known = KnownWords::new(alloc)?;
     let mut found = Vec::new(alloc);
     let mut prefix = true;
     let mut rest = source;
     while !rest.is_empty() {
-        let (kind, after) = piece(alloc, bytes, prefix, rest)?;
+        let (kind, after) = piece(&mut known, bytes, prefix, rest)?;
         if let Some(kind) = kind {
             prefix = is_prefix_after(&kind);
             let at = place(bytes, rest);

@@ -1,13 +1,13 @@
 //! Identifiers: how far one goes, and the bytes of what was read.
 
-ghost use Rattle.std.specs.Prelude.{◌≡◌, ◌≤◌, ◌++◌, length, IfOk, List, ℕ};
+ghost use Rattle.std.specs.Prelude.{◌≡◌, ◌≤◌, ◌-◌, ◌++◌, length, take, IfOk, List, ℕ};
 ghost use Rattle.std.specs.Str.{chars, encode_utf8_all};
 ghost use Rattle.jl_token.specs.Reading.{after_word};
 
 use crate::characters::{is_word_part, split_first};
-use jl_model::shared::SharedList;
+use crate::known::KnownWords;
 use jl_model::ty::Bytes;
-use std::alloc::{AllocError, Global};
+use std::alloc::AllocError;
 
 /// What follows the characters that may continue an identifier.
 pub fn after_word(text: &str) -> &str
@@ -24,12 +24,19 @@ pub fn after_word(text: &str) -> &str
     rest
 }
 
+/// The text up to its rest.
+fn front<'a>(text: &'a str, rest: &str) -> &'a [u8]
+    requires { length rest.now ≤ length text.now }
+    ensures { result.now ≡ take (length text.now - length rest.now) text.now }
+{
+    let bytes = text.as_bytes();
+    &bytes[..bytes.len() - rest.len()]
+}
+
 /// The bytes of a text up to its rest.
-pub fn bytes_before(alloc: Global, text: &str, rest: &str) -> Result<Bytes, AllocError>
+pub fn bytes_before(known: &mut KnownWords, text: &str, rest: &str) -> Result<Bytes, AllocError>
     requires { length rest.now ≤ length text.now }
     ensures { IfOk result (λ bytes. (read : List ℕ) → chars text.now ≡ read ++ chars rest.now → bytes ≡ encode_utf8_all read) }
 {
-    let bytes = text.as_bytes();
-    let read = &bytes[..bytes.len() - rest.len()];
-    SharedList::from_vec(alloc, Vec::from_slice(alloc, read)?)
+    known.share(front(text, rest))
 }

@@ -62,6 +62,7 @@ fn argument(mark: Mark, ty: TypeText) -> ArgText
 }
 
 /// The arguments and one more.
+#[inline(always)]
 pub(crate) fn with_argument(
     arguments: Deep<Row<ArgText>>,
     mark: Mark,

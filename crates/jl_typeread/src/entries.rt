@@ -19,6 +19,7 @@ pub(crate) fn at(point: Point, stack: Stack<Frame>) -> Result<Turn, AllocError>
 }
 
 /// The reading goes on inside of one more form.
+#[inline(always)]
 pub(crate) fn push_frame(
     point: Point,
     frame: Frame,
@@ -46,6 +47,7 @@ pub(crate) fn tree_of(begun: TypeSoFar) -> Deep<TypeText>
 }
 
 /// A type begins.
+#[inline(always)]
 pub(crate) fn begin_type(lexeme: &Lexeme, stack: Stack<Frame>) -> Result<Turn, AllocError>
     ensures { IfOk result (λ t. t ≡ begin_type lexeme.now.terminal lexeme.now.at stack) }
 {

@@ -1,4 +1,5 @@
-//! One token of a type, or of variables.
+//! One token of a type, or of variables. What most tokens call is inlined into the step, so that its pieces are not
+//! moved.
 
 ghost use Rattle.std.specs.Prelude.{◌≡◌, ◌∷◌, IfOk};
 ghost use Rattle.jl_typeread.specs.Machine.{after_mark, at_next, close_empty, at_first, end_of_type, open_brace, close_brace, after_comma, close_paren, after_where, second_subtype, subtype_in_variable, after_subtype, lower_bound, after_supertype, after_type, step_at};
@@ -141,6 +142,7 @@ fn close_brace(alloc: Global, begun: TypeSoFar, mut stack: Stack<Frame>) -> Resu
 }
 
 /// `,` behind a type.
+#[inline(always)]
 fn after_comma(alloc: Global, begun: TypeSoFar, mut stack: Stack<Frame>) -> Result<Turn, AllocError>
     ensures { IfOk result (λ t. t ≡ after_comma begun stack) }
 {

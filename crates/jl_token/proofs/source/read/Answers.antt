@@ -7,7 +7,7 @@ use Rattle.jl_token.proofs.source.read.Goals as goal
 
 pub returns-in_err-kind : goal.returns-in_err-kind
 returns-in_err-kind c =
-    let p = err_from_is_err_and c.from_residual.result c.from_residual.ensures.1 in
+    let p = err_from_is_err_and c.from_residual-in_err-kind.result c.from_residual-in_err-kind.ensures.1 in
     let full = full-chars c.loop-rest.rest.now c.loop-rest.invariant.0 (sym c.loop-rest-test.ensures) in
     rw (p.1, p.2) (stops _ _ c.loop-rest.found.items c.loop-rest.prefix _ c.in_err-kind.field-0.0 full c.in_err-kind.ensures.found c.loop-rest.invariant.1)
 
