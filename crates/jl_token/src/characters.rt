@@ -7,7 +7,8 @@ ghost use Rattle.jl_token.specs.Characters.{is_word_start, is_word_part, is_blan
 
 /// The first character, and what follows it.
 pub fn split_first(text: &str) -> Option<(char, &str)>
-    ensures split { MatchOption result (chars text.now ≡ []) (λ p. chars text.now ≡ p.0 ∷ chars p.1.now) }
+    ensures split { MatchOption result (chars text.now ≡ []) (λ p. chars text.now
+        ≡ p.0 ∷ chars p.1.now) }
     ensures shorter { MatchOption result (text.now ≡ []) (λ p. length p.1.now < length text.now) }
 {
     let mut rest = text.chars();

@@ -39,7 +39,8 @@ fn is_comment_start(first: char, second: char) -> bool
 /// What follows the end of a block comment, if it has one. The text stands behind its `#=`.
 pub fn after_comment(text: &str) -> Option<&str>
     requires { length text.now < 2 ^ 32 }
-    ensures rest { MatchOption result (after_comment 0 (chars text.now) ≡ None) (λ rest. after_comment 0 (chars text.now) ≡ Some (chars rest.now)) }
+    ensures rest { MatchOption result (after_comment 0 (chars text.now)
+        ≡ None) (λ rest. after_comment 0 (chars text.now) ≡ Some (chars rest.now)) }
     ensures shorter { MatchOption result (Unit {0}) (λ rest. length rest.now ≤ length text.now) }
 {
     let mut around: u32 = 0;

@@ -21,7 +21,8 @@ pub fn digits(text: &str) -> (u64, &str)
     ensures value { result.0 ≡ min (digits 0 (chars text.now)).0 (2 ^ 64 - 1) }
     ensures rest { chars result.1.now ≡ (digits 0 (chars text.now)).1 }
     ensures shorter { length result.1.now ≤ length text.now }
-    ensures progress { has_first is_ascii_digit (chars text.now) ≡ true → length result.1.now < length text.now }
+    ensures progress { has_first is_ascii_digit (chars text.now) ≡ true
+        → length result.1.now < length text.now }
 {
     let mut value: u64 = 0;
     let mut rest = text;

@@ -9,7 +9,8 @@ use crate::token::Operator;
 
 /// What follows this character, where the text begins with it.
 pub fn rest_after(wanted: char, text: &str) -> Option<&str>
-    ensures rest { MatchOption result (rest_after wanted (chars text.now) ≡ None) (λ rest. rest_after wanted (chars text.now) ≡ Some (chars rest.now)) }
+    ensures rest { MatchOption result (rest_after wanted (chars text.now)
+        ≡ None) (λ rest. rest_after wanted (chars text.now) ≡ Some (chars rest.now)) }
     ensures shorter { MatchOption result (Unit {0}) (λ rest. length rest.now ≤ length text.now) }
 {
     let (first, rest) = split_first(text)?;
@@ -18,7 +19,8 @@ pub fn rest_after(wanted: char, text: &str) -> Option<&str>
 
 /// The longer operator where this character follows, else the shorter.
 fn longer_operator(next: char, longer: Operator, shorter: Operator, text: &str) -> (Operator, &str)
-    ensures found { (result.0, chars result.1.now) ≡ longer_operator next longer shorter (chars text.now) }
+    ensures found { (result.0, chars result.1.now)
+        ≡ longer_operator next longer shorter (chars text.now) }
     ensures shorter { length result.1.now ≤ length text.now }
 {
     match rest_after(next, text) {
@@ -56,7 +58,8 @@ fn after_angle(
     or_equal: Operator,
     strict: Operator,
 ) -> (Operator, &str)
-    ensures found { (result.0, chars result.1.now) ≡ after_angle bound or_equal strict (chars text.now) }
+    ensures found { (result.0, chars result.1.now)
+        ≡ after_angle bound or_equal strict (chars text.now) }
     ensures shorter { length result.1.now ≤ length text.now }
 {
     match rest_after(':', text) {
@@ -67,8 +70,11 @@ fn after_angle(
 
 /// An operator of two equal characters, behind the first one.
 fn double_operator(character: char, operator: Operator, text: &str) -> Option<(Operator, &str)>
-    ensures found { MatchOption result (double_operator character operator (chars text.now) ≡ None) (λ found. double_operator character operator (chars text.now) ≡ Some (found.0, chars found.1.now)) }
-    ensures shorter { MatchOption result (Unit {0}) (λ found. length found.1.now ≤ length text.now) }
+    ensures found { MatchOption result (double_operator character operator (chars text.now)
+        ≡ None) (λ found. double_operator character operator (chars text.now)
+        ≡ Some (found.0, chars found.1.now)) }
+    ensures shorter { MatchOption result (Unit {0})
+        (λ found. length found.1.now ≤ length text.now) }
 {
     Some((operator, rest_after(character, text)?))
 }
@@ -99,8 +105,10 @@ fn single_operator(character: char) -> Option<Operator>
 
 /// The operator at the front of a text of this first character and this rest, and what follows it.
 pub fn operator(first: char, rest: &str) -> Option<(Operator, &str)>
-    ensures found { MatchOption result (operator first (chars rest.now) ≡ None) (λ found. operator first (chars rest.now) ≡ Some (found.0, chars found.1.now)) }
-    ensures shorter { MatchOption result (Unit {0}) (λ found. length found.1.now ≤ length rest.now) }
+    ensures found { MatchOption result (operator first (chars rest.now)
+        ≡ None) (λ found. operator first (chars rest.now) ≡ Some (found.0, chars found.1.now)) }
+    ensures shorter { MatchOption result (Unit {0})
+        (λ found. length found.1.now ≤ length rest.now) }
 {
     match first {
         '=' => Some(after_equals(rest)),

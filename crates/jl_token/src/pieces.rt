@@ -32,9 +32,11 @@ fn magnitude<'a>(
     requires within { length from.now ≤ bytes }
     requires inside { length text.now ≤ bytes }
     requires limit { most < 2 ^ 64 - 1 }
-    ensures found { Gives (λ x. (x.0, chars x.1.now)) result (magnitude bytes (chars from.now) most (chars text.now)) }
+    ensures found { Gives (λ x. (x.0, chars x.1.now)) result
+        (magnitude bytes (chars from.now) most (chars text.now)) }
     ensures limited { IfOk result (λ x. x.0 ≤ most) }
-    ensures progress { has_first is_ascii_digit (chars text.now) ≡ true → IfOk result (λ x. length x.1.now < length text.now) }
+    ensures progress { has_first is_ascii_digit (chars text.now) ≡ true
+        → IfOk result (λ x. length x.1.now < length text.now) }
     ensures shorter { IfOk result (λ x. length x.1.now ≤ length text.now) }
 {
     let (value, rest) = digits(text);
@@ -63,7 +65,8 @@ fn number(bytes: usize, text: &str) -> Result<(TokenKind, &str), TokenFault>
     requires small { bytes < 2 ^ 32 }
     requires within { length text.now ≤ bytes }
     ensures found { Gives (λ x. (x.0, chars x.1.now)) result (number bytes (chars text.now)) }
-    ensures progress { has_first is_ascii_digit (chars text.now) ≡ true → IfOk result (λ x. length x.1.now < length text.now) }
+    ensures progress { has_first is_ascii_digit (chars text.now) ≡ true
+        → IfOk result (λ x. length x.1.now < length text.now) }
 {
     let (value, rest) = magnitude(bytes, text, i64::MAX as u64, text)?;
     Ok((TokenKind::Number(value as i64), rest))
@@ -78,7 +81,8 @@ fn negative_number<'a>(
     requires small { bytes < 2 ^ 32 }
     requires within { length text.now ≤ bytes }
     requires inside { length rest.now ≤ bytes }
-    ensures found { Gives (λ x. (x.0, chars x.1.now)) result (negative_number bytes (chars text.now) (chars rest.now)) }
+    ensures found { Gives (λ x. (x.0, chars x.1.now)) result
+        (negative_number bytes (chars text.now) (chars rest.now)) }
     ensures shorter { IfOk result (λ x. length x.1.now ≤ length rest.now) }
 {
     let (value, rest) = magnitude(bytes, text, 1 << 63, rest)?;
@@ -95,7 +99,8 @@ fn string<'a>(
     requires small { bytes < 2 ^ 32 }
     requires within { length text.now ≤ bytes }
     requires inside { length body.now ≤ bytes }
-    ensures found { Gives (λ x. (x.0, chars x.1.now)) result (string bytes (chars text.now) (chars body.now)) }
+    ensures found { Gives (λ x. (x.0, chars x.1.now)) result
+        (string bytes (chars text.now) (chars body.now)) }
     ensures shorter { IfOk result (λ x. length x.1.now ≤ length body.now) }
 {
     let Some(rest) = after_string(body) else {
@@ -114,7 +119,8 @@ fn identifier<'a>(
     rest: &'a str,
 ) -> Result<(Bytes, &'a str), AllocError>
     requires { length rest.now ≤ length text.now }
-    ensures word { IfOk result (λ x. (c : ℕ) → chars text.now ≡ c ∷ chars rest.now → x.0 ≡ encode_utf8_all (c ∷ word (chars rest.now))) }
+    ensures word { IfOk result (λ x. (c : ℕ) → chars text.now ≡ c ∷ chars rest.now
+        → x.0 ≡ encode_utf8_all (c ∷ word (chars rest.now))) }
     ensures rest { IfOk result (λ x. chars x.1.now ≡ after_word (chars rest.now)) }
     ensures shorter { IfOk result (λ x. length x.1.now ≤ length rest.now) }
 {
@@ -131,7 +137,8 @@ fn macro_word<'a>(
 ) -> Result<(TokenKind, &'a str), TokenFault>
     requires small { bytes < 2 ^ 32 }
     requires within { length text.now ≤ bytes }
-    ensures found { Gives (λ x. (x.0, chars x.1.now)) result (macro_word bytes (chars text.now) (chars name.now)) }
+    ensures found { Gives (λ x. (x.0, chars x.1.now)) result
+        (macro_word bytes (chars text.now) (chars name.now)) }
     ensures shorter { IfOk result (λ x. length x.1.now ≤ length name.now) }
 {
     let Some((first, rest)) = split_first(name) else {
@@ -154,7 +161,8 @@ fn operator_of<'a>(
     requires small { bytes < 2 ^ 32 }
     requires within { length text.now ≤ bytes }
     requires split { chars text.now ≡ first ∷ chars rest.now }
-    ensures found { Gives (λ x. (x.0, chars x.1.now)) result (operator_of bytes first (chars rest.now)) }
+    ensures found { Gives (λ x. (x.0, chars x.1.now)) result
+        (operator_of bytes first (chars rest.now)) }
     ensures shorter { IfOk result (λ x. length x.1.now ≤ length rest.now) }
 {
     match operator(first, rest) {
@@ -172,7 +180,8 @@ fn comment<'a>(
     requires small { bytes < 2 ^ 32 }
     requires within { length text.now ≤ bytes }
     requires inside { length rest.now ≤ bytes }
-    ensures found { Gives (λ x. (x.0, chars x.1.now)) result (comment bytes (chars text.now) (chars rest.now)) }
+    ensures found { Gives (λ x. (x.0, chars x.1.now)) result
+        (comment bytes (chars text.now) (chars rest.now)) }
     ensures shorter { IfOk result (λ x. length x.1.now ≤ length rest.now) }
 {
     let Some(body) = rest_after('=', rest) else {
@@ -197,7 +206,8 @@ fn token<'a>(
     requires within { length text.now ≤ bytes }
     requires inside { length rest.now < length text.now }
     requires split { chars text.now ≡ first ∷ chars rest.now }
-    ensures found { Gives (λ x. (x.0, chars x.1.now)) result (token bytes prefix first (chars rest.now)) }
+    ensures found { Gives (λ x. (x.0, chars x.1.now)) result
+        (token bytes prefix first (chars rest.now)) }
     ensures shorter { IfOk result (λ x. length x.1.now < length text.now) }
 {
     if is_word_start(first) {

@@ -12,7 +12,8 @@ use std::alloc::{AllocError, Global};
 
 /// What follows a string's end, if it has one. The text stands behind its first `"`.
 pub fn after_string(text: &str) -> Option<&str>
-    ensures rest { MatchOption result (after_string false (chars text.now) ≡ None) (λ rest. after_string false (chars text.now) ≡ Some (chars rest.now)) }
+    ensures rest { MatchOption result (after_string false (chars text.now)
+        ≡ None) (λ rest. after_string false (chars text.now) ≡ Some (chars rest.now)) }
     ensures shorter { MatchOption result (Unit {0}) (λ rest. length rest.now ≤ length text.now) }
 {
     let mut taken = false;
@@ -41,7 +42,8 @@ fn escape(character: char) -> Option<char>
 
 /// The character that the front of a string's text stands for, and what follows it; none at a wrong escape.
 fn string_piece(first: char, rest: &str) -> Option<(char, &str)>
-    ensures found { MatchOption result (string_piece first (chars rest.now) ≡ None) (λ p. string_piece first (chars rest.now) ≡ Some (p.0, chars p.1.now)) }
+    ensures found { MatchOption result (string_piece first (chars rest.now)
+        ≡ None) (λ p. string_piece first (chars rest.now) ≡ Some (p.0, chars p.1.now)) }
     ensures shorter { MatchOption result (Unit {0}) (λ p. length p.1.now ≤ length rest.now) }
 {
     if first == '$' {
@@ -57,7 +59,8 @@ fn string_piece(first: char, rest: &str) -> Option<(char, &str)>
 /// The bytes that a string's text stands for, up to its end; or the text from its first wrong escape on.
 pub fn unescape(alloc: Global, text: &str) -> Result<Result<Bytes, &str>, AllocError>
     ensures found { IfOk result (λ read. Means read (unescape (chars text.now))) }
-    ensures shorter { IfOk result (λ read. MatchResult read (λ _. Unit {0}) (λ wrong. length wrong.now ≤ length text.now)) }
+    ensures shorter { IfOk result
+        (λ read. MatchResult read (λ _. Unit {0}) (λ wrong. length wrong.now ≤ length text.now)) }
 {
     let mut meant = String::new(alloc);
     let mut rest = text;

@@ -36,7 +36,8 @@ fn front<'a>(text: &'a str, rest: &str) -> &'a [u8]
 /// The bytes of a text up to its rest.
 pub fn bytes_before(known: &mut KnownWords, text: &str, rest: &str) -> Result<Bytes, AllocError>
     requires { length rest.now ≤ length text.now }
-    ensures { IfOk result (λ bytes. (read : List ℕ) → chars text.now ≡ read ++ chars rest.now → bytes ≡ encode_utf8_all read) }
+    ensures { IfOk result (λ bytes. (read : List ℕ) → chars text.now ≡ read ++ chars rest.now
+        → bytes ≡ encode_utf8_all read) }
 {
     known.share(front(text, rest))
 }

@@ -134,7 +134,8 @@ pub(crate) fn missing_arguments(
     bounds: &[Bound],
     inside: bool,
 ) -> Result<(), AllocError>
-    ensures { OnOk result (types tys.new state.new ≡ prepend_types tys.old (missing_arguments bounds.now inside state.old)) }
+    ensures { OnOk result (types tys.new state.new
+        ≡ prepend_types tys.old (missing_arguments bounds.now inside state.old)) }
 {
     for bound in bounds {
         let bound = copy_bound(bound)?;

@@ -38,7 +38,9 @@ fn read_bare(
     number: u32,
     inside: bool,
 ) -> Result<Ty, AllocError>
-    ensures { IfOk result (λ t. typed t state.new ≡ nominal_of number (missing_arguments (params_of (slice_get decls.now number)) inside state.old)) }
+    ensures { IfOk result (λ t. typed t state.new
+        ≡ nominal_of number
+        (missing_arguments (params_of (slice_get decls.now number)) inside state.old)) }
 {
     let mut tys = Row::new(alloc);
     missing_arguments(state, &mut tys, params_of(decls, number), inside)?;
@@ -81,7 +83,9 @@ fn read_applied(
     texts: &[ArgText],
     inside: bool,
 ) -> Result<Ty, AllocError>
-    ensures means { IfOk result (λ t. typed t state.new ≡ read_applied around.now.decls.now at name (map (arg_reads around.now.decls.now) texts.now) (around.now.statics ++ vars.old) inside state.old) }
+    ensures means { IfOk result (λ t. typed t state.new
+        ≡ read_applied around.now.decls.now at name (map (arg_reads around.now.decls.now) texts.now)
+        (around.now.statics ++ vars.old) inside state.old) }
     ensures kept { OnOk result (vars.new ≡ vars.old) }
 {
     match name {
@@ -108,7 +112,9 @@ fn read_members(
     texts: &[ArgText],
     inside: bool,
 ) -> Result<Tys, AllocError>
-    ensures means { IfOk result (λ ts. types ts state.new ≡ read_members (map (arg_reads around.now.decls.now) texts.now) (around.now.statics ++ vars.old) inside state.old) }
+    ensures means { IfOk result (λ ts. types ts state.new
+        ≡ read_members (map (arg_reads around.now.decls.now) texts.now)
+        (around.now.statics ++ vars.old) inside state.old) }
     ensures kept { OnOk result (vars.new ≡ vars.old) }
 {
     let mut tys = Row::new(alloc);
@@ -130,7 +136,9 @@ pub(crate) fn read_arguments(
     texts: &[ArgText],
     inside: bool,
 ) -> Result<Tys, AllocError>
-    ensures means { IfOk result (λ ts. types ts state.new ≡ read_arguments bounds.now (map (arg_reads around.now.decls.now) texts.now) (around.now.statics ++ vars.old) inside state.old) }
+    ensures means { IfOk result (λ ts. types ts state.new
+        ≡ read_arguments bounds.now (map (arg_reads around.now.decls.now) texts.now)
+        (around.now.statics ++ vars.old) inside state.old) }
     ensures kept { OnOk result (vars.new ≡ vars.old) }
 {
     let mut tys = Row::new(alloc);
@@ -166,7 +174,9 @@ fn read_argument(
     outer: bool,
     inner: bool,
 ) -> Result<Ty, AllocError>
-    ensures means { IfOk result (λ t. typed t state.new ≡ arg_reads around.now.decls.now text.now (around.now.statics ++ vars.old) outer inner state.old) }
+    ensures means { IfOk result (λ t. typed t state.new
+        ≡ arg_reads around.now.decls.now text.now (around.now.statics ++ vars.old)
+        outer inner state.old) }
     ensures kept { OnOk result (vars.new ≡ vars.old) }
 {
     match text {
@@ -206,7 +216,9 @@ pub fn read_type(
     text: &TypeText,
     inside: bool,
 ) -> Result<Ty, AllocError>
-    ensures means { IfOk result (λ t. typed t state.new ≡ type_reads around.now.decls.now text.now (around.now.statics ++ vars.old) inside state.old) }
+    ensures means { IfOk result (λ t. typed t state.new
+        ≡ type_reads around.now.decls.now text.now
+        (around.now.statics ++ vars.old) inside state.old) }
     ensures kept { OnOk result (vars.new ≡ vars.old) }
 {
     match text {
@@ -243,7 +255,8 @@ pub fn read_type(
 
 /// A `where` brings variables.
 fn bind_where(state: &mut Reading, variables: &[VarText], inside: bool)
-    ensures { (ds : List Decl) → state.new ≡ bind_where (map (var_reads ds) variables.now) inside state.old }
+    ensures { (ds : List Decl)
+        → state.new ≡ bind_where (map (var_reads ds) variables.now) inside state.old }
 {
     if !variables.is_empty() {
         note_brought(state, inside);
@@ -260,7 +273,9 @@ pub fn bind_all(
     variables: &[VarText],
     inside: bool,
 ) -> Result<(), AllocError>
-    ensures { OnOk result (scoped (around.now.statics ++ vars.new) state.new ≡ bind_all (map (var_reads around.now.decls.now) variables.now) (around.now.statics ++ vars.old) inside state.old) }
+    ensures { OnOk result (scoped (around.now.statics ++ vars.new) state.new
+        ≡ bind_all (map (var_reads around.now.decls.now) variables.now)
+        (around.now.statics ++ vars.old) inside state.old) }
 {
     for variable in variables {
         bind(alloc, around, vars, state, variable, inside)?;
@@ -278,7 +293,9 @@ fn bind(
     variable: &VarText,
     inside: bool,
 ) -> Result<(), AllocError>
-    ensures { OnOk result (scoped (around.now.statics ++ vars.new) state.new ≡ bind (var_reads around.now.decls.now variable.now) (around.now.statics ++ vars.old) inside state.old) }
+    ensures { OnOk result (scoped (around.now.statics ++ vars.new) state.new
+        ≡ bind (var_reads around.now.decls.now variable.now)
+        (around.now.statics ++ vars.old) inside state.old) }
 {
     let bound = read_bounds(alloc, around, vars, state, variable, inside)?;
     match variable {
@@ -298,7 +315,9 @@ fn bind_name(
     name: &Bytes,
     bound: Bound,
 ) -> Result<(), AllocError>
-    ensures { OnOk result (scoped (around.now.statics ++ vars.new) state.new ≡ bind_name at name.now bound (around.now.statics ++ vars.old) (note_builtin at name.now state.old) (var_of (around.now.statics ++ vars.old) name.now)) }
+    ensures { OnOk result (scoped (around.now.statics ++ vars.new) state.new
+        ≡ bind_name at name.now bound (around.now.statics ++ vars.old)
+        (note_builtin at name.now state.old) (var_of (around.now.statics ++ vars.old) name.now)) }
 {
     if is_builtin(name.as_slice()) {
         note(state, at, StaticKind::NameClash);
@@ -326,7 +345,9 @@ fn read_bounds(
     variable: &VarText,
     inside: bool,
 ) -> Result<Bound, AllocError>
-    ensures means { IfOk result (λ b. bounded b state.new ≡ (var_reads around.now.decls.now variable.now).bounds (around.now.statics ++ vars.old) inside state.old) }
+    ensures means { IfOk result (λ b. bounded b state.new
+        ≡ (var_reads around.now.decls.now variable.now).bounds
+        (around.now.statics ++ vars.old) inside state.old) }
     ensures kept { OnOk result (vars.new ≡ vars.old) }
 {
     match variable {

@@ -46,7 +46,8 @@ fn adopt_bound<O: Order>(
     place: &Place,
     bounds: &mut Vec<Bound>,
 ) -> Result<(), AllocError>
-    ensures { OnOk result (bounds.new.items ≡ adopt_bound (O.below order.now) place.now bounds.old.items) }
+    ensures { OnOk result (bounds.new.items
+        ≡ adopt_bound (O.below order.now) place.now bounds.old.items) }
 {
     let number = place.var as usize;
     if number >= bounds.len() {
@@ -87,7 +88,8 @@ fn read_behind(
     width: usize,
     text: &TypeText,
 ) -> Result<(Ty, Reading), AllocError>
-    ensures { IfOk result (λ r. typed r.0 r.1 ≡ type_reads decls.now text.now (shifted width statics.now) false no_reading) }
+    ensures { IfOk result (λ r. typed r.0 r.1
+        ≡ type_reads decls.now text.now (shifted width statics.now) false no_reading) }
 {
     let around = Around {
         decls,
@@ -107,7 +109,9 @@ fn read_whole(
     statics: &TypeVars,
     text: &TypeText,
 ) -> Result<(Ty, Reading), AllocError>
-    ensures { IfOk result (λ r. typed r.0 r.1 ≡ type_reads decls.now text.now (shifted (width_of decls.now statics.now text.now) statics.now) false no_reading) }
+    ensures { IfOk result (λ r. typed r.0 r.1
+        ≡ type_reads decls.now text.now
+        (shifted (width_of decls.now statics.now text.now) statics.now) false no_reading) }
 {
     let first = read_behind(alloc, decls, statics, 0, text)?;
     let width = first.1.vars.len();
@@ -146,7 +150,8 @@ pub fn constructor_type(
     statics: &TypeVars,
     texts: &[ArgText],
 ) -> Result<(Ty, Reading), AllocError>
-    ensures { IfOk result (λ r. typed r.0 r.1 ≡ constructor_type decls.now number bounds.now statics.now texts.now) }
+    ensures { IfOk result (λ r. typed r.0 r.1
+        ≡ constructor_type decls.now number bounds.now statics.now texts.now) }
 {
     let around = Around {
         decls,

@@ -198,7 +198,8 @@ pub(crate) fn meaning_of(
     vars: &TypeVars,
     name: &[u8],
 ) -> Result<Named, AllocError>
-    ensures { IfOk result (λ n. n ≡ meaning_of around.now.decls.now (around.now.statics ++ vars.now) name.now) }
+    ensures { IfOk result (λ n. n
+        ≡ meaning_of around.now.decls.now (around.now.statics ++ vars.now) name.now) }
 {
     match vars.find(name) {
         Some(var) => Ok(Named::Variable(var.number, var.usable)),
