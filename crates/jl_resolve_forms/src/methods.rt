@@ -197,19 +197,33 @@ fn static_parameter(written: &Written, flags: &[bool], var: &TypeVar) -> Result<
     })
 }
 
-/// The static parameters of a body.
-fn static_parameters(
+/// The variables of a signature as static parameters.
+fn all_static(
     alloc: Global,
     written: &Written,
     vars: &[TypeVar],
-) -> Result<TypeVars, AllocError>
-    ensures { IfOk result (λ vs. vs ≡ static_parameters written.now vars.now) }
+) -> Result<Vec<TypeVar>, AllocError>
+    ensures { IfOk result (λ vs. vs.items ≡ static_parameters written.now vars.now) }
 {
     let flags = usable_variables(alloc, written)?;
-    let mut statics = TypeVars::new(alloc);
+    let mut statics = Vec::new(alloc);
     for var in vars {
         statics.push(static_parameter(written, flags.as_slice(), var)?)?;
     }
+    Ok(statics)
+}
+
+/// The static parameters of a body. They keep the table of the signature's names, which costs more than they do.
+fn static_parameters(
+    alloc: Global,
+    written: &Written,
+    vars: TypeVars,
+) -> Result<TypeVars, AllocError>
+    ensures { IfOk result (λ vs. vs ≡ static_parameters written.now vars) }
+{
+    let mut statics = vars;
+    let renewed = all_static(alloc, written, statics.as_slice())?;
+    statics.renew(renewed);
     Ok(statics)
 }
 
@@ -314,7 +328,8 @@ fn open_body(
 ) -> Result<Opening, AllocError>
     ensures { Resolves result state.new (open_body function types signed params.now state.old) }
 {
-    let statics = static_parameters(alloc, &signed.sig, signed.vars.as_slice())?;
+    let Signed { vars, sig, .. } = signed;
+    let statics = static_parameters(alloc, &sig, vars)?;
     let mut scope = Scope {
         slots: Slots::new(alloc),
         statics,
@@ -323,7 +338,7 @@ fn open_body(
     parameters(&mut scope, state, params)?;
     Ok(Opening {
         function,
-        sig: signed.sig,
+        sig,
         scope,
     })
 }

@@ -1,7 +1,7 @@
 //! The type variables that are visible where a type stands, and what a name means there.
 
 ghost use Rattle.std.specs.Prelude.{◌≡◌, ◌++◌, ◌∷◌, [], length, take, is_some, slice_get, option_copied, ◌≤◌, ◌^◌, IfOk, OnOk, OnErr};
-ghost use Rattle.jl_written.specs.Meaning.{var_of, var_or, meaning_of};
+ghost use Rattle.jl_written.specs.Meaning.{names_of, var_of, var_or, meaning_of};
 ghost use Rattle.jl_written.specs.Signatures.{shifted, HasLargeNumber};
 
 use crate::names::{to_u32, word_of};
@@ -78,6 +78,14 @@ impl TypeVars {
                 Err(error)
             }
         }
+    }
+
+    /// Other variables of the same names in the place of these. The table of names stays.
+    pub fn renew(&mut self, vars: Vec<TypeVar>)
+        requires { names_of vars.items ≡ names_of self.old }
+        ensures { self.new ≡ vars.items }
+    {
+        self.vars = vars;
     }
 
     /// Only so many of the variables, from the first on.

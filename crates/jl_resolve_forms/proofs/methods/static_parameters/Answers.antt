@@ -1,8 +1,12 @@
-use Rattle.jl_resolve_forms.specs.Expressions.{static_parameter}
-use Rattle.jl_resolve_forms.proofs.TypeSteps.{pushed}
+use Rattle.std.proofs.Common.{◌∙◌, ap}
+use Rattle.jl_written.specs.Meaning.{names_of}
+use Rattle.jl_resolve_forms.specs.Expressions.{static_parameters}
+use Rattle.jl_resolve_forms.proofs.FlagLemmas.{static_names}
 use Rattle.jl_resolve_forms.proofs.methods.static_parameters.Goals as goal
 
-pub loop-var-preserved : goal.loop-var-preserved
-loop-var-preserved c =
-    pushed (static_parameter c.args.written.now) c.loop-var.statics c.push.new.self _ c.args.vars.now c.loop-var.var-index c.var-item.result c.in_ok-static_parameter.field-0
-    c.loop-var.invariant c.loop-var-test.true c.var-item.is c.in_ok-static_parameter.ensures c.in_ok-push.ensures
+pub renew-requires : goal.renew-requires
+renew-requires c =
+    ap names_of (c.in_ok-renewed.ensures ∙ ap (static_parameters c.args.written.now) c.as_slice.ensures) ∙ static_names c.args.written.now c.args.vars
+
+pub returns : goal.returns
+returns c = c.renew.ensures ∙ c.in_ok-renewed.ensures ∙ ap (static_parameters c.args.written.now) c.as_slice.ensures

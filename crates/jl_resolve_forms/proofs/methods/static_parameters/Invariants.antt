@@ -1,6 +1,0 @@
-use Rattle.std.proofs.Common.{◌≡◌, ◌++◌, drop}
-use Rattle.jl_resolve_forms.specs.Expressions.{static_parameters}
-use Rattle.jl_resolve_forms.proofs.methods.static_parameters.Given as goal
-
-abbrev pub invariant-loop-var : goal.invariant-loop-var
-invariant-loop-var l = l.statics ++ static_parameters l.written (drop l.var-index l.vars) ≡ static_parameters l.written l.vars
