@@ -3,3 +3,4 @@ pub mod TextLemmas
 pub mod ScopeLemmas
 pub mod VarLemmas
 pub mod OrderLemmas
+pub mod BuiltinLemmas

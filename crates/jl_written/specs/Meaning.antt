@@ -1,11 +1,17 @@
 -- What a name means where a type must stand. The declared types before the place are ds, the built-in ones first.
-use Rattle.std.specs.Prelude.{ℕ, ◌+◌, if◌then◌else◌, codes, List, [], ◌∷◌, map, Option, Some, None}
+use Rattle.std.specs.Prelude.{ℕ, ◌+◌, Bool, false, not, nat_lt, if◌then◌else◌, codes, List, [], ◌∷◌, map, Option, Some, None}
 use Rattle.jl_model.specs.declared.builtin.TheConstants.{INT64}
 use Rattle.jl_model.specs.declared.ty.Decl.{Decl}
 use Rattle.jl_program.specs.Names.{same_text}
 use Rattle.jl_written.specs.declared.reading.Named.{Named}
 use Rattle.jl_written.specs.declared.reading.Named.TheVariants.{Variable, Any, Union, Tuple, Nominal, Unknown}
 use Rattle.jl_written.specs.declared.reading.TypeVar.{TypeVar}
+
+-- the second byte is a small letter or comes after those, as in each name that no script binds
+abbrev pub has_small_second : List ℕ → Bool
+has_small_second [] = false
+has_small_second (a ∷ []) = false
+has_small_second (a ∷ b ∷ bs) = not (nat_lt b 97)
 
 -- the place of a name in a list of names whose first has number i, the first of several
 abbrev pub place_from : ℕ → List (List ℕ) → List ℕ → Option ℕ

@@ -3,7 +3,7 @@
 ghost use Rattle.std.specs.Prelude.{◌≡◌, ◌≤◌, ◌^◌, List, ℕ, map, IfOk, OnErr};
 ghost use Rattle.jl_program.specs.Names.{is_among, same_text, builtin_names};
 ghost use Rattle.jl_model.specs.declared.ty.Decl.{Decl};
-ghost use Rattle.jl_written.specs.Meaning.{place_of, word_of};
+ghost use Rattle.jl_written.specs.Meaning.{has_small_second, place_of, word_of};
 
 use crate::reading::Named;
 use jl_model::builtin::INT64;
@@ -54,12 +54,30 @@ fn is_one_of(words: &[&str], word: &[u8]) -> bool
     false
 }
 
-/// Whether no script may bind or define this name.
-pub fn is_builtin(word: &[u8]) -> bool
+/// Whether the second byte is a small letter or comes after those.
+fn has_small_second(word: &[u8]) -> bool
+    ensures { result ≡ has_small_second word.now }
+{
+    match word {
+        [] => false,
+        [_] => false,
+        [_, second, ..] => *second >= 97,
+    }
+}
+
+/// Whether the name is in the list.
+fn is_listed(word: &[u8]) -> bool
     ensures { result ≡ is_among word.now builtin_names }
 {
     let words: [&str; 21] = BUILTIN_NAMES;
     is_one_of(words.as_slice(), word)
+}
+
+/// Whether no script may bind or define this name. A name as `x1`, `T` or `T_1` is not looked for.
+pub fn is_builtin(word: &[u8]) -> bool
+    ensures { result ≡ is_among word.now builtin_names }
+{
+    has_small_second(word) && is_listed(word)
 }
 
 /// A number of a variable or a type. The one error, which stands for want of memory, comes exactly from 2^32 on.
