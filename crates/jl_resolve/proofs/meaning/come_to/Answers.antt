@@ -6,5 +6,5 @@ pub returns-clause-valid : goal.returns-clause-valid
 returns-clause-valid c =
     let r = c.in_ok-resolved.resolved in
     let told = c.in_ok-resolved.ensures in
-    valid c.args.script.now (declaring_of c.in_ok-table.field-0) told.0 r.program r.fault c.in_ok-table.field-0.table c.in_ok-known_of.known_of c.as_slice-items.result.now
-    c.as_slice-items.ensures c.in_ok-table.ensures.declared c.in_ok-table.ensures.table c.in_ok-known_of.ensures told.1 told.2 c.requires c.valid.ensures
+    valid c.args.script.now (declaring_of c.in_ok-table.field-0) told.0 r.program r.fault c.in_ok-table.field-0.table c.in_ok-known.known c.as_slice-items.result.now
+    c.as_slice-items.ensures c.in_ok-table.ensures.declared c.in_ok-table.ensures.table c.in_ok-known.ensures told.1 told.2 c.requires c.valid.ensures
