@@ -4,10 +4,10 @@ pub mod Capped
 pub mod Ends
 pub mod DigitText
 pub mod NumeralText
-pub mod StringText
 pub mod WordText
 pub mod Reserved
 pub mod QuotedText
+pub mod StringText
 pub mod CommentText
 pub mod OperatorText
 pub mod PieceSound

@@ -118,7 +118,7 @@ unescape-quote (d ∷ rest) = refl
 text-piece : (bytes : ℕ) (prefix : Bool) (body meant rest : List ℕ) → Quoted body meant → piece bytes prefix (34 ∷ (body ++ 34 ∷ []) ++ rest) ≡ Ok (Some (kind.Text meant), rest)
 text-piece bytes prefix body meant rest q =
     let whole : (body ++ 34 ∷ []) ++ rest ≡ body ++ 34 ∷ rest = append_assoc body (34 ∷ []) rest in
-    let read : unescape (body ++ 34 ∷ rest) ≡ Ok meant = quoted-goes body meant q 34 rest ∙ ap (with_front meant) (unescape-quote rest) ∙ ap (λ l. Ok l) (append-nil meant) in
+    let read : unescape (body ++ 34 ∷ rest) ≡ Ok meant = quoted-goes body meant q (34 ∷ rest) ∙ ap (with_front meant) (unescape-quote rest) ∙ ap (λ l. Ok l) (append-nil meant) in
     ap (λ l. piece bytes prefix (34 ∷ l)) whole
     ∙ quote-piece bytes prefix (body ++ 34 ∷ rest)
     ∙ ap (λ o. as_piece (by o (Err (fault.OpenString (place bytes (34 ∷ body ++ 34 ∷ rest)))) (λ after. text_of bytes after (unescape (body ++ 34 ∷ rest))))) (quoted-ends body meant q (34 ∷ rest))
@@ -262,7 +262,7 @@ wrong-piece bytes prefix w meant [] q wrong e = absurd wrong
 wrong-piece bytes prefix w meant (c ∷ []) q wrong e = absurd wrong
 wrong-piece bytes prefix w meant (c ∷ d ∷ cs) q wrong e =
     let end = ended-goes (c ∷ d ∷ cs) e in
-    let read : unescape (w ++ c ∷ d ∷ cs) ≡ Err (c ∷ d ∷ cs) = quoted-goes w meant q c (d ∷ cs) ∙ ap (with_front meant) (wrong-goes c d cs wrong) in
+    let read : unescape (w ++ c ∷ d ∷ cs) ≡ Err (c ∷ d ∷ cs) = quoted-goes w meant q (c ∷ d ∷ cs) ∙ ap (with_front meant) (wrong-goes c d cs wrong) in
     quote-piece bytes prefix (w ++ c ∷ d ∷ cs)
     ∙ ap (λ o. as_piece (by o (Err (fault.OpenString (place bytes (34 ∷ w ++ c ∷ d ∷ cs)))) (λ after. text_of bytes after (unescape (w ++ c ∷ d ∷ cs))))) (quoted-ends w meant q (c ∷ d ∷ cs) ∙ end.1)
     ∙ ap (λ r. as_piece (text_of bytes end.0 r)) read

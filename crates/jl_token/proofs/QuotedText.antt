@@ -1,12 +1,19 @@
 -- Strings: what the text behind a quote is.
-use Rattle.std.proofs.Common.{◌≡◌, ℕ, Bool, true, false, cond, not, ◌==◌, ◌||◌, inl, inr, List, [], ◌∷◌, ◌++◌, Option, Some, None, Result, Ok, Err, refl, sym, ap, ◌∙◌, subst, arith}
+use Rattle.std.proofs.Common.{◌≡◌, ℕ, Bool, true, false, cond, not, ◌==◌, ◌||◌, inl, inr, List, [], ◌∷◌, ◌++◌, Option, Some, None, Result, Ok, Err, refl, sym, ap, ◌∙◌, subst, append_assoc, arith}
 use Rattle.std.specs.Char.{encode_utf8}
 use Rattle.std.proofs.lemmas.Bool.{eqb-true}
 use Rattle.jl_token.specs.Characters.{escape}
 use Rattle.jl_token.specs.Grammar.{Quoted, nothing, plain, escaped, is_plain, Ended, quote, taken, passed, IsWrongEscape}
 use Rattle.jl_token.specs.Reading.{after_string, unescape, with_front, with_escape}
 use Rattle.jl_token.proofs.Choices.{if-sound}
-use Rattle.jl_token.proofs.StringText.{with_front-nil, with_front-twice}
+
+with_front-nil : (r : Result (List ℕ) (List ℕ)) → with_front [] r ≡ r
+with_front-nil (Ok bytes) = refl
+with_front-nil (Err rest) = refl
+
+pub with_front-twice : (a b : List ℕ) (r : Result (List ℕ) (List ℕ)) → with_front a (with_front b r) ≡ with_front (a ++ b) r
+with_front-twice a b (Ok bytes) = ap (λ l. Ok l) (sym (append_assoc a b bytes))
+with_front-twice a b (Err rest) = refl
 
 abbrev ends : List ℕ → Option (List ℕ)
 ends rest = Some rest
@@ -115,25 +122,26 @@ quoted-ends _ _ (plain c cs bytes is q) t =
     ap (λ b. cond b (Some (cs ++ t)) (after_string (c == 92) (cs ++ t))) n.0 ∙ ap (λ b. after_string b (cs ++ t)) n.1 ∙ quoted-ends cs bytes q t
 quoted-ends _ _ (escaped c m cs bytes is q) t = quoted-ends cs bytes q t
 
-unescape-plain : (c u : ℕ) (us : List ℕ) → is_plain c ≡ true → unescape (c ∷ u ∷ us) ≡ with_front (encode_utf8 c) (unescape (u ∷ us))
-unescape-plain c u us is =
+unescape-plain : (c : ℕ) (cs : List ℕ) → is_plain c ≡ true → unescape (c ∷ cs) ≡ with_front (encode_utf8 c) (unescape cs)
+unescape-plain c [] is =
+    let n = not-plain c is in
+    ap (λ b. cond b (Ok []) (cond ((c == 36) || (c == 92)) (Err (c ∷ [])) (Ok (encode_utf8 c ++ [])))) n.0
+    ∙ ap (λ b. cond (b || (c == 92)) (Err (c ∷ [])) (Ok (encode_utf8 c ++ []))) n.2
+    ∙ ap (λ b. cond b (Err (c ∷ [])) (Ok (encode_utf8 c ++ []))) n.1
+unescape-plain c (u ∷ us) is =
     let n = not-plain c is in
     let slash = cond (c == 92) (with_escape (escape u) (c ∷ u ∷ us) (unescape us)) (with_front (encode_utf8 c) (unescape (u ∷ us))) in
     ap (λ b. cond b (Ok []) (cond (c == 36) (Err (c ∷ u ∷ us)) slash)) n.0
     ∙ ap (λ b. cond b (Err (c ∷ u ∷ us)) slash) n.2
     ∙ ap (λ b. cond b (with_escape (escape u) (c ∷ u ∷ us) (unescape us)) (with_front (encode_utf8 c) (unescape (u ∷ us)))) n.1
 
-unescape-front : (c x : ℕ) (cs t : List ℕ) → is_plain c ≡ true → unescape (c ∷ cs ++ x ∷ t) ≡ with_front (encode_utf8 c) (unescape (cs ++ x ∷ t))
-unescape-front c x [] t is = unescape-plain c x t is
-unescape-front c x (u ∷ us) t is = unescape-plain c u (us ++ x ∷ t) is
-
-pub quoted-goes : (body meant : List ℕ) → Quoted body meant → (x : ℕ) (t : List ℕ) → unescape (body ++ x ∷ t) ≡ with_front meant (unescape (x ∷ t))
-quoted-goes _ _ nothing x t = sym (with_front-nil (unescape (x ∷ t)))
-quoted-goes _ _ (plain c cs bytes is q) x t =
-    unescape-front c x cs t is ∙ ap (with_front (encode_utf8 c)) (quoted-goes cs bytes q x t) ∙ with_front-twice (encode_utf8 c) bytes (unescape (x ∷ t))
-quoted-goes _ _ (escaped c m cs bytes is q) x t =
-    ap (λ o. with_escape o (92 ∷ c ∷ cs ++ x ∷ t) (unescape (cs ++ x ∷ t))) is
-    ∙ ap (with_front (encode_utf8 m)) (quoted-goes cs bytes q x t) ∙ with_front-twice (encode_utf8 m) bytes (unescape (x ∷ t))
+pub quoted-goes : (body meant : List ℕ) → Quoted body meant → (t : List ℕ) → unescape (body ++ t) ≡ with_front meant (unescape t)
+quoted-goes _ _ nothing t = sym (with_front-nil (unescape t))
+quoted-goes _ _ (plain c cs bytes is q) t =
+    unescape-plain c (cs ++ t) is ∙ ap (with_front (encode_utf8 c)) (quoted-goes cs bytes q t) ∙ with_front-twice (encode_utf8 c) bytes (unescape t)
+quoted-goes _ _ (escaped c m cs bytes is q) t =
+    ap (λ o. with_escape o (92 ∷ c ∷ cs ++ t) (unescape (cs ++ t))) is
+    ∙ ap (with_front (encode_utf8 m)) (quoted-goes cs bytes q t) ∙ with_front-twice (encode_utf8 m) bytes (unescape t)
 
 pub wrong-goes : (c d : ℕ) (cs : List ℕ) → IsWrongEscape (c ∷ d ∷ cs) → unescape (c ∷ d ∷ cs) ≡ Err (c ∷ d ∷ cs)
 wrong-goes c d cs (inl dollar) = subst (λ k. unescape (k ∷ d ∷ cs) ≡ Err (k ∷ d ∷ cs)) (sym dollar) refl

@@ -3,7 +3,7 @@ use Rattle.std.proofs.Common.{◌≡◌, ◌≢◌, ◌∙◌, refl, ap, sym, �
 use Rattle.std.specs.List.{filter, list_any}
 use Rattle.std.specs.Str.{bytes_eq}
 use Rattle.std.specs.Cmp.Lexicographic.{unequal}
-use Rattle.jl_token.specs.Characters.{is_small}
+use Rattle.jl_token.specs.Characters.{may_be_reserved}
 
 -- the word is in the list
 abbrev pub is_in : List ℕ → List (List ℕ) → Bool
@@ -37,17 +37,17 @@ same_word (x ∷ xs) (y ∷ ys) h = by (nat_eq x y) refl h (same_word xs ys)
     by true e g r = let p : x ≡ y = grind (arith, e) in let q = r g in cc
     by false e g r = absurd (let f : false ≡ true = g in cc)
 
--- each word of a list begins small
-abbrev pub are_small : List (List ℕ) → Bool
-are_small [] = true
-are_small (u ∷ us) = is_small u && are_small us
+-- each word of a list begins as a reserved word may
+abbrev pub may_all_be_reserved : List (List ℕ) → Bool
+may_all_be_reserved [] = true
+may_all_be_reserved (u ∷ us) = may_be_reserved u && may_all_be_reserved us
 
--- what does not begin small is none of words that do
-pub not_in : (us : List (List ℕ)) (w : List ℕ) → are_small us ≡ true → is_small w ≡ false → is_in w us ≡ false
+-- what does not begin so is none of words that do
+pub not_in : (us : List (List ℕ)) (w : List ℕ) → may_all_be_reserved us ≡ true → may_be_reserved w ≡ false → is_in w us ≡ false
 not_in [] w h e = refl
-not_in (u ∷ us) w h e = by (is_small u) (bytes_eq u w) refl refl h (λ z. not_in us w z e)
+not_in (u ∷ us) w h e = by (may_be_reserved u) (bytes_eq u w) refl refl h (λ z. not_in us w z e)
   where
-    by : (s b : Bool) → is_small u ≡ s → bytes_eq u w ≡ b → (s && are_small us) ≡ true → (are_small us ≡ true → is_in w us ≡ false) → (b || is_in w us) ≡ false
+    by : (s b : Bool) → may_be_reserved u ≡ s → bytes_eq u w ≡ b → (s && may_all_be_reserved us) ≡ true → (may_all_be_reserved us ≡ true → is_in w us ≡ false) → (b || is_in w us) ≡ false
     by false b f g h1 r = absurd (let z : false ≡ true = h1 in cc)
     by true false f g h1 r = r h1
-    by true true f g h1 r = let i = same_word u w g in absurd (let z : true ≡ false = sym f ∙ ap is_small i ∙ e in cc)
+    by true true f g h1 r = let i = same_word u w g in absurd (let z : true ≡ false = sym f ∙ ap may_be_reserved i ∙ e in cc)

@@ -46,7 +46,8 @@ width cs = length (encode_utf8_all cs)
 abbrev pub place : ℕ → List ℕ → ℕ
 place bytes rest = bytes - width rest
 
--- the bytes begin with a small letter, or with what comes after those
-abbrev pub is_small : List ℕ → Bool
-is_small [] = false
-is_small (c ∷ cs) = not (nat_lt c 97)
+-- the first two bytes are small letters, or what comes after those
+abbrev pub may_be_reserved : List ℕ → Bool
+may_be_reserved [] = false
+may_be_reserved (c ∷ []) = false
+may_be_reserved (c ∷ d ∷ cs) = not (nat_lt c 97) && not (nat_lt d 97)

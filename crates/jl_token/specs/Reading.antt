@@ -5,6 +5,7 @@ use Rattle.std.specs.Char.{is_ascii_digit, encode_utf8}
 use Rattle.std.specs.Str.{chars}
 use denote.Ref.{Bor}
 use Rattle.jl_token.specs.Operators.{by}
+use Rattle.jl_token.specs.Grammar.{is_plain}
 use Rattle.jl_token.specs.Characters.{is_word_part, escape, is_comment_end, is_comment_start, has_first}
 
 -- the characters at the front that may continue an identifier
@@ -66,11 +67,13 @@ abbrev pub read_escape : List ℕ → Option (ℕ × List ℕ)
 read_escape [] = None
 read_escape (d ∷ cs) = by (escape d) None (λ c. Some (c, cs))
 
--- the character that the front of a string's text stands for, and what follows it; none at a wrong escape
-abbrev pub string_piece : ℕ → List ℕ → Option (ℕ × List ℕ)
-string_piece c cs = if c == 36 then None else (if c == 92 then read_escape cs else Some (c, cs))
+-- what follows the characters at the front that stand for themselves in a string
+abbrev pub after_plain : List ℕ → List ℕ
+after_plain [] = []
+after_plain (c ∷ cs) = if is_plain c then after_plain cs else c ∷ cs
 
--- what a function returned for the bytes of a string is what reading gives
-abbrev pub Means : Result (List ℕ) (Bor (List ℕ)) → Result (List ℕ) (List ℕ) → Type 0
-Means (Ok bytes) read = read ≡ Ok bytes
-Means (Err wrong) read = read ≡ Err (chars wrong.now)
+-- what a function returned for a string's text is what reading gives: the bytes meant and what follows the end; or,
+-- if the text has an end, the text from the first wrong escape on
+abbrev pub Means : Result (List ℕ × Bor (List ℕ)) (Bor (List ℕ)) → List ℕ → Type 0
+Means (Ok read) text = (after_string false text ≡ Some (chars read.1.now)) × (unescape text ≡ Ok read.0)
+Means (Err wrong) text = (rest : List ℕ) → after_string false text ≡ Some rest → unescape text ≡ Err (chars wrong.now)

@@ -14,3 +14,4 @@ pub mod token;
 mod words;
 
 pub use source::{line_tokens, tokens};
+pub use words::may_be_reserved;

@@ -103,12 +103,12 @@ fn string<'a>(
         (string bytes (chars text.now) (chars body.now)) }
     ensures shorter { IfOk result (λ x. length x.1.now ≤ length body.now) }
 {
-    let Some(rest) = after_string(body) else {
-        return Err(TokenFault::OpenString(place(bytes, text)));
-    };
     match unescape(alloc, body)? {
-        Ok(meant) => Ok((TokenKind::Text(meant), rest)),
-        Err(wrong) => Err(TokenFault::BadCharacter(place(bytes, wrong))),
+        Ok((meant, rest)) => Ok((TokenKind::Text(meant), rest)),
+        Err(wrong) => Err(match after_string(body) {
+            None => TokenFault::OpenString(place(bytes, text)),
+            Some(_) => TokenFault::BadCharacter(place(bytes, wrong)),
+        }),
     }
 }
 

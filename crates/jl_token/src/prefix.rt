@@ -2,9 +2,9 @@
 
 ghost use Rattle.std.specs.Prelude.{◌≡◌};
 ghost use Rattle.jl_token.specs.Prefix.{is_closing_bracket, is_opening_word, is_prefix_after};
-ghost use Rattle.jl_token.specs.Characters.{is_small};
 
 use crate::token::{Operator, TokenKind};
+use crate::words::may_be_reserved;
 
 // The reserved words but `end`, `true`, `false` and `nothing`. A word is compared with those of its own length alone.
 const WORDS_OF_2: [&[u8]; 2] = [b"if", b"do"];
@@ -28,16 +28,6 @@ const WORDS_OF_8: [&[u8]; 3] = [b"abstract", b"function", b"continue"];
 
 const LONGER_WORDS: [&[u8]; 2] = [b"primitive", b"baremodule"];
 
-/// Whether the word begins as a reserved word may, so with no capital letter.
-fn is_small(word: &[u8]) -> bool
-    ensures { result ≡ is_small word.now }
-{
-    match word {
-        [] => false,
-        [first, ..] => *first >= 97,
-    }
-}
-
 /// Whether an operand may follow the word. It is looked for among those of its length.
 fn is_listed(word: &[u8]) -> bool
     ensures { result ≡ is_opening_word word.now }
@@ -55,11 +45,11 @@ fn is_listed(word: &[u8]) -> bool
     }
 }
 
-/// Whether an operand may follow the word. The name of a type mostly begins with a capital letter, and is not looked for.
+/// Whether an operand may follow the word. A name that begins as no reserved word does is not looked for.
 fn is_opening_word(word: &[u8]) -> bool
     ensures { result ≡ is_opening_word word.now }
 {
-    is_small(word) && is_listed(word)
+    may_be_reserved(word) && is_listed(word)
 }
 
 /// Whether the mark is `)`, `]` or `}`.

@@ -2,6 +2,7 @@
 
 ghost use Rattle.std.specs.Prelude.{◌≡◌, ◌≤◌, ◌-◌, ◌++◌, length, take, IfOk, List, ℕ};
 ghost use Rattle.std.specs.Str.{chars, encode_utf8_all};
+ghost use Rattle.jl_token.specs.Characters.{may_be_reserved};
 ghost use Rattle.jl_token.specs.Reading.{after_word};
 
 use crate::characters::{is_word_part, split_first};
@@ -24,8 +25,20 @@ pub fn after_word(text: &str) -> &str
     rest
 }
 
+/// Whether the first two bytes are both at least 97, the code of `a`, as they are in each reserved word. Most
+/// names of types begin with a capital letter, and most generated names have a digit second, as `x1` has. So
+/// such names need not be compared with the reserved words.
+pub fn may_be_reserved(word: &[u8]) -> bool
+    ensures { result ≡ may_be_reserved word.now }
+{
+    match word {
+        [first, second, ..] => *first >= 97 && *second >= 97,
+        _ => false,
+    }
+}
+
 /// The text up to its rest.
-fn front<'a>(text: &'a str, rest: &str) -> &'a [u8]
+pub(crate) fn front<'a>(text: &'a str, rest: &str) -> &'a [u8]
     requires { length rest.now ≤ length text.now }
     ensures { result.now ≡ take (length text.now - length rest.now) text.now }
 {

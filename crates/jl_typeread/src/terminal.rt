@@ -1,10 +1,10 @@
 //! What the grammars of types and scripts see of a token: reserved words apart from names, and numbers with their sign.
 
 ghost use Rattle.std.specs.Prelude.{◌≡◌, IfOk};
-ghost use Rattle.jl_token.specs.Characters.{is_small};
 ghost use Rattle.jl_typeread.specs.Lexemes.{is_unruled, opening_word, closing_word, reserved_word, word_or_name, terminal_of, lexeme_of};
 
 use jl_model::ty::Bytes;
+use jl_token::may_be_reserved;
 use jl_token::token::{Operator, Token, TokenKind};
 use std::alloc::AllocError;
 
@@ -78,16 +78,6 @@ const UNRULED_OF_7: [&[u8]; 2] = [b"finally", b"mutable"];
 
 const LONGER_UNRULED: [&[u8]; 3] = [b"primitive", b"baremodule", b"continue"];
 
-/// Whether the word begins as a reserved word may, so with no capital letter.
-fn is_small(word: &[u8]) -> bool
-    ensures { result ≡ is_small word.now }
-{
-    match word {
-        [] => false,
-        [first, ..] => *first >= 97,
-    }
-}
-
 /// Whether the word is reserved and has no rule. It is looked for among those of its length.
 fn is_listed(word: &[u8]) -> bool
     ensures { result ≡ is_unruled word.now }
@@ -104,11 +94,11 @@ fn is_listed(word: &[u8]) -> bool
     }
 }
 
-/// Whether the word is reserved and has no rule. The name of a type mostly begins with a capital letter, and is not looked for.
+/// Whether the word is reserved and has no rule. A name that begins as no reserved word does is not looked for.
 fn is_unruled(word: &[u8]) -> bool
     ensures { result ≡ is_unruled word.now }
 {
-    is_small(word) && is_listed(word)
+    may_be_reserved(word) && is_listed(word)
 }
 
 /// The reserved words that begin a form.
