@@ -26,7 +26,7 @@ fn push_names(alloc: Global, names: &mut NameList, texts: &[&str]) -> Result<(),
 /// the compiler is unrolled into the proof at each way out.
 fn first_is_found(alloc: Global, names: &mut NameList) -> Result<bool, AllocError> {
     push_names(alloc, names, &["f", "g", "f"])?;
-    let shared = names.into_shared(alloc)?;
+    let shared = names.to_shared(alloc)?;
     Ok(
         names.find(b"f") == Some(0)
             && names.find(b"g") == Some(1)

@@ -4,7 +4,7 @@ use Rattle.std.specs.Cmp.Lexicographic.{pointwise}
 use Rattle.std.specs.Map.{lookup, set_value}
 use Rattle.indexmap.specs.IndexMap.{insert_entry}
 use Rattle.jl_program.specs.Names.{same_text}
-use Rattle.jl_names.specs.Numbers.{Numbered, number_in, with_number, renumber}
+use Rattle.jl_names.specs.Numbers.{Numbered, number_in, with_number, renumber, with_newer}
 
 pub same_bytes : (a b : List ℕ) → pointwise nat_eq a b ≡ same_text a b
 same_bytes [] [] = refl
@@ -29,21 +29,18 @@ module _ {K : Type 0} (items : K → List ℕ) where
   looked test name h [] = refl
   looked test name h (e ∷ es) = ap (λ b. cond b (Some e.1) (lookup test es)) (h e.0) ∙ ap (cond (same_text name (items e.0)) (Some e.1)) (looked test name h es)
 
-  appended : (eq : K → K → Bool) (k : K) (v : ℕ) → ((x : K) → eq k x ≡ same_text (items k) (items x)) → (es : List (K × ℕ)) → number_in (pairs es) (items k) ≡ None
-      → pairs (insert_entry eq es k v) ≡ pairs es ++ (items k, v) ∷ []
-  appended eq k v h [] g = refl
-  appended eq k v h (e ∷ es) g = by (same_text (items k) (items e.0)) refl g (appended eq k v h es)
+  inserted : (eq : K → K → Bool) (k : K) (v : ℕ) → ((x : K) → eq k x ≡ same_text (items k) (items x)) → (es : List (K × ℕ)) → pairs (insert_entry eq es k v) ≡ with_newer (pairs es) (items k, v)
+  inserted eq k v h [] = refl
+  inserted eq k v h (e ∷ es) =
+      ap (λ b. pairs (if b then (e.0, v) ∷ es else e ∷ insert_entry eq es k v)) (h e.0)
+      ∙ by (same_text (items k) (items e.0)) (number_in (pairs es) (items k)) (inserted eq k v h es)
     where
-      by : (b : Bool) → same_text (items k) (items e.0) ≡ b → cond b (Some e.1) (number_in (pairs es) (items k)) ≡ None
-          → (number_in (pairs es) (items k) ≡ None → pairs (insert_entry eq es k v) ≡ pairs es ++ (items k, v) ∷ [])
-          → pairs (if eq k e.0 then (e.0, v) ∷ es else e ∷ insert_entry eq es k v) ≡ (items e.0, e.1) ∷ (pairs es ++ (items k, v) ∷ [])
-      by true p q r = absurd (let f : Some e.1 ≡ None = q in cc)
-      by false p q r = ap (λ b. pairs (if b then (e.0, v) ∷ es else e ∷ insert_entry eq es k v)) (h e.0 ∙ p) ∙ ap (λ z. (items e.0, e.1) ∷ z) (r q)
-
-  -- one more name
-  pub inserted : (eq : K → K → Bool) (k : K) (v : ℕ) → ((x : K) → eq k x ≡ same_text (items k) (items x)) → (es : List (K × ℕ)) → number_in (pairs es) (items k) ≡ None
-      → pairs (insert_entry eq es k v) ≡ with_number (pairs es) (items k, v)
-  inserted eq k v h es g = appended eq k v h es g ∙ sym (ap (λ o. cond (is_some o) (pairs es) (pairs es ++ (items k, v) ∷ [])) g)
+      by : (b : Bool) (o : Option ℕ) → pairs (insert_entry eq es k v) ≡ cond (is_some o) (renumber (pairs es) (items k, v)) (pairs es ++ (items k, v) ∷ [])
+          → pairs (if b then (e.0, v) ∷ es else e ∷ insert_entry eq es k v)
+          ≡ cond (is_some (cond b (Some e.1) o)) (cond b ((items e.0, v) ∷ pairs es) ((items e.0, e.1) ∷ renumber (pairs es) (items k, v))) ((items e.0, e.1) ∷ (pairs es ++ (items k, v) ∷ []))
+      by true o r = refl
+      by false None r = ap (λ z. (items e.0, e.1) ∷ z) r
+      by false (Some n) r = ap (λ z. (items e.0, e.1) ∷ z) r
 
   -- another number for a name
   pub renumber_is : (test : K → Bool) (name : List ℕ) (v : ℕ) → ((k : K) → test k ≡ same_text name (items k)) → (es : List (K × ℕ)) → pairs (set_value test es v) ≡ renumber (pairs es) (name, v)
@@ -61,15 +58,25 @@ module _ {K : Type 0} (items : K → List ℕ) where
   cut (suc n) [] = refl
   cut (suc n) (e ∷ es) = ap (λ z. (items e.0, e.1) ∷ z) (cut n es)
 
-  pub added : (eq : K → K → Bool) (k : K) (v : ℕ) (es fs : List (K × ℕ)) (name : List ℕ) (old : List Numbered)
-      → fs ≡ insert_entry eq es k v → ((x : K) → eq k x ≡ same_text (items k) (items x)) → items k ≡ name → pairs es ≡ old → number_in old name ≡ None
-      → pairs fs ≡ with_number old (name, v)
-  added eq k v es fs name old f h i e g =
-      ap pairs f
-      ∙ inserted eq k v h es (ap (λ z. number_in z (items k)) e ∙ ap (number_in old) i ∙ g)
-      ∙ ap (λ z. with_number z (items k, v)) e
-      ∙ ap (λ z. with_number old (z, v)) i
+  -- one more name, or another number for one that has a number
+  pub newer : (eq : K → K → Bool) (k : K) (v : ℕ) (es fs : List (K × ℕ)) (name : List ℕ) (old : List Numbered)
+      → fs ≡ insert_entry eq es k v → ((x : K) → eq k x ≡ same_text (items k) (items x)) → items k ≡ name → pairs es ≡ old → pairs fs ≡ with_newer old (name, v)
+  newer eq k v es fs name old f h i e = ap pairs f ∙ inserted eq k v h es ∙ ap (λ z. with_newer z (items k, v)) e ∙ ap (λ z. with_newer old (z, v)) i
 
-pub none_of : {A : Type 0} (o : Option A) → is_some o ≡ false → o ≡ None
-none_of None h = refl
-none_of (Some a) h = absurd (let f : true ≡ false = h in cc)
+-- another number, and then the number before again
+put_back : (name : List ℕ) (v k : ℕ) (es : List Numbered) → number_in es name ≡ Some k → renumber (renumber es (name, v)) (name, k) ≡ es
+put_back name v k [] h = refl
+put_back name v k (e ∷ es) h = by (same_text name e.0) refl h (put_back name v k es)
+  where
+    by : (b : Bool) → same_text name e.0 ≡ b → cond b (Some e.1) (number_in es name) ≡ Some k → (number_in es name ≡ Some k → renumber (renumber es (name, v)) (name, k) ≡ es)
+        → renumber (cond b ((e.0, v) ∷ es) (e ∷ renumber es (name, v))) (name, k) ≡ e ∷ es
+    by true p g r =
+        let n : e.1 ≡ k = (let f : Some e.1 ≡ Some k = g in cc) in
+        ap (λ b. cond b ((e.0, k) ∷ es) ((e.0, v) ∷ renumber es (name, k))) p ∙ ap (λ z. (e.0, z) ∷ es) (sym n)
+    by false p g r = ap (λ b. cond b ((e.0, k) ∷ renumber es (name, v)) (e ∷ renumber (renumber es (name, v)) (name, k))) p ∙ ap (λ z. e ∷ z) (r g)
+
+-- a name that had a number has it again
+pub known_name : (name : List ℕ) (v k : ℕ) (es fs gs : List Numbered) → number_in es name ≡ Some k → fs ≡ with_newer es (name, v) → gs ≡ renumber fs (name, k) → gs ≡ with_number es (name, v)
+known_name name v k es fs gs h f g =
+    g ∙ ap (λ z. renumber z (name, k)) (f ∙ ap (λ o. cond (is_some o) (renumber es (name, v)) (es ++ (name, v) ∷ [])) h) ∙ put_back name v k es h
+    ∙ sym (ap (λ o. cond (is_some o) es (es ++ (name, v) ∷ [])) h)

@@ -1,6 +1,6 @@
 -- Names of which a later one hides an equal one before it: one more, and one less.
-use Rattle.std.proofs.Common.{◌≡◌, ◌∙◌, refl, sym, ap, ℕ, zero, suc, ◌+◌, ◌-◌, ◌≤◌, ◌<◌, arith, nat_eq, nat_lt, Bool, true, false, cond, List, [], ◌∷◌, ◌++◌, length, take, get_or, map, Option, Some, None, is_some, append_assoc, length-append}
-use Rattle.std.proofs.lemmas.List.{append-nil, map-append, length-map, take_at}
+use Rattle.std.proofs.Common.{◌≡◌, ◌∙◌, refl, sym, ap, ℕ, zero, suc, ◌+◌, ◌<◌, arith, nat_eq, nat_lt, Bool, true, false, cond, List, [], ◌∷◌, ◌++◌, length, get_or, Option, Some, None, is_some, append_assoc}
+use Rattle.std.proofs.lemmas.List.{append-nil, map-append, length-map}
 use Rattle.std.specs.Cmp.Lexicographic.{pointwise}
 use Rattle.std.specs.Option.{option_or}
 use Rattle.jl_program.specs.Names.{same_text}
@@ -131,18 +131,16 @@ text_at (x ∷ xs) (suc p) d l = text_at xs p d (omega (arith, l))
 texts_long : (xs : List Stacked) → length xs ≡ length (texts_of xs)
 texts_long xs = sym (length-map xs (λ (y : Stacked). y.name))
 
-module _ (xs ds : List Stacked) (es : List Numbered) (n : List ℕ) (p : ℕ) (s : IsStack xs es) (h : number_in es n ≡ Some p) (same : ds ≡ xs) where
-  pub seen_past : nat_lt p (length ds) ≡ false → last_place (texts_of xs) n ≡ None
-  seen_past l =
-      found_stale xs es n p s h
-      (λ k e. let a = texts_long xs in let b : length ds ≡ length xs = ap (λ z. length z) same in let c : p < length ds = omega (arith, k, a, b) in absurd (let f : true ≡ false = grind (arith, c, l) in cc))
+module _ (xs : List Stacked) (es : List Numbered) (n : List ℕ) (p : ℕ) (s : IsStack xs es) (h : number_in es n ≡ Some p) where
+  pub seen_past : nat_lt p (length xs) ≡ false → last_place (texts_of xs) n ≡ None
+  seen_past l = found_stale xs es n p s h (λ k e. let a = texts_long xs in let c : p < length xs = omega (arith, k, a) in absurd (let f : true ≡ false = grind (arith, c, l) in cc))
 
-  module _ (x d : Stacked) (m : List ℕ) (l : nat_lt p (length ds) ≡ true) (g : x ≡ get_or ds p d) (i : m ≡ x.name) where
+  module _ (x d : Stacked) (m : List ℕ) (l : nat_lt p (length xs) ≡ true) (g : x ≡ get_or xs p d) (i : m ≡ x.name) where
     inside : p < length xs
-    inside = let b : length ds ≡ length xs = ap (λ z. length z) same in let c : p < length ds = grind (arith, l) in omega (arith, b, c)
+    inside = grind (arith, l)
 
     text : get_or (texts_of xs) p [] ≡ m
-    text = text_at xs p d inside ∙ ap (λ (z : Stacked). z.name) (sym (g ∙ ap (λ z. get_or z p d) same)) ∙ sym i
+    text = text_at xs p d inside ∙ ap (λ (z : Stacked). z.name) (sym g) ∙ sym i
 
     pub seen_here : pointwise nat_eq m n ≡ true → last_place (texts_of xs) n ≡ Some p
     seen_here e =
@@ -220,15 +218,18 @@ knows_less ns n es s g m p h = by (same_text m n) refl
     by true e = absurd (let f : None ≡ Some p = sym g ∙ ap (last_place ns) (sym (text_is m n e)) ∙ h in cc)
     by false e = s m p (last_snoc 0 ns n m ∙ ap (λ b. cond b (Some (0 + length ns)) (last_place ns m)) e ∙ h)
 
--- one more name
-pub pushed : (xs ys : List Stacked) (x : Stacked) (es fs : List Numbered) (at : ℕ) (name : List ℕ)
-    → IsStack xs es → ys ≡ xs ++ x ∷ [] → x.hides ≡ last_place (texts_of xs) x.name → name ≡ x.name → at ≡ length xs → fs ≡ with_newer es (name, at) → IsStack ys fs
-pushed xs ys x es fs at name s g h i a f = (
+-- one more name, after room was made for it
+pub pushed : (xs zs ys : List Stacked) (x : Stacked) (es fs : List Numbered) (at : ℕ) (name : List ℕ)
+    → IsStack xs es → zs ≡ xs → ys ≡ zs ++ x ∷ [] → x.hides ≡ last_place (texts_of xs) x.name → name ≡ x.name → at ≡ length xs → fs ≡ with_newer es (name, at) → IsStack ys fs
+pushed xs zs ys x es fs at name s e k h i a f = (
   ap hides_of g ∙ hides_snoc xs x ∙ ap (λ z. z ++ x.hides ∷ []) s.0 ∙ ap (λ z. hidden_after [] (texts_of xs) ++ z ∷ []) h
       ∙ sym (ap (hidden_after []) names ∙ hidden_snoc [] (texts_of xs) x.name),
-  λ m p e. knows_push (texts_of xs) x.name es fs s.1 (f ∙ ap (λ z. with_newer es (z, at)) i ∙ ap (λ z. with_newer es (x.name, z)) (a ∙ texts_long xs)) m p (ap (λ z. last_place z m) (sym names) ∙ e),
+  λ m p q. knows_push (texts_of xs) x.name es fs s.1 (f ∙ ap (λ z. with_newer es (z, at)) i ∙ ap (λ z. with_newer es (x.name, z)) (a ∙ texts_long xs)) m p (ap (λ z. last_place z m) (sym names) ∙ q),
 )
   where
+    g : ys ≡ xs ++ x ∷ []
+    g = k ∙ ap (λ z. z ++ x ∷ []) e
+
     names : texts_of ys ≡ texts_of xs ++ x.name ∷ []
     names = ap texts_of g ∙ texts_snoc xs x
 

@@ -63,21 +63,16 @@ impl NameList {
     pub fn push(&mut self, name: Bytes) -> Result<(), AllocError>
         ensures { OnOk result (self.new ≡ self.old ++ name ∷ []) }
     {
-        let place = self.names.len();
-        let number = to_u32(place)?;
-        let copy = name.copy()?;
-        self.names.push(name)?;
-        match self.places.add(copy.as_slice(), number) {
-            Ok(()) => Ok(()),
-            Err(error) => {
-                self.names.truncate(place);
-                Err(error)
-            }
-        }
+        let number = to_u32(self.names.len())?;
+        // Room first: once the table has the name, nothing may fail.
+        self.names.reserve(1)?;
+        self.places.add(name.as_slice(), number)?;
+        self.names.push_reserved(name);
+        Ok(())
     }
 
     /// The same names, to be shared.
-    pub fn into_shared(&self, alloc: Global) -> Result<SharedList<Bytes>, AllocError>
+    pub fn to_shared(&self, alloc: Global) -> Result<SharedList<Bytes>, AllocError>
         ensures { IfOk result (λ names. names ≡ self.now) }
     {
         let names = copy_all(alloc, self.names.as_slice())?;

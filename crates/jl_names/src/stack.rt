@@ -1,7 +1,8 @@
 //! Names of which a later one hides an equal one before it.
 
-ghost use Rattle.std.specs.Prelude.{◌≡◌, ◌++◌, ◌∷◌, ◌-◌, [], length, take, OnOk, OnErr};
-ghost use Rattle.jl_names.specs.Stacks.{last_place};
+ghost use Rattle.std.specs.Prelude.{◌≡◌, ◌++◌, ◌∷◌, ◌-◌, [], List, length, take, OnOk, OnErr};
+ghost use Rattle.jl_names.specs.Numbers.{Numbered, number_in};
+ghost use Rattle.jl_names.specs.Stacks.{last_place, texts_of, IsStack};
 
 use crate::table::{NameMap, to_u32};
 use jl_model::ty::Bytes;
@@ -57,13 +58,7 @@ impl NameStack {
     pub fn find(&self, name: &[u8]) -> Option<u32>
         ensures { result ≡ last_place self.now name.now }
     {
-        let place = self.places.find(name)?;
-        let found = self.names.get(place as usize)?;
-        if found.name.as_slice() == name {
-            Some(place)
-        } else {
-            None
-        }
+        place_if_named(self.names.as_slice(), self.places.find(name), name)
     }
 
     /// One more name. Want of memory stands for more than 2^32 of them, too.
@@ -71,18 +66,13 @@ impl NameStack {
         ensures pushed { OnOk result (self.new ≡ self.old ++ name ∷ []) }
         ensures refused { OnErr result (self.new ≡ self.old) }
     {
-        let place = self.names.len();
-        let number = to_u32(place)?;
-        let copy = name.copy()?;
-        let hides = self.find(copy.as_slice());
-        self.names.push(Stacked { name, hides })?;
-        match self.places.put(copy.as_slice(), number) {
-            Ok(()) => Ok(()),
-            Err(error) => {
-                self.names.truncate(place);
-                Err(error)
-            }
-        }
+        let number = to_u32(self.names.len())?;
+        // Room first: once the table has the name, nothing may fail.
+        self.names.reserve(1)?;
+        let before = self.places.put(name.as_slice(), number)?;
+        let hides = place_if_named(self.names.as_slice(), before, name.as_slice());
+        self.names.push_reserved(Stacked { name, hides });
+        Ok(())
     }
 
     /// All names but the last.
@@ -103,5 +93,20 @@ impl NameStack {
         while self.names.len() > most {
             self.pop();
         }
+    }
+}
+
+/// The last place of a name, from its number in the table. The table keeps the numbers of names that are gone, so a number
+/// counts only where that name stands.
+fn place_if_named(names: &[Stacked], known: Option<u32>, name: &[u8]) -> Option<u32>
+    ensures { (table : List Numbered) → IsStack names.now table → known ≡ number_in table name.now
+        → result ≡ last_place (texts_of names.now) name.now }
+{
+    let place = known?;
+    let found = names.get(place as usize)?;
+    if found.name.as_slice() == name {
+        Some(place)
+    } else {
+        None
     }
 }

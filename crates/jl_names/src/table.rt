@@ -1,6 +1,6 @@
 //! Names with numbers, each name once.
 
-ghost use Rattle.std.specs.Prelude.{◌≡◌, ◌≤◌, ◌^◌, [], ◌+◌, ◌-◌, take, length, IfOk, OnOk, OnErr, None};
+ghost use Rattle.std.specs.Prelude.{◌≡◌, ◌≤◌, ◌^◌, [], ◌+◌, ◌-◌, take, length, IfOk, OnOk, OnErr};
 ghost use Rattle.jl_names.specs.Numbers.{number_in, with_number, renumber, with_newer};
 
 use indexmap::IndexMap;
@@ -54,26 +54,16 @@ impl NameMap {
         self.numbers.get(name).copied()
     }
 
-    /// One more name, which has no number yet, with its number.
-    fn append(&mut self, name: &[u8], number: u32) -> Result<(), AllocError>
-        requires { number_in self.old name.now ≡ None }
-        ensures added { OnOk result (self.new ≡ with_number self.old (name.now, number)) }
-        ensures refused { OnErr result (self.new ≡ self.old) }
-    {
-        let key = Vec::from_slice(self.alloc, name)?;
-        self.numbers.insert(key, number)?;
-        Ok(())
-    }
-
     /// One more name with its number; a name that has one keeps it.
     pub fn add(&mut self, name: &[u8], number: u32) -> Result<(), AllocError>
         ensures added { OnOk result (self.new ≡ with_number self.old (name.now, number)) }
         ensures refused { OnErr result (self.new ≡ self.old) }
     {
-        if self.find(name).is_some() {
-            return Ok(());
+        // Most names are new, and for those one look-up is enough.
+        if let Some(before) = self.put(name, number)? {
+            self.renumber(name, before);
         }
-        self.append(name, number)
+        Ok(())
     }
 
     /// Another number for a name. A name that has none stays without.
@@ -85,16 +75,15 @@ impl NameMap {
         }
     }
 
-    /// One more name with its number; a name that has one gets this in its place.
-    pub fn put(&mut self, name: &[u8], number: u32) -> Result<(), AllocError>
+    /// One more name with its number; a name that has one gets this in its place. The answer is the number that it had.
+    pub fn put(&mut self, name: &[u8], number: u32) -> Result<Option<u32>, AllocError>
         ensures put { OnOk result (self.new ≡ with_newer self.old (name.now, number)) }
+        ensures before { IfOk result (λ before. before ≡ number_in self.old name.now) }
         ensures refused { OnErr result (self.new ≡ self.old) }
     {
-        if self.find(name).is_none() {
-            return self.append(name, number);
-        }
-        self.renumber(name, number);
-        Ok(())
+        let key = Vec::from_slice(self.alloc, name)?;
+        let before = self.numbers.insert(key, number)?;
+        Ok(before)
     }
 
     /// Only so many of the names, from the first on.

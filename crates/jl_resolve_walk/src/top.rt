@@ -158,7 +158,7 @@ fn program_as(
     } = state;
     let program = Program {
         decls: own_decls(alloc, known.decls.list().as_slice())?,
-        functions: known.functions.into_shared(alloc)?,
+        functions: known.functions.to_shared(alloc)?,
         sites: sites.into_shared(alloc)?,
         spawns: spawns.into_shared(alloc)?,
         top,

@@ -1,4 +1,3 @@
-use Rattle.std.proofs.Common.{◌≡◌, ◌∙◌, refl, sym, ap}
 use Rattle.jl_names.proofs.StackLemmas.{popped, popped_bare}
 use Rattle.jl_names.proofs.stack.NameStack.pop.Goals as goal
 

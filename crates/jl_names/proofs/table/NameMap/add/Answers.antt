@@ -1,6 +1,8 @@
 use Rattle.std.proofs.Common.{◌∙◌, sym}
-use Rattle.jl_names.proofs.EntryLemmas.{none_of}
+use Rattle.jl_names.proofs.EntryLemmas.{known_name}
 use Rattle.jl_names.proofs.table.NameMap.add.Goals as goal
 
-pub append-requires : goal.append-requires
-append-requires c = sym c.find.ensures ∙ none_of c.find.result (sym c.is_some.ensures ∙ c.if-is_some.false)
+pub returns-in-Some-clause-added : goal.returns-in-Some-clause-added
+returns-in-Some-clause-added c =
+    known_name c.args.name.now c.args.number c.in-Some.before c.args.self.now c.put.new.self c.renumber.new.self
+    (sym c.in_ok-before.ensures.before ∙ c.in-Some.is) c.in_ok-before.ensures.put c.renumber.ensures

@@ -1,6 +1,15 @@
-use Rattle.std.proofs.Common.{◌∙◌, sym, ap, not}
-use Rattle.jl_names.proofs.EntryLemmas.{none_of}
+use Rattle.std.proofs.Common.{◌∙◌, ap}
+use Rattle.jl_names.specs.Numbers.{number_in}
+use Rattle.jl_names.proofs.EntryLemmas.{same_bytes, looked, newer}
 use Rattle.jl_names.proofs.table.NameMap.put.Goals as goal
 
-pub append-requires : goal.append-requires
-append-requires c = sym c.find.ensures ∙ none_of c.find.result (c.is_none.ensures ∙ ap not c.if-is_none.true)
+pub returns-clause-put : goal.returns-clause-put
+returns-clause-put c =
+    newer (λ k. k.items) _ c.in_ok-key.key c.args.number c.self.inside.numbers.entries c.insert.new.self.entries c.args.name.now c.args.self.now
+    c.in_ok-before.ensures.entries (λ x. same_bytes c.in_ok-key.key.items x.items) c.in_ok-key.ensures.items c.self.view_is
+
+pub returns-clause-before : goal.returns-clause-before
+returns-clause-before c =
+    c.in_ok-before.ensures.old
+    ∙ looked (λ k. k.items) _ c.in_ok-key.key.items (λ x. same_bytes c.in_ok-key.key.items x.items) c.self.inside.numbers.entries
+    ∙ ap (λ z. number_in z c.in_ok-key.key.items) c.self.view_is ∙ ap (number_in c.args.self.now) c.in_ok-key.ensures.items

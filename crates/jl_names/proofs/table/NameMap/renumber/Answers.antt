@@ -1,4 +1,4 @@
-use Rattle.std.proofs.Common.{◌≡◌, ◌∙◌, sym, ap}
+use Rattle.std.proofs.Common.{◌∙◌, sym, ap}
 use Rattle.std.specs.Option.{option_copied_mut}
 use Rattle.jl_names.specs.Numbers.{number_in, renumber}
 use Rattle.jl_names.specs.contracts.table.NameMap.{the_view}
