@@ -1,7 +1,9 @@
 -- Names in a list.
-use Rattle.std.proofs.Common.{◌≡◌, ◌∙◌, sym, ap, refl, ℕ, zero, suc, ◌+◌, ◌-◌, ◌<◌, ◌≤◌, arith, add-one, ◌⊎◌, inl, inr, List, [], ◌∷◌, map, length, length-drop, take, drop, get_or, subst, None, Some, slice_get, slice_index_or}
+use Rattle.std.proofs.Common.{◌≡◌, ◌∙◌, sym, ap, refl, ℕ, zero, suc, ◌+◌, ◌<◌, arith, add-one, ⊎_elim, Bool, true, false, true≢false, List, [], ◌∷◌, map, length, length-take, take, drop, get_or, get_or-take, set, get_or-set_same, get_or-set_other, below_more, None, Some, slice_get, slice_index_or}
 use Rattle.std.specs.List.{Contains}
+use Rattle.std.proofs.lemmas.Bool.{cases_eq}
 use Rattle.std.proofs.lemmas.List.{length-map}
+use Rattle.jl_norm.specs.Slots.{slot_of}
 
 module _ {A : Type 0} (g : A → List ℕ) where
   name_at : (xs : List A) (i : ℕ) (x : A) (n : List ℕ) → i < length xs → x ≡ get_or xs i x → slice_index_or (map g xs) i n ≡ g x
@@ -27,21 +29,7 @@ module _ {A : Type 0} (g : A → List ℕ) where
   got (y ∷ xs) zero x e = let f : Some y ≡ Some x = e in let h : x ≡ y = cc in (omega arith, h)
   got (y ∷ xs) (suc i) x e = let r = got xs i x e in (omega (arith, r.0), r.1)
 
--- the rest of a list
-whole : {A : Type 0} (xs : List A) (n : ℕ) → length xs ≤ n → take n xs ≡ xs
-whole [] zero h = refl
-whole [] (suc n) h = refl
-whole (x ∷ xs) zero h = absurd (omega arith)
-whole (x ∷ xs) (suc n) h = ap (λ z. x ∷ z) (whole xs n (omega arith))
-
-pub rest_is : {A : Type 0} (xs : List A) (k : ℕ) → take (length xs - k) (drop k xs) ≡ drop k xs
-rest_is xs k = whole (drop k xs) (length xs - k) (omega (arith, length-drop k xs))
-
--- one of them stands again later
-abbrev pub Twins : List (List ℕ) → Type 0
-Twins [] = ⊥
-Twins (n ∷ ns) = Contains ns n ⊎ Twins ns
-
+-- two of them are the same
 abbrev pub TwoPlaces : List (List ℕ) → Type 0
 TwoPlaces ns = (i : ℕ) × (j : ℕ) × (i < j) × (j < length ns) × (get_or ns i [] ≡ get_or ns j [])
 
@@ -50,27 +38,47 @@ get_same [] k m n h = absurd (omega arith)
 get_same (x ∷ ns) zero m n h = refl
 get_same (x ∷ ns) (suc k) m n h = get_same ns k m n (omega arith)
 
-pub twins_places : (ns : List (List ℕ)) → Twins ns → TwoPlaces ns
-twins_places [] t = absurd t
-twins_places (n ∷ ns) (inl c) = (zero, suc c.0, omega arith, omega (arith, c.1), sym (c.2) ∙ get_same ns c.0 n [] c.1)
-twins_places (n ∷ ns) (inr t) = let r = twins_places ns t in (suc r.0, suc r.1, omega (arith, r.2), omega (arith, r.3), r.4)
+-- no two of those below n are the same
+abbrev pub AreDistinctBelow : List (List ℕ) → ℕ → Type 0
+AreDistinctBelow ns n = (i j : ℕ) → i < j → j < n → get_or ns i [] ≡ get_or ns j [] → ⊥
 
-pub places_twins : (ns : List (List ℕ)) → TwoPlaces ns → Twins ns
-places_twins [] t = absurd (omega (arith, t.3))
-places_twins (n ∷ ns) (zero, zero, l, s, e) = absurd (omega arith)
-places_twins (n ∷ ns) (zero, suc j, l, s, e) = let b : j < length ns = omega arith in inl (j, b, get_same ns j n [] b ∙ sym e)
-places_twins (n ∷ ns) (suc i, zero, l, s, e) = absurd (omega arith)
-places_twins (n ∷ ns) (suc i, suc j, l, s, e) = inr (places_twins ns (i, j, omega arith, omega arith, e))
+-- each of those below n has marked its slot
+abbrev pub SlotsTaken : List Bool → List (List ℕ) → ℕ → Type 0
+SlotsTaken taken ns n = (j : ℕ) → j < n → get_or taken (slot_of (get_or ns j [])) false ≡ true
 
-module _ {A : Type 0} (g : A → List ℕ) where
-  -- a name that stands again behind
-  pub twin_here : (xs : List A) (i : ℕ) (x : A) → i < length xs → x ≡ get_or xs i x → Contains (map g (drop (i + 1) xs)) (g x) → Twins (map g xs)
-  twin_here [] i x h e c = absurd (omega arith)
-  twin_here (y ∷ xs) zero x h e c = inl (subst (Contains (map g xs)) (ap g e) c)
-  twin_here (y ∷ xs) (suc i) x h e c = inr (twin_here xs i x (omega arith) e (rw add-one (rw add-one at c)))
+module _ (ns : List (List ℕ)) (n : ℕ) where
+  -- the name at n differs from those before it
+  abbrev pub IsNewAt : Type 0
+  IsNewAt = (j : ℕ) → j < n → get_or ns j [] ≡ get_or ns n [] → ⊥
 
-  pub twin_later : (xs : List A) (i : ℕ) (x : A) → i < length xs → x ≡ get_or xs i x → (Contains (map g (drop (i + 1) xs)) (g x) → ⊥) → Twins (map g (drop i xs)) → Twins (map g (drop (i + 1) xs))
-  twin_later [] i x h e c t = absurd (omega arith)
-  twin_later (y ∷ xs) zero x h e c (inl d) = absurd (c (subst (Contains (map g xs)) (sym (ap g e)) d))
-  twin_later (y ∷ xs) zero x h e c (inr t) = t
-  twin_later (y ∷ xs) (suc i) x h e c t = rw add-one (rw add-one at (twin_later xs i x (omega arith) e (λ d. c (rw add-one (rw add-one at d))) t))
+  pub twin_before : n < length ns → Contains (take n ns) (get_or ns n []) → TwoPlaces ns
+  twin_before h c =
+      let below : c.0 < n = omega (arith, length-take n ns, c.1) in
+      (c.0, n, below, h, sym (get_or-take n ns c.0 [] below) ∙ sym (get_same (take n ns) c.0 (get_or ns n []) [] c.1) ∙ c.2)
+
+  pub new_by_names : n < length ns → (Contains (take n ns) (get_or ns n []) → ⊥) → IsNewAt
+  new_by_names h none j l e =
+      let inside : j < length (take n ns) = omega (arith, length-take n ns) in
+      none (j, inside, get_same (take n ns) j (get_or ns n []) [] inside ∙ get_or-take n ns j [] l ∙ e)
+
+  pub distinct_more : AreDistinctBelow ns n → IsNewAt → AreDistinctBelow ns (n + 1)
+  distinct_more so_far new i j l m = below_more (λ k. i < k → get_or ns i [] ≡ get_or ns k [] → ⊥) n (λ k b a. so_far i k a b) (new i) j m l
+
+  module _ (taken : List Bool) (so_far : SlotsTaken taken ns n) where
+    -- a name before it that is the same would have taken its slot
+    pub new_by_slot : get_or taken (slot_of (get_or ns n [])) false ≡ false → IsNewAt
+    new_by_slot free j l e = true≢false (sym (so_far j l) ∙ ap (λ m. get_or taken (slot_of m) false) e ∙ free)
+
+    stays : (a b : ℕ) → a < length taken → get_or taken b false ≡ true → get_or (set taken a true) b false ≡ true
+    stays a b h was =
+        ⊎_elim
+        (λ same. ap (λ k. get_or (set taken a true) k false) same ∙ get_or-set_same taken a true false h)
+        (λ other. get_or-set_other taken a b true false other ∙ was)
+        (cases_eq b a)
+
+    pub slots_more : slot_of (get_or ns n []) < length taken → SlotsTaken (set taken (slot_of (get_or ns n [])) true) ns (n + 1)
+    slots_more h =
+        let mine = slot_of (get_or ns n []) in
+        below_more (λ j. get_or (set taken mine true) (slot_of (get_or ns j [])) false ≡ true) n
+        (λ j l. stays mine (slot_of (get_or ns j [])) h (so_far j l))
+        (get_or-set_same taken mine true false h)

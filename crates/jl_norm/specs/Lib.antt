@@ -2,3 +2,4 @@ pub mod Refused
 pub mod Large
 pub mod Judged
 pub mod Variables
+pub mod Slots
