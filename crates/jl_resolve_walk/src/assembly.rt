@@ -1,8 +1,10 @@
-//! What a form becomes, once its parts are read: the steps of the walk that go to no other part. Where memory ran out
-//! for a part, it did for the form.
+//! What a form becomes, once its parts are read: the steps of the walk that go to no other part.
 //!
-//! A step takes the `Result` of its last part, so that the `?` is here, outside of the cycle of the walk: there the drop
-//! of what is held would be unrolled at each `?` by the forms of the tree, and the cycle's check take many times as long.
+//! A part that is a node or a list is handed in as it is: the walk passes on with `?` that memory ran out, and the drop
+//! of such a part is one call. An expression, a statement or an item by value, and what else is held by value while a
+//! part is read, is dropped by the forms of the tree, at each `?` anew, which made the check of the walk's cycle many
+//! times as long. So a step that takes one of these takes the `Result` of its last part, and the `?` is here, outside
+//! of the cycle.
 
 ghost use Rattle.std.specs.Prelude.{◌≡◌, ◌∷◌, ◌++◌, [], IfOk, OnOk, take};
 ghost use Rattle.jl_program.specs.declared.tree.Expr.TheViews as C;
@@ -54,7 +56,7 @@ pub(crate) fn put_arm(out: &mut Vec<Arm>, part: Result<Arm, AllocError>) -> Resu
     Ok(())
 }
 
-/// An expression that others hold.
+/// An expression that others hold. From here on it is dropped by a call.
 pub(crate) fn node_of(
     alloc: Global,
     code: Result<Code, AllocError>,
@@ -81,11 +83,10 @@ pub(crate) fn name(scope: &Scope, state: &mut State, at: u32, name: &Bytes) -> C
 }
 
 /// A tuple.
-pub(crate) fn tuple(parts: Result<Codes, AllocError>) -> Result<Code, AllocError>
-    ensures { Gives parts result (λ ys c. c ≡ C.Parts ys) }
+pub(crate) fn tuple(parts: Codes) -> Code
+    ensures { result ≡ C.Parts parts }
 {
-    let parts = parts?;
-    Ok(Code::Parts(parts))
+    Code::Parts(parts)
 }
 
 /// A call of a function or a constructor.
@@ -96,13 +97,11 @@ pub(crate) fn call<J: Judge>(
     scope: &Scope,
     state: &mut State,
     callee: &Callee,
-    arguments: Result<Codes, AllocError>,
+    arguments: Codes,
 ) -> Result<Code, AllocError>
-    ensures { Gives arguments result (λ ys c. resolution c state.new
-        ≡ call (J.tests judge.now) known.now (place_of_callee callee.now)
-        (callee_of known.now callee.now scope.now) ys state.old) }
+    ensures { Resolves result state.new (call (J.tests judge.now) known.now
+        (place_of_callee callee.now) (callee_of known.now callee.now scope.now) arguments state.old) }
 {
-    let arguments = arguments?;
     let called = callee_of(known, callee, scope);
     let at = place_of_callee(callee);
     forms::call(alloc, judge, known, state, at, called, arguments)
@@ -114,49 +113,38 @@ pub(crate) fn latest(
     scope: &Scope,
     state: &mut State,
     callee: &Callee,
-    arguments: Result<Codes, AllocError>,
-) -> Result<Code, AllocError>
-    ensures { Gives arguments result (λ ys c. resolution c state.new
-        ≡ latest (place_of_callee callee.now) (function_of known.now callee.now scope.now) ys state.old) }
+    arguments: Codes,
+) -> Code
+    ensures { resolution result state.new
+        ≡ latest (place_of_callee callee.now)
+        (function_of known.now callee.now scope.now) arguments state.old }
 {
-    let arguments = arguments?;
     let function = function_of(known, callee, scope);
     let at = place_of_callee(callee);
-    Ok(forms::latest(state, at, function, arguments))
+    forms::latest(state, at, function, arguments)
 }
 
 /// A field of a value.
-pub(crate) fn field(
-    alloc: Global,
-    code: Result<Code, AllocError>,
-    name: &Name,
-) -> Result<Code, AllocError>
-    ensures { Gives code result (λ y c. c ≡ C.Field y name.now.bytes) }
+pub(crate) fn field(owner: SharedNode<Code>, name: &Name) -> Result<Code, AllocError>
+    ensures { IfOk result (λ c. c ≡ C.Field owner name.now.bytes) }
 {
-    let code = code?;
-    let part = SharedNode::new(alloc, code)?;
-    Ok(Code::Field(part, name.bytes.copy()?))
+    let name = name.bytes.copy()?;
+    Ok(Code::Field(owner, name))
 }
 
 /// A part of a tuple.
-pub(crate) fn part(
-    alloc: Global,
-    code: Result<Code, AllocError>,
-    number: &i64,
-) -> Result<Code, AllocError>
-    ensures { Gives code result (λ y c. c ≡ C.Part y (part_number number.now)) }
+pub(crate) fn part(whole: SharedNode<Code>, number: &i64) -> Code
+    ensures { result ≡ C.Part whole (part_number number.now) }
 {
-    let code = code?;
     let number = forms::part_number(*number);
-    Ok(Code::Part(SharedNode::new(alloc, code)?, number))
+    Code::Part(whole, number)
 }
 
 /// The value of a task.
-pub(crate) fn fetch(alloc: Global, code: Result<Code, AllocError>) -> Result<Code, AllocError>
-    ensures { Gives code result (λ y c. c ≡ C.Fetch y) }
+pub(crate) fn fetch(task: SharedNode<Code>) -> Code
+    ensures { result ≡ C.Fetch task }
 {
-    let code = code?;
-    Ok(Code::Fetch(SharedNode::new(alloc, code)?))
+    Code::Fetch(task)
 }
 
 /// An operator with one operand.
@@ -196,15 +184,14 @@ pub(crate) fn is_a<J: Judge>(
     known: &Known,
     scope: &Scope,
     state: &mut State,
-    code: Result<Code, AllocError>,
+    value: SharedNode<Code>,
     ty: &TypeText,
 ) -> Result<Code, AllocError>
-    ensures { Gives code result (λ y c. resolution c state.new
-        ≡ test_type (J.tests judge.now) known.now y ty.now scope.now state.old) }
+    ensures { Resolves result state.new
+        (test_type (J.tests judge.now) known.now value ty.now scope.now state.old) }
 {
-    let code = node_of(alloc, code)?;
     let written = type_in_body(alloc, judge, known, scope, state, ty)?;
-    Ok(Code::Isa(code, written))
+    Ok(Code::Isa(value, written))
 }
 
 /// A comparison of two types.
@@ -225,24 +212,21 @@ pub(crate) fn below<J: Judge>(
     Ok(Code::Sub(left, right))
 }
 
-/// A choice, whose test and first branch are read.
+/// A choice.
 pub(crate) fn choose(
-    alloc: Global,
     test: SharedNode<Code>,
     then: SharedNode<Code>,
-    or_else: Result<Code, AllocError>,
-) -> Result<Code, AllocError>
-    ensures { Gives or_else result (λ y c. c ≡ C.If test then y) }
+    or_else: SharedNode<Code>,
+) -> Code
+    ensures { result ≡ C.If test then or_else }
 {
-    let or_else = node_of(alloc, or_else)?;
-    Ok(Code::If(test, then, or_else))
+    Code::If(test, then, or_else)
 }
 
 /// An `if` without `else`.
-pub(crate) fn only_if(alloc: Global, arms: Result<Vec<Arm>, AllocError>) -> Result<Code, AllocError>
-    ensures { Gives arms result (λ xs c. c ≡ chain_arms xs.items W.Nothing) }
+pub(crate) fn only_if(alloc: Global, arms: Vec<Arm>) -> Result<Code, AllocError>
+    ensures { IfOk result (λ c. c ≡ chain_arms arms.items W.Nothing) }
 {
-    let arms = arms?;
     forms::chain_arms(alloc, arms, Code::Nothing)
 }
 
@@ -323,10 +307,9 @@ pub(crate) fn end_spawn(
 }
 
 /// An evaluated method.
-pub(crate) fn eval_method(alloc: Global, site: Result<u32, AllocError>) -> Result<Code, AllocError>
-    ensures { Gives site result (λ n c. c ≡ C.Eval (I.Define n ∷ [])) }
+pub(crate) fn eval_method(alloc: Global, site: u32) -> Result<Code, AllocError>
+    ensures { IfOk result (λ c. c ≡ C.Eval (I.Define site ∷ [])) }
 {
-    let site = site?;
     forms::one_item(alloc, Item::Define(site))
 }
 
@@ -339,19 +322,17 @@ pub(crate) fn eval_expr(alloc: Global, code: Result<Code, AllocError>) -> Result
 }
 
 /// An evaluated block.
-pub(crate) fn eval_block(items: Result<Items, AllocError>) -> Result<Code, AllocError>
-    ensures { Gives items result (λ xs c. c ≡ C.Eval xs) }
+pub(crate) fn eval_block(items: Items) -> Code
+    ensures { result ≡ C.Eval items }
 {
-    let items = items?;
-    Ok(Code::Eval(items))
+    Code::Eval(items)
 }
 
 /// A print, which writes a newline at its end or not.
-pub(crate) fn print(pieces: Result<Showns, AllocError>, line: bool) -> Result<Code, AllocError>
-    ensures { Gives pieces result (λ xs c. c ≡ C.Print xs line) }
+pub(crate) fn print(pieces: Showns, line: bool) -> Code
+    ensures { result ≡ C.Print pieces line }
 {
-    let pieces = pieces?;
-    Ok(Code::Print(pieces, line))
+    Code::Print(pieces, line)
 }
 
 /// A binding of a block.
@@ -400,32 +381,12 @@ pub(crate) fn show(code: Result<Code, AllocError>) -> Result<Shown, AllocError>
     Ok(Shown::Show(code))
 }
 
-/// A method of an evaluated block.
-pub(crate) fn define(site: Result<u32, AllocError>) -> Result<Item, AllocError>
-    ensures { Gives site result (λ n x. x ≡ I.Define n) }
-{
-    let site = site?;
-    Ok(Item::Define(site))
-}
-
 /// An expression of an evaluated block.
 pub(crate) fn evaluate(code: Result<Code, AllocError>) -> Result<Item, AllocError>
     ensures { Gives code result (λ y x. x ≡ I.Do y) }
 {
     let code = code?;
     Ok(Item::Do(code))
-}
-
-/// A test, which is read, with its block.
-pub(crate) fn arm(
-    alloc: Global,
-    test: SharedNode<Code>,
-    block: Result<Code, AllocError>,
-) -> Result<Arm, AllocError>
-    ensures { Gives block result (λ y a. a ≡ record { test = test; then = y }) }
-{
-    let then = node_of(alloc, block)?;
-    Ok(Arm { test, then })
 }
 
 /// A method up to its body, and the number of its site.

@@ -181,7 +181,10 @@ fn eval<J: Judge>(
         (one_evaluated (eval_reads (J.tests judge.now) known.now text.now) types state.old) }
 {
     match text {
-        Eval::Method(text) => assembly::define(method(alloc, judge, known, types, state, text)),
+        Eval::Method(text) => {
+            let site = method(alloc, judge, known, types, state, text)?;
+            Ok(Item::Define(site))
+        }
         Eval::Do(value) => {
             let mut scope = bare_scope(alloc, types);
             assembly::evaluate(expr(alloc, judge, known, &mut scope, state, value))
@@ -204,8 +207,11 @@ fn branch<J: Judge>(
     ensures kept { OnOk result (scope.new ≡ scope.old) }
 {
     let test = assembly::node_of(alloc, expr(alloc, judge, known, scope, state, &text.test))?;
-    let then = block(alloc, judge, known, scope, state, text.block.as_slice());
-    assembly::arm(alloc, test, then)
+    let then = assembly::node_of(
+        alloc,
+        block(alloc, judge, known, scope, state, text.block.as_slice()),
+    )?;
+    Ok(Arm { test, then })
 }
 
 /// A method, where so many types are declared before it. Its site has its number before those in its body.
@@ -267,10 +273,11 @@ pub fn expr<J: Judge>(
         Expr::Name(at, name) => Ok(assembly::name(scope, state, *at, name)),
         Expr::Paren(_, inner) => expr(alloc, judge, known, scope, state, inner.get()),
         Expr::Tuple(_, texts) => {
-            assembly::tuple(exprs(alloc, judge, known, scope, state, texts.as_slice()))
+            let parts = exprs(alloc, judge, known, scope, state, texts.as_slice())?;
+            Ok(assembly::tuple(parts))
         }
         Expr::Call(_, callee, texts) => {
-            let arguments = exprs(alloc, judge, known, scope, state, texts.as_slice());
+            let arguments = exprs(alloc, judge, known, scope, state, texts.as_slice())?;
             assembly::call(alloc, judge, known, scope, state, callee, arguments)
         }
         Expr::Make(_, ty, texts) => {
@@ -279,12 +286,18 @@ pub fn expr<J: Judge>(
             assembly::end_make(state, ty, written, arguments)
         }
         Expr::Field(_, inner, name) => {
-            let code = expr(alloc, judge, known, scope, state, inner.get());
-            assembly::field(alloc, code, name)
+            let owner = assembly::node_of(
+                alloc,
+                expr(alloc, judge, known, scope, state, inner.get()),
+            )?;
+            assembly::field(owner, name)
         }
         Expr::Part(_, inner, number) => {
-            let code = expr(alloc, judge, known, scope, state, inner.get());
-            assembly::part(alloc, code, number)
+            let whole = assembly::node_of(
+                alloc,
+                expr(alloc, judge, known, scope, state, inner.get()),
+            )?;
+            Ok(assembly::part(whole, number))
         }
         Expr::Prefix(_, operator, inner) => {
             let code = expr(alloc, judge, known, scope, state, inner.get());
@@ -296,8 +309,11 @@ pub fn expr<J: Judge>(
             assembly::infix(alloc, *operator, left, right)
         }
         Expr::Isa(_, inner, ty) => {
-            let code = expr(alloc, judge, known, scope, state, inner.get());
-            assembly::is_a(alloc, judge, known, scope, state, code, ty)
+            let value = assembly::node_of(
+                alloc,
+                expr(alloc, judge, known, scope, state, inner.get()),
+            )?;
+            assembly::is_a(alloc, judge, known, scope, state, value, ty)
         }
         Expr::Sub(_, left, right) => assembly::below(
             alloc, judge, known, scope, state, left, right,
@@ -311,11 +327,14 @@ pub fn expr<J: Judge>(
                 alloc,
                 expr(alloc, judge, known, scope, state, then.get()),
             )?;
-            let or_else = expr(alloc, judge, known, scope, state, or_else.get());
-            assembly::choose(alloc, test, then, or_else)
+            let or_else = assembly::node_of(
+                alloc,
+                expr(alloc, judge, known, scope, state, or_else.get()),
+            )?;
+            Ok(assembly::choose(test, then, or_else))
         }
         Expr::If(_, texts) => {
-            let arms = branches(alloc, judge, known, scope, state, texts.as_slice());
+            let arms = branches(alloc, judge, known, scope, state, texts.as_slice())?;
             assembly::only_if(alloc, arms)
         }
         Expr::IfElse(_, texts, last) => {
@@ -325,8 +344,8 @@ pub fn expr<J: Judge>(
         }
         Expr::Begin(_, texts) => block(alloc, judge, known, scope, state, texts.as_slice()),
         Expr::Latest(_, callee, texts) => {
-            let arguments = exprs(alloc, judge, known, scope, state, texts.as_slice());
-            assembly::latest(known, scope, state, callee, arguments)
+            let arguments = exprs(alloc, judge, known, scope, state, texts.as_slice())?;
+            Ok(assembly::latest(known, scope, state, callee, arguments))
         }
         Expr::Spawn(_, inner) => {
             let place = assembly::reserve_spawn(state)?;
@@ -334,11 +353,12 @@ pub fn expr<J: Judge>(
             assembly::end_spawn(state, place, code)
         }
         Expr::EvalMethod(_, text) => {
-            let site = method(alloc, judge, known, scope.types, state, text.get());
+            let site = method(alloc, judge, known, scope.types, state, text.get())?;
             assembly::eval_method(alloc, site)
         }
         Expr::EvalBlock(_, texts) => {
-            assembly::eval_block(evals(alloc, judge, known, scope.types, state, texts.as_slice()))
+            let items = evals(alloc, judge, known, scope.types, state, texts.as_slice())?;
+            Ok(assembly::eval_block(items))
         }
         Expr::EvalExpr(_, inner) => {
             let mut bare = bare_scope(alloc, scope.types);
@@ -346,16 +366,19 @@ pub fn expr<J: Judge>(
             assembly::eval_expr(alloc, code)
         }
         Expr::EvalQuote(_, texts) => {
-            assembly::eval_block(evals(alloc, judge, known, scope.types, state, texts.as_slice()))
+            let items = evals(alloc, judge, known, scope.types, state, texts.as_slice())?;
+            Ok(assembly::eval_block(items))
         }
         Expr::Fetch(_, inner) => {
-            assembly::fetch(alloc, expr(alloc, judge, known, scope, state, inner.get()))
+            let task = assembly::node_of(
+                alloc,
+                expr(alloc, judge, known, scope, state, inner.get()),
+            )?;
+            Ok(assembly::fetch(task))
         }
         Expr::Print(_, line, texts) => {
-            assembly::print(
-                pieces(alloc, judge, known, scope, state, texts.as_slice()),
-                *line,
-            )
+            let pieces = pieces(alloc, judge, known, scope, state, texts.as_slice())?;
+            Ok(assembly::print(pieces, *line))
         }
     }
 }

@@ -1,7 +1,8 @@
-use Rattle.std.proofs.Common.{◌≡◌, ◌∙◌, ap, arith, refl}
+use Rattle.std.proofs.Common.{◌≡◌, ◌∙◌, ap, arith, map, refl}
+use Rattle.jl_program.specs.declared.tree.Item.TheVariants as I
 use Rattle.jl_resolve_forms.specs.Resolver.{resolution}
 use Rattle.jl_resolve_forms.specs.Scopes.{slot_of}
-use Rattle.jl_resolve_forms.specs.Expressions.{one_said, one_shown, one_evaluated, one_tried, bare_scope, part_number, expr_reads, stmt_reads, piece_reads, eval_reads, branch_reads}
+use Rattle.jl_resolve_forms.specs.Expressions.{arm, block_of, one_said, one_shown, one_evaluated, one_tried, bare_scope, part_number, expr_reads, stmt_reads, piece_reads, eval_reads, branch_reads}
 use Rattle.jl_resolve_walk.proofs.Forms.{part, form-Number, form-Bool, form-Nothing, form-Name, form-Paren, form-Tuple, form-Call, form-Make, form-Field, form-Part, form-Prefix, form-Infix, form-Isa, form-Sub, form-Choose, form-If, form-IfElse, form-Begin, form-Latest, form-Spawn, form-EvalMethod, form-EvalBlock, form-EvalExpr, form-EvalQuote, form-Fetch, form-Print}
 use Rattle.jl_resolve_walk.proofs.GivenLemmas.{given, given_on, both_given, weaker, always, ok_at}
 use Rattle.jl_resolve_walk.proofs.Lists.{parts_step, parts_step_at, parts_end, parts_start, block_step, block_end, block_kept, block_start}
@@ -70,28 +71,28 @@ expr-returns-in-Paren g t c =
       kept = c.expr.ensures.kept;
     }
 
-pub expr-returns-in-Field : goal.expr-returns-in-Field
-expr-returns-in-Field g t c =
+pub expr-returns-in_ok-owner-in-Field : goal.expr-returns-in_ok-owner-in-Field
+expr-returns-in_ok-owner-in-Field g t c =
     let ts = g.J.Judge.tests c.args.judge.now in
     let k = c.args.known.now in
     let st = c.args.state.now in
     let sc = c.args.scope.now in
     let e = c.args.text.now in
     record {
-      means = given c.expr-code.result c.field.result _ _ _ c.field.ensures c.expr-code.ensures.means (λ y z m d. form-Field ts k e c.in-Field.field-0 c.in-Field.inner c.in-Field.name sc st c.expr-code.new.state y z c.in-Field.is (part ts k c.in-Field.inner c.get-in-Field.result.now y y sc sc st c.expr-code.new.state refl c.get-in-Field.ensures refl m) d);
-      kept = given_on c.expr-code.result c.field.result _ _ _ c.field.ensures c.expr-code.ensures.kept (λ h. h);
+      means = weaker c.field.result _ _ c.field.ensures (λ z d. form-Field ts k e c.in-Field.field-0 c.in-Field.inner c.in-Field.name sc st c.expr-in-Field.new.state c.in_ok-owner-in-Field.owner z c.in-Field.is (part ts k c.in-Field.inner c.get-in-Field.result.now c.in_ok-owner-in-Field.owner c.in_ok-owner-in-Field.ensures.0 sc sc st c.expr-in-Field.new.state c.in_ok-owner-in-Field.ensures.2 c.get-in-Field.ensures refl (ok_at c.expr-in-Field.result c.in_ok-owner-in-Field.ensures.0 (λ z. resolution z c.expr-in-Field.new.state ≡ expr_reads ts k c.get-in-Field.result.now sc st) c.in_ok-owner-in-Field.ensures.1 c.expr-in-Field.ensures.means)) d);
+      kept = always c.field.result _ (ok_at c.expr-in-Field.result c.in_ok-owner-in-Field.ensures.0 (λ z. c.expr-in-Field.new.scope ≡ sc) c.in_ok-owner-in-Field.ensures.1 c.expr-in-Field.ensures.kept);
     }
 
-pub expr-returns-in-Part : goal.expr-returns-in-Part
-expr-returns-in-Part g t c =
+pub expr-returns-in_ok-whole-in-Part : goal.expr-returns-in_ok-whole-in-Part
+expr-returns-in_ok-whole-in-Part g t c =
     let ts = g.J.Judge.tests c.args.judge.now in
     let k = c.args.known.now in
     let st = c.args.state.now in
     let sc = c.args.scope.now in
     let e = c.args.text.now in
     record {
-      means = given c.expr-code-in-Part.result c.part.result _ _ _ c.part.ensures c.expr-code-in-Part.ensures.means (λ y z m d. form-Part ts k e c.in-Part.field-0 c.in-Part.inner c.in-Part.number sc st c.expr-code-in-Part.new.state y z (part_number c.in-Part.number) c.in-Part.is (part ts k c.in-Part.inner c.get-in-Part.result.now y y sc sc st c.expr-code-in-Part.new.state refl c.get-in-Part.ensures refl m) refl d);
-      kept = given_on c.expr-code-in-Part.result c.part.result _ _ _ c.part.ensures c.expr-code-in-Part.ensures.kept (λ h. h);
+      means = form-Part ts k e c.in-Part.field-0 c.in-Part.inner c.in-Part.number sc st c.expr-in-Part.new.state c.in_ok-whole-in-Part.whole c.part.result (part_number c.in-Part.number) c.in-Part.is (part ts k c.in-Part.inner c.get-in-Part.result.now c.in_ok-whole-in-Part.whole c.in_ok-whole-in-Part.ensures.0 sc sc st c.expr-in-Part.new.state c.in_ok-whole-in-Part.ensures.2 c.get-in-Part.ensures refl (ok_at c.expr-in-Part.result c.in_ok-whole-in-Part.ensures.0 (λ z. resolution z c.expr-in-Part.new.state ≡ expr_reads ts k c.get-in-Part.result.now sc st) c.in_ok-whole-in-Part.ensures.1 c.expr-in-Part.ensures.means)) refl c.part.ensures;
+      kept = ok_at c.expr-in-Part.result c.in_ok-whole-in-Part.ensures.0 (λ z. c.expr-in-Part.new.scope ≡ sc) c.in_ok-whole-in-Part.ensures.1 c.expr-in-Part.ensures.kept;
     }
 
 pub expr-returns-in-Prefix : goal.expr-returns-in-Prefix
@@ -102,104 +103,104 @@ expr-returns-in-Prefix g t c =
     let sc = c.args.scope.now in
     let e = c.args.text.now in
     record {
-      means = given c.expr-code-in-Prefix.result c.prefix.result _ _ _ c.prefix.ensures c.expr-code-in-Prefix.ensures.means (λ y z m d. form-Prefix ts k e c.in-Prefix.field-0 c.in-Prefix.operator c.in-Prefix.inner sc st c.expr-code-in-Prefix.new.state y z c.in-Prefix.is (part ts k c.in-Prefix.inner c.get-in-Prefix.result.now y y sc sc st c.expr-code-in-Prefix.new.state refl c.get-in-Prefix.ensures refl m) d);
-      kept = given_on c.expr-code-in-Prefix.result c.prefix.result _ _ _ c.prefix.ensures c.expr-code-in-Prefix.ensures.kept (λ h. h);
+      means = given c.expr-code.result c.prefix.result _ _ _ c.prefix.ensures c.expr-code.ensures.means (λ y z m d. form-Prefix ts k e c.in-Prefix.field-0 c.in-Prefix.operator c.in-Prefix.inner sc st c.expr-code.new.state y z c.in-Prefix.is (part ts k c.in-Prefix.inner c.get-in-Prefix.result.now y y sc sc st c.expr-code.new.state refl c.get-in-Prefix.ensures refl m) d);
+      kept = given_on c.expr-code.result c.prefix.result _ _ _ c.prefix.ensures c.expr-code.ensures.kept (λ h. h);
     }
 
-pub expr-returns-in-Fetch : goal.expr-returns-in-Fetch
-expr-returns-in-Fetch g t c =
+pub expr-returns-in_ok-task-in-Fetch : goal.expr-returns-in_ok-task-in-Fetch
+expr-returns-in_ok-task-in-Fetch g t c =
     let ts = g.J.Judge.tests c.args.judge.now in
     let k = c.args.known.now in
     let st = c.args.state.now in
     let sc = c.args.scope.now in
     let e = c.args.text.now in
     record {
-      means = given c.expr-in-Fetch.result c.fetch.result _ _ _ c.fetch.ensures c.expr-in-Fetch.ensures.means (λ y z m d. form-Fetch ts k e c.in-Fetch.field-0 c.in-Fetch.inner sc st c.expr-in-Fetch.new.state y z c.in-Fetch.is (part ts k c.in-Fetch.inner c.get-in-Fetch.result.now y y sc sc st c.expr-in-Fetch.new.state refl c.get-in-Fetch.ensures refl m) d);
-      kept = given_on c.expr-in-Fetch.result c.fetch.result _ _ _ c.fetch.ensures c.expr-in-Fetch.ensures.kept (λ h. h);
+      means = form-Fetch ts k e c.in-Fetch.field-0 c.in-Fetch.inner sc st c.expr-in-Fetch.new.state c.in_ok-task-in-Fetch.task c.fetch.result c.in-Fetch.is (part ts k c.in-Fetch.inner c.get-in-Fetch.result.now c.in_ok-task-in-Fetch.task c.in_ok-task-in-Fetch.ensures.0 sc sc st c.expr-in-Fetch.new.state c.in_ok-task-in-Fetch.ensures.2 c.get-in-Fetch.ensures refl (ok_at c.expr-in-Fetch.result c.in_ok-task-in-Fetch.ensures.0 (λ z. resolution z c.expr-in-Fetch.new.state ≡ expr_reads ts k c.get-in-Fetch.result.now sc st) c.in_ok-task-in-Fetch.ensures.1 c.expr-in-Fetch.ensures.means)) c.fetch.ensures;
+      kept = ok_at c.expr-in-Fetch.result c.in_ok-task-in-Fetch.ensures.0 (λ z. c.expr-in-Fetch.new.scope ≡ sc) c.in_ok-task-in-Fetch.ensures.1 c.expr-in-Fetch.ensures.kept;
     }
 
-pub expr-returns-in-Tuple : goal.expr-returns-in-Tuple
-expr-returns-in-Tuple g t c =
+pub expr-returns-in_ok-parts-in-Tuple : goal.expr-returns-in_ok-parts-in-Tuple
+expr-returns-in_ok-parts-in-Tuple g t c =
     let ts = g.J.Judge.tests c.args.judge.now in
     let k = c.args.known.now in
     let st = c.args.state.now in
     let sc = c.args.scope.now in
     let e = c.args.text.now in
     record {
-      means = given c.exprs.result c.tuple.result _ _ _ c.tuple.ensures c.exprs.ensures.means (λ y z m d. form-Tuple ts k e c.in-Tuple.field-0 c.in-Tuple.texts c.as_slice.result.now sc st c.exprs.new.state y z c.in-Tuple.is c.as_slice.ensures m d);
-      kept = given_on c.exprs.result c.tuple.result _ _ _ c.tuple.ensures c.exprs.ensures.kept (λ h. h);
+      means = form-Tuple ts k e c.in-Tuple.field-0 c.in-Tuple.texts c.as_slice.result.now sc st c.exprs.new.state c.in_ok-parts-in-Tuple.parts c.tuple.result c.in-Tuple.is c.as_slice.ensures c.in_ok-parts-in-Tuple.ensures.means c.tuple.ensures;
+      kept = c.in_ok-parts-in-Tuple.ensures.kept;
     }
 
-pub expr-returns-in-If : goal.expr-returns-in-If
-expr-returns-in-If g t c =
+pub expr-returns-in_ok-arms-in-If : goal.expr-returns-in_ok-arms-in-If
+expr-returns-in_ok-arms-in-If g t c =
     let ts = g.J.Judge.tests c.args.judge.now in
     let k = c.args.known.now in
     let st = c.args.state.now in
     let sc = c.args.scope.now in
     let e = c.args.text.now in
     record {
-      means = given c.branches-arms.result c.only_if.result _ _ _ c.only_if.ensures c.branches-arms.ensures.means (λ y z m d. form-If ts k e c.in-If.field-0 c.in-If.texts c.as_slice-in-If.result.now sc st c.branches-arms.new.state y.items z c.in-If.is c.as_slice-in-If.ensures m d);
-      kept = given_on c.branches-arms.result c.only_if.result _ _ _ c.only_if.ensures c.branches-arms.ensures.kept (λ h. h);
+      means = weaker c.only_if.result _ _ c.only_if.ensures (λ z d. form-If ts k e c.in-If.field-0 c.in-If.texts c.as_slice-in-If.result.now sc st c.branches.new.state c.in_ok-arms-in-If.arms.items z c.in-If.is c.as_slice-in-If.ensures c.in_ok-arms-in-If.ensures.means d);
+      kept = always c.only_if.result _ c.in_ok-arms-in-If.ensures.kept;
     }
 
-pub expr-returns-in-EvalBlock : goal.expr-returns-in-EvalBlock
-expr-returns-in-EvalBlock g t c =
+pub expr-returns-in_ok-items-in-EvalBlock : goal.expr-returns-in_ok-items-in-EvalBlock
+expr-returns-in_ok-items-in-EvalBlock g t c =
     let ts = g.J.Judge.tests c.args.judge.now in
     let k = c.args.known.now in
     let st = c.args.state.now in
     let sc = c.args.scope.now in
     let e = c.args.text.now in
     record {
-      means = given c.evals.result c.eval_block.result _ _ _ c.eval_block.ensures c.evals.ensures (λ y z m d. form-EvalBlock ts k e c.in-EvalBlock.field-0 c.in-EvalBlock.texts c.as_slice-in-EvalBlock.result.now sc st c.evals.new.state y z c.in-EvalBlock.is c.as_slice-in-EvalBlock.ensures m d);
-      kept = always c.eval_block.result _ refl;
+      means = form-EvalBlock ts k e c.in-EvalBlock.field-0 c.in-EvalBlock.texts c.as_slice-in-EvalBlock.result.now sc st c.evals.new.state c.in_ok-items-in-EvalBlock.items c.eval_block.result c.in-EvalBlock.is c.as_slice-in-EvalBlock.ensures c.in_ok-items-in-EvalBlock.ensures c.eval_block.ensures;
+      kept = refl;
     }
 
-pub expr-returns-in-EvalQuote : goal.expr-returns-in-EvalQuote
-expr-returns-in-EvalQuote g t c =
+pub expr-returns-in_ok-items-in-EvalQuote : goal.expr-returns-in_ok-items-in-EvalQuote
+expr-returns-in_ok-items-in-EvalQuote g t c =
     let ts = g.J.Judge.tests c.args.judge.now in
     let k = c.args.known.now in
     let st = c.args.state.now in
     let sc = c.args.scope.now in
     let e = c.args.text.now in
     record {
-      means = given c.evals-in-EvalQuote.result c.eval_block-in-EvalQuote.result _ _ _ c.eval_block-in-EvalQuote.ensures c.evals-in-EvalQuote.ensures (λ y z m d. form-EvalQuote ts k e c.in-EvalQuote.field-0 c.in-EvalQuote.texts c.as_slice-in-EvalQuote.result.now sc st c.evals-in-EvalQuote.new.state y z c.in-EvalQuote.is c.as_slice-in-EvalQuote.ensures m d);
-      kept = always c.eval_block-in-EvalQuote.result _ refl;
+      means = form-EvalQuote ts k e c.in-EvalQuote.field-0 c.in-EvalQuote.texts c.as_slice-in-EvalQuote.result.now sc st c.evals-in-EvalQuote.new.state c.in_ok-items-in-EvalQuote.items c.eval_block-in-EvalQuote.result c.in-EvalQuote.is c.as_slice-in-EvalQuote.ensures c.in_ok-items-in-EvalQuote.ensures c.eval_block-in-EvalQuote.ensures;
+      kept = refl;
     }
 
-pub expr-returns-in-Print : goal.expr-returns-in-Print
-expr-returns-in-Print g t c =
+pub expr-returns-in_ok-pieces-in-Print : goal.expr-returns-in_ok-pieces-in-Print
+expr-returns-in_ok-pieces-in-Print g t c =
     let ts = g.J.Judge.tests c.args.judge.now in
     let k = c.args.known.now in
     let st = c.args.state.now in
     let sc = c.args.scope.now in
     let e = c.args.text.now in
     record {
-      means = given c.pieces.result c.print.result _ _ _ c.print.ensures c.pieces.ensures.means (λ y z m d. form-Print ts k e c.in-Print.field-0 c.in-Print.line c.in-Print.texts c.as_slice-in-Print.result.now sc st c.pieces.new.state y z c.in-Print.is c.as_slice-in-Print.ensures m d);
-      kept = given_on c.pieces.result c.print.result _ _ _ c.print.ensures c.pieces.ensures.kept (λ h. h);
+      means = form-Print ts k e c.in-Print.field-0 c.in-Print.line c.in-Print.texts c.as_slice-in-Print.result.now sc st c.pieces.new.state c.in_ok-pieces-in-Print.pieces c.print.result c.in-Print.is c.as_slice-in-Print.ensures c.in_ok-pieces-in-Print.ensures.means c.print.ensures;
+      kept = c.in_ok-pieces-in-Print.ensures.kept;
     }
 
-pub expr-returns-in-Call : goal.expr-returns-in-Call
-expr-returns-in-Call g t c =
+pub expr-returns-in_ok-arguments-in-Call : goal.expr-returns-in_ok-arguments-in-Call
+expr-returns-in_ok-arguments-in-Call g t c =
     let ts = g.J.Judge.tests c.args.judge.now in
     let k = c.args.known.now in
     let st = c.args.state.now in
     let sc = c.args.scope.now in
     let e = c.args.text.now in
     record {
-      means = both_given c.exprs-arguments.result c.call.result _ _ _ _ c.call.ensures c.exprs-arguments.ensures.means c.exprs-arguments.ensures.kept (λ y z m h d. form-Call ts k e c.in-Call.field-0 c.in-Call.callee c.in-Call.texts c.as_slice-in-Call.result.now sc c.exprs-arguments.new.scope st c.exprs-arguments.new.state c.call.new.state y z c.in-Call.is c.as_slice-in-Call.ensures h m d);
-      kept = given_on c.exprs-arguments.result c.call.result _ _ _ c.call.ensures c.exprs-arguments.ensures.kept (λ h. h);
+      means = weaker c.call.result _ _ c.call.ensures (λ z d. form-Call ts k e c.in-Call.field-0 c.in-Call.callee c.in-Call.texts c.as_slice-in-Call.result.now sc c.exprs-in-Call.new.scope st c.exprs-in-Call.new.state c.call.new.state c.in_ok-arguments-in-Call.arguments z c.in-Call.is c.as_slice-in-Call.ensures c.in_ok-arguments-in-Call.ensures.kept c.in_ok-arguments-in-Call.ensures.means d);
+      kept = always c.call.result _ c.in_ok-arguments-in-Call.ensures.kept;
     }
 
-pub expr-returns-in-Latest : goal.expr-returns-in-Latest
-expr-returns-in-Latest g t c =
+pub expr-returns-in_ok-arguments-in-Latest : goal.expr-returns-in_ok-arguments-in-Latest
+expr-returns-in_ok-arguments-in-Latest g t c =
     let ts = g.J.Judge.tests c.args.judge.now in
     let k = c.args.known.now in
     let st = c.args.state.now in
     let sc = c.args.scope.now in
     let e = c.args.text.now in
     record {
-      means = both_given c.exprs-arguments-in-Latest.result c.latest.result _ _ _ _ c.latest.ensures c.exprs-arguments-in-Latest.ensures.means c.exprs-arguments-in-Latest.ensures.kept (λ y z m h d. form-Latest ts k e c.in-Latest.field-0 c.in-Latest.callee c.in-Latest.texts c.as_slice-in-Latest.result.now sc c.exprs-arguments-in-Latest.new.scope st c.exprs-arguments-in-Latest.new.state c.latest.new.state y z c.in-Latest.is c.as_slice-in-Latest.ensures h m d);
-      kept = given_on c.exprs-arguments-in-Latest.result c.latest.result _ _ _ c.latest.ensures c.exprs-arguments-in-Latest.ensures.kept (λ h. h);
+      means = form-Latest ts k e c.in-Latest.field-0 c.in-Latest.callee c.in-Latest.texts c.as_slice-in-Latest.result.now sc c.exprs-in-Latest.new.scope st c.exprs-in-Latest.new.state c.latest.new.state c.in_ok-arguments-in-Latest.arguments c.latest.result c.in-Latest.is c.as_slice-in-Latest.ensures c.in_ok-arguments-in-Latest.ensures.kept c.in_ok-arguments-in-Latest.ensures.means c.latest.ensures;
+      kept = c.in_ok-arguments-in-Latest.ensures.kept;
     }
 
 pub expr-returns-in_ok-written-in-Make : goal.expr-returns-in_ok-written-in-Make
@@ -210,8 +211,8 @@ expr-returns-in_ok-written-in-Make g t c =
     let sc = c.args.scope.now in
     let e = c.args.text.now in
     record {
-      means = given c.exprs-arguments-in-Make.result c.end_make.result _ _ _ c.end_make.ensures c.exprs-arguments-in-Make.ensures.means (λ y z m d. form-Make ts k e c.in-Make.field-0 c.in-Make.ty c.in-Make.texts c.as_slice-in-Make.result.now sc st c.begin_make.new.state c.exprs-arguments-in-Make.new.state c.end_make.new.state c.in_ok-written-in-Make.written y z c.in-Make.is c.in_ok-written-in-Make.ensures c.as_slice-in-Make.ensures m d);
-      kept = given_on c.exprs-arguments-in-Make.result c.end_make.result _ _ _ c.end_make.ensures c.exprs-arguments-in-Make.ensures.kept (λ h. h);
+      means = given c.exprs-arguments.result c.end_make.result _ _ _ c.end_make.ensures c.exprs-arguments.ensures.means (λ y z m d. form-Make ts k e c.in-Make.field-0 c.in-Make.ty c.in-Make.texts c.as_slice-in-Make.result.now sc st c.begin_make.new.state c.exprs-arguments.new.state c.end_make.new.state c.in_ok-written-in-Make.written y z c.in-Make.is c.in_ok-written-in-Make.ensures c.as_slice-in-Make.ensures m d);
+      kept = given_on c.exprs-arguments.result c.end_make.result _ _ _ c.end_make.ensures c.exprs-arguments.ensures.kept (λ h. h);
     }
 
 pub expr-returns-in_ok-left-in-Infix : goal.expr-returns-in_ok-left-in-Infix
@@ -227,16 +228,16 @@ expr-returns-in_ok-left-in-Infix g t c =
       kept = given_on c.expr-right.result c.infix.result _ _ _ c.infix.ensures c.expr-right.ensures.kept (λ h. h ∙ kept1);
     }
 
-pub expr-returns-in-Isa : goal.expr-returns-in-Isa
-expr-returns-in-Isa g t c =
+pub expr-returns-in_ok-value-in-Isa : goal.expr-returns-in_ok-value-in-Isa
+expr-returns-in_ok-value-in-Isa g t c =
     let ts = g.J.Judge.tests c.args.judge.now in
     let k = c.args.known.now in
     let st = c.args.state.now in
     let sc = c.args.scope.now in
     let e = c.args.text.now in
     record {
-      means = both_given c.expr-code-in-Isa.result c.is_a.result _ _ _ _ c.is_a.ensures c.expr-code-in-Isa.ensures.means c.expr-code-in-Isa.ensures.kept (λ y z m h d. form-Isa ts k e c.in-Isa.field-0 c.in-Isa.inner c.in-Isa.ty sc c.expr-code-in-Isa.new.scope st c.expr-code-in-Isa.new.state c.is_a.new.state y z c.in-Isa.is h (part ts k c.in-Isa.inner c.get-in-Isa.result.now y y sc sc st c.expr-code-in-Isa.new.state refl c.get-in-Isa.ensures refl m) d);
-      kept = given_on c.expr-code-in-Isa.result c.is_a.result _ _ _ c.is_a.ensures c.expr-code-in-Isa.ensures.kept (λ h. h);
+      means = weaker c.is_a.result _ _ c.is_a.ensures (λ z d. form-Isa ts k e c.in-Isa.field-0 c.in-Isa.inner c.in-Isa.ty sc c.expr-in-Isa.new.scope st c.expr-in-Isa.new.state c.is_a.new.state c.in_ok-value-in-Isa.value z c.in-Isa.is (ok_at c.expr-in-Isa.result c.in_ok-value-in-Isa.ensures.0 (λ z. c.expr-in-Isa.new.scope ≡ sc) c.in_ok-value-in-Isa.ensures.1 c.expr-in-Isa.ensures.kept) (part ts k c.in-Isa.inner c.get-in-Isa.result.now c.in_ok-value-in-Isa.value c.in_ok-value-in-Isa.ensures.0 sc sc st c.expr-in-Isa.new.state c.in_ok-value-in-Isa.ensures.2 c.get-in-Isa.ensures refl (ok_at c.expr-in-Isa.result c.in_ok-value-in-Isa.ensures.0 (λ z. resolution z c.expr-in-Isa.new.state ≡ expr_reads ts k c.get-in-Isa.result.now sc st) c.in_ok-value-in-Isa.ensures.1 c.expr-in-Isa.ensures.means)) d);
+      kept = always c.is_a.result _ (ok_at c.expr-in-Isa.result c.in_ok-value-in-Isa.ensures.0 (λ z. c.expr-in-Isa.new.scope ≡ sc) c.in_ok-value-in-Isa.ensures.1 c.expr-in-Isa.ensures.kept);
     }
 
 pub expr-returns-in-Sub : goal.expr-returns-in-Sub
@@ -251,8 +252,8 @@ expr-returns-in-Sub g t c =
       kept = always c.below.result _ refl;
     }
 
-pub expr-returns-in_ok-then-in-Choose : goal.expr-returns-in_ok-then-in-Choose
-expr-returns-in_ok-then-in-Choose g t c =
+pub expr-returns-in_ok-or_else-in-Choose : goal.expr-returns-in_ok-or_else-in-Choose
+expr-returns-in_ok-or_else-in-Choose g t c =
     let ts = g.J.Judge.tests c.args.judge.now in
     let k = c.args.known.now in
     let st = c.args.state.now in
@@ -261,8 +262,8 @@ expr-returns-in_ok-then-in-Choose g t c =
     let kept1 = (ok_at c.expr-in-Choose.result c.in_ok-test-in-Choose.ensures.0 (λ z. c.expr-in-Choose.new.scope ≡ sc) c.in_ok-test-in-Choose.ensures.1 c.expr-in-Choose.ensures.kept) in
     let kept2 = (ok_at c.expr-in-Choose-2.result c.in_ok-then-in-Choose.ensures.0 (λ z. c.expr-in-Choose-2.new.scope ≡ c.expr-in-Choose.new.scope) c.in_ok-then-in-Choose.ensures.1 c.expr-in-Choose-2.ensures.kept) ∙ kept1 in
     record {
-      means = given c.expr-or_else.result c.choose.result _ _ _ c.choose.ensures c.expr-or_else.ensures.means (λ y z m d. form-Choose ts k e c.in-Choose.field-0 c.in-Choose.test c.in-Choose.then c.in-Choose.or_else sc st c.expr-in-Choose.new.state c.expr-in-Choose-2.new.state c.expr-or_else.new.state c.in_ok-test-in-Choose.test c.in_ok-then-in-Choose.then y z c.in-Choose.is (part ts k c.in-Choose.test c.get-in-Choose.result.now c.in_ok-test-in-Choose.test c.in_ok-test-in-Choose.ensures.0 sc sc st c.expr-in-Choose.new.state c.in_ok-test-in-Choose.ensures.2 c.get-in-Choose.ensures refl (ok_at c.expr-in-Choose.result c.in_ok-test-in-Choose.ensures.0 (λ z. resolution z c.expr-in-Choose.new.state ≡ expr_reads ts k c.get-in-Choose.result.now sc st) c.in_ok-test-in-Choose.ensures.1 c.expr-in-Choose.ensures.means)) (part ts k c.in-Choose.then c.get-in-Choose-2.result.now c.in_ok-then-in-Choose.then c.in_ok-then-in-Choose.ensures.0 sc c.expr-in-Choose.new.scope c.expr-in-Choose.new.state c.expr-in-Choose-2.new.state c.in_ok-then-in-Choose.ensures.2 c.get-in-Choose-2.ensures kept1 (ok_at c.expr-in-Choose-2.result c.in_ok-then-in-Choose.ensures.0 (λ z. resolution z c.expr-in-Choose-2.new.state ≡ expr_reads ts k c.get-in-Choose-2.result.now c.expr-in-Choose.new.scope c.expr-in-Choose.new.state) c.in_ok-then-in-Choose.ensures.1 c.expr-in-Choose-2.ensures.means)) (part ts k c.in-Choose.or_else c.get-in-Choose-3.result.now y y sc c.expr-in-Choose-2.new.scope c.expr-in-Choose-2.new.state c.expr-or_else.new.state refl c.get-in-Choose-3.ensures kept2 m) d);
-      kept = given_on c.expr-or_else.result c.choose.result _ _ _ c.choose.ensures c.expr-or_else.ensures.kept (λ h. h ∙ kept2);
+      means = form-Choose ts k e c.in-Choose.field-0 c.in-Choose.test c.in-Choose.then c.in-Choose.or_else sc st c.expr-in-Choose.new.state c.expr-in-Choose-2.new.state c.expr-in-Choose-3.new.state c.in_ok-test-in-Choose.test c.in_ok-then-in-Choose.then c.in_ok-or_else-in-Choose.or_else c.choose.result c.in-Choose.is (part ts k c.in-Choose.test c.get-in-Choose.result.now c.in_ok-test-in-Choose.test c.in_ok-test-in-Choose.ensures.0 sc sc st c.expr-in-Choose.new.state c.in_ok-test-in-Choose.ensures.2 c.get-in-Choose.ensures refl (ok_at c.expr-in-Choose.result c.in_ok-test-in-Choose.ensures.0 (λ z. resolution z c.expr-in-Choose.new.state ≡ expr_reads ts k c.get-in-Choose.result.now sc st) c.in_ok-test-in-Choose.ensures.1 c.expr-in-Choose.ensures.means)) (part ts k c.in-Choose.then c.get-in-Choose-2.result.now c.in_ok-then-in-Choose.then c.in_ok-then-in-Choose.ensures.0 sc c.expr-in-Choose.new.scope c.expr-in-Choose.new.state c.expr-in-Choose-2.new.state c.in_ok-then-in-Choose.ensures.2 c.get-in-Choose-2.ensures kept1 (ok_at c.expr-in-Choose-2.result c.in_ok-then-in-Choose.ensures.0 (λ z. resolution z c.expr-in-Choose-2.new.state ≡ expr_reads ts k c.get-in-Choose-2.result.now c.expr-in-Choose.new.scope c.expr-in-Choose.new.state) c.in_ok-then-in-Choose.ensures.1 c.expr-in-Choose-2.ensures.means)) (part ts k c.in-Choose.or_else c.get-in-Choose-3.result.now c.in_ok-or_else-in-Choose.or_else c.in_ok-or_else-in-Choose.ensures.0 sc c.expr-in-Choose-2.new.scope c.expr-in-Choose-2.new.state c.expr-in-Choose-3.new.state c.in_ok-or_else-in-Choose.ensures.2 c.get-in-Choose-3.ensures kept2 (ok_at c.expr-in-Choose-3.result c.in_ok-or_else-in-Choose.ensures.0 (λ z. resolution z c.expr-in-Choose-3.new.state ≡ expr_reads ts k c.get-in-Choose-3.result.now c.expr-in-Choose-2.new.scope c.expr-in-Choose-2.new.state) c.in_ok-or_else-in-Choose.ensures.1 c.expr-in-Choose-3.ensures.means)) c.choose.ensures;
+      kept = (ok_at c.expr-in-Choose-3.result c.in_ok-or_else-in-Choose.ensures.0 (λ z. c.expr-in-Choose-3.new.scope ≡ c.expr-in-Choose-2.new.scope) c.in_ok-or_else-in-Choose.ensures.1 c.expr-in-Choose-3.ensures.kept) ∙ kept2;
     }
 
 pub expr-returns-in_ok-arms-in-IfElse : goal.expr-returns-in_ok-arms-in-IfElse
@@ -273,7 +274,7 @@ expr-returns-in_ok-arms-in-IfElse g t c =
     let sc = c.args.scope.now in
     let e = c.args.text.now in
     record {
-      means = given c.block-last.result c.if_else.result _ _ _ c.if_else.ensures c.block-last.ensures.means (λ y z m d. form-IfElse ts k e c.in-IfElse.field-0 c.in-IfElse.texts c.as_slice-in-IfElse.result.now c.in-IfElse.last c.as_slice-in-IfElse-2.result.now sc c.branches.new.scope st c.branches.new.state c.block-last.new.state c.in_ok-arms-in-IfElse.arms.items y z c.in-IfElse.is c.as_slice-in-IfElse.ensures c.in_ok-arms-in-IfElse.ensures.means c.as_slice-in-IfElse-2.ensures c.in_ok-arms-in-IfElse.ensures.kept m d);
+      means = given c.block-last.result c.if_else.result _ _ _ c.if_else.ensures c.block-last.ensures.means (λ y z m d. form-IfElse ts k e c.in-IfElse.field-0 c.in-IfElse.texts c.as_slice-in-IfElse.result.now c.in-IfElse.last c.as_slice-in-IfElse-2.result.now sc c.branches-in-IfElse.new.scope st c.branches-in-IfElse.new.state c.block-last.new.state c.in_ok-arms-in-IfElse.arms.items y z c.in-IfElse.is c.as_slice-in-IfElse.ensures c.in_ok-arms-in-IfElse.ensures.means c.as_slice-in-IfElse-2.ensures c.in_ok-arms-in-IfElse.ensures.kept m d);
       kept = given_on c.block-last.result c.if_else.result _ _ _ c.if_else.ensures c.block-last.ensures.kept (λ h. h ∙ c.in_ok-arms-in-IfElse.ensures.kept);
     }
 
@@ -301,15 +302,15 @@ expr-returns-in_ok-place-in-Spawn g t c =
       kept = given_on c.expr-code-in-Spawn.result c.end_spawn.result _ _ _ c.end_spawn.ensures c.expr-code-in-Spawn.ensures.kept (λ h. h);
     }
 
-pub expr-returns-in-EvalMethod : goal.expr-returns-in-EvalMethod
-expr-returns-in-EvalMethod g t c =
+pub expr-returns-in_ok-site-in-EvalMethod : goal.expr-returns-in_ok-site-in-EvalMethod
+expr-returns-in_ok-site-in-EvalMethod g t c =
     let ts = g.J.Judge.tests c.args.judge.now in
     let k = c.args.known.now in
     let st = c.args.state.now in
     let sc = c.args.scope.now in
     let e = c.args.text.now in
     record {
-      means = given c.method-site.result c.eval_method.result _ _ _ c.eval_method.ensures c.method-site.ensures (λ y z m d. form-EvalMethod ts k e c.in-EvalMethod.field-0 c.in-EvalMethod.text c.get-in-EvalMethod.result.now sc st c.method-site.new.state y z c.in-EvalMethod.is c.get-in-EvalMethod.ensures m d);
+      means = weaker c.eval_method.result _ _ c.eval_method.ensures (λ z d. form-EvalMethod ts k e c.in-EvalMethod.field-0 c.in-EvalMethod.text c.get-in-EvalMethod.result.now sc st c.method.new.state c.in_ok-site-in-EvalMethod.site z c.in-EvalMethod.is c.get-in-EvalMethod.ensures c.in_ok-site-in-EvalMethod.ensures d);
       kept = always c.eval_method.result _ refl;
     }
 
@@ -511,13 +512,13 @@ piece-returns-in-Show g t c =
       kept = given_on c.expr.result c.show.result _ _ _ c.show.ensures c.expr.ensures.kept (λ h. h);
     }
 
-pub eval-returns-in-Method : goal.eval-returns-in-Method
-eval-returns-in-Method g t c =
+pub eval-returns-in_ok-site-in-Method : goal.eval-returns-in_ok-site-in-Method
+eval-returns-in_ok-site-in-Method g t c =
     let ts = g.J.Judge.tests c.args.judge.now in
     let k = c.args.known.now in
     let st = c.args.state.now in
     let e = c.args.text.now in
-    given c.method.result c.define.result _ _ _ c.define.ensures c.method.ensures (λ y z m d. evals-Method ts k e c.in-Method.text c.args.types st c.method.new.state y z c.in-Method.is m d)
+    evals-Method ts k e c.in-Method.text c.args.types st c.method.new.state c.in_ok-site-in-Method.site (I.Define c.in_ok-site-in-Method.site) c.in-Method.is c.in_ok-site-in-Method.ensures refl
 
 pub eval-returns-in-Do : goal.eval-returns-in-Do
 eval-returns-in-Do g t c =
@@ -536,8 +537,8 @@ branch-returns g t c =
     let e = c.args.text.now in
     let kept1 = ok_at c.expr.result c.in_ok-test.ensures.0 (λ z. c.expr.new.scope ≡ sc) c.in_ok-test.ensures.1 c.expr.ensures.kept in
     record {
-      means = given c.block-then.result c.arm.result _ _ _ c.arm.ensures c.block-then.ensures.means (λ y z m d. tries ts k e c.as_slice.result.now sc c.expr.new.scope st c.expr.new.state c.block-then.new.state c.in_ok-test.test c.in_ok-test.ensures.0 y z c.in_ok-test.ensures.2 (ok_at c.expr.result c.in_ok-test.ensures.0 (λ z. resolution z c.expr.new.state ≡ expr_reads ts k e.test sc st) c.in_ok-test.ensures.1 c.expr.ensures.means) kept1 c.as_slice.ensures m d);
-      kept = given_on c.block-then.result c.arm.result _ _ _ c.arm.ensures c.block-then.ensures.kept (λ h. h ∙ kept1);
+      means = tries ts k e c.as_slice.result.now sc c.expr.new.scope st c.expr.new.state c.block.new.state c.in_ok-test.test c.in_ok-test.ensures.0 c.in_ok-then.then (arm c.in_ok-test.test c.in_ok-then.then) c.in_ok-test.ensures.2 (ok_at c.expr.result c.in_ok-test.ensures.0 (λ z. resolution z c.expr.new.state ≡ expr_reads ts k e.test sc st) c.in_ok-test.ensures.1 c.expr.ensures.means) kept1 c.as_slice.ensures (ap (λ z. resolution z c.block.new.state) c.in_ok-then.ensures.2 ∙ ok_at c.block.result c.in_ok-then.ensures.0 (λ z. resolution z c.block.new.state ≡ block_of (map (stmt_reads ts k) c.as_slice.result.now) c.expr.new.scope c.expr.new.state) c.in_ok-then.ensures.1 c.block.ensures.means) refl;
+      kept = ok_at c.block.result c.in_ok-then.ensures.0 (λ z. c.block.new.scope ≡ c.expr.new.scope) c.in_ok-then.ensures.1 c.block.ensures.kept ∙ kept1;
     }
 
 pub method-returns-in_ok-number-in-Long : goal.method-returns-in_ok-number-in-Long
