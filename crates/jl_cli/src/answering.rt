@@ -1,4 +1,7 @@
 //! What is due for the bytes of a source.
+//!
+//! What a script was read and resolved to is left where it is, not taken apart: the process ends next, and its memory
+//! with it. To free each node of the trees took up to a fifth of a check.
 
 ghost use Rattle.std.specs.Prelude.{◌≡◌, ◌≤◌, None, Some, IfOk, MatchResult, drop, length};
 ghost use Rattle.jl_program.specs.Prelude.{prelude_count};
@@ -33,6 +36,7 @@ use jl_runner::run_tasks;
 use jl_sig::Ready;
 use jl_token::tokens;
 use std::alloc::{AllocError, Global};
+use std::mem::forget;
 use std::sync::Wait;
 use std::thread::Threads;
 
@@ -133,7 +137,7 @@ fn owed_for_check(alloc: Global, bytes: &[u8], script: &Script) -> Result<Due, A
     match check_script(alloc, script) {
         Ok(program) => {
             let due = checked(alloc, &program);
-            drop(program);
+            forget(program);
             let due = due?;
             Ok(due)
         }
@@ -163,7 +167,7 @@ fn owed_for_run<R: Threads + Wait + Sync, G: Gate>(
     match program(alloc, script) {
         Ok(ready) => {
             let due = run_source(rt, alloc, &ready, setup, telling, gate, ops);
-            drop(ready);
+            forget(ready);
             let due = due?;
             Ok(due)
         }
@@ -213,7 +217,7 @@ fn owe<R: Threads + Wait + Sync, G: Gate>(
         Err(line) => return Ok(refused(line)),
     };
     let due = owed_for(rt, alloc, work, bytes, &script, gate, ops);
-    drop(script);
+    forget(script);
     let due = due?;
     Ok(due)
 }
