@@ -93,13 +93,23 @@ fn hidden_is_back(names: &mut NameStack) -> bool {
 fn another_takes_its_place(alloc: Global, names: &mut NameStack) -> Result<bool, AllocError> {
     names.truncate(1);
     let is_gone = names.find(b"S") == None;
-    stack_names(alloc, names, &["U"])?;
-    Ok(is_gone && names.find(b"S") == None && names.find(b"U") == Some(1))
+    let hidden = names.push(text(alloc, b"U")?)?;
+    Ok(is_gone && hidden == None && names.find(b"S") == None && names.find(b"U") == Some(1))
+}
+
+fn hidden_place_is_the_answer(alloc: Global, names: &mut NameStack) -> Result<bool, AllocError> {
+    let hidden = names.push(text(alloc, b"T")?)?;
+    Ok(hidden == Some(0))
 }
 
 fn stack_is_right(alloc: Global, names: &mut NameStack) -> Result<bool, AllocError> {
     stack_names(alloc, names, &["T", "S", "T"])?;
-    Ok(last_hides(names) && hidden_is_back(names) && another_takes_its_place(alloc, names)?)
+    Ok(
+        last_hides(names)
+            && hidden_is_back(names)
+            && another_takes_its_place(alloc, names)?
+            && hidden_place_is_the_answer(alloc, names)?,
+    )
 }
 
 fn the_stack_finds_the_last(alloc: Global) -> Result<bool, AllocError> {

@@ -62,17 +62,26 @@ fn static_parameter(alloc: Global, name: &[u8], number: u32) -> Result<TypeVar, 
     })
 }
 
-fn push_statics(alloc: Global, vars: &mut TypeVars) -> Result<(), AllocError> {
-    vars.push(static_parameter(alloc, b"T", 0)?)?;
-    vars.push(static_parameter(alloc, b"S", 1)?)?;
-    vars.push(static_parameter(alloc, b"T", 2)?)
+/// The static parameters `T`, `S` and `T`. The answer is whether only the last hides one.
+fn push_statics(alloc: Global, vars: &mut TypeVars) -> Result<bool, AllocError> {
+    let first = vars.push(static_parameter(alloc, b"T", 0)?)?;
+    let other = vars.push(static_parameter(alloc, b"S", 1)?)?;
+    let last = vars.push(static_parameter(alloc, b"T", 2)?)?;
+    Ok(!first && !other && last)
+}
+
+fn only_the_last_hides(alloc: Global) -> Result<bool, AllocError> {
+    let mut vars = TypeVars::new(alloc);
+    let answer = push_statics(alloc, &mut vars);
+    drop(vars);
+    answer
 }
 
 /// The first so many of the static parameters `T`, `S` and `T`.
 fn statics(alloc: Global, visible: usize) -> Result<TypeVars, AllocError> {
     let mut vars = TypeVars::new(alloc);
     match push_statics(alloc, &mut vars) {
-        Ok(()) => {
+        Ok(_) => {
             vars.truncate(visible);
             Ok(vars)
         }
@@ -177,6 +186,11 @@ fn numbers_are_right(alloc: Global) -> Result<bool, TypeFault> {
         }
     }
     Ok(true)
+}
+
+#[test]
+fn a_variable_says_whether_it_hides_one(rt: HostRuntime) {
+    assert!(rt; holds(only_the_last_hides(rt.alloc())));
 }
 
 #[test]

@@ -118,7 +118,7 @@ fn after_first(tys: &[Ty]) -> &[Ty]
 fn fields_of(alloc: Global, fields: &[FieldText], tys: &[Ty]) -> Result<Fields, AllocError>
     ensures { IfOk result (λ fs. fs ≡ fields_of fields.now tys.now) }
 {
-    let mut out = Vec::new(alloc);
+    let mut out = Vec::with_capacity(alloc, fields.len())?;
     let mut left = tys;
     for field in fields {
         match left {

@@ -1,20 +1,18 @@
 -- What follows a bracket's end is told by the closing brackets to the right.
 use Rattle.std.proofs.Common.{◌≡◌, ◌∙◌, refl, sym, ap, Bool, true, false, cond, List, [], ◌∷◌, Option, None}
-use Rattle.jl_typeread.specs.declared.terminal.Lexeme.{Lexeme}
 use Rattle.jl_typeread.specs.declared.terminal.Terminal.{Terminal}
 use Rattle.jl_marks.specs.declared.scan.Closing.{Closing}
 use Rattle.jl_marks.specs.declared.scan.Closing.TheVariants.{Ends, Wrong}
 use Rattle.jl_grammar.specs.declared.mark.NextToken.{NextToken}
 use Rattle.jl_grammar.specs.declared.mark.NextToken.TheVariants as F
-use Rattle.jl_grammar.specs.declared.mark.Marked.{Marked}
 use Rattle.jl_grammar.specs.declared.mark.Marks.{Marks}
 use Rattle.jl_grammar.specs.declared.mark.Mate.{Mate}
 use Rattle.jl_grammar.specs.declared.mark.Mate.TheVariants.{Opens, Closes, Neither}
 use Rattle.jl_marks.specs.declared.scan.Near.{Near}
 use Rattle.jl_marks.specs.declared.scan.Scan.{Scan}
 use Rattle.jl_grammar.specs.declared.mark.Shape.{Shape}
-use Rattle.jl_grammar.specs.Marks.{mate, is_same_shape, step_bracket, rest_after, round, next_of, next_after, marks_of, terminals, with_marks}
-use Rattle.jl_marks.specs.Scan.{pop_closing, closing_by, closing_of, answer, answer_of, next_after_match, near_of, scan_all}
+use Rattle.jl_grammar.specs.Marks.{mate, is_same_shape, step_bracket, rest_after, round, next_of, next_after, marks_of}
+use Rattle.jl_marks.specs.Scan.{pop_closing, closing_by, closing_of, answer, answer_of, next_after_match, near_of, all_marks, scan_all}
 
 -- what follows the brackets that end these open ones, by the closing ones; the last is what follows at once
 abbrev resolve : List Shape → List Closing → NextToken → NextToken
@@ -66,23 +64,23 @@ answered (Closes c) ss = refl
 answered Neither ss = refl
 
 -- one token more to the left
-pub turned : (l : Lexeme) (ls : List Lexeme) (scan : Scan) (over : NextToken) (closing : List Closing) (m : Mate) (near : Near) (marks : Marks) (tokens : List Marked)
-    → scan ≡ scan_all ls
-    → m ≡ mate l.terminal
+pub turned : (s : Terminal) (ss : List Terminal) (scan : Scan) (over : NextToken) (closing : List Closing) (m : Mate) (near : Near) (marks : Marks) (all : List Marks)
+    → scan ≡ scan_all ss
+    → m ≡ mate s
     → over ≡ answer_of m scan.closing
     → closing ≡ closing_by m scan.near.told scan.closing
-    → ((ss : List Terminal) → scan.near ≡ near_of ss → over ≡ next_after_match (mate l.terminal) ss → near ≡ near_of (l.terminal ∷ ss))
-    → ((ss : List Terminal) → scan.near ≡ near_of ss → near.round ≡ next_after (round (l.terminal ∷ ss)) → marks ≡ marks_of (l.terminal ∷ ss))
-    → tokens ≡ record { lexeme = l; marks = marks } ∷ scan.tokens
-    → record { tokens = tokens; closing = closing; near = near } ≡ scan_all (l ∷ ls)
-turned l ls scan over closing m near marks tokens e em eo ec hn hm ht =
-    let a : scan.near ≡ near_of (terminals ls) = ap (λ s. s.near) e in
-    let o : over ≡ next_after_match (mate l.terminal) (terminals ls) =
-    eo ∙ ap (λ k. answer_of k scan.closing) em ∙ ap (λ s. answer_of (mate l.terminal) s.closing) e ∙ answered (mate l.terminal) (terminals ls) in
-    let n : near ≡ near_of (l.terminal ∷ terminals ls) = hn (terminals ls) a o in
-    let k : marks ≡ marks_of (l.terminal ∷ terminals ls) = hm (terminals ls) a (ap (λ x. x.round) n) in
-    let c : closing ≡ closing_by (mate l.terminal) (next_of (terminals ls)) (closing_of (terminals ls)) =
-    ec ∙ ap (λ x. closing_by x scan.near.told scan.closing) em ∙ ap (λ s. closing_by (mate l.terminal) s.near.told s.closing) e in
-    let t : tokens ≡ record { lexeme = l; marks = marks_of (l.terminal ∷ terminals ls) } ∷ with_marks ls =
-    ht ∙ ap (λ x. record { lexeme = l; marks = x } ∷ scan.tokens) k ∙ ap (λ s. record { lexeme = l; marks = marks_of (l.terminal ∷ terminals ls) } ∷ s.tokens) e in
-    λ i. record { tokens = t i; closing = c i; near = n i }
+    → ((us : List Terminal) → scan.near ≡ near_of us → over ≡ next_after_match (mate s) us → near ≡ near_of (s ∷ us))
+    → ((us : List Terminal) → scan.near ≡ near_of us → near.round ≡ next_after (round (s ∷ us)) → marks ≡ marks_of (s ∷ us))
+    → all ≡ marks ∷ scan.marks
+    → record { marks = all; closing = closing; near = near } ≡ scan_all (s ∷ ss)
+turned s ss scan over closing m near marks all e em eo ec hn hm ht =
+    let a : scan.near ≡ near_of ss = ap (λ x. x.near) e in
+    let o : over ≡ next_after_match (mate s) ss =
+    eo ∙ ap (λ k. answer_of k scan.closing) em ∙ ap (λ x. answer_of (mate s) x.closing) e ∙ answered (mate s) ss in
+    let n : near ≡ near_of (s ∷ ss) = hn ss a o in
+    let k : marks ≡ marks_of (s ∷ ss) = hm ss a (ap (λ x. x.round) n) in
+    let c : closing ≡ closing_by (mate s) (next_of ss) (closing_of ss) =
+    ec ∙ ap (λ x. closing_by x scan.near.told scan.closing) em ∙ ap (λ x. closing_by (mate s) x.near.told x.closing) e in
+    let t : all ≡ marks_of (s ∷ ss) ∷ all_marks ss =
+    ht ∙ ap (λ x. x ∷ scan.marks) k ∙ ap (λ x. marks_of (s ∷ ss) ∷ x.marks) e in
+    λ i. record { marks = t i; closing = c i; near = n i }

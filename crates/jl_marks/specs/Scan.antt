@@ -1,9 +1,9 @@
 -- The marks in one pass from the right: what is known of the tokens behind a token.
 use Rattle.std.specs.Prelude.{if◌then◌else◌, List, [], ◌∷◌}
-use Rattle.jl_typeread.specs.declared.terminal.Lexeme.{Lexeme}
 use Rattle.jl_typeread.specs.declared.terminal.Terminal.{Terminal}
 use Rattle.jl_marks.specs.declared.scan.Closing.{Closing}
 use Rattle.jl_marks.specs.declared.scan.Closing.TheVariants.{Ends, Wrong}
+use Rattle.jl_grammar.specs.declared.mark.Marks.{Marks}
 use Rattle.jl_grammar.specs.declared.mark.NextToken.{NextToken}
 use Rattle.jl_grammar.specs.declared.mark.NextToken.TheVariants as F
 use Rattle.jl_grammar.specs.declared.mark.Mate.{Mate}
@@ -11,7 +11,7 @@ use Rattle.jl_grammar.specs.declared.mark.Mate.TheVariants.{Opens, Closes, Neith
 use Rattle.jl_marks.specs.declared.scan.Near.{Near}
 use Rattle.jl_marks.specs.declared.scan.Scan.{Scan}
 use Rattle.jl_grammar.specs.declared.mark.Shape.{Shape}
-use Rattle.jl_grammar.specs.Marks.{mate, is_same_shape, rest_after, round, curly, next_of, next_after, colon_head, dot_head, base_head, is_call, base_opening, threads_opening, after_name, terminals, with_marks}
+use Rattle.jl_grammar.specs.Marks.{mate, is_same_shape, rest_after, round, curly, next_of, next_after, colon_head, dot_head, base_head, is_call, base_opening, threads_opening, after_name, marks_of}
 
 -- the closing brackets that are left to the left of an opening one
 abbrev pub pop_closing : Shape → List Closing → List Closing
@@ -60,5 +60,10 @@ near_of ss = record {
   named = after_name ss;
 }
 
-abbrev pub scan_all : List Lexeme → Scan
-scan_all ls = record { tokens = with_marks ls; closing = closing_of (terminals ls); near = near_of (terminals ls) }
+-- the marks of all of them
+abbrev pub all_marks : List Terminal → List Marks
+all_marks [] = []
+all_marks (s ∷ ss) = marks_of (s ∷ ss) ∷ all_marks ss
+
+abbrev pub scan_all : List Terminal → Scan
+scan_all ss = record { marks = all_marks ss; closing = closing_of ss; near = near_of ss }

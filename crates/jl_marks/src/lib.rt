@@ -4,3 +4,4 @@
 pub mod marks;
 pub mod newlines;
 pub mod scan;
+pub mod tokens;

@@ -1,13 +1,16 @@
 //! The marks of the tokens: one pass from the right, which keeps of the tokens behind a token what its marks ask.
+//!
+//! It reads the tokens where they are and makes a list of marks alone, since a copy of all tokens is most of what such a
+//! pass costs.
 
-ghost use Rattle.std.specs.Prelude.{◌≡◌, ◌∷◌, [], List, IfOk, if◌then◌else◌};
-ghost use Rattle.jl_typeread.specs.declared.terminal.Lexeme.{Lexeme};
+ghost use Rattle.std.specs.Prelude.{◌≡◌, ◌∷◌, [], List, IfOk, OnOk, if◌then◌else◌};
 ghost use Rattle.jl_typeread.specs.declared.terminal.Terminal.{Terminal};
-ghost use Rattle.jl_grammar.specs.Marks.{mate, mate_of, is_same_shape, round, curly, next_of, next_as_terminal, next_after, is_definition, is_subtype, is_function, is_base, colon_head, dot_head, base_head, is_head_start, is_left_start, ahead, named_call, is_call, base_call, base_opening, threads_opening, after_name, opening_of, opening, marks_of, with_marks};
-ghost use Rattle.jl_marks.specs.Scan.{pop_closing, closing_by, answer, answer_of, next_after_match, near_of, scan_all};
+ghost use Rattle.jl_grammar.specs.Marks.{mate, mate_of, is_same_shape, round, curly, next_of, next_as_terminal, next_after, is_definition, is_subtype, is_function, is_base, colon_head, dot_head, base_head, is_head_start, is_left_start, ahead, named_call, is_call, base_call, base_opening, threads_opening, after_name, opening_of, opening, marks_of, terminals, with_marks};
+ghost use Rattle.jl_marks.specs.Scan.{pop_closing, closing_by, answer, answer_of, next_after_match, near_of, all_marks, scan_all};
 
 use crate::scan::{Closing, Near, Scan};
-use jl_grammar::mark::{Ahead, Marked, Marks, Mate, Named, NextToken, Opening, Shape};
+use crate::tokens::MarkedTokens;
+use jl_grammar::mark::{Ahead, Marks, Mate, Named, NextToken, Opening, Shape};
 use jl_model::rows::Stack;
 use jl_token::token::Operator;
 use jl_typeread::terminal::{Lexeme, Terminal, Word};
@@ -59,50 +62,52 @@ fn is_same_shape(left: Shape, right: Shape) -> bool
 }
 
 /// A bracket of another shape comes first.
-fn reject_bracket(alloc: Global) -> Result<(NextToken, Stack<Closing>), AllocError>
-    ensures { IfOk result (λ r. r ≡ (NextToken.Other, Closing.Wrong ∷ [])) }
+fn reject_bracket(alloc: Global, closing: &mut Stack<Closing>) -> Result<NextToken, AllocError>
+    ensures { IfOk result (λ over. (over ≡ NextToken.Other) × (closing.new ≡ Closing.Wrong ∷ [])) }
 {
-    let mut closing = Stack::new(alloc);
+    *closing = Stack::new(alloc);
     closing.push(Closing::Wrong)?;
-    Ok((NextToken::Other, closing))
+    Ok(NextToken::Other)
 }
 
-/// What follows the bracket that ends an open one, and the closing brackets that are left.
+/// What follows the bracket that ends an open one. In `closing` are then the closing brackets that are left.
 fn open_bracket(
     alloc: Global,
     shape: Shape,
-    mut closing: Stack<Closing>,
-) -> Result<(NextToken, Stack<Closing>), AllocError>
-    ensures { IfOk result (λ r. r ≡ (answer shape closing, pop_closing shape closing)) }
+    closing: &mut Stack<Closing>,
+) -> Result<NextToken, AllocError>
+    ensures { IfOk result (λ over. (over ≡ answer shape closing.old)
+        × (closing.new ≡ pop_closing shape closing.old)) }
 {
     match closing.pop() {
-        None => Ok((NextToken::Other, closing)),
+        None => Ok(NextToken::Other),
         Some(Closing::Ends(other, follows)) => {
             if is_same_shape(other, shape) {
-                return Ok((follows, closing));
+                return Ok(follows);
             }
-            reject_bracket(alloc)
+            reject_bracket(alloc, closing)
         }
-        Some(Closing::Wrong) => reject_bracket(alloc),
+        Some(Closing::Wrong) => reject_bracket(alloc, closing),
     }
 }
 
-/// What follows the bracket that ends this one, and the closing brackets that are left.
+/// What follows the bracket that ends this one. In `closing` are then the closing brackets that are left.
 fn step_bracket(
     alloc: Global,
     mate: Mate,
     told: NextToken,
-    mut closing: Stack<Closing>,
-) -> Result<(NextToken, Stack<Closing>), AllocError>
-    ensures { IfOk result (λ r. r ≡ (answer_of mate closing, closing_by mate told closing)) }
+    closing: &mut Stack<Closing>,
+) -> Result<NextToken, AllocError>
+    ensures { IfOk result (λ over. (over ≡ answer_of mate closing.old)
+        × (closing.new ≡ closing_by mate told closing.old)) }
 {
     match mate {
         Mate::Opens(shape) => open_bracket(alloc, shape, closing),
         Mate::Closes(shape) => {
             closing.push(Closing::Ends(shape, told))?;
-            Ok((NextToken::Other, closing))
+            Ok(NextToken::Other)
         }
-        Mate::Neither => Ok((NextToken::Other, closing)),
+        Mate::Neither => Ok(NextToken::Other),
     }
 }
 
@@ -424,38 +429,39 @@ fn marks_of(terminal: &Terminal, near: Near, own: NextToken) -> Marks
 }
 
 /// One token more to the left.
-fn turn(alloc: Global, lexeme: Lexeme, scan: Scan) -> Result<Scan, AllocError>
-    ensures { (ls : List Lexeme) → scan ≡ scan_all ls
-        → IfOk result (λ s. s ≡ scan_all (lexeme ∷ ls)) }
+fn turn(alloc: Global, terminal: &Terminal, scan: &mut Scan) -> Result<(), AllocError>
+    ensures { (ss : List Terminal) → scan.old ≡ scan_all ss
+        → OnOk result (scan.new ≡ scan_all (terminal.now ∷ ss)) }
 {
-    let Scan {
-        mut tokens,
-        closing,
-        near,
-    } = scan;
-    let (over, closing) = step_bracket(alloc, mate(&lexeme.terminal), near.told, closing)?;
-    let next = nearer(&lexeme.terminal, near, over);
-    let marks = marks_of(&lexeme.terminal, near, next.round);
-    tokens.push(Marked { lexeme, marks })?;
-    Ok(Scan {
-        tokens,
-        closing,
-        near: next,
-    })
+    let near = scan.near;
+    let over = step_bracket(alloc, mate(terminal), near.told, &mut scan.closing)?;
+    let next = nearer(terminal, near, over);
+    scan.marks.push(marks_of(terminal, near, next.round))?;
+    scan.near = next;
+    Ok(())
 }
 
-/// The tokens with their marks.
-pub fn with_marks(alloc: Global, lexemes: Vec<Lexeme>) -> Result<Stack<Marked>, AllocError>
-    ensures { IfOk result (λ tokens. tokens ≡ with_marks lexemes.items) }
+/// The marks of the tokens.
+fn all_marks(alloc: Global, lexemes: &[Lexeme]) -> Result<Stack<Marks>, AllocError>
+    ensures { IfOk result (λ marks. marks ≡ all_marks (terminals lexemes.now)) }
 {
-    let mut left = lexemes;
     let mut scan = Scan {
-        tokens: Stack::new(alloc),
+        marks: Stack::new(alloc),
         closing: Stack::new(alloc),
         near: nothing_near(),
     };
-    while let Some(lexeme) = left.pop() {
-        scan = turn(alloc, lexeme, scan)?;
+    let mut left = lexemes;
+    while let Some((lexeme, rest)) = left.split_last() {
+        turn(alloc, &lexeme.terminal, &mut scan)?;
+        left = rest;
     }
-    Ok(scan.tokens)
+    Ok(scan.marks)
+}
+
+/// The tokens with their marks.
+pub fn with_marks(alloc: Global, lexemes: Vec<Lexeme>) -> Result<MarkedTokens, AllocError>
+    ensures { IfOk result (λ tokens. tokens ≡ with_marks lexemes.items) }
+{
+    let marks = all_marks(alloc, lexemes.as_slice())?;
+    Ok(MarkedTokens::new(lexemes, marks))
 }

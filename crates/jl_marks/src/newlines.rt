@@ -11,64 +11,55 @@ use jl_typeread::terminal::{Lexeme, Terminal, Word};
 use std::alloc::{AllocError, Global};
 
 /// One form less is open.
-fn close_form(mut around: Stack<Around>) -> Stack<Around>
-    ensures { result ≡ close_form around }
+fn close_form(around: &mut Stack<Around>)
+    ensures { around.new ≡ close_form around.old }
 {
     match around.pop() {
-        None => around,
-        Some(_) => around,
+        None => {}
+        Some(_) => {}
     }
 }
 
-/// One form more is open.
-fn open_form(form: Around, mut around: Stack<Around>) -> Result<Stack<Around>, AllocError>
-    ensures { IfOk result (λ a. a ≡ form ∷ around) }
-{
-    around.push(form)?;
-    Ok(around)
-}
-
-/// What is open behind an operator or a mark.
-fn around_after_operator(
-    operator: Operator,
-    around: Stack<Around>,
-) -> Result<Stack<Around>, AllocError>
-    ensures { IfOk result (λ a. a ≡ around_after_operator operator around) }
+/// An operator or a mark opens a form or ends one.
+fn around_after_operator(operator: Operator, around: &mut Stack<Around>) -> Result<(), AllocError>
+    ensures { OnOk result (around.new ≡ around_after_operator operator around.old) }
 {
     match operator {
-        Operator::OpenParen | Operator::OpenBracket | Operator::OpenBrace => open_form(
-            Around::Bracket,
-            around,
-        ),
-        Operator::CloseParen | Operator::CloseBracket | Operator::CloseBrace => Ok(close_form(
-            around,
-        )),
-        _ => Ok(around),
+        Operator::OpenParen | Operator::OpenBracket | Operator::OpenBrace => {
+            around.push(Around::Bracket)
+        }
+        Operator::CloseParen | Operator::CloseBracket | Operator::CloseBrace => {
+            close_form(around);
+            Ok(())
+        }
+        _ => Ok(()),
     }
 }
 
-/// What is open behind a reserved word.
-fn around_after_word(word: Word, around: Stack<Around>) -> Result<Stack<Around>, AllocError>
-    ensures { IfOk result (λ a. a ≡ around_after_word word around) }
+/// A reserved word opens a form or ends one.
+fn around_after_word(word: Word, around: &mut Stack<Around>) -> Result<(), AllocError>
+    ensures { OnOk result (around.new ≡ around_after_word word around.old) }
 {
     match word {
-        Word::Function | Word::Struct | Word::If | Word::Begin | Word::Quote => open_form(
-            Around::Block,
-            around,
-        ),
-        Word::End => Ok(close_form(around)),
-        _ => Ok(around),
+        Word::Function | Word::Struct | Word::If | Word::Begin | Word::Quote => {
+            around.push(Around::Block)
+        }
+        Word::End => {
+            close_form(around);
+            Ok(())
+        }
+        _ => Ok(()),
     }
 }
 
-/// What is open around the next token.
-fn around_after(terminal: &Terminal, around: Stack<Around>) -> Result<Stack<Around>, AllocError>
-    ensures { IfOk result (λ a. a ≡ around_after terminal.now around) }
+/// Changes what is open to what is open around the next token.
+fn around_after(terminal: &Terminal, around: &mut Stack<Around>) -> Result<(), AllocError>
+    ensures { OnOk result (around.new ≡ around_after terminal.now around.old) }
 {
     match terminal {
         Terminal::Operator(operator) => around_after_operator(*operator, around),
         Terminal::Word(word) => around_after_word(*word, around),
-        _ => Ok(around),
+        _ => Ok(()),
     }
 }
 
@@ -196,7 +187,7 @@ pub fn drop_newlines(alloc: Global, tokens: &[Token]) -> Result<Vec<Lexeme>, All
         let lexeme = Lexeme::of(token)?;
         let is_shown = is_shown(&lexeme.terminal, &around, previous);
         previous = previous_after(&lexeme.terminal, &around, previous);
-        around = around_after(&lexeme.terminal, around)?;
+        around_after(&lexeme.terminal, &mut around)?;
         show(&mut lexemes, lexeme, is_shown)?;
     }
     Ok(lexemes)

@@ -1,6 +1,6 @@
 //! What the pass that marks the tokens keeps of the tokens behind a token.
 
-use jl_grammar::mark::{Marked, Named, NextToken, Opening, Shape};
+use jl_grammar::mark::{Marks, Named, NextToken, Opening, Shape};
 use jl_model::rows::Stack;
 
 /// A closing bracket whose opening one lies further to the left, and what follows it; or a bracket of another shape than
@@ -31,10 +31,10 @@ pub struct Near {
     pub named: Named,
 }
 
-/// The tokens so far with their marks, from the right, and what the next one to the left asks of them.
+/// The marks of the tokens so far, from the right, and what the next one to the left asks of them.
 #[derive(Drop)]
 pub struct Scan {
-    pub tokens: Stack<Marked>,
+    pub marks: Stack<Marks>,
     pub closing: Stack<Closing>,
     pub near: Near,
 }

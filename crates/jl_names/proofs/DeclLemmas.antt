@@ -16,9 +16,9 @@ names_snoc ds d = map-append (λ (c : Decl). c.name) ds (d ∷ [])
 names_long : (ds : List Decl) → length (names_of ds) ≡ length ds
 names_long ds = length-map ds (λ (d : Decl). d.name)
 
-pub decl_push : (es fs : List Numbered) (ds cs : List Decl) (d : Decl) (m : List ℕ) (at : ℕ)
-    → es ≡ first_numbers (with_places 0 (names_of ds)) → at ≡ length ds → m ≡ d.name → fs ≡ with_number es (m, at) → cs ≡ ds ++ d ∷ [] → fs ≡ first_numbers (with_places 0 (names_of cs))
-decl_push es fs ds cs d m at e a i f g = place_push es fs (names_of ds) (names_of cs) d.name m at e (a ∙ sym (names_long ds)) i f (ap names_of g ∙ names_snoc ds d)
+pub decl_push : (es fs : List Numbered) (ds cs : List Decl) (d : Decl) (at : ℕ)
+    → es ≡ first_numbers (with_places 0 (names_of ds)) → at ≡ length ds → fs ≡ with_number es (d.name, at) → cs ≡ ds ++ d ∷ [] → fs ≡ first_numbers (with_places 0 (names_of cs))
+decl_push es fs ds cs d at e a f g = place_push es fs (names_of ds) (names_of cs) d.name at e (a ∙ sym (names_long ds)) f (ap names_of g ∙ names_snoc ds d)
 
 -- the number of a name is that of one of the names
 number_low : (i : ℕ) (ns : List (List ℕ)) (n : List ℕ) (k : ℕ) → number_in (with_places i ns) n ≡ Some k → i ≤ k

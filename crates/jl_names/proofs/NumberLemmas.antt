@@ -74,19 +74,19 @@ pub with_places_snoc : (ns : List (List ℕ)) (n : List ℕ) (i : ℕ) → with_
 with_places_snoc [] n i = let e : i ≡ i + 0 = omega arith in ap (λ z. (n, z) ∷ []) e
 with_places_snoc (m ∷ ms) n i = let e : i + 1 + length ms ≡ i + suc (length ms) = omega arith in ap (λ z. (m, i) ∷ z) (with_places_snoc ms n (i + 1) ∙ ap (λ z. with_places (i + 1) ms ++ (n, z) ∷ []) (e))
 
-pub place_push : (es fs : List Numbered) (ns ms : List (List ℕ)) (n m : List ℕ) (at : ℕ)
-    → es ≡ first_numbers (with_places 0 ns) → at ≡ length ns → m ≡ n → fs ≡ with_number es (m, at) → ms ≡ ns ++ n ∷ [] → fs ≡ first_numbers (with_places 0 ms)
-place_push es fs ns ms n m at e a i f g =
-    first_numbers_push es fs (with_places 0 ns) (with_places 0 ms) (n, length ns) e (f ∙ ap (λ z. with_number es (z, at)) i ∙ ap (λ z. with_number es (n, z)) a)
+pub place_push : (es fs : List Numbered) (ns ms : List (List ℕ)) (n : List ℕ) (at : ℕ)
+    → es ≡ first_numbers (with_places 0 ns) → at ≡ length ns → fs ≡ with_number es (n, at) → ms ≡ ns ++ n ∷ [] → fs ≡ first_numbers (with_places 0 ms)
+place_push es fs ns ms n at e a f g =
+    first_numbers_push es fs (with_places 0 ns) (with_places 0 ms) (n, length ns) e (f ∙ ap (λ z. with_number es (n, z)) a)
     (ap (with_places 0) g ∙ with_places_snoc ns n 0 ∙ let z : 0 + length ns ≡ length ns = omega arith in ap (λ y. with_places 0 ns ++ (n, y) ∷ []) z)
 
 with_marks_of_snoc : (ns : List Name) (n : Name) → with_marks_of (ns ++ n ∷ []) ≡ with_marks_of ns ++ (n.bytes, n.at) ∷ []
 with_marks_of_snoc [] n = refl
 with_marks_of_snoc (m ∷ ms) n = ap (λ z. (m.bytes, m.at) ∷ z) (with_marks_of_snoc ms n)
 
-pub mark_push : (es fs : List Numbered) (ns ms : List Name) (n : Name) (m : List ℕ)
-    → es ≡ first_numbers (with_marks_of ns) → m ≡ n.bytes → fs ≡ with_number es (m, n.at) → ms ≡ ns ++ n ∷ [] → fs ≡ first_numbers (with_marks_of ms)
-mark_push es fs ns ms n m e i f g = first_numbers_push es fs (with_marks_of ns) (with_marks_of ms) (n.bytes, n.at) e (f ∙ ap (λ z. with_number es (z, n.at)) i) (ap with_marks_of g ∙ with_marks_of_snoc ns n)
+pub mark_push : (es fs : List Numbered) (ns ms : List Name) (n : Name)
+    → es ≡ first_numbers (with_marks_of ns) → fs ≡ with_number es (n.bytes, n.at) → ms ≡ ns ++ n ∷ [] → fs ≡ first_numbers (with_marks_of ms)
+mark_push es fs ns ms n e f g = first_numbers_push es fs (with_marks_of ns) (with_marks_of ms) (n.bytes, n.at) e f (ap with_marks_of g ∙ with_marks_of_snoc ns n)
 
 -- SLOTS
 slots_append : (xs ys : List (Option (List ℕ))) (i : ℕ) → named_slots i (xs ++ ys) ≡ named_slots i xs ++ named_slots (i + length xs) ys
@@ -99,11 +99,11 @@ slots_append (Some n ∷ xs) ys i =
 pub unnamed_push : (es : List Numbered) (ss ts : List (Option (List ℕ))) → es ≡ named_slots 0 ss → ts ≡ ss ++ None ∷ [] → es ≡ named_slots 0 ts
 unnamed_push es ss ts e g = e ∙ sym (append-nil (named_slots 0 ss)) ∙ sym (ap (named_slots 0) g ∙ slots_append ss (None ∷ []) 0)
 
-pub named_push : (es fs : List Numbered) (ss ts : List (Option (List ℕ))) (n m : List ℕ) (at : ℕ)
-    → es ≡ named_slots 0 ss → number_in (named_slots 0 ss) n ≡ None → at ≡ length ss → m ≡ n → fs ≡ with_number es (m, at) → ts ≡ ss ++ Some n ∷ [] → fs ≡ named_slots 0 ts
-named_push es fs ss ts n m at e h a i f g =
+pub named_push : (es fs : List Numbered) (ss ts : List (Option (List ℕ))) (n : List ℕ) (at : ℕ)
+    → es ≡ named_slots 0 ss → number_in (named_slots 0 ss) n ≡ None → at ≡ length ss → fs ≡ with_number es (n, at) → ts ≡ ss ++ Some n ∷ [] → fs ≡ named_slots 0 ts
+named_push es fs ss ts n at e h a f g =
     let z : 0 + length ss ≡ length ss = omega arith in
-    f ∙ ap (λ x. with_number es (x, at)) i ∙ ap (λ x. with_number x (n, at)) e ∙ ap (λ o. cond (is_some o) (named_slots 0 ss) (named_slots 0 ss ++ (n, at) ∷ [])) h
+    f ∙ ap (λ x. with_number x (n, at)) e ∙ ap (λ o. cond (is_some o) (named_slots 0 ss) (named_slots 0 ss ++ (n, at) ∷ [])) h
     ∙ ap (λ x. named_slots 0 ss ++ (n, x) ∷ []) (a ∙ sym z)
     ∙ sym (ap (named_slots 0) g ∙ slots_append ss (Some n ∷ []) 0)
 

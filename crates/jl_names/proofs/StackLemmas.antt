@@ -1,5 +1,5 @@
 -- Names of which a later one hides an equal one before it: one more, and one less.
-use Rattle.std.proofs.Common.{◌≡◌, ◌∙◌, refl, sym, ap, ℕ, zero, suc, ◌+◌, ◌<◌, arith, nat_eq, nat_lt, Bool, true, false, cond, List, [], ◌∷◌, ◌++◌, length, get_or, Option, Some, None, is_some, append_assoc}
+use Rattle.std.proofs.Common.{◌≡◌, ◌∙◌, refl, sym, ap, subst, ℕ, zero, suc, ◌+◌, ◌<◌, arith, nat_eq, nat_lt, Bool, true, false, cond, List, [], ◌∷◌, ◌++◌, length, get_or, Option, Some, None, is_some, append_assoc}
 use Rattle.std.proofs.lemmas.List.{append-nil, map-append, length-map}
 use Rattle.std.specs.Cmp.Lexicographic.{pointwise}
 use Rattle.std.specs.Option.{option_or}
@@ -152,6 +152,12 @@ module _ (xs : List Stacked) (es : List Numbered) (n : List ℕ) (p : ℕ) (s : 
     pub seen_other : pointwise nat_eq m n ≡ false → last_place (texts_of xs) n ≡ None
     seen_other e = found_stale xs es n p s h (λ k f. let a : n ≡ m = text_is n m (ap (same_text n) (sym text) ∙ f) in let b : false ≡ true = sym (sym (same_bytes m n) ∙ e) ∙ ap (λ z. same_text z n) (sym a) ∙ text_self n in absurd (let c = b in cc))
 
+-- what a search finds, by an equal list and an equal name
+pub told : (xs zs : List Stacked) (es : List Numbered) (n m : List ℕ) (known hides : Option ℕ) → IsStack xs es → zs ≡ xs → m ≡ n → known ≡ number_in es n
+    → ((table : List Numbered) → IsStack zs table → known ≡ number_in table m → hides ≡ last_place (texts_of zs) m) → hides ≡ last_place (texts_of xs) n
+told xs zs es n m known hides s e i k f =
+    f es (subst (λ z. IsStack z es) (sym e) s) (k ∙ ap (number_in es) (sym i)) ∙ ap (λ z. last_place (texts_of z) m) e ∙ ap (last_place (texts_of xs)) i
+
 -- WHAT IS HIDDEN
 hidden_snoc : (before ns : List (List ℕ)) (n : List ℕ) → hidden_after before (ns ++ n ∷ []) ≡ hidden_after before ns ++ last_place (before ++ ns) n ∷ []
 hidden_snoc before [] n = ap (λ z. last_place z n ∷ []) (sym (append-nil before))
@@ -219,12 +225,12 @@ knows_less ns n es s g m p h = by (same_text m n) refl
     by false e = s m p (last_snoc 0 ns n m ∙ ap (λ b. cond b (Some (0 + length ns)) (last_place ns m)) e ∙ h)
 
 -- one more name, after room was made for it
-pub pushed : (xs zs ys : List Stacked) (x : Stacked) (es fs : List Numbered) (at : ℕ) (name : List ℕ)
-    → IsStack xs es → zs ≡ xs → ys ≡ zs ++ x ∷ [] → x.hides ≡ last_place (texts_of xs) x.name → name ≡ x.name → at ≡ length xs → fs ≡ with_newer es (name, at) → IsStack ys fs
-pushed xs zs ys x es fs at name s e k h i a f = (
+pub pushed : (xs zs ys : List Stacked) (x : Stacked) (es fs : List Numbered) (at : ℕ)
+    → IsStack xs es → zs ≡ xs → ys ≡ zs ++ x ∷ [] → x.hides ≡ last_place (texts_of xs) x.name → at ≡ length xs → fs ≡ with_newer es (x.name, at) → IsStack ys fs
+pushed xs zs ys x es fs at s e k h a f = (
   ap hides_of g ∙ hides_snoc xs x ∙ ap (λ z. z ++ x.hides ∷ []) s.0 ∙ ap (λ z. hidden_after [] (texts_of xs) ++ z ∷ []) h
       ∙ sym (ap (hidden_after []) names ∙ hidden_snoc [] (texts_of xs) x.name),
-  λ m p q. knows_push (texts_of xs) x.name es fs s.1 (f ∙ ap (λ z. with_newer es (z, at)) i ∙ ap (λ z. with_newer es (x.name, z)) (a ∙ texts_long xs)) m p (ap (λ z. last_place z m) (sym names) ∙ q),
+  λ m p q. knows_push (texts_of xs) x.name es fs s.1 (f ∙ ap (λ z. with_newer es (x.name, z)) (a ∙ texts_long xs)) m p (ap (λ z. last_place z m) (sym names) ∙ q),
 )
   where
     g : ys ≡ xs ++ x ∷ []

@@ -78,17 +78,12 @@ impl DeclList {
     pub fn push(&mut self, decl: Decl) -> Result<(), AllocError>
         ensures { OnOk result (self.new ≡ self.old ++ decl ∷ []) }
     {
-        let place = self.decls.len();
-        let number = to_u32(place)?;
-        let name = decl.name.copy()?;
-        self.decls.push(decl)?;
-        match self.numbers.add(name.as_slice(), number) {
-            Ok(()) => Ok(()),
-            Err(error) => {
-                self.decls.truncate(place);
-                Err(error)
-            }
-        }
+        let number = to_u32(self.decls.len())?;
+        // Room first: once the table has the name, nothing may fail.
+        self.decls.reserve(1)?;
+        self.numbers.add(&decl.name, number)?;
+        self.decls.push_reserved(decl);
+        Ok(())
     }
 
     /// All declarations but the last, where there is one.

@@ -2,6 +2,7 @@
 #![tactic(auto)]
 
 pub mod decls;
+mod key;
 pub mod list;
 pub mod marked;
 pub mod slots;

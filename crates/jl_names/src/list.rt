@@ -66,7 +66,7 @@ impl NameList {
         let number = to_u32(self.names.len())?;
         // Room first: once the table has the name, nothing may fail.
         self.names.reserve(1)?;
-        self.places.add(name.as_slice(), number)?;
+        self.places.add(&name, number)?;
         self.names.push_reserved(name);
         Ok(())
     }
@@ -83,7 +83,7 @@ impl NameList {
 fn copy_all(alloc: Global, names: &[Bytes]) -> Result<Vec<Bytes>, AllocError>
     ensures { IfOk result (λ copies. copies.items ≡ names.now) }
 {
-    let mut copies = Vec::new(alloc);
+    let mut copies = Vec::with_capacity(alloc, names.len())?;
     for name in names {
         copies.push(name.copy()?)?;
     }

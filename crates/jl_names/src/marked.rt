@@ -58,16 +58,11 @@ impl MarkedNames {
     pub fn push(&mut self, name: Name) -> Result<(), AllocError>
         ensures { OnOk result (self.new ≡ self.old ++ name ∷ []) }
     {
-        let place = self.names.len();
-        let copy = name.bytes.copy()?;
         let at = name.at;
-        self.names.push(name)?;
-        match self.places.add(copy.as_slice(), at) {
-            Ok(()) => Ok(()),
-            Err(error) => {
-                self.names.truncate(place);
-                Err(error)
-            }
-        }
+        // Room first: once the table has the name, nothing may fail.
+        self.names.reserve(1)?;
+        self.places.add(&name.bytes, at)?;
+        self.names.push_reserved(name);
+        Ok(())
     }
 }

@@ -66,17 +66,12 @@ impl Slots {
         requires { number_in (named_slots 0 self.old) name ≡ None }
         ensures { OnOk result (self.new ≡ self.old ++ Some name ∷ []) }
     {
-        let slot = self.names.len();
-        let number = to_u32(slot)?;
-        let copy = name.copy()?;
-        self.names.push(Some(name))?;
-        match self.numbers.add(copy.as_slice(), number) {
-            Ok(()) => Ok(()),
-            Err(error) => {
-                self.names.truncate(slot);
-                Err(error)
-            }
-        }
+        let number = to_u32(self.names.len())?;
+        // Room first: once the table has the name, nothing may fail.
+        self.names.reserve(1)?;
+        self.numbers.add(&name, number)?;
+        self.names.push_reserved(Some(name));
+        Ok(())
     }
 
     /// Only so many of the slots, from the first on.

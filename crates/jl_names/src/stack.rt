@@ -1,6 +1,6 @@
 //! Names of which a later one hides an equal one before it.
 
-ghost use Rattle.std.specs.Prelude.{◌≡◌, ◌++◌, ◌∷◌, ◌-◌, [], List, length, take, OnOk, OnErr};
+ghost use Rattle.std.specs.Prelude.{◌≡◌, ◌++◌, ◌∷◌, ◌-◌, [], List, length, take, IfOk, OnOk, OnErr};
 ghost use Rattle.jl_names.specs.Numbers.{Numbered, number_in};
 ghost use Rattle.jl_names.specs.Stacks.{last_place, texts_of, IsStack};
 
@@ -61,18 +61,20 @@ impl NameStack {
         place_if_named(self.names.as_slice(), self.places.find(name), name)
     }
 
-    /// One more name. Want of memory stands for more than 2^32 of them, too.
-    pub fn push(&mut self, name: Bytes) -> Result<(), AllocError>
+    /// One more name. The answer is the place of the equal name that it hides. Want of memory stands for more than 2^32 of them,
+    /// too.
+    pub fn push(&mut self, name: Bytes) -> Result<Option<u32>, AllocError>
         ensures pushed { OnOk result (self.new ≡ self.old ++ name ∷ []) }
+        ensures hidden { IfOk result (λ hidden. hidden ≡ last_place self.old name) }
         ensures refused { OnErr result (self.new ≡ self.old) }
     {
         let number = to_u32(self.names.len())?;
         // Room first: once the table has the name, nothing may fail.
         self.names.reserve(1)?;
-        let before = self.places.put(name.as_slice(), number)?;
+        let before = self.places.put(&name, number)?;
         let hides = place_if_named(self.names.as_slice(), before, name.as_slice());
         self.names.push_reserved(Stacked { name, hides });
-        Ok(())
+        Ok(hides)
     }
 
     /// All names but the last.

@@ -3,7 +3,9 @@
 ghost use Rattle.std.specs.Prelude.{◌≡◌, ◌≤◌, ◌^◌, [], ◌+◌, ◌-◌, take, length, IfOk, OnOk, OnErr};
 ghost use Rattle.jl_names.specs.Numbers.{number_in, with_number, renumber, with_newer};
 
+use crate::key::Key;
 use indexmap::IndexMap;
+use jl_model::ty::Bytes;
 use std::alloc::{AllocError, Global};
 use std::marker::Model;
 
@@ -21,8 +23,7 @@ pub(crate) fn to_u32(place: usize) -> Result<u32, AllocError>
 /// Names with a number each, in the order in which they came. Contracts see the list of these pairs.
 #[derive(Drop)]
 pub struct NameMap {
-    alloc: Global,
-    numbers: IndexMap<Vec<u8>, u32>,
+    numbers: IndexMap<Key, u32>,
 }
 
 impl Model for NameMap {
@@ -34,7 +35,7 @@ impl Model for NameMap {
 
     ghost coded = { coded_list (coded× (coded_list coded_ℕ) coded_ℕ) };
 
-    ghost view = { λ t. map (λ e. (e.0.items, e.1)) t.numbers.entries };
+    ghost view = { λ t. map (λ e. (e.0.name, e.1)) t.numbers.entries };
 }
 
 impl NameMap {
@@ -42,7 +43,6 @@ impl NameMap {
         ensures { result ≡ [] }
     {
         NameMap {
-            alloc,
             numbers: IndexMap::new(alloc),
         }
     }
@@ -55,13 +55,13 @@ impl NameMap {
     }
 
     /// One more name with its number; a name that has one keeps it.
-    pub fn add(&mut self, name: &[u8], number: u32) -> Result<(), AllocError>
+    pub fn add(&mut self, name: &Bytes, number: u32) -> Result<(), AllocError>
         ensures added { OnOk result (self.new ≡ with_number self.old (name.now, number)) }
         ensures refused { OnErr result (self.new ≡ self.old) }
     {
         // Most names are new, and for those one look-up is enough.
         if let Some(before) = self.put(name, number)? {
-            self.renumber(name, before);
+            self.renumber(name.as_slice(), before);
         }
         Ok(())
     }
@@ -76,12 +76,12 @@ impl NameMap {
     }
 
     /// One more name with its number; a name that has one gets this in its place. The answer is the number that it had.
-    pub fn put(&mut self, name: &[u8], number: u32) -> Result<Option<u32>, AllocError>
+    pub fn put(&mut self, name: &Bytes, number: u32) -> Result<Option<u32>, AllocError>
         ensures put { OnOk result (self.new ≡ with_newer self.old (name.now, number)) }
         ensures before { IfOk result (λ before. before ≡ number_in self.old name.now) }
         ensures refused { OnErr result (self.new ≡ self.old) }
     {
-        let key = Vec::from_slice(self.alloc, name)?;
+        let key = Key { name: name.copy()? };
         let before = self.numbers.insert(key, number)?;
         Ok(before)
     }

@@ -38,7 +38,7 @@ fn keep_bounds(alloc: Global, table: &Table, bounds: &[Bound]) -> Result<Bounds,
     ensures limit { result ≡ Err TypeLimit → SomeTooLarge table.now (bound_types bounds.now) }
 {
     table.valid();
-    let mut kept = Vec::new(alloc);
+    let mut kept = Vec::with_capacity(alloc, bounds.len())?;
     for bound in bounds {
         let low = normal(alloc, table, &bound.low)?;
         let high = normal(alloc, table, &bound.high)?;
@@ -55,7 +55,7 @@ fn keep_fields(alloc: Global, table: &Table, fields: &[Field]) -> Result<Fields,
     ensures kept { IfOk result (λ gs. (d : Decl) → AllSettled (table_with table.now d) (field_types fields.now) (field_types gs)) }
     ensures limit { result ≡ Err TypeLimit → SomeKeptTooLarge table.now (field_types fields.now) }
 {
-    let mut kept = Vec::new(alloc);
+    let mut kept = Vec::with_capacity(alloc, fields.len())?;
     for field in fields {
         let ty = settled(alloc, table, &field.ty)?;
         let name = field.name.copy()?;

@@ -24,6 +24,7 @@ fn push_bounds(types: &mut Vec<Ty>, bounds: &[Bound]) -> Result<(), AllocError>
 fn push_fields(types: &mut Vec<Ty>, fields: &[Field]) -> Result<(), AllocError>
     ensures { OnOk result (types.new.items ≡ types.old.items ++ field_types fields.now) }
 {
+    types.reserve(fields.len())?;
     for field in fields {
         types.push(field.ty.copy()?)?;
     }

@@ -110,19 +110,19 @@ fn put_variable(out: &mut Row<Terminal>, variable: &VarText) -> Result<(), Alloc
         VarText::Below(_, name, bound) => {
             put_name(out, name)?;
             put_mark(out, Operator::Subtype)?;
-            put_type(out, bound)
+            put_type(out, bound.get())
         }
         VarText::Above(_, name, bound) => {
             put_name(out, name)?;
             put_mark(out, Operator::Supertype)?;
-            put_type(out, bound)
+            put_type(out, bound.get())
         }
         VarText::Between(low, _, name, high) => {
-            put_type(out, low)?;
+            put_type(out, low.get())?;
             put_mark(out, Operator::Subtype)?;
             put_name(out, name)?;
             put_mark(out, Operator::Subtype)?;
-            put_type(out, high)
+            put_type(out, high.get())
         }
     }
 }

@@ -9,7 +9,8 @@ ghost use Rattle.jl_reader.specs.Answers.{Reads, UnlessMemory, IsOnly, TookAt, w
 
 use crate::fault::SyntaxFault;
 use crate::step::{
-    is_frequent, is_in_type, is_type_wanted, start, step_anywhere, step_in_type, step_often,
+    is_frequent, is_in_type_or_fields, is_type_wanted, start, step_anywhere,
+    step_in_type_or_fields, step_often,
 };
 use jl_grammar::mark::Marked;
 use jl_grammar::state::{Point, Reading};
@@ -43,8 +44,8 @@ fn take(
     let at = token.lexeme.at;
     let taken = if is_frequent(&point) {
         step_often(alloc, &token, point, reading)
-    } else if is_in_type(&point) {
-        step_in_type(alloc, &token, point, reading)
+    } else if is_in_type_or_fields(&point) {
+        step_in_type_or_fields(alloc, &token, point, reading)
     } else {
         step_anywhere(alloc, &token, point, reading)
     };

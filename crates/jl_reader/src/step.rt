@@ -3,7 +3,6 @@
 //! looked into there, the point is moved piece by piece.
 
 ghost use Rattle.std.specs.Prelude.{◌≡◌, IfOk, Some};
-ghost use Rattle.jl_typeread.specs.Machine.{step_at};
 ghost use Rattle.jl_grammar.specs.declared.state.Point.TheVariants.{Entry};
 ghost use Rattle.jl_grammar.specs.Goes.{state_at};
 ghost use Rattle.jl_grammar.specs.Machine.{start, step, is_type_wanted};
@@ -21,16 +20,13 @@ use jl_reader_items::heads::{
 };
 use jl_reader_items::special::{at_due, token_after_eval};
 use jl_reader_items::types::type_step;
-use jl_reader_operands::after_operand::{token_after_operand, type_start};
+use jl_reader_operands::after_operand::token_after_operand;
 use jl_reader_operands::brackets::{
     at_again, at_dot, at_first, at_index, at_indexed, at_piece, at_quoted, at_texted,
 };
 use jl_reader_operands::operands::begin_operand;
-use jl_typeread::state::{State as TypeState, Turn};
-use jl_typeread::terminal::Lexeme;
 use jl_typeread::{entries as types, turns};
 use std::alloc::{AllocError, Global};
-use std::mem;
 
 /// The rest of a reading before its first token.
 pub(crate) fn start(alloc: Global) -> Reading
@@ -56,15 +52,6 @@ pub(crate) fn is_type_wanted(point: &Point) -> bool
         Point::Params(_, state) => types::is_type_wanted(&state.get().point),
         _ => false,
     }
-}
-
-/// What a token is to a type, of whose reading then nothing is left.
-fn turn(alloc: Global, lexeme: &Lexeme, state: &mut TypeState) -> Result<Turn, AllocError>
-    ensures { IfOk result (λ t. t
-        ≡ step_at lexeme.now.terminal lexeme.now.at state.old.point state.old.stack) }
-{
-    let before = mem::replace(state, type_start(alloc));
-    turns::step(alloc, lexeme, before)
 }
 
 /// What a token makes of a reading; none where it is wrong.
@@ -111,13 +98,13 @@ pub(crate) fn step_anywhere(
         Point::Headed(heading) => at_headed(alloc, terminal, m, at, heading, reading),
         Point::Where(heading, state) => {
             let mut state = state;
-            let turn = turn(alloc, lexeme, state.get_mut())?;
-            where_turn(alloc, turn, terminal, m, at, heading, state, reading)
+            let taken = turns::step(alloc, lexeme, state.get_mut())?;
+            where_turn(alloc, taken, terminal, m, at, heading, state, reading)
         }
         Point::Type(goal, state) => {
             let mut state = state;
-            let turn = turn(alloc, lexeme, state.get_mut())?;
-            type_step(alloc, turn, terminal, at, goal, state, reading)
+            let taken = turns::step(alloc, lexeme, state.get_mut())?;
+            type_step(alloc, taken, terminal, at, goal, state, reading)
         }
         Point::AbstractWord(place) => Ok(at_abstract(terminal, place, reading)),
         Point::DeclName(place, is_struct) => at_decl(
@@ -126,8 +113,8 @@ pub(crate) fn step_anywhere(
         Point::Declared(declaring) => at_declared(alloc, terminal, declaring, reading),
         Point::Params(declaring, state) => {
             let mut state = state;
-            let turn = turn(alloc, lexeme, state.get_mut())?;
-            params_turn(alloc, turn, terminal, declaring, state, reading)
+            let taken = turns::step(alloc, lexeme, state.get_mut())?;
+            params_turn(alloc, taken, terminal, declaring, state, reading)
         }
         Point::Fields(fielding) => at_fields(alloc, terminal, at, fielding, reading),
         Point::Field(fielding, name) => at_field(alloc, terminal, fielding, name, reading),
@@ -148,12 +135,14 @@ pub(crate) fn is_frequent(point: &Point) -> bool {
     }
 }
 
-/// Whether a reading is inside a type, or inside the variables of a `where` or of a declaration.
-pub(crate) fn is_in_type(point: &Point) -> bool {
+/// Whether a reading is inside a type, the variables of a `where` or of a declaration, or the fields of a struct.
+pub(crate) fn is_in_type_or_fields(point: &Point) -> bool {
     match point {
         Point::Where(_, _) => true,
         Point::Type(_, _) => true,
         Point::Params(_, _) => true,
+        Point::Fields(_) => true,
+        Point::Field(_, _) => true,
         _ => false,
     }
 }
@@ -182,9 +171,9 @@ pub(crate) fn step_often(
     }
 }
 
-/// The same as `step_anywhere`, inside a type or variables.
+/// The same as `step_anywhere`, inside a type, variables or fields.
 #[inline(never)]
-pub(crate) fn step_in_type(
+pub(crate) fn step_in_type_or_fields(
     alloc: Global,
     token: &Marked,
     point: Point,
@@ -198,10 +187,10 @@ pub(crate) fn step_in_type(
     match point {
         Point::Where(heading, state) => {
             let mut state = state;
-            let turn = turn(alloc, lexeme, state.get_mut())?;
+            let taken = turns::step(alloc, lexeme, state.get_mut())?;
             where_turn(
                 alloc,
-                turn,
+                taken,
                 terminal,
                 token.marks,
                 lexeme.at,
@@ -212,14 +201,16 @@ pub(crate) fn step_in_type(
         }
         Point::Type(goal, state) => {
             let mut state = state;
-            let turn = turn(alloc, lexeme, state.get_mut())?;
-            type_step(alloc, turn, terminal, lexeme.at, goal, state, reading)
+            let taken = turns::step(alloc, lexeme, state.get_mut())?;
+            type_step(alloc, taken, terminal, lexeme.at, goal, state, reading)
         }
         Point::Params(declaring, state) => {
             let mut state = state;
-            let turn = turn(alloc, lexeme, state.get_mut())?;
-            params_turn(alloc, turn, terminal, declaring, state, reading)
+            let taken = turns::step(alloc, lexeme, state.get_mut())?;
+            params_turn(alloc, taken, terminal, declaring, state, reading)
         }
+        Point::Fields(fielding) => at_fields(alloc, terminal, lexeme.at, fielding, reading),
+        Point::Field(fielding, name) => at_field(alloc, terminal, fielding, name, reading),
         point => step_anywhere(alloc, token, point, reading),
     }
 }

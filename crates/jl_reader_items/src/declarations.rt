@@ -3,6 +3,7 @@
 ghost use Rattle.std.specs.Prelude.{◌≡◌, IfOk, None, OnOk, Some};
 ghost use Rattle.jl_grammar.specs.Goes.{state_at};
 ghost use Rattle.jl_grammar.specs.Forms.{no_forms};
+ghost use Rattle.jl_typeread.specs.Machine.{turn_of};
 ghost use Rattle.jl_grammar.specs.Machine.{begin_abstract, at_abstract, at_decl, token_after_struct, token_after_abstract, token_after_header, end_header, token_after_params, at_declared, params_turn, token_after_field, at_fields, with_field, at_field, separator_after_item, at_made, separator_after_method, end_after_method, source_end_after_method, at_made_method};
 
 use jl_grammar::owned::Owned;
@@ -14,11 +15,10 @@ use jl_reader_forms::items::{abstract_item, header, method_item, struct_item, wi
 use jl_reader_operands::after_operand::want_type;
 use jl_token::token::Operator;
 use jl_typeread::entries::header_start;
-use jl_typeread::state::{State as TypeState, Turn};
+use jl_typeread::state::{State as TypeState, Taken};
 use jl_typeread::terminal::{Terminal, Word};
 use jl_typeread::tree::TypeText;
 use std::alloc::{AllocError, Global};
-use std::mem;
 
 /// The word behind `abstract`.
 fn begin_abstract(is_type: bool, place: u32, reading: &mut Reading) -> Option<Point>
@@ -205,28 +205,25 @@ pub fn at_declared(
 /// What a token is to the parameters of a declaration.
 pub fn params_turn(
     alloc: Global,
-    turn: Turn,
+    taken: Taken,
     terminal: &Terminal,
     declaring: Owned<Declaring>,
     state: Owned<TypeState>,
     reading: &mut Reading,
 ) -> Result<Option<Point>, AllocError>
     ensures { IfOk result (λ p. state_at p reading.new
-        ≡ params_turn turn terminal.now declaring reading.old.stack reading.old.script) }
+        ≡ params_turn (turn_of taken state) terminal.now declaring
+        reading.old.stack reading.old.script) }
 {
-    match turn {
-        Turn::Goes(next) => {
-            let mut state = state;
-            drop(mem::replace(state.get_mut(), next));
-            Ok(Some(Point::Params(declaring, state)))
-        }
-        Turn::Variables(variables) => {
+    match taken {
+        Taken::Goes => Ok(Some(Point::Params(declaring, state))),
+        Taken::Variables(variables) => {
             let mut declaring = declaring;
             declaring.get_mut().params = vars_form(alloc, variables)?;
             token_after_params(alloc, terminal, declaring, reading)
         }
-        turn => {
-            drop(turn);
+        taken => {
+            drop(taken);
             Ok(None)
         }
     }

@@ -5,6 +5,7 @@ ghost use Rattle.jl_grammar.specs.Goes.{state_at};
 ghost use Rattle.jl_grammar.specs.Forms.{no_forms};
 ghost use Rattle.jl_grammar.specs.Turns.{at, name_at};
 ghost use Rattle.jl_grammar.specs.Levels.{push_outer};
+ghost use Rattle.jl_typeread.specs.Machine.{turn_of};
 ghost use Rattle.jl_grammar.specs.Machine.{at_function, open_known, known_comma, close_known, at_known, dot_after_base, at_named, at_dotted, operator_after_base, at_colon, with_param, next_param, first_param, token_after_param, at_param, begin_body, token_after_short_head, token_after_head, end_head, at_headed, where_turn};
 
 use crate::entries::at_entry;
@@ -24,10 +25,9 @@ use jl_reader_forms::levels::{begin_form, no_pending, pending_after, take_levels
 use jl_reader_operands::after_operand::want_type;
 use jl_token::token::Operator;
 use jl_typeread::entries::where_start;
-use jl_typeread::state::{State as TypeState, Turn};
+use jl_typeread::state::{State as TypeState, Taken};
 use jl_typeread::terminal::{Terminal, Word};
 use std::alloc::{AllocError, Global};
-use std::mem;
 
 /// A token where the name of a function must stand.
 pub fn at_function(
@@ -549,7 +549,7 @@ pub fn at_headed(
 /// What a token is to the variables behind `where`.
 pub fn where_turn(
     alloc: Global,
-    turn: Turn,
+    taken: Taken,
     terminal: &Terminal,
     marks: Marks,
     next: u32,
@@ -558,20 +558,17 @@ pub fn where_turn(
     reading: &mut Reading,
 ) -> Result<Option<Point>, AllocError>
     ensures { IfOk result (λ p. state_at p reading.new
-        ≡ where_turn turn terminal.now marks next heading reading.old.stack reading.old.script) }
+        ≡ where_turn (turn_of taken state) terminal.now marks next heading
+        reading.old.stack reading.old.script) }
 {
-    match turn {
-        Turn::Goes(next) => {
-            let mut state = state;
-            drop(mem::replace(state.get_mut(), next));
-            Ok(Some(Point::Where(heading, state)))
-        }
-        Turn::Variables(variables) => {
+    match taken {
+        Taken::Goes => Ok(Some(Point::Where(heading, state))),
+        Taken::Variables(variables) => {
             let vars = vars_form(alloc, variables)?;
             end_head(alloc, terminal, marks, next, heading, vars, reading)
         }
-        turn => {
-            drop(turn);
+        taken => {
+            drop(taken);
             drop(heading);
             Ok(None)
         }

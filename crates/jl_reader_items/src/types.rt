@@ -3,6 +3,7 @@
 ghost use Rattle.std.specs.Prelude.{◌≡◌, IfOk, Some};
 ghost use Rattle.jl_grammar.specs.Goes.{state_at};
 ghost use Rattle.jl_grammar.specs.Forms.{typed_param};
+ghost use Rattle.jl_typeread.specs.Machine.{turn_of};
 ghost use Rattle.jl_grammar.specs.Machine.{token_after_left, open_make, token_after_type, type_step, token_after_param, with_param, token_after_field, with_field};
 
 use crate::declarations::{add_field, end_header, token_after_field};
@@ -14,10 +15,9 @@ use jl_reader_forms::forms::{isa_expr, sub_expr, type_form};
 use jl_reader_forms::items::typed_param;
 use jl_reader_operands::after_operand::{token_after_comparison, want_type};
 use jl_token::token::Operator;
-use jl_typeread::state::{State as TypeState, Turn};
+use jl_typeread::state::{State as TypeState, Taken};
 use jl_typeread::terminal::Terminal;
 use std::alloc::{AllocError, Global};
-use std::mem;
 
 /// A token behind the left type of a comparison.
 fn token_after_left(
@@ -132,10 +132,10 @@ fn token_after_type(
     }
 }
 
-/// What a token is to a type.
+/// What a token is to a type, and the state behind it.
 pub fn type_step(
     alloc: Global,
-    turn: Turn,
+    taken: Taken,
     terminal: &Terminal,
     next: u32,
     goal: Owned<Goal>,
@@ -143,20 +143,17 @@ pub fn type_step(
     reading: &mut Reading,
 ) -> Result<Option<Point>, AllocError>
     ensures { IfOk result (λ p. state_at p reading.new
-        ≡ type_step turn terminal.now next goal reading.old.stack reading.old.script) }
+        ≡ type_step (turn_of taken state) terminal.now next goal
+        reading.old.stack reading.old.script) }
 {
-    match turn {
-        Turn::Goes(next) => {
-            let mut state = state;
-            drop(mem::replace(state.get_mut(), next));
-            Ok(Some(Point::Type(goal, state)))
-        }
-        Turn::Type(ty) => {
+    match taken {
+        Taken::Goes => Ok(Some(Point::Type(goal, state))),
+        Taken::Type(ty) => {
             let ty = type_form(alloc, ty)?;
             token_after_type(alloc, terminal, next, goal.take(), ty, reading)
         }
-        turn => {
-            drop(turn);
+        taken => {
+            drop(taken);
             drop(goal);
             Ok(None)
         }

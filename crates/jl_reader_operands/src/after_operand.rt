@@ -193,7 +193,7 @@ fn push_first_comparison(
 }
 
 /// The beginning of a type.
-pub fn type_start(alloc: Global) -> TypeState
+pub(crate) fn type_start(alloc: Global) -> TypeState
     ensures { result ≡ type_start }
 {
     TypeState {

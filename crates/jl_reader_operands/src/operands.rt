@@ -5,6 +5,7 @@ ghost use Rattle.jl_grammar.specs.Goes.{state_at};
 ghost use Rattle.jl_grammar.specs.Forms.{name, truth, nothing, number};
 ghost use Rattle.jl_grammar.specs.Levels.{is_comparison_start};
 ghost use Rattle.jl_grammar.specs.Texts.{is_left_type};
+ghost use Rattle.jl_typeread.specs.Machine.{turn_of};
 ghost use Rattle.jl_grammar.specs.Turns.{at, type_turn, first_of_type, begin_opening, begin_name, begin_paren, begin_prefix, begin_operator, begin_word, begin_macro, begin_operand};
 
 use crate::after_operand::type_start;
@@ -17,26 +18,26 @@ use jl_reader_forms::blocks::{name_at, push_frame};
 use jl_reader_forms::forms::{name, no_branches, no_forms, nothing, number, truth};
 use jl_reader_forms::levels::{is_comparison_start, levels_after_prefix, no_pending};
 use jl_token::token::Operator;
-use jl_typeread::state::Turn;
+use jl_typeread::state::{State as TypeState, Taken};
 use jl_typeread::terminal::{Lexeme, Terminal, Word};
 use jl_typeread::turns::step;
 use std::alloc::{AllocError, Global};
 
-/// A token of a type.
+/// A token of a type, and the state behind it.
 #[inline(always)]
 fn type_turn(
-    alloc: Global,
-    turn: Turn,
+    taken: Taken,
     goal: Owned<Goal>,
+    state: Owned<TypeState>,
     reading: &mut Reading,
 ) -> Result<Option<Point>, AllocError>
     ensures { IfOk result (λ p. state_at p reading.new
-        ≡ type_turn turn goal reading.old.stack reading.old.script) }
+        ≡ type_turn (turn_of taken state) goal reading.old.stack reading.old.script) }
 {
-    match turn {
-        Turn::Goes(state) => Ok(Some(Point::Type(goal, Owned::new(alloc, state)?))),
-        turn => {
-            drop(turn);
+    match taken {
+        Taken::Goes => Ok(Some(Point::Type(goal, state))),
+        taken => {
+            drop(taken);
             Ok(None)
         }
     }
@@ -59,8 +60,9 @@ fn first_of_type(
         at: place,
     };
     let goal = Owned::new(alloc, goal)?;
-    let turn = step(alloc, &lexeme, type_start(alloc))?;
-    type_turn(alloc, turn, goal, reading)
+    let mut state = Owned::new(alloc, type_start(alloc))?;
+    let taken = step(alloc, &lexeme, state.get_mut())?;
+    type_turn(taken, goal, state, reading)
 }
 
 /// A form whose fixed tokens follow.

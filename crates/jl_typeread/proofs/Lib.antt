@@ -1,3 +1,4 @@
+pub mod Reserved
 pub mod HeldLemmas
 pub mod Spelled
 pub mod Kept

@@ -22,10 +22,20 @@ use Rattle.jl_typeread.specs.declared.state.Frame.{Frame}
 use Rattle.jl_typeread.specs.declared.state.Frame.TheVariants.{Argument, Paren, Where, Variable}
 use Rattle.jl_typeread.specs.declared.state.Point.{Point}
 use Rattle.jl_typeread.specs.declared.state.Point.TheVariants as P
+use Rattle.jl_typeread.specs.declared.state.State.{State}
+use Rattle.jl_typeread.specs.declared.state.Taken.{Taken}
+use Rattle.jl_typeread.specs.declared.state.Taken.TheVariants as taken
 use Rattle.jl_typeread.specs.declared.state.Turn.{Turn}
 use Rattle.jl_typeread.specs.declared.state.Turn.TheVariants.{Goes, Wrong}
 use Rattle.jl_typeread.specs.declared.state.Turn.TheVariants as turn
 use Rattle.jl_typeread.specs.Depth.{plain_type, no_arguments, no_variables, with_argument, with_variable, applied_type, paren, below_bound, above_bound, between_bound}
+
+-- what a token is to a state, with the state behind it
+abbrev pub turn_of : Taken → State → Turn
+turn_of taken.Goes s = Goes s
+turn_of (taken.Type t) s = turn.Type t
+turn_of (taken.Variables vs) s = turn.Variables vs
+turn_of taken.Wrong s = Wrong
 
 -- the reading goes on at this point
 abbrev pub at : Point → List Frame → Turn

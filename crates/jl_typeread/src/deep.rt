@@ -162,47 +162,85 @@ pub(crate) fn paren(
 }
 
 /// A variable with an upper bound.
-pub(crate) fn below_bound(at: u32, name: Bytes, high: Deep<TypeText>) -> Deep<VarText>
-    ensures { result ≡ below_bound at name high }
+pub(crate) fn below_bound(
+    alloc: Global,
+    at: u32,
+    name: Bytes,
+    high: Deep<TypeText>,
+) -> Result<Deep<VarText>, AllocError>
+    ensures { IfOk result (λ d. d ≡ below_bound at name high) }
 {
     match high {
-        Deep::Built(high, depth) => Deep::Built(VarText::Below(at, name, high), depth),
-        Deep::TooDeep => Deep::TooDeep,
+        Deep::Built(high, depth) => {
+            let high = SharedNode::new(alloc, high)?;
+            Ok(Deep::Built(VarText::Below(at, name, high), depth))
+        }
+        Deep::TooDeep => Ok(Deep::TooDeep),
     }
 }
 
 /// A variable with a lower bound.
-pub(crate) fn above_bound(at: u32, name: Bytes, low: Deep<TypeText>) -> Deep<VarText>
-    ensures { result ≡ above_bound at name low }
+pub(crate) fn above_bound(
+    alloc: Global,
+    at: u32,
+    name: Bytes,
+    low: Deep<TypeText>,
+) -> Result<Deep<VarText>, AllocError>
+    ensures { IfOk result (λ d. d ≡ above_bound at name low) }
 {
     match low {
-        Deep::Built(low, depth) => Deep::Built(VarText::Above(at, name, low), depth),
-        Deep::TooDeep => Deep::TooDeep,
+        Deep::Built(low, depth) => {
+            let low = SharedNode::new(alloc, low)?;
+            Ok(Deep::Built(VarText::Above(at, name, low), depth))
+        }
+        Deep::TooDeep => Ok(Deep::TooDeep),
     }
 }
 
 /// A variable with both bounds.
 pub(crate) fn between_bound(
+    alloc: Global,
     low: Deep<TypeText>,
     at: u32,
     name: Bytes,
     high: Deep<TypeText>,
-) -> Deep<VarText>
-    ensures { result ≡ between_bound low at name high }
+) -> Result<Deep<VarText>, AllocError>
+    ensures { IfOk result (λ d. d ≡ between_bound low at name high) }
 {
     match low {
         Deep::Built(low, depth) => match high {
             Deep::Built(high, other) => {
-                Deep::Built(VarText::Between(low, at, name, high), depth.max(other))
+                let (low, high) = two_nodes(alloc, low, high)?;
+                Ok(Deep::Built(VarText::Between(low, at, name, high), depth.max(other)))
             }
             Deep::TooDeep => {
                 drop(low);
-                Deep::TooDeep
+                Ok(Deep::TooDeep)
             }
         },
         Deep::TooDeep => {
             drop(high);
-            Deep::TooDeep
+            Ok(Deep::TooDeep)
+        }
+    }
+}
+
+/// Two types as nodes.
+fn two_nodes(
+    alloc: Global,
+    low: TypeText,
+    high: TypeText,
+) -> Result<(SharedNode<TypeText>, SharedNode<TypeText>), AllocError>
+    ensures { IfOk result (λ nodes. nodes ≡ (low, high)) }
+{
+    match SharedNode::new(alloc, low) {
+        Ok(low) => {
+            let high = SharedNode::new(alloc, high)?;
+            Ok((low, high))
+        }
+        Err(error) => {
+            drop(high);
+            Err(error)
         }
     }
 }

@@ -1,23 +1,24 @@
 //! A type at a place of a source.
 
-ghost use Rattle.std.specs.Prelude.{List, ◌≡◌, ◌<◌, ◌≤◌, IfOk, drop, length};
+ghost use Rattle.std.specs.Prelude.{List, ◌≡◌, ◌<◌, ◌≤◌, IfOk, drop, length, option_map};
 ghost use Rattle.jl_typeread.specs.declared.terminal.Lexeme.{Lexeme};
+ghost use Rattle.jl_typeread.specs.declared.state.State.{State};
 ghost use Rattle.jl_typeread.specs.declared.tree.TypeText.{TypeText};
 ghost use Rattle.jl_typeread.specs.Lexemes.{lexemes};
 ghost use Rattle.jl_typeread.specs.Depth.{type_depth, depth_limit};
 ghost use Rattle.jl_typeread.specs.Grammar.{IsType};
+ghost use Rattle.jl_typeread.specs.Machine.{turn_of};
 ghost use Rattle.jl_typeread.specs.Reads.{depth_after, is_passed, Reads, UnlessMemory, IsOnly, EndsAlone, Took, final_answer};
 
 use crate::deep::Deep;
 use crate::entries::type_start;
 use crate::fault::TypeFault;
-use crate::state::{State, Turn};
+use crate::state::{State, Taken};
 use crate::terminal::{Lexeme, Terminal};
 use crate::tree::TypeText;
 use crate::turns::step;
 use jl_token::token::{Operator, Token};
 use std::alloc::{AllocError, Global};
-use std::mem;
 
 /// A reading, and how many brackets are open.
 struct Reader {
@@ -57,19 +58,18 @@ fn is_passed(depth: usize, terminal: &Terminal) -> bool
 }
 
 /// Takes a token, or tells what ends the reading at it.
-fn take(alloc: Global, reader: &mut Reader, lexeme: &Lexeme) -> Result<Option<Turn>, AllocError>
+fn take(alloc: Global, reader: &mut Reader, lexeme: &Lexeme) -> Result<Option<Taken>, AllocError>
     requires { reader.old.depth < usize.MAX }
     ensures { IfOk result
-        (λ ended.
-        Took reader.old.depth lexeme.now reader.old.state reader.new.state reader.new.depth ended) }
+        (λ ended. Took reader.old.depth lexeme.now reader.old.state reader.new.state reader.new.depth
+        (option_map (λ t. turn_of t reader.new.state) ended)) }
 {
     if !is_passed(reader.depth, &lexeme.terminal) {
-        let state = mem::replace(&mut reader.state, type_start(alloc));
-        match step(alloc, lexeme, state)? {
-            Turn::Goes(next) => drop(mem::replace(&mut reader.state, next)),
-            Turn::Type(ty) => return Ok(Some(Turn::Type(ty))),
-            Turn::Variables(variables) => return Ok(Some(Turn::Variables(variables))),
-            Turn::Wrong => return Ok(Some(Turn::Wrong)),
+        match step(alloc, lexeme, &mut reader.state)? {
+            Taken::Goes => {}
+            Taken::Type(ty) => return Ok(Some(Taken::Type(ty))),
+            Taken::Variables(variables) => return Ok(Some(Taken::Variables(variables))),
+            Taken::Wrong => return Ok(Some(Taken::Wrong)),
         }
     }
     reader.depth = depth_after(reader.depth, &lexeme.terminal);
@@ -77,14 +77,14 @@ fn take(alloc: Global, reader: &mut Reader, lexeme: &Lexeme) -> Result<Option<Tu
 }
 
 /// The answer at a token that ends the reading, of this place, with this many tokens before it.
-fn final_answer(turn: Turn, place: u32, next: usize) -> Result<(TypeText, usize), TypeFault>
-    ensures { result ≡ final_answer turn place next }
+fn final_answer(ended: Taken, place: u32, next: usize) -> Result<(TypeText, usize), TypeFault>
+    ensures { (s : State) → result ≡ final_answer (turn_of ended s) place next }
 {
-    match turn {
-        Turn::Type(Deep::Built(ty, _)) => Ok((ty, next)),
-        Turn::Type(Deep::TooDeep) => Err(TypeFault::TooDeep(next)),
-        turn => {
-            drop(turn);
+    match ended {
+        Taken::Type(Deep::Built(ty, _)) => Ok((ty, next)),
+        Taken::Type(Deep::TooDeep) => Err(TypeFault::TooDeep(next)),
+        ended => {
+            drop(ended);
             Err(TypeFault::BadType(place))
         }
     }
@@ -114,8 +114,8 @@ pub fn read_type(
     };
     for (count, token) in rest.iter().enumerate() {
         let lexeme = Lexeme::of(token)?;
-        if let Some(turn) = take(alloc, &mut reader, &lexeme)? {
-            return final_answer(turn, token.at, from + count);
+        if let Some(ended) = take(alloc, &mut reader, &lexeme)? {
+            return final_answer(ended, token.at, from + count);
         }
     }
     unreachable!()

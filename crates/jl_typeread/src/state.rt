@@ -77,15 +77,24 @@ pub struct State {
     pub stack: Stack<Frame>,
 }
 
-/// What a token makes of a state.
+/// What a token is to a state, which is changed where it is.
 #[derive(Drop)]
-pub enum Turn {
+pub enum Taken {
     /// The token belongs to what is read.
-    Goes(State),
+    Goes,
     /// It does not; a whole type stands before it.
     Type(Deep<TypeText>),
     /// It does not; whole variables stand before it.
     Variables(Deep<Row<VarText>>),
     /// It is wrong.
+    Wrong,
+}
+
+/// The same with the state behind the token, for contracts.
+#[derive(Drop)]
+pub enum Turn {
+    Goes(State),
+    Type(Deep<TypeText>),
+    Variables(Deep<Row<VarText>>),
     Wrong,
 }

@@ -79,7 +79,7 @@ const UNRULED_OF_7: [&[u8]; 2] = [b"finally", b"mutable"];
 const LONGER_UNRULED: [&[u8]; 3] = [b"primitive", b"baremodule", b"continue"];
 
 /// Whether the word is reserved and has no rule. It is looked for among those of its length.
-fn is_listed(word: &[u8]) -> bool
+fn is_unruled(word: &[u8]) -> bool
     ensures { result ≡ is_unruled word.now }
 {
     match word.len() {
@@ -92,13 +92,6 @@ fn is_listed(word: &[u8]) -> bool
         7 => UNRULED_OF_7.contains(&word),
         _ => LONGER_UNRULED.contains(&word),
     }
-}
-
-/// Whether the word is reserved and has no rule. A name that begins as no reserved word does is not looked for.
-fn is_unruled(word: &[u8]) -> bool
-    ensures { result ≡ is_unruled word.now }
-{
-    may_be_reserved(word) && is_listed(word)
 }
 
 /// The reserved words that begin a form.
@@ -160,10 +153,13 @@ fn closing_word(word: &[u8]) -> Option<Word>
     None
 }
 
-/// The reserved word that these bytes are.
+/// The reserved word that these bytes are. A name that begins as no reserved word does is not looked for.
 fn reserved_word(word: &[u8]) -> Option<Word>
     ensures { result ≡ reserved_word word.now }
 {
+    if !may_be_reserved(word) {
+        return None;
+    }
     match opening_word(word) {
         Some(found) => Some(found),
         None => match closing_word(word) {

@@ -33,16 +33,16 @@ pub enum ArgText {
     Above(u32, TypeText),
 }
 
-/// A variable with its bounds.
+/// A variable with its bounds, which are nodes of their own, since most variables have none.
 #[derive(Drop, PartialEq, Eq)]
 #[cycle(tree)]
 pub enum VarText {
     /// A name.
     Free(u32, Bytes),
     /// A name, `<:` and a type.
-    Below(u32, Bytes, TypeText),
+    Below(u32, Bytes, SharedNode<TypeText>),
     /// A name, `>:` and a type.
-    Above(u32, Bytes, TypeText),
+    Above(u32, Bytes, SharedNode<TypeText>),
     /// A type, `<:`, the place of the name and the name, `<:` and a type.
-    Between(TypeText, u32, Bytes, TypeText),
+    Between(SharedNode<TypeText>, u32, Bytes, SharedNode<TypeText>),
 }

@@ -1,35 +1,42 @@
 //! One token of variables, or of what follows one.
 
 ghost use Rattle.std.specs.Prelude.{◌≡◌, ◌∷◌, IfOk, None, Some};
-ghost use Rattle.jl_typeread.specs.Machine.{variable, end_of_variable, close_variables, close_enclosure, next_variable, next_in_enclosure, close_where, first_subtype, at_where, at_low, upper_bound, at_named, end_of_variables, close_after_variables, at_closed};
+ghost use Rattle.jl_typeread.specs.Machine.{variable, end_of_variable, close_variables, close_enclosure, next_variable, next_in_enclosure, close_where, first_subtype, at_where, at_low, upper_bound, at_named, end_of_variables, close_after_variables, at_closed, turn_of};
 
 use crate::deep::{
     Deep, above_bound, below_bound, between_bound, no_variables, paren, with_variable,
 };
 use crate::entries::{at, begin_type, push_frame, tree_of};
-use crate::state::{Bound, Enclosure, Frame, Point, Turn, TypeSoFar};
+use crate::state::{Bound, Enclosure, Frame, Point, State, Taken, TypeSoFar};
 use crate::terminal::{Lexeme, Terminal};
 use crate::tree::{TypeText, VarText};
-use jl_model::rows::{Row, Stack};
+use jl_model::rows::Row;
 use jl_model::ty::Bytes;
 use jl_token::token::Operator;
 use std::alloc::{AllocError, Global};
 
 /// A variable that ends with this type.
-pub(crate) fn variable(bound: Bound, begun: TypeSoFar) -> Option<Deep<VarText>>
-    ensures { result ≡ variable bound begun }
+pub(crate) fn variable(
+    alloc: Global,
+    bound: Bound,
+    begun: TypeSoFar,
+) -> Result<Option<Deep<VarText>>, AllocError>
+    ensures { IfOk result (λ v. v ≡ variable bound begun) }
 {
     match bound {
         Bound::First => match begun {
-            TypeSoFar::Plain(at, name) => Some(Deep::Built(VarText::Free(at, name), 0)),
+            TypeSoFar::Plain(at, name) => Ok(Some(Deep::Built(VarText::Free(at, name), 0))),
             TypeSoFar::Whole(ty) => {
                 drop(ty);
-                None
+                Ok(None)
             }
         },
-        Bound::Below(at, name) => Some(below_bound(at, name, tree_of(begun))),
-        Bound::Above(at, name) => Some(above_bound(at, name, tree_of(begun))),
-        Bound::Between(low, at, name) => Some(between_bound(low, at, name, tree_of(begun))),
+        Bound::Below(at, name) => Ok(Some(below_bound(alloc, at, name, tree_of(begun))?)),
+        Bound::Above(at, name) => Ok(Some(above_bound(alloc, at, name, tree_of(begun))?)),
+        Bound::Between(low, at, name) => {
+            let variable = between_bound(alloc, low, at, name, tree_of(begun))?;
+            Ok(Some(variable))
+        }
     }
 }
 
@@ -37,22 +44,22 @@ pub(crate) fn variable(bound: Bound, begun: TypeSoFar) -> Option<Deep<VarText>>
 pub(crate) fn end_of_variable(
     alloc: Global,
     variable: Option<Deep<VarText>>,
-    mut stack: Stack<Frame>,
-) -> Result<Turn, AllocError>
-    ensures { IfOk result (λ t. t ≡ end_of_variable variable stack) }
+    state: &mut State,
+) -> Result<Taken, AllocError>
+    ensures { IfOk result (λ t. turn_of t state.new ≡ end_of_variable variable state.old.stack) }
 {
     let Some(variable) = variable else {
-        return Ok(Turn::Wrong);
+        return Ok(Taken::Wrong);
     };
-    match stack.pop() {
+    match state.stack.pop() {
         None => {
             let variables = with_variable(no_variables(alloc), variable)?;
-            Ok(Turn::Variables(variables))
+            Ok(Taken::Variables(variables))
         }
         Some(frame) => {
             drop(frame);
             drop(variable);
-            Ok(Turn::Wrong)
+            Ok(Taken::Wrong)
         }
     }
 }
@@ -61,15 +68,15 @@ pub(crate) fn end_of_variable(
 pub(crate) fn close_variables(
     variable: Option<Deep<VarText>>,
     variables: Deep<Row<VarText>>,
-    stack: Stack<Frame>,
-) -> Result<Turn, AllocError>
-    ensures { IfOk result (λ t. t ≡ close_variables variable variables stack) }
+    state: &mut State,
+) -> Result<Taken, AllocError>
+    ensures { IfOk result (λ t. turn_of t state.new ≡ close_variables variable variables state.old.stack) }
 {
     match variable {
-        Some(variable) => at(Point::Closed(with_variable(variables, variable)?), stack),
+        Some(variable) => at(Point::Closed(with_variable(variables, variable)?), state),
         None => {
             drop(variables);
-            Ok(Turn::Wrong)
+            Ok(Taken::Wrong)
         }
     }
 }
@@ -79,13 +86,13 @@ pub(crate) fn close_enclosure(
     alloc: Global,
     variable: Option<Deep<VarText>>,
     listed: Enclosure,
-    stack: Stack<Frame>,
-) -> Result<Turn, AllocError>
-    ensures { IfOk result (λ t. t ≡ close_enclosure variable listed stack) }
+    state: &mut State,
+) -> Result<Taken, AllocError>
+    ensures { IfOk result (λ t. turn_of t state.new ≡ close_enclosure variable listed state.old.stack) }
 {
     match listed {
-        Enclosure::One => end_of_variable(alloc, variable, stack),
-        Enclosure::Braces(variables) => close_variables(variable, variables, stack),
+        Enclosure::One => end_of_variable(alloc, variable, state),
+        Enclosure::Braces(variables) => close_variables(variable, variables, state),
     }
 }
 
@@ -93,19 +100,19 @@ pub(crate) fn close_enclosure(
 pub(crate) fn next_variable(
     variable: Option<Deep<VarText>>,
     variables: Deep<Row<VarText>>,
-    stack: Stack<Frame>,
-) -> Result<Turn, AllocError>
-    ensures { IfOk result (λ t. t ≡ next_variable variable variables stack) }
+    state: &mut State,
+) -> Result<Taken, AllocError>
+    ensures { IfOk result (λ t. turn_of t state.new ≡ next_variable variable variables state.old.stack) }
 {
     match variable {
         Some(variable) => {
             let variables = with_variable(variables, variable)?;
             let frame = Frame::Variable(Bound::First, Enclosure::Braces(variables));
-            push_frame(Point::Variable, frame, stack)
+            push_frame(Point::Variable, frame, state)
         }
         None => {
             drop(variables);
-            Ok(Turn::Wrong)
+            Ok(Taken::Wrong)
         }
     }
 }
@@ -115,13 +122,13 @@ pub(crate) fn next_in_enclosure(
     alloc: Global,
     variable: Option<Deep<VarText>>,
     listed: Enclosure,
-    stack: Stack<Frame>,
-) -> Result<Turn, AllocError>
-    ensures { IfOk result (λ t. t ≡ next_in_enclosure variable listed stack) }
+    state: &mut State,
+) -> Result<Taken, AllocError>
+    ensures { IfOk result (λ t. turn_of t state.new ≡ next_in_enclosure variable listed state.old.stack) }
 {
     match listed {
-        Enclosure::One => end_of_variable(alloc, variable, stack),
-        Enclosure::Braces(variables) => next_variable(variable, variables, stack),
+        Enclosure::One => end_of_variable(alloc, variable, state),
+        Enclosure::Braces(variables) => next_variable(variable, variables, state),
     }
 }
 
@@ -129,19 +136,19 @@ pub(crate) fn next_in_enclosure(
 pub(crate) fn close_where(
     alloc: Global,
     variable: Option<Deep<VarText>>,
-    mut stack: Stack<Frame>,
-) -> Result<Turn, AllocError>
-    ensures { IfOk result (λ t. t ≡ close_where variable stack) }
+    state: &mut State,
+) -> Result<Taken, AllocError>
+    ensures { IfOk result (λ t. turn_of t state.new ≡ close_where variable state.old.stack) }
 {
     let Some(variable) = variable else {
-        return Ok(Turn::Wrong);
+        return Ok(Taken::Wrong);
     };
-    match stack.pop() {
-        None => end_of_variable(alloc, Some(variable), stack),
+    match state.stack.pop() {
+        None => end_of_variable(alloc, Some(variable), state),
         Some(Frame::Where(place, ty)) => match with_variable(no_variables(alloc), variable) {
             Ok(variables) => {
                 let ty = paren(alloc, place, ty, variables)?;
-                at(Point::Have(TypeSoFar::Whole(ty)), stack)
+                at(Point::Have(TypeSoFar::Whole(ty)), state)
             }
             Err(error) => {
                 drop(ty);
@@ -151,7 +158,7 @@ pub(crate) fn close_where(
         Some(frame) => {
             drop(frame);
             drop(variable);
-            Ok(Turn::Wrong)
+            Ok(Taken::Wrong)
         }
     }
 }
@@ -160,19 +167,19 @@ pub(crate) fn close_where(
 pub(crate) fn first_subtype(
     begun: TypeSoFar,
     listed: Enclosure,
-    stack: Stack<Frame>,
-) -> Result<Turn, AllocError>
-    ensures { IfOk result (λ t. t ≡ first_subtype begun listed stack) }
+    state: &mut State,
+) -> Result<Taken, AllocError>
+    ensures { IfOk result (λ t. turn_of t state.new ≡ first_subtype begun listed state.old.stack) }
 {
     match begun {
         TypeSoFar::Plain(at, name) => {
             let frame = Frame::Variable(Bound::Below(at, name), listed);
-            push_frame(Point::Want, frame, stack)
+            push_frame(Point::Want, frame, state)
         }
         TypeSoFar::Whole(ty) => push_frame(
             Point::Low(ty),
             Frame::Variable(Bound::First, listed),
-            stack,
+            state,
         ),
     }
 }
@@ -181,9 +188,9 @@ pub(crate) fn first_subtype(
 pub(crate) fn at_where(
     alloc: Global,
     lexeme: &Lexeme,
-    mut stack: Stack<Frame>,
-) -> Result<Turn, AllocError>
-    ensures { IfOk result (λ t. t ≡ at_where lexeme.now.terminal lexeme.now.at stack) }
+    state: &mut State,
+) -> Result<Taken, AllocError>
+    ensures { IfOk result (λ t. turn_of t state.new ≡ at_where lexeme.now.terminal lexeme.now.at state.old.stack) }
 {
     match &lexeme.terminal {
         Terminal::Operator(Operator::OpenBrace) => {
@@ -191,12 +198,14 @@ pub(crate) fn at_where(
             push_frame(
                 Point::Variable,
                 Frame::Variable(Bound::First, listed),
-                stack,
+                state,
             )
         }
         _ => {
-            stack.push(Frame::Variable(Bound::First, Enclosure::One))?;
-            begin_type(lexeme, stack)
+            state
+                .stack
+                .push(Frame::Variable(Bound::First, Enclosure::One))?;
+            begin_type(lexeme, state)
         }
     }
 }
@@ -205,13 +214,13 @@ pub(crate) fn at_where(
 pub(crate) fn at_low(
     lexeme: &Lexeme,
     low: Deep<TypeText>,
-    stack: Stack<Frame>,
-) -> Result<Turn, AllocError>
-    ensures { IfOk result (λ t. t ≡ at_low lexeme.now.terminal lexeme.now.at low stack) }
+    state: &mut State,
+) -> Result<Taken, AllocError>
+    ensures { IfOk result (λ t. turn_of t state.new ≡ at_low lexeme.now.terminal lexeme.now.at low state.old.stack) }
 {
     match &lexeme.terminal {
         Terminal::Name(name) => match name.copy() {
-            Ok(name) => at(Point::Named(low, lexeme.at, name), stack),
+            Ok(name) => at(Point::Named(low, lexeme.at, name), state),
             Err(error) => {
                 drop(low);
                 Err(error)
@@ -219,7 +228,7 @@ pub(crate) fn at_low(
         },
         _ => {
             drop(low);
-            Ok(Turn::Wrong)
+            Ok(Taken::Wrong)
         }
     }
 }
@@ -229,24 +238,24 @@ pub(crate) fn upper_bound(
     low: Deep<TypeText>,
     at: u32,
     name: Bytes,
-    mut stack: Stack<Frame>,
-) -> Result<Turn, AllocError>
-    ensures { IfOk result (λ t. t ≡ upper_bound low at name stack) }
+    state: &mut State,
+) -> Result<Taken, AllocError>
+    ensures { IfOk result (λ t. turn_of t state.new ≡ upper_bound low at name state.old.stack) }
 {
-    match stack.pop() {
+    match state.stack.pop() {
         Some(Frame::Variable(before, listed)) => {
             drop(before);
             let bound = Bound::Between(low, at, name);
-            push_frame(Point::Want, Frame::Variable(bound, listed), stack)
+            push_frame(Point::Want, Frame::Variable(bound, listed), state)
         }
         Some(frame) => {
             drop(frame);
             drop(low);
-            Ok(Turn::Wrong)
+            Ok(Taken::Wrong)
         }
         None => {
             drop(low);
-            Ok(Turn::Wrong)
+            Ok(Taken::Wrong)
         }
     }
 }
@@ -257,15 +266,15 @@ pub(crate) fn at_named(
     low: Deep<TypeText>,
     at: u32,
     name: Bytes,
-    stack: Stack<Frame>,
-) -> Result<Turn, AllocError>
-    ensures { IfOk result (λ t. t ≡ at_named terminal.now low at name stack) }
+    state: &mut State,
+) -> Result<Taken, AllocError>
+    ensures { IfOk result (λ t. turn_of t state.new ≡ at_named terminal.now low at name state.old.stack) }
 {
     match terminal {
-        Terminal::Operator(Operator::Subtype) => upper_bound(low, at, name, stack),
+        Terminal::Operator(Operator::Subtype) => upper_bound(low, at, name, state),
         _ => {
             drop(low);
-            Ok(Turn::Wrong)
+            Ok(Taken::Wrong)
         }
     }
 }
@@ -273,16 +282,16 @@ pub(crate) fn at_named(
 /// A token that is not of the variables before it.
 pub(crate) fn end_of_variables(
     variables: Deep<Row<VarText>>,
-    mut stack: Stack<Frame>,
-) -> Result<Turn, AllocError>
-    ensures { IfOk result (λ t. t ≡ end_of_variables variables stack) }
+    state: &mut State,
+) -> Result<Taken, AllocError>
+    ensures { IfOk result (λ t. turn_of t state.new ≡ end_of_variables variables state.old.stack) }
 {
-    match stack.pop() {
-        None => Ok(Turn::Variables(variables)),
+    match state.stack.pop() {
+        None => Ok(Taken::Variables(variables)),
         Some(frame) => {
             drop(frame);
             drop(variables);
-            Ok(Turn::Wrong)
+            Ok(Taken::Wrong)
         }
     }
 }
@@ -291,20 +300,20 @@ pub(crate) fn end_of_variables(
 pub(crate) fn close_after_variables(
     alloc: Global,
     variables: Deep<Row<VarText>>,
-    mut stack: Stack<Frame>,
-) -> Result<Turn, AllocError>
-    ensures { IfOk result (λ t. t ≡ close_after_variables variables stack) }
+    state: &mut State,
+) -> Result<Taken, AllocError>
+    ensures { IfOk result (λ t. turn_of t state.new ≡ close_after_variables variables state.old.stack) }
 {
-    match stack.pop() {
-        None => Ok(Turn::Variables(variables)),
+    match state.stack.pop() {
+        None => Ok(Taken::Variables(variables)),
         Some(Frame::Where(place, ty)) => {
             let ty = paren(alloc, place, ty, variables)?;
-            at(Point::Have(TypeSoFar::Whole(ty)), stack)
+            at(Point::Have(TypeSoFar::Whole(ty)), state)
         }
         Some(frame) => {
             drop(frame);
             drop(variables);
-            Ok(Turn::Wrong)
+            Ok(Taken::Wrong)
         }
     }
 }
@@ -314,12 +323,12 @@ pub(crate) fn at_closed(
     alloc: Global,
     terminal: &Terminal,
     variables: Deep<Row<VarText>>,
-    stack: Stack<Frame>,
-) -> Result<Turn, AllocError>
-    ensures { IfOk result (λ t. t ≡ at_closed terminal.now variables stack) }
+    state: &mut State,
+) -> Result<Taken, AllocError>
+    ensures { IfOk result (λ t. turn_of t state.new ≡ at_closed terminal.now variables state.old.stack) }
 {
     match terminal {
-        Terminal::Operator(Operator::CloseParen) => close_after_variables(alloc, variables, stack),
-        _ => end_of_variables(variables, stack),
+        Terminal::Operator(Operator::CloseParen) => close_after_variables(alloc, variables, state),
+        _ => end_of_variables(variables, state),
     }
 }

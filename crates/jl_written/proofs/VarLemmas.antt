@@ -44,6 +44,14 @@ var_at vs n p h =
     let e : p ≡ r.0 = omega (arith, a) in
     ap (slice_get vs) e ∙ r.1.1.1.0 ∙ sym r.1.1.1.1
 
+-- a name has a last place where it means a variable
+pub placed_var : (vs : List TypeVar) (n : List ℕ) → is_some (last_place (names_of vs) n) ≡ is_some (var_of vs n)
+placed_var vs n = by (last_place (names_of vs) n) refl
+  where
+    by : (o : Option ℕ) → last_place (names_of vs) n ≡ o → is_some (last_place (names_of vs) n) ≡ is_some (var_of vs n)
+    by None e = ap is_some e ∙ ap is_some (sym (var_none 0 vs n e))
+    by (Some p) e = ap is_some e ∙ ap is_some (sym (var_here 0 vs n p e).1.1.1.1)
+
 pub some_copied : (o : Option (Bor TypeVar)) → is_some o ≡ is_some (option_copied o)
 some_copied None = refl
 some_copied (Some v) = refl

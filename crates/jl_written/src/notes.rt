@@ -120,7 +120,7 @@ pub(crate) fn copy_bound(bound: &Bound) -> Result<Bound, AllocError>
 pub(crate) fn copy_bounds(alloc: Global, vars: &[Bound]) -> Result<Vec<Bound>, AllocError>
     ensures { IfOk result (λ bs. bs.items ≡ vars.now) }
 {
-    let mut bounds = Vec::new(alloc);
+    let mut bounds = Vec::with_capacity(alloc, vars.len())?;
     for var in vars {
         bounds.push(copy_bound(var)?)?;
     }

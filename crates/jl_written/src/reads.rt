@@ -13,7 +13,7 @@ use crate::notes::{
     fresh_variable, missing_arguments, note, note_brought, note_place, note_unknown, note_use, swap,
 };
 use crate::reading::{Named, Reading, TypeVar};
-use crate::vars::{Around, TypeVars, is_bound, meaning_of};
+use crate::vars::{Around, TypeVars, meaning_of, push_var};
 use jl_model::rows::Row;
 use jl_model::ty::{Bound, Bytes, Ty, Tys};
 use jl_names::decls::FirstDecls;
@@ -324,15 +324,16 @@ fn bind_name(
     }
     let number = to_u32(state.vars.len())?;
     state.vars.push(bound)?;
-    if is_bound(around, vars, name.as_slice()) {
-        note(state, at, StaticKind::Rebound);
-        state.unclear = true;
-    }
-    vars.push(TypeVar {
+    let var = TypeVar {
         name: name.copy()?,
         number,
         usable: true,
-    })
+    };
+    if push_var(around, vars, var)? {
+        note(state, at, StaticKind::Rebound);
+        state.unclear = true;
+    }
+    Ok(())
 }
 
 /// The bounds of a variable: without a written upper bound `Any`, without a lower one `Union{}`.
@@ -356,19 +357,19 @@ fn read_bounds(
             high: Ty::Any,
         }),
         VarText::Below(_, _, ty) => {
-            let high = read_type(alloc, around, vars, state, ty, inside)?;
+            let high = read_type(alloc, around, vars, state, ty.get(), inside)?;
             Ok(Bound {
                 low: empty_type(),
                 high,
             })
         }
         VarText::Above(_, _, ty) => {
-            let low = read_type(alloc, around, vars, state, ty, inside)?;
+            let low = read_type(alloc, around, vars, state, ty.get(), inside)?;
             Ok(Bound { low, high: Ty::Any })
         }
         VarText::Between(low, _, _, high) => {
-            let low = read_type(alloc, around, vars, state, low, inside)?;
-            let high = read_type(alloc, around, vars, state, high, inside)?;
+            let low = read_type(alloc, around, vars, state, low.get(), inside)?;
+            let high = read_type(alloc, around, vars, state, high.get(), inside)?;
             Ok(Bound { low, high })
         }
     }

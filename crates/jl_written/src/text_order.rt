@@ -41,7 +41,7 @@ fn move_all(swap: &Swap, places: &mut Vec<u32>)
 fn find_places(alloc: Global, reading: &Reading) -> Result<Vec<u32>, AllocError>
     ensures { IfOk result (λ ps. ps.items ≡ text_places reading.now) }
 {
-    let mut places = Vec::new(alloc);
+    let mut places = Vec::with_capacity(alloc, reading.vars.len())?;
     for place in 0..reading.vars.len() {
         places.push(to_u32(place)?)?;
     }

@@ -64,20 +64,16 @@ impl TypeVars {
         at(self.vars.as_slice(), place)
     }
 
-    /// One more variable. Want of memory stands for more than 2^32 of them, too.
-    pub fn push(&mut self, var: TypeVar) -> Result<(), AllocError>
-        ensures { OnOk result (self.new ≡ self.old ++ var ∷ []) }
+    /// One more variable. The answer is whether it hides one. Want of memory stands for more than 2^32 of them, too.
+    pub fn push(&mut self, var: TypeVar) -> Result<bool, AllocError>
+        ensures pushed { OnOk result (self.new ≡ self.old ++ var ∷ []) }
+        ensures hides { IfOk result (λ hides. hides ≡ is_some (var_of self.old var.name)) }
     {
-        let place = self.vars.len();
-        let name = var.name.copy()?;
-        self.vars.push(var)?;
-        match self.names.push(name) {
-            Ok(()) => Ok(()),
-            Err(error) => {
-                self.vars.truncate(place);
-                Err(error)
-            }
-        }
+        // Room first: once the table has the name, nothing may fail.
+        self.vars.reserve(1)?;
+        let hidden = self.names.push(var.name.copy()?)?;
+        self.vars.push_reserved(var);
+        Ok(hidden.is_some())
     }
 
     /// Other variables of the same names in the place of these. The table of names stays.
@@ -193,11 +189,20 @@ impl<'a> Around<'a> {
     }
 }
 
-/// Whether a type variable of this name is visible.
-pub(crate) fn is_bound(around: &Around<'_>, vars: &TypeVars, name: &[u8]) -> bool
-    ensures { result ≡ is_some (var_of (around.now.statics ++ vars.now) name.now) }
+/// One more variable. The answer is whether a type variable of its name was visible. One look-up tells this of the others, and
+/// adds the name.
+pub(crate) fn push_var(
+    around: &Around<'_>,
+    vars: &mut TypeVars,
+    var: TypeVar,
+) -> Result<bool, AllocError>
+    ensures pushed { OnOk result (vars.new ≡ vars.old ++ var ∷ []) }
+    ensures bound { IfOk result (λ bound. bound
+        ≡ is_some (var_of (around.now.statics ++ vars.old) var.name)) }
 {
-    vars.find(name).is_some() || around.statics.has(name)
+    let is_static = around.statics.has(var.name.as_slice());
+    let hides = vars.push(var)?;
+    Ok(hides || is_static)
 }
 
 /// What a name means where a type must stand: a visible type variable hides a declared type of its name.

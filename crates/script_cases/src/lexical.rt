@@ -119,8 +119,8 @@ pub fn type_tree(alloc: Global, source: &[u8], from: usize) -> Result<String, Al
 fn mark_text(alloc: Global, found: &[Token]) -> Result<String, AllocError> {
     let seen = drop_newlines(alloc, found)?;
     let count = seen.len();
-    let marked = with_marks(alloc, seen)?;
-    match marked.top() {
+    let mut marked = with_marks(alloc, seen)?;
+    match marked.pop() {
         None => format!(in alloc; "no token"),
         Some(first) => {
             let opening = first.marks.opening;

@@ -64,19 +64,19 @@ fn put_variable(out: &mut Written, variable: &VarText) {
         VarText::Below(_, name, bound) => {
             put_name(out, name.as_slice());
             out.put("<:");
-            put_type(out, bound);
+            put_type(out, bound.get());
         }
         VarText::Above(_, name, bound) => {
             put_name(out, name.as_slice());
             out.put(">:");
-            put_type(out, bound);
+            put_type(out, bound.get());
         }
         VarText::Between(low, _, name, high) => {
-            put_type(out, low);
+            put_type(out, low.get());
             out.put("<:");
             put_name(out, name.as_slice());
             out.put("<:");
-            put_type(out, high);
+            put_type(out, high.get());
         }
     }
 }

@@ -34,16 +34,16 @@ fn put_variable_places(out: &mut Written, variable: &VarText) {
         VarText::Free(at, _) => put_place(out, *at),
         VarText::Below(at, _, bound) => {
             put_place(out, *at);
-            put_type_places(out, bound);
+            put_type_places(out, bound.get());
         }
         VarText::Above(at, _, bound) => {
             put_place(out, *at);
-            put_type_places(out, bound);
+            put_type_places(out, bound.get());
         }
         VarText::Between(low, at, _, high) => {
-            put_type_places(out, low);
+            put_type_places(out, low.get());
             put_place(out, *at);
-            put_type_places(out, high);
+            put_type_places(out, high.get());
         }
     }
 }

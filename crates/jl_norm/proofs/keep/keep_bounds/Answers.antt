@@ -17,7 +17,7 @@ normal-requires-in-loop-bound c = (bound_known (is_known (length c.args.table.no
 
 pub returns-in_err-low-clause-limit : goal.returns-in_err-low-clause-limit
 returns-in_err-low-clause-limit c = λ e.
-    let p = err_from_is_err_and c.from_residual.result c.from_residual.ensures.1 in
+    let p = err_from_is_err_and c.from_residual-in_err-low.result c.from_residual-in_err-low.ensures.1 in
     let f : Err p.0 ≡ Err TypeLimit = sym p.1 ∙ e in
     let g : p.0 ≡ TypeLimit = cc in
     let w : c.normal.result ≡ Err TypeLimit = c.in_err-low.was ∙ ap (λ z. Err z) (sym p.2 ∙ g) in

@@ -16,7 +16,7 @@ settled-requires-clause-placed c = field_at (is_placed_field (length c.args.tabl
 
 pub returns-in_err-ty-clause-limit : goal.returns-in_err-ty-clause-limit
 returns-in_err-ty-clause-limit c = λ e.
-    let p = err_from_is_err_and c.from_residual.result c.from_residual.ensures.1 in
+    let p = err_from_is_err_and c.from_residual-in_err-ty.result c.from_residual-in_err-ty.ensures.1 in
     let f : Err p.0 ≡ Err TypeLimit = sym p.1 ∙ e in
     let g : p.0 ≡ TypeLimit = cc in
     let w : c.settled.result ≡ Err TypeLimit = c.in_err-ty.was ∙ ap (λ z. Err z) (sym p.2 ∙ g) in

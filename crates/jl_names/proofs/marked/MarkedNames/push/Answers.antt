@@ -1,8 +1,8 @@
-use Rattle.std.proofs.Common.{◌∙◌}
+use Rattle.std.proofs.Common.{◌∙◌, ◌++◌, ◌∷◌, [], ap}
 use Rattle.jl_names.proofs.NumberLemmas.{mark_push}
 use Rattle.jl_names.proofs.marked.MarkedNames.push.Goals as goal
 
-pub invariant_of-self-in-Ok : goal.invariant_of-self-in-Ok
-invariant_of-self-in-Ok c =
-    mark_push c.self.inside.places c.add.new.self c.self.inside.names.items c.push.new.self.items c.args.name c.as_slice.result.now
-    c.self.invariant (c.as_slice.ensures ∙ c.in_ok-copy.ensures) c.in-Ok.ensures.added c.in_ok-push.ensures.items
+pub invariant_of-self-2 : goal.invariant_of-self-2
+invariant_of-self-2 c =
+    mark_push c.self.inside.places c.add.new.self c.self.inside.names.items c.push_reserved.new.self.items c.args.name
+    c.self.invariant c.in_ok-add.ensures.added (c.push_reserved.ensures.items ∙ ap (λ z. z ++ c.args.name ∷ []) c.in_ok-reserve.ensures.items)
