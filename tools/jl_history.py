@@ -19,6 +19,7 @@ import bisect
 import json
 import re
 import sys
+from dataclasses import dataclass
 from typing import NamedTuple
 
 HEADER = b"%%history 1"
@@ -29,39 +30,45 @@ MOST_ITEMS = 18_446_744_073_709_551_615
 MOST_WORLDS, MOST_TASKS, MOST_KEYS, MOST_FILLS = 65_535, 4_096, 8_192, 16_384
 
 
-class Begin(NamedTuple):
+@dataclass(frozen=True)
+class Begin:
     kind = "begin"
     fuel: int
 
 
-class Key(NamedTuple):
+@dataclass(frozen=True)
+class Key:
     kind = "key"
     key: int
     function: str
     types: str
 
 
-class Fill(NamedTuple):
+@dataclass(frozen=True)
+class Fill:
     kind = "fill"
     key: int
     site: int
     first: int
 
 
-class Def(NamedTuple):
+@dataclass(frozen=True)
+class Def:
     kind = "def"
     task: int
     site: int
 
 
-class Spawn(NamedTuple):
+@dataclass(frozen=True)
+class Spawn:
     kind = "spawn"
     task: int
     child: int
     place: int
 
 
-class Done(NamedTuple):
+@dataclass(frozen=True)
+class Done:
     kind = "done"
     task: int
     calls: int
@@ -254,7 +261,7 @@ def quote(text):
 def event_text(event):
     """The lines of an event."""
     if event.kind != "done":
-        return " ".join([event.kind, *map(str, event)]) + "\n"
+        return " ".join([event.kind, *map(str, vars(event).values())]) + "\n"
     items = [" ".join(str(field) for field in item if field is not None) + "\n" for item in event.trace]
     head = f"done {event.task} {event.calls} {len(items)}\n"
     return head + "".join(items) + f"output {quote(event.output)}\noutcome {event.outcome} {event.text}\n"
@@ -397,7 +404,7 @@ class Checker:
         if item.kind == "look":
             return f"the world was {self.worlds[at]}" if self.worlds[at] != item.number else ""
         if item.kind in ("def", "spawn"):
-            return self.other_event(place, item, (task, item.number))
+            return self.other_event(place, task, item)
         if item.kind == "fetch":
             return "" if self.ends.get(item.number, at) < at else f"task {item.number} had not ended"
         if item.kind == "worldfull":
@@ -405,10 +412,11 @@ class Checker:
         return f"there were {self.tasks[at]} tasks" if self.tasks[at] != MOST_TASKS else ""
 
 
-    def other_event(self, place, item, fields):
+    def other_event(self, place, task, item):
         """Why the event that a `def` or `spawn` of a trace names is not that of the task."""
         event = self.events[item.at] if item.at < place else None
-        return "" if event and event.kind == item.kind and event[:2] == fields else f"event {item.at} is not that"
+        is_that = event and event.kind == item.kind and event.task == task and item.number == (event.site if item.kind == "def" else event.child)
+        return "" if is_that else f"event {item.at} is not that"
 
 
 def first_cause(events):
@@ -573,13 +581,10 @@ def place_of_site(places, site):
 
 def as_object(place, event, worlds, keys, tasks, places):
     """The event as an object: its own fields by the names of docs/HISTORY.md in lower case, and what follows from the history."""
-    told = {"event": place, "kind": event.kind}
+    told = {"event": place, "kind": event.kind} | vars(event)
     if event.kind == "done":
-        fields = dict(zip(event._fields, event))
-        fields["trace"] = [item_object(item) for item in event.trace]
-        told |= fields | ({"worlds": tasks.of[event.task]} if event.task else {})
-    else:
-        told |= zip(event._fields, event)
+        told["trace"] = [item_object(item) for item in event.trace]
+        told |= {"worlds": tasks.of[event.task]} if event.task else {}
     if event.kind == "fill":
         key = keys[event.key]
         told |= {"function": key.function, "types": key.types} | place_of_site(places, event.site)

@@ -80,8 +80,8 @@ class Region:
         self.names = set()  # what stands in it and in the regions in it
         self.own_names = set()  # without those of definitions in it
         self.looks = kind == "evaluated"
-        self.defines = self.declares = self.is_spawn = False
-        self.number = None  # of a statement
+        self.declares = self.is_spawn = False
+        self.number = self.site = None  # of a statement: its number, and that of the definition that it is
 
 
 class Reader:
@@ -137,8 +137,8 @@ class Reader:
             self.region.is_spawn = self.at(bound) == "Threads" and self.at(bound + 2) == "@spawn"
         head = self.head(place)
         if head:
-            if self.region and self.region.kind == "item":
-                self.region.defines = True
+            if self.region.kind == "item":
+                self.region.site = FIRST_WORLD + len(self.sites)
             self.enter("definition", self.tokens[head[0]], head[1])
             self.sites.append(self.region)
 
@@ -272,13 +272,13 @@ class Script:
 
     def may_look(self, item):
         """Whether a statement at the top may look again after its first look."""
-        return not item.is_spawn and (item.looks or not item.names.isdisjoint(self.looking))
+        return item.site is None and not item.is_spawn and (item.looks or not item.names.isdisjoint(self.looking))
 
 
 class Statements:
     """Of which statement at the top each look of the root may be.
 
-    Each statement looks as it begins. One that may not look again has one look, and a definition has its `def` directly after it. So
+    Each statement looks as it begins. One that may not look again has one look, and a definition has its own `def` directly after it. So
     the looks are dealt out to the statements, in order; `may_start[j]` has the looks with which statement j may begin, as bits.
     """
 
@@ -289,8 +289,9 @@ class Statements:
         self.world = [trace[number].number for number in self.looks]
         count = len(self.looks)
         below = (1 << count) - 1
-        defined = sum(1 << i for i, number in enumerate(self.looks) if is_of_definition(trace, number))
-        allowed = [defined if item.defines else below & ~defined for item in self.items]
+        defined = sum(1 << look for look, number in enumerate(self.looks) if is_of_definition(trace, number))
+        sites = self.looks_of_sites(trace)
+        allowed = [below & ~defined if item.site is None else sites.get(item.site, sites["full"]) for item in self.items]
         self.wide = [script.may_look(item) for item in self.items]
         first = [1 if self.items else 0]
         for wide, allow in zip(self.wide, allowed):
@@ -307,6 +308,15 @@ class Statements:
         self.may_start.reverse()
         self.fits = count == 0 if not self.items else bool(self.may_start[0])
         self.cover(count, done.outcome == "error")
+
+    def looks_of_sites(self, trace):
+        """For each site the look that comes with its `def` and nothing else, as bits; and that with which a full world is met."""
+        found = {"full": 0}
+        for look, (number, end) in enumerate(zip(self.looks, self.looks[1:] + [len(trace)])):
+            if is_of_definition(trace, number) and end == number + 2:
+                site = trace[number + 1].number
+                found["full" if site is None else site] = found.get(site, 0) | 1 << look
+        return found
 
     def cover(self, count, failed):
         """For each look, the looks with which the statement that it belongs to may have begun, as bits."""
