@@ -17,6 +17,7 @@ Status 0; 1 where the input is no history or breaks a rule; 2 where the words or
 import argparse
 import bisect
 import json
+import os
 import re
 import sys
 from dataclasses import dataclass
@@ -27,16 +28,17 @@ FIRST_WORLD = 14  # the world in which a run begins: the prelude has so many def
 MOST_FUEL = 1_000_000_000
 MOST_NUMBER = 4_294_967_295
 MOST_ITEMS = 18_446_744_073_709_551_615
+NUMBER = re.compile(rb"0|[1-9][0-9]{0,19}")
 MOST_WORLDS, MOST_TASKS, MOST_KEYS, MOST_FILLS = 65_535, 4_096, 8_192, 16_384
 
 
-@dataclass(frozen=True)
+@dataclass
 class Begin:
     kind = "begin"
     fuel: int
 
 
-@dataclass(frozen=True)
+@dataclass
 class Key:
     kind = "key"
     key: int
@@ -44,7 +46,7 @@ class Key:
     types: str
 
 
-@dataclass(frozen=True)
+@dataclass
 class Fill:
     kind = "fill"
     key: int
@@ -52,14 +54,14 @@ class Fill:
     first: int
 
 
-@dataclass(frozen=True)
+@dataclass
 class Def:
     kind = "def"
     task: int
     site: int
 
 
-@dataclass(frozen=True)
+@dataclass
 class Spawn:
     kind = "spawn"
     task: int
@@ -67,7 +69,7 @@ class Spawn:
     place: int
 
 
-@dataclass(frozen=True)
+@dataclass
 class Done:
     kind = "done"
     task: int
@@ -148,14 +150,14 @@ class Lines:
             self.fail("nothing may follow the line `end`")
 
     def number(self, text, most=MOST_NUMBER):
-        if not re.fullmatch(rb"0|[1-9][0-9]{0,19}", text) or int(text) > most:
+        if not NUMBER.fullmatch(text) or int(text) > most:
             self.fail(f"{shown(text)} is no number from 0 to {most}")
         return int(text)
 
     def numbers(self, texts, count, last=MOST_NUMBER):
         if len(texts) != count:
-            self.fail(f"{count} fields belong after the first word")
-        return [self.number(text, last if i == count - 1 else MOST_NUMBER) for i, text in enumerate(texts)]
+            self.fail(f"after the first word there must be {count} fields")
+        return [*map(self.number, texts[:-1]), self.number(texts[-1], last)]
 
     def text(self, data, what):
         if not data:
@@ -210,7 +212,7 @@ def read_event(lines, line, words):
 def read_key(lines, line):
     fields = line.split(b" ", 3)
     if len(fields) < 4:
-        lines.fail("three fields belong after `key`")
+        lines.fail("after `key` there must be three fields")
     return Key(lines.number(fields[1]), lines.text(fields[2], "FUNCTION"), lines.text(fields[3], "TUPLETYPE"))
 
 
@@ -221,12 +223,12 @@ def read_done(lines, words):
         trace.append(read_item(lines))
     line = lines.take()
     if not line.startswith(b"output "):
-        lines.fail("the line `output` belongs here")
+        lines.fail("here must be the line `output`")
     output = unquote(lines, line[len(b"output ") :])
     line = lines.take()
     found = re.fullmatch(rb"outcome (value|error) (.*)", line, re.DOTALL)
     if not found:
-        lines.fail("the line `outcome` belongs here")
+        lines.fail("here must be the line `outcome`")
     return Done(task, calls, tuple(trace), output, found[1].decode(), lines.text(found[2], "TEXT"))
 
 
@@ -557,10 +559,11 @@ class Words:
             return f"{self.task(event.task)} defines {self.site(event.site)}: world {self.worlds[place + 1]}"
         if event.kind == "spawn":
             return f"{self.task(event.task)} starts task {event.child}{self.line_of_spawn(event.place)}"
-        return f"{self.task(event.task)} ends after {event.calls} calls with the {event.outcome} {event.text}"
+        calls = "1 call" if event.calls == 1 else f"{event.calls} calls"
+        return f"{self.task(event.task)} ends after {calls} with the {event.outcome} {event.text}"
 
     def item(self, item):
-        seen = f"after {item.at} events"
+        seen = "after 1 event" if item.at == 1 else f"after {item.at} events"
         if item.kind == "look":
             return f"looks at world {item.number}, {seen}"
         if item.kind == "def":
@@ -665,7 +668,7 @@ def run(name, main):
         print(f"{name}: {trouble}", file=sys.stderr)
         return trouble.status
     except BrokenPipeError:
-        sys.stderr.close()
+        os.dup2(os.open(os.devnull, os.O_WRONLY), sys.stdout.fileno())  # so that the end of Python does not write there again
         return 1
 
 
