@@ -169,7 +169,7 @@ class Reader:
             self.evaluated.append(self.region)
             self.starts = token.text == "@eval" and self.at(place + 1) != "begin"
         elif token.text == "@spawn":
-            self.spawns.append((token, self.region))
+            self.spawns.append((self.tokens[place - 2], self.region))
         elif token.text == "invokelatest":
             self.invoke(place + 2)
         if token.kind in ("name", "operator") and token.text not in RESERVED:
@@ -244,7 +244,7 @@ class Script:
 
     def spawn(self, number):
         token = self.spawns[number][0]
-        return {"line": token.line, "column": token.column - len("Threads.")}
+        return {"line": token.line, "column": token.column}
 
     def must_fit(self, events):
         for place, event in enumerate(events):
