@@ -1,5 +1,5 @@
 #!/usr/bin/env python3
-"""Compares tools/jl_history.py, which is written from docs/HISTORY.md alone, with what `jl replay` and the runs themselves say.
+"""Compares tools/jl_history.py, which has only the rules of docs/HISTORY.md, with what `jl replay` and the runs themselves say.
 
     reference/changed_histories.py changed 3000 7    3,000 histories with changes, from the seed 7
     reference/changed_histories.py worlds 300 7      300 scripts whose tasks tell the worlds that they run in
@@ -37,9 +37,26 @@ SCRIPTS = (
 )
 # The causes that the text alone tells; of the others a part is told as well, or none.
 TOLD = ("KeyOrder", "FillKey", "NotRunning", "ChildOrder", "Limit", "Unfinished", "ItemFalse", "EventMissing")
-ORDER = "KeyOrder KeyUnknown FillKey FillWorld FillChoice NotRunning Site ChildOrder Limit Unfinished ItemFalse EventMissing RunDiffers".split()
-NUMBERS = (b"0", b"1", b"2", b"14", b"65535", b"4294967295", b"4294967296", b"18446744073709551615", b"18446744073709551616", b"007", b"+1", b"-1", b"1_0", b"")
-BYTES = b"0123456789 \n\r\t\"\\nabcdefgkpswl%{},:\x00\x7f\x80\xa9\xc3\xed\xff"
+ORDER = (
+    "KeyOrder KeyUnknown FillKey FillWorld FillChoice NotRunning Site ChildOrder Limit Unfinished ItemFalse EventMissing RunDiffers".split()
+)
+NUMBERS = (
+    b"0",
+    b"1",
+    b"2",
+    b"14",
+    b"65535",
+    b"4294967295",
+    b"4294967296",
+    b"18446744073709551615",
+    b"18446744073709551616",
+    b"007",
+    b"+1",
+    b"-1",
+    b"1_0",
+    b"",
+)
+BYTES = b'0123456789 \n\r\t"\\nabcdefgkpswl%{},:\x00\x7f\x80\xa9\xc3\xed\xff'
 
 
 def run(words, data):
@@ -260,8 +277,13 @@ def compare_worlds(count, seed):
             sure_by_text += len(by_text.of[task]) == 1
             if world not in by_script.of[task] or not set(by_script.of[task]) <= set(by_text.of[task]):
                 differ += 1
-                print(f"differs: task {task} runs in {world}, by script {by_script.of[task]}, by text {by_text.of[task]}\n{script}\n{out.decode()}", file=sys.stderr)
-    print(f"worlds: {count} scripts, {tasks} tasks, of {sure} the world is told with the script, of {sure_by_text} by the text alone; {differ} differences")
+                print(
+                    f"differs: task {task} runs in {world}, by script {by_script.of[task]}, by text {by_text.of[task]}\n{script}\n{out.decode()}",
+                    file=sys.stderr,
+                )
+    print(
+        f"worlds: {count} scripts, {tasks} tasks, of {sure} the world is told with the script, of {sure_by_text} by the text alone; {differ} differences"
+    )
     return differ == 0 and tasks > 0
 
 

@@ -5,11 +5,12 @@
     jl trace < script.jl | tools/jl_history.py --script script.jl      with names, lines and, where they follow, worlds
     tools/jl_history.py --text < history                               the text that the run printed
 
-The input is what `jl trace` writes, or a history alone. docs/HISTORY.md says what the lines mean. Three parts:
+The input is what `jl trace` writes, or a history alone. docs/HISTORY.md says what the lines mean. To import:
 
     read(data)          the events, exactly where `jl replay` does not answer BadText; else BadText with the line
     first_cause(events) the first event that breaks a rule of "What is always true", by the names of `jl replay`
-    worlds_of(..)       the worlds in which each task may have run, as far as the text, and the script, tell
+    Worlds(events)      the worlds in which each task may have run, as far as the text, and the script, tell
+    json_lines(events)  the lines
 
 Status 0; 1 where the input is no history or breaks a rule; 2 where the words or a file are wrong.
 """
@@ -17,7 +18,6 @@ Status 0; 1 where the input is no history or breaks a rule; 2 where the words or
 import argparse
 import bisect
 import json
-import os
 import re
 import sys
 from dataclasses import dataclass
@@ -100,7 +100,27 @@ class BadText(Exception):
 
 
 class NoHistory(Exception):
-    pass
+    """No line is the first of a history."""
+
+
+class Trouble(Exception):
+    """What a tool says on standard error, and its status."""
+
+    def __init__(self, text, status=1):
+        super().__init__(text)
+        self.status = status
+
+
+def load(data):
+    """The events of an input that keep the rules; else Trouble."""
+    try:
+        events = read(part(data)[1])
+    except (BadText, NoHistory) as fault:
+        raise Trouble(str(fault)) from fault
+    broken = first_cause(events)
+    if broken:
+        raise Trouble(f"the history breaks a rule: {broken}")
+    return events
 
 
 # ---- reading
@@ -108,17 +128,10 @@ class NoHistory(Exception):
 
 def part(data):
     """What comes before the history, and the history: it begins with the last line that is exactly its first."""
-    if data.startswith(HEADER + b"\n") or data == HEADER:
-        start = 0
-    else:
-        start = -1
-    inner = data.rfind(b"\n" + HEADER + b"\n")
-    if data.endswith(b"\n" + HEADER):
-        inner = len(data) - len(HEADER) - 1
-    start = max(start, inner + 1 if inner >= 0 else -1)
-    if start < 0:
+    starts = [found.start(1) for found in re.finditer(rb"(?:\A|\n)(%%history 1)(?=\n|\Z)", data)]
+    if not starts:
         raise NoHistory("there is no history in the input: no line is exactly %%history 1" + last_error(data))
-    return data[:start], data[start:]
+    return data[: starts[-1]], data[starts[-1] :]
 
 
 def last_error(data):
@@ -413,11 +426,12 @@ class Checker:
             return f"the world was {self.worlds[at]}" if self.worlds[at] != MOST_WORLDS else ""
         return f"there were {self.tasks[at]} tasks" if self.tasks[at] != MOST_TASKS else ""
 
-
     def other_event(self, place, task, item):
         """Why the event that a `def` or `spawn` of a trace names is not that of the task."""
         event = self.events[item.at] if item.at < place else None
-        is_that = event and event.kind == item.kind and event.task == task and item.number == (event.site if item.kind == "def" else event.child)
+        is_that = (
+            event and event.kind == item.kind and event.task == task and item.number == (event.site if item.kind == "def" else event.child)
+        )
         return "" if is_that else f"event {item.at} is not that"
 
 
@@ -502,79 +516,6 @@ def one_of(worlds):
     return worlds[0] if worlds and len(set(worlds)) == 1 else None
 
 
-# ---- words
-
-
-def parts_of_tuple(types):
-    """The parts of a text like `Tuple{Int64, Box{A, B}}`, or nothing where it is no such text."""
-    if not (types.startswith("Tuple{") and types.endswith("}")):
-        return None
-    parts, depth, part_ = [], 0, ""
-    for letter in types[len("Tuple{") : -1]:
-        depth += (letter == "{") - (letter == "}")
-        if letter == "," and depth == 0:
-            parts.append(part_.strip(" "))
-            part_ = ""
-        else:
-            part_ += letter
-    return parts + [part_.strip(" ")] if part_ else parts
-
-
-class Words:
-    """Events and items in words, with names and lines where the places have them."""
-
-    def __init__(self, events, places=None):
-        self.events, self.places = events, places
-        self.keys = [event for event in events if event.kind == "key"]
-        self.worlds = worlds_after(events)
-
-    def task(self, task):
-        return f"task {task}" if task else "the root"
-
-    def site(self, site, mark=", line "):
-        """A definition: its function and line, or its number."""
-        told = self.places.site(site) if self.places else {}
-        if not told:
-            return f"site {site}"
-        return told["function"] + (f"{mark}{told['line']}" if "line" in told else " of the prelude")
-
-    def line_of_spawn(self, place, mark=", line "):
-        told = self.places.spawn(place) if self.places else {}
-        return f"{mark}{told['line']}" if told else ""
-
-    def key(self, number):
-        key = self.keys[number]
-        parts = parts_of_tuple(key.types)
-        return f"{key.function} {key.types}" if parts is None else f"{key.function}({', '.join('::' + part for part in parts)})"
-
-    def event(self, place):
-        event = self.events[place]
-        if event.kind == "begin":
-            return f"the run begins, with {event.fuel} calls for each task"
-        if event.kind == "key":
-            return f"{self.key(event.key)} is called for the first time: key {event.key}"
-        if event.kind == "fill":
-            return f"from world {event.first} on, {self.key(event.key)} runs {self.site(event.site)}"
-        if event.kind == "def":
-            return f"{self.task(event.task)} defines {self.site(event.site)}: world {self.worlds[place + 1]}"
-        if event.kind == "spawn":
-            return f"{self.task(event.task)} starts task {event.child}{self.line_of_spawn(event.place)}"
-        calls = "1 call" if event.calls == 1 else f"{event.calls} calls"
-        return f"{self.task(event.task)} ends after {calls} with the {event.outcome} {event.text}"
-
-    def item(self, item):
-        seen = "after 1 event" if item.at == 1 else f"after {item.at} events"
-        if item.kind == "look":
-            return f"looks at world {item.number}, {seen}"
-        if item.kind == "def":
-            return f"defines {self.site(item.number)}, event {item.at}"
-        if item.kind == "spawn":
-            return f"starts task {item.number}, event {item.at}"
-        if item.kind == "fetch":
-            return f"fetches task {item.number}, {seen}"
-        return f"finds no room for {'another world' if item.kind == 'worldfull' else 'another task'}, {seen}"
-
-
 # ---- JSON lines
 
 
@@ -614,71 +555,17 @@ def json_lines(events, script=None, places=None):
 # ---- as a program
 
 
-class Trouble(Exception):
-    """What a tool says on standard error, and its status."""
-
-    def __init__(self, text, status=1):
-        super().__init__(text)
-        self.status = status
-
-
-def load(data):
-    """The events of an input that keep the rules."""
-    try:
-        events = read(part(data)[1])
-    except (BadText, NoHistory) as fault:
-        raise Trouble(str(fault)) from fault
-    broken = first_cause(events)
-    if broken:
-        raise Trouble(f"the history breaks a rule: {broken}")
-    return events
-
-
-def read_file(name):
-    try:
-        with open(name, "rb") as file:
-            return file.read()
-    except OSError as fault:
-        raise Trouble(f"{name}: {fault.strerror}", 2) from fault
-
-
-def add_places(parser):
-    """The options by which a tool gets names and lines."""
-    parser.add_argument("--script", metavar="FILE", help="the script: names, lines, and worlds that the text alone does not tell")
-    parser.add_argument("--sites", metavar="FILE", help="lines `site N FUNCTION LINE COLUMN` and `spawn N LINE COLUMN`, taken before the script's")
-
-
-def load_places(options, events):
-    """The script and the places of these options, each or none."""
-    import jl_script
-
-    script = None
-    if options.script:
-        script = jl_script.Script(read_file(options.script))
-        script.must_fit(events)
-    table = jl_script.Table(read_file(options.sites).decode("utf-8", "replace")) if options.sites else None
-    return script, table or script
-
-
-def run(name, main):
-    """Runs a tool: its troubles are one line on standard error and a status."""
-    try:
-        return main()
-    except Trouble as trouble:
-        print(f"{name}: {trouble}", file=sys.stderr)
-        return trouble.status
-    except BrokenPipeError:
-        os.dup2(os.open(os.devnull, os.O_WRONLY), sys.stdout.fileno())  # so that the end of Python does not write there again
-        return 1
-
-
 def main():
-    parser = argparse.ArgumentParser(description="Reads a history on standard input, checks it, and writes a JSON object for each event, a line each.")
+    import jl_tool  # which imports this module
+
+    parser = argparse.ArgumentParser(
+        description="Reads a history on standard input, checks it, and writes a JSON object for each event, a line each."
+    )
     parser.add_argument("--text", action="store_true", help="write what the run printed instead")
-    add_places(parser)
+    jl_tool.add_places(parser)
     options = parser.parse_args()
     events = load(sys.stdin.buffer.read())
-    script, places = load_places(options, events)
+    script, places = jl_tool.load_places(options, events)
     written = [run_text(events)] if options.text else json_lines(events, script, places)
     for text in written:
         sys.stdout.buffer.write(text.encode("utf-8"))
@@ -687,6 +574,7 @@ def main():
 
 
 if __name__ == "__main__":
-    import jl_history  # jl_script imports it by this name
+    import jl_history  # by the name under which the others import it
+    import jl_tool
 
-    sys.exit(jl_history.run("jl_history", jl_history.main))
+    sys.exit(jl_tool.run("jl_history", jl_history.main))

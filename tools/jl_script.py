@@ -61,7 +61,10 @@ def tokens_of(text):
         elif letter.isidentifier() or letter == "@":
             kind, place = "name", end_of_name(text, place)
         else:
-            kind, found = next(((k, m) for k, form in (("number", NUMBER), ("string", STRING), ("operator", OPERATORS)) if (m := form.match(text, place))), (0, 0))
+            kind, found = next(
+                ((k, m) for k, form in (("number", NUMBER), ("string", STRING), ("operator", OPERATORS)) if (m := form.match(text, place))),
+                (0, 0),
+            )
             if not found:
                 raise Trouble(f"line {line}, column {start - begin + 1} of the script begins no token", 2)
             place = found.end()
@@ -223,7 +226,9 @@ class Script:
             self.bodies.setdefault(site.function, []).append(site)
         evaluated = set().union(*(region.own_names for region in reader.evaluated)) if reader.evaluated else set()
         self.inner = self.reachable(evaluated | reader.invoked)
-        self.looking = {name for name in self.bodies if any(site.looks for called in self.reachable({name}) for site in self.bodies[called])}
+        self.looking = {
+            name for name in self.bodies if any(site.looks for called in self.reachable({name}) for site in self.bodies[called])
+        }
 
     def reachable(self, names):
         """The functions of these names, and all that their definitions name, and so on."""

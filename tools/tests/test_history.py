@@ -24,6 +24,7 @@ sys.path.insert(0, TOOLS)
 
 import jl_history  # noqa: E402
 import jl_script  # noqa: E402
+import jl_tool  # noqa: E402
 
 PROGRAM = os.environ.get("JL") or os.path.join(TOP, "crates", "jl_main", "out", "jl_main")
 
@@ -61,7 +62,7 @@ def run(name, *words, data=b"", program=PROGRAM):
     os.chdir(TOP)
     try:
         with contextlib.redirect_stdout(out), contextlib.redirect_stderr(err), unittest.mock.patch.dict(os.environ, JL=program):
-            status = jl_history.run(name, module.main)
+            status = jl_tool.run(name, module.main)
     except SystemExit as end:
         status = end.code
     finally:
@@ -75,7 +76,7 @@ def events_of(name):
     return jl_history.load(stored(name))
 
 
-EXAMPLE = '''%%history 1
+EXAMPLE = """%%history 1
 begin 10
 def 0 14
 spawn 0 1 0
@@ -93,7 +94,7 @@ fetch 1 6
 output "a\\"b\\\\c\\n"
 outcome value nothing
 end 7
-'''
+"""
 
 
 def plain_bytes(text):
@@ -185,7 +186,7 @@ class TheWorldsOfTasks(unittest.TestCase):
 
 
 class TheScript(unittest.TestCase):
-    SCRIPT = '''#= a comment #= in a comment =# f(x) = 0
+    SCRIPT = """#= a comment #= in a comment =# f(x) = 0
 =# struct P{T}; x::T end; f(x) = x ÷ 2   # g() = 1
 "g() = 2"; println("g() = \\"3\\"")
 function g(x::P{T},
@@ -202,7 +203,9 @@ t = Threads.@spawn begin
 end
 eval(quote k(x) where T<:Int64 = 1; x = (1,
   Threads.@spawn h()) end)
-'''.replace('"g() = 2"; ', "")
+""".replace(
+        '"g() = 2"; ', ""
+    )
 
     def test_sites_and_spawn_places(self):
         script = jl_script.Script(self.SCRIPT.encode())
@@ -210,12 +213,17 @@ eval(quote k(x) where T<:Int64 = 1; x = (1,
             [(site.function, site.line, site.column) for site in script.sites],
             [("f", 2, 27), ("g", 4, 10), ("h", 6, 21), ("div", 6, 36), ("é", 7, 11), ("+", 11, 1), ("k", 16, 12)],
         )
-        self.assertEqual([script.spawn(place) for place in range(3)], [{"line": 6, "column": 64}, {"line": 13, "column": 5}, {"line": 17, "column": 3}])
+        self.assertEqual(
+            [script.spawn(place) for place in range(3)], [{"line": 6, "column": 64}, {"line": 13, "column": 5}, {"line": 17, "column": 3}]
+        )
         self.assertEqual([item.line for item in script.items], [2, 3, 4, 11, 13, 16])
 
     def test_a_table_of_sites(self):
         table = jl_script.Table("site 14 f 3 5\nspawn 0 7 9\ntypes 2\n")
-        self.assertEqual((table.site(14), table.spawn(0), table.site(0)), ({"function": "f", "line": 3, "column": 5}, {"line": 7, "column": 9}, {"function": "+"}))
+        self.assertEqual(
+            (table.site(14), table.spawn(0), table.site(0)),
+            ({"function": "f", "line": 3, "column": 5}, {"line": 7, "column": 9}, {"function": "+"}),
+        )
         with self.assertRaises(jl_history.Trouble):
             jl_script.Table("site 14 f 3")
 
@@ -229,12 +237,18 @@ class JsonLines(unittest.TestCase):
         """The history is made of the objects again."""
         for name in ("race-a.history", "redefined.history"):
             out, status, _ = run("jl_history.py", data=stored(name))
-            kinds = {kind.kind: kind for kind in (jl_history.Begin, jl_history.Key, jl_history.Fill, jl_history.Def, jl_history.Spawn, jl_history.Done)}
+            kinds = {
+                kind.kind: kind
+                for kind in (jl_history.Begin, jl_history.Key, jl_history.Fill, jl_history.Def, jl_history.Spawn, jl_history.Done)
+            }
             events = []
             for told in map(json.loads, out.splitlines()):
                 kind = kinds[told["kind"]]
                 if kind is jl_history.Done:
-                    told["trace"] = [jl_history.Item(item["kind"], next((v for k, v in item.items() if k not in ("kind", "at")), None), item["at"]) for item in told["trace"]]
+                    told["trace"] = [
+                        jl_history.Item(item["kind"], next((v for k, v in item.items() if k not in ("kind", "at")), None), item["at"])
+                        for item in told["trace"]
+                    ]
                 events.append(kind(**{field: told[field] for field in kind.__dataclass_fields__}))
             self.assertEqual((jl_history.history_text(events).encode(), status), (jl_history.part(stored(name))[1], 0))
 
