@@ -99,9 +99,6 @@ class Reader:
     def at(self, place):
         return self.tokens[place].text if place < len(self.tokens) else ""
 
-    def is_newline(self, place):
-        return self.tokens[place].kind == "newline"
-
     def read(self):
         previous = None
         for place, token in enumerate(self.tokens):
@@ -151,7 +148,7 @@ class Reader:
         first = name = place + whole
         if self.at(name) == "Base" and self.at(name + 1) == ".":
             name += 3 if self.at(name + 2) == ":" else 2
-        elif self.tokens[name].kind != "name" or self.at(name) in RESERVED:
+        elif not self.at(name).isidentifier() or self.at(name) in RESERVED:
             return None
         if self.at(name + 1) != "(" or not whole and not self.goes_on_as_method(name + 1):
             return None
@@ -172,7 +169,7 @@ class Reader:
             self.evaluated.append(self.region)
             self.starts = token.text == "@eval" and self.at(place + 1) != "begin"
         elif token.text == "@spawn":
-            self.spawns.append((self.tokens[place - 2], self.region))
+            self.spawns.append((self.tokens[max(place - 2, 0)], self.region))
         elif token.text == "invokelatest":
             self.invoke(place + 2)
         if token.kind in ("name", "operator") and token.text not in RESERVED:
