@@ -3,13 +3,17 @@
 
     reference/changed_histories.py changed 3000 7    3,000 histories with changes, from the seed 7
     reference/changed_histories.py worlds 300 7      300 scripts whose tasks tell the worlds that they run in
+    reference/changed_histories.py places 300 7      the places of known scripts, and of 300 more
     JL=FILE reference/changed_histories.py ..        with another program than crates/jl_main/out/jl_main
+    JL_SITES=FILE reference/changed_histories.py ..  with another program than crates/jl_sites/out/jl_sites
 
 changed: histories of the examples and of small scripts are changed at one to three places. The reader must answer BadText exactly where
 `replay` does, with the same line; and of all others the first cause that the text alone tells must be the one that `replay` names, or none
 where it names none or one that takes the script.
 worlds: each task of such a script ends in an error that names its world. It must be among those that the reader says, with and without
 the script, and the reader with the script must not say more worlds than without.
+places: the definitions and spawns that tools/jl_script.py finds in scripts must be those that the program jl_sites finds, which has the
+parser of `jl`: the scripts of the examples and of check_cases, and such as those of the part before.
 The status is 0 only where there is no difference.
 """
 
@@ -25,7 +29,9 @@ sys.path.insert(0, os.path.join(HERE, "..", "tools"))
 
 import jl_history  # noqa: E402
 import jl_script  # noqa: E402
+import random_scripts  # noqa: E402
 
+SITES = os.environ.get("JL_SITES") or os.path.join(HERE, "..", "crates", "jl_sites", "out", "jl_sites")
 PROGRAM = os.environ.get("JL") or os.path.join(HERE, "..", "crates", "jl_main", "out", "jl_main")
 MOST_BYTES = 4000  # a longer history takes long to judge
 SCRIPTS = (
@@ -287,9 +293,37 @@ def compare_worlds(count, seed):
     return differ == 0 and tasks > 0
 
 
+# ---- places
+
+
+def places_by_tokens(script):
+    known = jl_script.Script(script)
+    first = jl_history.FIRST_WORLD
+    return {first + i: known.site(first + i) for i in range(len(known.sites))}, {i: known.spawn(i) for i in range(len(known.spawns))}
+
+
+def compare_places(count, seed):
+    chance = random.Random(seed)
+    scripts = random_scripts.corpus() + [Maker(chance).script().encode() for _ in range(count)]
+    compared = differ = 0
+    for script in scripts:
+        ran = subprocess.run([SITES], input=script, stdout=subprocess.PIPE, check=False)
+        if ran.returncode == 0 and not ran.stdout.startswith(b"ERROR: "):
+            table = jl_script.Table(ran.stdout.decode())
+            compared += 1
+            if places_by_tokens(script) != (table.sites, table.spawns):
+                differ += 1
+                print(f"differs: {places_by_tokens(script)}, and by the parser:\n{ran.stdout.decode()}{script!r}", file=sys.stderr)
+    print(f"places: {compared} scripts, {differ} differences")
+    return differ == 0 and compared > 0
+
+
 def main():
     words = sys.argv[1:]
-    parts = {"changed": (compare_changed, 3000), "worlds": (compare_worlds, 300)}
+    parts = {"changed": (compare_changed, 3000), "worlds": (compare_worlds, 300), "places": (compare_places, 300)}
+    needed = SITES if words[:1] == ["places"] else PROGRAM
+    if not os.access(needed, os.X_OK):
+        sys.exit(f"changed_histories: there is no program {needed}")
     if not words:
         return all([compare(count, 7) for compare, count in parts.values()])
     if words[0] not in parts or not all(word.isdigit() for word in words[1:]) or len(words) > 3:
