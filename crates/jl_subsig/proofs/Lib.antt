@@ -45,6 +45,7 @@ pub mod FoundItems
 pub mod RowSteps
 pub mod SigSides
 pub mod OrderSteps
+pub mod BestLemmas
 pub mod CompareLemmas
 pub mod ChoiceLists
 pub mod ChoicePairs

@@ -95,7 +95,7 @@ any_on P (y ∷ ys) zero x f l e (inl p) = absurd (f (subst P (sym e) p))
 any_on P (y ∷ ys) zero x f l e (inr h) = h
 any_on P (y ∷ ys) (suc i) x f l e h = rw add-one (rw add-one at (any_on P ys i x f (omega arith) e h))
 
-pub every_on : (P : SigRow → Type 0) (xs : List SigRow) (i : ℕ) (x : SigRow) → P x → i < length xs → x ≡ get_or xs i x → Every P (drop (i + 1) xs) → Every P (drop i xs)
+pub every_on : {A : Type 0} (P : A → Type 0) (xs : List A) (i : ℕ) (x : A) → P x → i < length xs → x ≡ get_or xs i x → Every P (drop (i + 1) xs) → Every P (drop i xs)
 every_on P [] i x p l e h = absurd (omega arith)
 every_on P (y ∷ ys) zero x p l e h = (subst P e p, h)
 every_on P (y ∷ ys) (suc i) x p l e h = every_on P ys i x p (omega arith) e (rw add-one (rw add-one at h))

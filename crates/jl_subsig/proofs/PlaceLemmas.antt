@@ -16,7 +16,7 @@ use Rattle.jl_subsig.proofs.ChoiceLists.{In, rises}
 use Rattle.jl_subsig.proofs.ChoiceLemmas.{method_at, chosen_among}
 use Rattle.jl_subsig.proofs.CompareLemmas.{methods_long}
 
-in_range : {A : Type 0} (xs : List A) (k : ℕ) (d e : A) → k < length xs → slice_index_or xs k d ≡ get_or xs k e
+pub in_range : {A : Type 0} (xs : List A) (k : ℕ) (d e : A) → k < length xs → slice_index_or xs k d ≡ get_or xs k e
 in_range [] k d e l = absurd (omega arith)
 in_range (x ∷ xs) zero d e l = refl
 in_range (x ∷ xs) (suc k) d e l = in_range xs k d e (omega arith)
@@ -51,7 +51,7 @@ placed i [] k l = absurd (omega arith)
 placed i (m ∷ ms) zero l = (record { number = m.number; place = i }, inl refl, omega arith, refl)
 placed i (m ∷ ms) (suc k) l = let (d, j, p, q) = placed (i + 1) ms k (omega arith) in (d, inr j, omega (arith, p), q)
 
-every_at : (Q : M.Method → Type 0) (ms : List Method) → Every (λ (m : Method). Q (method_in m)) ms → (k : ℕ) → k < length ms → Q (nth (methods_in ms) k)
+pub every_at : (Q : M.Method → Type 0) (ms : List Method) → Every (λ (m : Method). Q (method_in m)) ms → (k : ℕ) → k < length ms → Q (nth (methods_in ms) k)
 every_at Q [] h k l = absurd (omega arith)
 every_at Q (m ∷ ms) h zero l = h.0
 every_at Q (m ∷ ms) h (suc k) l = every_at Q ms h.1 k (omega arith)

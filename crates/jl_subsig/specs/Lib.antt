@@ -4,3 +4,4 @@ pub mod Alike
 pub mod Chain
 pub mod Side
 pub mod Decide
+pub mod Preceding

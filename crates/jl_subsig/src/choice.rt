@@ -12,6 +12,7 @@ ghost use Rattle.jl_sig.specs.SigParts.{written_of};
 ghost use Rattle.jl_subsig.specs.Side.{Every};
 ghost use Rattle.jl_subsig.specs.Decide.{methods_in, IsSound, IsCompared, AreCompared, ranks, sig_below, same_sig, strictly_below, candidates, below_others, most_specific, unordered, unordered_pair, choice_among};
 
+use crate::best::{find_likely, precedes_all};
 use crate::order::sig_sub;
 use jl_model::shared::SharedList;
 use jl_program::choice::Choice;
@@ -190,11 +191,8 @@ fn choose_among(answers: &[SharedList<bool>], candidates: &[Ranked]) -> Choice
     }
 }
 
-/// The choice among methods that all apply to the types of a call's arguments, in the order of their numbers: the method whose
-/// signature is strictly below that of every other candidate, none where there is none, and else the two definitions that the
-/// ambiguity names (Julia manual, Methods; Method Ambiguities). A candidate is a method that no later one of the same signature
-/// replaces. Each ordered pair of signatures is compared once.
-pub fn choose_method(alloc: Global, table: &Table, methods: &[Method]) -> Result<Choice, AllocError>
+/// The choice by comparing each ordered pair of signatures once.
+fn choose_by_pairs(alloc: Global, table: &Table, methods: &[Method]) -> Result<Choice, AllocError>
     requires sound { Every (IsSound table.now) methods.now }
     requires ordered { IsStrictlyIncreasing (map (λ m. m.number) methods.now) }
     ensures { IfOk result (λ c. (ts : List Ty) → Every (λ m. Applicable (table_of table.now) (written_of m.sig.now) ts) methods.now → Chooses (table_of table.now) (methods_in methods.now) ts c) }
@@ -204,4 +202,25 @@ pub fn choose_method(alloc: Global, table: &Table, methods: &[Method]) -> Result
     let candidates = find_candidates(alloc, answers.as_slice(), ranked.as_slice())?;
     let choice = choose_among(answers.as_slice(), candidates.as_slice());
     Ok(choice)
+}
+
+/// The choice among methods that all apply to the types of a call's arguments, in the order of their numbers: the method whose
+/// signature is strictly below that of every other candidate, none where there is none, and else the two definitions that the
+/// ambiguity names (Julia manual, Methods; Method Ambiguities). A candidate is a method that no later one of the same signature
+/// replaces. Where there is such a method, some three comparisons for each other one find it. Only for an ambiguity each ordered pair
+/// of signatures is compared.
+pub fn choose_method(alloc: Global, table: &Table, methods: &[Method]) -> Result<Choice, AllocError>
+    requires sound { Every (IsSound table.now) methods.now }
+    requires ordered { IsStrictlyIncreasing (map (λ m. m.number) methods.now) }
+    ensures { IfOk result (λ c. (ts : List Ty) → Every (λ m. Applicable (table_of table.now) (written_of m.sig.now) ts) methods.now → Chooses (table_of table.now) (methods_in methods.now) ts c) }
+{
+    if methods.is_empty() {
+        return Ok(Choice::None);
+    }
+    let likely = find_likely(alloc, table, methods)?;
+    let method = &methods[likely];
+    if precedes_all(alloc, table, method, methods)? {
+        return Ok(Choice::Method(method.number));
+    }
+    choose_by_pairs(alloc, table, methods)
 }

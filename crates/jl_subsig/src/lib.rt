@@ -3,6 +3,7 @@
 #![tactic(auto)]
 
 mod below;
+mod best;
 mod choice;
 mod concrete;
 mod definitions;
