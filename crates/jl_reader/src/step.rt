@@ -7,24 +7,24 @@ ghost use Rattle.jl_grammar.specs.declared.state.Point.TheVariants.{Entry};
 ghost use Rattle.jl_grammar.specs.Goes.{state_at};
 ghost use Rattle.jl_grammar.specs.Machine.{start, step, is_type_wanted};
 
-use jl_grammar::mark::Marked;
-use jl_grammar::state::{ItemsRead, Point, Reading};
-use jl_model::rows::{Row, Stack};
-use jl_reader_items::declarations::{
+use crate::after_operand::token_after_operand;
+use crate::brackets::{
+    at_again, at_dot, at_first, at_index, at_indexed, at_piece, at_quoted, at_texted,
+};
+use crate::declarations::{
     at_abstract, at_decl, at_declared, at_field, at_fields, at_made, at_made_method, params_turn,
 };
-use jl_reader_items::entries::{at_bound, at_entry, at_returned};
-use jl_reader_items::heads::{
+use crate::entries::{at_bound, at_entry, at_returned};
+use crate::heads::{
     at_colon, at_dotted, at_function, at_headed, at_known, at_named, at_param, first_param,
     next_param, where_turn,
 };
-use jl_reader_items::special::{at_due, token_after_eval};
-use jl_reader_items::types::type_step;
-use jl_reader_operands::after_operand::token_after_operand;
-use jl_reader_operands::brackets::{
-    at_again, at_dot, at_first, at_index, at_indexed, at_piece, at_quoted, at_texted,
-};
-use jl_reader_operands::operands::begin_operand;
+use crate::operands::begin_operand;
+use crate::special::{at_due, token_after_eval};
+use crate::types::type_step;
+use jl_grammar::mark::Marked;
+use jl_grammar::state::{ItemsRead, Point, Reading};
+use jl_model::rows::{Row, Stack};
 use jl_typeread::{entries as types, turns};
 use std::alloc::{AllocError, Global};
 

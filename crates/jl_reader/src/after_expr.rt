@@ -6,17 +6,17 @@ ghost use Rattle.jl_grammar.specs.Forms.{paren, tuple, call_expr, fetch_expr, pr
 ghost use Rattle.jl_grammar.specs.declared.state.Frame.TheVariants.{Paren, Tuple, Args, Print};
 ghost use Rattle.jl_grammar.specs.Turns.{at, end_item, end_stmt, end_eval, separator_after_expr, source_end_after_expr, word_after_stmts, word_after_evals, word_after_expr, comma_after_expr, paren_after_expr, colon_after_expr, operator_after_expr, token_after_expr};
 
+use crate::blocks::{block_word, evals_word, item_of, push_frame, with_eval, with_stmt};
+use crate::forms::{
+    call_expr, fetch_expr, no_forms, paren, print_expr, tuple, with_expr, with_show,
+};
+use crate::items::with_item;
+use crate::levels::{begin_form, no_pending};
 use jl_grammar::owned::Owned;
 use jl_grammar::state::{
     BlockKind, Called, EvalKind, Form, Forms, Frame, Lead, Outer, Pending, Point, Reading,
 };
 use jl_grammar::tree::{Eval, Expr, Item, Piece, Stmt};
-use jl_reader_forms::blocks::{block_word, evals_word, item_of, push_frame, with_eval, with_stmt};
-use jl_reader_forms::forms::{
-    call_expr, fetch_expr, no_forms, paren, print_expr, tuple, with_expr, with_show,
-};
-use jl_reader_forms::items::with_item;
-use jl_reader_forms::levels::{begin_form, no_pending};
 use jl_token::token::Operator;
 use jl_typeread::terminal::{Terminal, Word};
 use std::alloc::{AllocError, Global};

@@ -6,14 +6,14 @@ ghost use Rattle.jl_grammar.specs.Forms.{typed_param};
 ghost use Rattle.jl_typeread.specs.Machine.{turn_of};
 ghost use Rattle.jl_grammar.specs.Machine.{token_after_left, open_make, token_after_type, type_step, token_after_param, with_param, token_after_field, with_field};
 
+use crate::after_operand::{token_after_comparison, want_type};
 use crate::declarations::{add_field, end_header, token_after_field};
+use crate::forms::{isa_expr, sub_expr, type_form};
 use crate::heads::{add_param, open_call, token_after_param};
+use crate::items::typed_param;
 use jl_grammar::owned::Owned;
 use jl_grammar::state::{Called, Fielding, Goal, Heading, Pending, Point, Reading, TypeForm};
 use jl_grammar::tree::Name;
-use jl_reader_forms::forms::{isa_expr, sub_expr, type_form};
-use jl_reader_forms::items::typed_param;
-use jl_reader_operands::after_operand::{token_after_comparison, want_type};
 use jl_token::token::Operator;
 use jl_typeread::state::{State as TypeState, Taken};
 use jl_typeread::terminal::Terminal;
@@ -133,7 +133,7 @@ fn token_after_type(
 }
 
 /// What a token is to a type, and the state behind it.
-pub fn type_step(
+pub(crate) fn type_step(
     alloc: Global,
     taken: Taken,
     terminal: &Terminal,

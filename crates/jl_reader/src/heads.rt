@@ -8,7 +8,12 @@ ghost use Rattle.jl_grammar.specs.Levels.{push_outer};
 ghost use Rattle.jl_typeread.specs.Machine.{turn_of};
 ghost use Rattle.jl_grammar.specs.Machine.{at_function, open_known, known_comma, close_known, at_known, dot_after_base, at_named, at_dotted, operator_after_base, at_colon, with_param, next_param, first_param, token_after_param, at_param, begin_body, token_after_short_head, token_after_head, end_head, at_headed, where_turn};
 
+use crate::after_operand::want_type;
+use crate::blocks::{name_at, push_frame};
 use crate::entries::at_entry;
+use crate::forms::{add, call_expr, no_forms, no_vars, vars_form};
+use crate::items::head;
+use crate::levels::{begin_form, no_pending, pending_after, take_levels};
 use jl_grammar::mark::Marks;
 use jl_grammar::owned::Owned;
 use jl_grammar::state::{
@@ -18,11 +23,6 @@ use jl_grammar::state::{
 use jl_grammar::tree::{Callee, Head, Name, Param};
 use jl_marks::marks::is_function;
 use jl_model::ty::Bytes;
-use jl_reader_forms::blocks::{name_at, push_frame};
-use jl_reader_forms::forms::{add, call_expr, no_forms, no_vars, vars_form};
-use jl_reader_forms::items::head;
-use jl_reader_forms::levels::{begin_form, no_pending, pending_after, take_levels};
-use jl_reader_operands::after_operand::want_type;
 use jl_token::token::Operator;
 use jl_typeread::entries::where_start;
 use jl_typeread::state::{State as TypeState, Taken};
@@ -30,7 +30,7 @@ use jl_typeread::terminal::{Terminal, Word};
 use std::alloc::{AllocError, Global};
 
 /// A token where the name of a function must stand.
-pub fn at_function(
+pub(crate) fn at_function(
     terminal: &Terminal,
     place: u32,
     purpose: Purpose,
@@ -156,7 +156,7 @@ fn close_known(
 
 /// A token behind a function.
 #[inline(always)]
-pub fn at_known(
+pub(crate) fn at_known(
     alloc: Global,
     terminal: &Terminal,
     purpose: Purpose,
@@ -197,7 +197,7 @@ fn dot_after_base(
 
 /// A token behind the name of a function.
 #[inline(always)]
-pub fn at_named(
+pub(crate) fn at_named(
     alloc: Global,
     terminal: &Terminal,
     purpose: Purpose,
@@ -232,7 +232,7 @@ fn base_function(
 }
 
 /// A token behind `Base.`, which stands at the second place.
-pub fn at_dotted(
+pub(crate) fn at_dotted(
     alloc: Global,
     terminal: &Terminal,
     place: u32,
@@ -287,7 +287,7 @@ fn operator_after_base(
 }
 
 /// A token behind `Base.:`.
-pub fn at_colon(
+pub(crate) fn at_colon(
     alloc: Global,
     terminal: &Terminal,
     purpose: Purpose,
@@ -317,7 +317,7 @@ pub(crate) fn add_param(heading: &mut Heading, param: Param, depth: u32) -> Resu
 }
 
 /// A token where a parameter must stand.
-pub fn next_param(
+pub(crate) fn next_param(
     alloc: Global,
     terminal: &Terminal,
     place: u32,
@@ -340,7 +340,7 @@ pub fn next_param(
 }
 
 /// A token behind the `(` of a head.
-pub fn first_param(
+pub(crate) fn first_param(
     alloc: Global,
     terminal: &Terminal,
     place: u32,
@@ -392,7 +392,7 @@ fn end_bare_param(
 }
 
 /// A token behind the name of a parameter.
-pub fn at_param(
+pub(crate) fn at_param(
     alloc: Global,
     terminal: &Terminal,
     place: u32,
@@ -523,7 +523,7 @@ fn end_head(
 }
 
 /// A token behind the `)` of a head.
-pub fn at_headed(
+pub(crate) fn at_headed(
     alloc: Global,
     terminal: &Terminal,
     marks: Marks,
@@ -547,7 +547,7 @@ pub fn at_headed(
 }
 
 /// What a token is to the variables behind `where`.
-pub fn where_turn(
+pub(crate) fn where_turn(
     alloc: Global,
     taken: Taken,
     terminal: &Terminal,

@@ -1,6 +1,6 @@
 use Rattle.std.proofs.Common.{◌≡◌, length}
 use Rattle.jl_grammar.specs.Levels.{with_prefixes}
-use Rattle.jl_reader_forms.proofs.levels.with_prefixes.Given as goal
+use Rattle.jl_reader.proofs.levels.with_prefixes.Given as goal
 
 -- the operators that are left make of the form what all make of the operand
 abbrev pub invariant-loop-prefix : goal.invariant-loop-prefix

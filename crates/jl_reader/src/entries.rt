@@ -11,6 +11,13 @@ ghost use Rattle.jl_grammar.specs.Texts.{is_method, is_binding};
 ghost use Rattle.jl_grammar.specs.Turns.{at, name_at, is_return_allowed, is_return_allowed_in, begin_operand, begin_word};
 ghost use Rattle.jl_grammar.specs.Machine.{begin_item, begin_stmt, begin_eval, entry_name, begin_long, item_word, begin_return, stmt_word, eval_word, entry_word, entry_end, entry_operator, at_entry, at_bound, separator_after_return, end_return, return_word, return_operator, at_returned};
 
+use crate::blocks::{
+    block_else, block_elseif, block_word, end_block, end_evals, is_return_allowed,
+    is_return_allowed_in, name_at, push_frame,
+};
+use crate::forms::with_form;
+use crate::levels::{no_pending, pending_after};
+use crate::operands::{begin_name, begin_operand, begin_operator, begin_word};
 use jl_grammar::mark::{Ahead, Marks, Opening};
 use jl_grammar::owned::Owned;
 use jl_grammar::state::{
@@ -18,13 +25,6 @@ use jl_grammar::state::{
 };
 use jl_grammar::tree::{Eval, Name, Stmt};
 use jl_model::ty::Bytes;
-use jl_reader_forms::blocks::{
-    block_else, block_elseif, block_word, end_block, end_evals, is_return_allowed,
-    is_return_allowed_in, name_at, push_frame,
-};
-use jl_reader_forms::forms::with_form;
-use jl_reader_forms::levels::{no_pending, pending_after};
-use jl_reader_operands::operands::{begin_name, begin_operand, begin_operator, begin_word};
 use jl_token::token::Operator;
 use jl_typeread::terminal::{Terminal, Word};
 use std::alloc::{AllocError, Global};
@@ -347,7 +347,7 @@ fn begin_entry(
 }
 
 /// A token at an entry.
-pub fn at_entry(
+pub(crate) fn at_entry(
     alloc: Global,
     terminal: &Terminal,
     marks: Marks,
@@ -370,7 +370,7 @@ pub fn at_entry(
 }
 
 /// A token behind the name of a binding.
-pub fn at_bound(
+pub(crate) fn at_bound(
     alloc: Global,
     terminal: &Terminal,
     name: Name,
@@ -478,7 +478,7 @@ fn return_operator(
 }
 
 /// A token behind `return`, which stands at the second place.
-pub fn at_returned(
+pub(crate) fn at_returned(
     alloc: Global,
     terminal: &Terminal,
     marks: Marks,

@@ -5,17 +5,17 @@ ghost use Rattle.jl_grammar.specs.Goes.{state_at};
 ghost use Rattle.jl_grammar.specs.Levels.{push_outer};
 ghost use Rattle.jl_grammar.specs.Machine.{pending_of_eval, name_after_eval, word_after_eval, token_after_eval, due_dot, due_open, due_name, due_macro, due_quote, at_due};
 
+use crate::blocks::{name_at, push_frame};
 use crate::entries::{begin_long, is_method};
+use crate::forms::no_forms;
+use crate::levels::{begin_form, no_pending, take_levels};
+use crate::operands::{begin_name, begin_operand, begin_word};
 use jl_grammar::mark::Marks;
 use jl_grammar::owned::Owned;
 use jl_grammar::state::{
     Due, EvalKind, Frame, Outer, Pending, Place, Point, Purpose, Reading, Start,
 };
 use jl_model::ty::Bytes;
-use jl_reader_forms::blocks::{name_at, push_frame};
-use jl_reader_forms::forms::no_forms;
-use jl_reader_forms::levels::{begin_form, no_pending, take_levels};
-use jl_reader_operands::operands::{begin_name, begin_operand, begin_word};
 use jl_token::token::Operator;
 use jl_typeread::terminal::{Terminal, Word};
 use std::alloc::{AllocError, Global};
@@ -93,7 +93,7 @@ fn word_after_eval(
 }
 
 /// A token behind `@eval`, which stands at the second place.
-pub fn token_after_eval(
+pub(crate) fn token_after_eval(
     alloc: Global,
     terminal: &Terminal,
     marks: Marks,
@@ -223,7 +223,7 @@ fn due_quote(
 }
 
 /// A token where a fixed token must stand.
-pub fn at_due(
+pub(crate) fn at_due(
     alloc: Global,
     terminal: &Terminal,
     pending: Owned<Pending>,

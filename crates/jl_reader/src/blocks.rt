@@ -19,7 +19,7 @@ use jl_typeread::terminal::Word;
 use std::alloc::{AllocError, Global};
 
 /// The reading goes on inside of one more form.
-pub fn push_frame(
+pub(crate) fn push_frame(
     point: Point,
     frame: Frame,
     reading: &mut Reading,
@@ -37,14 +37,14 @@ pub fn push_frame(
 }
 
 /// A name and its place.
-pub fn name_at(at: u32, bytes: Bytes) -> Name
+pub(crate) fn name_at(at: u32, bytes: Bytes) -> Name
     ensures { result ≡ name_at at bytes }
 {
     Name { at, bytes }
 }
 
 /// Whether a `return` may stand in a block.
-pub fn is_return_allowed(kind: &BlockKind) -> bool
+pub(crate) fn is_return_allowed(kind: &BlockKind) -> bool
     ensures { result ≡ is_return_allowed kind.now }
 {
     match kind {
@@ -56,7 +56,7 @@ pub fn is_return_allowed(kind: &BlockKind) -> bool
 }
 
 /// Whether a `return` may stand in the innermost form that is open.
-pub fn is_return_allowed_in(stack: &Stack<Frame>) -> bool
+pub(crate) fn is_return_allowed_in(stack: &Stack<Frame>) -> bool
     ensures { result ≡ is_return_allowed_in stack.now }
 {
     match stack.top() {
@@ -66,7 +66,7 @@ pub fn is_return_allowed_in(stack: &Stack<Frame>) -> bool
 }
 
 /// An expression as a statement of a block.
-pub fn with_stmt(
+pub(crate) fn with_stmt(
     stmts: Forms<Stmt>,
     lead: Lead,
     e: Form<Expr>,
@@ -87,14 +87,17 @@ pub fn with_stmt(
 }
 
 /// The evaluated statements and a method.
-pub fn with_method(evals: Forms<Eval>, method: Form<Method>) -> Result<Forms<Eval>, AllocError>
+pub(crate) fn with_method(
+    evals: Forms<Eval>,
+    method: Form<Method>,
+) -> Result<Forms<Eval>, AllocError>
     ensures { IfOk result (λ r. r ≡ with_method evals method) }
 {
     with_form(evals, Eval::Method(method.tree.take()), method.depth)
 }
 
 /// An expression as an evaluated statement.
-pub fn with_eval(
+pub(crate) fn with_eval(
     alloc: Global,
     evals: Forms<Eval>,
     lead: Lead,
@@ -117,7 +120,11 @@ pub fn with_eval(
 }
 
 /// An expression as an item.
-pub fn item_of(alloc: Global, lead: Lead, e: Form<Expr>) -> Result<Option<Form<Item>>, AllocError>
+pub(crate) fn item_of(
+    alloc: Global,
+    lead: Lead,
+    e: Form<Expr>,
+) -> Result<Option<Form<Item>>, AllocError>
     ensures { IfOk result (λ r. r ≡ item_of lead e) }
 {
     match lead {
@@ -156,7 +163,7 @@ fn end_body(
 }
 
 /// `end` of a block.
-pub fn end_block(
+pub(crate) fn end_block(
     alloc: Global,
     kind: BlockKind,
     stmts: Forms<Stmt>,
@@ -184,7 +191,7 @@ pub fn end_block(
 }
 
 /// `elseif` at the end of a branch.
-pub fn block_elseif(
+pub(crate) fn block_elseif(
     alloc: Global,
     place: u32,
     kind: BlockKind,
@@ -209,7 +216,7 @@ pub fn block_elseif(
 }
 
 /// `else` at the end of a branch.
-pub fn block_else(
+pub(crate) fn block_else(
     alloc: Global,
     kind: BlockKind,
     stmts: Forms<Stmt>,
@@ -232,7 +239,7 @@ pub fn block_else(
 }
 
 /// A reserved word at the end of a block, or of a part of it.
-pub fn block_word(
+pub(crate) fn block_word(
     alloc: Global,
     word: Word,
     place: u32,
@@ -255,7 +262,7 @@ pub fn block_word(
 }
 
 /// `end` of an evaluated block.
-pub fn end_evals(
+pub(crate) fn end_evals(
     alloc: Global,
     kind: EvalKind,
     evals: Forms<Eval>,
@@ -277,7 +284,7 @@ pub fn end_evals(
 }
 
 /// A reserved word at the end of an evaluated block.
-pub fn evals_word(
+pub(crate) fn evals_word(
     alloc: Global,
     word: Word,
     kind: EvalKind,

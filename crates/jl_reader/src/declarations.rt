@@ -6,13 +6,13 @@ ghost use Rattle.jl_grammar.specs.Forms.{no_forms};
 ghost use Rattle.jl_typeread.specs.Machine.{turn_of};
 ghost use Rattle.jl_grammar.specs.Machine.{begin_abstract, at_abstract, at_decl, token_after_struct, token_after_abstract, token_after_header, end_header, token_after_params, at_declared, params_turn, token_after_field, at_fields, with_field, at_field, separator_after_item, at_made, separator_after_method, end_after_method, source_end_after_method, at_made_method};
 
+use crate::after_operand::want_type;
+use crate::blocks::{end_evals, name_at, push_frame, with_method};
+use crate::forms::{add, no_forms, no_vars, vars_form};
+use crate::items::{abstract_item, header, method_item, struct_item, with_item};
 use jl_grammar::owned::Owned;
 use jl_grammar::state::{Declaring, Fielding, Form, Frame, Goal, Point, Reading, TypeForm};
 use jl_grammar::tree::{Field, Header, Item, Method, Name};
-use jl_reader_forms::blocks::{end_evals, name_at, push_frame, with_method};
-use jl_reader_forms::forms::{add, no_forms, no_vars, vars_form};
-use jl_reader_forms::items::{abstract_item, header, method_item, struct_item, with_item};
-use jl_reader_operands::after_operand::want_type;
 use jl_token::token::Operator;
 use jl_typeread::entries::header_start;
 use jl_typeread::state::{State as TypeState, Taken};
@@ -32,7 +32,7 @@ fn begin_abstract(is_type: bool, place: u32, reading: &mut Reading) -> Option<Po
 }
 
 /// A token behind `abstract`.
-pub fn at_abstract(terminal: &Terminal, place: u32, reading: &mut Reading) -> Option<Point>
+pub(crate) fn at_abstract(terminal: &Terminal, place: u32, reading: &mut Reading) -> Option<Point>
     ensures { state_at result reading.new
         ≡ at_abstract terminal.now place reading.old.stack reading.old.script }
 {
@@ -46,7 +46,7 @@ pub fn at_abstract(terminal: &Terminal, place: u32, reading: &mut Reading) -> Op
 }
 
 /// A token where the name of a declaration must stand.
-pub fn at_decl(
+pub(crate) fn at_decl(
     alloc: Global,
     terminal: &Terminal,
     next: u32,
@@ -181,7 +181,7 @@ fn token_after_params(
 }
 
 /// A token behind the name of a declaration.
-pub fn at_declared(
+pub(crate) fn at_declared(
     alloc: Global,
     terminal: &Terminal,
     declaring: Owned<Declaring>,
@@ -203,7 +203,7 @@ pub fn at_declared(
 }
 
 /// What a token is to the parameters of a declaration.
-pub fn params_turn(
+pub(crate) fn params_turn(
     alloc: Global,
     taken: Taken,
     terminal: &Terminal,
@@ -252,7 +252,7 @@ pub(crate) fn token_after_field(
 }
 
 /// A token where a field may stand.
-pub fn at_fields(
+pub(crate) fn at_fields(
     alloc: Global,
     terminal: &Terminal,
     place: u32,
@@ -301,7 +301,7 @@ fn end_bare_field(
 }
 
 /// A token behind the name of a field.
-pub fn at_field(
+pub(crate) fn at_field(
     alloc: Global,
     terminal: &Terminal,
     fielding: Owned<Fielding>,
@@ -337,7 +337,7 @@ fn separator_after_item(
 }
 
 /// A token behind an item.
-pub fn at_made(
+pub(crate) fn at_made(
     terminal: &Terminal,
     item: Form<Item>,
     reading: &mut Reading,
@@ -425,7 +425,7 @@ fn source_end_after_method(
 }
 
 /// A token behind the `end` of a method.
-pub fn at_made_method(
+pub(crate) fn at_made_method(
     alloc: Global,
     terminal: &Terminal,
     method: Form<Method>,

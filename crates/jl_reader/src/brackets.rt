@@ -5,15 +5,15 @@ ghost use Rattle.jl_grammar.specs.Goes.{state_at};
 ghost use Rattle.jl_grammar.specs.Levels.{no_pending};
 ghost use Rattle.jl_grammar.specs.Turns.{begin_operand, close_first, push_string, at_first, close_again, at_again, at_piece, close_text, text_comma, at_texted, at_dot, at_index, at_indexed, at_quoted};
 
+use crate::blocks::{name_at, push_frame};
+use crate::forms::{call_expr, field, no_forms, part, print_expr, tuple, with_text};
+use crate::levels::no_pending;
 use crate::operands::begin_operand;
 use jl_grammar::mark::Marks;
 use jl_grammar::owned::Owned;
 use jl_grammar::state::{Form, Frame, Pending, Point, Reading};
 use jl_grammar::tree::Expr;
 use jl_model::ty::Bytes;
-use jl_reader_forms::blocks::{name_at, push_frame};
-use jl_reader_forms::forms::{call_expr, field, no_forms, part, print_expr, tuple, with_text};
-use jl_reader_forms::levels::no_pending;
 use jl_token::token::Operator;
 use jl_typeread::terminal::Terminal;
 use std::alloc::{AllocError, Global};
@@ -84,7 +84,7 @@ fn begin_first(
 
 /// A token directly behind a bracket that may be empty.
 #[inline(always)]
-pub fn at_first(
+pub(crate) fn at_first(
     alloc: Global,
     terminal: &Terminal,
     marks: Marks,
@@ -125,7 +125,7 @@ fn close_again(alloc: Global, reading: &mut Reading) -> Result<Option<Point>, Al
 
 /// A token behind the comma after a tuple's only part.
 #[inline(always)]
-pub fn at_again(
+pub(crate) fn at_again(
     alloc: Global,
     terminal: &Terminal,
     marks: Marks,
@@ -146,7 +146,7 @@ pub fn at_again(
 }
 
 /// A token where a piece of a `print` must stand.
-pub fn at_piece(
+pub(crate) fn at_piece(
     alloc: Global,
     terminal: &Terminal,
     marks: Marks,
@@ -201,7 +201,7 @@ fn text_comma(reading: &mut Reading) -> Result<Option<Point>, AllocError>
 }
 
 /// A token directly behind a string.
-pub fn at_texted(
+pub(crate) fn at_texted(
     alloc: Global,
     terminal: &Terminal,
     reading: &mut Reading,
@@ -217,7 +217,7 @@ pub fn at_texted(
 }
 
 /// A token behind the dot of an operand.
-pub fn at_dot(
+pub(crate) fn at_dot(
     alloc: Global,
     terminal: &Terminal,
     place: u32,
@@ -238,7 +238,7 @@ pub fn at_dot(
 }
 
 /// A token behind `[`.
-pub fn at_index(
+pub(crate) fn at_index(
     terminal: &Terminal,
     pending: Owned<Pending>,
     e: Form<Expr>,
@@ -254,7 +254,7 @@ pub fn at_index(
 }
 
 /// A token behind the number in `[ ]`.
-pub fn at_indexed(
+pub(crate) fn at_indexed(
     alloc: Global,
     terminal: &Terminal,
     pending: Owned<Pending>,
@@ -275,7 +275,7 @@ pub fn at_indexed(
 }
 
 /// The token that ends `eval(quote .. end`.
-pub fn at_quoted(
+pub(crate) fn at_quoted(
     terminal: &Terminal,
     pending: Owned<Pending>,
     e: Form<Expr>,

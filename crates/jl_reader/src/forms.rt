@@ -35,7 +35,7 @@ fn expr_form(alloc: Global, at: u32, depth: u32, tree: Expr) -> Result<Form<Expr
 }
 
 /// No trees.
-pub fn no_forms<T>(alloc: Global) -> Forms<T>
+pub(crate) fn no_forms<T>(alloc: Global) -> Forms<T>
     ensures { result ≡ no_forms }
 {
     Forms {
@@ -45,7 +45,11 @@ pub fn no_forms<T>(alloc: Global) -> Forms<T>
 }
 
 /// The trees and one more, with its depth.
-pub fn with_form<T: Drop>(forms: Forms<T>, tree: T, depth: u32) -> Result<Forms<T>, AllocError>
+pub(crate) fn with_form<T: Drop>(
+    forms: Forms<T>,
+    tree: T,
+    depth: u32,
+) -> Result<Forms<T>, AllocError>
     ensures { IfOk result (λ r. r ≡ with_form forms tree depth) }
 {
     let Forms {
@@ -60,7 +64,7 @@ pub fn with_form<T: Drop>(forms: Forms<T>, tree: T, depth: u32) -> Result<Forms<
 }
 
 /// One more tree, with its depth.
-pub fn add<T: Drop>(forms: &mut Forms<T>, tree: T, depth: u32) -> Result<(), AllocError>
+pub(crate) fn add<T: Drop>(forms: &mut Forms<T>, tree: T, depth: u32) -> Result<(), AllocError>
     ensures { OnOk result (forms.new ≡ with_form forms.old tree depth) }
 {
     forms.trees.push(tree)?;
@@ -69,7 +73,7 @@ pub fn add<T: Drop>(forms: &mut Forms<T>, tree: T, depth: u32) -> Result<(), All
 }
 
 /// A written type as it was read.
-pub fn type_form(alloc: Global, ty: Deep<TypeText>) -> Result<TypeForm, AllocError>
+pub(crate) fn type_form(alloc: Global, ty: Deep<TypeText>) -> Result<TypeForm, AllocError>
     ensures { IfOk result (λ r. r ≡ type_form ty) }
 {
     match ty {
@@ -88,7 +92,10 @@ pub fn type_form(alloc: Global, ty: Deep<TypeText>) -> Result<TypeForm, AllocErr
 }
 
 /// Variables as they were read.
-pub fn vars_form(alloc: Global, variables: Deep<Row<VarText>>) -> Result<VarsForm, AllocError>
+pub(crate) fn vars_form(
+    alloc: Global,
+    variables: Deep<Row<VarText>>,
+) -> Result<VarsForm, AllocError>
     ensures { IfOk result (λ r. r ≡ vars_form variables) }
 {
     match variables {
@@ -104,7 +111,7 @@ pub fn vars_form(alloc: Global, variables: Deep<Row<VarText>>) -> Result<VarsFor
 }
 
 /// No variables.
-pub fn no_vars() -> VarsForm
+pub(crate) fn no_vars() -> VarsForm
     ensures { result ≡ no_vars }
 {
     VarsForm {
@@ -114,35 +121,35 @@ pub fn no_vars() -> VarsForm
 }
 
 /// A number.
-pub fn number(alloc: Global, at: u32, value: i64) -> Result<Form<Expr>, AllocError>
+pub(crate) fn number(alloc: Global, at: u32, value: i64) -> Result<Form<Expr>, AllocError>
     ensures { IfOk result (λ r. r ≡ number at value) }
 {
     expr_form(alloc, at, 1, Expr::Number(at, value))
 }
 
 /// `true` or `false`.
-pub fn truth(alloc: Global, at: u32, value: bool) -> Result<Form<Expr>, AllocError>
+pub(crate) fn truth(alloc: Global, at: u32, value: bool) -> Result<Form<Expr>, AllocError>
     ensures { IfOk result (λ r. r ≡ truth at value) }
 {
     expr_form(alloc, at, 1, Expr::Bool(at, value))
 }
 
 /// `nothing`.
-pub fn nothing(alloc: Global, at: u32) -> Result<Form<Expr>, AllocError>
+pub(crate) fn nothing(alloc: Global, at: u32) -> Result<Form<Expr>, AllocError>
     ensures { IfOk result (λ r. r ≡ nothing at) }
 {
     expr_form(alloc, at, 1, Expr::Nothing(at))
 }
 
 /// A name.
-pub fn name(alloc: Global, at: u32, bytes: Bytes) -> Result<Form<Expr>, AllocError>
+pub(crate) fn name(alloc: Global, at: u32, bytes: Bytes) -> Result<Form<Expr>, AllocError>
     ensures { IfOk result (λ r. r ≡ name at bytes) }
 {
     expr_form(alloc, at, 1, Expr::Name(at, bytes))
 }
 
 /// An expression in parentheses.
-pub fn paren(alloc: Global, at: u32, e: Form<Expr>) -> Result<Form<Expr>, AllocError>
+pub(crate) fn paren(alloc: Global, at: u32, e: Form<Expr>) -> Result<Form<Expr>, AllocError>
     ensures { IfOk result (λ r. r ≡ paren at e) }
 {
     let tree = SharedNode::new(alloc, e.tree.take())?;
@@ -150,7 +157,7 @@ pub fn paren(alloc: Global, at: u32, e: Form<Expr>) -> Result<Form<Expr>, AllocE
 }
 
 /// Expressions in parentheses, with their commas.
-pub fn tuple(alloc: Global, at: u32, es: Forms<Expr>) -> Result<Form<Expr>, AllocError>
+pub(crate) fn tuple(alloc: Global, at: u32, es: Forms<Expr>) -> Result<Form<Expr>, AllocError>
     ensures { IfOk result (λ r. r ≡ tuple at es) }
 {
     let trees = es.trees.into_shared(alloc)?;
@@ -158,7 +165,7 @@ pub fn tuple(alloc: Global, at: u32, es: Forms<Expr>) -> Result<Form<Expr>, Allo
 }
 
 /// Arguments, behind what they are given to. The name of a written type is no type of its own there.
-pub fn call_expr(
+pub(crate) fn call_expr(
     alloc: Global,
     at: u32,
     function: Called,
@@ -194,7 +201,7 @@ pub fn call_expr(
 }
 
 /// `e.name`
-pub fn field(alloc: Global, e: Form<Expr>, name: Name) -> Result<Form<Expr>, AllocError>
+pub(crate) fn field(alloc: Global, e: Form<Expr>, name: Name) -> Result<Form<Expr>, AllocError>
     ensures { IfOk result (λ r. r ≡ field e name) }
 {
     let tree = SharedNode::new(alloc, e.tree.take())?;
@@ -207,7 +214,7 @@ pub fn field(alloc: Global, e: Form<Expr>, name: Name) -> Result<Form<Expr>, All
 }
 
 /// `e[number]`
-pub fn part(alloc: Global, e: Form<Expr>, number: i64) -> Result<Form<Expr>, AllocError>
+pub(crate) fn part(alloc: Global, e: Form<Expr>, number: i64) -> Result<Form<Expr>, AllocError>
     ensures { IfOk result (λ r. r ≡ part e number) }
 {
     let tree = SharedNode::new(alloc, e.tree.take())?;
@@ -249,7 +256,7 @@ pub(crate) fn infix_expr(
 }
 
 /// `e isa T`
-pub fn isa_expr(alloc: Global, e: Form<Expr>, ty: TypeForm) -> Result<Form<Expr>, AllocError>
+pub(crate) fn isa_expr(alloc: Global, e: Form<Expr>, ty: TypeForm) -> Result<Form<Expr>, AllocError>
     ensures { IfOk result (λ r. r ≡ isa_expr e ty) }
 {
     let depth = depth_around(e.depth.max(ty.depth));
@@ -259,7 +266,7 @@ pub fn isa_expr(alloc: Global, e: Form<Expr>, ty: TypeForm) -> Result<Form<Expr>
 }
 
 /// `S <: T`
-pub fn sub_expr(
+pub(crate) fn sub_expr(
     alloc: Global,
     at: u32,
     left: TypeForm,
@@ -393,7 +400,7 @@ pub(crate) fn eval_quote(
 }
 
 /// `fetch(e)`
-pub fn fetch_expr(alloc: Global, at: u32, e: Form<Expr>) -> Result<Form<Expr>, AllocError>
+pub(crate) fn fetch_expr(alloc: Global, at: u32, e: Form<Expr>) -> Result<Form<Expr>, AllocError>
     ensures { IfOk result (λ r. r ≡ fetch_expr at e) }
 {
     let tree = SharedNode::new(alloc, e.tree.take())?;
@@ -401,7 +408,7 @@ pub fn fetch_expr(alloc: Global, at: u32, e: Form<Expr>) -> Result<Form<Expr>, A
 }
 
 /// `print` and its pieces, or `println`.
-pub fn print_expr(
+pub(crate) fn print_expr(
     alloc: Global,
     at: u32,
     line: bool,
@@ -427,7 +434,7 @@ fn depth_below(levels: u32, depth: u32) -> u32
 }
 
 /// No branches: the first one would be one level deeper than the `if`.
-pub fn no_branches(alloc: Global) -> Branched
+pub(crate) fn no_branches(alloc: Global) -> Branched
     ensures { result ≡ no_branches }
 {
     Branched {
@@ -497,21 +504,25 @@ pub(crate) fn if_else_expr(
 }
 
 /// The pieces of a `print`, and the text of a value.
-pub fn with_show(pieces: Forms<Piece>, e: Form<Expr>) -> Result<Forms<Piece>, AllocError>
+pub(crate) fn with_show(pieces: Forms<Piece>, e: Form<Expr>) -> Result<Forms<Piece>, AllocError>
     ensures { IfOk result (λ r. r ≡ with_show pieces e) }
 {
     with_form(pieces, Piece::Show(e.tree.take()), e.depth)
 }
 
 /// The pieces of a `print`, and a text as it stands.
-pub fn with_text(pieces: Forms<Piece>, at: u32, text: Bytes) -> Result<Forms<Piece>, AllocError>
+pub(crate) fn with_text(
+    pieces: Forms<Piece>,
+    at: u32,
+    text: Bytes,
+) -> Result<Forms<Piece>, AllocError>
     ensures { IfOk result (λ r. r ≡ with_text pieces at text) }
 {
     with_form(pieces, Piece::Text(at, text), 0)
 }
 
 /// The expressions and one more.
-pub fn with_expr(es: Forms<Expr>, e: Form<Expr>) -> Result<Forms<Expr>, AllocError>
+pub(crate) fn with_expr(es: Forms<Expr>, e: Form<Expr>) -> Result<Forms<Expr>, AllocError>
     ensures { IfOk result (λ r. r ≡ with_expr es e) }
 {
     with_form(es, e.tree.take(), e.depth)

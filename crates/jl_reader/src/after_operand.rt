@@ -6,15 +6,15 @@ ghost use Rattle.jl_grammar.specs.Levels.{no_levels, no_pending, with_levels, as
 ghost use Rattle.jl_grammar.specs.Turns.{at, has_no_comparison, operator_after_comparison, token_after_comparison, push_term, push_sum, push_first_comparison, type_start, push_isa, operator_after_operand, word_after_operand, token_after_operand};
 
 use crate::after_expr::{operator_after_expr, token_after_expr, word_after_expr};
+use crate::blocks::push_frame;
+use crate::levels::{
+    end_comparison, expression, has_no_comparison, levels_after_and, levels_after_comparison,
+    levels_after_or, levels_after_sum, levels_after_term, no_pending, take_sum, test_of,
+};
 use jl_grammar::owned::Owned;
 use jl_grammar::state::{Form, Frame, Goal, Pending, Point, Reading};
 use jl_grammar::tree::{Expr, Infix};
 use jl_model::rows::Stack;
-use jl_reader_forms::blocks::push_frame;
-use jl_reader_forms::levels::{
-    end_comparison, expression, has_no_comparison, levels_after_and, levels_after_comparison,
-    levels_after_or, levels_after_sum, levels_after_term, no_pending, take_sum, test_of,
-};
 use jl_token::token::Operator;
 use jl_typeread::state::{Point as TypePoint, State as TypeState};
 use jl_typeread::terminal::{Terminal, Word};
@@ -99,7 +99,7 @@ fn operator_after_comparison(
 }
 
 /// A token behind a comparison.
-pub fn token_after_comparison(
+pub(crate) fn token_after_comparison(
     alloc: Global,
     terminal: &Terminal,
     place: u32,
@@ -203,7 +203,7 @@ pub(crate) fn type_start(alloc: Global) -> TypeState
 }
 
 /// A type must stand next, which is read for this goal.
-pub fn want_type(alloc: Global, goal: Goal) -> Result<Point, AllocError>
+pub(crate) fn want_type(alloc: Global, goal: Goal) -> Result<Point, AllocError>
     ensures { IfOk result (λ p. p ≡ Point.Type goal type_start) }
 {
     let goal = Owned::new(alloc, goal)?;
@@ -319,7 +319,7 @@ fn word_after_operand(
 
 /// A token behind an operand.
 #[inline(always)]
-pub fn token_after_operand(
+pub(crate) fn token_after_operand(
     alloc: Global,
     terminal: &Terminal,
     place: u32,

@@ -28,7 +28,11 @@ pub(crate) fn no_levels(alloc: Global) -> Levels
 }
 
 /// An operand behind what a statement begins with.
-pub fn pending_after(alloc: Global, lead: Lead, returns: bool) -> Result<Owned<Pending>, AllocError>
+pub(crate) fn pending_after(
+    alloc: Global,
+    lead: Lead,
+    returns: bool,
+) -> Result<Owned<Pending>, AllocError>
     ensures { IfOk result (λ p. p ≡ pending_after lead returns) }
 {
     let pending = Pending {
@@ -41,14 +45,14 @@ pub fn pending_after(alloc: Global, lead: Lead, returns: bool) -> Result<Owned<P
 }
 
 /// An operand behind nothing.
-pub fn no_pending(alloc: Global, returns: bool) -> Result<Owned<Pending>, AllocError>
+pub(crate) fn no_pending(alloc: Global, returns: bool) -> Result<Owned<Pending>, AllocError>
     ensures { IfOk result (λ p. p ≡ no_pending returns) }
 {
     pending_after(alloc, Lead::Plain, returns)
 }
 
 /// A form that takes all that follows it begins.
-pub fn begin_form(
+pub(crate) fn begin_form(
     alloc: Global,
     form: Outer,
     returns: bool,
@@ -63,7 +67,7 @@ pub fn begin_form(
 }
 
 /// The levels, which are then empty.
-pub fn take_levels(alloc: Global, levels: &mut Levels) -> Levels
+pub(crate) fn take_levels(alloc: Global, levels: &mut Levels) -> Levels
     ensures taken { result ≡ levels.old }
     ensures left { levels.new ≡ no_levels }
 {
@@ -149,7 +153,7 @@ fn as_comparison(
 }
 
 /// The operand of `isa` as a sum. What compares with it is gone.
-pub fn take_sum(
+pub(crate) fn take_sum(
     alloc: Global,
     pending: &mut Pending,
     e: Form<Expr>,
@@ -164,7 +168,7 @@ pub fn take_sum(
 }
 
 /// The operand as a comparison.
-pub fn end_comparison(
+pub(crate) fn end_comparison(
     alloc: Global,
     pending: &mut Pending,
     e: Form<Expr>,
@@ -194,7 +198,7 @@ fn take_disjunction(alloc: Global, levels: Levels, e: Form<Expr>) -> Result<Form
 }
 
 /// The test of a conditional: a comparison as a disjunction, of which nothing is left before what follows.
-pub fn test_of(
+pub(crate) fn test_of(
     alloc: Global,
     pending: &mut Pending,
     e: Form<Expr>,
@@ -254,7 +258,7 @@ fn whole_expr(alloc: Global, pending: &mut Pending, e: Form<Expr>) -> Result<For
 }
 
 /// A comparison as the whole expression that ends with it, behind what the statement begins with.
-pub fn expression(
+pub(crate) fn expression(
     alloc: Global,
     pending: Owned<Pending>,
     e: Form<Expr>,
@@ -269,7 +273,7 @@ pub fn expression(
 }
 
 /// An operator before an operand.
-pub fn levels_after_prefix(prefix: PrefixAt, pending: &mut Pending) -> Result<(), AllocError>
+pub(crate) fn levels_after_prefix(prefix: PrefixAt, pending: &mut Pending) -> Result<(), AllocError>
     ensures { OnOk result (pending.new
         ≡ with_levels (levels_after_prefix prefix pending.old.levels) pending.old) }
 {
@@ -277,7 +281,7 @@ pub fn levels_after_prefix(prefix: PrefixAt, pending: &mut Pending) -> Result<()
 }
 
 /// `*`, `÷` or `%` behind an operand.
-pub fn levels_after_term(
+pub(crate) fn levels_after_term(
     alloc: Global,
     operator: Infix,
     pending: &mut Pending,
@@ -294,7 +298,7 @@ pub fn levels_after_term(
 }
 
 /// `+` or `-` behind an operand.
-pub fn levels_after_sum(
+pub(crate) fn levels_after_sum(
     alloc: Global,
     operator: Infix,
     pending: &mut Pending,
@@ -311,7 +315,7 @@ pub fn levels_after_sum(
 }
 
 /// The operator of a comparison behind its left operand.
-pub fn levels_after_comparison(
+pub(crate) fn levels_after_comparison(
     alloc: Global,
     operator: Infix,
     pending: &mut Pending,
@@ -328,7 +332,7 @@ pub fn levels_after_comparison(
 }
 
 /// `&&` behind a comparison.
-pub fn levels_after_and(
+pub(crate) fn levels_after_and(
     alloc: Global,
     pending: &mut Pending,
     e: Form<Expr>,
@@ -347,7 +351,7 @@ pub fn levels_after_and(
 }
 
 /// `||` behind a comparison.
-pub fn levels_after_or(
+pub(crate) fn levels_after_or(
     alloc: Global,
     pending: &mut Pending,
     e: Form<Expr>,
@@ -371,14 +375,14 @@ fn no_left(left: &Held<Option<Owned<Left>>>) -> bool
 }
 
 /// Whether no comparison has begun.
-pub fn has_no_comparison(levels: &Levels) -> bool
+pub(crate) fn has_no_comparison(levels: &Levels) -> bool
     ensures { result ≡ no_left levels.now.comparison }
 {
     no_left(&levels.comparison)
 }
 
 /// Whether a comparison begins at the operand.
-pub fn is_comparison_start(levels: &Levels) -> bool
+pub(crate) fn is_comparison_start(levels: &Levels) -> bool
     ensures { result ≡ is_comparison_start levels.now }
 {
     no_left(&levels.comparison)

@@ -9,14 +9,14 @@ ghost use Rattle.jl_typeread.specs.Machine.{turn_of};
 ghost use Rattle.jl_grammar.specs.Turns.{at, type_turn, first_of_type, begin_opening, begin_name, begin_paren, begin_prefix, begin_operator, begin_word, begin_macro, begin_operand};
 
 use crate::after_operand::type_start;
+use crate::blocks::{name_at, push_frame};
+use crate::forms::{name, no_branches, no_forms, nothing, number, truth};
+use crate::levels::{is_comparison_start, levels_after_prefix, no_pending};
 use jl_grammar::mark::{Ahead, Marks, Opening};
 use jl_grammar::owned::Owned;
 use jl_grammar::state::{BlockKind, Due, Frame, Goal, Pending, Point, PrefixAt, Purpose, Reading};
 use jl_grammar::tree::Prefix;
 use jl_model::ty::Bytes;
-use jl_reader_forms::blocks::{name_at, push_frame};
-use jl_reader_forms::forms::{name, no_branches, no_forms, nothing, number, truth};
-use jl_reader_forms::levels::{is_comparison_start, levels_after_prefix, no_pending};
 use jl_token::token::Operator;
 use jl_typeread::state::{State as TypeState, Taken};
 use jl_typeread::terminal::{Lexeme, Terminal, Word};
@@ -143,7 +143,7 @@ fn is_left_type(pending: &Pending, ahead: Ahead) -> bool
 
 /// A name begins an operand, or the left type of a comparison.
 #[inline(always)]
-pub fn begin_name(
+pub(crate) fn begin_name(
     alloc: Global,
     marks: Marks,
     bytes: Bytes,
@@ -202,7 +202,7 @@ fn begin_prefix(
 
 /// An operator or another mark begins an operand.
 #[inline(always)]
-pub fn begin_operator(
+pub(crate) fn begin_operator(
     alloc: Global,
     operator: Operator,
     ahead: Ahead,
@@ -283,7 +283,7 @@ fn push_nothing(
 }
 
 /// A reserved word begins an operand.
-pub fn begin_word(
+pub(crate) fn begin_word(
     alloc: Global,
     word: Word,
     place: u32,
@@ -342,7 +342,7 @@ fn push_number(
 }
 
 /// An operand begins.
-pub fn begin_operand(
+pub(crate) fn begin_operand(
     alloc: Global,
     terminal: &Terminal,
     marks: Marks,

@@ -1,6 +1,6 @@
 use Rattle.std.proofs.Common.{◌≡◌, length}
 use Rattle.jl_grammar.specs.Levels.{end_all_outer}
-use Rattle.jl_reader_forms.proofs.levels.end_all_outer.Given as goal
+use Rattle.jl_reader.proofs.levels.end_all_outer.Given as goal
 
 -- the forms that are left make of the expression what all make of the first
 abbrev pub invariant-loop-form : goal.invariant-loop-form

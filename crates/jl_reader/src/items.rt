@@ -15,7 +15,7 @@ use jl_model::shared::SharedNode;
 use std::alloc::{AllocError, Global};
 
 /// The head of a method.
-pub fn head(
+pub(crate) fn head(
     alloc: Global,
     at: u32,
     callee: Callee,
@@ -69,7 +69,7 @@ pub(crate) fn short_method(
 }
 
 /// A parameter with its type.
-pub fn typed_param(name: Option<Name>, at: u32, ty: TypeForm) -> Param
+pub(crate) fn typed_param(name: Option<Name>, at: u32, ty: TypeForm) -> Param
     ensures { result ≡ typed_param name at ty }
 {
     match name {
@@ -79,7 +79,7 @@ pub fn typed_param(name: Option<Name>, at: u32, ty: TypeForm) -> Param
 }
 
 /// The head of a declaration.
-pub fn header(
+pub(crate) fn header(
     alloc: Global,
     at: u32,
     name: Name,
@@ -107,7 +107,7 @@ pub fn header(
 }
 
 /// The declaration of an abstract type.
-pub fn abstract_item(alloc: Global, header: Form<Header>) -> Result<Form<Item>, AllocError>
+pub(crate) fn abstract_item(alloc: Global, header: Form<Header>) -> Result<Form<Item>, AllocError>
     ensures { IfOk result (λ r. r ≡ abstract_item header) }
 {
     let Form {
@@ -123,7 +123,7 @@ pub fn abstract_item(alloc: Global, header: Form<Header>) -> Result<Form<Item>, 
 }
 
 /// The declaration of a struct.
-pub fn struct_item(
+pub(crate) fn struct_item(
     alloc: Global,
     header: Form<Header>,
     fields: Forms<Field>,
@@ -140,7 +140,7 @@ pub fn struct_item(
 }
 
 /// A method as an item.
-pub fn method_item(alloc: Global, method: Form<Method>) -> Result<Form<Item>, AllocError>
+pub(crate) fn method_item(alloc: Global, method: Form<Method>) -> Result<Form<Item>, AllocError>
     ensures { IfOk result (λ r. r ≡ method_item method) }
 {
     let Form { tree, at, depth } = method;
@@ -186,7 +186,7 @@ fn first_deep(before: Option<u32>, at: u32, depth: u32) -> Option<u32>
 }
 
 /// One more item.
-pub fn with_item(script: &mut ItemsRead, item: Form<Item>) -> Result<(), AllocError>
+pub(crate) fn with_item(script: &mut ItemsRead, item: Form<Item>) -> Result<(), AllocError>
     ensures { OnOk result (script.new ≡ with_item script.old item) }
 {
     let Form { tree, at, depth } = item;
