@@ -155,7 +155,7 @@ fn word_after_stmts(
 {
     match stmts {
         None => Ok(None),
-        Some(stmts) => block_word(alloc, word, place, kind.take(), stmts, reading),
+        Some(stmts) => block_word(alloc, word, place, kind, stmts, reading),
     }
 }
 
@@ -362,7 +362,7 @@ fn last_argument(
         reading.old.stack reading.old.script) }
 {
     let arguments = with_expr(arguments, e)?;
-    let e = call_expr(alloc, place, function.take(), arguments)?;
+    let e = call_expr(alloc, place, function, arguments)?;
     Ok(Some(Point::Have(pending, e)))
 }
 

@@ -165,14 +165,14 @@ fn end_body(
 /// `end` of a block.
 pub(crate) fn end_block(
     alloc: Global,
-    kind: BlockKind,
+    kind: Owned<BlockKind>,
     stmts: Forms<Stmt>,
     reading: &mut Reading,
 ) -> Result<Option<Point>, AllocError>
     ensures { IfOk result (λ p. state_at p reading.new
         ≡ end_block kind stmts reading.old.stack reading.old.script) }
 {
-    match kind {
+    match kind.take() {
         BlockKind::Begin(pending, place) => {
             let e = begin_expr(alloc, place, stmts)?;
             Ok(Some(Point::Have(pending, e)))
@@ -194,14 +194,14 @@ pub(crate) fn end_block(
 pub(crate) fn block_elseif(
     alloc: Global,
     place: u32,
-    kind: BlockKind,
+    kind: Owned<BlockKind>,
     stmts: Forms<Stmt>,
     reading: &mut Reading,
 ) -> Result<Option<Point>, AllocError>
     ensures { IfOk result (λ p. state_at p reading.new
         ≡ block_elseif place kind stmts reading.old.stack reading.old.script) }
 {
-    match kind {
+    match kind.take() {
         BlockKind::Branch(pending, start, branched, word, test) => {
             let branched = with_branch(alloc, branched, word, test, stmts)?;
             let want = Point::Want(no_pending(alloc, pending.get().returns)?);
@@ -218,14 +218,14 @@ pub(crate) fn block_elseif(
 /// `else` at the end of a branch.
 pub(crate) fn block_else(
     alloc: Global,
-    kind: BlockKind,
+    kind: Owned<BlockKind>,
     stmts: Forms<Stmt>,
     reading: &mut Reading,
 ) -> Result<Option<Point>, AllocError>
     ensures { IfOk result (λ p. state_at p reading.new
         ≡ block_else kind stmts reading.old.stack reading.old.script) }
 {
-    match kind {
+    match kind.take() {
         BlockKind::Branch(pending, place, branched, word, test) => {
             let branched = with_branch(alloc, branched, word, test, stmts)?;
             let kind = Owned::new(alloc, BlockKind::Else(pending, place, branched))?;
@@ -243,7 +243,7 @@ pub(crate) fn block_word(
     alloc: Global,
     word: Word,
     place: u32,
-    kind: BlockKind,
+    kind: Owned<BlockKind>,
     stmts: Forms<Stmt>,
     reading: &mut Reading,
 ) -> Result<Option<Point>, AllocError>

@@ -30,7 +30,7 @@ fn close_first(alloc: Global, reading: &mut Reading) -> Result<Option<Point>, Al
             Ok(Some(Point::Have(pending, e)))
         }
         Some(Frame::Args(pending, place, function, arguments)) => {
-            let e = call_expr(alloc, place, function.take(), arguments)?;
+            let e = call_expr(alloc, place, function, arguments)?;
             Ok(Some(Point::Have(pending, e)))
         }
         Some(Frame::Print(pending, place, line, pieces)) => {

@@ -238,9 +238,9 @@ fn stmt_word(
         ≡ stmt_word word place kind statements reading.old.stack reading.old.script) }
 {
     match word {
-        Word::End => end_block(alloc, kind.take(), statements, reading),
-        Word::Elseif => block_elseif(alloc, place, kind.take(), statements, reading),
-        Word::Else => block_else(alloc, kind.take(), statements, reading),
+        Word::End => end_block(alloc, kind, statements, reading),
+        Word::Elseif => block_elseif(alloc, place, kind, statements, reading),
+        Word::Else => block_else(alloc, kind, statements, reading),
         Word::Return => {
             let allowed = is_return_allowed(kind.get());
             reading.stack.push(Frame::Block(kind, statements))?;
@@ -424,7 +424,7 @@ fn end_return(
     match reading.stack.pop() {
         Some(Frame::Block(kind, statements)) => {
             let statements = with_form(statements, Stmt::ReturnNothing(place), 0)?;
-            block_word(alloc, word, next, kind.take(), statements, reading)
+            block_word(alloc, word, next, kind, statements, reading)
         }
         Some(frame) => {
             drop(frame);

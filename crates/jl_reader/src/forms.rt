@@ -168,14 +168,14 @@ pub(crate) fn tuple(alloc: Global, at: u32, es: Forms<Expr>) -> Result<Form<Expr
 pub(crate) fn call_expr(
     alloc: Global,
     at: u32,
-    function: Called,
+    function: Owned<Called>,
     es: Forms<Expr>,
 ) -> Result<Form<Expr>, AllocError>
     ensures { IfOk result (λ r. r ≡ call_expr at function es) }
 {
     let Forms { trees, depth } = es;
     let trees = trees.into_shared(alloc)?;
-    match function {
+    match function.take() {
         Called::Function(callee) => expr_form(
             alloc,
             at,

@@ -143,7 +143,8 @@ fn close_known(
 {
     match purpose {
         Purpose::Latest(pending, place) => {
-            let call = call_expr(alloc, place, Called::Latest(callee), no_forms(alloc))?;
+            let called = Owned::new(alloc, Called::Latest(callee))?;
+            let call = call_expr(alloc, place, called, no_forms(alloc))?;
             Ok(Some(Point::Have(pending, call)))
         }
         purpose => {

@@ -132,8 +132,8 @@ pub(crate) fn struct_item(
 {
     let depth = depth_around(header.depth.max(fields.depth));
     let at = header.at;
-    let header = header.tree.take();
     let fields = fields.trees.into_shared(alloc)?;
+    let header = header.tree.take();
     let tree = Item::Struct(Struct { header, fields });
     let tree = Owned::new(alloc, tree)?;
     Ok(Form { tree, at, depth })

@@ -23,8 +23,10 @@ use crate::operands::begin_operand;
 use crate::special::{at_due, token_after_eval};
 use crate::types::type_step;
 use jl_grammar::mark::Marked;
-use jl_grammar::state::{ItemsRead, Point, Reading};
+use jl_grammar::owned::Owned;
+use jl_grammar::state::{Declaring, Goal, Heading, ItemsRead, Point, Reading};
 use jl_model::rows::{Row, Stack};
+use jl_typeread::state::State as TypeState;
 use jl_typeread::{entries as types, turns};
 use std::alloc::{AllocError, Global};
 
@@ -52,6 +54,77 @@ pub(crate) fn is_type_wanted(point: &Point) -> bool
         Point::Params(_, state) => types::is_type_wanted(&state.get().point),
         _ => false,
     }
+}
+
+/// A token in the variables behind `where`.
+#[inline(always)]
+fn where_token(
+    alloc: Global,
+    token: &Marked,
+    heading: Owned<Heading>,
+    state: Owned<TypeState>,
+    reading: &mut Reading,
+) -> Result<Option<Point>, AllocError>
+    ensures { IfOk result (λ p. state_at p reading.new
+        ≡ step token.now (state_at (Some (Point.Where heading state)) reading.old)) }
+{
+    let lexeme = &token.lexeme;
+    let mut state = state;
+    let taken = turns::step(alloc, lexeme, state.get_mut())?;
+    where_turn(
+        alloc,
+        taken,
+        &lexeme.terminal,
+        token.marks,
+        lexeme.at,
+        heading,
+        state,
+        reading,
+    )
+}
+
+/// A token in a type.
+#[inline(always)]
+fn type_token(
+    alloc: Global,
+    token: &Marked,
+    goal: Owned<Goal>,
+    state: Owned<TypeState>,
+    reading: &mut Reading,
+) -> Result<Option<Point>, AllocError>
+    ensures { IfOk result (λ p. state_at p reading.new
+        ≡ step token.now (state_at (Some (Point.Type goal state)) reading.old)) }
+{
+    let lexeme = &token.lexeme;
+    let mut state = state;
+    let taken = turns::step(alloc, lexeme, state.get_mut())?;
+    type_step(
+        alloc,
+        taken,
+        &lexeme.terminal,
+        lexeme.at,
+        goal,
+        state,
+        reading,
+    )
+}
+
+/// A token in the parameters of a declaration.
+#[inline(always)]
+fn params_token(
+    alloc: Global,
+    token: &Marked,
+    declaring: Owned<Declaring>,
+    state: Owned<TypeState>,
+    reading: &mut Reading,
+) -> Result<Option<Point>, AllocError>
+    ensures { IfOk result (λ p. state_at p reading.new
+        ≡ step token.now (state_at (Some (Point.Params declaring state)) reading.old)) }
+{
+    let lexeme = &token.lexeme;
+    let mut state = state;
+    let taken = turns::step(alloc, lexeme, state.get_mut())?;
+    params_turn(alloc, taken, &lexeme.terminal, declaring, state, reading)
 }
 
 /// What a token makes of a reading; none where it is wrong.
@@ -96,26 +169,14 @@ pub(crate) fn step_anywhere(
         Point::NextParam(heading) => next_param(alloc, terminal, at, heading, reading),
         Point::Param(heading, name) => at_param(alloc, terminal, at, heading, name, reading),
         Point::Headed(heading) => at_headed(alloc, terminal, m, at, heading, reading),
-        Point::Where(heading, state) => {
-            let mut state = state;
-            let taken = turns::step(alloc, lexeme, state.get_mut())?;
-            where_turn(alloc, taken, terminal, m, at, heading, state, reading)
-        }
-        Point::Type(goal, state) => {
-            let mut state = state;
-            let taken = turns::step(alloc, lexeme, state.get_mut())?;
-            type_step(alloc, taken, terminal, at, goal, state, reading)
-        }
+        Point::Where(heading, state) => where_token(alloc, token, heading, state, reading),
+        Point::Type(goal, state) => type_token(alloc, token, goal, state, reading),
         Point::AbstractWord(place) => Ok(at_abstract(terminal, place, reading)),
         Point::DeclName(place, is_struct) => at_decl(
             alloc, terminal, at, place, is_struct, reading,
         ),
         Point::Declared(declaring) => at_declared(alloc, terminal, declaring, reading),
-        Point::Params(declaring, state) => {
-            let mut state = state;
-            let taken = turns::step(alloc, lexeme, state.get_mut())?;
-            params_turn(alloc, taken, terminal, declaring, state, reading)
-        }
+        Point::Params(declaring, state) => params_token(alloc, token, declaring, state, reading),
         Point::Fields(fielding) => at_fields(alloc, terminal, at, fielding, reading),
         Point::Field(fielding, name) => at_field(alloc, terminal, fielding, name, reading),
         Point::Made(item) => at_made(terminal, item, reading),
@@ -185,30 +246,9 @@ pub(crate) fn step_in_type_or_fields(
     let lexeme = &token.lexeme;
     let terminal = &lexeme.terminal;
     match point {
-        Point::Where(heading, state) => {
-            let mut state = state;
-            let taken = turns::step(alloc, lexeme, state.get_mut())?;
-            where_turn(
-                alloc,
-                taken,
-                terminal,
-                token.marks,
-                lexeme.at,
-                heading,
-                state,
-                reading,
-            )
-        }
-        Point::Type(goal, state) => {
-            let mut state = state;
-            let taken = turns::step(alloc, lexeme, state.get_mut())?;
-            type_step(alloc, taken, terminal, lexeme.at, goal, state, reading)
-        }
-        Point::Params(declaring, state) => {
-            let mut state = state;
-            let taken = turns::step(alloc, lexeme, state.get_mut())?;
-            params_turn(alloc, taken, terminal, declaring, state, reading)
-        }
+        Point::Where(heading, state) => where_token(alloc, token, heading, state, reading),
+        Point::Type(goal, state) => type_token(alloc, token, goal, state, reading),
+        Point::Params(declaring, state) => params_token(alloc, token, declaring, state, reading),
         Point::Fields(fielding) => at_fields(alloc, terminal, lexeme.at, fielding, reading),
         Point::Field(fielding, name) => at_field(alloc, terminal, fielding, name, reading),
         point => step_anywhere(alloc, token, point, reading),
