@@ -9,7 +9,7 @@ use std::sync::Wait;
 use std::test::Fail;
 use std::thread::Threads;
 
-const FIRST: &[u8] = b"f(x) = x + 1\nprintln(f(2))\n";
+const FIRST: &[u8] = b"f(x) = x + 1\nprintln(f(2))";
 
 /// The status of a run, what it wrote, and whether it handed out a history.
 type Answer = (u8, Vec<u8>, bool);
