@@ -133,26 +133,20 @@ fn room(threads: u32, keys: u32, rows: u32) -> Setup
     }
 }
 
-/// A script with its text. Two keys are asked for, the first of them twice.
-const TWO_KEYS: (&str, &str) = (
-    "f(x) = x\nprintln(f(1))\nprintln(f(true))\nprintln(f(2))\n",
-    "1\ntrue\n2\n",
-);
-/// Two keys are asked for, one by the method of the other.
-const NESTED: (&str, &str) = ("f(x) = x + 1\nprintln(f(2))", "3\n");
+/// Two keys are asked for, the first of them twice.
+const TWO_KEYS: &str = "f(x) = x\nprintln(f(1))\nprintln(f(true))\nprintln(f(2))\n";
 
-/// Whether a run of a script writes its text and has this history.
-fn runs_so<R: Threads + Wait + Sync>(
+/// Whether a run of it writes its text and has this history.
+fn two_keys_have<R: Threads + Wait + Sync>(
     rt: &R,
     alloc: Global,
-    script: (&str, &str),
     setup: &Setup,
     steps: &[Step],
 ) -> Result<bool, AllocError>
     requires { IsSetup setup.now }
 {
-    let history = history(rt, alloc, script.0, setup)?;
-    Ok(has_steps(&history, steps) && wrote(&history, script.1))
+    let history = history(rt, alloc, TWO_KEYS, setup)?;
+    Ok(has_steps(&history, steps) && wrote(&history, "1\ntrue\n2\n"))
 }
 
 #[test]
@@ -164,8 +158,7 @@ fn with_room_for_one_key_and_row_the_history_has_one_of_each(rt: HostRuntime) ->
         Step::Fill(0, 14, 15),
         Step::Done(0),
     ];
-    assert!(rt; runs_so(&rt, rt.alloc(), TWO_KEYS, &room(1, 1, 1), steps.as_slice())?);
-    assert!(rt; runs_so(&rt, rt.alloc(), NESTED, &room(1, 1, 1), steps.as_slice())?);
+    assert!(rt; two_keys_have(&rt, rt.alloc(), &room(1, 1, 1), steps.as_slice())?);
     Ok(())
 }
 
@@ -179,16 +172,7 @@ fn with_room_for_one_row_alone_the_second_key_has_none(rt: HostRuntime) -> Resul
         Step::Key(12, Some(5)),
         Step::Done(0),
     ];
-    assert!(rt; runs_so(&rt, rt.alloc(), TWO_KEYS, &room(1, 2, 1), steps.as_slice())?);
-    let steps = [
-        Step::Begin(1000),
-        Step::Def(0, 14),
-        Step::Key(12, Some(4)),
-        Step::Fill(0, 14, 15),
-        Step::Key(0, Some(4)),
-        Step::Done(0),
-    ];
-    assert!(rt; runs_so(&rt, rt.alloc(), NESTED, &room(1, 2, 1), steps.as_slice())?);
+    assert!(rt; two_keys_have(&rt, rt.alloc(), &room(1, 2, 1), steps.as_slice())?);
     Ok(())
 }
 
@@ -203,7 +187,7 @@ fn with_room_for_two_keys_and_rows_the_history_has_both(rt: HostRuntime) -> Resu
         Step::Fill(1, 14, 15),
         Step::Done(0),
     ];
-    assert!(rt; runs_so(&rt, rt.alloc(), TWO_KEYS, &room(1, 2, 2), steps.as_slice())?);
+    assert!(rt; two_keys_have(&rt, rt.alloc(), &room(1, 2, 2), steps.as_slice())?);
     Ok(())
 }
 
