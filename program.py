@@ -150,15 +150,21 @@ def kit():
     return os.path.dirname(page)
 
 
-def wait_for(processes_end, what):
+def wait_for(found_now, what):
     """Waits until this gives something, tells now and then how long it took, and returns it."""
     begun = told = time.monotonic()
-    while not (found := processes_end()):
+    while not (found := found_now()):
         time.sleep(0.05)
         if time.monotonic() - told > PAUSE:
             told += PAUSE
             tell(f"{what}, {told - begun:.0f} seconds so far")
     return found
+
+
+def show(said):
+    """Shows what the kit said."""
+    said.seek(0)
+    sys.stderr.write(said.read().decode(errors="replace"))
 
 
 def end(process):
@@ -194,8 +200,7 @@ def make_module(folder, to):
             has_ended = lambda: module_in(folder) or task.poll() is not None
             found = wait_for(has_ended, "reads the sources")
             if found is True:
-                said.seek(0)
-                sys.stderr.write(said.read().decode(errors="replace"))
+                show(said)
                 raise Failure("rt try made no program of these sources")
             os.link(found, to)
         finally:
@@ -215,13 +220,15 @@ def compile_module(module, to):
         ],
     ]
     for words in steps:
-        task = subprocess.Popen(words, stdin=subprocess.DEVNULL)
-        try:
-            wait_for(lambda: task.poll() is not None, "compiles")
-        finally:
-            end(task)
-        if task.returncode:
-            raise Failure(f"{os.path.basename(words[0])} of the kit ended with {task.returncode}")
+        with open(f"{to}.said", "w+b") as said:
+            task = subprocess.Popen(words, stdin=subprocess.DEVNULL, stdout=said, stderr=said)
+            try:
+                wait_for(lambda: task.poll() is not None, "compiles")
+            finally:
+                end(task)
+            if task.returncode:
+                show(said)
+                raise Failure(f"{os.path.basename(words[0])} of the kit ended with {task.returncode}")
 
 
 def look_at(made):
