@@ -29,6 +29,7 @@ CRATES = "jl_main: high low std\nhigh: low\nlow:  # the lowest\ncases: high\n"
 # A program that tells what it is, and takes the words as the real one does.
 MADE = """#!/bin/sh
 [ "$*" = check ] && { echo 'ok: 0 types, 0 definitions'; exit 0; }
+[ "$*" ] || exit 0
 read -r line || line=nothing
 echo "KIND $* $line"
 exit 7
@@ -52,8 +53,8 @@ case $1 in
     lib) [ ! -e "ROOM/broken-$(basename "$PWD")" ] || { echo 'a goal fails'; exit 1; } ;;
     run)
         mkdir -p out
-        sed s/KIND/proved/ 'ROOM/made' > out/jl_main
-        chmod +x out/jl_main
+        sed s/KIND/proved/ 'ROOM/made' > "out/$(basename "$PWD")"
+        chmod +x out/*
         ;;
 esac
 """
@@ -137,7 +138,7 @@ class Run(Repository):
     def test_the_first_run_builds_and_the_next_ones_take_what_it_made(self):
         out, status, said = self.jl("run", "--threads", "2")
         self.assertEqual((out, status, said[-1]), ("unproved of low run --threads 2 1\n", 7, UNPROVED))
-        self.assertIn("builds the program without proofs", said[0])
+        self.assertIn("builds jl without proofs", said[0])
         self.assertEqual(self.jl("trace"), ("unproved of low trace 1\n", 7, [UNPROVED]))
         self.assertEqual(self.calls().count("jl_main: try -- run"), 1)
         self.assertEqual(sorted(os.listdir(f"{self.top}/out")), ["jl", "jl.sources", "lock"])
@@ -213,7 +214,7 @@ class Run(Repository):
         self.assertRegex(lines[0], r"^jl \d+\.\d+\.\d+$")
         self.assertIn("none yet", lines[3])
         self.jl("run")
-        self.assertIn("program: unproved", self.jl("--version")[0])
+        self.assertIn("program: without proofs", self.jl("--version")[0])
         self.build()
         self.assertIn("program: proved", self.jl("--version")[0])
 
@@ -225,7 +226,7 @@ class Build(Repository):
         self.assertEqual(self.build("--list")[0].split(), ["low", "high", "jl_main"])
         out, status, _ = self.build("--jobs", "2")
         self.assertEqual(status, 0)
-        self.assertEqual(self.calls(), ["low: lib --jobs 1", "high: lib --jobs 1", "jl_main: run -- run"])
+        self.assertEqual(self.calls(), ["low: lib --jobs 1", "high: lib --jobs 1", "jl_main: run -- check"])
         told = [it.split(",")[0] for it in out.splitlines()[1:-1]]
         self.assertEqual(told, ["build: 1 of 3: low", "build: 2 of 3: high", "build: 3 of 3: jl_main"])
         self.assertEqual(out.splitlines()[-1], f"build: {self.top}/crates/jl_main/out/jl_main")
@@ -237,6 +238,17 @@ class Build(Repository):
         self.assertEqual(self.calls(), ["low: lib --jobs 1", "high: lib --jobs 1"])
         self.assertFalse(os.path.exists(f"{self.top}/crates/jl_main/out/jl_main"))
 
+    def test_a_program_of_tools_is_built_too(self):
+        write(f"{self.top}/crates.txt", f"{CRATES}jl_sites: low\n")
+        write(f"{self.top}/crates/jl_sites/src/main.rt", "sites")
+        self.assertEqual(self.build("--list")[0].split(), ["low", "high", "jl_main", "jl_sites"])
+        out, status, _ = self.build()
+        ends = [f"build: {self.top}/crates/{it}/out/{it}" for it in ("jl_main", "jl_sites")]
+        self.assertEqual((status, out.splitlines()[-2:]), (0, ends))
+        write(f"{self.top}/tools/jl-tell", '#!/bin/sh\nexec "$JL_SITES" a\n', 0o755)
+        self.run_script(f"{self.top}/install", self.room)
+        self.assertEqual(self.run_script(f"{self.room}/bin/jl-tell")[0], "proved a 1\n")
+
     def test_unproved(self):
         self.assertEqual(self.build("--unproved")[0], f"build: {self.top}/out/jl\n")
 
@@ -246,7 +258,7 @@ class Build(Repository):
         self.assertFalse(os.path.exists(f"{self.room}/calls"))
 
     def test_the_crates_of_this_repository(self):
-        found = program.needed()
+        found = program.needed(["jl_main"])
         self.assertEqual((found[-1], len(found) == len(set(found))), ("jl_main", True))
         self.assertFalse([it for it in found if it.endswith(("_tests", "_cases"))])
         direct = program.uses()
@@ -280,7 +292,7 @@ class Install(Repository):
 
     def test_unproved(self):
         out, status, _ = self.install("--unproved")
-        self.assertEqual((status, out.splitlines()[0]), (0, f"install: {self.room}/.local/bin/jl (built without proofs)"))
+        self.assertEqual((status, out.splitlines()[0]), (0, f"install: {self.room}/.local/bin/jl (without proofs)"))
 
     def test_other_words(self):
         for words in (["--all"], ["a", "b"], ["--remove", f"{self.room}/none"]):
