@@ -183,12 +183,17 @@ def make_module(crate, folder, to):
 
 
 def compile_module(module, to):
-    """Compiles and links the module with the kit's tools. With this little inlining it takes two thirds of the time, and a run half as
-    long again."""
+    """Compiles and links the module with the kit's tools. Its linker compiles too, and makes code with all processors. With this little
+    inlining it takes two thirds of the time, and a run half as long again."""
     of_kit = kit()
     tools = f"{of_kit}/toolchain"
+    how = ["-inline-threshold=0", "-relocation-model=pic"]
     steps = [
-        [f"{tools}/bin/clang", "-O1", "-mllvm", "-inline-threshold=0", "-fPIE", "-c", "-o", f"{to}.o", "-x", "ir", module],
+        [
+            *[f"{tools}/bin/ld.lld", "-r", "--lto-newpm-passes=default<O1>", "--lto-CGO1", f"--lto-partitions={len(os.sched_getaffinity(0))}"],
+            *[word for it in how for word in ("-mllvm", it)],
+            *["-o", f"{to}.o", module],
+        ],
         [
             *[f"{of_kit}/bin/rattle-link", "--target", "x86_64-unknown-linux-gnu", "--toolchain", tools, "-o", to],
             *[f"{to}.o", f"{of_kit}/c/libos_c.a", f"{of_kit}/c/liblibc_c.a"],

@@ -58,9 +58,8 @@ case $1 in
         ;;
 esac
 """
-# The last words of the kit's clang and linker have the file that they make.
-CLANG = """#!/bin/sh
-echo clang >> 'ROOM/calls'
+# What compiles the module, and what links it.
+COMPILE = """#!/bin/sh
 while [ "$1" != -o ]; do shift; done
 : > "$2"
 """
@@ -98,7 +97,7 @@ class Repository(unittest.TestCase):
         write(f"{self.room}/made", MADE)
         write(f"{self.room}/bin/rt", fill(RT), 0o755)
         write(f"{self.room}/kit/START-HERE.md", "")
-        write(f"{self.room}/kit/toolchain/bin/clang", fill(CLANG), 0o755)
+        write(f"{self.room}/kit/toolchain/bin/ld.lld", fill(COMPILE), 0o755)
         write(f"{self.room}/kit/bin/rattle-link", fill(LINK), 0o755)
 
     def run_script(self, *words, text="1\n", **more):
