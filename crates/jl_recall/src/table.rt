@@ -23,6 +23,8 @@ const OTHER_BITS: u32 = 22;
 /// An odd number that spreads small numbers (Appleby, MurmurHash3). With the usual 0.618 times 2^32 two arguments would nearly count
 /// by the difference of their numbers alone, since the square of 0.618 is 1 less 0.618.
 const SPREAD: u32 = 0x85EB_CA6B;
+/// How many arguments of a type, or parts of a tuple, its number is made of, so that a wide type costs no more than a small one.
+const COUNTED: usize = 4;
 /// What stands for the number of a type that has none.
 const NO_NUMBER: u32 = 0;
 
@@ -37,9 +39,51 @@ pub(crate) struct Kept {
 }
 
 /// The number of a nominal type.
-fn number_of(ty: &Ty) -> u32 {
+fn outer_number(ty: &Ty) -> u32 {
     match ty {
         Ty::Nominal(number, _) => *number,
+        _ => NO_NUMBER,
+    }
+}
+
+/// A number with those of the first of these types mixed in, each by its outer number.
+fn with_outer_numbers(number: u32, types: &[Ty]) -> u32 {
+    let mut hash = number;
+    for ty in types.iter().take(COUNTED) {
+        hash = mixed(hash, outer_number(ty));
+    }
+    hash
+}
+
+/// The number of an argument or a part of a type, with those of its own first arguments or parts.
+fn inner_number(ty: &Ty) -> u32 {
+    match ty {
+        Ty::Nominal(number, arguments) => with_outer_numbers(*number, arguments.as_slice()),
+        Ty::Tuple(parts) => with_outer_numbers(NO_NUMBER, parts.as_slice()),
+        _ => NO_NUMBER,
+    }
+}
+
+/// A number with those of the first of these types mixed in. It is out of line, so that a type without arguments stays cheap.
+#[inline(never)]
+fn with_numbers(number: u32, types: &[Ty]) -> u32 {
+    let mut hash = number;
+    for ty in types.iter().take(COUNTED) {
+        hash = mixed(hash, inner_number(ty));
+    }
+    hash
+}
+
+/// A number that tells a type from most others: that of a plain nominal type, or of two levels of arguments and parts.
+fn number_of(ty: &Ty) -> u32 {
+    match ty {
+        Ty::Nominal(number, arguments) => {
+            if arguments.len() == 0 {
+                return *number;
+            }
+            with_numbers(*number, arguments.as_slice())
+        }
+        Ty::Tuple(parts) => with_numbers(NO_NUMBER, parts.as_slice()),
         _ => NO_NUMBER,
     }
 }
