@@ -5,7 +5,7 @@ Of README.md and the pages of docs/ for users:
 
 - a block of code with a comment at the end of a line is a script, or lines of a shell where they begin with ./jl: the comments are its output,
   line by line, and a line that holds only a comment goes on with the output of the one before;
-- a block that is marked as Julia, and then one without a mark, are a script and what `run` writes of it, or `trace` where it has a history;
+- a block that is marked as Julia, `gives under `jl WORD``, and a block without a mark are a script and what that command writes of it;
 - of a table with the columns Name and Example, each example has the fault of that name; of one with Text and Example the error of that
   text; of one with In Julia, Answer and Here, the left script has that answer, and the right one runs.
 
@@ -23,6 +23,9 @@ PAGES = ["README.md", *(f"docs/{it}.md" for it in ("LANGUAGE", "HISTORY", "LIMIT
 # What the examples of the tables of faults may name.
 GIVEN = "struct Box{T}; x::T end\nstruct Q{T<:Signed}; x::T end\n"
 SECONDS = 60
+# A script, a command, and what that writes of it.
+LINES = r"((?:(?!```).*\n)*)"
+SHOWN = re.compile(rf"^```julia\n{LINES}```\n\s*gives under `jl (\w+)`.*\n\s*^```\n{LINES}```$", re.M)
 
 
 def page(name):
@@ -140,12 +143,11 @@ class Pages(unittest.TestCase):
     def test_outputs_below_code(self):
         def cases():
             for name in PAGES:
-                found = blocks(page(name))
-                for (line, mark, block), (_, other, wanted) in zip(found, found[1:]):
-                    if mark == "julia" and other == "":
-                        for threads in ("1", "4"):
-                            words = ["trace" if "%%history" in wanted else "run", "--threads", threads]
-                            yield f"{name}:{line}, {threads} threads", lambda by=words, it=block: jl(by, it)[0], wanted
+                text = page(name)
+                for it in SHOWN.finditer(text):
+                    for threads in ("1", "4"):
+                        where = f"{name}:{text.count(chr(10), 0, it.start()) + 1}, {threads} threads"
+                        yield where, lambda by=it, on=threads: jl([by[2], "--threads", on], by[1])[0], it[3]
 
         self.each(2, cases())
 
