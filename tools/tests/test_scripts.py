@@ -41,6 +41,7 @@ case $1 in
     doc) echo 'ROOM/kit/START-HERE.md' ;;
     try)
         [ -e 'ROOM/refuses' ] && { echo 'error: no program'; exit 1; }
+        [ -e 'ROOM/is-slow' ] && { trap 'kill "$task"; echo ended >> "ROOM/calls"; exit 143' TERM; sleep 60 & task=$!; wait "$task"; }
         mkdir -p "$TMPDIR/rt/probe" "$TMPDIR/rt/native"
         echo small > "$TMPDIR/rt/probe/module.bc"
         : > "$TMPDIR/rt/probe/module.o.tmp"
@@ -183,6 +184,17 @@ class Run(Repository):
         out, status, said = self.jl("run", PATH=path)
         self.assertEqual((out, status), ("", 70))
         self.assertIn("rt", said[-1])
+
+    def test_a_run_that_is_cut_off_leaves_nothing(self):
+        write(f"{self.room}/is-slow", "")
+        there = {**os.environ, "PATH": f"{self.room}/bin:{os.environ['PATH']}"}
+        how = {"stdin": subprocess.DEVNULL, "stderr": subprocess.PIPE, "cwd": self.room, "env": there}
+        with subprocess.Popen([f"{self.top}/jl", "run"], **how) as run:
+            while not os.path.exists(f"{self.room}/calls"):
+                time.sleep(0.02)
+            run.terminate()
+            self.assertEqual(run.wait(60), 143)
+        self.assertEqual((self.calls()[-1], os.listdir(f"{self.top}/out")), ("ended", ["lock"]))
 
     def test_a_link_to_it(self):
         os.symlink(f"{self.top}/jl", f"{self.room}/bin/other")
