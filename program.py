@@ -249,7 +249,7 @@ class Program:
     def make(self):
         """Makes the program without proofs, and keeps it in the place of an older one."""
         begun, of = time.time_ns(), self.of_code()
-        tell(f"builds {self.name} without proofs, once: some two minutes, and 3 GB of memory")
+        tell(f"builds {self.name} without proofs, once: two to three minutes, and 3 GB of memory")
         for it in os.listdir(KEPT):
             if it.startswith(MAKING):
                 shutil.rmtree(f"{KEPT}/{it}", ignore_errors=True)
