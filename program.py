@@ -111,8 +111,9 @@ def is_newer(names, file):
 
 def date(file, begun):
     """Gives the program the time at which its sources were looked at, so that `./jl` sees at once that none is newer."""
-    with contextlib.suppress(OSError):
-        os.utime(file, ns=(begun, begun))
+    for it in (file, f"{file}.sources"):
+        with contextlib.suppress(OSError):
+            os.utime(it, ns=(begun, begun))
 
 
 def kit():
@@ -234,7 +235,8 @@ class Program:
         if not os.access(self.proved, os.X_OK):
             return False
         said = text_of(self.proved_of)
-        return said == self.of_all() if said else not is_newer(self.crates(), self.proved)
+        is_noted = said and os.stat(self.proved_of).st_mtime_ns >= os.stat(self.proved).st_mtime_ns
+        return said == self.of_all() if is_noted else not is_newer(self.crates(), self.proved)
 
     def is_kept(self):
         """Whether the program without proofs that is kept is that of these sources."""

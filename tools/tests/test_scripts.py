@@ -213,10 +213,16 @@ class Run(Repository):
 
     def test_the_proved_program_of_the_gate_is_taken_by_the_times(self):
         self.build()
-        os.remove(f"{self.top}/crates/jl_main/out/jl_main.sources")
-        self.assertEqual(self.jl("run")[0], "proved run 1\n")
+        # The gate makes it again, and leaves what ./build noted of another one.
+        write(f"{self.top}/crates/low/src/lib.rt", "other")
         self.age()
-        self.assertEqual(self.jl("run")[0], "unproved of low run 1\n")
+        later = time.time_ns() + 6_000_000_000
+        os.utime(f"{self.top}/crates/jl_main/out/jl_main", ns=(later, later))
+        write(f"{self.top}/crates/cases/src/lib.rt", "other")
+        os.utime(f"{self.top}/crates/cases/src/lib.rt", ns=(later + 1, later + 1))
+        self.assertEqual(self.jl("run"), ("proved run 1\n", 7, [PROVED]))
+        self.age()
+        self.assertEqual(self.jl("run")[0], "unproved of other run 1\n")
 
     def test_version(self):
         out, status, _ = self.jl("--version")
