@@ -183,10 +183,9 @@ def make_module(crate, folder, to):
             end(task)
 
 
-def compile_module(module, to):
+def compile_module(of_kit, module, to):
     """Compiles and links the module with the kit's tools. Its linker compiles too, and makes code with all processors. With this little
     inlining it takes two thirds of the time, and a run half as long again."""
-    of_kit = kit()
     tools = f"{of_kit}/toolchain"
     how = ["-inline-threshold=0", "-relocation-model=pic"]
     steps = [
@@ -250,14 +249,14 @@ class Program:
 
     def make(self):
         """Makes the program without proofs, and keeps it in the place of an older one."""
-        begun, of = time.time_ns(), self.of_code()
+        begun, of, of_kit = time.time_ns(), self.of_code(), kit()
         tell(f"builds {self.name} without proofs, once: two to three minutes, and 3 GB of memory")
         for it in os.listdir(KEPT):
             if it.startswith(MAKING):
                 shutil.rmtree(f"{KEPT}/{it}", ignore_errors=True)
         with tempfile.TemporaryDirectory(prefix=MAKING, dir=KEPT) as folder:
             make_module(self.crate, folder, f"{folder}/kept.bc")
-            compile_module(f"{folder}/kept.bc", f"{folder}/made")
+            compile_module(of_kit, f"{folder}/kept.bc", f"{folder}/made")
             self.look_at(f"{folder}/made")
             if self.of_code() != of:
                 raise Failure("the sources changed while the program was built; run it again")
@@ -390,10 +389,7 @@ if __name__ == "__main__":
     signal.signal(signal.SIGHUP, lambda *_: sys.exit(129))
     try:
         sys.exit(run(sys.argv[1:]))
-    except Failure as why:
-        tell(f"{why}")
-        sys.exit(FAILED)
-    except OSError as why:
+    except (Failure, OSError) as why:
         tell(f"{why}")
         sys.exit(FAILED)
     except KeyboardInterrupt:

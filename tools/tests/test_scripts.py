@@ -183,7 +183,7 @@ class Run(Repository):
         path = f"{self.room}/bin:/usr/bin:/bin"
         out, status, said = self.jl("run", PATH=path)
         self.assertEqual((out, status), ("", 70))
-        self.assertIn("rt", said[-1])
+        self.assertIn("there is no command rt", said[-1])
 
     def test_a_run_that_is_cut_off_leaves_nothing(self):
         write(f"{self.room}/is-slow", "")
