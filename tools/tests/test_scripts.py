@@ -190,7 +190,7 @@ class Run(Repository):
         there = {**os.environ, "PATH": f"{self.room}/bin:{os.environ['PATH']}"}
         how = {"stdin": subprocess.DEVNULL, "stderr": subprocess.PIPE, "cwd": self.room, "env": there}
         with subprocess.Popen([f"{self.top}/jl", "run"], **how) as run:
-            while not os.path.exists(f"{self.room}/calls"):
+            while not os.path.exists(f"{self.room}/calls") or "jl_main: try -- run" not in self.calls():
                 time.sleep(0.02)
             run.terminate()
             self.assertEqual(run.wait(60), 143)
