@@ -41,7 +41,7 @@ case $1 in
     doc) echo 'ROOM/kit/START-HERE.md' ;;
     try)
         [ -e 'ROOM/refuses' ] && { echo 'error: no program'; exit 1; }
-        [ -e 'ROOM/is-slow' ] && { trap 'kill "$task"; echo ended >> "ROOM/calls"; exit 143' TERM; sleep 60 & task=$!; wait "$task"; }
+        [ -e 'ROOM/is-slow' ] && { trap 'kill "$task"; echo ended >> "ROOM/calls"; exit 143' TERM; sleep 60 & task=$!; : > 'ROOM/waits'; wait "$task"; }
         mkdir -p "$TMPDIR/rt/probe" "$TMPDIR/rt/native"
         echo small > "$TMPDIR/rt/probe/module.bc"
         : > "$TMPDIR/rt/probe/module.o.tmp"
@@ -190,7 +190,7 @@ class Run(Repository):
         there = {**os.environ, "PATH": f"{self.room}/bin:{os.environ['PATH']}"}
         how = {"stdin": subprocess.DEVNULL, "stderr": subprocess.PIPE, "cwd": self.room, "env": there}
         with subprocess.Popen([f"{self.top}/jl", "run"], **how) as run:
-            while not os.path.exists(f"{self.room}/calls") or "jl_main: try -- run" not in self.calls():
+            while not os.path.exists(f"{self.room}/waits"):
                 time.sleep(0.02)
             run.terminate()
             self.assertEqual(run.wait(60), 143)
