@@ -103,8 +103,9 @@ class Repository(unittest.TestCase):
 
     def run_script(self, *words, text="1\n", **more):
         """Runs a script, and returns what it wrote, its status, and its lines on standard error."""
-        path = f"{self.room}/bin:{os.environ['PATH']}"
-        how = {"env": {**os.environ, "PATH": path, "HOME": self.room, **more}, "capture_output": True, "text": True, "timeout": 60}
+        there = {name: it for name, it in os.environ.items() if name not in ("JL", "JL_SITES")}
+        there.update({"PATH": f"{self.room}/bin:{os.environ['PATH']}", "HOME": self.room, **more})
+        how = {"env": there, "capture_output": True, "text": True, "timeout": 60}
         ran = subprocess.run(words, input=text, cwd=self.room, check=False, **how)
         return ran.stdout, ran.returncode, ran.stderr.splitlines()
 
@@ -292,7 +293,8 @@ class Install(Repository):
     def test_program_page_and_tools(self):
         write(f"{self.top}/tools/jl-tell", '#!/bin/sh\necho "$(cat "$(dirname "$0")/jl_words") $*"\nexec "$JL" check\n', 0o755)
         write(f"{self.top}/tools/jl_words", "words")
-        write(f"{self.top}/tools/tests/test_all.py", "")
+        write(f"{self.top}/tools/tests/jl.py", "")
+        write(f"{self.top}/tools/other", "")
         prefix = f"{self.room}/to here"
         self.assertEqual(self.install(prefix)[1], 1)
         self.assertFalse(os.path.exists(prefix))
