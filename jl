@@ -1,6 +1,7 @@
 #!/bin/sh
 # Runs a script: ./jl WORDS < script
-# The proved binary is taken where one is built and no source is newer. Otherwise the script runs unproved.
+# The proved program is taken where there is one of these sources, else the unproved one that is kept. program.py makes it where there is
+# none, and answers words that are no command at once.
 set -u
 # The status where this script or the kit fails. No command ends with it.
 failed=70
@@ -13,43 +14,30 @@ while [ -L "$self" ]; do
     esac
 done
 here=$(CDPATH='' cd -- "$(dirname -- "$self")" && pwd) || exit "$failed"
-crates=$here/crates
-binary=$crates/jl_main/out/jl_main
+proved=$here/crates/jl_main/out/jl_main
+unproved=$here/out/jl
 
-# Whether a source is newer than the binary.
-is_stale() {
-    newer=$(find "$crates"/*/src "$crates"/*/specs "$crates"/*/proofs "$here/crates.txt" \
-        -type f -newer "$binary" 2>/dev/null | head -n 1)
-    [ -n "$newer" ]
+# Whether a program is there, and neither a source nor the other word, a file, is newer.
+is_newest() {
+    [ -x "$1" ] || return 1
+    newer=$(find "$here"/crates/*/src "$here"/crates/*/specs "$here"/crates/*/proofs "$here/crates.txt" "$2" -newer "$1" 2>/dev/null | head -n 1)
+    [ -z "$newer" ]
 }
 
-if [ -x "$binary" ] && ! is_stale; then
-    exec "$binary" "$@"
+# Where nobody hands in a script, one may wonder what the program waits for.
+case ${1-} in
+    run | trace | check | replay)
+        [ ! -t 0 ] || echo "jl: reads the script from the terminal, up to Ctrl-D; ./jl $1 < FILE reads one from a file" >&2
+        ;;
+esac
+if [ "${1-}" != --version ] && is_newest "$proved" "$proved"; then
+    echo "jl: the proved program" >&2
+    exec "$proved" "$@"
 fi
-cat >&2 << 'END'
-jl: There is no proved binary of these sources; ./build makes it, once, in an hour or two. Until then each run builds the program
-jl: unproved, in some 100 seconds of processor time: a minute where two processors are free. It then runs for at most 60 seconds,
-jl: and its output, at most 1 MiB, is shown at its end.
-END
-told=$(mktemp) || exit "$failed"
-trap 'rm -f "$told"' EXIT
-cd "$crates/jl_main" || exit "$failed"
-(exec 3<&0) 2>/dev/null || { echo "jl: standard input is closed" >&2; exit "$failed"; }
-exec 3<&0
-rt try -- "$@" <&3 2> "$told" &
-task=$!
-trap 'kill "$task"' HUP INT TERM
-waited=0
-while kill -0 "$task" 2>/dev/null; do
-    sleep 1
-    waited=$((waited + 1))
-    [ $((waited % 15)) -ne 0 ] || echo "jl: builds and runs, $waited seconds so far" >&2
-done
-wait "$task"
-status=$?
-cat "$told" >&2
-if ! grep -q '^run=ended ' "$told"; then
-    echo "jl: the run came to no end" >&2
-    status=$failed
+# It is newer than a proved program only where program.py found that one to be of other sources.
+if [ "${1-}" != --version ] && is_newest "$unproved" "$proved"; then
+    echo "jl: the program without proofs (./build makes the proved one)" >&2
+    exec "$unproved" "$@"
 fi
-exit "$status"
+command -v python3 > /dev/null || { echo "jl: there is no python3" >&2; exit "$failed"; }
+exec python3 "$here/program.py" "$@"

@@ -3,6 +3,7 @@
 
     reference/words.py            asks the built program for all lists of up to four words of a pool
     reference/words.py 3          for all of up to three
+    JL=FILE reference/words.py    with another program than crates/jl_main/out/jl_main
 
 Each list is read here by the rule of docs/LANGUAGE.md and README.md, and given to the program with an empty script. Its output and
 status must be those of the command that the list is, or the usage line and 2 where it is none. The last line counts the lists and
@@ -15,7 +16,8 @@ import subprocess
 import sys
 from concurrent.futures import ThreadPoolExecutor
 
-PROGRAM = os.path.join(os.path.dirname(os.path.abspath(__file__)), "..", "crates", "jl_main", "out", "jl_main")
+HERE = os.path.dirname(os.path.abspath(__file__))
+PROGRAM = os.environ.get("JL") or os.path.join(HERE, "..", "crates", "jl_main", "out", "jl_main")
 USAGE = b"usage: jl run|trace [--threads N] [--fuel N] | jl check|replay | jl gen N [--threads N] [--fuel N]\n"
 POOL = (
     "run", "trace", "check", "replay", "gen", "--threads", "--fuel", "--threads=2", "--fuel=007", "--threads=0",
