@@ -224,8 +224,8 @@ RUNS = [
     ),
     Word(
         "no constructor",
-        "This struct is not built from so many values.",
-        "Give a value for each field, in their order.",
+        "This struct is not built from so many values, or its parameters do not follow from these.",
+        "Give a value for each field, in their order, and where need be the arguments in braces: `P{Int64}(1, 2)`.",
         "struct P; x; y end\nP(1)\n",
         r"MethodError: no method matching (?P<type>\S.*)\((?P<types>.*)\)",
     ),
