@@ -25,8 +25,8 @@ is_newest() {
 }
 
 # Where nobody hands in a script, one may wonder what the program waits for.
-case ${1-} in
-    run | trace | check | replay)
+case "${1-} ${2---}" in
+    "run --"* | "trace --"* | "check --" | "replay --")
         [ ! -t 0 ] || echo "jl: reads the script from the terminal, up to Ctrl-D; ./jl $1 < FILE reads one from a file" >&2
         ;;
 esac

@@ -3,7 +3,7 @@
 `./jl`, `./build` and `./install` use this. Run by itself, as `./jl` does where it sees no program that is newer than all sources, it
 finds or makes the program and runs it with the words that it is given.
 
-The proved program is `crates/jl_main/out/jl_main`, which `./build` and `rt ci` leave. The unproved one is kept in `out/`, under the
+The proved program is `crates/jl_main/out/jl_main`, which `./build` and `rt ci` leave. One without proofs is kept in `out/`, with the
 checksum of the sources that it was made of. `rt try` would make it anew at each run, and with the checks of every address, which cost fifty
 times the program's own time. So the module that `rt try` hands to the kit's clang is taken out of its folder, and compiled here. The tests of
 places, overflows and the like are in it all the same: where one fails, the program stops."""
@@ -21,15 +21,10 @@ import tempfile
 import time
 
 TOP = os.path.dirname(os.path.realpath(__file__))
-PROGRAM = "jl_main"
-PROVED = f"{TOP}/crates/{PROGRAM}/out/{PROGRAM}"
-# What `./build` writes beside it: the checksum of all that was proved.
-PROVED_OF = f"{PROVED}.sources"
+# Where programs without proofs are kept.
 KEPT = f"{TOP}/out"
-UNPROVED = f"{KEPT}/jl"
-UNPROVED_OF = f"{UNPROVED}.sources"
-# No module of the program is this small, in bytes.
-LEAST_MODULE = 1_000_000
+# No module of a program is this small, in bytes.
+LEAST_MODULE = 200_000
 # How the folders begin in which a program is made.
 MAKING = "making-"
 # The status where these scripts or the kit fail. No command ends with it.
@@ -61,8 +56,8 @@ def uses():
     return {name: [it for it in used if it in direct] for name, used in direct.items()}
 
 
-def needed(of=PROGRAM):
-    """The crates that this one uses, directly and through others, and itself, each after those that it uses."""
+def needed(names):
+    """The crates that these use, directly and through others, and they themselves, each after those that it uses."""
     direct, found = uses(), []
 
     def visit(name):
@@ -71,14 +66,15 @@ def needed(of=PROGRAM):
                 visit(it)
             found.append(name)
 
-    visit(of)
+    for name in names:
+        visit(name)
     return found
 
 
-def checksum(parts):
-    """The checksum of these parts of the crates that the program needs."""
+def checksum(names, parts):
+    """The checksum of these parts of the crates."""
     direct, found = uses(), hashlib.sha256()
-    for name in sorted(needed()):
+    for name in sorted(names):
         found.update(f"{name}: {sorted(direct[name])}\n".encode())
         for part in parts:
             for at, folders, files in os.walk(f"{TOP}/crates/{name}/{part}"):
@@ -91,26 +87,18 @@ def checksum(parts):
     return found.hexdigest()
 
 
-def of_code():
-    return checksum(["src"])
-
-
-def of_all():
-    return checksum(["src", "specs", "proofs"])
-
-
 def text_of(file):
     with contextlib.suppress(OSError), open(file, encoding="utf-8") as it:
         return it.read().strip()
     return None
 
 
-def is_newer(file):
-    """Whether a source is newer than this file."""
+def is_newer(names, file):
+    """Whether a source of these crates is newer than this file."""
     then = os.stat(file).st_mtime_ns
     if os.stat(f"{TOP}/crates.txt").st_mtime_ns > then:
         return True
-    for name in needed():
+    for name in names:
         for part in ("src", "specs", "proofs"):
             for at, _, files in os.walk(f"{TOP}/crates/{name}/{part}"):
                 if any(os.stat(f"{at}/{it}").st_mtime_ns > then for it in files):
@@ -118,20 +106,7 @@ def is_newer(file):
     return False
 
 
-# ---- the program
-
-
-def is_proved():
-    """Whether the proved program is that of these sources. `rt ci` notes no checksum: then no source may be newer."""
-    if not os.access(PROVED, os.X_OK):
-        return False
-    said = text_of(PROVED_OF)
-    return said == of_all() if said else not is_newer(PROVED)
-
-
-def is_kept():
-    """Whether the unproved program that is kept is that of these sources."""
-    return os.access(UNPROVED, os.X_OK) and text_of(UNPROVED_OF) == of_code()
+# ---- how one is made
 
 
 def date(file, begun):
@@ -150,15 +125,21 @@ def kit():
     return os.path.dirname(page)
 
 
-def wait_for(processes_end, what):
+def wait_for(found_now, what):
     """Waits until this gives something, tells now and then how long it took, and returns it."""
     begun = told = time.monotonic()
-    while not (found := processes_end()):
+    while not (found := found_now()):
         time.sleep(0.05)
         if time.monotonic() - told > PAUSE:
             told += PAUSE
             tell(f"{what}, {told - begun:.0f} seconds so far")
     return found
+
+
+def show(said):
+    """Shows what the kit said."""
+    said.seek(0)
+    sys.stderr.write(said.read().decode(errors="replace"))
 
 
 def end(process):
@@ -179,12 +160,12 @@ def module_in(folder):
     return None
 
 
-def make_module(folder, to):
-    """Puts the module of the program, by `rt try`, at this place."""
+def make_module(crate, folder, to):
+    """Puts the module of a program, by `rt try`, at this place."""
     with open(f"{folder}/said", "w+b") as said:
         task = subprocess.Popen(
             ["rt", "try", "--", "run"],
-            cwd=f"{TOP}/crates/{PROGRAM}",
+            cwd=f"{TOP}/crates/{crate}",
             env={**os.environ, "TMPDIR": folder},
             stdin=subprocess.DEVNULL,
             stdout=said,
@@ -194,8 +175,7 @@ def make_module(folder, to):
             has_ended = lambda: module_in(folder) or task.poll() is not None
             found = wait_for(has_ended, "reads the sources")
             if found is True:
-                said.seek(0)
-                sys.stderr.write(said.read().decode(errors="replace"))
+                show(said)
                 raise Failure("rt try made no program of these sources")
             os.link(found, to)
         finally:
@@ -215,57 +195,96 @@ def compile_module(module, to):
         ],
     ]
     for words in steps:
-        task = subprocess.Popen(words, stdin=subprocess.DEVNULL)
-        try:
-            wait_for(lambda: task.poll() is not None, "compiles")
-        finally:
-            end(task)
-        if task.returncode:
-            raise Failure(f"{os.path.basename(words[0])} of the kit ended with {task.returncode}")
+        with open(f"{to}.said", "w+b") as said:
+            task = subprocess.Popen(words, stdin=subprocess.DEVNULL, stdout=said, stderr=said)
+            try:
+                wait_for(lambda: task.poll() is not None, "compiles")
+            finally:
+                end(task)
+            if task.returncode:
+                show(said)
+                raise Failure(f"{os.path.basename(words[0])} of the kit ended with {task.returncode}")
 
 
-def look_at(made):
-    """Sees that what was made is the program."""
-    ran = subprocess.run([made, "check"], stdin=subprocess.DEVNULL, capture_output=True, check=False)
-    if ran.returncode or ran.stdout != b"ok: 0 types, 0 definitions\n":
-        raise Failure("what was compiled is not the program, so this kit makes its module in another way than is known here")
+class Program:
+    """A program of this repository: its crate, what it is called, and a command with what that writes of an empty input, where it is known."""
+
+    def __init__(self, crate, name, command, answer):
+        self.crate, self.name, self.command, self.answer = crate, name, command, answer
+        self.proved, self.kept = f"{TOP}/crates/{crate}/out/{crate}", f"{KEPT}/{name}"
+        # Beside each is the checksum of what it was made of.
+        self.proved_of, self.kept_of = f"{self.proved}.sources", f"{self.kept}.sources"
+
+    def crates(self):
+        return needed([self.crate])
+
+    def of_code(self):
+        return checksum(self.crates(), ["src"])
+
+    def of_all(self):
+        return checksum(self.crates(), ["src", "specs", "proofs"])
+
+    def is_proved(self):
+        """Whether the proved program is that of these sources. `rt ci` notes no checksum: then no source may be newer."""
+        if not os.access(self.proved, os.X_OK):
+            return False
+        said = text_of(self.proved_of)
+        return said == self.of_all() if said else not is_newer(self.crates(), self.proved)
+
+    def is_kept(self):
+        """Whether the program without proofs that is kept is that of these sources."""
+        return os.access(self.kept, os.X_OK) and text_of(self.kept_of) == self.of_code()
+
+    def look_at(self, made):
+        """Sees that what was made is the program."""
+        ran = subprocess.run([made, *self.command], stdin=subprocess.DEVNULL, capture_output=True, check=False)
+        if ran.returncode or self.answer not in (None, ran.stdout):
+            raise Failure("what was compiled is not the program, so this kit makes its module in another way than is known here")
+
+    def make(self):
+        """Makes the program without proofs, and keeps it in the place of an older one."""
+        begun, of = time.time_ns(), self.of_code()
+        tell(f"builds {self.name} without proofs, once: some two minutes, and 3 GB of memory")
+        for it in os.listdir(KEPT):
+            if it.startswith(MAKING):
+                shutil.rmtree(f"{KEPT}/{it}", ignore_errors=True)
+        with tempfile.TemporaryDirectory(prefix=MAKING, dir=KEPT) as folder:
+            make_module(self.crate, folder, f"{folder}/kept.bc")
+            compile_module(f"{folder}/kept.bc", f"{folder}/made")
+            self.look_at(f"{folder}/made")
+            if self.of_code() != of:
+                raise Failure("the sources changed while the program was built; run it again")
+            date(f"{folder}/made", begun)
+            with open(f"{folder}/sources", "w", encoding="utf-8") as it:
+                it.write(f"{of}\n")
+            os.replace(f"{folder}/made", self.kept)
+            os.replace(f"{folder}/sources", self.kept_of)
+
+    def unproved(self):
+        """The program without proofs of these sources, which is made where there is none. A second one that asks meanwhile waits."""
+        os.makedirs(KEPT, exist_ok=True)
+        with open(f"{KEPT}/lock", "w", encoding="utf-8") as it:
+            try:
+                fcntl.flock(it, fcntl.LOCK_EX | fcntl.LOCK_NB)
+            except BlockingIOError:
+                tell("waits for another one that builds a program")
+                fcntl.flock(it, fcntl.LOCK_EX)
+            begun = time.time_ns()
+            if self.is_kept():
+                date(self.kept, begun)
+            else:
+                self.make()
+        return self.kept
 
 
-def make_unproved():
-    """Makes the unproved program, and keeps it in the place of an older one."""
-    begun, of = time.time_ns(), of_code()
-    tell("builds the program without proofs, once: some two minutes, and 3 GB of memory")
-    for it in os.listdir(KEPT):
-        if it.startswith(MAKING):
-            shutil.rmtree(f"{KEPT}/{it}", ignore_errors=True)
-    with tempfile.TemporaryDirectory(prefix=MAKING, dir=KEPT) as folder:
-        make_module(folder, f"{folder}/kept.bc")
-        compile_module(f"{folder}/kept.bc", f"{folder}/jl")
-        look_at(f"{folder}/jl")
-        if of_code() != of:
-            raise Failure("the sources changed while the program was built; run it again")
-        date(f"{folder}/jl", begun)
-        with open(f"{folder}/sources", "w", encoding="utf-8") as it:
-            it.write(f"{of}\n")
-        os.replace(f"{folder}/jl", UNPROVED)
-        os.replace(f"{folder}/sources", UNPROVED_OF)
+JL = Program("jl_main", "jl", ["check"], b"ok: 0 types, 0 definitions\n")
+# Gives a tool the places of definitions and tasks in a script.
+SITES = Program("jl_sites", "jl_sites", [], None)
 
 
-def unproved():
-    """The unproved program of these sources, which is made where there is none. A second one that asks meanwhile waits."""
-    os.makedirs(KEPT, exist_ok=True)
-    with open(f"{KEPT}/lock", "w", encoding="utf-8") as it:
-        try:
-            fcntl.flock(it, fcntl.LOCK_EX | fcntl.LOCK_NB)
-        except BlockingIOError:
-            tell("waits for another ./jl that builds the program")
-            fcntl.flock(it, fcntl.LOCK_EX)
-        begun = time.time_ns()
-        if is_kept():
-            date(UNPROVED, begun)
-        else:
-            make_unproved()
-    return UNPROVED
+def programs():
+    """The programs that users and tools take."""
+    return [it for it in (JL, SITES) if it.crate in uses()]
 
 
 # ---- the words
@@ -328,10 +347,10 @@ def kit_line():
 
 def state():
     """Which program `./jl` takes, in words."""
-    if is_proved():
-        return f"proved ({os.path.relpath(PROVED, TOP)})"
-    if is_kept():
-        return f"unproved ({os.path.relpath(UNPROVED, TOP)}); ./build makes the proved one"
+    if JL.is_proved():
+        return f"proved ({os.path.relpath(JL.proved, TOP)})"
+    if JL.is_kept():
+        return f"without proofs ({os.path.relpath(JL.kept, TOP)}); ./build makes the proved one"
     return "none yet; ./jl builds one without proofs, ./build the proved one"
 
 
@@ -344,14 +363,14 @@ def run(words):
         print(about())
         return 0
     begun = time.time_ns()
-    if is_proved():
-        found, what = PROVED, "the proved program"
-        date(PROVED, begun)
-    elif not is_kept() and not is_command(words):
+    if JL.is_proved():
+        found, what = JL.proved, "the proved program"
+        date(found, begun)
+    elif not JL.is_kept() and not is_command(words):
         print(USAGE)
         return 2
     else:
-        found, what = unproved(), "the program without proofs (./build makes the proved one)"
+        found, what = JL.unproved(), "the program without proofs (./build makes the proved one)"
     tell(what)
     sys.stdout.flush()
     # Python ignores this signal, and what it starts would too.

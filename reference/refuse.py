@@ -184,8 +184,11 @@ def main(words):
             program = BOOK if name == "book" else PROGRAM
             if not os.path.exists(program):
                 sys.exit(f"refuse: there is no {program}: run ./build first, or `rt test` in crates/book_tests")
-            part = Part(name)
-            PARTS[name](Shim(folder, program), part, step)
+            part, shim = Part(name), Shim(folder, program)
+            # What refuses nothing and does nothing would differ nowhere.
+            if name != "book" and shim.ask(["run"], FIRST)[:2] != (0, b"3\n"):
+                sys.exit(f"refuse: {program} does not run the first script")
+            PARTS[name](shim, part, step)
             differ += part.end()
     sys.exit(1 if differ else 0)
 
