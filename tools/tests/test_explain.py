@@ -175,13 +175,13 @@ class Runs(unittest.TestCase):
         script = "f(x::Bool) = 1\nlate() = f(1)\nfunction go()\n    @eval f(x::Int64) = 2\n    late()\nend\ngo()\n"
         out, told, _ = explain(script)
         self.assertEqual(out, "ERROR: MethodError: no method matching f(::Int64) in world 17\n")
-        self.assertIn("World 17 has:\n  definition 15 is line 1: f(x::Bool) = 1\n", told)
+        self.assertIn("Of `f` world 17 has:\n  definition 15 is line 1: f(x::Bool) = 1\n", told)
         newer = "Newer than world 17, so not seen by this call; `Base.invokelatest(f, ..)` calls in the newest world:"
         self.assertIn(f"{newer}\n  definition 18 is line 4: @eval f(x::Int64) = 2\n", told)
 
     def test_a_call_before_its_definition_is_told_so(self):
         _, told, _ = explain("f(1)\nf(x) = x\n")
-        self.assertIn("Not made by this run, or not yet:\n  line 2: f(x) = x\n", told)
+        self.assertIn("World 14 has no method of `f`.\nNot made by this run, or not yet:\n  line 2: f(x) = x\n", told)
 
     def test_comparing_structs_is_told_of(self):
         _, told, _ = explain("struct P; x end\nP(1) == P(1)\n")
