@@ -1,0 +1,2 @@
+pub mod NoScriptLemmas
+pub mod SpotLemmas
