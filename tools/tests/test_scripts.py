@@ -252,7 +252,7 @@ class Build(Repository):
     def test_a_crate_that_is_not_proved_ends_it(self):
         write(f"{self.room}/broken-high", "")
         _, status, said = self.build()
-        self.assertEqual((status, said), (1, ["a goal fails", "build: high is not proved"]))
+        self.assertEqual((status, said), (1, ["a goal fails", "build: high is not proved (its check ended with 1)"]))
         self.assertEqual(self.calls(), ["low: lib --jobs 1", "high: lib --jobs 1"])
         self.assertFalse(os.path.exists(f"{self.top}/crates/jl_main/out/jl_main"))
 
