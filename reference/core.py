@@ -4,14 +4,16 @@
     reference/core.py           writes the answers to crates/core_cases/stdin
     reference/core.py check     compares them with crates/core_cases/stdout
 
-Each step is asked and made as it is defined, over the whole list of events: a row's end is found by asking every later definition, and
-a choice by asking every method. Types are those that the scripts of the cases have: names with supertypes, and structs with parameters
-that are the same or not at all below one another (Julia manual, Methods; Belyakova et al., OOPSLA 2020).
+Each step is asked and made as it is defined, over the whole list of events: a row's end is found by asking every later change, and
+a choice by asking every method that no later deletion has taken away. Types are those that the scripts of the cases have: names with
+supertypes, and structs with parameters that are the same or not at all below one another; a parameter of a method may be a variable with
+an upper bound (Julia manual, Methods; Belyakova et al., OOPSLA 2020).
 """
 import pathlib
 import re
 import sys
 
+OWN = ("def", "del", "spawn")
 PRELUDE_FUNCTIONS, FIRST_WORLD, MOST_WORLDS, MOST_TASKS = 12, 14, 65535, 4096
 SUPER = {"Number": None, "Real": "Number", "Integer": "Real", "Signed": "Integer", "Int64": "Signed", "Bool": "Integer",
          "Nothing": None, "Task": None}
@@ -19,9 +21,9 @@ ABSTRACT = {"Number", "Real", "Integer", "Signed"}
 
 
 class Program:
-    """The types, functions, sites and spawn places of a script."""
+    """The types, functions, sites and spawn places of a script, and deletion places: each is of the function and signature of a site."""
 
-    def __init__(self, lines):
+    def __init__(self, lines, places=()):
         self.names = list(SUPER)
         self.supers, self.abstract, self.arity = dict(SUPER), set(ABSTRACT), {name: 0 for name in SUPER}
         self.functions, self.sites, self.spawns = [], [], 0
@@ -31,8 +33,9 @@ class Program:
                 self.declare(found[1], 0, True)
             elif found := re.match(r"struct (\w+)\{(\w+(?:, \w+)*)\}", line):
                 self.declare(found[1], found[2].count(",") + 1, False)
-            elif found := re.match(r"(\w+)\(([^)]*)\) =", line):
-                self.define(found[1], found[2])
+            elif found := re.match(r"(\w+)\(([^)]*)\)(?: where (\w+)<:(\w+))? =", line):
+                self.define(found[1], found[2], found[3], found[4])
+        self.places = [self.site(number) for number in places]
 
     def declare(self, name, arity, is_abstract):
         self.names.append(name)
@@ -40,11 +43,12 @@ class Program:
         if is_abstract:
             self.abstract.add(name)
 
-    def define(self, name, parameters):
+    def define(self, name, parameters, variable, bound):
+        """A parameter is (name, None), a name of a type, or (variable, bound)."""
         if name not in self.functions:
             self.functions.append(name)
         types = [part.partition("::")[2].strip() or "Any" for part in parameters.split(",") if part.strip()]
-        self.sites.append((name, types))
+        self.sites.append((name, [(t, bound if t == variable else None) for t in types]))
 
     def site(self, number):
         place = number - FIRST_WORLD
@@ -61,13 +65,26 @@ class Program:
             at = self.supers.get(at)
         return False
 
-    def are_names_below(self, one, other):
-        return all(self.is_below((a, []), b) if a != "Any" else b == "Any" for a, b in zip(one, other))
+    def is_signature_below(self, one, other):
+        """Whether the other takes all that the first takes: a variable of the first is held fixed, so it equals itself alone, and one
+        of the other stands for the same type wherever it occurs."""
+        if len(one) != len(other):
+            return False
+        top = lambda part: part[1] or part[0]
+        name_below = lambda a, b: b == "Any" or (a != "Any" and self.is_below((a, []), b))
+        same = {b[0]: {a for a, c in zip(one, other) if c == b} for b in other if b[1]}
+        return (all(name_below(top(a), top(b)) for a, b in zip(one, other)) and all(len(taken) == 1 for taken in same.values()))
 
-    def applies(self, site, key):
-        found = self.site(site)
-        return (found is not None and found[0] == key[0] and len(found[1]) == len(key[1])
-                and all(self.is_below(t, p) for t, p in zip(key[1], found[1])))
+    def is_same_signature(self, one, other):
+        return self.is_signature_below(one, other) and self.is_signature_below(other, one)
+
+    def applies(self, found, key):
+        """Whether a site or a deletion place touches a key."""
+        if found is None or found[0] != key[0] or len(found[1]) != len(key[1]):
+            return False
+        pairs = list(zip(key[1], found[1]))
+        return (all(self.is_below(t, bound or name) for t, (name, bound) in pairs)
+                and all(s == t for s, (a, bound) in pairs for t, (b, _) in pairs if bound and a == b))
 
     def is_form(self, ty):
         """Whether a type without variables is known, has all its arguments and is normal."""
@@ -108,7 +125,10 @@ class Core:
         return [e for e in (self.events if events is None else events) if e[0] == kind]
 
     def world(self, events=None):
-        return FIRST_WORLD + len(self.of_kind("def", events))
+        return FIRST_WORLD + len(self.changes(events))
+
+    def changes(self, events=None):
+        return [e for e in (self.events if events is None else events) if e[0] in ("def", "del")]
 
     def keys(self, events=None):
         return [e[1] for e in self.of_kind("key", events)]
@@ -116,16 +136,46 @@ class Core:
     def rows(self):
         return [e[1:] for e in self.of_kind("fill")]
 
+    def change_of(self, world, events=None):
+        """The change that made a world: ("def", site) or ("del", place); none for a world of the prelude."""
+        made = self.changes(events)
+        at = world - FIRST_WORLD - 1
+        return (made[at][0], made[at][2]) if 0 <= at < len(made) else None
+
+    def head(self, change):
+        """The function and the signature of a change, where there is such a site or place."""
+        kind, number = change
+        if kind == "def":
+            return self.program.site(number)
+        return self.program.places[number] if number < len(self.program.places) else None
+
     def site_of(self, world):
-        defs = self.of_kind("def")
-        return defs[world - FIRST_WORLD - 1][2] if FIRST_WORLD < world <= FIRST_WORLD + len(defs) else None
+        change = self.change_of(world)
+        return change[1] if change is not None and change[0] == "def" else None
 
     def touches(self, world, key):
-        site = self.site_of(world)
-        return site is not None and self.program.applies(site, key)
+        change = self.change_of(world)
+        return change is not None and self.program.applies(self.head(change), key)
+
+    def standing(self, world, events=None):
+        """The worlds of the definitions that stand in a world: made up to it, and no later deletion up to it has their function and
+        their signature."""
+        change = lambda w: self.change_of(w, events)
+        made = [w for w in range(FIRST_WORLD + 1, world + 1) if change(w)[0] == "def"]
+
+        def takes(deletion, definition):
+            place, site = self.head(change(deletion)), self.head(change(definition))
+            return place[0] == site[0] and self.program.is_same_signature(site[1], place[1])
+        return [w for w in made if not any(change(v)[0] == "del" and takes(v, w) for v in range(w + 1, world + 1))]
+
+    def has_method_for(self, place, events=None):
+        """Whether a method of the function and the signature of a deletion place stands in the newest world."""
+        function, signature = self.program.places[place]
+        sites = [self.head(self.change_of(w, events)) for w in self.standing(self.world(events), events)]
+        return any(site[0] == function and self.program.is_same_signature(site[1], signature) for site in sites)
 
     def end_of(self, key, first):
-        """The world before the next definition that touches a key; none where there is none."""
+        """The world before the next change that touches a key; none where there is none."""
         for world in range(first + 1, self.world() + 1):
             if self.touches(world, key):
                 return world - 1
@@ -137,10 +187,11 @@ class Core:
 
     def choose(self, key, world):
         """The site of the one most specific method; none where there is none."""
-        methods = [w for w in range(FIRST_WORLD + 1, world + 1) if self.touches(w, key)]
+        methods = [w for w in self.standing(world) if self.touches(w, key)]
         signature = lambda w: self.program.site(self.site_of(w))[1]
-        last = [w for w in methods if not any(v > w and signature(v) == signature(w) for v in methods)]
-        best = [w for w in last if all(self.program.are_names_below(signature(w), signature(v)) for v in last)]
+        below = self.program.is_signature_below
+        last = [w for w in methods if not any(v > w and self.program.is_same_signature(signature(w), signature(v)) for v in methods)]
+        best = [w for w in last if all(v == w or (below(signature(w), signature(v)) and not below(signature(v), signature(w))) for v in last)]
         return self.site_of(best[0]) if best else None
 
     def ended(self, task, events=None):
@@ -170,7 +221,7 @@ class Core:
             return False
         key, _, first = self.rows()[row]
         key = self.keys()[key]
-        return self.end_of(key, first) is None and self.program.applies(self.opened[1], key)
+        return self.end_of(key, first) is None and self.program.applies(self.head(self.opened[1]), key)
 
     def is_true(self, task, item):
         kind, at = item[0], item[-1]
@@ -181,6 +232,11 @@ class Core:
             return within and self.world(first) == item[1]
         if kind == "def":
             return here is not None and here[:3] == ("def", task, item[1])
+        if kind == "del":
+            return here is not None and here[:3] == ("del", task, item[1])
+        if kind == "absent":
+            return (within and item[1] < len(self.program.places) and self.world(first) < MOST_WORLDS
+                    and not self.has_method_for(item[1], first))
         if kind == "spawn":
             return here is not None and here[:3] == ("spawn", task, item[1])
         if kind == "fetch":
@@ -197,9 +253,9 @@ class Core:
         for item in items:
             if item[-1] < low or not self.is_true(task, item):
                 return False
-            low = item[-1] + (1 if item[0] in ("def", "spawn") else 0)
-        own = [(e[0], e[2], place) for place, e in enumerate(self.events) if e[0] in ("def", "spawn") and e[1] == task]
-        return low <= len(self.events) and own == [i for i in items if i[0] in ("def", "spawn")]
+            low = item[-1] + (1 if item[0] in OWN else 0)
+        own = [(e[0], e[2], place) for place, e in enumerate(self.events) if e[0] in OWN and e[1] == task]
+        return low <= len(self.events) and own == [i for i in items if i[0] in OWN]
 
     def knows(self, task, others):
         return all(other in self.tasks[task]["known"] for other in others)
@@ -230,6 +286,9 @@ class Core:
     def may_open(self, task, site):
         return self.is_free(task) and self.program.site(site) is not None and self.world() < MOST_WORLDS
 
+    def may_delete(self, task, place):
+        return self.is_free(task) and self.world() < MOST_WORLDS and place < len(self.program.places) and self.has_method_for(place)
+
     def may_publish(self):
         return self.opened is not None and not any(self.may_cut(row) for row in range(len(self.rows())))
 
@@ -259,7 +318,7 @@ class Core:
         return max((place + 1 for place, event in enumerate(self.events) if test(event)), default=0)
 
     def make_look(self, task):
-        self.see(task, self.last_place(lambda e: e[0] in ("begin", "def")))
+        self.see(task, self.last_place(lambda e: e[0] in ("begin", "def", "del")))
 
     def make_key(self, task, key):
         self.add(task, ("key", key))
@@ -285,15 +344,18 @@ class Core:
         self.add(task, ("fill", key, self.choose(named, world), first))
 
     def make_open(self, task, site):
-        self.opened = (task, site, [])
+        self.opened = (task, ("def", site), [])
+
+    def make_delete(self, task, place):
+        self.opened = (task, ("del", place), [])
 
     def make_cut(self, row):
         self.opened[2].append(row)
 
     def make_publish(self):
-        task, site, _ = self.opened
+        task, (kind, number), _ = self.opened
         self.opened = None
-        self.add(task, ("def", task, site))
+        self.add(task, (kind, task, number))
 
     def make_spawn(self, task, place, world, tasks):
         child = len(self.tasks)
@@ -399,16 +461,16 @@ class Worker:
     def step(self, move):
         return {"look": ("look", self.task), "head": ("head", self.task, *self.asked), "row": ("row", self.task),
                 "fill": ("fill", self.task, *self.asked), "publish": ("publish",)}.get(move) or (
-            ("open", self.task, move[1]) if move[0] == "open" else ("cut", move[1]))
+            ("cut", move[1]) if move[0] == "cut" else (move[0], self.task, move[1]))
 
     def moves(self, core, is_open):
         work = self.work()
         may = lambda move: core.enabled(self.step(move))
         if work is None:
             return []
-        if work[0] == "define":
+        if work[0] != "call":
             if self.stage == "begun":
-                return [m for m in [("open", work[1])] if may(m)]
+                return [m for m in [("open" if work[0] == "define" else "delete", work[1])] if may(m)]
             return [m for m in [("cut", row) for row in range(len(core.rows()))] + ["publish"] if may(m)]
         if self.stage != "searching":
             return ["look" if self.stage == "begun" else "head"]
@@ -432,7 +494,7 @@ class Worker:
             self.stage = "looked"
         elif move == "publish":
             self.go_on()
-        elif move[0] == "open":
+        elif move[0] in ("open", "delete"):
             self.stage = "opened"
 
 
@@ -516,7 +578,9 @@ def random_step(dice, core, pool):
     if name in ("head", "fill"):
         return kind, (name, task, key, world)
     if name == "open":
-        return kind, ("open", task, FIRST_WORLD - 1 + dice.below(len(core.program.sites) + 2))
+        sites = len(core.program.sites) + 2
+        number = dice.below(sites + len(core.program.places))
+        return kind, ("open", task, FIRST_WORLD - 1 + number) if number < sites else ("delete", task, number - sites)
     value = lambda: (lambda t: t if t < tasks else None)(dice.below(2 * tasks))
     if name == "spawn":
         sent = value()
@@ -524,7 +588,7 @@ def random_step(dice, core, pool):
     if name == "done":
         task = dice.below(tasks) + 1
         sent = value()
-        own = [(e[0], e[2], place) for place, e in enumerate(core.events) if e[0] in ("def", "spawn") and e[1] == task]
+        own = [(e[0], e[2], place) for place, e in enumerate(core.events) if e[0] in OWN and e[1] == task]
         return kind, ("done", task, ("nothing",) if sent is None else ("task", sent), own)
     if name == "fetch":
         return kind, ("fetch", task, dice.below(tasks + 1))
@@ -548,7 +612,7 @@ def random_walk(core, lines, seed, count):
 
 # ---------------------------------------------------------------------------------------------------------------- cases
 
-ASKS = ("found", "history", "walk", "random", "world", "task", "pool", "start")
+ASKS = ("found", "history", "walk", "random", "world", "task", "pool", "place", "start")
 
 
 def begin(program, lines):
@@ -560,7 +624,7 @@ def begin(program, lines):
 
 
 def answers(text, lines):
-    program = Program(text)
+    program = Program(text, [int(line.split()[1]) for line in lines if line.startswith("place ")])
     core = begin(program, lines[:1])
     for i, line in enumerate(lines):
         words = line.split()

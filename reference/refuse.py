@@ -5,7 +5,7 @@
     reference/refuse.py memory devices    these parts
     reference/refuse.py memory 7          every 7th allocation alone
     JL=FILE reference/refuse.py           with another program than crates/jl_main/out/jl_main
-    BOOK=FILE reference/refuse.py book    with another test program than the one that `rt test` leaves in crates/book_tests/out
+    BOOK=FILE reference/refuse.py book    with another test program than the one that `rt test` leaves in crates/store_tests/out
 
 It needs a C compiler, for refuse.c, which is loaded before the C library. Where memory is refused the run must end with status 6 and a
 first part of its text, or as it does with ample memory. Where a thread is refused it must end as it does with all of them. Where a read
@@ -25,7 +25,7 @@ import tempfile
 
 HERE = os.path.dirname(os.path.abspath(__file__))
 PROGRAM = os.path.abspath(os.environ.get("JL") or os.path.join(HERE, "..", "crates", "jl_main", "out", "jl_main"))
-BOOK = os.path.abspath(os.environ.get("BOOK") or os.path.join(HERE, "..", "crates", "book_tests", "out", "book_tests_tests"))
+BOOK = os.path.abspath(os.environ.get("BOOK") or os.path.join(HERE, "..", "crates", "store_tests", "out", "store_tests_tests"))
 # The numbers of `struct Plan` of refuse.c, in its order.
 KINDS = ("alloc", "thread", "read", "write")
 PLAN = struct.Struct("12Q")
@@ -158,9 +158,13 @@ def test_devices(shim, part, _):
 
 
 def test_book(shim, part, step):
-    """Refuses each allocation in turn of a test on the book, and of one on its index."""
-    for name in ("a_definition_ends_the_row_that_has_no_end", "what_touches_a_key_grows_with_each_definition"):
-        words = [f"tests::{name}"]
+    """Refuses each allocation in turn of the tests on the book that define and delete, and of one on its index."""
+    for name in (
+        "a_definition_ends_the_row_that_has_no_end",
+        "a_deletion_ends_the_row_that_has_no_end",
+        "what_touches_a_key_grows_with_each_definition",
+    ):
+        words = [f"book_tests::{name}"]
         due, written, err, counts = shim.ask(words, b"")
         part.count(f"{name}, ample memory", (due, written, err, counts), due == 0)
         for number in range(1, counts["alloc"] + 20, step):
@@ -183,7 +187,7 @@ def main(words):
         for name in names:
             program = BOOK if name == "book" else PROGRAM
             if not os.path.exists(program):
-                sys.exit(f"refuse: there is no {program}: run ./build first, or `rt test` in crates/book_tests")
+                sys.exit(f"refuse: there is no {program}: run ./build first, or `rt test` in crates/store_tests")
             part, shim = Part(name), Shim(folder, program)
             # What refuses nothing and does nothing would differ nowhere.
             if name != "book" and shim.ask(["run"], FIRST)[:2] != (0, b"3\n"):

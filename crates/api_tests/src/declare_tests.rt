@@ -1,33 +1,12 @@
 //! How many declarations are kept of a script, and how many of them are in its table.
 
 use crate::holds;
+use crate::programs::{known_of_text, script_of};
 use jl_declare::declarations::declarations;
-use jl_declare::known::known_of;
-use jl_declare::state::Declarations;
-use jl_grammar::tree::{Item, Script};
-use jl_model::shared::SharedList;
+use jl_grammar::tree::Item;
 use jl_model::ty::Decl;
-use jl_reader::read;
-use jl_resolve_forms::known::Known;
-use jl_token::tokens;
 use jl_written::fault::StaticKind;
 use std::alloc::{AllocError, Global};
-
-/// The script that a text is; one without items where it is none.
-#[tactic(auto, using(jl_typeread::proofs::Ends::ends_alone))]
-fn script_of(alloc: Global, source: &[u8]) -> Script {
-    let Ok(found) = tokens(alloc, source) else {
-        return Script {
-            items: SharedList::empty(),
-        };
-    };
-    match read(alloc, found.as_slice()) {
-        Ok(script) => script,
-        Err(_) => Script {
-            items: SharedList::empty(),
-        },
-    }
-}
 
 /// How many types are in the table, how many are declared, and the place and the kind of the first fault.
 type Found = (u32, usize, Option<(u32, StaticKind)>);
@@ -45,7 +24,7 @@ fn found(alloc: Global, items: &[Item]) -> Result<Found, AllocError> {
 }
 
 fn found_of(alloc: Global, source: &str) -> Result<Found, AllocError> {
-    let script = script_of(alloc, source.as_bytes());
+    let script = script_of(alloc, source)?;
     let found = found(alloc, script.items.as_slice());
     drop(script);
     found
@@ -115,7 +94,7 @@ fn outline(alloc: Global, items: &[Item]) -> Result<(usize, usize), AllocError> 
 }
 
 fn an_outline_has_two_of_each(alloc: Global) -> Result<bool, AllocError> {
-    let script = script_of(alloc, b"struct P{T, T} <: Foo end");
+    let script = script_of(alloc, "struct P{T, T} <: Foo end")?;
     let sizes = outline(alloc, script.items.as_slice());
     drop(script);
     Ok(sizes? == (2, 2))
@@ -126,27 +105,12 @@ fn an_outline_has_its_parameters_and_a_field_of_each(rt: HostRuntime) {
     assert!(rt; holds(an_outline_has_two_of_each(rt.alloc())));
 }
 
-/// How many functions are known, the built-in ones among them, and how many types are named. What is known is let go by a call: a drop
-/// that is left to the compiler is unrolled into the proof.
-fn sizes_known(known: Known) -> (usize, usize) {
-    let sizes = (known.functions.len(), known.types.as_slice().len());
-    drop(known);
-    sizes
-}
-
 /// How many functions are known of a script, the built-in ones among them, and how many types it names.
-fn counts(alloc: Global, items: &[Item]) -> Result<(usize, usize), AllocError> {
-    let Declarations { table, decls, .. } = declarations(alloc, items)?;
-    drop(table);
-    let known = known_of(alloc, items, decls)?;
-    Ok(sizes_known(known))
-}
-
 fn counts_of(alloc: Global, source: &str) -> Result<(usize, usize), AllocError> {
-    let script = script_of(alloc, source.as_bytes());
-    let counts = counts(alloc, script.items.as_slice());
-    drop(script);
-    counts
+    let known = known_of_text(alloc, source)?;
+    let counts = (known.functions.len(), known.types.as_slice().len());
+    drop(known);
+    Ok(counts)
 }
 
 /// A script, and the counts.

@@ -1,19 +1,32 @@
-//! Tests of public calls that no text can show: runs over devices that fail in mid-stream, tables of names, the numbers of slots
-//! and variables, what is asked of a table of declarations, and what is kept of a program. All else is told by the lines of script_cases and check_cases.
+//! Tests of public calls that no text can show: runs on many threads and over devices that fail in mid-stream, tables of names, the
+//! numbers of slots and variables, what is asked of a table of declarations, and what is kept of a program. All else is told by the
+//! lines of script_cases and check_cases.
 #![tactic(auto)]
 
 #[cfg(test)]
-mod cli_tests;
+mod call_tests;
+#[cfg(test)]
+mod calls;
 #[cfg(test)]
 mod declare_tests;
 #[cfg(test)]
 mod host_tests;
 #[cfg(test)]
+mod making;
+#[cfg(test)]
 mod names_tests;
+#[cfg(test)]
+mod programs;
 #[cfg(test)]
 mod ready_tests;
 #[cfg(test)]
 mod resolve_tests;
+#[cfg(test)]
+mod room_tests;
+#[cfg(test)]
+mod texts;
+#[cfg(test)]
+mod thread_tests;
 #[cfg(test)]
 mod walk_tests;
 #[cfg(test)]

@@ -1,9 +1,8 @@
 //! The tables of names, each on its happy path.
 
 use crate::holds;
-use jl_grammar::tree::Name;
-use jl_model::shared::SharedList;
-use jl_model::ty::{Bounds, Bytes, Decl, DeclKind, Fields, Ty};
+use crate::making::{name, plain, text};
+use jl_model::ty::{Bounds, Bytes};
 use jl_names::decls::DeclList;
 use jl_names::list::NameList;
 use jl_names::marked::MarkedNames;
@@ -11,13 +10,9 @@ use jl_names::slots::Slots;
 use jl_names::stack::NameStack;
 use std::alloc::{AllocError, Global};
 
-fn text(alloc: Global, bytes: &[u8]) -> Result<Bytes, AllocError> {
-    SharedList::from_vec(alloc, bytes.to_vec(alloc)?)
-}
-
 fn push_names(alloc: Global, names: &mut NameList, texts: &[&str]) -> Result<(), AllocError> {
     for name in texts {
-        names.push(text(alloc, name.as_bytes())?)?;
+        names.push(text(alloc, name)?)?;
     }
     Ok(())
 }
@@ -48,17 +43,9 @@ fn the_first_of_several_is_found(rt: HostRuntime) {
     assert!(rt; holds(the_list_finds_the_first(rt.alloc())));
 }
 
-/// `f`, where it stands at this place.
-fn marked(alloc: Global, at: u32) -> Result<Name, AllocError> {
-    Ok(Name {
-        at,
-        bytes: text(alloc, b"f")?,
-    })
-}
-
 fn place_is_found(alloc: Global, names: &mut MarkedNames) -> Result<bool, AllocError> {
-    names.push(marked(alloc, 7)?)?;
-    names.push(marked(alloc, 9)?)?;
+    names.push(name(alloc, 7, "f")?)?;
+    names.push(name(alloc, 9, "f")?)?;
     Ok(names.find(b"f") == Some(7) && names.find(b"g") == None && names.as_slice().len() == 2)
 }
 
@@ -76,7 +63,7 @@ fn a_marked_name_is_found_where_it_stands_first(rt: HostRuntime) {
 
 fn stack_names(alloc: Global, names: &mut NameStack, texts: &[&str]) -> Result<(), AllocError> {
     for name in texts {
-        names.push(text(alloc, name.as_bytes())?)?;
+        names.push(text(alloc, name)?)?;
     }
     Ok(())
 }
@@ -93,12 +80,12 @@ fn hidden_is_back(names: &mut NameStack) -> bool {
 fn another_takes_its_place(alloc: Global, names: &mut NameStack) -> Result<bool, AllocError> {
     names.truncate(1);
     let is_gone = names.find(b"S") == None;
-    let hidden = names.push(text(alloc, b"U")?)?;
+    let hidden = names.push(text(alloc, "U")?)?;
     Ok(is_gone && hidden == None && names.find(b"S") == None && names.find(b"U") == Some(1))
 }
 
 fn hidden_place_is_the_answer(alloc: Global, names: &mut NameStack) -> Result<bool, AllocError> {
-    let hidden = names.push(text(alloc, b"T")?)?;
+    let hidden = names.push(text(alloc, "T")?)?;
     Ok(hidden == Some(0))
 }
 
@@ -134,13 +121,13 @@ fn visible(slots: &mut Slots, name: Bytes) -> Result<(), AllocError> {
 
 /// The variable `b` has slot 2, also where it comes once more behind the block in which it was.
 fn slots_are_right(alloc: Global, slots: &mut Slots) -> Result<bool, AllocError> {
-    visible(slots, text(alloc, b"a")?)?;
+    visible(slots, text(alloc, "a")?)?;
     slots.push_unnamed()?;
-    visible(slots, text(alloc, b"b")?)?;
+    visible(slots, text(alloc, "b")?)?;
     let are_first = slots.find(b"a") == Some(0) && slots.find(b"b") == Some(2);
     slots.truncate(2);
     let is_gone = slots.find(b"a") == Some(0) && slots.find(b"b") == None && slots.len() == 2;
-    visible(slots, text(alloc, b"b")?)?;
+    visible(slots, text(alloc, "b")?)?;
     Ok(are_first && is_gone && slots.find(b"b") == Some(2))
 }
 
@@ -156,21 +143,11 @@ fn slots_end_with_their_block(rt: HostRuntime) {
     assert!(rt; holds(the_slots_end_with_their_block(rt.alloc())));
 }
 
-fn plain(alloc: Global, name: &[u8]) -> Result<Decl, AllocError> {
-    Ok(Decl {
-        name: text(alloc, name)?,
-        kind: DeclKind::Struct,
-        params: Bounds::empty(),
-        parent: Ty::Any,
-        fields: Fields::empty(),
-    })
-}
-
 /// Declares `A`, `B` and `A`.
 fn push_decls(alloc: Global, decls: &mut DeclList) -> Result<(), AllocError> {
-    decls.push(plain(alloc, b"A")?)?;
-    decls.push(plain(alloc, b"B")?)?;
-    decls.push(plain(alloc, b"A")?)?;
+    decls.push(plain(alloc, "A", Bounds::empty())?)?;
+    decls.push(plain(alloc, "B", Bounds::empty())?)?;
+    decls.push(plain(alloc, "A", Bounds::empty())?)?;
     Ok(())
 }
 

@@ -1,8 +1,8 @@
 //! The variables of written types by their numbers, and which of two faults comes first.
 
 use crate::holds;
-use jl_model::shared::SharedList;
-use jl_model::ty::{Bound, Bounds, Bytes, Decl, DeclKind, Fields, Ty, Tys};
+use crate::making::{one, plain, text};
+use jl_model::ty::{Bound, Bounds, Ty, Tys};
 use jl_names::decls::DeclList;
 use jl_token::tokens;
 use jl_typeread::fault::TypeFault;
@@ -15,30 +15,19 @@ use jl_written::signatures::body_type;
 use jl_written::vars::TypeVars;
 use std::alloc::{AllocError, Global};
 
-fn plain(alloc: Global, name: &[u8], params: Bounds) -> Result<Decl, AllocError> {
-    Ok(Decl {
-        name: Bytes::from_vec(alloc, Vec::from_slice(alloc, name)?)?,
-        kind: DeclKind::Struct,
-        params,
-        parent: Ty::Any,
-        fields: Fields::empty(),
-    })
-}
-
 /// The bound of `{T<:Int64}`, where the number of `Int64` is 0.
 fn one_bound(alloc: Global) -> Result<Bounds, AllocError> {
-    let mut bounds = Vec::new(alloc);
-    bounds.push(Bound {
+    let bound = Bound {
         low: Ty::Union(Tys::empty()),
         high: Ty::Nominal(0, Tys::empty()),
-    })?;
-    SharedList::from_vec(alloc, bounds)
+    };
+    one(alloc, bound)
 }
 
 fn push_decls(alloc: Global, decls: &mut DeclList) -> Result<(), AllocError> {
-    decls.push(plain(alloc, b"Int64", Bounds::empty())?)?;
+    decls.push(plain(alloc, "Int64", Bounds::empty())?)?;
     let bounds = one_bound(alloc)?;
-    decls.push(plain(alloc, b"Box", bounds)?)
+    decls.push(plain(alloc, "Box", bounds)?)
 }
 
 /// The types `Int64`, whose number is 0 here, and `Box{T<:Int64}`, whose number is 1. Whoever has a table lets it go by a call: a drop
@@ -54,9 +43,10 @@ fn decls(alloc: Global) -> Result<DeclList, AllocError> {
     }
 }
 
-fn static_parameter(alloc: Global, name: &[u8], number: u32) -> Result<TypeVar, AllocError> {
+fn static_parameter(alloc: Global, name: &str, number: u32) -> Result<TypeVar, AllocError> {
+    let name = text(alloc, name)?;
     Ok(TypeVar {
-        name: Bytes::from_vec(alloc, Vec::from_slice(alloc, name)?)?,
+        name,
         number,
         usable: true,
     })
@@ -64,9 +54,9 @@ fn static_parameter(alloc: Global, name: &[u8], number: u32) -> Result<TypeVar, 
 
 /// The static parameters `T`, `S` and `T`. The answer is whether only the last hides one.
 fn push_statics(alloc: Global, vars: &mut TypeVars) -> Result<bool, AllocError> {
-    let first = vars.push(static_parameter(alloc, b"T", 0)?)?;
-    let other = vars.push(static_parameter(alloc, b"S", 1)?)?;
-    let last = vars.push(static_parameter(alloc, b"T", 2)?)?;
+    let first = vars.push(static_parameter(alloc, "T", 0)?)?;
+    let other = vars.push(static_parameter(alloc, "S", 1)?)?;
+    let last = vars.push(static_parameter(alloc, "T", 2)?)?;
     Ok(!first && !other && last)
 }
 

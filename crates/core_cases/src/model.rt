@@ -86,7 +86,7 @@ pub fn sizes_of(events: &[Event]) -> Sizes {
             Event::Spawn { .. } => sizes.tasks = sizes.tasks.saturating_add(1),
             Event::Key(_) => sizes.keys = sizes.keys.saturating_add(1),
             Event::Fill { .. } => sizes.rows = sizes.rows.saturating_add(1),
-            Event::Def { .. } => sizes.world = sizes.world.saturating_add(1),
+            Event::Def { .. } | Event::Del { .. } => sizes.world = sizes.world.saturating_add(1),
             Event::Begin(_) => {}
             Event::Done { .. } => {}
         }
@@ -104,11 +104,14 @@ fn site_of(events: &[Event], world: u32) -> Option<u32> {
     }
     let mut made = PRELUDE_SITES;
     for event in events {
-        if let Event::Def { site, .. } = event {
-            made = made.saturating_add(1);
-            if made == world {
-                return Some(*site);
-            }
+        let site = match event {
+            Event::Def { site, .. } => Some(*site),
+            Event::Del { .. } => None,
+            _ => continue,
+        };
+        made = made.saturating_add(1);
+        if made == world {
+            return site;
         }
     }
     None

@@ -4,7 +4,7 @@ ghost use Rattle.std.specs.Prelude.{◌≡◌};
 
 use crate::model::{Hits, Search, Sizes, compare, sizes_of, try_step};
 use crate::reading::{number_at, read_key, words_of};
-use jl_calculus::history::{Event, Outcome, Record, TraceItem, TraceItems};
+use jl_calculus::history::{Change, Event, Outcome, Record, TraceItem, TraceItems};
 use jl_calculus::step::Step;
 use jl_core::Core;
 use jl_model::shared::SharedNode;
@@ -39,15 +39,20 @@ impl Dice {
     }
 }
 
-/// The definitions and spawns of a task, as its trace has them.
+/// The definitions, deletions and spawns of a task, as its trace has them.
 fn own_items(alloc: Global, events: &[Event], by: u32) -> Result<TraceItems, AllocError> {
     let mut items = Vec::new(alloc);
-    for (place, event) in events.iter().enumerate() {
-        let at = u32::try_from(place).unwrap_or(u32::MAX);
+    for (i, event) in events.iter().enumerate() {
+        let at = u32::try_from(i).unwrap_or(u32::MAX);
         match event {
             Event::Def { task, site } => {
                 if *task == by {
                     items.push(TraceItem::Def { site: *site, at })?;
+                }
+            }
+            Event::Del { task, place } => {
+                if *task == by {
+                    items.push(TraceItem::Del { place: *place, at })?;
                 }
             }
             Event::Spawn { task, child, .. } => {
@@ -114,6 +119,23 @@ fn random_key(dice: &mut Dice, keys: &[Key]) -> Result<Key, AllocError> {
     }
 }
 
+/// How many sites and deletion places a program has.
+#[derive(Clone, Copy)]
+struct Parts {
+    sites: u32,
+    places: u32,
+}
+
+/// A definition of a site of the script, or of one beside them, or a deletion at a place.
+fn random_change(dice: &mut Dice, parts: Parts) -> Change {
+    let sites = parts.sites.saturating_sub(PRELUDE_SITES).saturating_add(2);
+    let number = dice.below(sites.saturating_add(parts.places));
+    if number < sites {
+        return Change::Def(number.saturating_add(PRELUDE_SITES - 1));
+    }
+    Change::Del(number.saturating_sub(sites))
+}
+
 /// The steps with a task, by a number below 11.
 fn task_step(
     alloc: Global,
@@ -121,7 +143,7 @@ fn task_step(
     core: &Core,
     keys: &[Key],
     sizes: Sizes,
-    sites: u32,
+    parts: Parts,
     kind: u32,
 ) -> Result<Step, AllocError> {
     let task = dice.below(sizes.tasks.saturating_add(1));
@@ -139,10 +161,8 @@ fn task_step(
         3 => Ok(Step::Row { task }),
         4 => Ok(Step::Fill { task, key, world }),
         5 => {
-            let site = dice
-                .below(sites.saturating_sub(PRELUDE_SITES).saturating_add(2))
-                .saturating_add(PRELUDE_SITES - 1);
-            Ok(Step::Open { task, site })
+            let change = random_change(dice, parts);
+            Ok(Step::Open { task, change })
         }
         8 => {
             let start = random_start(alloc, dice, sizes, world)?;
@@ -181,7 +201,7 @@ fn random_step(
     dice: &mut Dice,
     core: &Core,
     keys: &[Key],
-    sites: u32,
+    parts: Parts,
 ) -> Result<(u32, Step), AllocError> {
     let sizes = sizes_of(core.history());
     let kind = random_kind(dice);
@@ -192,7 +212,7 @@ fn random_step(
         }
         7 => Ok((kind, Step::Publish)),
         _ => {
-            let step = task_step(alloc, dice, core, keys, sizes, sites, kind)?;
+            let step = task_step(alloc, dice, core, keys, sizes, parts, kind)?;
             Ok((kind, step))
         }
     }
@@ -246,12 +266,12 @@ impl Walk {
         ready: &Ready,
         core: &mut Core,
         keys: &[Key],
-        sites: u32,
+        parts: Parts,
     ) -> Result<(), AllocError>
         requires { ready.now ≡ core.old.program }
         ensures { core.new.program ≡ core.old.program }
     {
-        let (kind, step) = random_step(alloc, &mut self.dice, core, keys, sites)?;
+        let (kind, step) = random_step(alloc, &mut self.dice, core, keys, parts)?;
         let begun = match &step {
             Step::Head { task, key, world } => Some((
                 *task,
@@ -310,7 +330,11 @@ pub fn random(
 {
     let words = words_of(alloc, line)?;
     let keys = read_pool(alloc, ready, lines)?;
-    let sites = u32::try_from(ready.program().sites.len()).unwrap_or(0);
+    let program = ready.program();
+    let parts = Parts {
+        sites: u32::try_from(program.sites.len()).unwrap_or(0),
+        places: u32::try_from(program.deletes.len()).unwrap_or(0),
+    };
     let mut made = Vec::new(alloc);
     for _ in 0..KINDS {
         made.push(0)?;
@@ -324,7 +348,7 @@ pub fn random(
         hits: Hits::new(),
     };
     for _ in 0..number_at(words.as_slice(), 2) {
-        walk.take(alloc, ready, core, keys.as_slice(), sites)?;
+        walk.take(alloc, ready, core, keys.as_slice(), parts)?;
     }
     let numbers = numbers_text(alloc, walk.made.as_slice())?;
     format!(in alloc;

@@ -3,9 +3,9 @@
 //! `key T FUNCTION TYPES` has the types made word by word on a stack: a name is the type of this name without arguments, and `NAME/N`
 //! takes the last N types as its arguments; `Union/N` and `Tuple/N` do so too, `Any` and `_`, a variable, have no parts, and a number is
 //! the type of this number. `spawn T PLACE WORLD TASKS` starts a task with these tasks as values. `done T OUTCOME: ITEMS` has its items
-//! between commas. An outcome is `task N`, `int N`, `failed N` (the fault of a fetched task), `stack` or `nothing`.
+//! between commas. `open T SITE` opens a definition and `delete T PLACE` a deletion. An outcome is `task N`, `int N`, `failed N` (the fault of a fetched task), `stack` or `nothing`.
 
-use jl_calculus::history::{Outcome, Record, TraceItem, TraceItems};
+use jl_calculus::history::{Change, Outcome, Record, TraceItem, TraceItems};
 use jl_calculus::step::Step;
 use jl_model::shared::SharedNode;
 use jl_model::ty::{Bytes, Key, Ty, Tys};
@@ -17,7 +17,7 @@ use jl_types::Table;
 use std::alloc::{AllocError, Global};
 
 /// The number that a word is; the greatest where it is none.
-fn number(word: &str) -> u32 {
+pub fn number(word: &str) -> u32 {
     word.parse::<u32>().unwrap_or(u32::MAX)
 }
 
@@ -160,6 +160,14 @@ fn read_item(alloc: Global, words: &[&str]) -> Result<TraceItem, AllocError> {
             at: two,
         }),
         "def" => Ok(TraceItem::Def { site: one, at: two }),
+        "del" => Ok(TraceItem::Del {
+            place: one,
+            at: two,
+        }),
+        "absent" => Ok(TraceItem::Absent {
+            place: one,
+            at: two,
+        }),
         "spawn" => Ok(TraceItem::Spawn {
             child: one,
             at: two,
@@ -227,7 +235,14 @@ pub fn read_step(alloc: Global, ready: &Ready, line: &str) -> Result<Option<Step
             key: two,
             world: three,
         })),
-        "open" => Ok(Some(Step::Open { task, site: two })),
+        "open" => Ok(Some(Step::Open {
+            task,
+            change: Change::Def(two),
+        })),
+        "delete" => Ok(Some(Step::Open {
+            task,
+            change: Change::Del(two),
+        })),
         "cut" => Ok(Some(Step::Cut { row: task })),
         "publish" => Ok(Some(Step::Publish)),
         "spawn" => {

@@ -6,6 +6,7 @@ ghost use Rattle.std.specs.Prelude.{◌≡◌, IfOk};
 use crate::model::{Hits, Search, compare, sizes_of, try_step};
 use crate::reading::{number_at, read_step, words_of};
 use crate::worker::{Move, Work, Worker};
+use jl_calculus::history::Change;
 use jl_calculus::step::Step;
 use jl_core::Core;
 use jl_model::limits::{MOST_CACHE_KEYS, MOST_CACHE_ROWS, MOST_FUEL};
@@ -50,7 +51,16 @@ pub fn start(alloc: Global, ready: &Ready, line: &str) -> Result<Core, AllocErro
     Ok(core)
 }
 
-/// The works of a line `task N: define SITE, call KEY`.
+/// What a word and a number ask of a task.
+fn read_work(word: &str, number: u32) -> Work {
+    match word {
+        "define" => Work::Make(Change::Def(number)),
+        "delete" => Work::Make(Change::Del(number)),
+        _ => Work::Call(number),
+    }
+}
+
+/// The works of a line `task N: define SITE, delete PLACE, call KEY`.
 fn read_worker(alloc: Global, line: &str) -> Result<Option<Worker>, AllocError> {
     let Some(rest) = line.strip_prefix("task ") else {
         return Ok(None);
@@ -61,8 +71,7 @@ fn read_worker(alloc: Global, line: &str) -> Result<Option<Worker>, AllocError> 
         let words = words_of(alloc, piece)?;
         let number = number_at(words.as_slice(), 1);
         match words.as_slice().first() {
-            Some(word) if *word == "define" => works.push(Work::Define(number))?,
-            Some(_) => works.push(Work::Call(number))?,
+            Some(word) => works.push(read_work(*word, number))?,
             None => {}
         }
     }

@@ -3,20 +3,20 @@
 ghost use Rattle.std.specs.Prelude.{◌≡◌};
 
 use crate::model::{Search, chosen_site, sizes_of};
+use jl_calculus::history::Change;
 use jl_calculus::step::Step;
 use jl_core::Core;
 use jl_sig::Ready;
 use std::alloc::{AllocError, Global};
 
-/// Make the definition of a site, or search the method of a key in the newest world, and where there is no row for it make one and search
-/// again.
+/// Make a change, or search the method of a key in the newest world, and where there is no row for it make one and search again.
 #[derive(Clone, Copy)]
 pub enum Work {
-    Define(u32),
+    Make(Change),
     Call(u32),
 }
 
-/// How far a task is: it has not begun its work, has looked, is searching, or has opened its definition.
+/// How far a task is: it has not begun its work, has looked, is searching, or has opened its change.
 #[derive(Clone, Copy, PartialEq, Eq)]
 enum Stage {
     Begun,
@@ -32,7 +32,7 @@ pub enum Move {
     Head,
     Row,
     Fill,
-    Open(u32),
+    Open(Change),
     Cut(u32),
     Publish,
 }
@@ -86,7 +86,7 @@ impl Worker {
         }
     }
 
-    /// Whether its definition is open.
+    /// Whether its change is open.
     pub fn has_opened(&self) -> bool {
         self.stage == Stage::Opened
     }
@@ -100,7 +100,7 @@ impl Worker {
             Move::Head => Step::Head { task, key, world },
             Move::Row => Step::Row { task },
             Move::Fill => Step::Fill { task, key, world },
-            Move::Open(site) => Step::Open { task, site },
+            Move::Open(change) => Step::Open { task, change },
             Move::Cut(row) => Step::Cut { row },
             Move::Publish => Step::Publish,
         }
@@ -142,20 +142,20 @@ impl Worker {
         }
     }
 
-    /// Adds its moves in a definition: opening it, each cut that is left, or the new world.
-    fn add_definition_moves(
+    /// Adds its moves in a change: opening it, each cut that is left, or the new world.
+    fn add_change_moves(
         &self,
         alloc: Global,
         ready: &Ready,
         core: &Core,
-        site: u32,
+        change: Change,
         out: &mut Vec<Move>,
     ) -> Result<(), AllocError>
         requires { ready.now ≡ core.now.program }
     {
         if self.stage == Stage::Begun {
-            if self.may(alloc, ready, core, Move::Open(site))? {
-                out.push(Move::Open(site))?;
+            if self.may(alloc, ready, core, Move::Open(change))? {
+                out.push(Move::Open(change))?;
             }
             return Ok(());
         }
@@ -184,8 +184,8 @@ impl Worker {
         let mut out = Vec::new(alloc);
         match self.work() {
             None => {}
-            Some(Work::Define(site)) => {
-                self.add_definition_moves(alloc, ready, core, site, &mut out)?;
+            Some(Work::Make(change)) => {
+                self.add_change_moves(alloc, ready, core, change, &mut out)?;
             }
             Some(Work::Call(_)) => {
                 if let Some(made) = self.call_move(alloc, ready, core, is_open)? {

@@ -38,6 +38,7 @@ fn event_text(alloc: Global, program: &Program, event: &Event) -> Result<String,
         Event::Key(key) => key_text(alloc, program, key),
         Event::Fill { key, site, first } => format!(in alloc; "fill {key} {site} {first}"),
         Event::Def { task, site } => format!(in alloc; "def {task} {site}"),
+        Event::Del { task, place } => format!(in alloc; "del {task} {place}"),
         Event::Spawn { task, child, .. } => format!(in alloc; "spawn {task} {child}"),
         Event::Done { task, .. } => format!(in alloc; "done {task}"),
     }

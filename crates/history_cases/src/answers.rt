@@ -22,6 +22,8 @@ fn step_text(alloc: Global, step: Step) -> Result<String, AllocError> {
         Step::Fetch { task, at } => format!(in alloc; "fetch {task} {at}"),
         Step::WorldFull { at } => format!(in alloc; "worldfull {at}"),
         Step::TaskFull { at } => format!(in alloc; "taskfull {at}"),
+        Step::Del { place, at } => format!(in alloc; "del {place} {at}"),
+        Step::Absent { place, at } => format!(in alloc; "absent {place} {at}"),
     }
 }
 
@@ -81,6 +83,7 @@ fn entry_text(alloc: Global, entry: &Entry) -> Result<String, AllocError> {
         }
         Entry::Fill { key, site, first } => format!(in alloc; "fill {key} {site} {first}"),
         Entry::Def { task, site } => format!(in alloc; "def {task} {site}"),
+        Entry::Del { task, place } => format!(in alloc; "del {task} {place}"),
         Entry::Spawn { task, child, place } => { format!(in alloc; "spawn {task} {child} {place}") }
         Entry::Done {
             task,

@@ -67,6 +67,7 @@ done_kept t (Ev.Begin fuel ∷ es) e h = done_kept t es e h
 done_kept t (Ev.Key key ∷ es) e h = done_kept t es e h
 done_kept t (Ev.Fill key site first ∷ es) e h = done_kept t es e h
 done_kept t (Ev.Def by site ∷ es) e h = done_kept t es e h
+done_kept t (Ev.Del by place ∷ es) e h = done_kept t es e h
 done_kept t (Ev.Done by ended ∷ es) e h = ap (λ o. cond (nat_eq by t) (Some ended) o) (done_kept t es e h)
 
 -- an event that starts and ends no task
@@ -127,6 +128,7 @@ one_more P past (Ev.Begin fuel) h m = omega (arith, h, tasks_append past (Ev.Beg
 one_more P past (Ev.Key key) h m = omega (arith, h, tasks_append past (Ev.Key key ∷ []))
 one_more P past (Ev.Fill n s f) h m = omega (arith, h, tasks_append past (Ev.Fill n s f ∷ []))
 one_more P past (Ev.Def t s) h m = omega (arith, h, tasks_append past (Ev.Def t s ∷ []))
+one_more P past (Ev.Del t place) h m = omega (arith, h, tasks_append past (Ev.Del t place ∷ []))
 one_more P past (Ev.Spawn t c s) h m = omega (arith, m.room, tasks_append past (Ev.Spawn t c s ∷ []))
 one_more P past (Ev.Done t r) h m = omega (arith, h, tasks_append past (Ev.Done t r ∷ []))
 

@@ -4,6 +4,7 @@ pub mod Ends
 pub mod Starts
 pub mod Stays
 pub mod Shares
+pub mod ChangeEvents
 pub mod PartLemmas
 pub mod Valid
 pub mod Seating
@@ -12,3 +13,4 @@ pub mod Finding
 pub mod Selecting
 pub mod Fills
 pub mod PlanLemmas
+pub mod Chosen

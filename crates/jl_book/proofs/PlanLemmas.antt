@@ -1,13 +1,16 @@
--- What a definition cuts, and what a plan leaves.
+-- What a change cuts, and what a plan leaves.
 use Rattle.std.proofs.Common.{◌≡◌, ap, sym, subst, ℕ, ◌≤◌, List, [], ◌∷◌}
 use Rattle.jl_model.specs.declared.ty.Key.{Key}
 use Rattle.jl_model.specs.declared.ty.Ty.{Ty}
 use Rattle.jl_program.specs.declared.choice.Choice.{Choice}
 use Rattle.jl_program.specs.declared.tree.Program.{Program}
+use Rattle.jl_program.specs.Valid.{IsValid}
+use Rattle.jl_calculus.specs.declared.history.Change.{Change}
 use Rattle.jl_calculus.specs.declared.history.Event.{Event}
 use Rattle.jl_calculus.specs.declared.history.Event.TheVariants as Ev
 use Rattle.jl_calculus.specs.Kept.{IsKeptFor}
 use Rattle.jl_calculus.specs.Learnt.{IsNamed}
+use Rattle.jl_calculus.specs.Legal.{IsKeyOf}
 use Rattle.jl_calculus.specs.Ranges.{keys_of}
 use Rattle.jl_calculus.specs.Words.{AreAllCut}
 use Rattle.jl_calculus.specs.World.{world_of, Selects}
@@ -25,14 +28,14 @@ use Rattle.jl_world.specs.Views.{Begins}
 use Rattle.jl_world.proofs.Lists.{one_there}
 use Rattle.jl_world.proofs.Rights.{named_more}
 
--- the rows that were cut for the keys that a definition touches are all that it ends
-pub all_cut : (P Q : Program) (es : List Event) (b b1 : BookView) (site : ℕ) (ns ms : List ℕ) → Q ≡ P → b.events ≡ es → b1 ≡ with_cut b1.cut b → ms ≡ ns
-    → AreTouched Q (keys_of es) site ns → ((s : ℕ) → AreTouched P (keys_of b.events) s ms → AreAllCut P b.events s b1.cut) → AreAllCut P b1.events site b1.cut
-all_cut P Q es b b1 site ns ms same events cut slice touched step =
-    let here = subst (λ p. AreTouched p (keys_of es) site ns) same touched in
-    let there = subst (λ xs. AreTouched P (keys_of xs) site ns) (sym events) here in
-    let all = step site (subst (AreTouched P (keys_of b.events) site) (sym slice) there) in
-    subst (λ xs. AreAllCut P xs site b1.cut) (sym (ap (λ (x : BookView). x.events) cut)) all
+-- the rows that were cut for the keys that a change touches are all that it ends
+pub all_cut : (P Q : Program) (es : List Event) (b b1 : BookView) (change : Change) (ns ms : List ℕ) → Q ≡ P → b.events ≡ es → b1 ≡ with_cut b1.cut b → ms ≡ ns
+    → AreTouched Q (keys_of es) change ns → ((c : Change) → AreTouched P (keys_of b.events) c ms → AreAllCut P b.events c b1.cut) → AreAllCut P b1.events change b1.cut
+all_cut P Q es b b1 change ns ms same events cut slice touched step =
+    let here = subst (λ p. AreTouched p (keys_of es) change ns) same touched in
+    let there = subst (λ xs. AreTouched P (keys_of xs) change ns) (sym events) here in
+    let all = step change (subst (AreTouched P (keys_of b.events) change) (sym slice) there) in
+    subst (λ xs. AreAllCut P xs change b1.cut) (sym (ap (λ (x : BookView). x.events) cut)) all
 
 -- a choice stays where a row is linked
 selects_row : (P : Program) (es : List Event) (number f : ℕ) (ts : List Ty) (w : ℕ) (c : Choice) (row : RowPlan) → w ≤ world_of es → Selects P es f ts w c → Selects P (with_row es number row) f ts w c
@@ -53,9 +56,9 @@ module _ (about : About) (seen es new : List Event) (number w : ℕ) (plan : Pla
       subst (λ xs. Selects P xs key.function key.types w plan.choice) (sym added)
       (selects_row P es number key.function key.types w plan.choice plan.row l (subst (λ (x : Key). Selects P es x.function x.types w plan.choice) k made.choice))
 
-  pub plan_kept : (key : Key) → IsNamed seen number key → IsKeptFor about.program.value new (places_of about) key.function key.types w
-  plan_kept key named =
+  pub plan_kept : IsValid about.program.value → IsKeyOf about.program.value made.key → (key : Key) → IsNamed seen number key → IsKeptFor about.program.value new (places_of about) key.function key.types w
+  plan_kept valid proper key named =
       let P = about.program.value in
       let k = same_key key named in
       subst (λ xs. IsKeptFor P xs (places_of about) key.function key.types w) (sym added)
-      (subst (λ (x : Key). IsKeptFor P (with_row es number plan.row) (places_of about) x.function x.types w) k (planned_kept about es number w plan l made))
+      (subst (λ (x : Key). IsKeptFor P (with_row es number plan.row) (places_of about) x.function x.types w) k (planned_kept about valid es number w plan l made proper))

@@ -31,6 +31,7 @@ on_done R S f (Ev.Begin fuel) h = tt
 on_done R S f (Ev.Key key) h = tt
 on_done R S f (Ev.Fill key site first) h = tt
 on_done R S f (Ev.Def task site) h = tt
+on_done R S f (Ev.Del task place) h = tt
 on_done R S f (Ev.Spawn task child start) h = tt
 on_done R S f (Ev.Done task ended) h = f task ended h
 
@@ -49,6 +50,7 @@ few_more about es e place few all = by e place all
     by (Ev.Key key) p l = (omega (arith, keys (Ev.Key key), p), omega (arith, rows (Ev.Key key), few.1), l)
     by (Ev.Fill n s f) p l = (omega (arith, keys (Ev.Fill n s f), few.0), omega (arith, rows (Ev.Fill n s f), p), l)
     by (Ev.Def t s) p l = (omega (arith, keys (Ev.Def t s), few.0), omega (arith, rows (Ev.Def t s), few.1), l)
+    by (Ev.Del t place) p l = (omega (arith, keys (Ev.Del t place), few.0), omega (arith, rows (Ev.Del t place), few.1), l)
     by (Ev.Spawn t c s) p l = (omega (arith, keys (Ev.Spawn t c s), few.0), omega (arith, rows (Ev.Spawn t c s), few.1), l)
     by (Ev.Done t r) p l = (omega (arith, keys (Ev.Done t r), few.0), omega (arith, rows (Ev.Done t r), few.1), l)
 
@@ -61,6 +63,7 @@ narrow_one (Ev.Begin fuel) n = tt
 narrow_one (Ev.Key key) n = tt
 narrow_one (Ev.Fill number site first) n = (n, tt)
 narrow_one (Ev.Def task site) n = tt
+narrow_one (Ev.Del task place) n = tt
 narrow_one (Ev.Spawn task child start) n = tt
 narrow_one (Ev.Done task ended) n = tt
 
@@ -81,7 +84,7 @@ valid_push P (x ∷ es) e h v = (h.0, valid_push P es e h.1 v)
 
 -- what is asked of the end of a task
 pub record IsEnd (about : About) (es : List Event) (t : ℕ) (r : Record) : Type 0 where
-  pub traced : HasTrueTrace es t r
+  pub traced : HasTrueTrace about.program.value es t r
   pub own : HasOwnEvents es t r
   pub run : HasRun about.program.value (Some (places_of about)) es t r
   pub plain : HasRun about.program.value None es t r
@@ -96,7 +99,7 @@ book_push about es e b history valid ends =
       legal = record {
         stand = history.stand;
         traced = record {
-          traces = each_push (λ past. OnDone (HasTrueTrace past)) [] es e b.legal.traced.traces (on_done (IsEnd about es) (HasTrueTrace es) (λ t r h. h.traced) e ends);
+          traces = each_push (λ past. OnDone (HasTrueTrace P past)) [] es e b.legal.traced.traces (on_done (IsEnd about es) (HasTrueTrace P es) (λ t r h. h.traced) e ends);
           own = each_push (λ past. OnDone (HasOwnEvents past)) [] es e b.legal.traced.own (on_done (IsEnd about es) (HasOwnEvents es) (λ t r h. h.own) e ends);
         };
         runs = each_push (λ past. OnDone (HasRun P None past)) [] es e b.legal.runs (on_done (IsEnd about es) (HasRun P None es) (λ t r h. h.plain) e ends);

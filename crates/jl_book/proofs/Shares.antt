@@ -1,11 +1,11 @@
--- Each definition and each spawn is one task's own.
+-- Each definition, each deletion and each spawn is one task's own.
 use Rattle.std.proofs.Common.{◌≡◌, ◌∙◌, ap, refl, ℕ, zero, suc, ◌+◌, ◌<◌, ◌≤◌, arith, Bool, true, false, cond, nat_eq, List, [], ◌∷◌, ◌++◌, length, length-append, Option, Some, None, IsSome}
 use Rattle.jl_program.specs.declared.tree.Program.{Program}
 use Rattle.jl_calculus.specs.declared.history.Event.{Event}
 use Rattle.jl_calculus.specs.declared.history.Event.TheVariants as Ev
 use Rattle.jl_calculus.specs.declared.history.Record.{Record}
 use Rattle.jl_calculus.specs.declared.history.TraceItem.{TraceItem}
-use Rattle.jl_calculus.specs.declared.history.TraceItem.TheVariants.{Def, Spawn}
+use Rattle.jl_calculus.specs.declared.history.TraceItem.TheVariants.{Def, Del, Spawn}
 use Rattle.jl_calculus.specs.Legal.{AreFinished, MayCome, MayStand}
 use Rattle.jl_calculus.specs.Past.{tasks_of, done_of, own_events}
 use Rattle.jl_world.proofs.Growth.{tasks_append, tasks_some, own_append, each_grow, agree}
@@ -85,6 +85,7 @@ module _ (P : Program) (past : List Event) (h : IsAll past) where
   one_more (Ev.Fill k s f) m = plain (Ev.Fill k s f) refl (λ t p. refl)
   one_more (Ev.Done t r) m = plain (Ev.Done t r) refl (λ u p. refl)
   one_more (Ev.Def by site) m = made (Ev.Def by site) by (Def site (0 + length past)) refl m.running.started (λ t. refl)
+  one_more (Ev.Del by place) m = made (Ev.Del by place) by (Del place (0 + length past)) refl m.running.started (λ t. refl)
   one_more (Ev.Spawn by child start) m = made (Ev.Spawn by child start) by (Spawn child (0 + length past)) refl m.running.started (λ t. refl)
 
 all_made : (P : Program) (es : List Event) → MayStand P es → IsAll es

@@ -1,7 +1,8 @@
 -- A task starts once, so what is known of its start stays.
-use Rattle.std.proofs.Common.{◌≡◌, ◌∙◌, ap, sym, subst, refl, ℕ, zero, suc, ◌+◌, ◌<◌, ◌≤◌, inl, inr, arith, Bool, true, false, cond, nat_eq, List, [], ◌∷◌, ◌++◌, length, Option, Some, None, IsSome}
+use Rattle.std.proofs.Common.{◌≡◌, ◌∙◌, ap, sym, subst, refl, ℕ, zero, suc, ◌+◌, ◌<◌, ◌≤◌, inl, inr, arith, Bool, true, false, cond, nat_eq, List, [], ◌∷◌, ◌++◌, append_assoc, append-nil, length, Option, Some, None, IsSome}
 use Rattle.jl_program.specs.declared.tree.Program.{Program}
 use Rattle.jl_program.specs.declared.tree.Start.{Start}
+use Rattle.jl_program.specs.Valid.{IsValid}
 use Rattle.jl_calculus.specs.declared.history.Event.{Event}
 use Rattle.jl_calculus.specs.declared.history.Event.TheVariants as Ev
 use Rattle.jl_calculus.specs.Legal.{fuel_of, start_of, first_place, MayCome, MayStand}
@@ -20,6 +21,7 @@ start_stays t (Ev.Begin fuel ∷ es) more s h = start_stays t es more s h
 start_stays t (Ev.Key key ∷ es) more s h = start_stays t es more s h
 start_stays t (Ev.Fill key site first ∷ es) more s h = start_stays t es more s h
 start_stays t (Ev.Def by site ∷ es) more s h = start_stays t es more s h
+start_stays t (Ev.Del by place ∷ es) more s h = start_stays t es more s h
 start_stays t (Ev.Done by ended ∷ es) more s h = start_stays t es more s h
 start_stays t (Ev.Spawn parent child start ∷ es) more s h = go (nat_eq child t) h (λ k. start_stays t es more s k)
   where
@@ -34,6 +36,7 @@ place_stays t p (Ev.Begin fuel ∷ es) more s h = place_stays t (p + 1) es more 
 place_stays t p (Ev.Key key ∷ es) more s h = place_stays t (p + 1) es more s h
 place_stays t p (Ev.Fill key site first ∷ es) more s h = place_stays t (p + 1) es more s h
 place_stays t p (Ev.Def by site ∷ es) more s h = place_stays t (p + 1) es more s h
+place_stays t p (Ev.Del by place ∷ es) more s h = place_stays t (p + 1) es more s h
 place_stays t p (Ev.Done by ended ∷ es) more s h = place_stays t (p + 1) es more s h
 place_stays t p (Ev.Spawn parent child start ∷ es) more s h = go (nat_eq child t) h (λ k. place_stays t (p + 1) es more s k)
   where
@@ -48,6 +51,7 @@ place_none t p (Ev.Begin fuel ∷ es) h = place_none t (p + 1) es h
 place_none t p (Ev.Key key ∷ es) h = place_none t (p + 1) es h
 place_none t p (Ev.Fill key site first ∷ es) h = place_none t (p + 1) es h
 place_none t p (Ev.Def by site ∷ es) h = place_none t (p + 1) es h
+place_none t p (Ev.Del by place ∷ es) h = place_none t (p + 1) es h
 place_none t p (Ev.Done by ended ∷ es) h = place_none t (p + 1) es h
 place_none t p (Ev.Spawn parent child start ∷ es) h = go (nat_eq child t) h (λ k. place_none t (p + 1) es k)
   where
@@ -80,6 +84,7 @@ module _ (P : Program) where
   starts_more past (Ev.Key key) h m = starts_kept past (Ev.Key key) (λ t. refl) refl h
   starts_more past (Ev.Fill n s f) h m = starts_kept past (Ev.Fill n s f) (λ t. refl) refl h
   starts_more past (Ev.Def t s) h m = starts_kept past (Ev.Def t s) (λ t. refl) refl h
+  starts_more past (Ev.Del t place) h m = starts_kept past (Ev.Del t place) (λ t. refl) refl h
   starts_more past (Ev.Done t r) h m = starts_kept past (Ev.Done t r) (λ t. refl) refl h
   starts_more past (Ev.Spawn by child start) h m = (
     start_later 0 past (e ∷ []) h.0 ∙ ap (λ b. cond b (Some start) None) (differ child 0 (λ z. omega (arith, z, m.next, tasks_some past))),
@@ -156,30 +161,31 @@ fuel_stays xs ys n b h = ap fuel_of b.1 ∙ fuel_append xs b.0 (some_fuel (fuel_
 module _ (about : About) (t : ℕ) (v : TaskView) (h : IsPass about t v) where
   -- a pass that has seen more
   pub pass_met : (es : List Event) → Begins v.seen es → IsPass about t (met es v)
-  pass_met es b = record { task = h.task; fuel = h.fuel; begun = fuel_stays v.seen es about.fuel b h.begun; started = started_stays v.seen es t v.start b h.started }
+  pass_met es b = record { valid = h.valid; task = h.task; fuel = h.fuel; begun = fuel_stays v.seen es about.fuel b h.begun; started = started_stays v.seen es t v.start b h.started }
 
   pub pass_looked : (es : List Event) → Begins v.seen es → IsPass about t (looked es v)
-  pass_looked es b = record { task = h.task; fuel = h.fuel; begun = fuel_stays v.seen es about.fuel b h.begun; started = started_stays v.seen es t v.start b h.started }
+  pass_looked es b = record { valid = h.valid; task = h.task; fuel = h.fuel; begun = fuel_stays v.seen es about.fuel b h.begun; started = started_stays v.seen es t v.start b h.started }
 
   -- and made one event
   pub pass_noted : (p : ℕ) (e : Event) (es : List Event) → Begins v.seen es → IsPass about t (met es (noted p e v))
-  pass_noted p e es b = record { task = h.task; fuel = h.fuel; begun = fuel_stays v.seen es about.fuel b h.begun; started = started_stays v.seen es t v.start b h.started }
+  pass_noted p e es b = record { valid = h.valid; task = h.task; fuel = h.fuel; begun = fuel_stays v.seen es about.fuel b h.begun; started = started_stays v.seen es t v.start b h.started }
 
 -- the pass of the root
-pub root_pass : (about : About) → IsPass about 0 (begun 0 None (first_events about))
-root_pass about = record { task = refl; fuel = refl; begun = refl; started = inl (refl, refl) }
+pub root_pass : (about : About) → IsValid about.program.value → IsPass about 0 (begun 0 None (first_events about))
+root_pass about valid = record { valid = valid; task = refl; fuel = refl; begun = refl; started = inl (refl, refl) }
 
 number_is : (o : Option ℕ) (n : ℕ) → o ≡ Some n → number_or_zero o ≡ n
 number_is o n e = ap number_or_zero e
 
 -- the pass of a task that was just spawned
-pub child_pass : (about : About) (es : List Event) (task child : ℕ) (start : Start) → IsHistory about es → IsHistory about (es ++ Ev.Spawn task child start ∷ []) → child ≡ tasks_of es
+pub child_pass : (about : About) → IsValid about.program.value → (es : List Event) (task child : ℕ) (start : Start) → IsHistory about es → IsHistory about (es ++ Ev.Spawn task child start ∷ []) → child ≡ tasks_of es
     → IsPass about child (begun child (Some start) (es ++ Ev.Spawn task child start ∷ []))
-child_pass about es task child start h k is =
+child_pass about valid es task child start h k is =
     let P = about.program.value in
     let e : Event = Ev.Spawn task child start in
     let u = unstarted P es h.stand child (omega (arith, is)) in
     record {
+      valid = valid;
       task = refl;
       fuel = number_is (fuel_of (es ++ e ∷ [])) about.fuel k.fuel;
       begun = k.fuel;
@@ -191,13 +197,18 @@ child_pass about es task child start h k is =
       });
     }
 
--- the pass of a task that met the book and then made an event
-pub noted_pass : (about : About) (es es1 : List Event) (e : Event) (t : ℕ) (v v1 v2 : TaskView) → IsPass about t v → Begins v.seen es → es1 ≡ es → v1 ≡ met es v → v2 ≡ met (es1 ++ e ∷ []) (noted (length es1) e v1) → IsPass about t v2
-noted_pass about es es1 e t v v1 v2 h b same first second =
-    let whole : v2 ≡ met (es ++ e ∷ []) (noted (length es) e (met es v)) = second ∙ (λ k. met (same k ++ e ∷ []) (noted (length (same k)) e (first k))) in
-    let begins : Begins (met es v).seen (es ++ e ∷ []) = (e ∷ [], refl) in
-    subst (IsPass about t) (sym whole) (pass_noted about t (met es v) (pass_met about t v h es b) (length es) e (es ++ e ∷ []) begins)
-
 -- the pass of a task that met the book
 pub met_pass : (about : About) (es : List Event) (t : ℕ) (v v1 : TaskView) → IsPass about t v → Begins v.seen es → v1 ≡ met es v → IsPass about t v1
 met_pass about es t v v1 h b is = subst (IsPass about t) (sym is) (pass_met about t v h es b)
+
+-- the pass of a task that made an event
+pub made_pass : (about : About) (es : List Event) (e : Event) (t : ℕ) (v v1 : TaskView) → IsPass about t v → Begins v.seen es → v1 ≡ met (es ++ e ∷ []) (noted (length es) e v) → IsPass about t v1
+made_pass about es e t v v1 h b is =
+    let begins : Begins v.seen (es ++ e ∷ []) = (b.0 ++ e ∷ [], ap (λ xs. xs ++ e ∷ []) b.1 ∙ append_assoc v.seen b.0 (e ∷ [])) in
+    subst (IsPass about t) (sym is) (pass_noted about t v h (length es) e (es ++ e ∷ []) begins)
+
+-- the pass of a task that met the book and then made an event
+pub noted_pass : (about : About) (es es1 : List Event) (e : Event) (t : ℕ) (v v1 v2 : TaskView) → IsPass about t v → Begins v.seen es → es1 ≡ es → v1 ≡ met es v → v2 ≡ met (es1 ++ e ∷ []) (noted (length es1) e v1) → IsPass about t v2
+noted_pass about es es1 e t v v1 v2 h b same first second =
+    let begins : Begins v1.seen es1 = ([], same ∙ sym (ap (λ (v : TaskView). v.seen) first) ∙ sym (append-nil v1.seen)) in
+    made_pass about es1 e t v1 v2 (met_pass about es t v v1 h b first) begins second

@@ -1,6 +1,7 @@
 -- What the pass of a task knows, and when what the task did is a run over it.
 use Rattle.std.specs.Prelude.{ℕ, ◌≡◌, ◌⊎◌, cond, nat_eq, List, length, Option, None, Some}
 use Rattle.jl_program.specs.declared.tree.Start.{Start}
+use Rattle.jl_program.specs.Valid.{IsValid}
 use Rattle.jl_calculus.specs.declared.history.Event.{Event}
 use Rattle.jl_calculus.specs.declared.history.Record.{Record}
 use Rattle.jl_calculus.specs.Legal.{fuel_of, start_of, first_place, AreTrueOf}
@@ -32,19 +33,20 @@ pub record IsSpawned (es : List Event) (t : ℕ) (start : Option Start) : Type 0
 abbrev pub HasStarted : List Event → ℕ → Option Start → Type 0
 HasStarted es t start = ((t ≡ 0) × (start ≡ None)) ⊎ IsSpawned es t start
 
--- the view of a pass: it has this task, which started among what it has seen, and the fuel of the run
+-- the view of a pass of a run of a valid program: it has this task, which started among what it has seen, and the fuel of the run
 pub record IsPass (about : About) (t : ℕ) (v : TaskView) : Type 0 where
+  pub valid : IsValid about.program.value
   pub task : v.task ≡ Some t
   pub fuel : v.fuel ≡ about.fuel
   pub begun : fuel_of v.seen ≡ Some about.fuel
   pub started : HasStarted v.seen t v.start
 
 -- what the task of a pass did is a run over what the pass has seen: its outcome is valid, its items are true of that and in order, it
--- has the pass's looks, definitions and spawns, and over every history that begins so it is a run from the pass's start, with
+-- has the pass's looks, definitions, deletions and spawns, and over every history that begins so it is a run from the pass's start, with
 -- its fuel, in which each call is kept for the places of the run
 pub record IsRunOver (about : About) (v : TaskView) (r : Record) : Type 0 where
   pub outcome : IsValidOutcome about.program.value r.outcome
-  pub learnt : AreTrueOf v.seen (task_in v) r.trace
+  pub learnt : AreTrueOf about.program.value v.seen (task_in v) r.trace
   pub order : IsInOrder (first_of (task_in v) v.seen) r.trace (length v.seen)
   pub own : own_items r.trace ≡ v.own
   pub looks : looks_of r.trace ≡ v.looks

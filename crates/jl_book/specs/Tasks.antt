@@ -41,16 +41,17 @@ pub record HasEnds (es : List Event) (ends : List (Option ℕ)) : Type 0 where
 
 -- ---- what the tasks made
 
--- 1 for a definition or a spawn
+-- 1 for a definition, a deletion or a spawn
 abbrev pub one_made : Event → ℕ
 one_made (Ev.Def task site) = 1
+one_made (Ev.Del task place) = 1
 one_made (Ev.Spawn task child start) = 1
 one_made (Ev.Begin fuel) = 0
 one_made (Ev.Key key) = 0
 one_made (Ev.Fill key site first) = 0
 one_made (Ev.Done task ended) = 0
 
--- how many definitions and spawns there are
+-- how many definitions, deletions and spawns there are
 abbrev pub made_in : List Event → ℕ
 made_in [] = 0
 made_in (e ∷ es) = one_made e + made_in es
@@ -73,6 +74,6 @@ shares_below es (suc t) = if_ended (done_of t es) (share_of es t) + shares_below
 abbrev pub gathered_in : List Event → ℕ
 gathered_in es = shares_below es (tasks_of es)
 
--- once all tasks have ended, the shares of the tasks are all definitions and spawns, each once
+-- once all tasks have ended, the shares of the tasks are all definitions, deletions and spawns, each once
 abbrev pub EachOnce : Type 0
 EachOnce = (P : Program) (es : List Event) → MayStand P es → AreFinished es → gathered_in es ≡ made_in es

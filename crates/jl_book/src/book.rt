@@ -3,7 +3,8 @@
 ghost use Rattle.std.specs.Prelude.{◌≡◌, ◌≤◌, None, Some, IfOk, length};
 ghost use Rattle.jl_calculus.specs.Legal.{fuel_of, IsLegal, IsCached};
 ghost use Rattle.jl_calculus.specs.ValidHistory.{AreValidEvents};
-ghost use Rattle.jl_calculus.specs.World.{site_of, world_of};
+ghost use Rattle.jl_calculus.specs.World.{change_at, site_of};
+ghost use Rattle.jl_methods.specs.Filters.{IsDefinition};
 ghost use Rattle.jl_world.specs.Names.{table_of, about_of};
 ghost use Rattle.jl_world.specs.Rule.{first_events};
 ghost use Rattle.jl_world.specs.Views.{begun};
@@ -63,6 +64,7 @@ impl<N: Naming> Book<N> {
         ensures book { IfOk result (λ opened. opened.0 ≡ first_events N.about) }
         ensures root { IfOk result (λ opened. opened.2 ≡ begun 0 None (first_events N.about)) }
     {
+        ready.valid();
         let index = Index::new(alloc, ready)?;
         let mut events = Vec::new(alloc);
         events.push(Event::Begin(blank.fuel()))?;
@@ -102,7 +104,7 @@ impl<N: Naming> Book<N> {
 
     /// The site of the definition that made a world.
     pub fn site(&self, world: u32) -> u32
-        requires { (1 ≤ world) × (world ≤ world_of self.now) }
+        requires { IsDefinition (change_at self.now world) }
         ensures { result ≡ site_of self.now world }
     {
         self.index.site(world)

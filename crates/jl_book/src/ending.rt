@@ -49,7 +49,7 @@ impl<N: Naming> Book<N> {
         pass: &mut Pass<N>,
         of: u32,
     ) -> Result<SharedNode<Outcome>, FetchFault>
-        ensures item { IfOk result (λ outcome. (task : ℕ) → IsTrueOf self.new task (Fetch of outcome (length self.new))) }
+        ensures item { IfOk result (λ outcome. (task : ℕ) → IsTrueOf N.about.program.value self.new task (Fetch of outcome (length self.new))) }
         ensures valid { IfOk result (λ outcome. IsValidOutcome N.about.program.value outcome) }
         ensures not_yet { result ≡ Err F.NotYet ↔ (done_of of self.old ≡ None) }
         ensures book { self.new ≡ self.old }

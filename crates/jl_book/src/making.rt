@@ -1,17 +1,18 @@
-//! Definitions and spawns.
+//! Definitions, deletions and spawns.
 
 ghost use Rattle.std.specs.Prelude.{◌≡◌, ◌<◌, ◌≤◌, ◌↔◌, ◌++◌, ◌∷◌, [], ℕ, List, Some, IfOk, OnErr, Err, length};
 ghost use Rattle.jl_model.specs.declared.limits.TheConstants.{MOST_WORLDS, MOST_TASKS};
 ghost use Rattle.jl_program.specs.Prelude.{prelude_count};
 ghost use Rattle.jl_calculus.specs.declared.history.DefineFault.TheVariants as D;
+ghost use Rattle.jl_calculus.specs.declared.history.DeleteFault.TheVariants as L;
 ghost use Rattle.jl_calculus.specs.declared.history.Event.{Event};
-ghost use Rattle.jl_calculus.specs.declared.history.Event.TheVariants.{Def, Spawn};
+ghost use Rattle.jl_calculus.specs.declared.history.Event.TheVariants.{Def, Del, Spawn};
 ghost use Rattle.jl_calculus.specs.declared.history.SpawnFault.TheVariants as S;
-ghost use Rattle.jl_calculus.specs.Legal.{MayCome};
+ghost use Rattle.jl_calculus.specs.Legal.{IsRunning, MayBeMade, MayCome};
 ghost use Rattle.jl_calculus.specs.Past.{tasks_of};
 ghost use Rattle.jl_calculus.specs.Ranges.{keys_of};
 ghost use Rattle.jl_calculus.specs.ValidStart.{IsValidStart};
-ghost use Rattle.jl_calculus.specs.World.{world_of};
+ghost use Rattle.jl_calculus.specs.World.{change_event, world_of, FindsMethod};
 ghost use Rattle.jl_methods.specs.Filters.{AreTouched};
 ghost use Rattle.jl_methods.specs.Indexed.{noted_in, awaited_in, IsIndexOf, HasRoomFor};
 ghost use Rattle.jl_methods.specs.Room.{IsRoomy};
@@ -22,35 +23,35 @@ use crate::book::Book;
 use crate::pass::Pass;
 use crate::{parts, seats};
 use jl_cache::Cache;
-use jl_calculus::history::{DefineFault, Event, SpawnFault};
+use jl_calculus::history::{Change, DefineFault, DeleteFault, Event, SpawnFault};
 use jl_methods::Index;
 use jl_model::limits::{MOST_TASKS, MOST_WORLDS};
 use jl_program::tree::Start;
-use jl_rows::cut_rows;
+use jl_rows::{cut_rows, has_method};
 use jl_sig::Ready;
 use jl_world::Naming;
 use std::alloc::{AllocError, Global};
 
-/// Takes all the memory that a definition needs, and gives its event and the numbers of the keys that it touches.
-fn reserve_def(
+/// Takes all the memory that a change needs, and gives its event and the numbers of the keys that it touches.
+fn reserve_change(
     alloc: Global,
     ready: &Ready,
     index: &mut Index,
     events: &mut Vec<Event>,
     task: u32,
-    site: u32,
+    change: Change,
 ) -> Result<(Event, Vec<u32>), AllocError>
-    requires { (es : List Event) × IsIndexOf ready.now es index.old × MayCome ready.now es (Def task site) }
-    ensures event { IfOk result (λ made. made.0 ≡ Def task site) }
-    ensures touched { IfOk result (λ made. (es : List Event) → IsIndexOf ready.now es index.old → AreTouched ready.now (keys_of es) site made.1.items) }
-    ensures room { IfOk result (λ made. HasRoomFor ready.now (Def task site) index.new) }
+    requires { (es : List Event) × IsIndexOf ready.now es index.old × MayCome ready.now es (change_event task change) }
+    ensures event { IfOk result (λ made. made.0 ≡ change_event task change) }
+    ensures touched { IfOk result (λ made. (es : List Event) → IsIndexOf ready.now es index.old → AreTouched ready.now (keys_of es) change made.1.items) }
+    ensures room { IfOk result (λ made. HasRoomFor ready.now (change_event task change) index.new) }
     ensures awaited { IfOk result (λ made. awaited_in index.new ≡ made.1.items) }
     ensures place { IfOk result (λ made. IsRoomy events.new) }
     ensures noted { noted_in index.new ≡ noted_in index.old }
     ensures events { events.new.items ≡ events.old.items }
 {
-    let touched = index.find_touched(alloc, ready, site)?;
-    let event = Event::Def { task, site };
+    let touched = index.find_touched(alloc, ready, change)?;
+    let event = change.event(task);
     parts::reserve(ready, index, events, &event, touched.as_slice())?;
     Ok((event, touched))
 }
@@ -74,9 +75,42 @@ fn reserve_spawn(
 }
 
 impl<N: Naming> Book<N> {
-    /// Makes the next world by a definition of a site, and answers it. All memory is taken first; then exactly the rows without an end
-    /// whose keys the definition touches are cut at the present world, and one store makes the new one. It is refused exactly where the
-    /// present world is the last one, before out of memory.
+    /// Makes the next world by a change that may be made, and answers it. All memory is taken first; then exactly the rows without an
+    /// end whose keys the change touches are cut at the present world, and one store makes the new one.
+    fn make_world(
+        &mut self,
+        alloc: Global,
+        ready: &Ready,
+        cache: &Cache<N>,
+        pass: &mut Pass<N>,
+        change: Change,
+    ) -> Result<u32, AllocError>
+        requires ready { ready.now ≡ N.about.program.value }
+        requires running { IsRunning self.old (task_in pass.old) }
+        requires change { MayBeMade N.about.program.value self.old change }
+        requires room { world_of self.old < MOST_WORLDS }
+        ensures added { IfOk result (λ world. self.new ≡ self.old ++ change_event (task_in pass.old) change ∷ []) }
+        ensures world { IfOk result (λ world. world ≡ world_of self.new) }
+        ensures pass { IfOk result (λ world. pass.new ≡ met self.new (noted (length self.old) (change_event (task_in pass.old) change) pass.old)) }
+        ensures refused { OnErr result ((self.new ≡ self.old) × (pass.new ≡ pass.old)) }
+    {
+        let (event, touched) = reserve_change(
+            alloc,
+            ready,
+            &mut self.index,
+            &mut self.events,
+            pass.task,
+            change,
+        )?;
+        cut_rows(&self.index, cache, &mut self.seat, touched.as_slice());
+        let words = cache.world();
+        seats::publish(words, &mut self.seat, &mut pass.seat, pass.task, change);
+        parts::add(ready, &mut self.index, &mut self.events, event);
+        Ok(self.index.worlds() as u32)
+    }
+
+    /// Makes the next world by a definition of a site, and answers it. Exactly the rows without an end whose keys the definition
+    /// touches are cut at the present world before. It is refused exactly where the present world is the last one, before out of memory.
     pub fn define(
         &mut self,
         alloc: Global,
@@ -98,26 +132,49 @@ impl<N: Naming> Book<N> {
         if self.index.worlds() >= MOST_WORLDS {
             return Err(DefineFault::WorldLimit);
         }
-        let Ok((event, touched)) = reserve_def(
-            alloc,
-            ready,
-            &mut self.index,
-            &mut self.events,
-            pass.task,
-            site,
-        ) else {
+        let Ok(world) = self.make_world(alloc, ready, cache, pass, Change::Def(site)) else {
             return Err(DefineFault::Memory);
         };
-        cut_rows(&self.index, cache, &mut self.seat, touched.as_slice());
-        seats::publish(
-            cache.world(),
-            &mut self.seat,
-            &mut pass.seat,
-            pass.task,
-            site,
-        );
-        parts::add(ready, &mut self.index, &mut self.events, event);
-        Ok(self.index.worlds() as u32)
+        Ok(world)
+    }
+
+    /// Makes the next world by a deletion at a place, and answers it. Exactly the rows without an end whose keys the deletion touches
+    /// are cut at the present world before. It is refused exactly where the present world is the last one, and then exactly where no
+    /// method of the place's function and signature stands in it. Out of memory comes after the first, and may come in place of the
+    /// second, whose test takes memory.
+    pub fn delete(
+        &mut self,
+        alloc: Global,
+        ready: &Ready,
+        cache: &Cache<N>,
+        pass: &mut Pass<N>,
+        place: u32,
+    ) -> Result<u32, DeleteFault>
+        requires ready { ready.now ≡ N.about.program.value }
+        requires place { place < length N.about.program.value.deletes }
+        ensures added { IfOk result (λ world. self.new ≡ self.old ++ Del (task_in pass.old) place ∷ []) }
+        ensures world { IfOk result (λ world. world ≡ world_of self.new) }
+        ensures pass { IfOk result (λ world. pass.new ≡ met self.new (noted (length self.old) (Del (task_in pass.old) place) pass.old)) }
+        ensures full { result ≡ Err L.WorldLimit ↔ (world_of self.old ≡ MOST_WORLDS) }
+        ensures absent { result ≡ Err L.NoSuchMethod → (world_of self.old < MOST_WORLDS) × (FindsMethod N.about.program.value self.old place → ⊥) }
+        ensures found { IfOk result (λ world. FindsMethod N.about.program.value self.old place) }
+        ensures refused { OnErr result ((self.new ≡ self.old) × (pass.new ≡ met self.new pass.old)) }
+        ensures seen { Begins pass.old.seen self.old }
+    {
+        cache.world().meet(&mut self.seat, &mut pass.seat);
+        if self.index.worlds() >= MOST_WORLDS {
+            return Err(DeleteFault::WorldLimit);
+        }
+        let Ok(is_there) = has_method(alloc, ready, &self.index, place) else {
+            return Err(DeleteFault::Memory);
+        };
+        if !is_there {
+            return Err(DeleteFault::NoSuchMethod);
+        }
+        let Ok(world) = self.make_world(alloc, ready, cache, pass, Change::Del(place)) else {
+            return Err(DeleteFault::Memory);
+        };
+        Ok(world)
     }
 
     /// Starts a task, and gives its number and its pass. It is refused exactly where no task more may be started, before out of memory.

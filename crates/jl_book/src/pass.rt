@@ -62,7 +62,7 @@ impl<N: Naming> Pass<N> {
 
     /// Sees which world is the newest. It takes no lock, and waits for nobody.
     pub fn look(&mut self, cache: &Cache<N>) -> Seen
-        ensures item { (task : ℕ) → IsTrueOf self.new.seen task (Look result.world result.length) }
+        ensures item { (task : ℕ) → IsTrueOf N.about.program.value self.new.seen task (Look result.world result.length) }
         ensures world { world_of self.new.seen ≡ result.world }
         ensures seen { Begins self.old.seen self.new.seen × (result.length ≡ length self.new.seen) }
         ensures looks { self.new.looks ≡ self.old.looks + 1 }

@@ -1,17 +1,17 @@
 //! How the book's seat adds what a task makes: it takes the seat of the task's pass in, stores the event, and gives the seat back.
 
-ghost use Rattle.std.specs.Prelude.{◌≡◌, ◌<◌, ◌≤◌, ◌++◌, ◌∷◌, [], Some, length};
+ghost use Rattle.std.specs.Prelude.{◌≡◌, ◌<◌, ◌++◌, ◌∷◌, [], Some, length};
 ghost use Rattle.jl_model.specs.declared.limits.TheConstants.{MOST_WORLDS, MOST_TASKS};
-ghost use Rattle.jl_program.specs.Prelude.{prelude_count};
-ghost use Rattle.jl_calculus.specs.declared.history.Event.TheVariants.{Def, Spawn, Done};
+ghost use Rattle.jl_calculus.specs.declared.history.Event.TheVariants.{Spawn, Done};
+ghost use Rattle.jl_calculus.specs.Legal.{MayBeMade};
 ghost use Rattle.jl_calculus.specs.Past.{tasks_of};
 ghost use Rattle.jl_calculus.specs.Words.{AreAllCut};
-ghost use Rattle.jl_calculus.specs.World.{world_of};
+ghost use Rattle.jl_calculus.specs.World.{change_event, world_of};
 ghost use Rattle.jl_world.specs.Rule.{IsHistory};
 ghost use Rattle.jl_world.specs.Views.{Fits, begun, met, noted, taken};
 ghost use Rattle.jl_book.specs.Books.{at_rest};
 
-use jl_calculus::history::{Event, Record};
+use jl_calculus::history::{Change, Event, Record};
 use jl_program::tree::Start;
 use jl_world::{BookSeat, Naming, TaskSeat, World};
 use std::mem;
@@ -27,26 +27,26 @@ fn take_in<N: Naming>(world: &World<N>, book: &mut BookSeat<N>, seat: &mut TaskS
     world.end(book, whole);
 }
 
-/// Publishes a definition by the task of a seat, for which all rows were cut.
+/// Publishes a change by the task of a seat, for which all rows were cut.
 pub(crate) fn publish<N: Naming>(
     world: &World<N>,
     book: &mut BookSeat<N>,
     seat: &mut TaskSeat<N>,
     task: u32,
-    site: u32,
+    change: Change,
 )
     requires task { seat.old.task ≡ Some task }
     requires rest { (book.old.held ≡ []) × (book.old.stored ≡ []) }
-    requires site { (prelude_count ≤ site) × (site < length N.about.program.value.sites) }
-    requires cut { AreAllCut N.about.program.value book.old.events site book.old.cut }
+    requires change { MayBeMade N.about.program.value book.old.events change }
+    requires cut { AreAllCut N.about.program.value book.old.events change book.old.cut }
     requires world { world_of book.old.events < MOST_WORLDS }
-    ensures book { book.new ≡ at_rest (book.old.events ++ Def task site ∷ []) }
-    ensures seat { seat.new ≡ met (book.old.events ++ Def task site ∷ []) (noted (length book.old.events) (Def task site) seat.old) }
+    ensures book { book.new ≡ at_rest (book.old.events ++ change_event task change ∷ []) }
+    ensures seat { seat.new ≡ met (book.old.events ++ change_event task change ∷ []) (noted (length book.old.events) (change_event task change) seat.old) }
     ensures fits { Fits N.about.program.value book.old.events seat.old }
     ensures history { IsHistory N.about book.old.events }
 {
     take_in(world, book, seat);
-    world.publish(book, task, site);
+    world.publish(book, task, change);
     *seat = world.give(book, task);
 }
 

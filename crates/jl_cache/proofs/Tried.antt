@@ -4,11 +4,12 @@ use Rattle.jl_model.specs.declared.ty.Key.{Key}
 use Rattle.jl_program.specs.declared.tree.Program.{Program}
 use Rattle.jl_calculus.specs.declared.history.Event.{Event}
 use Rattle.jl_calculus.specs.Legal.{MayStand}
-use Rattle.jl_calculus.specs.Learnt.{IsNamed, IsChosen, IsUncovered}
+use Rattle.jl_calculus.specs.Learnt.{IsNamed, IsUncovered}
 use Rattle.jl_calculus.specs.Ranges.{CacheRow, keys_of, rows_of, Covers, MayBegin, IsRightFill, SelectsSite}
 use Rattle.jl_calculus.specs.Words.{link_of}
 use Rattle.jl_calculus.specs.World.{world_of}
 use Rattle.jl_calculus.proofs.BetweenLemmas.{row_tells}
+use Rattle.jl_calculus.proofs.KeyLemmas.{key_proper}
 use Rattle.jl_world.specs.declared.row_word.RowWord.{RowWord}
 use Rattle.jl_world.specs.declared.row_word.RowWord.TheVariants.{Site, First, Last, Next, Top}
 use Rattle.jl_world.specs.declared.view.TaskView.{TaskView}
@@ -18,7 +19,7 @@ use Rattle.jl_world.proofs.Growth.{agree, agreed}
 use Rattle.jl_world.proofs.Lists.{IsLast, one_there, contains_at, place_in, get_taken, get_whole, take_low, last_low, none_met, last_is}
 use Rattle.jl_world.proofs.Rights.{begins_low, rows_right}
 use Rattle.jl_world.proofs.TopLemmas.{top_bound}
-use Rattle.jl_cache.specs.Finds.{Reaches}
+use Rattle.jl_cache.specs.Finds.{IsHit, Reaches}
 
 abbrev pub has_key : ℕ → CacheRow → Bool
 has_key k row = nat_eq row.key k
@@ -171,7 +172,7 @@ module _ (P : Program) (es : List Event) (number w : ℕ) where
       subst (λ (z : CacheRow × Key). IsWordOf P es j z.0 z.1 x n) (λ i. (same i, keys_same i)) h.word
 
   pub find_hit : (j first last site : ℕ) → Tried P es number w (suc j) → w ≤ world_of es → IsRowWord P es j First first → IsRowWord P es j Last last → IsRowWord P es j Site site
-      → first ≤ w → Reaches last w → IsChosen P es number w site
+      → first ≤ w → Reaches last w → IsHit P es number w site
   find_hit j first last site tried low f l s le reach =
       let a = at_link j first First tried f in
       let first_is : first ≡ a.row.first = word_there j first First a f in
@@ -181,7 +182,7 @@ module _ (P : Program) (es : List Event) (number w : ℕ) where
         key = a.key;
         named = a.named;
         covered = (a.row, record { stands = contains_at (rows_of es) j a.row a.at; of_key = a.of_key; covers = covers });
-        choice = subst (λ n. SelectsSite P es a.key w n) (sym (word_there j site Site a s).0) (row_tells P es a.key a.row.site a.row.first w a.right covers);
+        choice = λ valid. subst (λ n. SelectsSite P es a.key w n) (sym (word_there j site Site a s).0) (row_tells P valid es a.key a.row.site a.row.first w (key_proper P es number a.key f.stand a.named) a.right covers);
       }
 
   pub find_on : (j first last next : ℕ) → Tried P es number w (suc j) → w ≤ world_of es → IsRowWord P es j First first → IsRowWord P es j Last last → IsRowWord P es j Next next

@@ -3,7 +3,10 @@ use Rattle.std.specs.Prelude.{ℕ, ◌≡◌, ◌⊎◌, ◌≤◌, ◌<◌, Lis
 use Rattle.jl_model.specs.declared.ty.Key.{Key}
 use Rattle.jl_program.specs.declared.tree.Program.{Program}
 use Rattle.jl_calculus.specs.declared.history.Event.{Event}
-use Rattle.jl_calculus.specs.Ranges.{keys_of, HasNoEnd, EndsWith}
+use Rattle.jl_calculus.specs.Learnt.{IsNamed}
+use Rattle.jl_calculus.specs.Ranges.{keys_of, HasNoEnd, EndsWith, IsCovered, SelectsSite}
+use Rattle.jl_calculus.specs.World.{world_of}
+use Rattle.jl_program.specs.Valid.{IsValid}
 use Rattle.jl_cache.specs.declared.found.Found.{Found}
 use Rattle.jl_cache.specs.declared.found.Found.TheVariants.{Hit, Miss}
 
@@ -12,6 +15,14 @@ module _ {M : Type 0} where
   abbrev pub MatchFound : Found M → (ℕ → Type 0) → (M → Type 0) → Type 0
   MatchFound (Hit site) hit miss = hit site
   MatchFound (Miss m) hit miss = miss m
+
+-- a hit: a row of the key of this number covers a world of the events, and for a valid program a method of this site is chosen in it
+pub record IsHit (P : Program) (es : List Event) (number w site : ℕ) : Type 0 where
+  pub known : w ≤ world_of es
+  pub key : Key
+  pub named : IsNamed es number key
+  pub covered : IsCovered P es number key w
+  pub choice : IsValid P → SelectsSite P es key w site
 
 -- a range with this last world goes so far; 0 is no last world
 abbrev pub Reaches : ℕ → ℕ → Type 0

@@ -2,11 +2,11 @@
 
 ghost use Rattle.std.specs.Prelude.{◌≡◌, ◌⊎◌, ℕ, ◌<◌, ◌≤◌, max, [], length, IsTrue, ◌↔◌, MatchOption};
 ghost use Rattle.jl_calculus.specs.declared.history.Event.TheVariants.{Fill};
-ghost use Rattle.jl_calculus.specs.Learnt.{IsChosen, IsUncovered};
+ghost use Rattle.jl_calculus.specs.Learnt.{IsUncovered};
 ghost use Rattle.jl_calculus.specs.Ranges.{keys_of, rows_of};
 ghost use Rattle.jl_calculus.specs.Words.{link_of};
 ghost use Rattle.jl_calculus.specs.World.{world_of};
-ghost use Rattle.jl_cache.specs.Finds.{HasRangeEnd, MatchFound, Reaches};
+ghost use Rattle.jl_cache.specs.Finds.{HasRangeEnd, IsHit, MatchFound, Reaches};
 ghost use Rattle.jl_program.specs.Prelude.{prelude_count};
 ghost use Rattle.jl_world.specs.Adds.{IsNextFill};
 ghost use Rattle.jl_world.specs.Rule.{IsOpenRow};
@@ -51,7 +51,7 @@ impl<N: Naming> Cache<N> {
     pub fn find(&self, seat: &mut TaskSeat<N>, key: u32, world: u32) -> Found<Miss<N>>
         requires key { key < length (keys_of seat.old.seen) }
         requires world { (prelude_count ≤ world) × (world ≤ world_of seat.old.seen) }
-        ensures found { MatchFound result (IsChosen N.about.program.value seat.new.seen key world) (λ m. IsUncovered N.about.program.value seat.new.seen key world) }
+        ensures found { MatchFound result (IsHit N.about.program.value seat.new.seen key world) (λ m. IsUncovered N.about.program.value seat.new.seen key world) }
         ensures miss { MatchFound result (λ site. Unit {0}) (λ m. m ≡ record { key = key; world = world; seen = seat.new.seen }) }
         ensures seen { Begins seat.old.seen seat.new.seen }
         ensures same { seat.new ≡ met seat.new.seen seat.old }

@@ -62,7 +62,7 @@ module _ (n : Table) (ms os : List Method) (ts : List Ty) (to : (m : Method) →
       let (c, d, p, q, f) = h.pair in
       record { none_best = λ m k. h.none_best m (best_from m k); pair = (c, d, p, q, pair_to c d f) }
 
-  chooses_to : (c : Choice) → Chooses n ms ts c → Chooses n os ts c
+  pub chooses_to : (c : Choice) → Chooses n ms ts c → Chooses n os ts c
   chooses_to (C.Method d) (m, b, e) = (m, best_to m b, e)
   chooses_to C.None h = λ m c. h m (candidate_from m c)
   chooses_to (C.Ambiguous a b) h = ambiguous_to a b h

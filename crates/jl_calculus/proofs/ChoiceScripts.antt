@@ -33,6 +33,7 @@ use Rattle.jl_calculus.specs.Run.{Setting, setting_of, State, Then, IsEnd, Calle
 use Rattle.jl_calculus.specs.World.{Selects}
 use Rattle.jl_calculus.proofs.Forms.{int_runs, call_runs, print_runs, show_runs, define_runs, do_runs}
 use Rattle.jl_calculus.proofs.WorldScripts.{bare}
+use Rattle.jl_calculus.proofs.SelectLemmas.{selects_plain}
 
 -- two methods with these parameters, and then the text of this call
 abbrev shown : Expr → Expr
@@ -44,6 +45,7 @@ script first second call = record {
   functions = prelude_functions ++ codes "f" ∷ [];
   sites = prelude_sites ++ record { function = 12; sig = plain first; body = E.Int (pos 1) } ∷ record { function = 12; sig = plain second; body = E.Int (pos 2) } ∷ [];
   spawns = [];
+  deletes = [];
   top = I.Define 14 ∷ I.Define 15 ∷ I.Do (shown call) ∷ [];
 }
 
@@ -62,7 +64,7 @@ abbrev special : Program
 special = script (int64 ∷ []) (T.Any ∷ []) of_zero
 
 first_selected : Selects special events 12 (int64 ∷ []) 16 (C.Method 15)
-first_selected = chooses_special (types_of special)
+first_selected = selects_plain special refl events 12 (int64 ∷ []) 16 (C.Method 15) (chooses_special (types_of special))
 
 one_is : value_text special (V.Int (pos 1)) ≡ codes "1"
 unfolding digits
@@ -99,7 +101,7 @@ abbrev crossed : Program
 crossed = script left right of_two
 
 none_best : Selects crossed events 12 two 16 (C.Ambiguous 15 16)
-none_best = chooses_ambiguous (types_of crossed)
+none_best = selects_plain crossed refl events 12 two 16 (C.Ambiguous 15 16) (chooses_ambiguous (types_of crossed))
 
 abbrev ambiguous : Outcome
 ambiguous = O.Error (Fa.Ambiguous 12 two 15 16)

@@ -45,6 +45,7 @@ use Rattle.jl_program.proofs.FirstChoices.{only_choice, no_other_choice, any_app
 use Rattle.jl_calculus.proofs.Forms.{int_runs, local_runs, call_runs, print_runs, show_runs, define_runs, do_runs, from_int, from_local, from_call, from_print, from_show, from_define, from_do}
 use Rattle.jl_calculus.specs.Past.{own_events, own_items, own_starts, IsInOrder, IsTrueOf, done_of, tasks_of}
 use Rattle.jl_calculus.specs.Legal.{AreTrueOf, first_place, fuel_of, IsRunning, MayCome, HasTrueTrace, HasRun, IsLegal, text_of, status_of}
+use Rattle.jl_calculus.proofs.SelectLemmas.{selects_plain, plain_selects}
 
 abbrev pub trace : List TraceItem
 trace = Look 14 1 ∷ Def 14 1 ∷ Look 15 2 ∷ []
@@ -327,7 +328,7 @@ no_starts = refl
 in_order : IsInOrder (first_place 0 0 before) trace (length before)
 in_order = (omega arith, (omega arith, (omega arith, omega arith)))
 
-are_true : AreTrueOf before 0 trace
+are_true : AreTrueOf P before 0 trace
 are_true = ((omega arith, refl), (refl, ((omega arith, refl), tt)))
 
 running : IsRunning before 0
@@ -337,7 +338,7 @@ begins : MayCome P [] (Ev.Begin 10000000)
 begins = record { nothing_before = refl; allowed = omega arith }
 
 defines_f : MayCome P (Ev.Begin 10000000 ∷ []) (Ev.Def 0 14)
-defines_f = record { running = record { begun = refl; started = omega arith; going = refl }; past_prelude = omega arith; of_program = omega arith; room = omega arith }
+defines_f = record { running = record { begun = refl; started = omega arith; going = refl }; may = (omega arith, omega arith); room = omega arith }
 
 -- ---- what is refused
 
@@ -346,19 +347,19 @@ is_def (Some (Ev.Def task site)) = true
 is_def _ = false
 
 -- the world is not there before its definition
-no_early_look : IsTrueOf before 0 (Look 15 1) → ⊥
+no_early_look : IsTrueOf P before 0 (Look 15 1) → ⊥
 no_early_look h = absurd (omega (arith, h.1))
 
 -- no old world is seen after it
-no_late_look : IsTrueOf before 0 (Look 14 2) → ⊥
+no_late_look : IsTrueOf P before 0 (Look 14 2) → ⊥
 no_late_look h = absurd (omega (arith, h.1))
 
 -- no events are seen that are not there
-no_future_look : IsTrueOf before 0 (Look 15 3) → ⊥
+no_future_look : IsTrueOf P before 0 (Look 15 3) → ⊥
 no_future_look h = absurd (omega (arith, h.0))
 
 -- a definition is at its own place, by its own task
-no_def_at_begin : IsTrueOf before 0 (Def 14 0) → ⊥
+no_def_at_begin : IsTrueOf P before 0 (Def 14 0) → ⊥
 no_def_at_begin h = true≢false (sym (ap is_def h))
 
 abbrev task_of : Option Event → ℕ
@@ -369,10 +370,10 @@ abbrev made_site : Option Event → ℕ
 made_site (Some (Ev.Def task site)) = site
 made_site _ = 0
 
-no_def_of_another : IsTrueOf before 1 (Def 14 1) → ⊥
+no_def_of_another : IsTrueOf P before 1 (Def 14 1) → ⊥
 no_def_of_another h = absurd (omega (arith, ap task_of h))
 
-no_def_of_other_site : IsTrueOf before 0 (Def 15 1) → ⊥
+no_def_of_other_site : IsTrueOf P before 0 (Def 15 1) → ⊥
 no_def_of_other_site h = absurd (omega (arith, ap made_site h))
 
 -- an item after a definition has seen it
@@ -406,23 +407,23 @@ no_second_begin : MayCome P before (Ev.Begin 5) → ⊥
 no_second_begin h = absurd (omega (arith, ap length h.nothing_before))
 
 no_prelude_site : MayCome P before (Ev.Def 0 13) → ⊥
-no_prelude_site h = absurd (omega (arith, h.past_prelude))
+no_prelude_site h = absurd (omega (arith, h.may.0))
 
 no_site_past_the_last : MayCome P before (Ev.Def 0 15) → ⊥
-no_site_past_the_last h = absurd (omega (arith, h.of_program))
+no_site_past_the_last h = absurd (omega (arith, h.may.1))
 
 -- ---- the run
 
 -- the choices that the two calls of the run make
 call_f : Selects P before 12 (int64 ∷ []) 15 (C.Method 15)
-call_f = only_choice (types_of P) (record { number = 15; sig = f_site.sig }) (int64 ∷ []) (any_applies (types_of P))
+call_f = selects_plain P refl before 12 (int64 ∷ []) 15 (C.Method 15) (only_choice (types_of P) (record { number = 15; sig = f_site.sig }) (int64 ∷ []) (any_applies (types_of P)))
 
 call_add : Selects P before 0 (int64 ∷ int64 ∷ []) 15 (C.Method 1)
-call_add = only_choice (types_of P) (record { number = 1; sig = plain two }) two (two_apply (types_of P))
+call_add = selects_plain P refl before 0 (int64 ∷ int64 ∷ []) 15 (C.Method 1) (only_choice (types_of P) (record { number = 1; sig = plain two }) two (two_apply (types_of P)))
 
 -- in the world before the definition there is no method
 no_f : Selects P before 12 (int64 ∷ []) 14 C.None
-no_f m h = nothing_there m h.applies.stands
+no_f = selects_plain P refl before 12 (int64 ∷ []) 14 C.None (λ m h. nothing_there m h.applies.stands)
   where
     nothing_there : (m : Method) → Contains [] m → ⊥
     nothing_there m (k, p, e) = absurd (omega (arith, p))
@@ -497,7 +498,7 @@ ran =
 has_run : HasRun P None before 0 ended
 has_run fuel e = subst (λ (n : ℕ). Run (setting_of P before None n) None trace (O.Value V.Nothing) (codes "3\n") 2 []) (fuel_is fuel e) ran
 
-has_true_trace : HasTrueTrace before 0 ended
+has_true_trace : HasTrueTrace P before 0 ended
 has_true_trace = record { true_items = are_true; in_order = in_order }
 
 legal : IsLegal P H
@@ -522,11 +523,11 @@ module _ (Ends : Outcome → State → Type 0) where
   add_is : (room : ℕ) (env : List Value) (bindings : List Ty) (next : Then)
       → calls g Ends (suc room) 0 (V.Int (pos 2) ∷ V.Int (pos 1) ∷ []) 15 (in_scope env bindings 1) next → next (V.Int (pos 3)) (in_scope env bindings 2)
   add_is room env bindings next h =
-      taken h.0 1 0 two (in_scope env bindings 2) _ (no_other_choice (types_of P) (record { number = 1; sig = plain two }) two (two_apply (types_of P)) h.0 h.1) h.3
+      taken h.0 1 0 two (in_scope env bindings 2) _ (no_other_choice (types_of P) (record { number = 1; sig = plain two }) two (two_apply (types_of P)) h.0 (plain_selects P refl before 0 two 15 h.0 h.1)) h.3
 
   f_is : (room : ℕ) (next : Then) → calls g Ends (suc (suc room)) 12 (V.Int (pos 2) ∷ []) 15 (in_scope [] [] 0) next → next (V.Int (pos 3)) (in_scope [] [] 2)
   f_is room next h =
-      let c : h.0 ≡ C.Method 15 = no_other_choice (types_of P) (record { number = 15; sig = f_site.sig }) (int64 ∷ []) (any_applies (types_of P)) h.0 h.1 in
+      let c : h.0 ≡ C.Method 15 = no_other_choice (types_of P) (record { number = 15; sig = f_site.sig }) (int64 ∷ []) (any_applies (types_of P)) h.0 (plain_selects P refl before 12 (int64 ∷ []) 15 h.0 h.1) in
       let k = taken h.0 15 12 (int64 ∷ []) (in_scope [] [] 1) _ c h.3 in
       let inner : Then = λ v s1. next v (with_scope s1 [] []) in
       let called : Caller = calls g Ends (suc room) in

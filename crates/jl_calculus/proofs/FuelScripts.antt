@@ -31,6 +31,7 @@ use Rattle.jl_calculus.specs.World.{Selects}
 use Rattle.jl_calculus.proofs.Forms.{form_is, item_form_is, int_runs, call_runs, print_runs, show_runs, define_runs, do_runs}
 use Rattle.jl_calculus.proofs.TaskScripts.{division, start}
 use Rattle.jl_calculus.proofs.WorldScripts.{made, bare, empty_applies}
+use Rattle.jl_calculus.proofs.SelectLemmas.{selects_plain}
 
 -- a function without parameters, whose body is this
 abbrev site : ℕ → Expr → Site
@@ -46,6 +47,7 @@ script f = record {
   functions = prelude_functions ++ codes "c" ∷ codes "b" ∷ codes "a" ∷ codes "z" ∷ [];
   sites = prelude_sites ++ site 12 (E.Int (pos 5)) ∷ site 13 (X.Call 12 []) ∷ site 14 (X.Call 13 []) ∷ site 15 (X.Call 14 []) ∷ [];
   spawns = [];
+  deletes = [];
   top = I.Define 14 ∷ I.Define 15 ∷ I.Define 16 ∷ I.Define 17 ∷ I.Do (shown f) ∷ [];
 }
 
@@ -57,16 +59,16 @@ trace = Look 14 1 ∷ Def 14 1 ∷ Look 15 2 ∷ Def 15 2 ∷ Look 16 3 ∷ Def 
 
 module _ (f : ℕ) where
   c_is : Selects (script f) events 12 [] 18 (C.Method 15)
-  c_is = only_choice (types_of (script f)) (record { number = 15; sig = plain [] }) [] (empty_applies (types_of (script f)))
+  c_is = selects_plain (script f) refl events 12 [] 18 (C.Method 15) (only_choice (types_of (script f)) (record { number = 15; sig = plain [] }) [] (empty_applies (types_of (script f))))
 
   b_is : Selects (script f) events 13 [] 18 (C.Method 16)
-  b_is = only_choice (types_of (script f)) (record { number = 16; sig = plain [] }) [] (empty_applies (types_of (script f)))
+  b_is = selects_plain (script f) refl events 13 [] 18 (C.Method 16) (only_choice (types_of (script f)) (record { number = 16; sig = plain [] }) [] (empty_applies (types_of (script f))))
 
   a_is : Selects (script f) events 14 [] 18 (C.Method 17)
-  a_is = only_choice (types_of (script f)) (record { number = 17; sig = plain [] }) [] (empty_applies (types_of (script f)))
+  a_is = selects_plain (script f) refl events 14 [] 18 (C.Method 17) (only_choice (types_of (script f)) (record { number = 17; sig = plain [] }) [] (empty_applies (types_of (script f))))
 
   z_is : Selects (script f) events 15 [] 18 (C.Method 18)
-  z_is = only_choice (types_of (script f)) (record { number = 18; sig = plain [] }) [] (empty_applies (types_of (script f)))
+  z_is = selects_plain (script f) refl events 15 [] 18 (C.Method 18) (only_choice (types_of (script f)) (record { number = 18; sig = plain [] }) [] (empty_applies (types_of (script f))))
 
   abbrev g : Setting
   g = setting_of (script f) events None 3
@@ -151,7 +153,7 @@ no_fuel_text = refl
 -- ---- `t = Threads.@spawn div(1, 0)` alone: the root ends with the task, and nothing is written
 
 abbrev quiet : Program
-quiet = record { decls = []; functions = prelude_functions; sites = prelude_sites; spawns = division ∷ []; top = I.Bind 0 (E.Spawn 0) ∷ [] }
+quiet = record { decls = []; functions = prelude_functions; sites = prelude_sites; spawns = division ∷ []; deletes = []; top = I.Bind 0 (E.Spawn 0) ∷ [] }
 
 abbrev quiet_trace : List TraceItem
 quiet_trace = Look 14 1 ∷ Spawn 1 1 ∷ []

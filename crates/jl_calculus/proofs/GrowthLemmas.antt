@@ -1,24 +1,27 @@
 -- What holds of a list of events holds of each list that goes on from it.
-use Rattle.std.proofs.Common.{◌≡◌, ◌∙◌, ap, sym, subst, refl, ℕ, zero, suc, ◌-◌, ◌<◌, ◌≤◌, ◌⊎◌, inl, inr, arith, List, [], ◌∷◌, ◌++◌, length, take, drop, take-append-drop, get_or, slice_get, append_assoc, length-append, Option, None, Some}
+use Rattle.std.proofs.Common.{◌≡◌, ◌∙◌, ap, sym, subst, refl, ℕ, zero, suc, ◌-◌, ◌<◌, ◌≤◌, ◌⊎◌, inl, inr, arith, List, [], ◌∷◌, ◌++◌, length, map, take, drop, take-append-drop, get_or, slice_get, append_assoc, length-append, Option, None, Some}
 use Rattle.std.specs.List.{Contains}
 use Rattle.std.proofs.lemmas.List.{take-append-le, get_or_append_left}
 use Rattle.jl_model.specs.declared.ty.Ty.{Ty}
 use Rattle.jl_model.specs.declared.ty.Key.{Key}
+use Rattle.jl_model.specs.Choice.{Method}
 use Rattle.jl_program.specs.declared.choice.Choice.{Choice}
 use Rattle.jl_program.specs.declared.choice.Choice.TheVariants as C
 use Rattle.jl_program.specs.declared.tree.Program.{Program}
 use Rattle.jl_program.specs.Chooses.{Chooses}
 use Rattle.jl_program.specs.Prelude.{prelude_numbers}
 use Rattle.jl_program.specs.Scope.{types_of}
+use Rattle.jl_calculus.specs.declared.history.Change.{Change}
+use Rattle.jl_calculus.specs.declared.history.Change.TheVariants as Ch
 use Rattle.jl_calculus.specs.declared.history.Event.{Event}
 use Rattle.jl_calculus.specs.declared.history.Event.TheVariants as Ev
 use Rattle.jl_calculus.specs.declared.history.TraceItem.{TraceItem}
-use Rattle.jl_calculus.specs.declared.history.TraceItem.TheVariants.{Look, Def, Spawn, Fetch, WorldFull, TaskFull}
+use Rattle.jl_calculus.specs.declared.history.TraceItem.TheVariants.{Look, Def, Del, Spawn, Fetch, WorldFull, TaskFull, Absent}
 use Rattle.jl_calculus.specs.Kept.{Places, IsInCache, IsKeptFor, Keeps}
 use Rattle.jl_calculus.specs.Learnt.{Learnt, traced, named, answered, chosen, uncovered, kept, IsNamed, IsChosen, IsUncovered, IsLearntOf}
-use Rattle.jl_calculus.specs.Past.{tasks_of, done_of, EndedSo, IsTrueOf}
-use Rattle.jl_calculus.specs.Ranges.{CacheRow, keys_of, rows_of, site_in, site_at, SiteTouches, Touches, Covers, IsCovered}
-use Rattle.jl_calculus.specs.World.{defined, definitions, site_of, world_of, methods_from, methods_in, Selects}
+use Rattle.jl_calculus.specs.Past.{tasks_of, done_of, EndedSo, IsAbsent, IsTrueOf}
+use Rattle.jl_calculus.specs.Ranges.{CacheRow, keys_of, rows_of, ChangeTouches, Touches, Covers, IsCovered}
+use Rattle.jl_calculus.specs.World.{changed, changes, change_at, site_in, site_of, world_of, methods_from, methods_made, Deletes, Stands, Selects}
 
 -- ---- lists
 
@@ -35,20 +38,22 @@ get_same (y ∷ xs) ys (suc k) l = get_same xs ys k (omega (arith, l))
 pub contains_more : {X : Type 0} (xs ys : List X) (x : X) → Contains xs x → Contains (xs ++ ys) x
 contains_more xs ys x (k, l, e) = (k, omega (arith, l, length-append xs ys), get_or_append_left xs ys x k l ∙ e)
 
-pub defined_append : (es more : List Event) → defined (es ++ more) ≡ defined es ++ defined more
-defined_append [] more = refl
-defined_append (Ev.Def task site ∷ es) more = ap (λ xs. site ∷ xs) (defined_append es more)
-defined_append (Ev.Begin fuel ∷ es) more = defined_append es more
-defined_append (Ev.Key key ∷ es) more = defined_append es more
-defined_append (Ev.Fill key site first ∷ es) more = defined_append es more
-defined_append (Ev.Spawn task child start ∷ es) more = defined_append es more
-defined_append (Ev.Done task ended ∷ es) more = defined_append es more
+pub changed_append : (es more : List Event) → changed (es ++ more) ≡ changed es ++ changed more
+changed_append [] more = refl
+changed_append (Ev.Def task site ∷ es) more = ap (λ (xs : List Change). Ch.Def site ∷ xs) (changed_append es more)
+changed_append (Ev.Del task place ∷ es) more = ap (λ (xs : List Change). Ch.Del place ∷ xs) (changed_append es more)
+changed_append (Ev.Begin fuel ∷ es) more = changed_append es more
+changed_append (Ev.Key key ∷ es) more = changed_append es more
+changed_append (Ev.Fill key site first ∷ es) more = changed_append es more
+changed_append (Ev.Spawn task child start ∷ es) more = changed_append es more
+changed_append (Ev.Done task ended ∷ es) more = changed_append es more
 
 pub keys_append : (es more : List Event) → keys_of (es ++ more) ≡ keys_of es ++ keys_of more
 keys_append [] more = refl
 keys_append (Ev.Key key ∷ es) more = ap (λ xs. key ∷ xs) (keys_append es more)
 keys_append (Ev.Begin fuel ∷ es) more = keys_append es more
 keys_append (Ev.Def task site ∷ es) more = keys_append es more
+keys_append (Ev.Del task place ∷ es) more = keys_append es more
 keys_append (Ev.Fill key site first ∷ es) more = keys_append es more
 keys_append (Ev.Spawn task child start ∷ es) more = keys_append es more
 keys_append (Ev.Done task ended ∷ es) more = keys_append es more
@@ -59,56 +64,78 @@ rows_append (Ev.Fill key site first ∷ es) more = ap (λ (xs : List CacheRow). 
 rows_append (Ev.Begin fuel ∷ es) more = rows_append es more
 rows_append (Ev.Key key ∷ es) more = rows_append es more
 rows_append (Ev.Def task site ∷ es) more = rows_append es more
+rows_append (Ev.Del task place ∷ es) more = rows_append es more
 rows_append (Ev.Spawn task child start ∷ es) more = rows_append es more
 rows_append (Ev.Done task ended ∷ es) more = rows_append es more
 
 -- ---- worlds and choices
 
-pub definitions_append : (es more : List Event) → definitions (es ++ more) ≡ definitions es ++ defined more
-definitions_append es more = ap (λ xs. prelude_numbers ++ xs) (defined_append es more) ∙ sym (append_assoc prelude_numbers (defined es) (defined more))
+pub changes_append : (es more : List Event) → changes (es ++ more) ≡ changes es ++ changed more
+changes_append es more = ap (λ (xs : List Change). map Ch.Def prelude_numbers ++ xs) (changed_append es more) ∙ sym (append_assoc (map Ch.Def prelude_numbers) (changed es) (changed more))
 
-pub definitions_length : (es : List Event) → length (definitions es) ≡ world_of es
-definitions_length es = length-append prelude_numbers (defined es)
+pub changes_length : (es : List Event) → length (changes es) ≡ world_of es
+changes_length es = length-append (map Ch.Def prelude_numbers) (changed es)
 
 pub world_more : (es more : List Event) → world_of es ≤ world_of (es ++ more)
-world_more es more = omega (arith, ap length (defined_append es more), length-append (defined es) (defined more))
+world_more es more = omega (arith, ap length (changed_append es more), length-append (changed es) (changed more))
 
-pub site_known : (P : Program) (sites : List ℕ) (k : ℕ) (key : Key) → SiteTouches P (site_in P (slice_get sites k)) key → k < length sites
-site_known P [] k key t = absurd t
-site_known P (s ∷ sites) zero key t = omega arith
-site_known P (s ∷ sites) (suc k) key t = omega (arith, site_known P sites k key t)
+pub get_known : {X : Type 0} (xs : List X) (k : ℕ) (x : X) → slice_get xs k ≡ Some x → k < length xs
+get_known [] k x h = cc
+get_known (y ∷ xs) zero x h = omega arith
+get_known (y ∷ xs) (suc k) x h = omega (arith, get_known xs k x h)
 
--- a definition that touches a key is there
+-- a change that is there has a world
+pub change_known : (es : List Event) (d : ℕ) (c : Change) → change_at es d ≡ Some c → d ≤ world_of es
+change_known es zero c h = cc
+change_known es (suc d) c h = omega (arith, get_known (changes es) d c h, changes_length es)
+
+-- a change that touches a key is there
 pub touches_known : (P : Program) (es : List Event) (d : ℕ) (key : Key) → Touches P es d key → d ≤ world_of es
-touches_known P es zero key t = absurd t
-touches_known P es (suc d) key t = omega (arith, site_known P (definitions es) d key t, definitions_length es)
+touches_known P es d key t = by (change_at es d) refl t
+  where
+    by : (o : Option Change) → change_at es d ≡ o → ChangeTouches P o key → d ≤ world_of es
+    by None e u = absurd u
+    by (Some c) e u = change_known es d c e
+
+module _ (es more : List Event) where
+  -- a change up to the newest world is the same
+  pub change_same : (d : ℕ) → d ≤ world_of es → change_at (es ++ more) d ≡ change_at es d
+  change_same zero l = refl
+  change_same (suc d) l = ap (λ (xs : List Change). slice_get xs d) (changes_append es more) ∙ get_same (changes es) (changed more) d (omega (arith, l, changes_length es))
 
 module _ (P : Program) (es more : List Event) where
-  methods_more : (f w : ℕ) → w ≤ world_of es → methods_in P (es ++ more) f w ≡ methods_in P es f w
-  methods_more f w l =
-      ap (λ xs. methods_from P f 1 (take w xs)) (definitions_append es more)
-      ∙ ap (methods_from P f 1) (take-append-le w (definitions es) (defined more) (omega (arith, l, definitions_length es)))
+  made_more : (f w : ℕ) → w ≤ world_of es → methods_made P (es ++ more) f w ≡ methods_made P es f w
+  made_more f w l =
+      ap (λ (xs : List Change). methods_from P f 1 (take w xs)) (changes_append es more)
+      ∙ ap (methods_from P f 1) (take-append-le w (changes es) (changed more) (omega (arith, l, changes_length es)))
+
+  -- the same methods stand in a world that is there
+  pub stands_on : (f w : ℕ) (m : Method) → w ≤ world_of es → Stands P es f w m → Stands P (es ++ more) f w m
+  stands_on f w m l h = record {
+    made = subst (λ (ms : List Method). Contains ms m) (sym (made_more f w l)) h.made;
+    kept = λ e low high d. h.kept e low high (subst (λ (o : Option Change). Deletes P o f m.sig) (change_same es more e (omega (arith, high, l))) d);
+  }
+
+  pub stands_back : (f w : ℕ) (m : Method) → w ≤ world_of es → Stands P (es ++ more) f w m → Stands P es f w m
+  stands_back f w m l h = record {
+    made = subst (λ (ms : List Method). Contains ms m) (made_more f w l) h.made;
+    kept = λ e low high d. h.kept e low high (subst (λ (o : Option Change). Deletes P o f m.sig) (sym (change_same es more e (omega (arith, high, l)))) d);
+  }
 
   pub selects_on : (f : ℕ) (ts : List Ty) (w : ℕ) (c : Choice) → w ≤ world_of es → Selects P es f ts w c → Selects P (es ++ more) f ts w c
-  selects_on f ts w c l h = subst (λ ms. Chooses (types_of P) ms ts c) (sym (methods_more f w l)) h
+  selects_on f ts w c l (ms, are, h) = (ms, (λ m a. ((λ i. stands_on f w m l ((are m a).0 i)), (λ s. (are m a).1 (stands_back f w m l s)))), h)
 
   pub selects_back : (f : ℕ) (ts : List Ty) (w : ℕ) (c : Choice) → w ≤ world_of es → Selects P (es ++ more) f ts w c → Selects P es f ts w c
-  selects_back f ts w c l h = subst (λ ms. Chooses (types_of P) ms ts c) (methods_more f w l) h
+  selects_back f ts w c l (ms, are, h) = (ms, (λ m a. ((λ i. stands_back f w m l ((are m a).0 i)), (λ s. (are m a).1 (stands_on f w m l s)))), h)
 
-  pub site_more : (d : ℕ) → 1 ≤ d → d ≤ world_of es → site_of (es ++ more) d ≡ site_of es d
-  site_more d low l =
-      ap (λ xs. get_or xs (d - 1) 0) (definitions_append es more) ∙ get_or_append_left (definitions es) (defined more) 0 (d - 1) (omega (arith, low, l, definitions_length es))
-
-  site_at_more : (d : ℕ) → d ≤ world_of es → site_at P (es ++ more) d ≡ site_at P es d
-  site_at_more zero l = refl
-  site_at_more (suc d) l =
-      ap (λ xs. site_in P (slice_get xs d)) (definitions_append es more) ∙ ap (site_in P) (get_same (definitions es) (defined more) d (omega (arith, l, definitions_length es)))
+  pub site_more : (d : ℕ) → d ≤ world_of es → site_of (es ++ more) d ≡ site_of es d
+  site_more d l = ap site_in (change_same es more d l)
 
   pub touches_on : (d : ℕ) (key : Key) → Touches P es d key → Touches P (es ++ more) d key
-  touches_on d key t = subst (λ o. SiteTouches P o key) (sym (site_at_more d (touches_known P es d key t))) t
+  touches_on d key t = subst (λ (o : Option Change). ChangeTouches P o key) (sym (change_same es more d (touches_known P es d key t))) t
 
   pub touches_back : (d : ℕ) (key : Key) → d ≤ world_of es → Touches P (es ++ more) d key → Touches P es d key
-  touches_back d key l t = subst (λ o. SiteTouches P o key) (site_at_more d l) t
+  touches_back d key l t = subst (λ (o : Option Change). ChangeTouches P o key) (change_same es more d l) t
 
   pub covers_on : (key : Key) (first w : ℕ) → w ≤ world_of es → Covers P es key first w → Covers P (es ++ more) key first w
   covers_on key first w l h = record { begun = h.begun; going = λ d low high t. h.going d low high (touches_back d key (omega (arith, high, l)) t) }
@@ -161,17 +188,19 @@ module _ (es more : List Event) where
   first_same : (p : ℕ) → p ≤ length es → take p es ≡ take p (es ++ more)
   first_same p l = sym (take-append-le p es more l)
 
-  pub true_on : (task : ℕ) (i : TraceItem) → IsTrueOf es task i → IsTrueOf (es ++ more) task i
-  true_on task (Look w p) (l, h) = (longer p l, subst (λ xs. world_of xs ≡ w) (first_same p l) h)
-  true_on task (Def site p) h = get_more es more p (Ev.Def task site) h
-  true_on task (Spawn child p) (start, h) = (start, get_more es more p (Ev.Spawn task child start) h)
-  true_on task (Fetch of outcome p) (l, h) = (longer p l, subst (λ xs. EndedSo (done_of of xs) outcome) (first_same p l) h)
-  true_on task (WorldFull p) (l, h) = (longer p l, subst (λ xs. world_of xs ≡ 65535) (first_same p l) h)
-  true_on task (TaskFull p) (l, h) = (longer p l, subst (λ xs. tasks_of xs ≡ 4096) (first_same p l) h)
+  pub true_on : (P : Program) (task : ℕ) (i : TraceItem) → IsTrueOf P es task i → IsTrueOf P (es ++ more) task i
+  true_on P task (Look w p) (l, h) = (longer p l, subst (λ xs. world_of xs ≡ w) (first_same p l) h)
+  true_on P task (Def site p) h = get_more es more p (Ev.Def task site) h
+  true_on P task (Spawn child p) (start, h) = (start, get_more es more p (Ev.Spawn task child start) h)
+  true_on P task (Fetch of outcome p) (l, h) = (longer p l, subst (λ xs. EndedSo (done_of of xs) outcome) (first_same p l) h)
+  true_on P task (WorldFull p) (l, h) = (longer p l, subst (λ xs. world_of xs ≡ 65535) (first_same p l) h)
+  true_on P task (Del place p) h = get_more es more p (Ev.Del task place) h
+  true_on P task (Absent place p) (l, h) = (longer p l, subst (λ (xs : List Event). IsAbsent P xs place) (first_same p l) h)
+  true_on P task (TaskFull p) (l, h) = (longer p l, subst (λ xs. tasks_of xs ≡ 4096) (first_same p l) h)
 
   -- an item that is true of the events stays true when the list grows
   pub learnt_on : (P : Program) (task : ℕ) (i : Learnt) → IsLearntOf P es task i → IsLearntOf P (es ++ more) task i
-  learnt_on P task (traced i) h = true_on task i h
+  learnt_on P task (traced i) h = true_on P task i h
   learnt_on P task (named number key p) (l, h) = (longer p l, subst (λ xs. IsNamed xs number key) (first_same p l) h)
   learnt_on P task (answered f ts w c p) (l, a, h) = (longer p l, subst (λ xs. w ≤ world_of xs) (first_same p l) a, subst (λ xs. Selects P xs f ts w c) (first_same p l) h)
   learnt_on P task (chosen number w site p) (l, h) = (longer p l, subst (λ xs. IsChosen P xs number w site) (first_same p l) h)

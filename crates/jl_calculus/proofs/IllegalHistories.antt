@@ -24,11 +24,14 @@ use Rattle.jl_calculus.specs.declared.history.Record.{Record}
 use Rattle.jl_calculus.specs.Legal.{MayCome, HasTrueTrace, HasOwnEvents, HasRun, AreFinished}
 use Rattle.jl_calculus.specs.Past.{tasks_of, IsTrueOf}
 use Rattle.jl_calculus.specs.Ranges.{keys_of, rows_of, MayBegin, SelectsSite}
-use Rattle.jl_calculus.specs.World.{world_of, methods_in}
+use Rattle.jl_calculus.specs.World.{world_of, methods_made}
 use Rattle.jl_calculus.proofs.FirstScript as First
+use Rattle.jl_calculus.proofs.SelectLemmas.{plain_selects}
 use Rattle.jl_calculus.proofs.KeyHistories.{key_f, key_add, row_f, ended, begun, made, keyed, filled, keyed_twice, before, H, right_f}
 use Rattle.jl_calculus.proofs.RowLemmas.{one_site}
 use Rattle.jl_calculus.proofs.TaskHistories.{Make, start, int, make_history}
+use Rattle.jl_program.specs.declared.choice.Choice.TheVariants as C
+use Rattle.jl_model.specs.Choice.{Method}
 
 -- ---- the beginning
 
@@ -107,10 +110,10 @@ no_fill_of_other (inr (low, t)) = absurd (omega (arith, t.0))
 
 -- in the world before its definition `f` has no method
 no_fill_too_early : (site : ℕ) → SelectsSite P keyed key_f 14 site → ⊥
-no_fill_too_early site (d, (m, b, e), s) = nowhere b.candidate.applies.stands
+no_fill_too_early site (d, h, s) = let (m, b, e) = plain_selects P refl keyed 12 key_f.types 14 (C.Method d) h in nowhere m b.candidate.applies.stands
   where
-    nowhere : Contains (methods_in P keyed 12 14) m → ⊥
-    nowhere (k, l, q) = absurd (omega (arith, l))
+    nowhere : (m : Method) → Contains (methods_made P keyed 12 14) m → ⊥
+    nowhere m (k, l, q) = absurd (omega (arith, l))
 
 -- the site is another one
 no_fill_of_other_site : SelectsSite P keyed key_f 15 13 → ⊥
@@ -139,10 +142,10 @@ no_end_twice h = true≢false (ap has h.going)
 -- ---- sites and places that are not there
 
 no_prelude_site : MayCome P begun (Ev.Def 0 13) → ⊥
-no_prelude_site h = absurd (omega (arith, h.past_prelude))
+no_prelude_site h = absurd (omega (arith, h.may.0))
 
 no_other_site : MayCome P begun (Ev.Def 0 15) → ⊥
-no_other_site h = absurd (omega (arith, h.of_program))
+no_other_site h = absurd (omega (arith, h.may.1))
 
 no_place : MayCome P made (Ev.Spawn 0 1 (start 15)) → ⊥
 no_place h = absurd (omega (arith, h.of_program))
@@ -174,7 +177,7 @@ abbrev with_trace : List TraceItem → Record
 with_trace trace = record { trace = trace; outcome = O.Value V.Nothing; output = codes "3\n"; calls = 2 }
 
 -- the world is not there yet
-no_early_look : HasTrueTrace before 0 (with_trace (Look 15 1 ∷ Def 14 1 ∷ Look 15 2 ∷ [])) → ⊥
+no_early_look : HasTrueTrace P before 0 (with_trace (Look 15 1 ∷ Def 14 1 ∷ Look 15 2 ∷ [])) → ⊥
 no_early_look h = absurd (omega (arith, h.true_items.0.1))
 
 -- the event is another one
@@ -185,13 +188,14 @@ is_def (Some (Ev.Key key)) = false
 is_def (Some (Ev.Fill key site first)) = false
 is_def (Some (Ev.Spawn task child start)) = false
 is_def (Some (Ev.Done task r)) = false
+is_def (Some (Ev.Del task place)) = false
 is_def None = false
 
-no_def_there : HasTrueTrace before 0 (with_trace (Look 14 1 ∷ Def 14 2 ∷ Look 15 3 ∷ [])) → ⊥
+no_def_there : HasTrueTrace P before 0 (with_trace (Look 14 1 ∷ Def 14 2 ∷ Look 15 3 ∷ [])) → ⊥
 no_def_there h = true≢false (sym (ap is_def h.true_items.1.0))
 
 -- the task that was fetched has not ended
-no_early_fetch : IsTrueOf make_history 0 (Fetch 1 (int 0) 4) → ⊥
+no_early_fetch : IsTrueOf Make make_history 0 (Fetch 1 (int 0) 4) → ⊥
 no_early_fetch h = h.1
 
 -- it ended with another outcome
@@ -199,26 +203,26 @@ abbrev number_of : Outcome → ℕ
 number_of (O.Value (V.Int (pos n))) = n
 number_of _ = 9
 
-no_other_outcome : IsTrueOf make_history 0 (Fetch 1 (int 5) 5) → ⊥
+no_other_outcome : IsTrueOf Make make_history 0 (Fetch 1 (int 5) 5) → ⊥
 no_other_outcome h = absurd (omega (arith, ap number_of h.1))
 
 -- worlds and tasks are not at their limits
-no_full_world : IsTrueOf make_history 0 (WorldFull 5) → ⊥
+no_full_world : IsTrueOf Make make_history 0 (WorldFull 5) → ⊥
 no_full_world h = absurd (omega (arith, h.1))
 
-no_full_tasks : IsTrueOf make_history 0 (TaskFull 5) → ⊥
+no_full_tasks : IsTrueOf Make make_history 0 (TaskFull 5) → ⊥
 no_full_tasks h = absurd (omega (arith, h.1))
 
 -- an item has seen less than the one before it
-no_way_back : HasTrueTrace before 0 (with_trace (Look 14 1 ∷ Def 14 1 ∷ Look 14 1 ∷ [])) → ⊥
+no_way_back : HasTrueTrace P before 0 (with_trace (Look 14 1 ∷ Def 14 1 ∷ Look 14 1 ∷ [])) → ⊥
 no_way_back h = absurd (omega (arith, h.in_order.1.1.0))
 
 -- a spawned task has seen its Spawn
-no_look_before_spawn : HasTrueTrace (made ++ Ev.Spawn 0 1 (start 15) ∷ []) 1 (with_trace (Look 15 2 ∷ [])) → ⊥
+no_look_before_spawn : HasTrueTrace P (made ++ Ev.Spawn 0 1 (start 15) ∷ []) 1 (with_trace (Look 15 2 ∷ [])) → ⊥
 no_look_before_spawn h = absurd (omega (arith, h.in_order.0))
 
 -- nothing is seen past the end
-no_look_past_end : HasTrueTrace before 0 (with_trace (Look 14 1 ∷ Def 14 1 ∷ Look 15 7 ∷ [])) → ⊥
+no_look_past_end : HasTrueTrace P before 0 (with_trace (Look 14 1 ∷ Def 14 1 ∷ Look 15 7 ∷ [])) → ⊥
 no_look_past_end h = absurd (omega (arith, h.in_order.1.1.1))
 
 -- ---- a task's own events

@@ -43,6 +43,7 @@ use Rattle.jl_calculus.specs.Past.{done_of, tasks_of}
 use Rattle.jl_calculus.specs.Ranges.{CacheRow, keys_of, rows_of, Touches, IsCovered, IsRightFill}
 use Rattle.jl_calculus.specs.Run.{Setting, setting_of, State, Then, Caller, IsEnd, Run, calls, runs, runs_item, prints, with_scope, first_state, open_calls}
 use Rattle.jl_calculus.proofs.Forms.{int_runs, local_runs, call_runs, print_runs, show_runs, define_runs, do_runs}
+use Rattle.jl_calculus.proofs.SelectLemmas.{selects_plain}
 
 -- ---- the type of integers may stand in a key
 
@@ -150,11 +151,11 @@ touches_f = (refl, any_applies (types_of P))
 pub right_f : IsRightFill P keyed key_f 14 15
 right_f = record {
   begun = inr (omega arith, touches_f);
-  choice = (15, only_choice (types_of P) (record { number = 15; sig = f_site.sig }) (int64 ∷ []) (any_applies (types_of P)), refl);
+  choice = (15, selects_plain P refl keyed 12 (int64 ∷ []) 15 (C.Method 15) (only_choice (types_of P) (record { number = 15; sig = f_site.sig }) (int64 ∷ []) (any_applies (types_of P))), refl);
 }
 
 pub right_add : IsRightFill P keyed_twice key_add 0 14
-right_add = record { begun = inl refl; choice = (1, only_choice (types_of P) (record { number = 1; sig = plain two }) two (two_apply (types_of P)), refl) }
+right_add = record { begun = inl refl; choice = (1, selects_plain P refl keyed_twice 0 two 14 (C.Method 1) (only_choice (types_of P) (record { number = 1; sig = plain two }) two (two_apply (types_of P))), refl) }
 
 fill_f : MayCome P keyed (Ev.Fill 0 14 15)
 fill_f = record { key = key_f; named = refl; right = right_f; new = none; room = omega arith }
@@ -178,7 +179,7 @@ stands = record {
   come = (
     record { nothing_before = refl; allowed = omega arith },
     (
-      record { running = running begun refl (omega arith) refl; past_prelude = omega arith; of_program = omega arith; room = omega arith },
+      record { running = running begun refl (omega arith) refl; may = (omega arith, omega arith); room = omega arith },
       (new_f, (fill_f, (new_add, (fill_add, (running before refl (omega arith) refl, tt))))),
     ),
   );
@@ -221,7 +222,7 @@ module _ (room : Option Places) where
 
   module _ (Ends : Outcome → State → Type 0) where
     add : (free : ℕ) (env : List Value) (next : Then) → next (V.Int (pos 3)) (at_calls env [] 2) → calls g Ends (suc free) 0 (V.Int (pos 2) ∷ V.Int (pos 1) ∷ []) 15 (at_calls env [] 1) next
-    add free env next h = (C.Method 1, only_choice (types_of P) (record { number = 1; sig = plain two }) two (two_apply (types_of P)), keeps_add room, h)
+    add free env next h = (C.Method 1, selects_plain P refl before 0 two 15 (C.Method 1) (only_choice (types_of P) (record { number = 1; sig = plain two }) two (two_apply (types_of P))), keeps_add room, h)
 
     f_of_two : (free : ℕ) (next : Then) → next (V.Int (pos 3)) (at_calls [] [] 2) → calls g Ends (suc (suc free)) 12 (V.Int (pos 2) ∷ []) 15 (at_calls [] [] 0) next
     f_of_two free next h =
@@ -231,7 +232,7 @@ module _ (room : Option Places) where
         let last = add free (V.Int (pos 2) ∷ []) inner h in
         let second = int_runs g Ends called (pos 1) 15 s inner (λ v s1. called 0 (V.Int (pos 2) ∷ v ∷ []) 15 s1 inner) last in
         let first = local_runs g Ends called 0 15 s inner (λ v s1. runs g Ends called (E.Int (pos 1)) 15 s1 inner (λ u s2. called 0 (v ∷ u ∷ []) 15 s2 inner)) second in
-        (C.Method 15, only_choice (types_of P) (record { number = 15; sig = f_site.sig }) (int64 ∷ []) (any_applies (types_of P)), keeps_f room, call_runs g Ends called 0 (E.Local 0 ∷ E.Int (pos 1) ∷ []) 15 s inner inner first)
+        (C.Method 15, selects_plain P refl before 12 (int64 ∷ []) 15 (C.Method 15) (only_choice (types_of P) (record { number = 15; sig = f_site.sig }) (int64 ∷ []) (any_applies (types_of P))), keeps_f room, call_runs g Ends called 0 (E.Local 0 ∷ E.Int (pos 1) ∷ []) 15 s inner inner first)
 
   three_is : value_text P (V.Int (pos 3)) ≡ codes "3"
   unfolding digits
@@ -269,7 +270,7 @@ module _ (room : Option Places) where
 
 -- ---- the whole history
 
-true_trace : HasTrueTrace before 0 ended
+true_trace : HasTrueTrace P before 0 ended
 true_trace = record { true_items = ((omega arith, refl), (refl, ((omega arith, refl), tt))); in_order = (omega arith, (omega arith, (omega arith, omega arith))) }
 
 legal : IsLegal P H

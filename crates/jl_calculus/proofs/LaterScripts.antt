@@ -35,6 +35,7 @@ use Rattle.jl_calculus.specs.World.{site_of, Selects}
 use Rattle.jl_calculus.proofs.Forms.{form_is, stmt_form_is, item_form_is, int_runs, call_runs, print_runs, show_runs, define_runs, do_runs}
 use Rattle.jl_calculus.proofs.TaskRuns.{empty_below}
 use Rattle.jl_calculus.proofs.WorldScripts.{made, bare, empty_applies}
+use Rattle.jl_calculus.proofs.SelectLemmas.{selects_plain}
 
 -- ---- `tryeval()`, and then `println(newfun())`
 
@@ -53,6 +54,7 @@ script = record {
   functions = prelude_functions ++ codes "tryeval" ∷ codes "newfun" ∷ [];
   sites = prelude_sites ++ record { function = 12; sig = plain []; body = body } ∷ record { function = 13; sig = plain []; body = E.Int (pos 1) } ∷ [];
   spawns = [];
+  deletes = [];
   top = I.Define 14 ∷ I.Do (X.Call 12 []) ∷ I.Do shown ∷ [];
 }
 
@@ -63,10 +65,10 @@ abbrev trace : List TraceItem
 trace = Look 14 1 ∷ Def 14 1 ∷ Look 15 2 ∷ Look 15 2 ∷ Def 15 2 ∷ Look 16 3 ∷ []
 
 tryeval_is : Selects script events 12 [] 15 (C.Method 15)
-tryeval_is = only_choice (types_of script) (record { number = 15; sig = plain [] }) [] (empty_applies (types_of script))
+tryeval_is = selects_plain script refl events 12 [] 15 (C.Method 15) (only_choice (types_of script) (record { number = 15; sig = plain [] }) [] (empty_applies (types_of script)))
 
 newfun_is : Selects script events 13 [] 16 (C.Method 16)
-newfun_is = only_choice (types_of script) (record { number = 16; sig = plain [] }) [] (empty_applies (types_of script))
+newfun_is = selects_plain script refl events 13 [] 16 (C.Method 16) (only_choice (types_of script) (record { number = 16; sig = plain [] }) [] (empty_applies (types_of script)))
 
 one_is : value_text script (V.Int (pos 1)) ≡ codes "1"
 unfolding digits
@@ -121,6 +123,7 @@ racing = record {
   functions = prelude_functions ++ codes "f" ∷ codes "one" ∷ codes "two" ∷ [];
   sites = prelude_sites ++ nullary 12 (E.Int (pos 0)) ∷ nullary 13 (evaluates 16) ∷ nullary 12 (E.Int (pos 1)) ∷ nullary 14 (evaluates 18) ∷ nullary 12 (E.Int (pos 2)) ∷ [];
   spawns = X.Call 13 [] ∷ X.Call 14 [] ∷ [];
+  deletes = [];
   top = I.Define 14 ∷ I.Define 15 ∷ I.Define 17 ∷ I.Bind 0 (E.Spawn 0) ∷ I.Bind 1 (E.Spawn 1) ∷ I.Do (X.Fetch (E.Local 0)) ∷ I.Do (X.Fetch (E.Local 1)) ∷ I.Do (X.Call 12 []) ∷ [];
 }
 
@@ -171,10 +174,10 @@ module _ (n : Table) where
 
 -- in world 19 the later definition is chosen
 later_wins : Selects racing one_first 12 [] 19 (C.Method 19)
-later_wins = last_chosen (types_of racing)
+later_wins = selects_plain racing refl one_first 12 [] 19 (C.Method 19) (last_chosen (types_of racing))
 
 later_wins_too : Selects racing two_first 12 [] 19 (C.Method 19)
-later_wins_too = last_chosen (types_of racing)
+later_wins_too = selects_plain racing refl two_first 12 [] 19 (C.Method 19) (last_chosen (types_of racing))
 
 -- it is that of `two` in one history, and that of `one` in the other
 two_is_later : site_of one_first 19 ≡ 18

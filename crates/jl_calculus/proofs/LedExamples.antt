@@ -17,7 +17,7 @@ use Rattle.jl_calculus.specs.declared.history.Outcome.TheVariants as O
 use Rattle.jl_calculus.specs.declared.history.TraceItem.{TraceItem}
 use Rattle.jl_calculus.specs.declared.history.TraceItem.TheVariants.{Look, Def, Spawn}
 use Rattle.jl_calculus.specs.Led.{IsLedTo}
-use Rattle.jl_calculus.specs.Run.{Question, a_look, a_definition, a_spawn, a_fetch, Setting, State, Then, Caller, IsEnd, Comes, calls, runs_item, spawns, binds, first_state, open_calls}
+use Rattle.jl_calculus.specs.Run.{Question, a_look, a_definition, a_deletion, a_spawn, a_fetch, Setting, State, Then, Caller, IsEnd, Comes, calls, runs_item, spawns, binds, first_state, open_calls}
 use Rattle.jl_calculus.proofs.Forms.{form_is, item_form_is}
 use Rattle.jl_calculus.proofs.StopExamples.{looked, comes_to_f, to_no_other, not_at_once}
 use Rattle.jl_calculus.proofs.TaskScripts.{failing, start}
@@ -89,18 +89,21 @@ spawn_trace child = Look 14 1 ∷ Spawn child 1 ∷ []
 abbrev is_spawn : Question → Bool
 is_spawn a_look = false
 is_spawn (a_definition site) = false
+is_spawn (a_deletion place) = false
 is_spawn (a_spawn from) = true
 is_spawn (a_fetch task) = false
 
 abbrev place_asked : Question → ℕ
 place_asked a_look = 0
 place_asked (a_definition site) = 0
+place_asked (a_deletion place) = 0
 place_asked (a_spawn from) = from.spawn
 place_asked (a_fetch task) = 0
 
 abbrev world_asked : Question → ℕ
 world_asked a_look = 0
 world_asked (a_definition site) = 0
+world_asked (a_deletion place) = 0
 world_asked (a_spawn from) = from.world
 world_asked (a_fetch task) = 0
 
@@ -118,7 +121,7 @@ no_other_world h = absurd (omega (arith, ap world_asked (asked begun (a_spawn (s
 -- ---- a run that has ended comes to nothing
 
 abbrev empty : Program
-empty = record { decls = []; functions = prelude_functions; sites = prelude_sites; spawns = []; top = [] }
+empty = record { decls = []; functions = prelude_functions; sites = prelude_sites; spawns = []; deletes = []; top = [] }
 
 abbrev is_value : Outcome → Bool
 is_value (O.Value v) = true

@@ -1,5 +1,6 @@
 pub mod ChoiceLaws
 pub mod ApplyLemmas
+pub mod SelectLemmas
 pub mod MethodLemmas
 pub mod ValueLemmas
 pub mod SameLemmas
@@ -27,10 +28,14 @@ pub mod SomeWords
 pub mod SomeSteps
 pub mod ViewLemmas
 pub mod Induction
+pub mod DeletedLemmas
 pub mod BetweenLemmas
+pub mod KeyLemmas
+pub mod StandingLemmas
 pub mod RunMoves
 pub mod RunGrowth
 pub mod TaskRuns
+pub mod DeletedHistories
 pub mod SomeLearnt
 pub mod SureLemmas
 pub mod SomeChoice

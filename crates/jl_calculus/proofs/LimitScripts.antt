@@ -27,6 +27,7 @@ use Rattle.jl_calculus.specs.Run.{Setting, setting_of, State, Then, IsEnd, Calle
 use Rattle.jl_calculus.specs.World.{Selects}
 use Rattle.jl_calculus.proofs.Forms.{form_is, item_form_is, int_runs, local_runs, call_runs, define_runs, do_runs}
 use Rattle.jl_calculus.proofs.WorldScripts.{made, bare}
+use Rattle.jl_calculus.proofs.SelectLemmas.{selects_plain}
 
 -- ---- `f(x) = f(x)`, and then `f(1)`
 
@@ -34,13 +35,13 @@ abbrev endless : Site
 endless = record { function = 12; sig = plain (T.Any ∷ []); body = X.Call 12 (E.Local 0 ∷ []) }
 
 abbrev deep : Program
-deep = record { decls = []; functions = prelude_functions ++ codes "f" ∷ []; sites = prelude_sites ++ endless ∷ []; spawns = []; top = I.Define 14 ∷ I.Do (X.Call 12 (E.Int (pos 1) ∷ [])) ∷ [] }
+deep = record { decls = []; functions = prelude_functions ++ codes "f" ∷ []; sites = prelude_sites ++ endless ∷ []; spawns = []; deletes = []; top = I.Define 14 ∷ I.Do (X.Call 12 (E.Int (pos 1) ∷ [])) ∷ [] }
 
 abbrev defined_f : List Event
 defined_f = Ev.Begin 10000000 ∷ Ev.Def 0 14 ∷ []
 
 f_selected : Selects deep defined_f 12 (int64 ∷ []) 15 (C.Method 15)
-f_selected = only_choice (types_of deep) (record { number = 15; sig = endless.sig }) (int64 ∷ []) (any_applies (types_of deep))
+f_selected = selects_plain deep refl defined_f 12 (int64 ∷ []) 15 (C.Method 15) (only_choice (types_of deep) (record { number = 15; sig = endless.sig }) (int64 ∷ []) (any_applies (types_of deep)))
 
 abbrev one : List Value
 one = V.Int (pos 1) ∷ []
@@ -99,7 +100,7 @@ stack_text = refl
 -- ---- `t = Threads.@spawn 0`, where there is no room for a task
 
 abbrev spawning : Program
-spawning = record { decls = []; functions = prelude_functions; sites = prelude_sites; spawns = E.Int (pos 0) ∷ []; top = I.Bind 0 (E.Spawn 0) ∷ [] }
+spawning = record { decls = []; functions = prelude_functions; sites = prelude_sites; spawns = E.Int (pos 0) ∷ []; deletes = []; top = I.Bind 0 (E.Spawn 0) ∷ [] }
 
 abbrev no_task : Outcome
 no_task = O.Error Fa.TaskLimit
@@ -117,7 +118,7 @@ task_limit es w p q =
 -- ---- a definition where the last world stands
 
 abbrev defining : Program
-defining = record { decls = []; functions = prelude_functions ++ codes "f" ∷ []; sites = prelude_sites ++ endless ∷ []; spawns = []; top = I.Define 14 ∷ [] }
+defining = record { decls = []; functions = prelude_functions ++ codes "f" ∷ []; sites = prelude_sites ++ endless ∷ []; spawns = []; deletes = []; top = I.Define 14 ∷ [] }
 
 abbrev no_world : Outcome
 no_world = O.Error Fa.WorldLimit

@@ -1,22 +1,24 @@
 -- The definitions of a function, numbered from one on, make the methods that the rule chooses among, and those that apply make the
 -- methods that apply.
-use Rattle.std.proofs.Common.{◌≡◌, ◌∙◌, sym, ap, subst, refl, ℕ, zero, suc, ◌+◌, arith, Bool, true, false, cond, nat_eq, List, [], ◌∷◌, take, slice_get, Option, None, Some}
+use Rattle.std.proofs.Common.{◌≡◌, ◌∙◌, sym, ap, subst, refl, ℕ, zero, suc, ◌+◌, ◌<◌, ◌≤◌, arith, Bool, true, false, cond, nat_eq, List, [], ◌∷◌, take, slice_get, Option, None, Some}
 use Rattle.std.specs.Prelude.{◌↔◌}
 use Rattle.std.specs.List.{Contains}
 use Rattle.jl_model.specs.declared.ty.Ty.{Ty}
-use Rattle.jl_model.specs.Choice.{Method, Applies}
+use Rattle.jl_model.specs.Choice.{Method}
 use Rattle.jl_model.specs.Signature.{Applicable}
 use Rattle.jl_program.specs.declared.choice.Choice.{Choice}
+use Rattle.jl_calculus.specs.declared.history.Change.{Change}
+use Rattle.jl_calculus.specs.declared.history.Change.TheVariants as Ch
 use Rattle.jl_calculus.specs.declared.history.Def.{Def}
 use Rattle.jl_calculus.specs.declared.history.Event.{Event}
 use Rattle.jl_program.specs.declared.tree.Site.{Site}
 use Rattle.jl_program.specs.declared.tree.Program.{Program}
 use Rattle.jl_program.specs.Scope.{types_of}
 use Rattle.jl_program.specs.Chooses.{Chooses}
-use Rattle.jl_calculus.specs.World.{definitions, method_at, methods_from, Selects}
-use Rattle.jl_calculus.specs.Definitions.{method_of, methods_of, AppliesTo, def_at, defs_from, defs_in}
-use Rattle.jl_calculus.specs.ChoiceLaws.{AreApplicable, AreThoseThatApply}
-use Rattle.jl_calculus.proofs.ApplyLemmas.{applicable_choose}
+use Rattle.jl_calculus.specs.World.{changes, change_at, method_at, methods_from, methods_made, Deletes, Stands, AreMethodsFor, Selects}
+use Rattle.jl_calculus.specs.Definitions.{method_of, methods_of, AppliesTo, def_at, defs_from, defs_in, IsStanding}
+use Rattle.jl_calculus.specs.ChoiceLaws.{AreThoseThatApply}
+use Rattle.jl_calculus.proofs.SelectLemmas.{selects_among}
 
 module _ (P : Program) (f : ℕ) where
   one_more : (o : Option Site) (world site : ℕ) (ds : List Def) (ms : List Method) → slice_get P.sites site ≡ o → methods_of P ds ≡ ms
@@ -29,16 +31,11 @@ module _ (P : Program) (f : ℕ) where
       cases false = h
 
   -- the methods of these definitions are those of the rule
-  pub methods_of_defs : (world : ℕ) (sites : List ℕ) → methods_of P (defs_from P f world sites) ≡ methods_from P f world sites
+  pub methods_of_defs : (world : ℕ) (cs : List Change) → methods_of P (defs_from P f world cs) ≡ methods_from P f world cs
   methods_of_defs world [] = refl
-  methods_of_defs world (site ∷ sites) =
-      one_more (slice_get P.sites site) world site (defs_from P f (world + 1) sites) (methods_from P f (world + 1) sites) refl (methods_of_defs (world + 1) sites)
-
-  -- what is chosen among the definitions of a world is selected in it
-  pub selects_from_chooses : (es : List Event) (w : ℕ) (ts : List Ty) (c : Choice) (ds : List Def) → ds ≡ defs_in P es f w
-      → Chooses (types_of P) (methods_of P ds) ts c → Selects P es f ts w c
-  selects_from_chooses es w ts c ds e h =
-      subst (λ ms. Chooses (types_of P) ms ts c) (ap (methods_of P) e ∙ methods_of_defs 1 (take w (definitions es))) h
+  methods_of_defs world (Ch.Def site ∷ cs) =
+      one_more (slice_get P.sites site) world site (defs_from P f (world + 1) cs) (methods_from P f (world + 1) cs) refl (methods_of_defs (world + 1) cs)
+  methods_of_defs world (Ch.Del place ∷ cs) = methods_of_defs (world + 1) cs
 
 -- ---- those that apply
 
@@ -55,24 +52,38 @@ module _ (P : Program) where
       let (d, i, q) = def_contained ds m (k, omega arith, e) in
       (d, (suc i.0, omega (arith, i.1), i.2), q)
 
-  -- the methods of the definitions that apply are the methods that apply
-  pub methods_that_apply : (all some : List Def) (ts : List Ty) → ((d : Def) → Contains some d ↔ (Contains all d × AppliesTo P ts d)) → AreApplicable (types_of P) (methods_of P all) ts (methods_of P some)
-  methods_that_apply all some ts h m = (to, from)
-    where
-      to : Contains (methods_of P some) m → Applies (types_of P) (methods_of P all) ts m
-      to i =
-          let (d, j, q) = def_contained some m i in
-          let k = (h d).0 j in
-          subst (Applies (types_of P) (methods_of P all) ts) q (record { stands = method_contained all d k.0; below = k.1 })
+  -- a method stands exactly where it is that of a definition that stands
+  module _ (es : List Event) (f w : ℕ) where
+    same_made : methods_of P (defs_in P es f w) ≡ methods_made P es f w
+    same_made = methods_of_defs P f 1 (take w (changes es))
 
-      from : Applies (types_of P) (methods_of P all) ts m → Contains (methods_of P some) m
-      from a =
-          let (d, j, q) = def_contained all m a.stands in
-          let b : AppliesTo P ts d = subst (λ (z : Method). Applicable (types_of P) z.sig ts) (sym q) a.below in
-          subst (Contains (methods_of P some)) q (method_contained some d ((h d).1 (j, b)))
+    -- a definition that was made makes its method
+    pub made_method : (d : Def) → Contains (defs_in P es f w) d → Contains (methods_made P es f w) (method_of P d)
+    made_method d i = subst (λ (ms : List Method). Contains ms (method_of P d)) same_made (method_contained (defs_in P es f w) d i)
+
+    pub standing_method : (d : Def) → IsStanding P es f w d → Stands P es f w (method_of P d)
+    standing_method d h = record { made = made_method d h.made; kept = h.kept }
+
+    pub method_standing : (m : Method) → Stands P es f w m → (d : Def) × IsStanding P es f w d × (method_of P d ≡ m)
+    method_standing m h =
+        let (d, i, q) = def_contained (defs_in P es f w) m (subst (λ (ms : List Method). Contains ms m) (sym same_made) h.made) in
+        (d, record { made = i; kept = λ e low high k. (subst (λ (z : Method). (e : ℕ) → z.number < e → e ≤ w → Deletes P (change_at es e) f z.sig → ⊥) (sym q) h.kept) e low high k }, q)
+
+  -- the methods of the definitions that apply are those that stand and apply
+  pub methods_for : (es : List Event) (f : ℕ) (ts : List Ty) (w : ℕ) (ds : List Def) → AreThoseThatApply P es f ts w ds → AreMethodsFor P es f ts w (methods_of P ds)
+  methods_for es f ts w ds h m a = (to, from)
+    where
+      to : Contains (methods_of P ds) m → Stands P es f w m
+      to i =
+          let (d, j, q) = def_contained ds m i in
+          subst (Stands P es f w) q (standing_method es f w d ((h d).0 j).0)
+
+      from : Stands P es f w m → Contains (methods_of P ds) m
+      from s =
+          let (d, j, q) = method_standing es f w m s in
+          let b : AppliesTo P ts d = subst (λ (z : Method). Applicable (types_of P) z.sig ts) (sym q) a in
+          subst (Contains (methods_of P ds)) q (method_contained ds d ((h d).1 (j, b)))
 
   pub those_select : (es : List Event) (f : ℕ) (ts : List Ty) (w : ℕ) (ds : List Def) → AreThoseThatApply P es f ts w ds
       → (c : Choice) → Chooses (types_of P) (methods_of P ds) ts c ↔ Selects P es f ts w c
-  those_select es f ts w ds h c =
-      subst (λ ms. Chooses (types_of P) (methods_of P ds) ts c ↔ Chooses (types_of P) ms ts c) (methods_of_defs P f 1 (take w (definitions es)))
-      (applicable_choose (types_of P) (methods_of P (defs_in P es f w)) (methods_of P ds) ts (methods_that_apply (defs_in P es f w) ds ts h) c)
+  those_select es f ts w ds h c = ((λ k. (methods_of P ds, methods_for es f ts w ds h, k)), selects_among P es f ts w (methods_of P ds) (methods_for es f ts w ds h) c)

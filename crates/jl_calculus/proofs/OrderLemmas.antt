@@ -72,6 +72,7 @@ children_append x (Ev.Begin fuel ∷ es) more = children_append x es more
 children_append x (Ev.Key key ∷ es) more = children_append x es more
 children_append x (Ev.Fill key site first ∷ es) more = children_append x es more
 children_append x (Ev.Def by site ∷ es) more = children_append x es more
+children_append x (Ev.Del by at_place ∷ es) more = children_append x es more
 children_append x (Ev.Done by ended ∷ es) more = children_append x es more
 
 tasks_append : (es more : List Event) → tasks_of (es ++ more) + 1 ≡ tasks_of es + tasks_of more
@@ -81,6 +82,7 @@ tasks_append (Ev.Begin fuel ∷ es) more = tasks_append es more
 tasks_append (Ev.Key key ∷ es) more = tasks_append es more
 tasks_append (Ev.Fill key site first ∷ es) more = tasks_append es more
 tasks_append (Ev.Def by site ∷ es) more = tasks_append es more
+tasks_append (Ev.Del by at_place ∷ es) more = tasks_append es more
 tasks_append (Ev.Done by ended ∷ es) more = tasks_append es more
 
 -- ---- lists put together
@@ -298,6 +300,7 @@ module _ (P : Program) where
   one_more past (Ev.Fill key site first) h m =
       still_good past (Ev.Fill key site first) (λ x. children_append x past _ ∙ append-nil _) (omega (arith, tasks_append past (Ev.Fill key site first ∷ []))) h
   one_more past (Ev.Def task site) h m = still_good past (Ev.Def task site) (λ x. children_append x past _ ∙ append-nil _) (omega (arith, tasks_append past (Ev.Def task site ∷ []))) h
+  one_more past (Ev.Del task at_place) h m = still_good past (Ev.Del task at_place) (λ x. children_append x past _ ∙ append-nil _) (omega (arith, tasks_append past (Ev.Del task at_place ∷ []))) h
   one_more past (Ev.Done task ended) h m = still_good past (Ev.Done task ended) (λ x. children_append x past _ ∙ append-nil _) (omega (arith, tasks_append past (Ev.Done task ended ∷ []))) h
   one_more past (Ev.Spawn task child start) h m = subst (λ n. Good (past ++ Ev.Spawn task n start ∷ [])) (sym m.next) (spawned_good past task start h m.running.started)
 

@@ -21,7 +21,7 @@ use Rattle.jl_calculus.specs.Past.{tasks_of, own_events, own_starts, IsTrueOf}
 use Rattle.jl_calculus.specs.Legal.{first_place, start_of, text_of, status_of}
 use Rattle.jl_calculus.specs.Orders.{path_order, wait_order}
 use Rattle.jl_program.specs.Scope.{types_of}
-use Rattle.jl_calculus.specs.World.{world_of, site_of, methods_in}
+use Rattle.jl_calculus.specs.World.{world_of, site_of, methods_made}
 use Rattle.jl_program.proofs.FirstChoices.{applies_by}
 use Rattle.jl_calculus.specs.Ranges.{CacheRow, Covers, IsCovered, EndsWith, keys_of, rows_of, Touches}
 
@@ -76,11 +76,11 @@ own_of_first = refl
 starts_of_root : own_starts 0 tasks ≡ start 0 ∷ start 1 ∷ []
 starts_of_root = refl
 
-fetched : IsTrueOf tasks 0 (Fetch 2 (O.Error F.DivideError) 6)
-fetched = (omega arith, refl)
+fetched : (Q : Program) → IsTrueOf Q tasks 0 (Fetch 2 (O.Error F.DivideError) 6)
+fetched Q = (omega arith, refl)
 
-not_fetched_yet : IsTrueOf tasks 0 (Fetch 2 (O.Error F.DivideError) 5) → ⊥
-not_fetched_yet h = h.1
+not_fetched_yet : (Q : Program) → IsTrueOf Q tasks 0 (Fetch 2 (O.Error F.DivideError) 5) → ⊥
+not_fetched_yet Q h = h.1
 
 -- ---- keys and fills: `f() = 1`, `late() = f()`, `f() = 2`
 
@@ -88,7 +88,7 @@ abbrev zero_of : ℕ → Site
 zero_of f = record { function = f; sig = plain []; body = E.Int (pos 1) }
 
 abbrev P : Program
-P = record { decls = []; functions = prelude_functions ++ codes "f" ∷ codes "late" ∷ []; sites = prelude_sites ++ zero_of 12 ∷ zero_of 13 ∷ zero_of 12 ∷ []; spawns = []; top = [] }
+P = record { decls = []; functions = prelude_functions ++ codes "f" ∷ codes "late" ∷ []; sites = prelude_sites ++ zero_of 12 ∷ zero_of 13 ∷ zero_of 12 ∷ []; spawns = []; deletes = []; top = [] }
 
 text_of_tasks : text_of P tasks ≡ codes "0132ERROR: TaskFailedException: task 2\n"
 unfolding digits
@@ -115,13 +115,13 @@ first_of_script = refl
 last_of_script : site_of filled 17 ≡ 16
 last_of_script = refl
 
-methods_of_f : methods_in P filled 12 17 ≡ record { number = 15; sig = plain [] } ∷ record { number = 17; sig = plain [] } ∷ []
+methods_of_f : methods_made P filled 12 17 ≡ record { number = 15; sig = plain [] } ∷ record { number = 17; sig = plain [] } ∷ []
 methods_of_f = refl
 
-methods_of_f_before : methods_in P filled 12 16 ≡ record { number = 15; sig = plain [] } ∷ []
+methods_of_f_before : methods_made P filled 12 16 ≡ record { number = 15; sig = plain [] } ∷ []
 methods_of_f_before = refl
 
-methods_of_minus : methods_in P filled 1 14 ≡ record { number = 2; sig = plain (int64 ∷ int64 ∷ []) } ∷ record { number = 6; sig = plain (int64 ∷ []) } ∷ []
+methods_of_minus : methods_made P filled 1 14 ≡ record { number = 2; sig = plain (int64 ∷ int64 ∷ []) } ∷ record { number = 6; sig = plain (int64 ∷ []) } ∷ []
 methods_of_minus = refl
 
 one_key : keys_of filled ≡ key ∷ []

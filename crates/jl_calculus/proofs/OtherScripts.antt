@@ -34,6 +34,7 @@ use Rattle.jl_program.specs.Scope.{types_of}
 use Rattle.jl_calculus.specs.World.{Selects}
 use Rattle.jl_calculus.specs.Run.{Setting, setting_of, State, Then, IsEnd, Caller, Run, calls, runs, runs_item, runs_piece, texts_run, prints, with_scope, first_state, open_calls}
 use Rattle.jl_calculus.proofs.Forms.{int_runs, local_runs, call_runs, print_runs, show_runs, text_runs, define_runs, do_runs}
+use Rattle.jl_calculus.proofs.SelectLemmas.{selects_plain}
 use Rattle.jl_program.proofs.FirstChoices.{only_choice, any_applies, two_apply}
 
 int64-text : (P : Program) → P.decls ≡ [] → type_text P int64 ≡ codes "Int64"
@@ -55,7 +56,7 @@ abbrev f_of_one : Expr
 f_of_one = X.Call 12 (E.Int (pos 1) ∷ [])
 
 abbrev early : Program
-early = record { decls = []; functions = prelude_functions ++ codes "f" ∷ []; sites = prelude_sites ++ identity ∷ []; spawns = []; top = I.Do f_of_one ∷ I.Define 14 ∷ [] }
+early = record { decls = []; functions = prelude_functions ++ codes "f" ∷ []; sites = prelude_sites ++ identity ∷ []; spawns = []; deletes = []; top = I.Do f_of_one ∷ I.Define 14 ∷ [] }
 
 abbrev no_method : Outcome
 no_method = O.Error (F.NoMethod 12 (int64 ∷ []) 14)
@@ -77,7 +78,7 @@ early_status : status_of early_history ≡ 1
 early_status = refl
 
 none_selected : Selects early begin 12 (int64 ∷ []) 14 C.None
-none_selected m h = nowhere m h.applies.stands
+none_selected = selects_plain early refl begin 12 (int64 ∷ []) 14 C.None (λ m h. nowhere m h.applies.stands)
 
 early_run : (fuel : ℕ) → 10000000 ≡ fuel → Run (setting_of early begin None fuel) None (Look 14 1 ∷ []) no_method [] 1 []
 early_run fuel e =
@@ -138,10 +139,10 @@ abbrev pieces : List Piece
 pieces = Pi.Text (codes "a") ∷ Pi.Show division ∷ []
 
 abbrev failing : Program
-failing = record { decls = []; functions = prelude_functions; sites = prelude_sites; spawns = []; top = I.Do (X.Print pieces false) ∷ [] }
+failing = record { decls = []; functions = prelude_functions; sites = prelude_sites; spawns = []; deletes = []; top = I.Do (X.Print pieces false) ∷ [] }
 
 div_selected : Selects failing begin 3 two 14 (C.Method 4)
-div_selected = only_choice (types_of failing) (record { number = 4; sig = plain two }) two (two_apply (types_of failing))
+div_selected = selects_plain failing refl begin 3 two 14 (C.Method 4) (only_choice (types_of failing) (record { number = 4; sig = plain two }) two (two_apply (types_of failing)))
 
 failing_run : Run (setting_of failing begin None 10000000) None (Look 14 1 ∷ []) (O.Error F.DivideError) [] 1 []
 failing_run =
@@ -172,7 +173,7 @@ abbrev shown_call : Expr
 shown_call = X.Print (Pi.Show (X.Call 12 (E.Int (pos 2) ∷ [])) ∷ []) true
 
 abbrev first_script : Program
-first_script = record { decls = []; functions = prelude_functions ++ codes "f" ∷ []; sites = prelude_sites ++ adder ∷ []; spawns = []; top = I.Define 14 ∷ I.Do shown_call ∷ [] }
+first_script = record { decls = []; functions = prelude_functions ++ codes "f" ∷ []; sites = prelude_sites ++ adder ∷ []; spawns = []; deletes = []; top = I.Define 14 ∷ I.Do shown_call ∷ [] }
 
 abbrev spent : Outcome
 spent = O.Error (F.FuelSpent 1)
@@ -188,7 +189,7 @@ unfolding digits
 spent_text = refl
 
 f_selected : Selects first_script defined_f 12 (int64 ∷ []) 15 (C.Method 15)
-f_selected = only_choice (types_of first_script) (record { number = 15; sig = adder.sig }) (int64 ∷ []) (any_applies (types_of first_script))
+f_selected = selects_plain first_script refl defined_f 12 (int64 ∷ []) 15 (C.Method 15) (only_choice (types_of first_script) (record { number = 15; sig = adder.sig }) (int64 ∷ []) (any_applies (types_of first_script)))
 
 -- the second call is not counted, and its method is not asked for
 spent_run : Run (setting_of first_script defined_f None 1) None trace spent [] 1 []

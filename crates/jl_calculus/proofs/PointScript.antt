@@ -76,7 +76,7 @@ abbrev made_point : Expr
 made_point = X.Infer 8 (E.Int (pos 1) ∷ E.Bool true ∷ [])
 
 abbrev script : Program
-script = record { decls = point ∷ []; functions = prelude_functions; sites = prelude_sites; spawns = []; top = I.Do made_point ∷ [] }
+script = record { decls = point ∷ []; functions = prelude_functions; sites = prelude_sites; spawns = []; deletes = []; top = I.Do made_point ∷ [] }
 
 -- no call is counted
 point_of_two_types : (es : List Event) → Run (setting_of script es None 10) None (Look 14 1 ∷ []) refused [] 0 []

@@ -27,11 +27,12 @@ use Rattle.jl_calculus.specs.World.{Selects}
 use Rattle.jl_calculus.proofs.Forms.{form_is, int_runs, do_runs}
 use Rattle.jl_calculus.proofs.MakeExamples as Make
 use Rattle.jl_calculus.proofs.WorldScripts.{made, bare}
+use Rattle.jl_calculus.proofs.SelectLemmas.{selects_plain}
 
 -- ---- no method of `+` applies to a truth value and an integer
 
 abbrev script : Program
-script = record { decls = Make.square ∷ Make.bounded ∷ []; functions = prelude_functions; sites = prelude_sites; spawns = []; top = I.Do (X.Call 0 (E.Bool true ∷ E.Int (pos 1) ∷ [])) ∷ [] }
+script = record { decls = Make.square ∷ Make.bounded ∷ []; functions = prelude_functions; sites = prelude_sites; spawns = []; deletes = []; top = I.Do (X.Call 0 (E.Bool true ∷ E.Int (pos 1) ∷ [])) ∷ [] }
 
 abbrev mixed : List Ty
 mixed = bool ∷ int64 ∷ []
@@ -60,7 +61,7 @@ only_method m (zero, l, e) = e
 only_method m (suc k, l, e) = absurd (omega (arith, l))
 
 none_selected : (es : List Event) → Selects script es 0 mixed 14 C.None
-none_selected es m h = not_applicable (subst (λ (x : Method). Applicable (table_of Make.types) x.sig mixed) (sym (only_method m h.applies.stands)) h.applies.below)
+none_selected es = selects_plain script refl es 0 mixed 14 C.None (λ m h. not_applicable (subst (λ (x : Method). Applicable (table_of Make.types) x.sig mixed) (sym (only_method m h.applies.stands)) h.applies.below))
 
 abbrev refused : Outcome
 refused = O.Error (Fa.NoMethod 0 mixed 14)

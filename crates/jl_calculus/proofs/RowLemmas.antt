@@ -1,21 +1,21 @@
 -- A row of a key that begins in a world has one site alone, and rows that cover one world begin in the same.
 use Rattle.std.proofs.Common.{◌≡◌, ◌∙◌, ap, sym, ℕ, ◌<◌, ◌≤◌, inl, inr, arith, List}
 use Rattle.jl_model.specs.declared.ty.Key.{Key}
-use Rattle.jl_model.specs.declared.ty.Ty.{Ty}
-use Rattle.jl_model.specs.Choice.{Method, ChoosesMethod}
-use Rattle.jl_model.specs.Subtype.{Table}
 use Rattle.jl_program.specs.declared.tree.Program.{Program}
-use Rattle.jl_program.specs.Scope.{types_of}
+use Rattle.jl_program.specs.declared.choice.Choice.{Choice}
+use Rattle.jl_program.specs.declared.choice.Choice.TheVariants as C
 use Rattle.jl_calculus.specs.declared.history.Event.{Event}
 use Rattle.jl_calculus.specs.Ranges.{Covers, SelectsSite, MayBegin, IsRightFill}
-use Rattle.jl_calculus.specs.World.{site_of, methods_in}
-use Rattle.jl_calculus.proofs.ChoiceLaws.{one_best}
+use Rattle.jl_calculus.specs.World.{site_of}
+use Rattle.jl_calculus.proofs.SelectLemmas.{selects_one}
 
-pub one_method : (n : Table) (ms : List Method) (ts : List Ty) (c d : ℕ) → ChoosesMethod n ms ts c → ChoosesMethod n ms ts d → c ≡ d
-one_method n ms ts c d (m, b, e) (o, k, f) = sym e ∙ one_best n ms ts m o b k ∙ f
+abbrev method_number : Choice → ℕ
+method_number (C.Method d) = d
+method_number C.None = 0
+method_number (C.Ambiguous a b) = 0
 
 pub one_site : (P : Program) (es : List Event) (key : Key) (w s t : ℕ) → SelectsSite P es key w s → SelectsSite P es key w t → s ≡ t
-one_site P es key w s t (c, h, e) (d, k, f) = sym e ∙ ap (site_of es) (one_method (types_of P) (methods_in P es key.function w) key.types c d h k) ∙ f
+one_site P es key w s t (c, h, e) (d, k, f) = sym e ∙ ap (site_of es) (ap method_number (selects_one P es key.function key.types w (C.Method c) (C.Method d) h k)) ∙ f
 
 pub one_right_site : (P : Program) (es : List Event) (key : Key) (s t first : ℕ) → IsRightFill P es key s first → IsRightFill P es key t first → s ≡ t
 one_right_site P es key s t first h k = one_site P es key first s t h.choice k.choice

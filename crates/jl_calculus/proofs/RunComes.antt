@@ -20,7 +20,7 @@ use Rattle.jl_calculus.specs.declared.history.Event.{Event}
 use Rattle.jl_calculus.specs.declared.history.Outcome.{Outcome}
 use Rattle.jl_calculus.specs.declared.history.Outcome.TheVariants as O
 use Rattle.jl_calculus.specs.declared.history.TraceItem.{TraceItem}
-use Rattle.jl_calculus.specs.declared.history.TraceItem.TheVariants.{Look, Def, Spawn, Fetch, WorldFull, TaskFull}
+use Rattle.jl_calculus.specs.declared.history.TraceItem.TheVariants.{Look, Def, Del, Spawn, Fetch, WorldFull, TaskFull, Absent}
 use Rattle.jl_calculus.specs.Answers.{Answer}
 use Rattle.jl_calculus.specs.Kept.{Places}
 use Rattle.jl_calculus.specs.Operations.{make_written, test_type, test_order, test_same}
@@ -106,6 +106,8 @@ module _ (P : Program) (es : List Event) (places : Option Places) (fuel : ℕ) (
     look_there (Fetch task o p) s n e k = absurd k
     look_there (WorldFull p) s n e k = absurd k
     look_there (TaskFull p) s n e k = absurd k
+    look_there (Del at_place p) s n e k = absurd k
+    look_there (Absent at_place p) s n e k = absurd k
 
     define_there : (i : TraceItem) (site : ℕ) (s : State) (n : State → Type 0) → asked_by (slice_get spawned total) i ≡ Some q → defines g Q (i ∷ after) site s n → halts (Some q) (a_definition site)
     define_there (Def made p) site s n e k = let m : made ≡ site = k.0 in cc
@@ -114,6 +116,8 @@ module _ (P : Program) (es : List Event) (places : Option Places) (fuel : ℕ) (
     define_there (Spawn child p) site s n e k = absurd k
     define_there (Fetch task o p) site s n e k = absurd k
     define_there (TaskFull p) site s n e k = absurd k
+    define_there (Del at_place p) site s n e k = absurd k
+    define_there (Absent at_place p) site s n e k = absurd k
 
     spawn_there : (i : TraceItem) (start : Start) (s : State) (n : Then) → Goes n → length s.starts ≡ total → asked_by (slice_get spawned total) i ≡ Some q → spawns g Q (i ∷ after) start s n → halts (Some q) (a_spawn start)
     spawn_there (Spawn child p) start s n gn few e k =
@@ -126,6 +130,8 @@ module _ (P : Program) (es : List Event) (places : Option Places) (fuel : ℕ) (
     spawn_there (Def made p) start s n gn few e k = absurd k
     spawn_there (Fetch task o p) start s n gn few e k = absurd k
     spawn_there (WorldFull p) start s n gn few e k = absurd k
+    spawn_there (Del at_place p) start s n gn few e k = absurd k
+    spawn_there (Absent at_place p) start s n gn few e k = absurd k
 
     fetch_there : (i : TraceItem) (of : ℕ) (s : State) (n : Then) → asked_by (slice_get spawned total) i ≡ Some q → fetches g Q (i ∷ after) of s n → halts (Some q) (a_fetch of)
     fetch_there (Fetch task o p) of s n e k = let m : task ≡ of = k.0 in cc
@@ -134,6 +140,8 @@ module _ (P : Program) (es : List Event) (places : Option Places) (fuel : ℕ) (
     fetch_there (Spawn child p) of s n e k = absurd k
     fetch_there (WorldFull p) of s n e k = absurd k
     fetch_there (TaskFull p) of s n e k = absurd k
+    fetch_there (Del at_place p) of s n e k = absurd k
+    fetch_there (Absent at_place p) of s n e k = absurd k
 
     looks_in : (left : List TraceItem) (s : State) → length s.starts + spawn_count left ≡ total → (n n' : ℕ → State → Type 0) → ((w : ℕ) (s1 s1' : State) → Longer s1 s1' → n w s1 → n' w s1') → looks g Q (left ++ item ∷ after) (long s) n → looks h Q' left s n'
     looks_in [] s c n n' m k = look_there item (long s) n asks k
@@ -143,6 +151,8 @@ module _ (P : Program) (es : List Event) (places : Option Places) (fuel : ℕ) (
     looks_in (Fetch task o p ∷ rest) s c n n' m k = absurd k
     looks_in (WorldFull p ∷ rest) s c n n' m k = absurd k
     looks_in (TaskFull p ∷ rest) s c n n' m k = absurd k
+    looks_in (Del at_place p ∷ rest) s c n n' m k = absurd k
+    looks_in (Absent at_place p ∷ rest) s c n n' m k = absurd k
 
     moves_looks : (s s' : State) (n n' : ℕ → State → Type 0) → Longer s s' → ((w : ℕ) (s1 s1' : State) → Longer s1 s1' → n w s1 → n' w s1') → looks g Q s.left s n → looks h Q' s'.left s' n'
     moves_looks s s' n n' e m k = looks_in s'.left s' e.1 n n' m (subst (λ (z : State). looks g Q z.left z n) e.0 k)
@@ -155,6 +165,8 @@ module _ (P : Program) (es : List Event) (places : Option Places) (fuel : ℕ) (
     defines_in (Spawn child p ∷ rest) site s c n n' m k = absurd k
     defines_in (Fetch task o p ∷ rest) site s c n n' m k = absurd k
     defines_in (TaskFull p ∷ rest) site s c n n' m k = absurd k
+    defines_in (Del at_place p ∷ rest) site s c n n' m k = absurd k
+    defines_in (Absent at_place p ∷ rest) site s c n n' m k = absurd k
 
     moves_defines : (site : ℕ) (s s' : State) (n n' : State → Type 0) → Longer s s' → ((s1 s1' : State) → Longer s1 s1' → n s1 → n' s1') → defines g Q s.left site s n → defines h Q' s'.left site s' n'
     moves_defines site s s' n n' e m k = defines_in s'.left site s' e.1 n n' m (subst (λ (z : State). defines g Q z.left site z n) e.0 k)
@@ -167,6 +179,8 @@ module _ (P : Program) (es : List Event) (places : Option Places) (fuel : ℕ) (
     spawns_in (Def made p ∷ rest) start s c n n' m k = absurd k
     spawns_in (Fetch task o p ∷ rest) start s c n n' m k = absurd k
     spawns_in (WorldFull p ∷ rest) start s c n n' m k = absurd k
+    spawns_in (Del at_place p ∷ rest) start s c n n' m k = absurd k
+    spawns_in (Absent at_place p ∷ rest) start s c n n' m k = absurd k
 
     moves_spawns : (place w : ℕ) (s s' : State) (n n' : Then) → Longer s s' → Leads n n' → spawns g Q s.left (start_at place w s) s n → spawns h Q' s'.left (start_at place w s') s' n'
     moves_spawns place w s s' n n' e m k = spawns_in s'.left (start_at place w s') s' e.1 n n' m (subst (λ (z : State). spawns g Q z.left (start_at place w z) z n) e.0 k)
@@ -183,6 +197,8 @@ module _ (P : Program) (es : List Event) (places : Option Places) (fuel : ℕ) (
     fetches_in (Spawn child p ∷ rest) of s c n n' m k = absurd k
     fetches_in (WorldFull p ∷ rest) of s c n n' m k = absurd k
     fetches_in (TaskFull p ∷ rest) of s c n n' m k = absurd k
+    fetches_in (Del at_place p ∷ rest) of s c n n' m k = absurd k
+    fetches_in (Absent at_place p ∷ rest) of s c n n' m k = absurd k
 
     moves_value : (v : Value) (s s' : State) (n n' : Then) → Longer s s' → Leads n n' → fetches_value g Q v s n → fetches_value h Q' v s' n'
     moves_value (V.Task task) s s' n n' e m k = fetches_in s'.left task s' e.1 n n' m (subst (λ (z : State). fetches g Q z.left task z n) e.0 k)

@@ -5,7 +5,7 @@ use Rattle.jl_program.specs.declared.tree.Start.{Start}
 use Rattle.jl_calculus.specs.declared.history.Event.{Event}
 use Rattle.jl_calculus.specs.declared.history.Outcome.{Outcome}
 use Rattle.jl_calculus.specs.declared.history.TraceItem.{TraceItem}
-use Rattle.jl_calculus.specs.declared.history.TraceItem.TheVariants.{Look, Def, Spawn, Fetch, WorldFull, TaskFull}
+use Rattle.jl_calculus.specs.declared.history.TraceItem.TheVariants.{Look, Def, Del, Spawn, Fetch, WorldFull, TaskFull, Absent}
 use Rattle.jl_calculus.specs.HistoryLaws.{IsStartSeen}
 use Rattle.jl_calculus.specs.Kept.{Places}
 use Rattle.jl_calculus.specs.Legal.{AreTrueOf}
@@ -21,14 +21,16 @@ use Rattle.jl_calculus.proofs.RunMoves.{LooksIn, StartsIn, AnswersAlike, run_mov
 abbrev Seen : List Event → ℕ → Type 0
 Seen es w = w ≤ world_of es
 
-looks_seen : (es : List Event) (task : ℕ) (is : List TraceItem) → AreTrueOf es task is → LooksIn (Seen es) is
-looks_seen es task [] h = tt
-looks_seen es task (Look w p ∷ is) (a, h) = (subst (λ (n : ℕ). n ≤ world_of es) a.1 (first_at_most es p), looks_seen es task is h)
-looks_seen es task (Def site p ∷ is) (a, h) = looks_seen es task is h
-looks_seen es task (Spawn child p ∷ is) (a, h) = looks_seen es task is h
-looks_seen es task (Fetch of o p ∷ is) (a, h) = looks_seen es task is h
-looks_seen es task (WorldFull p ∷ is) (a, h) = looks_seen es task is h
-looks_seen es task (TaskFull p ∷ is) (a, h) = looks_seen es task is h
+looks_seen : (P : Program) (es : List Event) (task : ℕ) (is : List TraceItem) → AreTrueOf P es task is → LooksIn (Seen es) is
+looks_seen P es task [] h = tt
+looks_seen P es task (Look w p ∷ is) (a, h) = (subst (λ (n : ℕ). n ≤ world_of es) a.1 (first_at_most es p), looks_seen P es task is h)
+looks_seen P es task (Def site p ∷ is) (a, h) = looks_seen P es task is h
+looks_seen P es task (Spawn child p ∷ is) (a, h) = looks_seen P es task is h
+looks_seen P es task (Fetch of o p ∷ is) (a, h) = looks_seen P es task is h
+looks_seen P es task (WorldFull p ∷ is) (a, h) = looks_seen P es task is h
+looks_seen P es task (TaskFull p ∷ is) (a, h) = looks_seen P es task is h
+looks_seen P es task (Del at_place p ∷ is) (a, h) = looks_seen P es task is h
+looks_seen P es task (Absent at_place p ∷ is) (a, h) = looks_seen P es task is h
 
 start_seen : (es : List Event) (start : Option Start) → IsStartSeen es start → StartsIn (Seen es) start
 start_seen es None l = tt
@@ -39,10 +41,10 @@ longer_answers : (P : Program) (es more : List Event) (room : Option Places) →
 longer_answers P es more room = record {
   selects = λ f ts w c l h. selects_on P es more f ts w c l h;
   keeps = λ f ts w l h. keeps_on P es more room f ts w h;
-  site = λ f ts w d l h. (let k = of_world P es f ts w d h in sym (site_more P es more d k.0 (omega (arith, k.1, l))));
+  site = λ f ts w d l h. (let k = of_world P es f ts w d h in sym (site_more P es more d (omega (arith, k.1, l))));
 }
 
 pub run_on : (P : Program) (es more : List Event) (room : Option Places) (fuel task : ℕ) (start : Option Start) (trace : List TraceItem) (outcome : Outcome) (output : List ℕ) (made : ℕ) (spawned : List Start)
-    → AreTrueOf es task trace → IsStartSeen es start → Run (setting_of P es room fuel) start trace outcome output made spawned → Run (setting_of P (es ++ more) room fuel) start trace outcome output made spawned
+    → AreTrueOf P es task trace → IsStartSeen es start → Run (setting_of P es room fuel) start trace outcome output made spawned → Run (setting_of P (es ++ more) room fuel) start trace outcome output made spawned
 run_on P es more room fuel task start trace outcome output made spawned t l h =
-    run_moves P fuel None (Seen es) es (es ++ more) room room (longer_answers P es more room) start trace outcome output made spawned (start_seen es start l) (looks_seen es task trace t) h
+    run_moves P fuel None (Seen es) es (es ++ more) room room (longer_answers P es more room) start trace outcome output made spawned (start_seen es start l) (looks_seen P es task trace t) h

@@ -18,7 +18,7 @@ use Rattle.jl_calculus.specs.declared.history.Event.{Event}
 use Rattle.jl_calculus.specs.declared.history.Outcome.{Outcome}
 use Rattle.jl_calculus.specs.declared.history.Outcome.TheVariants as O
 use Rattle.jl_calculus.specs.declared.history.TraceItem.{TraceItem}
-use Rattle.jl_calculus.specs.declared.history.TraceItem.TheVariants.{Look, Def, Spawn, Fetch, WorldFull, TaskFull}
+use Rattle.jl_calculus.specs.declared.history.TraceItem.TheVariants.{Look, Def, Del, Spawn, Fetch, WorldFull, TaskFull, Absent}
 use Rattle.jl_calculus.specs.Answers.{Answer}
 use Rattle.jl_calculus.specs.Kept.{Places, Keeps}
 use Rattle.jl_calculus.specs.Run.{Question, Setting, State, Then, Runs, ItemRuns, PieceRuns, Caller, Body, operation, code, body_of, each_runs, texts_run, stmts_run, items_run, either, with_scope, looks, defines, spawns, fetched, fetches, fetches_value, decides, answers, operation_runs, expr_runs, stmt_runs, item_runs, piece_runs, runs, runs_stmt, runs_item, runs_piece, chosen, performs, calls, open_calls, first_state, task_runs, task_state, IsEnd, Run}
@@ -35,6 +35,8 @@ LooksIn In (Spawn child p ∷ is) = LooksIn In is
 LooksIn In (Fetch task o p ∷ is) = LooksIn In is
 LooksIn In (WorldFull p ∷ is) = LooksIn In is
 LooksIn In (TaskFull p ∷ is) = LooksIn In is
+LooksIn In (Del at_place p ∷ is) = LooksIn In is
+LooksIn In (Absent at_place p ∷ is) = LooksIn In is
 
 -- the world of a start; the root's top is in no world
 abbrev pub StartsIn : (ℕ → Type 0) → Option Start → Type 0
@@ -78,6 +80,8 @@ module _ (P : Program) (fuel : ℕ) (until : Option Question) (In : ℕ → Type
   moves_looks (Fetch task o p ∷ rest) s n n' a m k = absurd k
   moves_looks (WorldFull p ∷ rest) s n n' a m k = absurd k
   moves_looks (TaskFull p ∷ rest) s n n' a m k = absurd k
+  moves_looks (Del at_place p ∷ rest) s n n' a m k = absurd k
+  moves_looks (Absent at_place p ∷ rest) s n n' a m k = absurd k
 
   moves_defines : (left : List TraceItem) (site : ℕ) (s : State) (n n' : State → Type 0) → LooksIn In left → ((s1 : State) → Fine s1 → n s1 → n' s1) → defines g Q left site s n → defines h Q left site s n'
   moves_defines [] site s n n' a m k = k
@@ -87,6 +91,8 @@ module _ (P : Program) (fuel : ℕ) (until : Option Question) (In : ℕ → Type
   moves_defines (Spawn child p ∷ rest) site s n n' a m k = absurd k
   moves_defines (Fetch task o p ∷ rest) site s n n' a m k = absurd k
   moves_defines (TaskFull p ∷ rest) site s n n' a m k = absurd k
+  moves_defines (Del at_place p ∷ rest) site s n n' a m k = absurd k
+  moves_defines (Absent at_place p ∷ rest) site s n n' a m k = absurd k
 
   moves_spawns : (left : List TraceItem) (start : Start) (s : State) (n n' : Then) → LooksIn In left → Leads n n' → spawns g Q left start s n → spawns h Q left start s n'
   moves_spawns [] start s n n' a m k = k
@@ -96,6 +102,8 @@ module _ (P : Program) (fuel : ℕ) (until : Option Question) (In : ℕ → Type
   moves_spawns (Def made p ∷ rest) start s n n' a m k = absurd k
   moves_spawns (Fetch task o p ∷ rest) start s n n' a m k = absurd k
   moves_spawns (WorldFull p ∷ rest) start s n n' a m k = absurd k
+  moves_spawns (Del at_place p ∷ rest) start s n n' a m k = absurd k
+  moves_spawns (Absent at_place p ∷ rest) start s n n' a m k = absurd k
 
   moves_fetched : (task : ℕ) (o : Outcome) (s : State) (n n' : Then) → Fine s → Leads n n' → fetched g Q task o s n → fetched h Q task o s n'
   moves_fetched task (O.Value v) s n n' a m k = m v s a k
@@ -109,6 +117,8 @@ module _ (P : Program) (fuel : ℕ) (until : Option Question) (In : ℕ → Type
   moves_fetches (Spawn child p ∷ rest) of s n n' a m k = absurd k
   moves_fetches (WorldFull p ∷ rest) of s n n' a m k = absurd k
   moves_fetches (TaskFull p ∷ rest) of s n n' a m k = absurd k
+  moves_fetches (Del at_place p ∷ rest) of s n n' a m k = absurd k
+  moves_fetches (Absent at_place p ∷ rest) of s n n' a m k = absurd k
 
   moves_value : (v : Value) (s : State) (n n' : Then) → Fine s → Leads n n' → fetches_value g Q v s n → fetches_value h Q v s n'
   moves_value (V.Task task) s n n' a m k = moves_fetches s.left task s n n' a m k
@@ -310,6 +320,8 @@ looks_anywhere (Spawn child p ∷ is) = looks_anywhere is
 looks_anywhere (Fetch task o p ∷ is) = looks_anywhere is
 looks_anywhere (WorldFull p ∷ is) = looks_anywhere is
 looks_anywhere (TaskFull p ∷ is) = looks_anywhere is
+looks_anywhere (Del at_place p ∷ is) = looks_anywhere is
+looks_anywhere (Absent at_place p ∷ is) = looks_anywhere is
 
 starts_anywhere : (start : Option Start) → StartsIn (λ w. Unit {0}) start
 starts_anywhere None = tt

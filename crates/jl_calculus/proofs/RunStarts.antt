@@ -19,7 +19,7 @@ use Rattle.jl_calculus.specs.declared.history.Event.{Event}
 use Rattle.jl_calculus.specs.declared.history.Outcome.{Outcome}
 use Rattle.jl_calculus.specs.declared.history.Outcome.TheVariants as O
 use Rattle.jl_calculus.specs.declared.history.TraceItem.{TraceItem}
-use Rattle.jl_calculus.specs.declared.history.TraceItem.TheVariants.{Look, Def, Spawn, Fetch, WorldFull, TaskFull}
+use Rattle.jl_calculus.specs.declared.history.TraceItem.TheVariants.{Look, Def, Del, Spawn, Fetch, WorldFull, TaskFull, Absent}
 use Rattle.jl_calculus.specs.Answers.{Answer}
 use Rattle.jl_calculus.specs.Kept.{Places}
 use Rattle.jl_calculus.specs.Run.{Setting, State, Then, Runs, ItemRuns, PieceRuns, Caller, Body, operation, code, body_of, each_runs, texts_run, stmts_run, items_run, either, with_scope, looks, defines, spawns, fetched, fetches, fetches_value, decides, answers, operation_runs, expr_runs, stmt_runs, item_runs, piece_runs, runs, runs_stmt, runs_item, runs_piece, chosen, performs, calls}
@@ -52,6 +52,8 @@ module _ (P : Program) (es : List Event) (places : Option Places) (fuel : ℕ) (
   of_looks (Fetch task o p ∷ rest) s n m k = absurd k
   of_looks (WorldFull p ∷ rest) s n m k = absurd k
   of_looks (TaskFull p ∷ rest) s n m k = absurd k
+  of_looks (Del at_place p ∷ rest) s n m k = absurd k
+  of_looks (Absent at_place p ∷ rest) s n m k = absurd k
 
   pub of_defines : (left : List TraceItem) (site : ℕ) (s : State) (n : State → Type 0) → ((s1 : State) → n s1 → L s1.starts) → defines g Q left site s n → L s.starts
   of_defines [] site s n m k = absurd k
@@ -61,6 +63,8 @@ module _ (P : Program) (es : List Event) (places : Option Places) (fuel : ℕ) (
   of_defines (Spawn child p ∷ rest) site s n m k = absurd k
   of_defines (Fetch task o p ∷ rest) site s n m k = absurd k
   of_defines (TaskFull p ∷ rest) site s n m k = absurd k
+  of_defines (Del at_place p ∷ rest) site s n m k = absurd k
+  of_defines (Absent at_place p ∷ rest) site s n m k = absurd k
 
   pub of_spawns : (left : List TraceItem) (start : Start) (s : State) (n : Then) → Goes n → spawns g Q left start s n → L s.starts
   of_spawns [] start s n m k = absurd k
@@ -70,6 +74,8 @@ module _ (P : Program) (es : List Event) (places : Option Places) (fuel : ℕ) (
   of_spawns (Def made p ∷ rest) start s n m k = absurd k
   of_spawns (Fetch task o p ∷ rest) start s n m k = absurd k
   of_spawns (WorldFull p ∷ rest) start s n m k = absurd k
+  of_spawns (Del at_place p ∷ rest) start s n m k = absurd k
+  of_spawns (Absent at_place p ∷ rest) start s n m k = absurd k
 
   pub of_fetched : (task : ℕ) (o : Outcome) (s : State) (n : Then) → Goes n → fetched g Q task o s n → L s.starts
   of_fetched task (O.Value v) s n m k = m v s k
@@ -83,6 +89,8 @@ module _ (P : Program) (es : List Event) (places : Option Places) (fuel : ℕ) (
   of_fetches (Spawn child p ∷ rest) of s n m k = absurd k
   of_fetches (WorldFull p ∷ rest) of s n m k = absurd k
   of_fetches (TaskFull p ∷ rest) of s n m k = absurd k
+  of_fetches (Del at_place p ∷ rest) of s n m k = absurd k
+  of_fetches (Absent at_place p ∷ rest) of s n m k = absurd k
 
   pub of_value : (v : Value) (s : State) (n : Then) → Goes n → fetches_value g Q v s n → L s.starts
   of_value (V.Task task) s n m k = of_fetches s.left task s n m k

@@ -1,5 +1,5 @@
 -- Each question of the rules has one answer.
-use Rattle.std.proofs.Common.{◌≡◌, ap, subst, refl, ℕ, zero, suc, ◌+◌, ◌-◌, ◌<◌, ◌≤◌, inl, inr, arith, Bool, true, false, nat_eq, List, [], ◌∷◌, length, take}
+use Rattle.std.proofs.Common.{◌≡◌, ap, subst, refl, ℕ, zero, suc, ◌+◌, ◌-◌, ◌<◌, ◌≤◌, inl, inr, arith, Bool, true, false, nat_eq, List, [], ◌∷◌, length}
 use Rattle.jl_model.specs.declared.ty.Ty.{Ty}
 use Rattle.jl_model.specs.declared.ty.Key.{Key}
 use Rattle.jl_model.specs.declared.ty.Bound.{Bound}
@@ -19,7 +19,6 @@ use Rattle.jl_program.specs.declared.tree.Program.{Program}
 use Rattle.jl_program.specs.declared.value.Value.{Value}
 use Rattle.jl_program.specs.declared.value.Value.TheVariants as V
 use Rattle.jl_program.specs.Prelude.{prelude_count}
-use Rattle.jl_program.specs.Scope.{types_of}
 use Rattle.jl_calculus.specs.declared.history.Event.{Event}
 use Rattle.jl_calculus.specs.declared.history.Outcome.{Outcome}
 use Rattle.jl_calculus.specs.declared.history.Outcome.TheVariants as O
@@ -27,25 +26,22 @@ use Rattle.jl_calculus.specs.AnswerLaws.{HasOne, AreDecided, HasSiteOrNone}
 use Rattle.jl_calculus.specs.Answers.{Refusal, Answer, refuse, give, tell}
 use Rattle.jl_calculus.specs.Operations.{within_limits, make_tuple, make_struct, make_written, make_inferred, test_type, test_order, test_same}
 use Rattle.jl_calculus.specs.Ranges.{Touches, Covers, MayBegin, IsRightFill}
-use Rattle.jl_calculus.specs.World.{definitions, methods_in, Selects}
+use Rattle.jl_calculus.specs.World.{methods_made, Selects}
 use Rattle.jl_calculus.proofs.AnswerLemmas.{struct_once, tuple_once, written_once, inferred_once, test_once, order_once, same_once}
-use Rattle.jl_calculus.proofs.ChoiceLaws.{determined}
 use Rattle.jl_calculus.proofs.RowLemmas.{one_first}
 use Rattle.jl_calculus.proofs.SureLemmas.{Sure, Known, sure_known, contains_of}
-use Rattle.jl_calculus.proofs.SomeChoice.{methods_rise, choice_there, choice_sure}
+use Rattle.jl_calculus.proofs.SelectLemmas.{selects_one}
+use Rattle.jl_calculus.proofs.SomeChoice.{selected_there, selected_sure}
 
 -- ---- the choice
 
 pub choice_one : (P : Program) (es : List Event) (f : ℕ) (ts : List Ty) (w : ℕ) → HasOne (Selects P es f ts w)
-choice_one P es f ts w = record {
-  some = λ h. choice_sure (types_of P) (methods_in P es f w) ts (methods_rise P f 1 (take w (definitions es))).0 (λ c. h c.0 c.1);
-  one = λ c d h k. determined (types_of P) (methods_in P es f w) ts c d h k;
-}
+choice_one P es f ts w = record { some = λ h. selected_sure P es f ts w (λ r. h r.0 r.1); one = selects_one P es f ts w }
 
-pub choice_is_there : (P : Program) (es : List Event) (f : ℕ) (ts : List Ty) (w : ℕ) → AreDecided (types_of P) (methods_in P es f w) ts → (c : Choice) × Selects P es f ts w c
+pub choice_is_there : (P : Program) (es : List Event) (f : ℕ) (ts : List Ty) (w : ℕ) → AreDecided P es f ts w (methods_made P es f w) → (c : Choice) × Selects P es f ts w c
 choice_is_there P es f ts w d =
-    choice_there (types_of P) (methods_in P es f w) ts (methods_rise P f 1 (take w (definitions es))).0 (λ m i. d.applies m (contains_of (methods_in P es f w) m i))
-    (λ a b i j. d.below a b (contains_of (methods_in P es f w) a i) (contains_of (methods_in P es f w) b j))
+    selected_there P es f ts w (λ m i. d.stands m (contains_of (methods_made P es f w) m i)) (λ m i. d.applies m (contains_of (methods_made P es f w) m i))
+    (λ a b i j. d.below a b (contains_of (methods_made P es f w) a i) (contains_of (methods_made P es f w) b j))
 
 each_long : (f : ℕ → Ty) (i : ℕ) (vars : List Bound) → length (each_var f i vars) ≡ length vars
 each_long f i [] = refl
@@ -138,7 +134,7 @@ module _ (P : Program) (es : List Event) (key : Key) where
   }
 
   not_method : (first : ℕ) (c : Choice) → Selects P es key.function key.types first c → ((d : ℕ) → C.Method d ≡ c → ⊥) → (site : ℕ) → IsRightFill P es key site first → ⊥
-  not_method first c h n site r = n r.choice.0 (determined (types_of P) (methods_in P es key.function first) key.types (C.Method r.choice.0) c r.choice.1 h)
+  not_method first c h n site r = n r.choice.0 (selects_one P es key.function key.types first (C.Method r.choice.0) c r.choice.1 h)
 
   pub site_there : (first : ℕ) (c : Choice) → MayBegin P es key first → Selects P es key.function key.types first c → HasSiteOrNone P es key first c
   site_there first (C.Method d) b h = record { begun = b; choice = (d, h, refl) }

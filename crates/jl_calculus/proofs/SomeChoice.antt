@@ -1,5 +1,5 @@
 -- There is a choice among methods whose numbers rise, where it is decided which of them apply and which is below which.
-use Rattle.std.proofs.Common.{◌≡◌, ◌∙◌, sym, ap, subst, refl, ℕ, ◌+◌, ◌<◌, ◌≤◌, ◌⊎◌, inl, inr, arith, Bool, true, false, cond, nat_eq, List, [], ◌∷◌, Option, None, Some, slice_get}
+use Rattle.std.proofs.Common.{◌≡◌, ◌∙◌, sym, ap, subst, refl, ℕ, ◌+◌, ◌<◌, ◌≤◌, ◌⊎◌, inl, inr, arith, Bool, true, false, cond, nat_eq, List, [], ◌∷◌, Option, None, Some, take, slice_get}
 use Rattle.jl_model.specs.declared.ty.Ty.{Ty}
 use Rattle.jl_model.specs.Subtype.{Table}
 use Rattle.jl_model.specs.Signature.{Applicable, SigBelow, StrictlyBelow, SameSignature}
@@ -9,7 +9,11 @@ use Rattle.jl_program.specs.declared.choice.Choice.TheVariants as C
 use Rattle.jl_program.specs.declared.tree.Program.{Program}
 use Rattle.jl_program.specs.declared.tree.Site.{Site}
 use Rattle.jl_program.specs.Chooses.{Chooses}
-use Rattle.jl_calculus.specs.World.{method_at, methods_from}
+use Rattle.jl_calculus.specs.declared.history.Change.{Change}
+use Rattle.jl_calculus.specs.declared.history.Change.TheVariants as Ch
+use Rattle.jl_calculus.specs.declared.history.Event.{Event}
+use Rattle.jl_calculus.specs.World.{changes, method_at, methods_from, methods_made, Stands, AreMethodsFor, Selects}
+use Rattle.jl_program.specs.Scope.{types_of}
 use Rattle.jl_calculus.proofs.SureLemmas.{Sure, Known, sure_known, known_not, known_both, known_less, known_same, In, in_of, contains_of, each_of, sure_each, FoundOrNot, search_in, known_each}
 
 -- the numbers of the methods rise
@@ -30,9 +34,10 @@ from_at : (site : Option Site) (f number : ℕ) (ms : List Method) → From (num
 from_at None f number ms h = (h.0, λ o i. omega (arith, h.1 o i))
 from_at (Some site) f number ms h = from_by (nat_eq site.function f) (record { number = number; sig = site.sig }) number ms refl h
 
-pub methods_rise : (P : Program) (f number : ℕ) (sites : List ℕ) → From number (methods_from P f number sites)
+pub methods_rise : (P : Program) (f number : ℕ) (cs : List Change) → From number (methods_from P f number cs)
 methods_rise P f number [] = (tt, λ o i. absurd i)
-methods_rise P f number (site ∷ sites) = from_at (slice_get P.sites site) f number (methods_from P f (number + 1) sites) (methods_rise P f (number + 1) sites)
+methods_rise P f number (Ch.Def site ∷ cs) = from_at (slice_get P.sites site) f number (methods_from P f (number + 1) cs) (methods_rise P f (number + 1) cs)
+methods_rise P f number (Ch.Del place ∷ cs) = let h = methods_rise P f (number + 1) cs in (h.0, λ o i. omega (arith, h.1 o i))
 
 -- ---- searches through methods whose numbers rise
 
@@ -254,3 +259,32 @@ choice_sure n ms ts rises h =
     sure_each ms (λ m. Known (Applicable n m.sig ts)) (λ m. sure_known (Applicable n m.sig ts)) (λ applies.
     sure_each ms (λ a. (b : Method) → In b ms → Known (SigBelow n a.sig b.sig)) (λ a. sure_each ms (λ b. Known (SigBelow n a.sig b.sig)) (λ b. sure_known (SigBelow n a.sig b.sig))) (λ below.
     h (choice_there n ms ts rises applies (λ a b i j. below a i b j))))
+
+-- ---- the choice in a world
+
+module _ (P : Program) (es : List Event) (f : ℕ) (ts : List Ty) (w : ℕ) where
+  abbrev Made : List Method
+  Made = methods_made P es f w
+
+  made_rise : Rises Made
+  made_rise = (methods_rise P f 1 (take w (changes es))).0
+
+  -- those that stand
+  standing : ((m : Method) → In m Made → Known (Stands P es f w m)) → Those Made (Stands P es f w)
+  standing h = those (Stands P es f w) Made made_rise h
+
+  standing_for : (t : Those Made (Stands P es f w)) → AreMethodsFor P es f ts w t.list
+  standing_for t m a = ((λ i. t.good m (in_of t.list m i)), (λ s. contains_of t.list m (t.whole m (in_of Made m s.made) s)))
+
+  pub selected_there : ((m : Method) → In m Made → Known (Stands P es f w m)) → ((m : Method) → In m Made → Known (Applicable (types_of P) m.sig ts))
+      → ((a b : Method) → In a Made → In b Made → Known (SigBelow (types_of P) a.sig b.sig)) → (c : Choice) × Selects P es f ts w c
+  selected_there stands applies below =
+      let t = standing stands in
+      let r = choice_there (types_of P) t.list ts t.rises (λ m i. applies m (t.from m i)) (λ a b i j. below a b (t.from a i) (t.from b j)) in
+      (r.0, (t.list, standing_for t, r.1))
+
+  pub selected_sure : Sure ((c : Choice) × Selects P es f ts w c)
+  selected_sure h =
+      sure_each Made (λ m. Known (Stands P es f w m)) (λ m. sure_known (Stands P es f w m)) (λ stands.
+      let t = standing stands in
+      choice_sure (types_of P) t.list ts t.rises (λ r. h (r.0, (t.list, standing_for t, r.1))))

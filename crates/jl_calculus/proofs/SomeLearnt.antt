@@ -11,6 +11,7 @@ use Rattle.jl_calculus.specs.Learnt.{Learnt, traced, named, answered, chosen, un
 use Rattle.jl_calculus.specs.Ranges.{CacheRow, rows_of, Touches, Covers, IsCovered}
 use Rattle.jl_calculus.proofs.TaskHistories.{Late, key, start, no_types, no_arguments, late_9}
 use Rattle.jl_calculus.proofs.TaskRuns.{method, latest_chosen}
+use Rattle.jl_calculus.proofs.SelectLemmas.{selects_plain}
 
 abbrev Knows : Learnt → Type 0
 Knows i = IsLearntOf Late late_9 0 i
@@ -54,7 +55,7 @@ not_so_many (l, e) = absurd (omega (arith, l))
 
 -- the choice in an old world
 is_answered : Knows (answered 12 no_types 16 (C.Method 15) 10)
-is_answered = (omega arith, omega arith, only_choice (types_of Late) (method (types_of Late) 15) no_types (no_arguments (types_of Late)))
+is_answered = (omega arith, omega arith, selects_plain Late refl (take 10 late_9) 12 no_types 16 (C.Method 15) (only_choice (types_of Late) (method (types_of Late) 15) no_types (no_arguments (types_of Late))))
 
 -- a world that is not there has none
 not_answered : Knows (answered 12 no_types 18 (C.Method 15) 10) → ⊥
@@ -76,7 +77,7 @@ is_chosen = (
     key = key 12;
     named = refl;
     covered = covers_16;
-    choice = (15, only_choice (types_of Late) (method (types_of Late) 15) no_types (no_arguments (types_of Late)), refl);
+    choice = (15, selects_plain Late refl (take 10 late_9) 12 no_types 16 (C.Method 15) (only_choice (types_of Late) (method (types_of Late) 15) no_types (no_arguments (types_of Late))), refl);
   },
 )
 
@@ -105,7 +106,7 @@ is_kept = (omega arith, (omega arith, inr (inr (1, key 12, refl, refl, refl, λ 
 
 -- a call of `f` in world 17 is not
 not_in_cache : IsInCache Late (take 10 late_9) 12 no_types 17 → ⊥
-not_in_cache (number, k, e, f, ts, rows) = by number k e f (rows 17 (latest_chosen (types_of Late)))
+not_in_cache (number, k, e, f, ts, rows) = by number k e f (rows 17 (selects_plain Late refl (take 10 late_9) 12 no_types 17 (C.Method 17) (latest_chosen (types_of Late))))
   where
     by : (number : ℕ) (k : Key) → IsNamed (take 10 late_9) number k → k.function ≡ 12 → IsCovered Late (take 10 late_9) number k 17 → ⊥
     by zero k e f h = absurd (omega (arith, f, ap (λ (x : Key). x.function) (ap key_or e)))

@@ -5,6 +5,7 @@ use Rattle.jl_program.specs.Prelude.{plain}
 use Rattle.jl_program.specs.Scope.{types_of}
 use Rattle.jl_program.specs.declared.fault.Fault.TheVariants as F
 use Rattle.jl_program.proofs.FirstChoices.{only_choice}
+use Rattle.jl_calculus.specs.declared.history.Change.TheVariants as Ch
 use Rattle.jl_calculus.specs.declared.history.Event.TheVariants as Ev
 use Rattle.jl_calculus.specs.declared.history.Outcome.TheVariants as O
 use Rattle.jl_calculus.specs.declared.history.Record.{Record}
@@ -17,6 +18,8 @@ use Rattle.jl_calculus.specs.Words.{IsToCut}
 use Rattle.jl_calculus.proofs.GrowthLemmas.{touches_known}
 use Rattle.jl_calculus.proofs.KeyHistories.{running}
 use Rattle.jl_calculus.proofs.TaskHistories.{Late, key, key_of, start, no_types, no_arguments}
+use Rattle.jl_calculus.proofs.SelectLemmas.{selects_plain}
+use Rattle.jl_program.specs.declared.choice.Choice.TheVariants as C
 
 -- whether a search is at a row
 abbrev at_a_row : Stand → Bool
@@ -41,16 +44,15 @@ look = running s0.events refl (omega arith) refl
 no_look_of_other : Can s0 (St.Look 1) → ⊥
 no_look_of_other h = absurd (omega (arith, h.started))
 
-open_f : Can s0 (St.Open 0 14)
+open_f : Can s0 (St.Open 0 (Ch.Def 14))
 open_f = record {
   free = record { running = running s0.events refl (omega arith) refl; closed = refl };
-  past_prelude = omega arith;
-  of_program = omega arith;
+  may = (omega arith, omega arith);
   place = omega arith;
 }
 
-no_open_of_prelude : Can s0 (St.Open 0 13) → ⊥
-no_open_of_prelude h = absurd (omega (arith, h.past_prelude))
+no_open_of_prelude : Can s0 (St.Open 0 (Ch.Def 13)) → ⊥
+no_open_of_prelude h = absurd (omega (arith, h.may.0))
 
 abbrev is_open : Option Opened → Bool
 is_open None = false
@@ -76,9 +78,9 @@ no_search h = absurd (omega (arith, subst (λ (t : TaskState). 0 < length (keys_
 -- ---- the definition is open
 
 abbrev s1 : Core
-s1 = with_opened s0 (Some (record { task = 0; site = 14; cut = [] }))
+s1 = with_opened s0 (Some (record { task = 0; change = Ch.Def 14; cut = [] }))
 
-opened_f : Leaves Late s0 s1 (St.Open 0 14)
+opened_f : Leaves Late s0 s1 (St.Open 0 (Ch.Def 14))
 opened_f = refl
 
 -- tasks may look, and nothing else may be made
@@ -91,7 +93,7 @@ no_key_while_open h = true≢false (ap is_open h.free.closed)
 no_end_while_open : (r : Record) → Can s1 (St.Done 0 r) → ⊥
 no_end_while_open r h = true≢false (ap is_open h.free.closed)
 
-no_rows : (r : ℕ) → IsToCut Late s1.events 14 r → ⊥
+no_rows : (r : ℕ) → IsToCut Late s1.events (Ch.Def 14) r → ⊥
 no_rows r h = true≢false (sym (ap is_row h.stands))
   where
     is_row : Option CacheRow → Bool
@@ -100,7 +102,7 @@ no_rows r h = true≢false (sym (ap is_row h.stands))
 
 -- there is nothing to cut
 publish_f : Can s1 St.Publish
-publish_f = (record { task = 0; site = 14; cut = [] }, refl, λ r h. no_rows r h.ends)
+publish_f = (record { task = 0; change = Ch.Def 14; cut = [] }, refl, λ r h. no_rows r h.ends)
 
 -- ---- it is published, and its task has seen it
 
@@ -108,7 +110,7 @@ abbrev s2 : Core
 s2 = with_event s1 0 (Ev.Def 0 14)
 
 published_f : Leaves Late s1 s2 St.Publish
-published_f = (record { task = 0; site = 14; cut = [] }, refl, refl)
+published_f = (record { task = 0; change = Ch.Def 14; cut = [] }, refl, refl)
 
 seen_then : s2.tasks ≡ record { seen = 2; known = []; search = None } ∷ []
 seen_then = refl
@@ -141,7 +143,7 @@ fill_f = record {
   seen = record { state = record { seen = 3; known = []; search = None }; at = refl; key = omega arith; low = omega arith; high = omega arith };
   key = key 12;
   named = refl;
-  choice = (15, only_choice (types_of Late) (record { number = 15; sig = plain no_types }) no_types (no_arguments (types_of Late)));
+  choice = (15, selects_plain Late refl s3.events 12 no_types 15 (C.Method 15) (only_choice (types_of Late) (record { number = 15; sig = plain no_types }) no_types (no_arguments (types_of Late))));
   uncovered = none;
   place = omega arith;
 }
@@ -167,7 +169,7 @@ filled_f = record {
   first = 15;
   right = record {
     begun = inr (omega arith, (refl, no_arguments (types_of Late)));
-    choice = (15, only_choice (types_of Late) (record { number = 15; sig = plain no_types }) no_types (no_arguments (types_of Late)), refl);
+    choice = (15, selects_plain Late refl s3.events 12 no_types 15 (C.Method 15) (only_choice (types_of Late) (record { number = 15; sig = plain no_types }) no_types (no_arguments (types_of Late))), refl);
   };
   covers = record { begun = omega arith; going = λ d low high t. above d low t };
   is = refl;
@@ -244,12 +246,12 @@ no_more_rows (t, search, r, h) =
 -- ---- `f` is defined once more: its row is cut first
 
 abbrev again : Opened
-again = record { task = 0; site = 16; cut = [] }
+again = record { task = 0; change = Ch.Def 16; cut = [] }
 
 abbrev s7 : Core
 s7 = with_opened s6 (Some again)
 
-to_cut : IsToCut Late s7.events 16 0
+to_cut : IsToCut Late s7.events (Ch.Def 16) 0
 to_cut = record {
   row = record { key = 0; site = 14; first = 15 };
   stands = refl;
@@ -276,7 +278,7 @@ no_publish_before_cut (o, e, none) =
     subst (λ (x : Opened). ((r : ℕ) → IsLeft Late room s7 x r → ⊥) → ⊥) q (λ f. f 0 (record { ends = to_cut; not_cut = not_in_none })) none
 
 abbrev s8 : Core
-s8 = with_opened s7 (Some (record { task = 0; site = 16; cut = 0 ∷ [] }))
+s8 = with_opened s7 (Some (record { task = 0; change = Ch.Def 16; cut = 0 ∷ [] }))
 
 was_cut : Leaves Late s7 s8 (St.Cut 0)
 was_cut = (again, refl, refl)
@@ -356,6 +358,6 @@ no_fetch_of_unknown h = true≢false (sym (ap has h.ended.1))
 reaches_row : Reaches Late room s0 s4
 reaches_row =
     goes s0 s3 s4 (St.Fill 0 0 15)
-    (goes s0 s2 s3 (St.Key 0 (key 12)) (goes s0 s1 s2 St.Publish (goes s0 s0 s1 (St.Open 0 14) (stays s0) open_f opened_f) publish_f published_f) name_f named_f)
+    (goes s0 s2 s3 (St.Key 0 (key 12)) (goes s0 s1 s2 St.Publish (goes s0 s0 s1 (St.Open 0 (Ch.Def 14)) (stays s0) open_f opened_f) publish_f published_f) name_f named_f)
     fill_f
     filled_f

@@ -9,6 +9,7 @@ use Rattle.jl_calculus.specs.Ranges.{CacheRow, keys_of, rows_of, Touches, HasNoE
 use Rattle.jl_calculus.specs.Words.{world_word, notes_word, head_word, IsToCut, AreAllCut, IsRowWords}
 use Rattle.jl_calculus.proofs.GrowthLemmas.{touches_known}
 use Rattle.jl_calculus.proofs.TaskHistories.{Late, key, late_0, late_5, late_9, no_arguments}
+use Rattle.jl_calculus.specs.declared.history.Change.TheVariants as Ch
 
 -- one more row, for `f` in the world of its second definition
 abbrev es : List Event
@@ -128,17 +129,17 @@ key_of (Some k) = k
 key_is : (r : CacheRow) (k : Key) (found : CacheRow) → r ≡ found → slice_get (keys_of es) found.key ≡ Some k → key_of (slice_get (keys_of es) r.key) ≡ k
 key_is r k found e n = ap key_of (subst (λ (x : CacheRow). slice_get (keys_of es) x.key ≡ Some k) (sym e) n)
 
-cut_is_all : AreAllCut Late es 16 (2 ∷ [])
+cut_is_all : AreAllCut Late es (Ch.Def 16) (2 ∷ [])
 cut_is_all r = (to r, from r)
   where
-    ends : IsToCut Late es 16 2
+    ends : IsToCut Late es (Ch.Def 16) 2
     ends = record { row = row 1 16 17; stands = refl; key = key 12; named = refl; no_end = second_has_no_end; touched = (refl, no_arguments (types_of Late)) }
 
-    to : (r : ℕ) → Contains (2 ∷ []) r → IsToCut Late es 16 r
-    to r (zero, l, e) = subst (IsToCut Late es 16) e ends
+    to : (r : ℕ) → Contains (2 ∷ []) r → IsToCut Late es (Ch.Def 16) r
+    to r (zero, l, e) = subst (IsToCut Late es (Ch.Def 16)) e ends
     to r (suc k, l, e) = absurd (omega (arith, l))
 
-    from : (r : ℕ) → IsToCut Late es 16 r → Contains (2 ∷ []) r
+    from : (r : ℕ) → IsToCut Late es (Ch.Def 16) r → Contains (2 ∷ []) r
     from zero h =
         let k : key 13 ≡ h.key = key_is (row 0 15 16) h.key h.row (ap row_of h.stands) h.named in
         absurd (omega (arith, h.touched.0, ap (λ (x : Key). x.function) k))

@@ -13,7 +13,7 @@ use Rattle.jl_calculus.specs.declared.history.Outcome.{Outcome}
 use Rattle.jl_calculus.specs.declared.history.Outcome.TheVariants as O
 use Rattle.jl_calculus.specs.declared.history.TraceItem.{TraceItem}
 use Rattle.jl_calculus.specs.declared.history.TraceItem.TheVariants.{Look}
-use Rattle.jl_calculus.specs.Run.{Question, a_look, a_definition, a_spawn, a_fetch, Setting, State, Then, IsEnd, Caller, Comes, calls, runs_item, items_run, looks, defines, first_state, open_calls}
+use Rattle.jl_calculus.specs.Run.{Question, a_look, a_definition, a_deletion, a_spawn, a_fetch, Setting, State, Then, IsEnd, Caller, Comes, calls, runs_item, items_run, looks, defines, first_state, open_calls}
 use Rattle.jl_calculus.proofs.Forms.{item_form_is}
 use Rattle.jl_calculus.proofs.WorldScripts.{made}
 
@@ -53,6 +53,7 @@ comes_to_f es outcome output count spawned = record { ran = made (first_is es (a
 abbrev pub site_asked : Question → ℕ
 site_asked a_look = 0
 site_asked (a_definition site) = site
+site_asked (a_deletion place) = 0
 site_asked (a_spawn start) = 0
 site_asked (a_fetch task) = 0
 

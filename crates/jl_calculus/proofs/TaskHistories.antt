@@ -33,6 +33,8 @@ use Rattle.jl_calculus.specs.Legal.{IsKeyOf, MayStand, HasTrueTrace, IsTraced, A
 use Rattle.jl_calculus.specs.Past.{done_of, tasks_of}
 use Rattle.jl_calculus.specs.Ranges.{CacheRow, keys_of, rows_of, IsRightFill}
 use Rattle.jl_calculus.proofs.KeyHistories.{running}
+use Rattle.jl_calculus.proofs.SelectLemmas.{selects_plain}
+use Rattle.jl_program.specs.declared.choice.Choice.TheVariants as C
 
 abbrev pub no_types : List Ty
 no_types = []
@@ -70,6 +72,7 @@ Late = record {
   functions = prelude_functions ++ codes "f" ∷ codes "late" ∷ [];
   sites = prelude_sites ++ site 12 (E.Int (pos 1)) ∷ site 13 (call 12) ∷ site 12 (E.Int (pos 2)) ∷ [];
   spawns = call 13 ∷ [];
+  deletes = [];
   top =
       I.Define 14 ∷ I.Define 15 ∷ I.Bind 0 (E.Spawn 0) ∷ I.Define 16 ∷ I.Do (X.Print (Pi.Show (X.Fetch (E.Local 0)) ∷ []) true)
       ∷ I.Do (X.Print (Pi.Show (call 12) ∷ []) true) ∷ [];
@@ -123,13 +126,13 @@ late_history = late_9 ++ Ev.Done 0 late_root ∷ []
 right_late : IsRightFill Late late_5 (key 13) 15 16
 right_late = record {
   begun = inr (omega arith, (refl, no_arguments (types_of Late)));
-  choice = (16, only_choice (types_of Late) (record { number = 16; sig = plain no_types }) no_types (no_arguments (types_of Late)), refl);
+  choice = (16, selects_plain Late refl late_5 13 no_types 16 (C.Method 16) (only_choice (types_of Late) (record { number = 16; sig = plain no_types }) no_types (no_arguments (types_of Late))), refl);
 }
 
 right_early : IsRightFill Late late_7 (key 12) 14 15
 right_early = record {
   begun = inr (omega arith, (refl, no_arguments (types_of Late)));
-  choice = (15, only_choice (types_of Late) (record { number = 15; sig = plain no_types }) no_types (no_arguments (types_of Late)), refl);
+  choice = (15, selects_plain Late refl late_7 12 no_types 15 (C.Method 15) (only_choice (types_of Late) (record { number = 15; sig = plain no_types }) no_types (no_arguments (types_of Late))), refl);
 }
 
 first_key : Contains (keys_of late_4) (key 13) → ⊥
@@ -152,13 +155,13 @@ late_stands = record {
   come = (
     record { nothing_before = refl; allowed = omega arith },
     (
-      record { running = running late_0 refl (omega arith) refl; past_prelude = omega arith; of_program = omega arith; room = omega arith },
+      record { running = running late_0 refl (omega arith) refl; may = (omega arith, omega arith); room = omega arith },
       (
-        record { running = running late_1 refl (omega arith) refl; past_prelude = omega arith; of_program = omega arith; room = omega arith },
+        record { running = running late_1 refl (omega arith) refl; may = (omega arith, omega arith); room = omega arith },
         (
           record { running = running late_2 refl (omega arith) refl; of_program = omega arith; next = refl; room = omega arith },
           (
-            record { running = running late_3 refl (omega arith) refl; past_prelude = omega arith; of_program = omega arith; room = omega arith },
+            record { running = running late_3 refl (omega arith) refl; may = (omega arith, omega arith); room = omega arith },
             (
               record { proper = key_of Late 13 refl (omega arith); new = first_key; room = omega arith },
               (
@@ -179,10 +182,10 @@ late_stands = record {
   );
 }
 
-late_task_true : HasTrueTrace late_8 1 late_task
+late_task_true : HasTrueTrace Late late_8 1 late_task
 late_task_true = record { true_items = tt; in_order = omega arith }
 
-late_root_true : HasTrueTrace late_9 0 late_root
+late_root_true : HasTrueTrace Late late_9 0 late_root
 late_root_true = record {
   true_items = (
     (omega arith, refl),
@@ -200,7 +203,7 @@ late_root_true = record {
   );
 }
 
-pub late_traced : IsTraced late_history
+pub late_traced : IsTraced Late late_history
 late_traced = record {
   traces = (tt, (tt, (tt, (tt, (tt, (tt, (tt, (tt, (tt, (late_task_true, (late_root_true, tt)))))))))));
   own = (tt, (tt, (tt, (tt, (tt, (tt, (tt, (tt, (tt, (refl, (refl, tt)))))))))));
@@ -225,6 +228,7 @@ Make = record {
   functions = prelude_functions ++ codes "make" ∷ codes "g" ∷ [];
   sites = prelude_sites ++ site 12 (X.Block (S.Do (X.Eval (I.Define 15 ∷ [])) ∷ S.Do (E.Int (pos 0)) ∷ [])) ∷ site 13 (E.Int (pos 7)) ∷ [];
   spawns = call 12 ∷ [];
+  deletes = [];
   top = I.Define 14 ∷ I.Bind 0 (E.Spawn 0) ∷ I.Do (X.Fetch (E.Local 0)) ∷ I.Do (X.Print (Pi.Show (call 13) ∷ []) true) ∷ [];
 }
 
@@ -259,11 +263,11 @@ make_stands = record {
   come = (
     record { nothing_before = refl; allowed = omega arith },
     (
-      record { running = running late_0 refl (omega arith) refl; past_prelude = omega arith; of_program = omega arith; room = omega arith },
+      record { running = running late_0 refl (omega arith) refl; may = (omega arith, omega arith); room = omega arith },
       (
         record { running = running make_1 refl (omega arith) refl; of_program = omega arith; next = refl; room = omega arith },
         (
-          record { running = record { begun = refl; started = omega arith; going = refl }; past_prelude = omega arith; of_program = omega arith; room = omega arith },
+          record { running = record { begun = refl; started = omega arith; going = refl }; may = (omega arith, omega arith); room = omega arith },
           (record { begun = refl; started = omega arith; going = refl }, (running make_4 refl (omega arith) refl, tt)),
         ),
       ),
@@ -271,16 +275,16 @@ make_stands = record {
   );
 }
 
-make_task_true : HasTrueTrace make_3 1 make_task
+make_task_true : HasTrueTrace Make make_3 1 make_task
 make_task_true = record { true_items = ((omega arith, refl), (refl, tt)); in_order = (omega arith, (omega arith, omega arith)) }
 
-make_root_true : HasTrueTrace make_4 0 make_root
+make_root_true : HasTrueTrace Make make_4 0 make_root
 make_root_true = record {
   true_items = ((omega arith, refl), (refl, ((omega arith, refl), ((start 15, refl), ((omega arith, refl), ((omega arith, refl), ((omega arith, refl), tt)))))));
   in_order = (omega arith, (omega arith, (omega arith, (omega arith, (omega arith, (omega arith, (omega arith, omega arith)))))));
 }
 
-pub make_traced : IsTraced make_history
+pub make_traced : IsTraced Make make_history
 make_traced = record { traces = (tt, (tt, (tt, (tt, (make_task_true, (make_root_true, tt)))))); own = (tt, (tt, (tt, (tt, (refl, (refl, tt)))))) }
 
 pub make_finished : AreFinished make_history
@@ -290,5 +294,5 @@ make_text : text_of Make make_history ≡ codes "7\n"
 make_text = refl
 
 -- who fetched has seen the definition: a look after the fetch can't be older
-no_old_look : HasTrueTrace make_4 0 (ended (Look 14 1 ∷ Def 14 1 ∷ Look 15 2 ∷ Spawn 1 2 ∷ Look 15 3 ∷ Fetch 1 (int 0) 5 ∷ Look 15 3 ∷ []) (O.Value V.Nothing) [] 1) → ⊥
+no_old_look : HasTrueTrace Make make_4 0 (ended (Look 14 1 ∷ Def 14 1 ∷ Look 15 2 ∷ Spawn 1 2 ∷ Look 15 3 ∷ Fetch 1 (int 0) 5 ∷ Look 15 3 ∷ []) (O.Value V.Nothing) [] 1) → ⊥
 no_old_look h = absurd (omega (arith, h.in_order.1.1.1.1.1.1.0))

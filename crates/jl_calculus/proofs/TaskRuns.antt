@@ -36,6 +36,7 @@ use Rattle.jl_calculus.specs.Run.{Setting, setting_of, State, Then, IsEnd, Calle
 use Rattle.jl_calculus.proofs.Forms.{form_is, item_form_is, stmt_form_is, int_runs, local_runs, call_runs, print_runs, show_runs, define_runs, do_runs}
 use Rattle.jl_calculus.proofs.WorldScripts.{made}
 use Rattle.jl_calculus.proofs.TaskHistories.{Late, Make, call, start, int, no_types, no_arguments, late_8, late_9, late_task, late_root, late_trace, late_history, late_stands, late_traced, late_finished, make_3, make_4, make_task, make_root, make_trace, make_history, make_stands, make_traced, make_finished}
+use Rattle.jl_calculus.proofs.SelectLemmas.{selects_plain}
 
 -- ---- of two definitions without parameters the later one is chosen
 
@@ -160,9 +161,9 @@ late_runs =
     let outer : Then = λ v s. end v (with_scope s [] []) in
     let inner : Then = λ v s. outer v (with_scope s [] []) in
     let one = int_runs g Ends (calls g Ends 99998) (pos 1) 16 (bare [] 2) inner inner stop in
-    let of_f : calls g Ends (suc 99998) 12 [] 16 (bare [] 1) outer = (C.Method 15, only_choice (types_of Late) (method (types_of Late) 15) no_types (no_arguments (types_of Late)), tt, one) in
+    let of_f : calls g Ends (suc 99998) 12 [] 16 (bare [] 1) outer = (C.Method 15, selects_plain Late refl late_8 12 [] 16 (C.Method 15) (only_choice (types_of Late) (method (types_of Late) 15) no_types (no_arguments (types_of Late))), tt, one) in
     let body = call_runs g Ends (calls g Ends 99999) 12 [] 16 (bare [] 1) outer outer of_f in
-    let of_late : calls g Ends (suc 99999) 13 [] 16 (bare [] 0) end = (C.Method 16, only_choice (types_of Late) (method (types_of Late) 16) no_types (no_arguments (types_of Late)), tt, body) in
+    let of_late : calls g Ends (suc 99999) 13 [] 16 (bare [] 0) end = (C.Method 16, selects_plain Late refl late_8 13 [] 16 (C.Method 16) (only_choice (types_of Late) (method (types_of Late) 16) no_types (no_arguments (types_of Late))), tt, body) in
     record { ran = call_runs g Ends (calls g Ends open_calls) 13 [] 16 (bare [] 0) end end of_late }
 
 -- the root, which calls `f` in world 17
@@ -187,7 +188,7 @@ late_root_runs =
     let inside : State = record { env = []; bindings = []; left = []; calls = 1; out = out; starts = start 16 ∷ [] } in
     let inner : Then = λ v s. last v (with_scope s (V.Task 1 ∷ []) []) in
     let two = int_runs g Ends (calls g Ends 99999) (pos 2) 17 inside inner inner stop in
-    let of_f : calls g Ends (suc 99999) 12 [] 17 (with_task 16 [] 0 out) last = (C.Method 17, latest_chosen (types_of Late), tt, two) in
+    let of_f : calls g Ends (suc 99999) 12 [] 17 (with_task 16 [] 0 out) last = (C.Method 17, selects_plain Late refl late_9 12 [] 17 (C.Method 17) (latest_chosen (types_of Late)), tt, two) in
     let value = call_runs g Ends called 12 [] 17 (with_task 16 [] 0 out) end last of_f in
     let sixth = print_item Late late_9 Ends (call 12) (with_task 16 [] 0 out) 17 10 [] end end value in
     let taken : List TraceItem = Fetch 1 (int 1) 10 ∷ Look 17 10 ∷ [] in
@@ -239,7 +240,7 @@ make_runs =
     let first = made (form_is g Ends within evaluated (F.Eval (I.Define 15 ∷ [])) (X.outs-Eval (I.Define 15 ∷ [])) 15 (bare left 1) after rest) defined in
     let statement = made (stmt_form_is g Ends within (S.Do evaluated) (F.Stmt::Do evaluated) (X.outs-Stmt::Do evaluated) 15 (bare left 1) after rest) first in
     let block = made (form_is g Ends within (X.Block (S.Do evaluated ∷ zero_ ∷ [])) (F.Block (S.Do evaluated ∷ zero_ ∷ [])) (X.outs-Block (S.Do evaluated ∷ zero_ ∷ [])) 15 (bare left 1) after after) statement in
-    let of_make : calls g Ends (suc 99999) 12 [] 15 (bare left 0) end = (C.Method 15, only_choice (types_of Make) (method (types_of Make) 15) no_types (no_arguments (types_of Make)), tt, block) in
+    let of_make : calls g Ends (suc 99999) 12 [] 15 (bare left 0) end = (C.Method 15, selects_plain Make refl make_3 12 [] 15 (C.Method 15) (only_choice (types_of Make) (method (types_of Make) 15) no_types (no_arguments (types_of Make))), tt, block) in
     record { ran = call_runs g Ends (calls g Ends open_calls) 12 [] 15 (bare left 0) end end of_make }
 
 -- the root, which looks after its fetch
@@ -258,7 +259,7 @@ make_root_runs =
     let inside : State = record { env = []; bindings = []; left = []; calls = 1; out = []; starts = start 15 ∷ [] } in
     let inner : Then = λ v s. last v (with_scope s (V.Task 1 ∷ []) []) in
     let seven = int_runs g Ends (calls g Ends 99999) (pos 7) 16 inside inner inner stop in
-    let of_g : calls g Ends (suc 99999) 13 [] 16 (with_task 15 [] 0 []) last = (C.Method 16, only_choice (types_of Make) (method (types_of Make) 16) no_types (no_arguments (types_of Make)), tt, seven) in
+    let of_g : calls g Ends (suc 99999) 13 [] 16 (with_task 15 [] 0 []) last = (C.Method 16, selects_plain Make refl make_4 13 [] 16 (C.Method 16) (only_choice (types_of Make) (method (types_of Make) 16) no_types (no_arguments (types_of Make))), tt, seven) in
     let value = call_runs g Ends called 13 [] 16 (with_task 15 [] 0 []) end last of_g in
     let fourth = print_item Make make_4 Ends (call 13) (with_task 15 [] 0 []) 16 5 [] end end value in
     let taken : List TraceItem = Fetch 1 (int 0) 5 ∷ Look 16 5 ∷ [] in

@@ -22,6 +22,7 @@ use Rattle.jl_calculus.specs.Run.{Setting, setting_of, State, Then, IsEnd, Calle
 use Rattle.jl_calculus.specs.World.{Selects}
 use Rattle.jl_calculus.proofs.Forms.{form_is, item_form_is}
 use Rattle.jl_calculus.proofs.WorldScripts.{made, bare}
+use Rattle.jl_calculus.proofs.SelectLemmas.{selects_plain}
 
 -- ---- `t = Threads.@spawn div(1, 0)`, and then `fetch(t)`
 
@@ -29,14 +30,14 @@ abbrev pub division : Expr
 division = X.Call 3 (E.Int (pos 1) ∷ E.Int (pos 0) ∷ [])
 
 abbrev pub failing : Program
-failing = record { decls = []; functions = prelude_functions; sites = prelude_sites; spawns = division ∷ []; top = I.Bind 0 (E.Spawn 0) ∷ I.Do (X.Fetch (E.Local 0)) ∷ [] }
+failing = record { decls = []; functions = prelude_functions; sites = prelude_sites; spawns = division ∷ []; deletes = []; top = I.Bind 0 (E.Spawn 0) ∷ I.Do (X.Fetch (E.Local 0)) ∷ [] }
 
 abbrev pub start : ℕ → Start
 start w = record { spawn = 0; env = []; bindings = []; world = w }
 
 -- the task fails, whatever the events are
 div_chosen : (es : List Event) → Selects failing es 3 two 14 (C.Method 4)
-div_chosen es = only_choice (types_of failing) (record { number = 4; sig = plain two }) two (two_apply (types_of failing))
+div_chosen es = selects_plain failing refl es 3 two 14 (C.Method 4) (only_choice (types_of failing) (record { number = 4; sig = plain two }) two (two_apply (types_of failing)))
 
 pub child_fails : (es : List Event) → Run (setting_of failing es None 10) (Some (start 14)) [] (O.Error Fa.DivideError) [] 1 []
 child_fails es =

@@ -28,6 +28,7 @@ use Rattle.jl_calculus.specs.declared.history.TraceItem.TheVariants.{Look, Def}
 use Rattle.jl_calculus.specs.Run.{Setting, setting_of, State, Then, IsEnd, Caller, Run, calls, runs, runs_stmt, runs_item, stmts_run, with_env, with_scope, first_state, open_calls}
 use Rattle.jl_calculus.specs.World.{Selects}
 use Rattle.jl_calculus.proofs.Forms.{form_is, stmt_form_is, item_form_is}
+use Rattle.jl_calculus.proofs.SelectLemmas.{selects_plain}
 
 -- from what a form runs as to the form
 pub made : {A B : Type 0} → A ≡ B → B → A
@@ -54,6 +55,7 @@ script last = record {
   functions = prelude_functions ++ codes "tryeval" ∷ codes "newfun" ∷ [];
   sites = prelude_sites ++ record { function = 12; sig = plain []; body = body last } ∷ record { function = 13; sig = plain []; body = E.Int (pos 1) } ∷ [];
   spawns = [];
+  deletes = [];
   top = I.Define 14 ∷ I.Do (X.Call 12 []) ∷ [];
 }
 
@@ -64,7 +66,7 @@ abbrev seen : List TraceItem
 seen = Look 15 2 ∷ Def 15 2 ∷ []
 
 tryeval_chosen : (last : Expr) → Selects (script last) events 12 [] 15 (C.Method 15)
-tryeval_chosen last = only_choice (types_of (script last)) (record { number = 15; sig = plain [] }) [] (empty_applies (types_of (script last)))
+tryeval_chosen last = selects_plain (script last) refl events 12 [] 15 (C.Method 15) (only_choice (types_of (script last)) (record { number = 15; sig = plain [] }) [] (empty_applies (types_of (script last))))
 
 -- the call of `tryeval` in world 15, up to the last expression of its body, in the state that the definition leaves
 module _ (last : Expr) (more : List TraceItem) (Ends : Outcome → State → Type 0) (back next : Then) where
@@ -117,7 +119,7 @@ abbrev direct : Expr
 direct = X.Call 13 []
 
 not_there : Selects (script direct) events 13 [] 15 C.None
-not_there m h = nowhere m h.applies.stands
+not_there = selects_plain (script direct) refl events 13 [] 15 C.None (λ m h. nowhere m h.applies.stands)
 
 no_method : Run (setting_of (script direct) events None 10) None (Look 14 1 ∷ Def 14 1 ∷ Look 15 2 ∷ Look 15 2 ∷ Def 15 2 ∷ []) (O.Error (Fa.NoMethod 13 [] 15)) [] 2 []
 no_method =
@@ -136,7 +138,7 @@ abbrev newest : Expr
 newest = X.Latest 13 []
 
 there : Selects (script newest) events 13 [] 16 (C.Method 16)
-there = only_choice (types_of (script newest)) (record { number = 16; sig = plain [] }) [] (empty_applies (types_of (script newest)))
+there = selects_plain (script newest) refl events 13 [] 16 (C.Method 16) (only_choice (types_of (script newest)) (record { number = 16; sig = plain [] }) [] (empty_applies (types_of (script newest))))
 
 latest : Run (setting_of (script newest) events None 10) None (Look 14 1 ∷ Def 14 1 ∷ Look 15 2 ∷ Look 15 2 ∷ Def 15 2 ∷ Look 16 3 ∷ []) (O.Value (V.Int (pos 1))) [] 2 []
 latest =

@@ -30,7 +30,7 @@ use Rattle.jl_calculus.specs.declared.history.Outcome.{Outcome}
 use Rattle.jl_calculus.specs.Operations.{make_tuple, make_struct, make_written, make_inferred, test_type, test_order, test_same}
 use Rattle.jl_calculus.specs.Ranges.{Covers, MayBegin, IsRightFill}
 use Rattle.jl_calculus.specs.Statics.{with_statics, nominals_of, is_bad_parameter}
-use Rattle.jl_calculus.specs.World.{site_of, methods_in, Selects}
+use Rattle.jl_calculus.specs.World.{site_of, methods_made, Stands, Selects}
 
 -- it can't be that there is none, and there are no two
 pub record HasOne {X : Type 0} (P : X → Type 0) : Type 0 where
@@ -45,15 +45,16 @@ ChoiceIsOne = (P : Program) (es : List Event) (f : ℕ) (ts : List Ty) (w : ℕ)
 abbrev pub IsDecided : Type 0 → Type 0
 IsDecided A = A ⊎ (A → ⊥)
 
--- which of the methods apply, and which signature is below which, is decided
-pub record AreDecided (n : Table) (ms : List Method) (ts : List Ty) : Type 0 where
-  pub applies : (m : Method) → Contains ms m → IsDecided (Applicable n m.sig ts)
-  pub below : (a b : Method) → Contains ms a → Contains ms b → IsDecided (SigBelow n a.sig b.sig)
+-- which of the methods that changes make stand in a world, which of them apply, and which signature is below which, is decided
+pub record AreDecided (P : Program) (es : List Event) (f : ℕ) (ts : List Ty) (w : ℕ) (ms : List Method) : Type 0 where
+  pub stands : (m : Method) → Contains ms m → IsDecided (Stands P es f w m)
+  pub applies : (m : Method) → Contains ms m → IsDecided (Applicable (types_of P) m.sig ts)
+  pub below : (a b : Method) → Contains ms a → Contains ms b → IsDecided (SigBelow (types_of P) a.sig b.sig)
 
 -- where this is decided the choice is there
 abbrev pub ChoiceIsThere : Type 0
 ChoiceIsThere =
-    (P : Program) (es : List Event) (f : ℕ) (ts : List Ty) (w : ℕ) → AreDecided (types_of P) (methods_in P es f w) ts → (c : Choice) × Selects P es f ts w c
+    (P : Program) (es : List Event) (f : ℕ) (ts : List Ty) (w : ℕ) → AreDecided P es f ts w (methods_made P es f w) → (c : Choice) × Selects P es f ts w c
 
 -- a body gets one type for each variable of its signature
 abbrev pub BindingsAreThere : Type 0

@@ -10,7 +10,7 @@ use Rattle.jl_program.specs.Chooses.{Chooses}
 use Rattle.jl_program.specs.Scope.{types_of}
 use Rattle.jl_calculus.specs.declared.history.Def.{Def}
 use Rattle.jl_calculus.specs.declared.history.Event.{Event}
-use Rattle.jl_calculus.specs.Definitions.{methods_of, AppliesTo, defs_in}
+use Rattle.jl_calculus.specs.Definitions.{methods_of, AppliesTo, IsStanding}
 use Rattle.jl_calculus.specs.World.{Selects}
 
 -- where no method applies there is no candidate
@@ -34,11 +34,11 @@ abbrev pub ApplicableChoose : Type 0
 ApplicableChoose =
     (n : Table) (all some : List Method) (ts : List Ty) → AreApplicable n all ts some → (c : Choice) → Chooses n some ts c ↔ Chooses n all ts c
 
--- these are exactly the definitions of a function in a world that apply
+-- these are exactly the definitions of a function that stand in a world and apply
 abbrev pub AreThoseThatApply : Program → List Event → ℕ → List Ty → ℕ → List Def → Type 0
-AreThoseThatApply P es f ts w ds = (d : Def) → Contains ds d ↔ (Contains (defs_in P es f w) d × AppliesTo P ts d)
+AreThoseThatApply P es f ts w ds = (d : Def) → Contains ds d ↔ (IsStanding P es f w d × AppliesTo P ts d)
 
--- the choice among the definitions of a function in a world that apply is the choice in that world
+-- the choice among the definitions of a function that stand in a world and apply is the choice in that world
 abbrev pub ThoseThatApplySelect : Type 0
 ThoseThatApplySelect =
     (P : Program) (es : List Event) (f : ℕ) (ts : List Ty) (w : ℕ) (ds : List Def) → AreThoseThatApply P es f ts w ds

@@ -14,6 +14,7 @@ use Rattle.jl_program.specs.declared.tree.Program.{Program}
 use Rattle.jl_program.specs.declared.tree.Start.{Start}
 use Rattle.jl_program.specs.Meaning.{datum}
 use Rattle.jl_program.specs.Prelude.{prelude_count}
+use Rattle.jl_calculus.specs.declared.history.Change.{Change}
 use Rattle.jl_calculus.specs.declared.history.Event.{Event}
 use Rattle.jl_calculus.specs.declared.history.Event.TheVariants as Ev
 use Rattle.jl_calculus.specs.declared.history.Outcome.{Outcome}
@@ -22,12 +23,12 @@ use Rattle.jl_calculus.specs.declared.history.Record.{Record}
 use Rattle.jl_calculus.specs.declared.step.Step.{Step}
 use Rattle.jl_calculus.specs.declared.step.Step.TheVariants as St
 use Rattle.jl_calculus.specs.Kept.{Places}
-use Rattle.jl_calculus.specs.Legal.{IsRunning, IsKeyOf, HasTrueTrace, HasOwnEvents}
+use Rattle.jl_calculus.specs.Legal.{IsRunning, IsKeyOf, MayBeMade, HasTrueTrace, HasOwnEvents}
 use Rattle.jl_model.specs.declared.limits.TheConstants.{MOST_WORLDS, MOST_TASKS}
 use Rattle.jl_calculus.specs.Past.{tasks_of, done_of}
 use Rattle.jl_calculus.specs.Ranges.{keys_of, rows_of, Covers, IsCovered, IsRightFill}
 use Rattle.jl_calculus.specs.Words.{world_length, link_of, fill_length, IsToCut, IsRowWords}
-use Rattle.jl_calculus.specs.World.{world_of, Selects}
+use Rattle.jl_calculus.specs.World.{world_of, change_event, Selects}
 
 -- ---- what mentions tasks
 
@@ -92,13 +93,13 @@ pub record TaskState : Type 0 where
   pub known : List ℕ
   pub search : Option Search
 
--- an open definition: the task that makes it, its site, and the rows that were cut for it
+-- an open change: the task that makes it, the change, and the rows that were cut for it
 pub record Opened : Type 0 where
   pub task : ℕ
-  pub site : ℕ
+  pub change : Change
   pub cut : List ℕ
 
--- a state: the events, the tasks by their numbers, and the open definition
+-- a state: the events, the tasks by their numbers, and the open change
 pub record Core : Type 0 where
   pub events : List Event
   pub tasks : List TaskState
@@ -108,7 +109,7 @@ pub record Core : Type 0 where
 abbrev pub first_core : ℕ → Core
 first_core fuel = record { events = Ev.Begin fuel ∷ []; tasks = record { seen = 1; known = []; search = None } ∷ []; opened = None }
 
--- the rows that were cut for the open definition
+-- the rows that were cut for the open change
 abbrev pub cut_for : Option Opened → List ℕ
 cut_for None = []
 cut_for (Some o) = o.cut
@@ -116,7 +117,7 @@ cut_for (Some o) = o.cut
 -- ---- when a step is enabled
 
 module _ (P : Program) (room : Places) (s : Core) where
-  -- the task is running, and no definition is open
+  -- the task is running, and no change is open
   pub record IsFree (task : ℕ) : Type 0 where
     pub running : IsRunning s.events task
     pub closed : s.opened ≡ None
@@ -145,7 +146,7 @@ module _ (P : Program) (room : Places) (s : Core) where
     pub at : IsAt task state
     pub high : w ≤ world_of (take state.seen s.events)
 
-  -- a definition of this site is open, by this task, and these rows were cut for it
+  -- this change is open, by this task, and these rows were cut for it
   abbrev pub IsOpen : Opened → Type 0
   IsOpen o = s.opened ≡ Some o
 
@@ -177,15 +178,14 @@ module _ (P : Program) (room : Places) (s : Core) where
     pub uncovered : IsCovered P s.events number key w → ⊥
     pub place : length (rows_of s.events) < room.rows
 
-  pub record CanOpen (task site : ℕ) : Type 0 where
+  pub record CanOpen (task : ℕ) (change : Change) : Type 0 where
     pub free : IsFree task
-    pub past_prelude : prelude_count ≤ site
-    pub of_program : site < length P.sites
+    pub may : MayBeMade P s.events change
     pub place : world_of s.events < MOST_WORLDS
 
-  -- a row that the open definition will end, and that was not cut for it yet
+  -- a row that the open change will end, and that was not cut for it yet
   pub record IsLeft (o : Opened) (r : ℕ) : Type 0 where
-    pub ends : IsToCut P s.events o.site r
+    pub ends : IsToCut P s.events o.change r
     pub not_cut : Contains o.cut r → ⊥
 
   abbrev pub CanCut : ℕ → Type 0
@@ -203,7 +203,7 @@ module _ (P : Program) (room : Places) (s : Core) where
 
   pub record CanEnd (task : ℕ) (ended : Record) : Type 0 where
     pub free : IsFree task
-    pub traced : HasTrueTrace s.events task ended
+    pub traced : HasTrueTrace P s.events task ended
     pub own : HasOwnEvents s.events task ended
     pub known : Knows task (in_outcome ended.outcome)
 
@@ -218,7 +218,7 @@ module _ (P : Program) (room : Places) (s : Core) where
   IsEnabled (St.Head task key w) = CanSearch task key w
   IsEnabled (St.Row task) = CanRead task
   IsEnabled (St.Fill task key w) = CanFill task key w
-  IsEnabled (St.Open task site) = CanOpen task site
+  IsEnabled (St.Open task change) = CanOpen task change
   IsEnabled (St.Cut r) = CanCut r
   IsEnabled St.Publish = CanPublish
   IsEnabled (St.Spawn task start) = CanSpawn task start
@@ -246,7 +246,7 @@ with_search search t = record { seen = t.seen; known = t.known; search = Some se
 abbrev pub with_known : List ℕ → TaskState → TaskState
 with_known others t = record { seen = t.seen; known = t.known ++ others; search = t.search }
 
--- one more event, which its task has seen then, with all before it; a definition that was open is open no longer
+-- one more event, which its task has seen then, with all before it; a change that was open is open no longer
 abbrev pub with_event : Core → ℕ → Event → Core
 with_event s task e = record { events = s.events ++ e ∷ []; tasks = at_task (with_seen (length s.events + 1)) task s.tasks; opened = None }
 
@@ -271,7 +271,7 @@ abbrev pub child_of : Core → Start → TaskState
 child_of s start = record { seen = length s.events + 1; known = in_start start; search = None }
 
 abbrev pub with_cut : Opened → ℕ → Opened
-with_cut o r = record { task = o.task; site = o.site; cut = o.cut ++ r ∷ [] }
+with_cut o r = record { task = o.task; change = o.change; cut = o.cut ++ r ∷ [] }
 
 abbrev pub with_opened : Core → Option Opened → Core
 with_opened s o = record { events = s.events; tasks = s.tasks; opened = o }
@@ -313,9 +313,9 @@ module _ (P : Program) (s after : Core) where
   Leaves (St.Head task key w) = after ≡ change_task s task (λ t. with_search (new_search s key w) (with_seen (fill_length key s.events) t))
   Leaves (St.Row task) = HasRead task
   Leaves (St.Fill task key w) = HasFilled task key w
-  Leaves (St.Open task site) = after ≡ with_opened s (Some (record { task = task; site = site; cut = [] }))
+  Leaves (St.Open task change) = after ≡ with_opened s (Some (record { task = task; change = change; cut = [] }))
   Leaves (St.Cut r) = (o : Opened) × (s.opened ≡ Some o) × (after ≡ with_opened s (Some (with_cut o r)))
-  Leaves St.Publish = (o : Opened) × (s.opened ≡ Some o) × (after ≡ with_event s o.task (Ev.Def o.task o.site))
+  Leaves St.Publish = (o : Opened) × (s.opened ≡ Some o) × (after ≡ with_event s o.task (change_event o.task o.change))
   Leaves (St.Spawn task start) = after ≡ with_child (change_task (with_event s task (Ev.Spawn task (tasks_of s.events) start)) task (with_known (tasks_of s.events ∷ []))) (child_of s start)
   Leaves (St.Done task ended) = after ≡ with_event s task (Ev.Done task ended)
   Leaves (St.Fetch task of) =

@@ -12,7 +12,7 @@ use Rattle.jl_program.specs.declared.tree.Start.{Start}
 use Rattle.jl_program.specs.Valid.{IsValid}
 use Rattle.jl_calculus.specs.declared.history.Outcome.{Outcome}
 use Rattle.jl_calculus.specs.declared.history.TraceItem.{TraceItem}
-use Rattle.jl_calculus.specs.Legal.{AreTrueOf, MayStand}
+use Rattle.jl_calculus.specs.Legal.{IsKeyOf, AreTrueOf, MayStand}
 use Rattle.jl_calculus.specs.Run.{setting_of, Run}
 use Rattle.jl_calculus.specs.Views.{views_of}
 use Rattle.jl_calculus.specs.Past.{tasks_of}
@@ -49,20 +49,20 @@ abbrev pub OneFirstWorld : Type 0
 OneFirstWorld =
     (P : Program) (es : List Event) (key : Key) (a b w : ℕ) → MayBegin P es key a → MayBegin P es key b → Covers P es key a w → Covers P es key b w → a ≡ b
 
--- the choice for a key is the same in all worlds that a row of it covers
+-- the choice for a key of a valid program is the same in all worlds that a row of it covers
 abbrev pub RowsKeepTheChoice : Type 0
 RowsKeepTheChoice =
-    (P : Program) (es : List Event) (key : Key) (first w : ℕ) → Covers P es key first w
+    (P : Program) → IsValid P → (es : List Event) (key : Key) (first w : ℕ) → IsKeyOf P key → Covers P es key first w
     → (c : Choice) → Selects P es key.function key.types first c ↔ Selects P es key.function key.types w c
 
 -- so the site of a right row is that of the choice in each world that it covers
 abbrev pub RowsTellTheSite : Type 0
-RowsTellTheSite = (P : Program) (es : List Event) (key : Key) (site first w : ℕ) → IsRightFill P es key site first → Covers P es key first w → SelectsSite P es key w site
+RowsTellTheSite = (P : Program) → IsValid P → (es : List Event) (key : Key) (site first w : ℕ) → IsKeyOf P key → IsRightFill P es key site first → Covers P es key first w → SelectsSite P es key w site
 
 -- and where a row may begin and covers a world, it is right with the site of the choice there
 abbrev pub RowsAreRight : Type 0
 RowsAreRight =
-    (P : Program) (es : List Event) (key : Key) (site first w : ℕ) → MayBegin P es key first → Covers P es key first w → SelectsSite P es key w site → IsRightFill P es key site first
+    (P : Program) → IsValid P → (es : List Event) (key : Key) (site first w : ℕ) → IsKeyOf P key → MayBegin P es key first → Covers P es key first w → SelectsSite P es key w site → IsRightFill P es key site first
 
 -- a list of numbers has each task of the events once, and no other
 abbrev pub HasEachOnce : List Event → List ℕ → Type 0
@@ -80,7 +80,7 @@ IsStartSeen es (Some start) = start.world ≤ world_of es
 abbrev pub RunsStay : Type 0
 RunsStay =
     (P : Program) (es more : List Event) (room : Option Places) (fuel task : ℕ) (start : Option Start) (trace : List TraceItem) (outcome : Outcome) (output : List ℕ) (made : ℕ) (spawned : List Start)
-    → AreTrueOf es task trace → IsStartSeen es start → Run (setting_of P es room fuel) start trace outcome output made spawned
+    → AreTrueOf P es task trace → IsStartSeen es start → Run (setting_of P es room fuel) start trace outcome output made spawned
     → Run (setting_of P (es ++ more) room fuel) start trace outcome output made spawned
 
 -- for a valid program, what is visible at its spawn places is what its validity was shown with

@@ -45,7 +45,7 @@ module _ (P : Program) where
 
   -- an item is true of the events, for the task of the seat
   abbrev pub IsLearntOf : List Event → ℕ → Learnt → Type 0
-  IsLearntOf es task (traced i) = IsTrueOf es task i
+  IsLearntOf es task (traced i) = IsTrueOf P es task i
   IsLearntOf es task (named number key p) = (p ≤ length es) × IsNamed (take p es) number key
   IsLearntOf es task (answered f ts w c p) = (p ≤ length es) × (w ≤ world_of (take p es)) × Selects P (take p es) f ts w c
   IsLearntOf es task (chosen number w site p) = (p ≤ length es) × IsChosen (take p es) number w site

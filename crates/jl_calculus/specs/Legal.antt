@@ -5,6 +5,8 @@
 use Rattle.std.specs.Prelude.{ℕ, cond, nat_eq, ◌+◌, ◌≡◌, ◌<◌, ◌≤◌, List, [], ◌∷◌, ◌++◌, All, length, slice_get, Option, None, Some, IsSome}
 use Rattle.std.specs.List.{Contains}
 use Rattle.jl_model.specs.declared.ty.Key.{Key}
+use Rattle.jl_calculus.specs.declared.history.Change.{Change}
+use Rattle.jl_calculus.specs.declared.history.Change.TheVariants as Ch
 use Rattle.jl_calculus.specs.declared.history.Event.{Event}
 use Rattle.jl_calculus.specs.declared.history.Event.TheVariants as Ev
 use Rattle.jl_calculus.specs.declared.history.Outcome.{Outcome}
@@ -23,7 +25,7 @@ use Rattle.jl_calculus.specs.Past.{tasks_of, done_of, IsTrueOf, IsInOrder, own_i
 use Rattle.jl_calculus.specs.Ranges.{CacheRow, keys_of, rows_of, IsRightFill}
 use Rattle.jl_calculus.specs.Run.{setting_of, Run}
 use Rattle.jl_program.specs.Text.{error_line}
-use Rattle.jl_calculus.specs.World.{world_of}
+use Rattle.jl_calculus.specs.World.{world_of, FindsMethod}
 
 -- the fuel of each task, where a Begin stands first
 abbrev pub fuel_of : List Event → Option ℕ
@@ -32,6 +34,7 @@ fuel_of (Ev.Begin fuel ∷ es) = Some fuel
 fuel_of (Ev.Key key ∷ es) = None
 fuel_of (Ev.Fill key site first ∷ es) = None
 fuel_of (Ev.Def by site ∷ es) = None
+fuel_of (Ev.Del by place ∷ es) = None
 fuel_of (Ev.Spawn parent child start ∷ es) = None
 fuel_of (Ev.Done by ended ∷ es) = None
 
@@ -70,11 +73,15 @@ module _ (P : Program) (es : List Event) where
     pub new : (row : CacheRow) → Contains (rows_of es) row → row.key ≡ number → row.first ≡ first → ⊥
     pub room : length (rows_of es) < MOST_CACHE_ROWS
 
-  -- a definition is by a running task, of a site of the script, in a world that is not the last
-  pub record IsDefinition (task site : ℕ) : Type 0 where
+  -- a change may be made in the newest world: a definition is of a site of the script, and a deletion finds a method to delete
+  abbrev pub MayBeMade : Change → Type 0
+  MayBeMade (Ch.Def site) = (prelude_count ≤ site) × (site < length P.sites)
+  MayBeMade (Ch.Del place) = FindsMethod P es place
+
+  -- a change is by a running task, may be made, and comes in a world that is not the last
+  pub record IsChange (task : ℕ) (change : Change) : Type 0 where
     pub running : IsRunning es task
-    pub past_prelude : prelude_count ≤ site
-    pub of_program : site < length P.sites
+    pub may : MayBeMade change
     pub room : world_of es < MOST_WORLDS
 
   -- a spawn is by a running task, at a place of the program, of the next task, and there is room for it
@@ -89,16 +96,17 @@ module _ (P : Program) (es : List Event) where
   MayCome (Ev.Begin fuel) = IsBegin fuel
   MayCome (Ev.Key key) = IsNewKey key
   MayCome (Ev.Fill key site first) = IsNewFill key site first
-  MayCome (Ev.Def task site) = IsDefinition task site
+  MayCome (Ev.Def task site) = IsChange task (Ch.Def site)
+  MayCome (Ev.Del task place) = IsChange task (Ch.Del place)
   MayCome (Ev.Spawn task child start) = IsSpawn task child start
   MayCome (Ev.Done task ended) = IsRunning es task
 
 -- ---- what the end of a task says of it
 
 -- each item is true of the events
-abbrev pub AreTrueOf : List Event → ℕ → List TraceItem → Type 0
-AreTrueOf es task [] = Unit {0}
-AreTrueOf es task (i ∷ is) = IsTrueOf es task i × AreTrueOf es task is
+abbrev pub AreTrueOf : Program → List Event → ℕ → List TraceItem → Type 0
+AreTrueOf P es task [] = Unit {0}
+AreTrueOf P es task (i ∷ is) = IsTrueOf P es task i × AreTrueOf P es task is
 
 -- where a task started: the root has no start
 abbrev pub start_of : ℕ → List Event → Option Start
@@ -108,6 +116,7 @@ start_of task (Ev.Begin fuel ∷ es) = start_of task es
 start_of task (Ev.Key key ∷ es) = start_of task es
 start_of task (Ev.Fill key site first ∷ es) = start_of task es
 start_of task (Ev.Def by site ∷ es) = start_of task es
+start_of task (Ev.Del by place ∷ es) = start_of task es
 start_of task (Ev.Done by ended ∷ es) = start_of task es
 
 -- the least place of the first item of a task's trace, among events that stand from a place on: past its Spawn, and 1 for the root
@@ -118,14 +127,15 @@ first_place task p (Ev.Begin fuel ∷ es) = first_place task (p + 1) es
 first_place task p (Ev.Key key ∷ es) = first_place task (p + 1) es
 first_place task p (Ev.Fill key site first ∷ es) = first_place task (p + 1) es
 first_place task p (Ev.Def by site ∷ es) = first_place task (p + 1) es
+first_place task p (Ev.Del by place ∷ es) = first_place task (p + 1) es
 first_place task p (Ev.Done by ended ∷ es) = first_place task (p + 1) es
 
 -- the items of its trace are true and in order
-pub record HasTrueTrace (es : List Event) (task : ℕ) (ended : Record) : Type 0 where
-  pub true_items : AreTrueOf es task ended.trace
+pub record HasTrueTrace (P : Program) (es : List Event) (task : ℕ) (ended : Record) : Type 0 where
+  pub true_items : AreTrueOf P es task ended.trace
   pub in_order : IsInOrder (first_place task 0 es) ended.trace (length es)
 
--- its definitions and spawns among the events are those of its trace, in order, each once
+-- its definitions, deletions and spawns among the events are those of its trace, in order, each once
 abbrev pub HasOwnEvents : List Event → ℕ → Record → Type 0
 HasOwnEvents es task ended = own_events task 0 es ≡ own_items ended.trace
 
@@ -141,6 +151,7 @@ OnDone R (Ev.Begin fuel) = Unit {0}
 OnDone R (Ev.Key key) = Unit {0}
 OnDone R (Ev.Fill key site first) = Unit {0}
 OnDone R (Ev.Def task site) = Unit {0}
+OnDone R (Ev.Del task place) = Unit {0}
 OnDone R (Ev.Spawn task child start) = Unit {0}
 OnDone R (Ev.Done task ended) = R task ended
 
@@ -157,8 +168,8 @@ pub record MayStand (P : Program) (es : List Event) : Type 0 where
   pub come : EachAfter (MayCome P) [] es
 
 -- each end of a task has a true trace, and the task's own events
-pub record IsTraced (es : List Event) : Type 0 where
-  pub traces : EachAfter (λ past. OnDone (HasTrueTrace past)) [] es
+pub record IsTraced (P : Program) (es : List Event) : Type 0 where
+  pub traces : EachAfter (λ past. OnDone (HasTrueTrace P past)) [] es
   pub own : EachAfter (λ past. OnDone (HasOwnEvents past)) [] es
 
 -- what each end of a task tells is a run over the events before it
@@ -168,7 +179,7 @@ AreRuns P room es = EachAfter (λ past. OnDone (HasRun P room past)) [] es
 -- the events are legal so far
 pub record IsLegalSoFar (P : Program) (es : List Event) : Type 0 where
   pub stand : MayStand P es
-  pub traced : IsTraced es
+  pub traced : IsTraced P es
   pub runs : AreRuns P None es
 
 -- each task has a Done

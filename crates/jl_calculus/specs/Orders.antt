@@ -13,6 +13,7 @@ children_of task (Ev.Begin fuel ∷ es) = children_of task es
 children_of task (Ev.Key key ∷ es) = children_of task es
 children_of task (Ev.Fill key site first ∷ es) = children_of task es
 children_of task (Ev.Def by site ∷ es) = children_of task es
+children_of task (Ev.Del by place ∷ es) = children_of task es
 children_of task (Ev.Done by ended ∷ es) = children_of task es
 
 -- a task before its children, each with its whole subtree, as far as so many generations

@@ -13,7 +13,7 @@ use Rattle.jl_program.specs.declared.value.Value.{Value}
 use Rattle.jl_program.specs.declared.value.Value.TheVariants as V
 use Rattle.jl_calculus.specs.declared.history.Event.{Event}
 use Rattle.jl_calculus.specs.declared.history.TraceItem.{TraceItem}
-use Rattle.jl_calculus.specs.declared.history.TraceItem.TheVariants.{Look, Def, Spawn, Fetch, WorldFull, TaskFull}
+use Rattle.jl_calculus.specs.declared.history.TraceItem.TheVariants.{Look, Def, Del, Spawn, Fetch, WorldFull, TaskFull, Absent}
 use Rattle.jl_program.specs.declared.choice.Choice.{Choice}
 use Rattle.jl_program.specs.declared.choice.Choice.TheVariants as C
 use Rattle.jl_calculus.specs.declared.history.Outcome.{Outcome}
@@ -41,10 +41,12 @@ use Rattle.jl_calculus.specs.Kept.{Places, Keeps}
 use Rattle.jl_calculus.specs.Operations.{field_of, part_of, make_tuple, make_written, make_inferred, test_type, test_order, test_same}
 use Rattle.jl_calculus.specs.World.{site_of, Selects}
 
--- what a task asks of the others: the newest world, a definition of a site, a task from a start, and the outcome of a task
+-- what a task asks of the others: the newest world, a definition of a site, a deletion at a place, a task from a start, and the outcome
+-- of a task
 pub data Question : Type 0 where
   a_look : Question
   a_definition : ℕ → Question
+  a_deletion : ℕ → Question
   a_spawn : Start → Question
   a_fetch : ℕ → Question
 
@@ -189,6 +191,8 @@ module _ (g : Setting) (Ends : Outcome → State → Type 0) where
   looks (Fetch task outcome p ∷ rest) s next = ⊥
   looks (WorldFull p ∷ rest) s next = ⊥
   looks (TaskFull p ∷ rest) s next = ⊥
+  looks (Del place p ∷ rest) s next = ⊥
+  looks (Absent place p ∷ rest) s next = ⊥
   looks [] s next = halts g.until a_look
 
   -- takes the Def of a site, or that the world is full
@@ -199,12 +203,16 @@ module _ (g : Setting) (Ends : Outcome → State → Type 0) where
   defines (Spawn child p ∷ rest) site s next = ⊥
   defines (Fetch task outcome p ∷ rest) site s next = ⊥
   defines (TaskFull p ∷ rest) site s next = ⊥
+  defines (Del place p ∷ rest) site s next = ⊥
+  defines (Absent place p ∷ rest) site s next = ⊥
   defines [] site s next = halts g.until (a_definition site)
 
   -- takes the Spawn of a task with this start, or that there is no room for a task
   abbrev pub spawns : List TraceItem → Start → State → Then → Type 0
   spawns (Spawn child p ∷ rest) start s next = next (V.Task child) (with_start (with_left s rest) start)
   spawns (TaskFull p ∷ rest) start s next = Ends (O.Error TaskLimit) (with_left s rest)
+  spawns (Del place p ∷ rest) start s next = ⊥
+  spawns (Absent place p ∷ rest) start s next = ⊥
   spawns (Look w p ∷ rest) start s next = ⊥
   spawns (Def made p ∷ rest) start s next = ⊥
   spawns (Fetch task outcome p ∷ rest) start s next = ⊥
@@ -224,6 +232,8 @@ module _ (g : Setting) (Ends : Outcome → State → Type 0) where
   fetches (Spawn child p ∷ rest) of s next = ⊥
   fetches (WorldFull p ∷ rest) of s next = ⊥
   fetches (TaskFull p ∷ rest) of s next = ⊥
+  fetches (Del place p ∷ rest) of s next = ⊥
+  fetches (Absent place p ∷ rest) of s next = ⊥
   fetches [] of s next = halts g.until (a_fetch of)
 
   -- a task is fetched, and another value is refused

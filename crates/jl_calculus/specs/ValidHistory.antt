@@ -14,7 +14,7 @@ use Rattle.jl_calculus.specs.declared.history.Event.TheVariants as Ev
 use Rattle.jl_calculus.specs.declared.history.Outcome.{Outcome}
 use Rattle.jl_calculus.specs.declared.history.Outcome.TheVariants as O
 use Rattle.jl_calculus.specs.declared.history.TraceItem.{TraceItem}
-use Rattle.jl_calculus.specs.declared.history.TraceItem.TheVariants.{Look, Def, Spawn, Fetch, WorldFull, TaskFull}
+use Rattle.jl_calculus.specs.declared.history.TraceItem.TheVariants.{Look, Def, Del, Spawn, Fetch, WorldFull, TaskFull, Absent}
 use Rattle.jl_calculus.specs.declared.history.Record.{Record}
 use Rattle.jl_calculus.specs.Legal.{IsKeyOf}
 use Rattle.jl_calculus.specs.ValidStart.{IsValidStart}
@@ -59,7 +59,7 @@ module _ (P : Program) where
   IsValidOutcome (O.Value v) = IsValidValue v
   IsValidOutcome (O.Error e) = IsValidFault e
 
-  -- a definition in a trace is of a site of the program, and a fetched outcome is valid
+  -- a definition in a trace is of a site of the program, a deletion of one of its places, and a fetched outcome is valid
   abbrev pub IsValidItem : TraceItem → Type 0
   IsValidItem (Look w p) = Unit {0}
   IsValidItem (Def site p) = site < length P.sites
@@ -67,6 +67,8 @@ module _ (P : Program) where
   IsValidItem (Fetch task outcome p) = IsValidOutcome outcome
   IsValidItem (WorldFull p) = Unit {0}
   IsValidItem (TaskFull p) = Unit {0}
+  IsValidItem (Del place p) = place < length P.deletes
+  IsValidItem (Absent place p) = place < length P.deletes
 
   abbrev pub AreValidItems : List TraceItem → Type 0
   AreValidItems [] = Unit {0}
@@ -82,6 +84,7 @@ module _ (P : Program) where
   IsValidEvent (Ev.Key key) = IsKeyOf P key
   IsValidEvent (Ev.Fill key site first) = site < length P.sites
   IsValidEvent (Ev.Def task site) = site < length P.sites
+  IsValidEvent (Ev.Del task place) = place < length P.deletes
   IsValidEvent (Ev.Spawn task child start) = IsValidStart P start
   IsValidEvent (Ev.Done task ended) = IsValidRecord ended
 

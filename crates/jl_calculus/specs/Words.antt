@@ -2,10 +2,11 @@
 use Rattle.std.specs.Prelude.{ℕ, zero, suc, ◌+◌, ◌*◌, ◌≡◌, ◌⊎◌, ◌↔◌, Bool, true, false, nat_eq, List, [], ◌∷◌, take, slice_get, Some}
 use Rattle.std.specs.List.{Contains}
 use Rattle.jl_model.specs.declared.ty.Key.{Key}
+use Rattle.jl_calculus.specs.declared.history.Change.{Change}
 use Rattle.jl_calculus.specs.declared.history.Event.{Event}
 use Rattle.jl_calculus.specs.declared.history.Event.TheVariants as Ev
 use Rattle.jl_program.specs.declared.tree.Program.{Program}
-use Rattle.jl_calculus.specs.Ranges.{CacheRow, keys_of, rows_of, SiteTouches, HasNoEnd, EndsWith}
+use Rattle.jl_calculus.specs.Ranges.{CacheRow, keys_of, rows_of, head_of, HeadTouches, HasNoEnd, EndsWith}
 use Rattle.jl_calculus.specs.World.{world_of}
 
 -- what the upper half of a word counts
@@ -23,10 +24,11 @@ abbrev pub after_last : {X : Type 0} → (X → Bool) → List X → ℕ
 after_last test [] = 0
 after_last test (x ∷ xs) = one_past (after_last test xs) (test x)
 
--- the event makes a world: a definition, or the Begin, which makes the last world of the prelude
+-- the event makes a world: a definition, a deletion, or the Begin, which makes the last world of the prelude
 abbrev pub is_worldly : Event → Bool
 is_worldly (Ev.Begin fuel) = true
 is_worldly (Ev.Def task site) = true
+is_worldly (Ev.Del task place) = true
 is_worldly (Ev.Key key) = false
 is_worldly (Ev.Fill key site first) = false
 is_worldly (Ev.Spawn task child start) = false
@@ -40,6 +42,7 @@ is_noted (Ev.Spawn task child start) = true
 is_noted (Ev.Done task ended) = true
 is_noted (Ev.Fill key site first) = false
 is_noted (Ev.Def task site) = false
+is_noted (Ev.Del task place) = false
 
 -- the event is a fill of the key of this number
 abbrev pub is_fill_of : ℕ → Event → Bool
@@ -47,10 +50,11 @@ is_fill_of number (Ev.Fill key site first) = nat_eq key number
 is_fill_of number (Ev.Begin fuel) = false
 is_fill_of number (Ev.Key key) = false
 is_fill_of number (Ev.Def task site) = false
+is_fill_of number (Ev.Del task place) = false
 is_fill_of number (Ev.Spawn task child start) = false
 is_fill_of number (Ev.Done task ended) = false
 
--- how long the history is just after the definition that made the newest world
+-- how long the history is just after the definition or deletion that made the newest world
 abbrev pub world_length : List Event → ℕ
 world_length es = after_last is_worldly es
 
@@ -79,18 +83,18 @@ module _ (P : Program) (es : List Event) where
   abbrev pub IsLastWorld : Key → ℕ → ℕ → Type 0
   IsLastWorld key first last = ((last ≡ 0) × HasNoEnd P es key first) ⊎ EndsWith P es key first last
 
-  -- a row that the definition of a site will end: it has no end, and the definition touches its key
-  pub record IsToCut (site r : ℕ) : Type 0 where
+  -- a row that a change will end: it has no end, and the change touches its key
+  pub record IsToCut (change : Change) (r : ℕ) : Type 0 where
     pub row : CacheRow
     pub stands : slice_get (rows_of es) r ≡ Some row
     pub key : Key
     pub named : slice_get (keys_of es) row.key ≡ Some key
     pub no_end : HasNoEnd P es key row.first
-    pub touched : SiteTouches P (slice_get P.sites site) key
+    pub touched : HeadTouches P (head_of P change) key
 
   -- all of them
-  abbrev pub AreAllCut : ℕ → List ℕ → Type 0
-  AreAllCut site cut = (r : ℕ) → Contains cut r ↔ IsToCut site r
+  abbrev pub AreAllCut : Change → List ℕ → Type 0
+  AreAllCut change cut = (r : ℕ) → Contains cut r ↔ IsToCut change r
 
   -- the last world of row r where some rows were cut ahead: the present world where it is one of these
   abbrev pub IsLastWith : List ℕ → ℕ → Key → ℕ → ℕ → Type 0

@@ -40,9 +40,23 @@ pub struct Def {
     pub site: u32,
 }
 
-/// A step of a task that others may see. `at` is the length of the history that the task had seen; for a definition
-/// and a spawn it is the place of the event. The outcome of a fetch is that of the record of the task, shared: so a step
-/// takes little room, however large the outcome is.
+/// A deletion: the world that it made and its place.
+#[derive(Clone, Copy, PartialEq, Eq, Debug)]
+pub struct Del {
+    pub world: u32,
+    pub place: u32,
+}
+
+/// A change of the methods, which makes a world: the definition of a site, or the deletion at a place.
+#[derive(Clone, Copy, PartialEq, Eq, Debug)]
+pub enum Change {
+    Def(u32),
+    Del(u32),
+}
+
+/// A step of a task that others may see. `at` is the length of the history that the task had seen; for a definition, a
+/// deletion and a spawn it is the place of the event. `Absent` says that there was nothing to delete at a place. The
+/// outcome of a fetch is that of the record of the task, shared: so a step takes little room, however large the outcome is.
 #[derive(Drop)]
 pub enum TraceItem {
     Look {
@@ -68,6 +82,28 @@ pub enum TraceItem {
     TaskFull {
         at: u32,
     },
+    Del {
+        place: u32,
+        at: u32,
+    },
+    Absent {
+        place: u32,
+        at: u32,
+    },
+}
+
+impl Change {
+    ghost use Rattle.jl_calculus.specs.World.{change_event};
+
+    /// The event by which a task makes the change.
+    pub fn event(self, task: u32) -> Event
+        ensures { result ≡ change_event task self }
+    {
+        match self {
+            Change::Def(site) => Event::Def { task, site },
+            Change::Del(place) => Event::Del { task, place },
+        }
+    }
 }
 
 impl TraceItem {
@@ -95,6 +131,14 @@ impl TraceItem {
             }),
             TraceItem::WorldFull { at } => Ok(TraceItem::WorldFull { at: *at }),
             TraceItem::TaskFull { at } => Ok(TraceItem::TaskFull { at: *at }),
+            TraceItem::Del { place, at } => Ok(TraceItem::Del {
+                place: *place,
+                at: *at,
+            }),
+            TraceItem::Absent { place, at } => Ok(TraceItem::Absent {
+                place: *place,
+                at: *at,
+            }),
         }
     }
 }
@@ -129,6 +173,7 @@ pub enum Event {
     Key(Key),
     Fill { key: u32, site: u32, first: u32 },
     Def { task: u32, site: u32 },
+    Del { task: u32, place: u32 },
     Spawn { task: u32, child: u32, start: Start },
     Done { task: u32, ended: Record },
 }
@@ -149,6 +194,10 @@ impl Event {
             Event::Def { task, site } => Ok(Event::Def {
                 task: *task,
                 site: *site,
+            }),
+            Event::Del { task, place } => Ok(Event::Del {
+                task: *task,
+                place: *place,
             }),
             Event::Spawn { task, child, start } => Ok(Event::Spawn {
                 task: *task,
@@ -191,6 +240,14 @@ pub struct Seen {
 #[derive(Drop, Debug)]
 pub enum DefineFault {
     WorldLimit,
+    Memory,
+}
+
+/// Why nothing was deleted.
+#[derive(Drop, Debug)]
+pub enum DeleteFault {
+    WorldLimit,
+    NoSuchMethod,
     Memory,
 }
 

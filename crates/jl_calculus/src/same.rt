@@ -223,6 +223,14 @@ impl Same for TraceItem {
                 TraceItem::TaskFull { at: a } => at == a,
                 _ => false,
             },
+            TraceItem::Del { place, at } => match other {
+                TraceItem::Del { place: p, at: a } => place == p && at == a,
+                _ => false,
+            },
+            TraceItem::Absent { place, at } => match other {
+                TraceItem::Absent { place: p, at: a } => place == p && at == a,
+                _ => false,
+            },
         }
     }
 }
@@ -248,6 +256,10 @@ impl Same for Event {
             },
             Event::Def { task, site } => match other {
                 Event::Def { task: t, site: s } => task == t && site == s,
+                _ => false,
+            },
+            Event::Del { task, place } => match other {
+                Event::Del { task: t, place: p } => task == t && place == p,
                 _ => false,
             },
             Event::Spawn { task, child, start } => match other {

@@ -1,6 +1,6 @@
 //! The steps of the model of a run: all that several tasks do to what they share, one step at a time.
 
-use crate::history::Record;
+use crate::history::{Change, Record};
 use jl_model::ty::Key;
 use jl_program::tree::Start;
 
@@ -17,11 +17,11 @@ pub enum Step {
     Row { task: u32 },
     /// A task makes a row of a key that covers a world.
     Fill { task: u32, key: u32, world: u32 },
-    /// A task opens the definition of a site.
-    Open { task: u32, site: u32 },
-    /// A row is cut for the open definition.
+    /// A task opens a change: the definition of a site, or the deletion at a place.
+    Open { task: u32, change: Change },
+    /// A row is cut for the open change.
     Cut { row: u32 },
-    /// The open definition makes its world.
+    /// The open change makes its world.
     Publish,
     Spawn { task: u32, start: Start },
     Done { task: u32, ended: Record },

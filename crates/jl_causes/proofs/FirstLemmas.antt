@@ -65,6 +65,7 @@ first_entry (E.Begin fuel ∷ xs) w = (fuel, xs, refl)
 first_entry (E.Key number function tuple ∷ xs) w = absurd w
 first_entry (E.Fill key site begins ∷ xs) w = absurd w
 first_entry (E.Def task site ∷ xs) w = absurd w
+first_entry (E.Del task place ∷ xs) w = absurd w
 first_entry (E.Spawn task child place ∷ xs) w = absurd w
 first_entry (E.Done task calls trace output ending ∷ xs) w = absurd w
 
@@ -75,6 +76,7 @@ not_begin (E.Begin fuel ∷ xs) (suc n) x w l g = no_begin xs n x w.1 g
 not_begin (E.Key number function tuple ∷ xs) n x w l g = absurd w
 not_begin (E.Fill key site begins ∷ xs) n x w l g = absurd w
 not_begin (E.Def task site ∷ xs) n x w l g = absurd w
+not_begin (E.Del task place ∷ xs) n x w l g = absurd w
 not_begin (E.Spawn task child place ∷ xs) n x w l g = absurd w
 not_begin (E.Done task calls trace output ending ∷ xs) n x w l g = absurd w
 

@@ -1,5 +1,5 @@
 -- The first cause of an entry, by the answers to the questions of the table.
-use Rattle.std.proofs.Common.{◌≡◌, ◌∙◌, sym, subst, refl, ℕ, ◌<◌, ◌≤◌, arith, Bool, true, false, IsTrue, List, length, slice_get, Option, Some, None, IsSome}
+use Rattle.std.proofs.Common.{◌≡◌, ◌∙◌, sym, subst, refl, ℕ, ◌<◌, ◌≤◌, arith, Bool, true, false, IsTrue, List, [], length, slice_get, Option, Some, None, IsSome}
 use Rattle.std.specs.Prelude.{◌↔◌}
 use Rattle.std.specs.Bool.{Decides}
 use Rattle.std.specs.List.{Contains}
@@ -15,11 +15,12 @@ use Rattle.jl_report.specs.declared.entry.Step.{Step}
 use Rattle.jl_report.specs.declared.entry.Ending.{Ending}
 use Rattle.jl_report.specs.declared.entry.Entry.{Entry}
 use Rattle.jl_report.specs.declared.entry.Entry.TheVariants as E
+use Rattle.jl_report.proofs.PlainLemmas.{names_nothing}
 use Rattle.jl_causes.specs.declared.cause.Cause.TheVariants as C
 use Rattle.jl_causes.specs.Sketch.{record_of}
 use Rattle.jl_causes.specs.Causes.{has_end, IsScriptSite, IsNextKey, IsNextFill, IsClean, IsFirstAt}
 use Rattle.jl_causes.specs.Judged.{IsReadAs}
-use Rattle.jl_causes.proofs.TableLemmas.{clean, first, key_free, fill_free, def_free, spawn_free, done_free}
+use Rattle.jl_causes.proofs.TableLemmas.{clean, first, key_free, fill_free, def_free, del_free, spawn_free, done_free}
 
 -- a test that answers no
 pub not_so : {A : Type 0} (b : Bool) → (IsTrue b ↔ A) → b ≡ false → A → ⊥
@@ -51,6 +52,16 @@ module _ (P : Program) (all : List Entry) (es : List Event) where
 
     pub def_clean : IsRunning es task → IsScriptSite P site → world_of es < MOST_WORLDS → IsClean P all es (E.Def task site)
     def_clean r s room = clean P all es (E.Def task site) (def_free P all es 13 task site (λ l. r) (λ l. s) (λ l. room))
+
+  -- ---- a deletion, where there is no place of one
+
+  module _ (task place : ℕ) where
+    pub del_not_running : (IsRunning es task → ⊥) → IsFirstAt P all es (E.Del task place) C.NotRunning
+    del_not_running fails = first P all es (E.Del task place) C.NotRunning (del_free P all es 5 task place (λ l. absurd (omega (arith, l))) (λ l. absurd (omega (arith, l))) (λ l. absurd (omega (arith, l)))) fails
+
+    pub del_no_place : P.deletes ≡ [] → IsRunning es task → IsFirstAt P all es (E.Del task place) C.Site
+    del_no_place plain r =
+        first P all es (E.Del task place) C.Site (del_free P all es 6 task place (λ l. r) (λ l. absurd (omega (arith, l))) (λ l. absurd (omega (arith, l)))) (names_nothing P plain place)
 
   -- ---- a spawn
 
@@ -91,17 +102,17 @@ module _ (P : Program) (all : List Entry) (es : List Event) where
         first P all es (E.Done task calls trace output ending) C.NotRunning
         (done_free P all es 5 task calls trace output ending (λ l. absurd (omega (arith, l))) (λ l. absurd (omega (arith, l))) (λ l. absurd (omega (arith, l)))) fails
 
-    pub done_false : IsRunning es task → (HasTrueTrace es task (record_of calls trace output) → ⊥) → IsFirstAt P all es (E.Done task calls trace output ending) C.ItemFalse
+    pub done_false : IsRunning es task → (HasTrueTrace P es task (record_of calls trace output) → ⊥) → IsFirstAt P all es (E.Done task calls trace output ending) C.ItemFalse
     done_false r fails =
         first P all es (E.Done task calls trace output ending) C.ItemFalse
         (done_free P all es 10 task calls trace output ending (λ l. r) (λ l. absurd (omega (arith, l))) (λ l. absurd (omega (arith, l)))) fails
 
-    pub done_missing : IsRunning es task → HasTrueTrace es task (record_of calls trace output) → (HasOwnEvents es task (record_of calls trace output) → ⊥) → IsFirstAt P all es (E.Done task calls trace output ending) C.EventMissing
+    pub done_missing : IsRunning es task → HasTrueTrace P es task (record_of calls trace output) → (HasOwnEvents es task (record_of calls trace output) → ⊥) → IsFirstAt P all es (E.Done task calls trace output ending) C.EventMissing
     done_missing r t fails =
         first P all es (E.Done task calls trace output ending) C.EventMissing
         (done_free P all es 11 task calls trace output ending (λ l. r) (λ l. t) (λ l. absurd (omega (arith, l)))) fails
 
-    pub done_clean : IsRunning es task → HasTrueTrace es task (record_of calls trace output) → HasOwnEvents es task (record_of calls trace output) → IsClean P all es (E.Done task calls trace output ending)
+    pub done_clean : IsRunning es task → HasTrueTrace P es task (record_of calls trace output) → HasOwnEvents es task (record_of calls trace output) → IsClean P all es (E.Done task calls trace output ending)
     done_clean r t o = clean P all es (E.Done task calls trace output ending) (done_free P all es 13 task calls trace output ending (λ l. r) (λ l. t) (λ l. o))
 
   -- ---- a fill

@@ -42,6 +42,8 @@ steps_items (S.Spawn child p ∷ ss) = ap (λ xs. S.Spawn child p ∷ xs) (steps
 steps_items (S.Fetch task p ∷ ss) = ap (λ xs. S.Fetch task p ∷ xs) (steps_items ss)
 steps_items (S.WorldFull p ∷ ss) = ap (λ xs. S.WorldFull p ∷ xs) (steps_items ss)
 steps_items (S.TaskFull p ∷ ss) = ap (λ xs. S.TaskFull p ∷ xs) (steps_items ss)
+steps_items (S.Del place p ∷ ss) = ap (λ xs. S.Del place p ∷ xs) (steps_items ss)
+steps_items (S.Absent place p ∷ ss) = ap (λ xs. S.Absent place p ∷ xs) (steps_items ss)
 
 module _ (P : Program) (apart : AreApart P) where
   -- ---- what the entries of a history tell is like the history
@@ -63,6 +65,7 @@ module _ (P : Program) (apart : AreApart P) where
   )
   alike_all k (Ev.Fill number site begins ∷ ds) (e ∷ es) h t = (subst (λ x. IsAlike x (Ev.Fill number site begins)) (sym t.0) refl, alike_all k ds es h t.1)
   alike_all k (Ev.Def by site ∷ ds) (e ∷ es) h t = (subst (λ x. IsAlike x (Ev.Def by site)) (sym t.0) refl, alike_all k ds es h t.1)
+  alike_all k (Ev.Del by place ∷ ds) (e ∷ es) h t = (subst (λ x. IsAlike x (Ev.Del by place)) (sym t.0) refl, alike_all k ds es h t.1)
   alike_all k (Ev.Spawn by child start ∷ ds) (e ∷ es) h t = (
     subst (λ x. IsAlike x (Ev.Spawn by child start)) (sym t.0) (start, refl, refl),
     alike_all k ds es h t.1,
@@ -79,20 +82,22 @@ module _ (P : Program) (apart : AreApart P) where
   whole_told (E.Key number function tuple) by r t = absurd (cc (t.2))
   whole_told (E.Fill number site begins) by r t = absurd (cc t)
   whole_told (E.Def task site) by r t = absurd (cc t)
+  whole_told (E.Del task place) by r t = absurd (cc t)
   whole_told (E.Spawn task child place) by r t = absurd (cc t)
   whole_told (E.Done task calls trace output ending) by r t =
       let is : r ≡ record_of calls trace output = cc t in
       ap (λ (q : Record). q.trace) is ∙ sym (ap items_of (steps_items trace)) ∙ sym (ap (λ (q : Record). all_sketched q.trace) is)
 
   module _ (es ds : List Event) (h : AreAlike es ds) where
-    told_to : (x : Entry) (e d : Event) → Tells P x e → IsAlike e d → OnDone (λ task ended. AreFetchesTold ds ended.trace) d → OnDone (HasTrueTrace es) e → OnDone (HasTrueTrace ds) d
-    told_to x (Ev.Begin fuel) d t k f r = subst (OnDone (HasTrueTrace ds)) (sym k) tt
-    told_to x (Ev.Key key) d t k f r = subst (OnDone (HasTrueTrace ds)) (sym k) tt
-    told_to x (Ev.Fill number site begins) d t k f r = subst (OnDone (HasTrueTrace ds)) (sym k) tt
-    told_to x (Ev.Def by site) d t k f r = subst (OnDone (HasTrueTrace ds)) (sym k) tt
-    told_to x (Ev.Spawn by child start) d t (other, is, place) f r = subst (OnDone (HasTrueTrace ds)) (sym is) tt
+    told_to : (x : Entry) (e d : Event) → Tells P x e → IsAlike e d → OnDone (λ task ended. AreFetchesTold ds ended.trace) d → OnDone (HasTrueTrace P es) e → OnDone (HasTrueTrace P ds) d
+    told_to x (Ev.Begin fuel) d t k f r = subst (OnDone (HasTrueTrace P ds)) (sym k) tt
+    told_to x (Ev.Key key) d t k f r = subst (OnDone (HasTrueTrace P ds)) (sym k) tt
+    told_to x (Ev.Fill number site begins) d t k f r = subst (OnDone (HasTrueTrace P ds)) (sym k) tt
+    told_to x (Ev.Def by site) d t k f r = subst (OnDone (HasTrueTrace P ds)) (sym k) tt
+    told_to x (Ev.Del by place) d t k f r = subst (OnDone (HasTrueTrace P ds)) (sym k) tt
+    told_to x (Ev.Spawn by child start) d t (other, is, place) f r = subst (OnDone (HasTrueTrace P ds)) (sym is) tt
     told_to x (Ev.Done by ended) d t (other, is, steps) f r =
-        subst (OnDone (HasTrueTrace ds)) (sym is)
+        subst (OnDone (HasTrueTrace P ds)) (sym is)
         (trace_to P es ds h by ended other steps (whole_told x by ended t) (subst (OnDone (λ task q. AreFetchesTold ds q.trace)) is f) r)
 
     owned_to : (e d : Event) → IsAlike e d → OnDone (HasOwnEvents es) e → OnDone (HasOwnEvents ds) d
@@ -100,27 +105,28 @@ module _ (P : Program) (apart : AreApart P) where
     owned_to (Ev.Key key) d k r = subst (OnDone (HasOwnEvents ds)) (sym k) tt
     owned_to (Ev.Fill number site begins) d k r = subst (OnDone (HasOwnEvents ds)) (sym k) tt
     owned_to (Ev.Def by site) d k r = subst (OnDone (HasOwnEvents ds)) (sym k) tt
+    owned_to (Ev.Del by place) d k r = subst (OnDone (HasOwnEvents ds)) (sym k) tt
     owned_to (Ev.Spawn by child start) d (other, is, place) r = subst (OnDone (HasOwnEvents ds)) (sym is) tt
     owned_to (Ev.Done by ended) d (other, is, steps) r = subst (OnDone (HasOwnEvents ds)) (sym is) (own_to P es ds h by ended other steps r)
 
   -- entries that are some of all, of which no cause holds, and a history with these entries
-  module _ (all : List Entry) (well : StartWell all) (xs rest : List Entry) (front : xs ++ rest ≡ all) (es ds : List Event) (c : AreClean P all xs es) (h : AreAlike es ds) where
+  module _ (plain : P.deletes ≡ []) (all : List Entry) (well : StartWell all) (xs rest : List Entry) (front : xs ++ rest ≡ all) (es ds : List Event) (c : AreClean P all xs es) (h : AreAlike es ds) where
     pub stands_to : 0 < length ds → MayStand P ds
     stands_to l =
         let s = same es ds h in
-        let m = stands P all well xs es rest front c (omega (arith, s.many, l)) in
+        let m = stands P plain all well xs es rest front c (omega (arith, s.many, l)) in
         record {
           begun = subst IsSome (sym s.fuel) m.begun;
           come = each_after (MayCome P) [] ds
               (λ n d at.
               let (e, there, k) = alike_back es ds n d h at in
-              comes_to P (take n es) (take n ds) e d (alike_take n es ds h) k (comes_at P all well xs es rest front c n e there));
+              comes_to P (take n es) (take n ds) e d (alike_take n es ds h) k (comes_at P plain all well xs es rest front c n e there));
         }
 
-    pub traced_to : TellsFetches ds → IsTraced ds
+    pub traced_to : TellsFetches ds → IsTraced P ds
     traced_to f =
         record {
-          traces = each_after (λ past. OnDone (HasTrueTrace past)) [] ds
+          traces = each_after (λ past. OnDone (HasTrueTrace P past)) [] ds
               (λ n d at.
               let (e, there, k) = alike_back es ds n d h at in
               let (x, entry, t) = entry_at P xs es n e c.told there in
@@ -132,22 +138,22 @@ module _ (P : Program) (apart : AreApart P) where
               owned_to (take n es) (take n ds) (alike_take n es ds h) e d k (owned P all (take n es) x e (c.clean n x entry) t));
         }
 
-  pub finished_to : (all : List Entry) → StartWell all → (es ds : List Event) → AreClean P all all es → AreAlike es ds → AreFinished ds
-  finished_to all well es ds c h task l =
+  pub finished_to : P.deletes ≡ [] → (all : List Entry) → StartWell all → (es ds : List Event) → AreClean P all all es → AreAlike es ds → AreFinished ds
+  finished_to plain all well es ds c h task l =
       let s = same es ds h in
-      s.ends task ∙ finished P all well es c task (omega (arith, s.tasks, l))
+      s.ends task ∙ finished P plain all well es c task (omega (arith, s.tasks, l))
 
 some_event : (P : Program) (ds : List Event) → StartWell (entries_of P ds) → 0 < length ds
 some_event P [] w = absurd w
 some_event P (d ∷ ds) w = omega arith
 
 pub no_cause_is_legal : NoCauseIsLegal
-no_cause_is_legal P ds apart keys fetches well (es, c) =
+no_cause_is_legal P ds plain apart keys fetches well (es, c) =
     let all = entries_of P ds in
     let h = alike_all P apart 0 ds es keys c.told in (
-      stands_to P apart all well all [] (append-nil all) es ds c h (some_event P ds well),
-      traced_to P apart all well all [] (append-nil all) es ds c h fetches,
-      finished_to P apart all well es ds c h,
+      stands_to P apart plain all well all [] (append-nil all) es ds c h (some_event P ds well),
+      traced_to P apart plain all well all [] (append-nil all) es ds c h fetches,
+      finished_to P apart plain all well es ds c h,
     )
 
 -- the first entries are clean where all are
@@ -167,11 +173,11 @@ clean_front P all xs rest es front c =
     }
 
 pub no_cause_so_far : NoCauseSoFar
-no_cause_so_far P all rest ds apart keys fetches well (es, c) front l =
+no_cause_so_far P all rest ds plain apart keys fetches well (es, c) front l =
     let xs = entries_of P ds in
     let first = take (length xs) es in
     let cut = clean_front P all xs rest es front c in
     let h = alike_all P apart 0 ds first keys cut.told in (
-      stands_to P apart all well xs rest front first ds cut h l,
-      traced_to P apart all well xs rest front first ds cut h fetches,
+      stands_to P apart plain all well xs rest front first ds cut h l,
+      traced_to P apart plain all well xs rest front first ds cut h fetches,
     )

@@ -16,13 +16,14 @@ use Rattle.jl_calculus.specs.Ranges.{keys_of, MayBegin, SelectsSite}
 use Rattle.jl_world.proofs.Growth.{tasks_some}
 use Rattle.jl_report.specs.declared.entry.Entry.{Entry}
 use Rattle.jl_report.specs.declared.entry.Entry.TheVariants as E
+use Rattle.jl_report.proofs.PlainLemmas.{place_known}
 use Rattle.jl_report.specs.HistoryText.{steps_of, ending_of, entry_of, keys_with, entries_from, entries_of}
 use Rattle.jl_causes.specs.Sketch.{start_at, record_of, Names, Tells, AllTell}
 use Rattle.jl_causes.specs.Causes.{has_end, IsClean}
 use Rattle.jl_causes.specs.Laws.{AreApart, LegalHasNoCause}
 use Rattle.jl_causes.proofs.SketchLemmas.{tell_take}
 use Rattle.jl_causes.proofs.AlikeLemmas.{IsAlike, AreAlike, Same, alike_take, same, same_back, begin_to, selects_to, running_to, world_to}
-use Rattle.jl_causes.proofs.TableLemmas.{clean, begin_free, key_free, fill_free, def_free, spawn_free, done_free}
+use Rattle.jl_causes.proofs.TableLemmas.{clean, begin_free, key_free, fill_free, def_free, del_free, spawn_free, done_free}
 use Rattle.jl_causes.proofs.TraceLemmas.{trace_back, own_back}
 use Rattle.jl_causes.proofs.LawLemmas.{each_at, steps_items}
 
@@ -33,6 +34,7 @@ sketch (Ev.Begin fuel) = Ev.Begin fuel
 sketch (Ev.Key key) = Ev.Key key
 sketch (Ev.Fill key site begins) = Ev.Fill key site begins
 sketch (Ev.Def by site) = Ev.Def by site
+sketch (Ev.Del by place) = Ev.Del by place
 sketch (Ev.Spawn by child start) = Ev.Spawn by child (start_at start.spawn)
 sketch (Ev.Done by ended) = Ev.Done by (record_of ended.calls (steps_of ended.trace) ended.output)
 
@@ -45,6 +47,7 @@ alike_sketch (Ev.Begin fuel) = refl
 alike_sketch (Ev.Key key) = refl
 alike_sketch (Ev.Fill key site begins) = refl
 alike_sketch (Ev.Def by site) = refl
+alike_sketch (Ev.Del by place) = refl
 alike_sketch (Ev.Spawn by child start) = (start, refl, refl)
 alike_sketch (Ev.Done by ended) = (ended, refl, sym (steps_items (steps_of ended.trace)))
 
@@ -57,6 +60,7 @@ tells_sketch P past k (Ev.Begin fuel) m = refl
 tells_sketch P past k (Ev.Key key) m = (key, record { proper = m.proper; by_function = refl; by_types = refl }, refl)
 tells_sketch P past k (Ev.Fill key site begins) m = refl
 tells_sketch P past k (Ev.Def by site) m = refl
+tells_sketch P past k (Ev.Del by place) m = refl
 tells_sketch P past k (Ev.Spawn by child start) m = refl
 tells_sketch P past k (Ev.Done by ended) m = refl
 
@@ -70,6 +74,7 @@ keys_step k (Ev.Begin fuel) ds = refl
 keys_step k (Ev.Key key) ds = omega arith
 keys_step k (Ev.Fill key site begins) ds = refl
 keys_step k (Ev.Def by site) ds = refl
+keys_step k (Ev.Del by place) ds = refl
 keys_step k (Ev.Spawn by child start) ds = refl
 keys_step k (Ev.Done by ended) ds = refl
 
@@ -93,6 +98,7 @@ end_among P k (Ev.Begin fuel ∷ ds) task = end_among P k ds task
 end_among P k (Ev.Key key ∷ ds) task = end_among P (k + 1) ds task
 end_among P k (Ev.Fill key site begins ∷ ds) task = end_among P k ds task
 end_among P k (Ev.Def by site ∷ ds) task = end_among P k ds task
+end_among P k (Ev.Del by place ∷ ds) task = end_among P k ds task
 end_among P k (Ev.Spawn by child start ∷ ds) task = end_among P k ds task
 end_among P k (Ev.Done by ended ∷ ds) task = go (nat_eq by task) (end_among P k ds task)
   where
@@ -109,6 +115,7 @@ EndsAll all (Ev.Spawn by child start) = has_end all child ≡ true
 EndsAll all (Ev.Key key) = Unit {0}
 EndsAll all (Ev.Fill key site begins) = Unit {0}
 EndsAll all (Ev.Def by site) = Unit {0}
+EndsAll all (Ev.Del by place) = Unit {0}
 EndsAll all (Ev.Done by ended) = Unit {0}
 
 same_some : (key other : Key) (o : Option Key) → o ≡ Some key → o ≡ Some other → key ≡ other
@@ -148,24 +155,30 @@ module _ (P : Program) (apart : AreApart P) (all : List Entry) (es ds : List Eve
   clean_def : (k by site : ℕ) → MayCome P ds (Ev.Def by site) → IsClean P all es (entry_of P k (Ev.Def by site))
   clean_def k by site m =
       clean P all es (entry_of P k (Ev.Def by site))
-      (def_free P all es 13 by site (λ l. running_to P ds es back by m.running) (λ l. (m.past_prelude, m.of_program)) (λ l. omega (arith, world_to P ds es back, m.room)))
+      (def_free P all es 13 by site (λ l. running_to P ds es back by m.running) (λ l. m.may) (λ l. omega (arith, world_to P ds es back, m.room)))
+
+  clean_del : (k by place : ℕ) → MayCome P ds (Ev.Del by place) → IsClean P all es (entry_of P k (Ev.Del by place))
+  clean_del k by place m =
+      clean P all es (entry_of P k (Ev.Del by place))
+      (del_free P all es 13 by place (λ l. running_to P ds es back by m.running) (λ l. place_known P ds place m.may) (λ l. omega (arith, world_to P ds es back, m.room)))
 
   clean_spawn : (k by child : ℕ) (start : Start) → has_end all child ≡ true → MayCome P ds (Ev.Spawn by child start) → IsClean P all es (entry_of P k (Ev.Spawn by child start))
   clean_spawn k by child start ends m =
       clean P all es (entry_of P k (Ev.Spawn by child start))
       (spawn_free P all es 13 by child start.spawn (λ l. running_to P ds es back by m.running) (λ l. m.of_program) (λ l. omega (arith, m.next, back.tasks)) (λ l. omega (arith, back.tasks, m.room)) (λ l. ends))
 
-  clean_done : (k by : ℕ) (ended : Record) → HasTrueTrace ds by ended → HasOwnEvents ds by ended → MayCome P ds (Ev.Done by ended) → IsClean P all es (entry_of P k (Ev.Done by ended))
+  clean_done : (k by : ℕ) (ended : Record) → HasTrueTrace P ds by ended → HasOwnEvents ds by ended → MayCome P ds (Ev.Done by ended) → IsClean P all es (entry_of P k (Ev.Done by ended))
   clean_done k by ended t o m =
       clean P all es (entry_of P k (Ev.Done by ended))
       (done_free P all es 13 by ended.calls (steps_of ended.trace) ended.output (ending_of P ended.outcome) (λ l. running_to P ds es back by m)
       (λ l. trace_back P es ds h xs told by ended.calls ended.output ended t) (λ l. own_back P es ds h xs told by ended.calls ended.output ended o))
 
-  clean_event : (k : ℕ) (d : Event) → k ≡ length (keys_of ds) → EndsAll all d → MayCome P ds d → OnDone (HasTrueTrace ds) d → OnDone (HasOwnEvents ds) d → IsClean P all es (entry_of P k d)
+  clean_event : (k : ℕ) (d : Event) → k ≡ length (keys_of ds) → EndsAll all d → MayCome P ds d → OnDone (HasTrueTrace P ds) d → OnDone (HasOwnEvents ds) d → IsClean P all es (entry_of P k d)
   clean_event k (Ev.Begin fuel) counted ends m t o = clean P all es (E.Begin fuel) (begin_free P all es 13 fuel (λ l. ends))
   clean_event k (Ev.Key key) counted ends m t o = clean_key k key counted m
   clean_event k (Ev.Fill number site begins) counted ends m t o = clean_fill k number site begins m
   clean_event k (Ev.Def by site) counted ends m t o = clean_def k by site m
+  clean_event k (Ev.Del by place) counted ends m t o = clean_del k by place m
   clean_event k (Ev.Spawn by child start) counted ends m t o = clean_spawn k by child start ends m
   clean_event k (Ev.Done by ended) counted ends m t o = clean_done k by ended t o m
 
@@ -180,6 +193,7 @@ more_tasks (Ev.Begin fuel ∷ ds) (suc n) by child start g = more_tasks ds n by 
 more_tasks (Ev.Key key ∷ ds) (suc n) by child start g = more_tasks ds n by child start g
 more_tasks (Ev.Fill key site begins ∷ ds) (suc n) by child start g = more_tasks ds n by child start g
 more_tasks (Ev.Def task site ∷ ds) (suc n) by child start g = more_tasks ds n by child start g
+more_tasks (Ev.Del task place ∷ ds) (suc n) by child start g = more_tasks ds n by child start g
 more_tasks (Ev.Spawn task other s ∷ ds) (suc n) by child start g = omega (arith, more_tasks ds n by child start g)
 more_tasks (Ev.Done task ended ∷ ds) (suc n) by child start g = more_tasks ds n by child start g
 
@@ -188,6 +202,7 @@ ends_all P ds f n (Ev.Begin fuel) at m = end_among P 0 ds 0 ∙ f 0 (omega (arit
 ends_all P ds f n (Ev.Key key) at m = tt
 ends_all P ds f n (Ev.Fill key site begins) at m = tt
 ends_all P ds f n (Ev.Def by site) at m = tt
+ends_all P ds f n (Ev.Del by place) at m = tt
 ends_all P ds f n (Ev.Spawn by child start) at m = end_among P 0 ds child ∙ f child (omega (arith, m.next, more_tasks ds n by child start at))
 ends_all P ds f n (Ev.Done by ended) at m = tt
 
@@ -204,6 +219,6 @@ legal_has_no_cause P ds apart stand traced f =
             subst (IsClean P all (take n (sketches ds))) (sym is)
             (clean_event P apart all (take n (sketches ds)) (take n ds) (alike_take n (sketches ds) ds (alike_sketches ds)) (take n all) (tell_take P n all (sketches ds) told)
             (0 + length (keys_of (take n ds))) d (omega arith) (ends_all P ds f n d there m) m
-            (each_at (λ past. OnDone (HasTrueTrace past)) [] ds n d traced.traces there) (each_at (λ past. OnDone (HasOwnEvents past)) [] ds n d traced.own there));
+            (each_at (λ past. OnDone (HasTrueTrace P past)) [] ds n d traced.traces there) (each_at (λ past. OnDone (HasOwnEvents past)) [] ds n d traced.own there));
       },
     )

@@ -4,18 +4,20 @@ use Rattle.std.proofs.lemmas.List.{length_push}
 use Rattle.jl_model.specs.declared.ty.Key.{Key}
 use Rattle.jl_program.specs.declared.tree.Program.{Program}
 use Rattle.jl_program.specs.declared.tree.Start.{Start}
+use Rattle.jl_calculus.specs.declared.history.Change.TheVariants as Ch
 use Rattle.jl_calculus.specs.declared.history.Event.{Event}
 use Rattle.jl_calculus.specs.declared.history.Event.TheVariants as Ev
 use Rattle.jl_calculus.specs.Legal.{start_of, first_place, MayCome}
 use Rattle.jl_calculus.specs.Past.{tasks_of, done_of, own_events}
 use Rattle.jl_calculus.specs.Ranges.{keys_of, rows_of}
-use Rattle.jl_calculus.specs.World.{defined, definitions}
-use Rattle.jl_calculus.proofs.GrowthLemmas.{defined_append, definitions_append, keys_append, rows_append}
+use Rattle.jl_calculus.specs.World.{changed, changes}
+use Rattle.jl_calculus.proofs.GrowthLemmas.{changed_append, changes_append, keys_append, rows_append}
 use Rattle.jl_world.proofs.Growth.{tasks_append, own_append, start_later}
 use Rattle.jl_methods.specs.declared.index.Index.{Index}
 use Rattle.jl_methods.specs.Indexed.{IsIndexOf, AreFilters, noted_in}
 use Rattle.jl_report.specs.declared.entry.Entry.{Entry}
 use Rattle.jl_report.specs.declared.entry.Entry.TheVariants as E
+use Rattle.jl_report.proofs.PlainLemmas.{names_nothing}
 use Rattle.jl_causes.specs.declared.cause.Cause.TheVariants as C
 use Rattle.jl_causes.specs.declared.places.Counts.{Counts}
 use Rattle.jl_causes.specs.declared.tasks.Tasks.{Tasks}
@@ -33,31 +35,31 @@ use Rattle.jl_causes.proofs.TaskLemmas.{begun_more, first_kept}
 
 -- ---- counts
 
-pub counts_same : (es : List Event) (e : Event) (c : Counts) → defined (e ∷ []) ≡ [] → tasks_of (e ∷ []) ≡ 1 → AreCounts es c → AreCounts (es ++ e ∷ []) c
+pub counts_same : (es : List Event) (e : Event) (c : Counts) → changed (e ∷ []) ≡ [] → tasks_of (e ∷ []) ≡ 1 → AreCounts es c → AreCounts (es ++ e ∷ []) c
 counts_same es e c none one h = record {
-  world = h.world ∙ ap (λ xs. 14 + length xs) (sym (defined_append es (e ∷ []) ∙ ap (λ xs. defined es ++ xs) none ∙ append-nil (defined es)));
+  world = h.world ∙ ap (λ xs. 14 + length xs) (sym (changed_append es (e ∷ []) ∙ ap (λ xs. changed es ++ xs) none ∙ append-nil (changed es)));
   tasks = omega (arith, h.tasks, tasks_append es (e ∷ []), one);
 }
 
 pub counts_def : (es : List Event) (by site : ℕ) (c d : Counts) → d.world ≡ c.world + 1 → d.tasks ≡ c.tasks → AreCounts es c → AreCounts (es ++ Ev.Def by site ∷ []) d
 counts_def es by site c d w t h = record {
-  world = omega (arith, w, h.world, ap length (defined_append es (Ev.Def by site ∷ [])), length_push (defined es) site);
+  world = omega (arith, w, h.world, ap length (changed_append es (Ev.Def by site ∷ [])), length_push (changed es) (Ch.Def site));
   tasks = omega (arith, t, h.tasks, tasks_append es (Ev.Def by site ∷ []));
 }
 
 pub counts_spawn : (es : List Event) (by child : ℕ) (start : Start) (c d : Counts) → d.world ≡ c.world → d.tasks ≡ c.tasks + 1 → AreCounts es c → AreCounts (es ++ Ev.Spawn by child start ∷ []) d
 counts_spawn es by child start c d w t h = record {
-  world = w ∙ h.world ∙ ap (λ xs. 14 + length xs) (sym (defined_append es (Ev.Spawn by child start ∷ []) ∙ append-nil (defined es)));
+  world = w ∙ h.world ∙ ap (λ xs. 14 + length xs) (sym (changed_append es (Ev.Spawn by child start ∷ []) ∙ append-nil (changed es)));
   tasks = omega (arith, t, h.tasks, tasks_append es (Ev.Spawn by child start ∷ []));
 }
 
 -- ---- tables that an event leaves as they are
 
-pub index_aside : (P : Program) (es : List Event) (e : Event) (i : Index) → defined (e ∷ []) ≡ [] → keys_of (e ∷ []) ≡ [] → rows_of (e ∷ []) ≡ [] → IsIndexOf P es i → IsIndexOf P (es ++ e ∷ []) i
+pub index_aside : (P : Program) (es : List Event) (e : Event) (i : Index) → changed (e ∷ []) ≡ [] → keys_of (e ∷ []) ≡ [] → rows_of (e ∷ []) ≡ [] → IsIndexOf P es i → IsIndexOf P (es ++ e ∷ []) i
 index_aside P es e i sites keys rows h =
-    subst (λ xs. AreFilters P xs (keys_of (es ++ e ∷ [])) (rows_of (es ++ e ∷ [])) (noted_in i)) (sym (definitions_append es (e ∷ []) ∙ ap (λ xs. definitions es ++ xs) sites ∙ append-nil (definitions es)))
-    (subst (λ xs. AreFilters P (definitions es) xs (rows_of (es ++ e ∷ [])) (noted_in i)) (sym (keys_append es (e ∷ []) ∙ ap (λ xs. keys_of es ++ xs) keys ∙ append-nil (keys_of es)))
-    (subst (λ xs. AreFilters P (definitions es) (keys_of es) xs (noted_in i)) (sym (rows_append es (e ∷ []) ∙ ap (λ xs. rows_of es ++ xs) rows ∙ append-nil (rows_of es))) h))
+    subst (λ xs. AreFilters P xs (keys_of (es ++ e ∷ [])) (rows_of (es ++ e ∷ [])) (noted_in i)) (sym (changes_append es (e ∷ []) ∙ ap (λ xs. changes es ++ xs) sites ∙ append-nil (changes es)))
+    (subst (λ xs. AreFilters P (changes es) xs (rows_of (es ++ e ∷ [])) (noted_in i)) (sym (keys_append es (e ∷ []) ∙ ap (λ xs. keys_of es ++ xs) keys ∙ append-nil (keys_of es)))
+    (subst (λ xs. AreFilters P (changes es) (keys_of es) xs (noted_in i)) (sym (rows_append es (e ∷ []) ∙ ap (λ xs. rows_of es ++ xs) rows ∙ append-nil (rows_of es))) h))
 
 pub record IsApart (e : Event) : Type 0 where
   pub one : tasks_of (e ∷ []) ≡ 1
@@ -86,7 +88,7 @@ key_apart key = record { one = refl; starts = λ t. refl; begins = λ t p. refl;
 pub fill_apart : (key site first : ℕ) → IsApart (Ev.Fill key site first)
 fill_apart key site first = record { one = refl; starts = λ t. refl; begins = λ t p. refl; ends = λ t. refl; own = λ t p. refl }
 
-pub rows_aside : (P : Program) (es : List Event) (e : Event) (r : Rows) → defined (e ∷ []) ≡ [] → keys_of (e ∷ []) ≡ [] → rows_of (e ∷ []) ≡ [] → AreRows P es r → AreRows P (es ++ e ∷ []) r
+pub rows_aside : (P : Program) (es : List Event) (e : Event) (r : Rows) → changed (e ∷ []) ≡ [] → keys_of (e ∷ []) ≡ [] → rows_of (e ∷ []) ≡ [] → AreRows P es r → AreRows P (es ++ e ∷ []) r
 rows_aside P es e r sites keys rows h = rows_with_other P es r r h e keys rows (index_aside P es e r.index sites keys rows h.indexed) refl refl
 
 -- ---- the judge
@@ -94,6 +96,7 @@ rows_aside P es e r sites keys rows h = rows_with_other P es r r h e keys rows (
 pub judge_more : (P : Program) (all : List Entry) (es : List Event) (e : Event) (j k : Judge) → k.finished ≡ j.finished → IsJudgeOf P all es j → AreRows P (es ++ e ∷ []) k.rows → AreTasks (es ++ e ∷ []) k.tasks → ArePlaces (es ++ e ∷ []) k.places
     → IsJudgeOf P all (es ++ e ∷ []) k
 judge_more P all es e j k same h r t p = record {
+  plain = h.plain;
   rows = r;
   tasks = t;
   places = p;
@@ -105,7 +108,7 @@ judge_more P all es e j k same h r t p = record {
 
 module _ (P : Program) (all : List Entry) (es : List Event) (j : Judge) (x : Entry) (key : Option Key) where
   pub note_comes : MayNote P all es j x key → (e : Event) → Tells P x e → MayCome P es e
-  note_comes m e t = comes P all es x e m.clean t m.later
+  note_comes m e t = comes P all es m.knows.plain x e m.clean t m.later
 
   pub key_named : (number : ℕ) (function tuple : List ℕ) (k : Key) → x ≡ E.Key number function tuple → key ≡ Some k → MayNote P all es j x key → Tells P x (Ev.Key k)
   key_named number function tuple k is some m =
@@ -118,3 +121,8 @@ module _ (P : Program) (all : List Entry) (es : List Event) (j : Judge) (x : Ent
       let c : IsClean P all es (E.Key number function tuple) = subst (IsClean P all es) is m.clean in
       let known = c C.KeyUnknown in
       read known.0 known.1
+
+  pub no_deletion_here : (task place : ℕ) → x ≡ E.Del task place → MayNote P all es j x key → ⊥
+  no_deletion_here task place is m =
+      let c : IsClean P all es (E.Del task place) = subst (IsClean P all es) is m.clean in
+      names_nothing P m.knows.plain place (c C.Site)

@@ -54,6 +54,7 @@ ends_append t (Ev.Begin fuel ∷ es) more = ends_append t es more
 ends_append t (Ev.Key key ∷ es) more = ends_append t es more
 ends_append t (Ev.Fill key site begins ∷ es) more = ends_append t es more
 ends_append t (Ev.Def by site ∷ es) more = ends_append t es more
+ends_append t (Ev.Del by place ∷ es) more = ends_append t es more
 ends_append t (Ev.Spawn by child start ∷ es) more = ends_append t es more
 ends_append t (Ev.Done by ended ∷ es) more = go (nat_eq by t) (ends_append t es more)
   where

@@ -1,5 +1,5 @@
 -- Keys and rows, as the index and the first worlds tell them.
-use Rattle.std.proofs.Common.{◌≡◌, ◌∙◌, ap, sym, subst, refl, ℕ, zero, suc, ◌+◌, ◌<◌, ◌≤◌, inl, inr, arith, Bool, true, false, IsTrue, nat_eq, List, [], ◌∷◌, ◌++◌, map, length, get_or, slice_get, append-nil, None, Some, IsSome, Result, Ok, OnOk}
+use Rattle.std.proofs.Common.{◌≡◌, ◌∙◌, ap, sym, subst, refl, ℕ, zero, suc, ◌+◌, ◌<◌, ◌≤◌, inl, inr, arith, Bool, true, false, IsTrue, nat_eq, List, [], ◌∷◌, ◌++◌, map, length, take, get_or, slice_get, append-nil, None, Some, IsSome, Result, Ok, OnOk}
 use Rattle.std.specs.Prelude.{◌↔◌}
 use Rattle.std.specs.Bool.{Decides}
 use Rattle.std.specs.List.{Contains}
@@ -8,19 +8,21 @@ use Rattle.std.proofs.lemmas.List.Elements.{Contains-get_or}
 use Rattle.std.proofs.lemmas.Option.{slice_get-get_or, slice_get_within}
 use Rattle.jl_model.specs.declared.limits.TheConstants.{MOST_CACHE_ROWS}
 use Rattle.jl_model.specs.declared.ty.Key.{Key}
+use Rattle.jl_model.specs.declared.ty.Ty.{Ty}
+use Rattle.jl_model.specs.Choice.{Method}
 use Rattle.jl_program.specs.declared.choice.Choice.{Choice}
 use Rattle.jl_program.specs.declared.choice.Choice.TheVariants as Ch
 use Rattle.jl_program.specs.declared.tree.Program.{Program}
 use Rattle.jl_program.specs.Prelude.{prelude_count}
-use Rattle.jl_program.specs.Scope.{types_of}
+use Rattle.jl_calculus.specs.declared.history.Change.TheVariants as C
 use Rattle.jl_calculus.specs.declared.history.Event.{Event}
 use Rattle.jl_calculus.specs.declared.history.Event.TheVariants as Ev
 use Rattle.jl_calculus.specs.Ranges.{CacheRow, keys_of, rows_of, Touches, MayBegin, SelectsSite}
-use Rattle.jl_calculus.specs.World.{world_of, site_of, Selects}
-use Rattle.jl_calculus.proofs.BetweenLemmas.{of_world}
-use Rattle.jl_calculus.proofs.ChoiceLaws.{determined}
-use Rattle.jl_calculus.proofs.GrowthLemmas.{keys_append, rows_append, touches_known}
-use Rattle.jl_methods.specs.Filters.{is_row_of, row_numbers}
+use Rattle.jl_calculus.specs.World.{changes, site_of, Selects}
+use Rattle.jl_calculus.proofs.BetweenLemmas.{is_of, taken_below}
+use Rattle.jl_calculus.proofs.GrowthLemmas.{keys_append, rows_append}
+use Rattle.jl_calculus.proofs.SelectLemmas.{selects_one}
+use Rattle.jl_methods.specs.Filters.{is_row_of, row_numbers, IsDefinition, change_in}
 use Rattle.jl_methods.specs.declared.newest.NewestRow.{NewestRow}
 use Rattle.jl_methods.specs.Indexed.{IsIndexOf, noted_in}
 use Rattle.jl_methods.specs.Newest.{IsNewest, IsNewestOf}
@@ -118,13 +120,6 @@ fill_known P es r key first h n = (omega (arith, known_at (keys_of es) key n.kno
 pub has_no_row : (es : List Event) (key first : ℕ) → IsNextFill es key first → HasRow es key first → ⊥
 has_no_row es key first n (row, stands, of_key, begins) = n.new row stands of_key begins
 
--- ---- worlds
-
--- a first world is one of the worlds
-pub begins_known : (P : Program) (es : List Event) (k : Key) (first : ℕ) → MayBegin P es k first → first ≤ world_of es
-begins_known P es k first (inl e) = omega (arith, e)
-begins_known P es k first (inr (low, t)) = touches_known P es first k t
-
 -- ---- one more event
 
 module _ (P : Program) (es : List Event) (r q : Rows) (h : AreRows P es r) where
@@ -177,22 +172,26 @@ key_next es n other key at differs none j l got = by (nat_eq j n) refl
 -- ---- the choice
 
 pub no_site : (P : Program) (es : List Event) (k : Key) (site first : ℕ) (c : Choice) → Selects P es k.function k.types first c → ((d : ℕ) → c ≡ Ch.Method d → ⊥) → Decides false (SelectsSite P es k first site)
-no_site P es k site first c s none = ((λ yes. absurd (cc yes)), (λ (d, t, e). absurd (none d (determined (types_of P) _ k.types c (Ch.Method d) s t))))
+no_site P es k site first c s none = ((λ yes. absurd (cc yes)), (λ (d, t, e). absurd (none d (selects_one P es k.function k.types first c (Ch.Method d) s t))))
 
 pub site_chosen : (P : Program) (es : List Event) (k : Key) (site first d made : ℕ) → Selects P es k.function k.types first (Ch.Method d) → made ≡ site_of es d → Decides (nat_eq made site) (SelectsSite P es k first site)
 site_chosen P es k site first d made s is = (
   (λ yes. (let same : made ≡ site = grind (arith, yes) in (d, s, sym is ∙ same))),
   (λ (o, t, e). (
-      let one : d ≡ o = cc (determined (types_of P) _ k.types (Ch.Method d) (Ch.Method o) s t) in
+      let one : d ≡ o = cc (selects_one P es k.function k.types first (Ch.Method d) (Ch.Method o) s t) in
       let same : made ≡ site = is ∙ ap (site_of es) one ∙ e in
       let yes : nat_eq made site ≡ true = grind (arith, same) in yes)),
 )
 
--- the chosen definition is there
-pub chosen_known : (P : Program) (es : List Event) (k : Key) (first d : ℕ) → Selects P es k.function k.types first (Ch.Method d) → MayBegin P es k first → (1 ≤ d) × (d ≤ world_of es)
-chosen_known P es k first d s b =
-    let w = of_world P es k.function k.types first d s in
-    (w.0, omega (arith, w.1, begins_known P es k first b))
+-- the chosen method is a definition
+pub chosen_definition : (P : Program) (es : List Event) (f : ℕ) (ts : List Ty) (w d : ℕ) → Selects P es f ts w (Ch.Method d) → IsDefinition (change_in (changes es) d)
+chosen_definition P es f ts w d (ms, are, (m, best, is)) =
+    let a = best.candidate.applies in
+    let o = is_of P f 1 (take w (changes es)) m ((are m a.below).0 a.stands).made in
+    let at = taken_below w (changes es) o.place (C.Def o.number) o.stands in
+    let made : 1 + o.place ≡ m.number = ap (λ (z : Method). z.number) o.is in
+    let next : suc o.place ≡ d = omega (arith, made, is) in
+    subst (λ n. IsDefinition (change_in (changes es) n)) next (subst IsDefinition (sym at.1) tt)
 
 pub row_next : (firsts ns : List ℕ) (i first begins : ℕ) → begins ≡ get_or firsts (get_or ns i 0) 0 → (begins ≡ first → ⊥) → ((j : ℕ) → j < i → get_or firsts (get_or ns j 0) 0 ≡ first → ⊥) → (j : ℕ) → j < i + 1 → get_or firsts (get_or ns j 0) 0 ≡ first → ⊥
 row_next firsts ns i first begins at differs none j l got = by (nat_eq j i) refl

@@ -54,6 +54,7 @@ module _ (P : Program) where
   told_end (E.Key number function tuple) task r h = absurd (cc (h.2))
   told_end (E.Fill key site begins) task r h = absurd (cc h)
   told_end (E.Def by site) task r h = absurd (cc h)
+  told_end (E.Del by place) task r h = absurd (cc h)
   told_end (E.Spawn by child place) task r h = absurd (cc h)
   told_end (E.Done by calls trace output ending) task r h = by_record h
     where
@@ -76,6 +77,7 @@ module _ (P : Program) where
   outcome_untold (x ∷ xs) (Ev.Key key ∷ es) task r h g = outcome_untold xs es task r h.1 g
   outcome_untold (x ∷ xs) (Ev.Fill key site begins ∷ es) task r h g = outcome_untold xs es task r h.1 g
   outcome_untold (x ∷ xs) (Ev.Def by site ∷ es) task r h g = outcome_untold xs es task r h.1 g
+  outcome_untold (x ∷ xs) (Ev.Del by place ∷ es) task r h g = outcome_untold xs es task r h.1 g
   outcome_untold (x ∷ xs) (Ev.Spawn by child start ∷ es) task r h g = outcome_untold xs es task r h.1 g
 
   -- a task ends in the text exactly where it ends among the events
@@ -86,6 +88,7 @@ module _ (P : Program) where
   end_there (E.Key number function tuple ∷ xs) (e ∷ es) task h g = subst (λ d. IsSome (done_of task (d ∷ es))) (sym h.0.2) (end_there xs es task h.1 g)
   end_there (E.Fill key site begins ∷ xs) (e ∷ es) task h g = subst (λ d. IsSome (done_of task (d ∷ es))) (sym h.0) (end_there xs es task h.1 g)
   end_there (E.Def by site ∷ xs) (e ∷ es) task h g = subst (λ d. IsSome (done_of task (d ∷ es))) (sym h.0) (end_there xs es task h.1 g)
+  end_there (E.Del by place ∷ xs) (e ∷ es) task h g = subst (λ d. IsSome (done_of task (d ∷ es))) (sym h.0) (end_there xs es task h.1 g)
   end_there (E.Spawn by child place ∷ xs) (e ∷ es) task h g = subst (λ d. IsSome (done_of task (d ∷ es))) (sym h.0) (end_there xs es task h.1 g)
   end_there (E.Done by calls trace output ending ∷ xs) (e ∷ es) task h g =
       subst (λ d. IsSome (done_of task (d ∷ es))) (sym h.0) (go (nat_eq by task) g (end_there xs es task h.1))

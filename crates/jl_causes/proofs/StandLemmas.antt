@@ -11,6 +11,7 @@ use Rattle.jl_calculus.specs.Past.{tasks_of, done_of}
 use Rattle.jl_world.proofs.Growth.{tasks_append, each_grow}
 use Rattle.jl_report.specs.declared.entry.Entry.{Entry}
 use Rattle.jl_report.specs.declared.entry.Entry.TheVariants as E
+use Rattle.jl_report.proofs.PlainLemmas.{names_nothing}
 use Rattle.jl_causes.specs.declared.cause.Cause.TheVariants as C
 use Rattle.jl_causes.specs.Sketch.{Tells, AllTell}
 use Rattle.jl_causes.specs.Causes.{is_begin, StartWell, has_end, IsClean, AreClean}
@@ -24,13 +25,13 @@ some_key None h = absurd (cc h)
 
 module _ (P : Program) (all : List Entry) (es : List Event) where
   -- what a clean entry past the beginning tells may come
-  pub comes : (x : Entry) (e : Event) → IsClean P all es x → Tells P x e → is_begin x ≡ false → MayCome P es e
-  comes (E.Begin fuel) e c t b = absurd (cc b)
-  comes (E.Key number function tuple) e c t b =
+  pub comes : P.deletes ≡ [] → (x : Entry) (e : Event) → IsClean P all es x → Tells P x e → is_begin x ≡ false → MayCome P es e
+  comes plain (E.Begin fuel) e c t b = absurd (cc b)
+  comes plain (E.Key number function tuple) e c t b =
       let (key, named, is) = t in
       subst (MayCome P es) (sym is)
       (record { proper = named.proper; new = λ stands. (c C.KeyOrder).new key stands named; room = (c C.KeyOrder).room })
-  comes (E.Fill number site begins) e c t b =
+  comes plain (E.Fill number site begins) e c t b =
       let (key, at) = some_key _ (c C.FillKey).known in
       subst (MayCome P es) (sym t)
       (record {
@@ -40,27 +41,29 @@ module _ (P : Program) (all : List Entry) (es : List Event) where
         new = (c C.FillKey).new;
         room = (c C.FillKey).room;
       })
-  comes (E.Def task site) e c t b =
-      let s = c C.Site in
-      subst (MayCome P es) (sym t) (record { running = c C.NotRunning; past_prelude = s.0; of_program = s.1; room = c C.Limit })
-  comes (E.Spawn task child place) e c t b =
+  comes plain (E.Def task site) e c t b =
+      subst (MayCome P es) (sym t) (record { running = c C.NotRunning; may = c C.Site; room = c C.Limit })
+  comes plain (E.Del task place) e c t b = absurd (names_nothing P plain place (c C.Site))
+  comes plain (E.Spawn task child place) e c t b =
       subst (MayCome P es) (sym t) (record { running = c C.NotRunning; of_program = c C.Site; next = c C.ChildOrder; room = c C.Limit })
-  comes (E.Done task calls trace output ending) e c t b = subst (MayCome P es) (sym t) (c C.NotRunning)
+  comes plain (E.Done task calls trace output ending) e c t b = subst (MayCome P es) (sym t) (c C.NotRunning)
 
   -- the end of a task has a true trace and the task's own events
-  pub traced : (x : Entry) (e : Event) → IsClean P all es x → Tells P x e → OnDone (HasTrueTrace es) e
-  traced (E.Begin fuel) e c t = subst (OnDone (HasTrueTrace es)) (sym t) tt
-  traced (E.Key number function tuple) e c t = subst (OnDone (HasTrueTrace es)) (sym t.2) tt
-  traced (E.Fill number site begins) e c t = subst (OnDone (HasTrueTrace es)) (sym t) tt
-  traced (E.Def task site) e c t = subst (OnDone (HasTrueTrace es)) (sym t) tt
-  traced (E.Spawn task child place) e c t = subst (OnDone (HasTrueTrace es)) (sym t) tt
-  traced (E.Done task calls trace output ending) e c t = subst (OnDone (HasTrueTrace es)) (sym t) (c C.ItemFalse)
+  pub traced : (x : Entry) (e : Event) → IsClean P all es x → Tells P x e → OnDone (HasTrueTrace P es) e
+  traced (E.Begin fuel) e c t = subst (OnDone (HasTrueTrace P es)) (sym t) tt
+  traced (E.Key number function tuple) e c t = subst (OnDone (HasTrueTrace P es)) (sym t.2) tt
+  traced (E.Fill number site begins) e c t = subst (OnDone (HasTrueTrace P es)) (sym t) tt
+  traced (E.Def task site) e c t = subst (OnDone (HasTrueTrace P es)) (sym t) tt
+  traced (E.Del task place) e c t = subst (OnDone (HasTrueTrace P es)) (sym t) tt
+  traced (E.Spawn task child place) e c t = subst (OnDone (HasTrueTrace P es)) (sym t) tt
+  traced (E.Done task calls trace output ending) e c t = subst (OnDone (HasTrueTrace P es)) (sym t) (c C.ItemFalse)
 
   pub owned : (x : Entry) (e : Event) → IsClean P all es x → Tells P x e → OnDone (HasOwnEvents es) e
   owned (E.Begin fuel) e c t = subst (OnDone (HasOwnEvents es)) (sym t) tt
   owned (E.Key number function tuple) e c t = subst (OnDone (HasOwnEvents es)) (sym t.2) tt
   owned (E.Fill number site begins) e c t = subst (OnDone (HasOwnEvents es)) (sym t) tt
   owned (E.Def task site) e c t = subst (OnDone (HasOwnEvents es)) (sym t) tt
+  owned (E.Del task place) e c t = subst (OnDone (HasOwnEvents es)) (sym t) tt
   owned (E.Spawn task child place) e c t = subst (OnDone (HasOwnEvents es)) (sym t) tt
   owned (E.Done task calls trace output ending) e c t = subst (OnDone (HasOwnEvents es)) (sym t) (c C.EventMissing)
 
@@ -112,6 +115,7 @@ spawned_more P past (Ev.Begin fuel) h m task low high = still_spawned past _ tas
 spawned_more P past (Ev.Key key) h m task low high = still_spawned past _ task (h task low (omega (arith, high, tasks_append past (Ev.Key key ∷ []))))
 spawned_more P past (Ev.Fill key site begins) h m task low high = still_spawned past _ task (h task low (omega (arith, high, tasks_append past (Ev.Fill key site begins ∷ []))))
 spawned_more P past (Ev.Def by site) h m task low high = still_spawned past _ task (h task low (omega (arith, high, tasks_append past (Ev.Def by site ∷ []))))
+spawned_more P past (Ev.Del by place) h m task low high = still_spawned past _ task (h task low (omega (arith, high, tasks_append past (Ev.Del by place ∷ []))))
 spawned_more P past (Ev.Done by ended) h m task low high = still_spawned past _ task (h task low (omega (arith, high, tasks_append past (Ev.Done by ended ∷ []))))
 spawned_more P past (Ev.Spawn by child start) h m task low high = go (nat_eq child task) refl
   where
@@ -137,7 +141,7 @@ get_front [] rest (suc n) x g = absurd (cc g)
 get_front (y ∷ xs) rest zero x g = g
 get_front (y ∷ xs) rest (suc n) x g = get_front xs rest n x g
 
-module _ (P : Program) (all : List Entry) (well : StartWell all) where
+module _ (P : Program) (plain : P.deletes ≡ []) (all : List Entry) (well : StartWell all) where
   -- the first entries are clean, and the events are what they tell
   module _ (xs : List Entry) (es : List Event) (rest : List Entry) (front : xs ++ rest ≡ all) (h : AreClean P all xs es) where
     pub comes_at : (n : ℕ) (e : Event) → slice_get es n ≡ Some e → MayCome P ([] ++ take n es) e
@@ -154,6 +158,7 @@ module _ (P : Program) (all : List Entry) (well : StartWell all) where
         begin_at (E.Key number function tuple ∷ ys) x w g t = absurd w
         begin_at (E.Fill number site begins ∷ ys) x w g t = absurd w
         begin_at (E.Def task site ∷ ys) x w g t = absurd w
+        begin_at (E.Del task place ∷ ys) x w g t = absurd w
         begin_at (E.Spawn task child place ∷ ys) x w g t = absurd w
         begin_at (E.Done task calls trace output ending ∷ ys) x w g t = absurd w
 
@@ -163,12 +168,13 @@ module _ (P : Program) (all : List Entry) (well : StartWell all) where
         later (E.Key number function tuple ∷ ys) n x w g = absurd w
         later (E.Fill number site begins ∷ ys) n x w g = absurd w
         later (E.Def task site ∷ ys) n x w g = absurd w
+        later (E.Del task place ∷ ys) n x w g = absurd w
         later (E.Spawn task child place ∷ ys) n x w g = absurd w
         later (E.Done task calls trace output ending ∷ ys) n x w g = absurd w
 
         at_place : (n : ℕ) (x : Entry) → slice_get (xs ++ rest) n ≡ Some x → Tells P x e → IsClean P all (take n es) x → MayCome P (take n es) e
         at_place zero x g t c = begin_at all x well (subst (λ ys. slice_get ys 0 ≡ Some x) front g) t
-        at_place (suc n) x g t c = comes P all (take (suc n) es) x e c t (later all n x well (subst (λ ys. slice_get ys (suc n) ≡ Some x) front g))
+        at_place (suc n) x g t c = comes P all (take (suc n) es) plain x e c t (later all n x well (subst (λ ys. slice_get ys (suc n) ≡ Some x) front g))
 
     begun : 0 < length es → IsSome (fuel_of es)
     begun l = by es l h.told
@@ -182,6 +188,7 @@ module _ (P : Program) (all : List Entry) (well : StartWell all) where
         first (E.Key number function tuple ∷ ys) e ds x w g t = absurd w
         first (E.Fill number site begins ∷ ys) e ds x w g t = absurd w
         first (E.Def task site ∷ ys) e ds x w g t = absurd w
+        first (E.Del task place ∷ ys) e ds x w g t = absurd w
         first (E.Spawn task child place ∷ ys) e ds x w g t = absurd w
         first (E.Done task calls trace output ending ∷ ys) e ds x w g t = absurd w
 
@@ -194,9 +201,9 @@ module _ (P : Program) (all : List Entry) (well : StartWell all) where
     pub stands : 0 < length es → MayStand P es
     stands l = record { begun = begun l; come = each_after (MayCome P) [] es comes_at }
 
-    pub is_traced : IsTraced es
+    pub is_traced : IsTraced P es
     is_traced = record {
-      traces = each_after (λ past. OnDone (HasTrueTrace past)) [] es
+      traces = each_after (λ past. OnDone (HasTrueTrace P past)) [] es
           (λ n e at. let (x, there, tells) = entry_at P xs es n e h.told at in traced P all (take n es) x e (h.clean n x there) tells);
       own = each_after (λ past. OnDone (HasOwnEvents past)) [] es
           (λ n e at. let (x, there, tells) = entry_at P xs es n e h.told at in owned P all (take n es) x e (h.clean n x there) tells);
@@ -215,6 +222,7 @@ module _ (P : Program) (all : List Entry) (well : StartWell all) where
       root (E.Key number function tuple ∷ ys) w x g whole c = absurd w
       root (E.Fill number site begins ∷ ys) w x g whole c = absurd w
       root (E.Def task site ∷ ys) w x g whole c = absurd w
+      root (E.Del task place ∷ ys) w x g whole c = absurd w
       root (E.Spawn task child place ∷ ys) w x g whole c = absurd w
       root (E.Done task calls trace output ending ∷ ys) w x g whole c = absurd w
 
@@ -227,6 +235,7 @@ module _ (P : Program) (all : List Entry) (well : StartWell all) where
       child_ends n parent start (E.Key number function tuple) c t = absurd (cc (t.2))
       child_ends n parent start (E.Fill number site begins) c t = absurd (cc t)
       child_ends n parent start (E.Def by_task site) c t = absurd (cc t)
+      child_ends n parent start (E.Del by_task place) c t = absurd (cc t)
       child_ends n parent start (E.Spawn by_task child place) c t =
           let same : child ≡ task = cc t in
           ap (has_end all) (sym same) ∙ c C.Unfinished

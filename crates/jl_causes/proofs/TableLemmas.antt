@@ -62,6 +62,12 @@ module _ (P : Program) (all : List Entry) (es : List Event) where
   def_free k task site a b c C.Limit l = c l
   def_free k task site a b c _ l = tt
 
+  pub del_free : (k task place : ℕ) → (5 < k → IsRunning es task) → (6 < k → place < length P.deletes) → (8 < k → world_of es < MOST_WORLDS) → IsFreeUpTo k (E.Del task place)
+  del_free k task place a b c C.NotRunning l = a l
+  del_free k task place a b c C.Site l = b l
+  del_free k task place a b c C.Limit l = c l
+  del_free k task place a b c _ l = tt
+
   pub spawn_free : (k task child place : ℕ) → (5 < k → IsRunning es task) → (6 < k → place < length P.spawns) → (7 < k → child ≡ tasks_of es) → (8 < k → tasks_of es < MOST_TASKS) → (9 < k → IsTrue (has_end all child))
       → IsFreeUpTo k (E.Spawn task child place)
   spawn_free k task child place a b c d e C.NotRunning l = a l
@@ -71,7 +77,7 @@ module _ (P : Program) (all : List Entry) (es : List Event) where
   spawn_free k task child place a b c d e C.Unfinished l = e l
   spawn_free k task child place a b c d e _ l = tt
 
-  pub done_free : (k task calls : ℕ) (trace : List Step) (output : List ℕ) (ending : Ending) → (5 < k → IsRunning es task) → (10 < k → HasTrueTrace es task (record_of calls trace output)) → (11 < k → HasOwnEvents es task (record_of calls trace output))
+  pub done_free : (k task calls : ℕ) (trace : List Step) (output : List ℕ) (ending : Ending) → (5 < k → IsRunning es task) → (10 < k → HasTrueTrace P es task (record_of calls trace output)) → (11 < k → HasOwnEvents es task (record_of calls trace output))
       → IsFreeUpTo k (E.Done task calls trace output ending)
   done_free k task calls trace output ending a b c C.NotRunning l = a l
   done_free k task calls trace output ending a b c C.ItemFalse l = b l

@@ -26,6 +26,7 @@ first_kept t p (Ev.Begin fuel ∷ es) e h = first_kept t (p + 1) es e h
 first_kept t p (Ev.Key key ∷ es) e h = first_kept t (p + 1) es e h
 first_kept t p (Ev.Fill key site begins ∷ es) e h = first_kept t (p + 1) es e h
 first_kept t p (Ev.Def by site ∷ es) e h = first_kept t (p + 1) es e h
+first_kept t p (Ev.Del by place ∷ es) e h = first_kept t (p + 1) es e h
 first_kept t p (Ev.Done by ended ∷ es) e h = first_kept t (p + 1) es e h
 first_kept t p (Ev.Spawn by child start ∷ es) e h = ap (cond (nat_eq child t) (p + 1)) (first_kept t (p + 1) es e h)
 
@@ -36,6 +37,7 @@ first_new t p (Ev.Begin fuel ∷ es) by start h = first_new t (p + 1) es by star
 first_new t p (Ev.Key key ∷ es) by start h = first_new t (p + 1) es by start h ∙ omega arith
 first_new t p (Ev.Fill key site begins ∷ es) by start h = first_new t (p + 1) es by start h ∙ omega arith
 first_new t p (Ev.Def task site ∷ es) by start h = first_new t (p + 1) es by start h ∙ omega arith
+first_new t p (Ev.Del task place ∷ es) by start h = first_new t (p + 1) es by start h ∙ omega arith
 first_new t p (Ev.Done task ended ∷ es) by start h = first_new t (p + 1) es by start h ∙ omega arith
 first_new t p (Ev.Spawn task child s ∷ es) by start h = go (nat_eq child t) h (λ k. first_new t (p + 1) es by start k)
   where

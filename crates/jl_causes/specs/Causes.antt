@@ -24,6 +24,7 @@ is_begin (E.Begin fuel) = true
 is_begin (E.Key number function tuple) = false
 is_begin (E.Fill key site first) = false
 is_begin (E.Def task site) = false
+is_begin (E.Del task place) = false
 is_begin (E.Spawn task child place) = false
 is_begin (E.Done task calls trace output ending) = false
 
@@ -34,6 +35,7 @@ StartWell (E.Begin fuel ∷ xs) = (fuel ≤ MOST_FUEL) × (list_any is_begin xs 
 StartWell (E.Key number function tuple ∷ xs) = ⊥
 StartWell (E.Fill key site first ∷ xs) = ⊥
 StartWell (E.Def task site ∷ xs) = ⊥
+StartWell (E.Del task place ∷ xs) = ⊥
 StartWell (E.Spawn task child place ∷ xs) = ⊥
 StartWell (E.Done task calls trace output ending ∷ xs) = ⊥
 
@@ -44,6 +46,7 @@ is_end_of task (E.Begin fuel) = false
 is_end_of task (E.Key number function tuple) = false
 is_end_of task (E.Fill key site first) = false
 is_end_of task (E.Def by site) = false
+is_end_of task (E.Del by place) = false
 is_end_of task (E.Spawn by child place) = false
 
 -- some entry is
@@ -80,7 +83,8 @@ BeginsRight P es number first = (key : Key) → slice_get (keys_of es) number �
 abbrev pub ChoosesRight : Program → List Event → ℕ → ℕ → ℕ → Type 0
 ChoosesRight P es number site first = (key : Key) → slice_get (keys_of es) number ≡ Some key → SelectsSite P es key first site
 
--- on an entry among all, after those of which these events tell
+-- On an entry among all, after those of which these events tell. A deletion is judged by its task, its place and room alone: it is enough
+-- for programs without a place, of whose texts none stays clean that has a deletion.
 module _ (P : Program) (all : List Entry) (es : List Event) where
   -- what must hold of an entry, so that this cause does not
   abbrev pub IsFreeOf : Cause → Entry → Type 0
@@ -88,78 +92,91 @@ module _ (P : Program) (all : List Entry) (es : List Event) where
   IsFreeOf C.KeyOrder (E.Key number function tuple) = IsNextKey P es number function tuple
   IsFreeOf C.KeyOrder (E.Fill key site first) = Unit {0}
   IsFreeOf C.KeyOrder (E.Def task site) = Unit {0}
+  IsFreeOf C.KeyOrder (E.Del task place) = Unit {0}
   IsFreeOf C.KeyOrder (E.Spawn task child place) = Unit {0}
   IsFreeOf C.KeyOrder (E.Done task calls trace output ending) = Unit {0}
   IsFreeOf C.KeyUnknown (E.Begin fuel) = Unit {0}
   IsFreeOf C.KeyUnknown (E.Key number function tuple) = IsKnownKey P function tuple
   IsFreeOf C.KeyUnknown (E.Fill key site first) = Unit {0}
   IsFreeOf C.KeyUnknown (E.Def task site) = Unit {0}
+  IsFreeOf C.KeyUnknown (E.Del task place) = Unit {0}
   IsFreeOf C.KeyUnknown (E.Spawn task child place) = Unit {0}
   IsFreeOf C.KeyUnknown (E.Done task calls trace output ending) = Unit {0}
   IsFreeOf C.FillKey (E.Begin fuel) = Unit {0}
   IsFreeOf C.FillKey (E.Key number function tuple) = Unit {0}
   IsFreeOf C.FillKey (E.Fill key site first) = IsNextFill es key first
   IsFreeOf C.FillKey (E.Def task site) = Unit {0}
+  IsFreeOf C.FillKey (E.Del task place) = Unit {0}
   IsFreeOf C.FillKey (E.Spawn task child place) = Unit {0}
   IsFreeOf C.FillKey (E.Done task calls trace output ending) = Unit {0}
   IsFreeOf C.FillWorld (E.Begin fuel) = Unit {0}
   IsFreeOf C.FillWorld (E.Key number function tuple) = Unit {0}
   IsFreeOf C.FillWorld (E.Fill key site first) = BeginsRight P es key first
   IsFreeOf C.FillWorld (E.Def task site) = Unit {0}
+  IsFreeOf C.FillWorld (E.Del task place) = Unit {0}
   IsFreeOf C.FillWorld (E.Spawn task child place) = Unit {0}
   IsFreeOf C.FillWorld (E.Done task calls trace output ending) = Unit {0}
   IsFreeOf C.FillChoice (E.Begin fuel) = Unit {0}
   IsFreeOf C.FillChoice (E.Key number function tuple) = Unit {0}
   IsFreeOf C.FillChoice (E.Fill key site first) = ChoosesRight P es key site first
   IsFreeOf C.FillChoice (E.Def task site) = Unit {0}
+  IsFreeOf C.FillChoice (E.Del task place) = Unit {0}
   IsFreeOf C.FillChoice (E.Spawn task child place) = Unit {0}
   IsFreeOf C.FillChoice (E.Done task calls trace output ending) = Unit {0}
   IsFreeOf C.NotRunning (E.Begin fuel) = Unit {0}
   IsFreeOf C.NotRunning (E.Key number function tuple) = Unit {0}
   IsFreeOf C.NotRunning (E.Fill key site first) = Unit {0}
   IsFreeOf C.NotRunning (E.Def task site) = IsRunning es task
+  IsFreeOf C.NotRunning (E.Del task place) = IsRunning es task
   IsFreeOf C.NotRunning (E.Spawn task child place) = IsRunning es task
   IsFreeOf C.NotRunning (E.Done task calls trace output ending) = IsRunning es task
   IsFreeOf C.Site (E.Begin fuel) = Unit {0}
   IsFreeOf C.Site (E.Key number function tuple) = Unit {0}
   IsFreeOf C.Site (E.Fill key site first) = Unit {0}
   IsFreeOf C.Site (E.Def task site) = IsScriptSite P site
+  IsFreeOf C.Site (E.Del task place) = place < length P.deletes
   IsFreeOf C.Site (E.Spawn task child place) = place < length P.spawns
   IsFreeOf C.Site (E.Done task calls trace output ending) = Unit {0}
   IsFreeOf C.ChildOrder (E.Begin fuel) = Unit {0}
   IsFreeOf C.ChildOrder (E.Key number function tuple) = Unit {0}
   IsFreeOf C.ChildOrder (E.Fill key site first) = Unit {0}
   IsFreeOf C.ChildOrder (E.Def task site) = Unit {0}
+  IsFreeOf C.ChildOrder (E.Del task place) = Unit {0}
   IsFreeOf C.ChildOrder (E.Spawn task child place) = child ≡ tasks_of es
   IsFreeOf C.ChildOrder (E.Done task calls trace output ending) = Unit {0}
   IsFreeOf C.Limit (E.Begin fuel) = Unit {0}
   IsFreeOf C.Limit (E.Key number function tuple) = Unit {0}
   IsFreeOf C.Limit (E.Fill key site first) = Unit {0}
   IsFreeOf C.Limit (E.Def task site) = world_of es < MOST_WORLDS
+  IsFreeOf C.Limit (E.Del task place) = world_of es < MOST_WORLDS
   IsFreeOf C.Limit (E.Spawn task child place) = tasks_of es < MOST_TASKS
   IsFreeOf C.Limit (E.Done task calls trace output ending) = Unit {0}
   IsFreeOf C.Unfinished (E.Begin fuel) = IsTrue (has_end all 0)
   IsFreeOf C.Unfinished (E.Key number function tuple) = Unit {0}
   IsFreeOf C.Unfinished (E.Fill key site first) = Unit {0}
   IsFreeOf C.Unfinished (E.Def task site) = Unit {0}
+  IsFreeOf C.Unfinished (E.Del task place) = Unit {0}
   IsFreeOf C.Unfinished (E.Spawn task child place) = IsTrue (has_end all child)
   IsFreeOf C.Unfinished (E.Done task calls trace output ending) = Unit {0}
   IsFreeOf C.ItemFalse (E.Begin fuel) = Unit {0}
   IsFreeOf C.ItemFalse (E.Key number function tuple) = Unit {0}
   IsFreeOf C.ItemFalse (E.Fill key site first) = Unit {0}
   IsFreeOf C.ItemFalse (E.Def task site) = Unit {0}
+  IsFreeOf C.ItemFalse (E.Del task place) = Unit {0}
   IsFreeOf C.ItemFalse (E.Spawn task child place) = Unit {0}
-  IsFreeOf C.ItemFalse (E.Done task calls trace output ending) = HasTrueTrace es task (record_of calls trace output)
+  IsFreeOf C.ItemFalse (E.Done task calls trace output ending) = HasTrueTrace P es task (record_of calls trace output)
   IsFreeOf C.EventMissing (E.Begin fuel) = Unit {0}
   IsFreeOf C.EventMissing (E.Key number function tuple) = Unit {0}
   IsFreeOf C.EventMissing (E.Fill key site first) = Unit {0}
   IsFreeOf C.EventMissing (E.Def task site) = Unit {0}
+  IsFreeOf C.EventMissing (E.Del task place) = Unit {0}
   IsFreeOf C.EventMissing (E.Spawn task child place) = Unit {0}
   IsFreeOf C.EventMissing (E.Done task calls trace output ending) = HasOwnEvents es task (record_of calls trace output)
   IsFreeOf C.RunDiffers (E.Begin fuel) = Unit {0}
   IsFreeOf C.RunDiffers (E.Key number function tuple) = Unit {0}
   IsFreeOf C.RunDiffers (E.Fill key site first) = Unit {0}
   IsFreeOf C.RunDiffers (E.Def task site) = Unit {0}
+  IsFreeOf C.RunDiffers (E.Del task place) = Unit {0}
   IsFreeOf C.RunDiffers (E.Spawn task child place) = Unit {0}
   IsFreeOf C.RunDiffers (E.Done task calls trace output ending) = Unit {0}
 

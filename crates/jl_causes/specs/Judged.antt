@@ -27,6 +27,7 @@ IsKeyIn P (E.Key number function tuple) key = IsReadAs P function tuple key
 IsKeyIn P (E.Begin fuel) key = Unit {0}
 IsKeyIn P (E.Fill number site first) key = Unit {0}
 IsKeyIn P (E.Def task site) key = Unit {0}
+IsKeyIn P (E.Del task place) key = Unit {0}
 IsKeyIn P (E.Spawn task child place) key = Unit {0}
 IsKeyIn P (E.Done task calls trace output ending) key = Unit {0}
 

@@ -6,7 +6,7 @@ use Rattle.jl_program.specs.declared.tree.Program.{Program}
 use Rattle.jl_calculus.specs.declared.history.Event.{Event}
 use Rattle.jl_calculus.specs.declared.history.Record.{Record}
 use Rattle.jl_calculus.specs.declared.history.TraceItem.{TraceItem}
-use Rattle.jl_calculus.specs.declared.history.TraceItem.TheVariants.{Look, Def, Spawn, Fetch, WorldFull, TaskFull}
+use Rattle.jl_calculus.specs.declared.history.TraceItem.TheVariants.{Look, Def, Del, Spawn, Fetch, WorldFull, TaskFull, Absent}
 use Rattle.jl_calculus.specs.Legal.{IsKeyOf, OnDone, EachAfter, MayStand, IsTraced, AreFinished}
 use Rattle.jl_calculus.specs.Past.{done_of}
 use Rattle.jl_calculus.specs.Ranges.{keys_of}
@@ -27,6 +27,8 @@ IsFetchTold es (Def site p) = Unit {0}
 IsFetchTold es (Spawn child p) = Unit {0}
 IsFetchTold es (WorldFull p) = Unit {0}
 IsFetchTold es (TaskFull p) = Unit {0}
+IsFetchTold es (Del place p) = Unit {0}
+IsFetchTold es (Absent place p) = Unit {0}
 
 abbrev pub AreFetchesTold : List Event → List TraceItem → Type 0
 AreFetchesTold es [] = Unit {0}
@@ -38,17 +40,17 @@ TellsFetches es = EachAfter (λ past. OnDone (λ task ended. AreFetchesTold past
 
 -- of the entries of a legal history no cause holds
 abbrev pub LegalHasNoCause : Type 0
-LegalHasNoCause = (P : Program) (es : List Event) → AreApart P → MayStand P es → IsTraced es → AreFinished es → HasNoCause P (entries_of P es)
+LegalHasNoCause = (P : Program) (es : List Event) → AreApart P → MayStand P es → IsTraced P es → AreFinished es → HasNoCause P (entries_of P es)
 
--- events of whose entries no cause holds are legal but for the runs of the tasks, where their keys are of the program, and their
--- fetches tell what the fetched tasks told
+-- events of whose entries no cause holds are legal but for the runs of the tasks, where the program has no deletion place, their keys
+-- are of the program, and their fetches tell what the fetched tasks told
 abbrev pub NoCauseIsLegal : Type 0
 NoCauseIsLegal =
-    (P : Program) (es : List Event) → AreApart P → All (IsKeyOf P) (keys_of es) → TellsFetches es → StartWell (entries_of P es) → HasNoCause P (entries_of P es)
-    → MayStand P es × IsTraced es × AreFinished es
+    (P : Program) (es : List Event) → P.deletes ≡ [] → AreApart P → All (IsKeyOf P) (keys_of es) → TellsFetches es → StartWell (entries_of P es) → HasNoCause P (entries_of P es)
+    → MayStand P es × IsTraced P es × AreFinished es
 
 -- and so are events whose entries are the first of such a text, as far as they go
 abbrev pub NoCauseSoFar : Type 0
 NoCauseSoFar =
-    (P : Program) (all rest : List Entry) (es : List Event) → AreApart P → All (IsKeyOf P) (keys_of es) → TellsFetches es → StartWell all → HasNoCause P all → entries_of P es ++ rest ≡ all → 0 < length es
-    → MayStand P es × IsTraced es
+    (P : Program) (all rest : List Entry) (es : List Event) → P.deletes ≡ [] → AreApart P → All (IsKeyOf P) (keys_of es) → TellsFetches es → StartWell all → HasNoCause P all → entries_of P es ++ rest ≡ all → 0 < length es
+    → MayStand P es × IsTraced P es

@@ -37,6 +37,8 @@ item_of (S.Spawn child p) = I.Spawn child p
 item_of (S.Fetch task p) = I.Fetch task untold p
 item_of (S.WorldFull p) = I.WorldFull p
 item_of (S.TaskFull p) = I.TaskFull p
+item_of (S.Del place p) = I.Del place p
+item_of (S.Absent place p) = I.Absent place p
 
 abbrev pub items_of : List Step → List TraceItem
 items_of [] = []
@@ -58,6 +60,7 @@ Tells P (E.Begin fuel) e = e ≡ Ev.Begin fuel
 Tells P (E.Key number function tuple) e = (key : Key) × Names P function tuple key × (e ≡ Ev.Key key)
 Tells P (E.Fill key site first) e = e ≡ Ev.Fill key site first
 Tells P (E.Def task site) e = e ≡ Ev.Def task site
+Tells P (E.Del task place) e = e ≡ Ev.Del task place
 Tells P (E.Spawn task child place) e = e ≡ Ev.Spawn task child (start_at place)
 Tells P (E.Done task calls trace output ending) e = e ≡ Ev.Done task (record_of calls trace output)
 

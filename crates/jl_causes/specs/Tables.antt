@@ -44,11 +44,15 @@ pub record AreTasks (es : List Event) (t : Tasks) : Type 0 where
 abbrev pub IsDefAt : List Entry → ℕ → ℕ → ℕ → Type 0
 IsDefAt xs at by made = slice_get xs at ≡ Some (E.Def by made)
 
+-- the entry at a place is this deletion
+abbrev pub IsDelAt : List Entry → ℕ → ℕ → ℕ → Type 0
+IsDelAt xs at by made = slice_get xs at ≡ Some (E.Del by made)
+
 -- the entry at a place is this spawn
 abbrev pub IsSpawnAt : List Entry → ℕ → ℕ → ℕ → Type 0
 IsSpawnAt xs at by made = (spawn : ℕ) × (slice_get xs at ≡ Some (E.Spawn by made spawn))
 
--- an item is a definition or a spawn
+-- an item is a definition, a deletion or a spawn
 abbrev pub is_own : TraceItem → Bool
 is_own (I.Def site p) = true
 is_own (I.Spawn child p) = true
@@ -56,3 +60,5 @@ is_own (I.Look w p) = false
 is_own (I.Fetch task outcome p) = false
 is_own (I.WorldFull p) = false
 is_own (I.TaskFull p) = false
+is_own (I.Del place p) = true
+is_own (I.Absent place p) = false

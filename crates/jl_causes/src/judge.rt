@@ -44,6 +44,7 @@ fn is_script_site(ready: &Ready, site: u32) -> bool
 impl Judge {
     /// What is known after the beginning.
     pub(crate) fn new(alloc: Global, ready: &Ready, entries: &[Entry]) -> Result<Judge, AllocError>
+        requires { ready.now.deletes ≡ [] }
         ensures { IfOk result (λ judge. (fuel : ℕ) → IsJudgeOf ready.now entries.now (Begin fuel ∷ []) judge) }
     {
         Ok(Judge {
@@ -126,6 +127,16 @@ impl Judge {
         None
     }
 
+    /// The first cause that holds of a deletion: the program has no place of one.
+    fn judge_del(&self, task: u32) -> Option<Cause>
+        ensures { (P : Program) (all : List Entry) (es : List Event) (place : ℕ) → IsJudgeOf P all es self.now → IsJudged P all es (E.Del task place) result }
+    {
+        if !self.tasks.is_running(task) {
+            return Some(Cause::NotRunning);
+        }
+        Some(Cause::Site)
+    }
+
     /// The first cause that holds of a spawn.
     fn judge_spawn(&self, ready: &Ready, task: u32, child: u32, place: u32) -> Option<Cause>
         requires { (all : List Entry) × (es : List Event) × IsJudgeOf ready.now all es self.now }
@@ -188,6 +199,7 @@ impl Judge {
                 Ok(found)
             }
             Entry::Def { task, site } => Ok(self.judge_def(ready, *task, *site)),
+            Entry::Del { task, .. } => Ok(self.judge_del(*task)),
             Entry::Spawn { task, child, place } => {
                 Ok(self.judge_spawn(ready, *task, *child, *place))
             }

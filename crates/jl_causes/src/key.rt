@@ -39,6 +39,7 @@ pub(crate) fn read_named<R: ReadKey>(
         Entry::Begin(_)
         | Entry::Fill { .. }
         | Entry::Def { .. }
+        | Entry::Del { .. }
         | Entry::Spawn { .. }
         | Entry::Done { .. } => Ok(None),
     }

@@ -99,7 +99,7 @@ impl Judge {
         Ok(())
     }
 
-    /// One more entry, of which no cause holds; where it is one of a key, this is the key that its texts name.
+    /// One more entry, of which no cause holds, so that it is no deletion; where it is one of a key, this is the key that its texts name.
     pub(crate) fn note(
         &mut self,
         alloc: Global,
@@ -128,6 +128,7 @@ impl Judge {
                 self.note_def(alloc, ready, *task, *site, at)?;
                 Ok(())
             }
+            Entry::Del { .. } => Ok(()),
             Entry::Spawn { task, child, .. } => {
                 self.note_spawn(alloc, ready, *task, *child, at)?;
                 Ok(())

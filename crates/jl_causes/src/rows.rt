@@ -15,7 +15,7 @@ ghost use Rattle.jl_methods.specs.Indexed.{IsIndexOf, MayBeNoted};
 ghost use Rattle.jl_causes.specs.Causes.{IsNextFill};
 ghost use Rattle.jl_causes.specs.State.{AreRows, HasRow};
 
-use jl_calculus::history::Event;
+use jl_calculus::history::{Change, Event};
 use jl_methods::{Index, count_up_to};
 use jl_model::limits::MOST_CACHE_ROWS;
 use jl_model::ty::Key;
@@ -227,7 +227,7 @@ impl Rows {
         requires { (es : List Event) × AreRows ready.now es self.old × MayCome ready.now es (DefEvent task site) }
         ensures { OnOk result ((es : List Event) → AreRows ready.now es self.old → MayCome ready.now es (DefEvent task site) → AreRows ready.now (es ++ DefEvent task site ∷ []) self.new) }
     {
-        let touched = self.index.find_touched(alloc, ready, site)?;
+        let touched = self.index.find_touched(alloc, ready, Change::Def(site))?;
         let event = Event::Def { task, site };
         let noted = note_event(&mut self.index, ready, &event, touched.as_slice());
         drop(event);

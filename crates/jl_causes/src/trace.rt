@@ -1,12 +1,12 @@
 //! Whether the trace of a task is true of the events, and has the task's own events.
 
-ghost use Rattle.std.specs.Prelude.{◌≡◌, ◌↔◌, ℕ, List, IsTrue, length, take, slice_get, Some};
+ghost use Rattle.std.specs.Prelude.{◌≡◌, ◌↔◌, ℕ, List, [], IsTrue, length, take, slice_get, Some};
 ghost use Rattle.jl_program.specs.declared.tree.Program.{Program};
 ghost use Rattle.jl_calculus.specs.declared.history.Event.{Event};
 ghost use Rattle.jl_calculus.specs.Legal.{HasTrueTrace, HasOwnEvents};
 ghost use Rattle.jl_calculus.specs.Past.{IsTrueOf, place, past};
 ghost use Rattle.jl_causes.specs.Sketch.{item_of, record_of, AllTell};
-ghost use Rattle.jl_causes.specs.Tables.{ArePlaces, AreTasks, IsDefAt, IsSpawnAt, is_own};
+ghost use Rattle.jl_causes.specs.Tables.{ArePlaces, AreTasks, IsDefAt, IsDelAt, IsSpawnAt, is_own};
 
 use crate::places::Places;
 use crate::tasks::Tasks;
@@ -23,6 +23,16 @@ fn is_def_at(entries: &[Entry], at: u32, by: u32, made: u32) -> bool
     }
 }
 
+/// Whether the entry at a place is this deletion.
+fn is_del_at(entries: &[Entry], at: u32, by: u32, made: u32) -> bool
+    ensures { IsTrue result ↔ IsDelAt entries.now at by made }
+{
+    match entries.get(at as usize) {
+        Some(Entry::Del { task, place }) => *task == by && *place == made,
+        _ => false,
+    }
+}
+
 /// Whether the entry at a place is this spawn.
 fn is_spawn_at(entries: &[Entry], at: u32, by: u32, made: u32) -> bool
     ensures { IsTrue result ↔ IsSpawnAt entries.now at by made }
@@ -33,10 +43,11 @@ fn is_spawn_at(entries: &[Entry], at: u32, by: u32, made: u32) -> bool
     }
 }
 
-/// Whether a step of a task is true of the events that the first entries tell.
+/// Whether a step of a task is true of the events that the first entries tell. None is that there is nothing to delete at a place: the
+/// program has no place.
 fn is_true(tasks: &Tasks, places: &Places, entries: &[Entry], task: u32, step: &Step) -> bool
     requires { (es : List Event) × ArePlaces es places.now }
-    ensures { (P : Program) (es : List Event) → AreTasks es tasks.now → ArePlaces es places.now → AllTell P (take (length es) entries.now) es → IsTrue result ↔ IsTrueOf es task (item_of step.now) }
+    ensures { (P : Program) (es : List Event) → AreTasks es tasks.now → ArePlaces es places.now → AllTell P (take (length es) entries.now) es → P.deletes ≡ [] → IsTrue result ↔ IsTrueOf P es task (item_of step.now) }
 {
     let count = places.len();
     match step {
@@ -48,6 +59,8 @@ fn is_true(tasks: &Tasks, places: &Places, entries: &[Entry], task: u32, step: &
         Step::Fetch { task, at } => (*at as usize) <= count && tasks.has_ended(*task, *at),
         Step::WorldFull { at } => places.has_world(MOST_WORLDS as u32, *at),
         Step::TaskFull { at } => places.has_tasks(MOST_TASKS as u32, *at),
+        Step::Del { place, at } => (*at as usize) < count && is_del_at(entries, *at, task, *place),
+        Step::Absent { .. } => false,
     }
 }
 
@@ -62,6 +75,8 @@ fn place(step: &Step) -> u32
         Step::Fetch { at, .. } => *at,
         Step::WorldFull { at } => *at,
         Step::TaskFull { at } => *at,
+        Step::Del { at, .. } => *at,
+        Step::Absent { at, .. } => *at,
     }
 }
 
@@ -76,6 +91,8 @@ fn past(step: &Step) -> usize
         Step::Fetch { at, .. } => *at as usize,
         Step::WorldFull { at } => *at as usize,
         Step::TaskFull { at } => *at as usize,
+        Step::Del { at, .. } => *at as usize + 1,
+        Step::Absent { at, .. } => *at as usize,
     }
 }
 
@@ -88,7 +105,7 @@ pub(crate) fn has_true_trace(
     trace: &[Step],
 ) -> bool
     requires { (es : List Event) × ArePlaces es places.now }
-    ensures { (P : Program) (es : List Event) (calls : ℕ) (output : List ℕ) → AreTasks es tasks.now → ArePlaces es places.now → AllTell P (take (length es) entries.now) es → IsTrue result ↔ HasTrueTrace es task (record_of calls trace.now output) }
+    ensures { (P : Program) (es : List Event) (calls : ℕ) (output : List ℕ) → AreTasks es tasks.now → ArePlaces es places.now → AllTell P (take (length es) entries.now) es → P.deletes ≡ [] → IsTrue result ↔ HasTrueTrace P es task (record_of calls trace.now output) }
 {
     let mut low = tasks.first(task);
     for step in trace {
@@ -100,7 +117,7 @@ pub(crate) fn has_true_trace(
     low <= places.len()
 }
 
-/// Whether a step is a definition or a spawn.
+/// Whether a step is a definition, a deletion or a spawn.
 fn is_own(step: &Step) -> bool
     ensures { result ≡ is_own (item_of step.now) }
 {
@@ -111,10 +128,12 @@ fn is_own(step: &Step) -> bool
         Step::Fetch { .. } => false,
         Step::WorldFull { .. } => false,
         Step::TaskFull { .. } => false,
+        Step::Del { .. } => true,
+        Step::Absent { .. } => false,
     }
 }
 
-/// Whether the definitions and spawns of a trace are those of the task, in order, each once.
+/// Whether the definitions, deletions and spawns of a trace are those of the task, in order, each once.
 pub(crate) fn has_own_events(tasks: &Tasks, task: u32, trace: &[Step]) -> bool
     ensures { (es : List Event) (calls : ℕ) (output : List ℕ) → AreTasks es tasks.now → IsTrue result ↔ HasOwnEvents es task (record_of calls trace.now output) }
 {

@@ -9,17 +9,17 @@ use Rattle.jl_program.specs.declared.choice.Choice.{Choice}
 use Rattle.jl_program.specs.declared.choice.Choice.TheVariants as Ch
 use Rattle.jl_program.specs.declared.tree.Program.{Program}
 use Rattle.jl_program.specs.declared.tree.Start.{Start}
+use Rattle.jl_calculus.specs.declared.history.Change.{Change}
 use Rattle.jl_calculus.specs.declared.history.Event.{Event}
 use Rattle.jl_calculus.specs.declared.history.Event.TheVariants as Ev
 use Rattle.jl_calculus.specs.declared.history.Record.{Record}
 use Rattle.jl_calculus.specs.Core as C
 use Rattle.jl_calculus.specs.Kept.{Places}
-use Rattle.jl_calculus.specs.Legal.{IsKeyOf, AreTrueOf, first_place}
+use Rattle.jl_calculus.specs.Legal.{IsKeyOf, MayBeMade, AreTrueOf, first_place}
 use Rattle.jl_calculus.specs.Past.{tasks_of, IsInOrder, own_events, own_items}
-use Rattle.jl_calculus.specs.Ranges.{CacheRow, keys_of, rows_of, Covers, IsCovered, IsCoveredBy}
-use Rattle.jl_calculus.specs.Words.{IsLastWorld, IsLastWith, IsRowWords}
+use Rattle.jl_calculus.specs.Ranges.{CacheRow, keys_of, rows_of, Covers, IsCovered}
+use Rattle.jl_calculus.specs.Words.{IsLastWorld, IsLastWith}
 use Rattle.jl_calculus.specs.World.{world_of, Selects}
-use Rattle.jl_calculus.proofs.BetweenLemmas.{row_tells}
 use Rattle.jl_core.specs.declared.range.Range.{Range}
 use Rattle.jl_core.specs.declared.task.Task.{Task}
 use Rattle.jl_core.specs.declared.words.Words.{Words}
@@ -151,7 +151,9 @@ named_key (Ev.Begin fuel ∷ es) key (suc k, l, e) = named_key es key (k, omega 
 named_key (Ev.Fill n site first ∷ es) key (zero, l, e) = cc
 named_key (Ev.Fill n site first ∷ es) key (suc k, l, e) = named_key es key (k, omega (arith, l), e)
 named_key (Ev.Def task site ∷ es) key (zero, l, e) = cc
+named_key (Ev.Del task place ∷ es) key (zero, l, e) = cc
 named_key (Ev.Def task site ∷ es) key (suc k, l, e) = named_key es key (k, omega (arith, l), e)
+named_key (Ev.Del task place ∷ es) key (suc k, l, e) = named_key es key (k, omega (arith, l), e)
 named_key (Ev.Spawn task child start ∷ es) key (zero, l, e) = cc
 named_key (Ev.Spawn task child start ∷ es) key (suc k, l, e) = named_key es key (k, omega (arith, l), e)
 named_key (Ev.Done task ended ∷ es) key (zero, l, e) = cc
@@ -167,6 +169,7 @@ key_named (Ev.Key x ∷ es) key (suc k, l, e) = later (Ev.Key x) es (Ev.Key key)
 key_named (Ev.Begin fuel ∷ es) key c = later (Ev.Begin fuel) es (Ev.Key key) (key_named es key c)
 key_named (Ev.Fill n site first ∷ es) key c = later (Ev.Fill n site first) es (Ev.Key key) (key_named es key c)
 key_named (Ev.Def task site ∷ es) key c = later (Ev.Def task site) es (Ev.Key key) (key_named es key c)
+key_named (Ev.Del task place ∷ es) key c = later (Ev.Del task place) es (Ev.Key key) (key_named es key c)
 key_named (Ev.Spawn task child start ∷ es) key c = later (Ev.Spawn task child start) es (Ev.Key key) (key_named es key c)
 key_named (Ev.Done task ended ∷ es) key c = later (Ev.Done task ended) es (Ev.Key key) (key_named es key c)
 
@@ -231,7 +234,7 @@ words_at (w ∷ ws) zero row e = (w, refl, (let q : row_of w ≡ row = cc in q))
 words_at (w ∷ ws) (suc k) row e = words_at ws k row e
 
 module _ (P : Program) (room : Places) (s : C.Core) (ws : List Words) (h : Keeps P room s ws) where
-  -- its last world, while no definition is open
+  -- its last world, while no change is open
   last_of : (o : Option C.Opened) (r : ℕ) (key : Key) (first last : ℕ) → o ≡ None → IsLastWith P s.events (C.cut_for o) r key first last → IsLastWorld P s.events key first last
   last_of None r key first last e (inl (c, q)) = absurd (nothing r c)
   last_of None r key first last e (inr (n, k)) = k
@@ -327,7 +330,7 @@ no_name P es number w e k = some_or_none (slice_get (keys_of es) number) k.key e
 pub method_there : (P : Program) (es : List Event) (number w : ℕ) (key : Key) (range : Range) (o : Option Range) → slice_get (keys_of es) number ≡ Some key → o ≡ Some range → IsRangeOrNone P es key w o → HasMethod P es number w
 method_there P es number w key range o named is h =
     let k = subst (IsRangeOrNone P es key w) is h in
-    let (d, s, e) = row_tells P es key range.site range.first w k.right k.covers in
+    let (d, s, e) = k.choice in
     record { key = key; named = named; choice = (d, s) }
 
 pub no_method : (P : Program) (es : List Event) (number w : ℕ) (key : Key) (o : Option Range) → slice_get (keys_of es) number ≡ Some key → o ≡ None → IsRangeOrNone P es key w o → HasMethod P es number w → ⊥
@@ -338,7 +341,7 @@ no_method P es number w key o named is h m =
 
 -- ---- an end
 
-pub end_where : (P : Program) (room : Places) (s : C.Core) (task : ℕ) (ended : Record) (b : Bool) → C.IsFree P room s task → AreTrueOf s.events task ended.trace × IsInOrder (first_place task 0 s.events) ended.trace (length s.events)
+pub end_where : (P : Program) (room : Places) (s : C.Core) (task : ℕ) (ended : Record) (b : Bool) → C.IsFree P room s task → AreTrueOf P s.events task ended.trace × IsInOrder (first_place task 0 s.events) ended.trace (length s.events)
     → own_events task 0 s.events ≡ own_items ended.trace → IsTrue b ↔ C.Knows P room s task (C.in_outcome ended.outcome) → IsTrue b ↔ C.CanEnd P room s task ended
 end_where P room s task ended b free (true_items, order) own k = (
   λ t. record { free = free; traced = record { true_items = true_items; in_order = order }; own = own; known = k.0 t },
@@ -379,14 +382,14 @@ module _ (P : Program) (room : Places) (s : C.Core) (task : ℕ) where
   pub no_search : search_by (slice_get s.tasks task) ≡ None → C.CanRead P room s task → ⊥
   no_search e (t, search, r, at) = some_or_none (search_by (slice_get s.tasks task)) search e (search_is t search at.at at.searching)
 
--- ---- keys, sites and spawns
+-- ---- keys, changes and spawns
 
 pub name_where : (P : Program) (room : Places) (s : C.Core) (task : ℕ) (key : Key) (b : Bool) → C.IsFree P room s task → length (keys_of s.events) < room.keys → (Contains (keys_of s.events) key → ⊥)
     → Decides b (IsKeyOf P key) → IsTrue b ↔ C.CanName P room s task key
 name_where P room s task key b free place new h = (λ t. record { free = free; proper = h.0 t; new = new; place = place }, λ k. h.1 k.proper)
 
-pub open_where : (P : Program) (room : Places) (s : C.Core) (task site : ℕ) (b : Bool) → prelude_count ≤ site → site < length P.sites → world_of s.events < MOST_WORLDS → IsTrue b ↔ C.IsFree P room s task → IsTrue b ↔ C.CanOpen P room s task site
-open_where P room s task site b low high place h = (λ t. record { free = h.0 t; past_prelude = low; of_program = high; place = place }, λ k. h.1 k.free)
+pub open_where : (P : Program) (room : Places) (s : C.Core) (task : ℕ) (change : Change) (b : Bool) → C.IsFree P room s task → world_of s.events < MOST_WORLDS → IsTrue b ↔ MayBeMade P s.events change → IsTrue b ↔ C.CanOpen P room s task change
+open_where P room s task change b free place h = (λ t. record { free = free; may = h.0 t; place = place }, λ k. h.1 k.may)
 
 pub spawn_where : (P : Program) (room : Places) (s : C.Core) (task : ℕ) (start : Start) (b : Bool) → C.IsFree P room s task → tasks_of s.events < MOST_TASKS → start.spawn < length P.spawns → C.HasSeenWorld P room s task start.world
     → IsTrue b ↔ C.Knows P room s task (C.in_start start) → IsTrue b ↔ C.CanSpawn P room s task start

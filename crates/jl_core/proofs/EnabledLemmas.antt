@@ -9,7 +9,7 @@ use Rattle.jl_calculus.specs.Core as C
 use Rattle.jl_calculus.specs.Kept.{Places}
 use Rattle.jl_calculus.specs.Legal.{IsRunning, IsKeyOf}
 use Rattle.jl_calculus.specs.Past.{done_of}
-use Rattle.jl_calculus.specs.Ranges.{CacheRow, keys_of, rows_of, SiteTouches, HasNoEnd, MayBegin}
+use Rattle.jl_calculus.specs.Ranges.{CacheRow, keys_of, rows_of, head_of, HeadTouches, HasNoEnd, MayBegin}
 use Rattle.jl_calculus.specs.Words.{IsLastWith, IsRowWords}
 use Rattle.jl_core.specs.declared.task.Task.{Task}
 use Rattle.jl_core.specs.declared.words.Words.{Words}
@@ -137,12 +137,12 @@ module _ (P : Program) (room : Places) (s : C.Core) (ws : List Words) (h : Keeps
   pub key_proper : (number : ℕ) (key : Key) → slice_get (keys_of s.events) number ≡ Some key → IsKeyOf P key
   key_proper number key e = sound.events.proper key (contains_at (keys_of s.events) number key e)
 
-  -- a row without an end is left exactly where the open definition touches its key
+  -- a row without an end is left exactly where the open change touches its key
   pub left_where : (r : ℕ) (w : Words) (o : C.Opened) (key : Key) (b : Bool) → slice_get ws r ≡ Some w → w.last ≡ 0 → s.opened ≡ Some o → slice_get (keys_of s.events) w.key ≡ Some key
-      → IsTrue b ↔ SiteTouches P (slice_get P.sites o.site) key → IsTrue b ↔ C.CanCut P room s r
+      → IsTrue b ↔ HeadTouches P (head_of P o.change) key → IsTrue b ↔ C.CanCut P room s r
   left_where r w o key b at z e named k = (λ t. to (k.0 t), λ c. k.1 (from c))
     where
-      to : SiteTouches P (slice_get P.sites o.site) key → C.CanCut P room s r
+      to : HeadTouches P (head_of P o.change) key → C.CanCut P room s r
       to t =
           let words = h.words_told.each r w at in
           let number : words.row.key ≡ w.key = row_key r w words.row at words.stands in
@@ -151,17 +151,17 @@ module _ (P : Program) (room : Places) (s : C.Core) (ws : List Words) (h : Keeps
             o,
             e,
             record {
-              ends = record { row = words.row; stands = words.stands; key = words.key; named = words.named; no_end = none_left.0; touched = subst (SiteTouches P (slice_get P.sites o.site)) (sym one) t };
+              ends = record { row = words.row; stands = words.stands; key = words.key; named = words.named; no_end = none_left.0; touched = subst (HeadTouches P (head_of P o.change)) (sym one) t };
               not_cut = subst (λ (x : Option C.Opened). Contains (C.cut_for x) r → ⊥) e none_left.1;
             },
           )
 
-      from : C.CanCut P room s r → SiteTouches P (slice_get P.sites o.site) key
+      from : C.CanCut P room s r → HeadTouches P (head_of P o.change) key
       from (p, q, left) =
           let same : p ≡ o = same_opened s.opened p o q e in
           let number : left.ends.row.key ≡ w.key = row_key r w left.ends.row at left.ends.stands in
           let one : left.ends.key ≡ key = same_key (slice_get (keys_of s.events) w.key) left.ends.key key (subst (λ n. slice_get (keys_of s.events) n ≡ Some left.ends.key) number left.ends.named) named in
-          subst (SiteTouches P (slice_get P.sites o.site)) one (subst (λ (x : C.Opened). SiteTouches P (slice_get P.sites x.site) left.ends.key) same left.ends.touched)
+          subst (HeadTouches P (head_of P o.change)) one (subst (λ (x : C.Opened). HeadTouches P (head_of P x.change) left.ends.key) same left.ends.touched)
 
   -- ---- publishing
 

@@ -44,6 +44,7 @@ still_begun (Ev.Begin fuel ∷ es) more h = h
 still_begun (Ev.Key key ∷ es) more h = h
 still_begun (Ev.Fill key site first ∷ es) more h = h
 still_begun (Ev.Def by site ∷ es) more h = h
+still_begun (Ev.Del by place ∷ es) more h = h
 still_begun (Ev.Spawn parent child start ∷ es) more h = h
 still_begun (Ev.Done by ended ∷ es) more h = h
 
@@ -54,6 +55,7 @@ tasks_append (Ev.Begin fuel ∷ es) more = tasks_append es more
 tasks_append (Ev.Key key ∷ es) more = tasks_append es more
 tasks_append (Ev.Fill key site first ∷ es) more = tasks_append es more
 tasks_append (Ev.Def task site ∷ es) more = tasks_append es more
+tasks_append (Ev.Del task place ∷ es) more = tasks_append es more
 tasks_append (Ev.Done task ended ∷ es) more = tasks_append es more
 
 -- the first of two
@@ -73,6 +75,7 @@ done_append t (Ev.Begin fuel ∷ es) more = done_append t es more
 done_append t (Ev.Key key ∷ es) more = done_append t es more
 done_append t (Ev.Fill key site first ∷ es) more = done_append t es more
 done_append t (Ev.Def task site ∷ es) more = done_append t es more
+done_append t (Ev.Del task place ∷ es) more = done_append t es more
 
 cond_append : (b : Bool) (y : ℕ) (ys zs : List ℕ) → cond b (y ∷ (ys ++ zs)) (ys ++ zs) ≡ cond b (y ∷ ys) ys ++ zs
 cond_append true y ys zs = refl
@@ -86,4 +89,5 @@ children_append x (Ev.Begin fuel ∷ es) more = children_append x es more
 children_append x (Ev.Key key ∷ es) more = children_append x es more
 children_append x (Ev.Fill key site first ∷ es) more = children_append x es more
 children_append x (Ev.Def by site ∷ es) more = children_append x es more
+children_append x (Ev.Del by place ∷ es) more = children_append x es more
 children_append x (Ev.Done by ended ∷ es) more = children_append x es more

@@ -11,6 +11,7 @@ use Rattle.jl_calculus.specs.Legal.{IsKeyOf}
 use Rattle.jl_calculus.specs.Ranges.{keys_of}
 use Rattle.jl_calculus.specs.Words.{link_of}
 use Rattle.jl_calculus.specs.World.{world_of, Selects}
+use Rattle.jl_calculus.proofs.BetweenLemmas.{row_made}
 use Rattle.jl_calculus.proofs.GrowthLemmas.{first_at_most}
 use Rattle.jl_core.specs.declared.range.Range.{Range}
 use Rattle.jl_core.specs.declared.words.Words.{Words}
@@ -60,7 +61,7 @@ module _ (P : Program) (room : Places) (s : C.Core) (ws : List Words) (h : Keeps
     named = named;
     site = range.site;
     first = range.first;
-    right = r.right;
+    right = row_made P h.reached.valid s.events key range.site range.first w (fill_key key named) r.begun r.covers r.choice;
     covers = r.covers;
     is = core_same t (C.with_event s task (Ev.Fill number range.site range.first)) p q (o ∙ k.free.closed);
   }

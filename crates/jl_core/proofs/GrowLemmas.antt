@@ -7,6 +7,7 @@ use Rattle.jl_program.specs.declared.choice.Choice.TheVariants as C
 use Rattle.jl_program.specs.declared.tree.Program.{Program}
 use Rattle.jl_program.specs.declared.tree.Start.{Start}
 use Rattle.jl_program.specs.Gathered.{times}
+use Rattle.jl_calculus.specs.declared.history.Change.TheVariants as Ch
 use Rattle.jl_calculus.specs.declared.history.Event.{Event}
 use Rattle.jl_calculus.specs.declared.history.Event.TheVariants as Ev
 use Rattle.jl_calculus.specs.declared.history.Record.{Record}
@@ -15,9 +16,9 @@ use Rattle.jl_calculus.specs.Legal.{IsKeyOf, MayCome, OnDone, HasTrueTrace, HasO
 use Rattle.jl_calculus.specs.Orders.{children_of, wait_order}
 use Rattle.jl_calculus.specs.Past.{tasks_of, done_of}
 use Rattle.jl_calculus.specs.Ranges.{CacheRow, keys_of, rows_of, SelectsSite}
-use Rattle.jl_calculus.specs.World.{world_of, defined}
+use Rattle.jl_calculus.specs.World.{world_of, changed}
 use Rattle.jl_calculus.proofs.BetweenLemmas.{of_world, right_on}
-use Rattle.jl_calculus.proofs.GrowthLemmas.{get_more, defined_append, keys_append, rows_append, world_more, selects_on, site_more}
+use Rattle.jl_calculus.proofs.GrowthLemmas.{get_more, changed_append, keys_append, rows_append, world_more, selects_on, site_more}
 use Rattle.jl_calculus.proofs.OrderLemmas.{path_only, wait_same}
 use Rattle.jl_core.proofs.BeforeLemmas.{before, before_insert, before_new, new_before}
 use Rattle.jl_core.proofs.EventLemmas.{each_more, within, get_last, still_begun, tasks_append, or_else, done_append, children_append}
@@ -33,7 +34,7 @@ module _ (P : Program) (es more : List Event) where
   pub site_on : (key : Key) (w site : ℕ) → w ≤ world_of es → SelectsSite P es key w site → SelectsSite P (es ++ more) key w site
   site_on key w site l (d, s, e) =
       let n = of_world P es key.function key.types w d s in
-      (d, selects_on P es more key.function key.types w (C.Method d) l s, site_more P es more d n.0 (omega (arith, n.1, l)) ∙ e)
+      (d, selects_on P es more key.function key.types w (C.Method d) l s, site_more P es more d (omega (arith, n.1, l)) ∙ e)
 
   pub row_on : (row : CacheRow) → IsKeptRow P es row → IsKeptRow P (es ++ more) row
   row_on row h = record { key = h.key; named = named_on row.key h.key h.named; right = right_on P es more h.key row.site row.first h.right }
@@ -69,6 +70,7 @@ EndsWell P es (Ev.Begin fuel) = Unit {0}
 EndsWell P es (Ev.Key key) = Unit {0}
 EndsWell P es (Ev.Fill key site first) = Unit {0}
 EndsWell P es (Ev.Def task site) = Unit {0}
+EndsWell P es (Ev.Del task place) = Unit {0}
 EndsWell P es (Ev.Spawn task child start) = Unit {0}
 
 -- an event that starts no task
@@ -121,6 +123,7 @@ module _ (P : Program) (es : List Event) (h : AreSoundEvents P es) where
   goes (Ev.Key key) m = goes_alone (Ev.Key key) (no_child es (Ev.Key key) (λ x. refl) refl)
   goes (Ev.Fill key site first) m = goes_alone (Ev.Fill key site first) (no_child es (Ev.Fill key site first) (λ x. refl) refl)
   goes (Ev.Def task site) m = goes_alone (Ev.Def task site) (no_child es (Ev.Def task site) (λ x. refl) refl)
+  goes (Ev.Del task place) m = goes_alone (Ev.Del task place) (no_child es (Ev.Del task place) (λ x. refl) refl)
   goes (Ev.Done task ended) m = goes_alone (Ev.Done task ended) (no_child es (Ev.Done task ended) (λ x. refl) refl)
   goes (Ev.Spawn task child start) m =
       subst (λ n. Goes (Ev.Spawn task n start)) (sym m.next) (record {
@@ -142,6 +145,7 @@ module _ (P : Program) (es : List Event) (h : AreSoundEvents P es) where
   last_row (Ev.Begin fuel) m row (k, l, q) = absurd (omega (arith, l))
   last_row (Ev.Key key) m row (k, l, q) = absurd (omega (arith, l))
   last_row (Ev.Def task site) m row (k, l, q) = absurd (omega (arith, l))
+  last_row (Ev.Del task place) m row (k, l, q) = absurd (omega (arith, l))
   last_row (Ev.Spawn task child start) m row (k, l, q) = absurd (omega (arith, l))
   last_row (Ev.Done task ended) m row (k, l, q) = absurd (omega (arith, l))
 
@@ -169,6 +173,7 @@ module _ (P : Program) (es : List Event) (h : AreSoundEvents P es) where
   last_end (Ev.Key key) m w task ended q = cc
   last_end (Ev.Fill key site first) m w task ended q = cc
   last_end (Ev.Def by site) m w task ended q = cc
+  last_end (Ev.Del by place) m w task ended q = cc
   last_end (Ev.Spawn by child start) m w task ended q = cc
 
   ends_on : (e : Event) → MayCome P es e → EndsWell P es e → (task : ℕ) (ended : Record) → done_of task (es ++ e ∷ []) ≡ Some ended → IsKeptEnd P (es ++ e ∷ []) task ended
@@ -184,18 +189,20 @@ module _ (P : Program) (es : List Event) (h : AreSoundEvents P es) where
   -- ---- all
 
   few_on : (e : Event) → MayCome P es e → world_of (es ++ e ∷ []) ≤ 65535
-  few_on (Ev.Def task site) m = omega (arith, ap length (defined_append es (Ev.Def task site ∷ [])), length-append (defined es) (site ∷ []), m.room)
-  few_on (Ev.Begin fuel) m = omega (arith, ap length (defined_append es (Ev.Begin fuel ∷ [])), length-append (defined es) [], h.few_worlds)
-  few_on (Ev.Key key) m = omega (arith, ap length (defined_append es (Ev.Key key ∷ [])), length-append (defined es) [], h.few_worlds)
-  few_on (Ev.Fill key site first) m = omega (arith, ap length (defined_append es (Ev.Fill key site first ∷ [])), length-append (defined es) [], h.few_worlds)
-  few_on (Ev.Spawn task child start) m = omega (arith, ap length (defined_append es (Ev.Spawn task child start ∷ [])), length-append (defined es) [], h.few_worlds)
-  few_on (Ev.Done task ended) m = omega (arith, ap length (defined_append es (Ev.Done task ended ∷ [])), length-append (defined es) [], h.few_worlds)
+  few_on (Ev.Def task site) m = omega (arith, ap length (changed_append es (Ev.Def task site ∷ [])), length-append (changed es) (Ch.Def site ∷ []), m.room)
+  few_on (Ev.Del task place) m = omega (arith, ap length (changed_append es (Ev.Del task place ∷ [])), length-append (changed es) (Ch.Del place ∷ []), m.room)
+  few_on (Ev.Begin fuel) m = omega (arith, ap length (changed_append es (Ev.Begin fuel ∷ [])), length-append (changed es) [], h.few_worlds)
+  few_on (Ev.Key key) m = omega (arith, ap length (changed_append es (Ev.Key key ∷ [])), length-append (changed es) [], h.few_worlds)
+  few_on (Ev.Fill key site first) m = omega (arith, ap length (changed_append es (Ev.Fill key site first ∷ [])), length-append (changed es) [], h.few_worlds)
+  few_on (Ev.Spawn task child start) m = omega (arith, ap length (changed_append es (Ev.Spawn task child start ∷ [])), length-append (changed es) [], h.few_worlds)
+  few_on (Ev.Done task ended) m = omega (arith, ap length (changed_append es (Ev.Done task ended ∷ [])), length-append (changed es) [], h.few_worlds)
 
   few_rows_on : (e : Event) → MayCome P es e → length (rows_of (es ++ e ∷ [])) ≤ 16384
   few_rows_on (Ev.Fill number site first) m = omega (arith, ap length (rows_append es (Ev.Fill number site first ∷ [])), length-append (rows_of es) (rows_of (Ev.Fill number site first ∷ [])), m.room)
   few_rows_on (Ev.Begin fuel) m = omega (arith, ap length (rows_append es (Ev.Begin fuel ∷ [])), length-append (rows_of es) [], h.few_rows)
   few_rows_on (Ev.Key key) m = omega (arith, ap length (rows_append es (Ev.Key key ∷ [])), length-append (rows_of es) [], h.few_rows)
   few_rows_on (Ev.Def task site) m = omega (arith, ap length (rows_append es (Ev.Def task site ∷ [])), length-append (rows_of es) [], h.few_rows)
+  few_rows_on (Ev.Del task place) m = omega (arith, ap length (rows_append es (Ev.Del task place ∷ [])), length-append (rows_of es) [], h.few_rows)
   few_rows_on (Ev.Spawn task child start) m = omega (arith, ap length (rows_append es (Ev.Spawn task child start ∷ [])), length-append (rows_of es) [], h.few_rows)
   few_rows_on (Ev.Done task ended) m = omega (arith, ap length (rows_append es (Ev.Done task ended ∷ [])), length-append (rows_of es) [], h.few_rows)
 
@@ -205,6 +212,7 @@ module _ (P : Program) (es : List Event) (h : AreSoundEvents P es) where
   last_key (Ev.Begin fuel) m key (k, l, q) = absurd (omega (arith, l))
   last_key (Ev.Fill number site first) m key (k, l, q) = absurd (omega (arith, l))
   last_key (Ev.Def task site) m key (k, l, q) = absurd (omega (arith, l))
+  last_key (Ev.Del task place) m key (k, l, q) = absurd (omega (arith, l))
   last_key (Ev.Spawn task child start) m key (k, l, q) = absurd (omega (arith, l))
   last_key (Ev.Done task ended) m key (k, l, q) = absurd (omega (arith, l))
 
@@ -215,11 +223,11 @@ module _ (P : Program) (es : List Event) (h : AreSoundEvents P es) where
       by (inl k) = h.proper key k
       by (inr k) = last_key e m key k
 
-  pub events_on : (e : Event) → MayCome P es e → OnDone (HasTrueTrace es) e → OnDone (HasOwnEvents es) e → EndsWell P es e → AreSoundEvents P (es ++ e ∷ [])
+  pub events_on : (e : Event) → MayCome P es e → OnDone (HasTrueTrace P es) e → OnDone (HasOwnEvents es) e → EndsWell P es e → AreSoundEvents P (es ++ e ∷ [])
   events_on e m t o w = record {
     stand = record { begun = still_begun es (e ∷ []) h.stand.begun; come = each_more (MayCome P) [] es e h.stand.come m };
     traced = record {
-      traces = each_more (λ past. OnDone (HasTrueTrace past)) [] es e h.traced.traces t;
+      traces = each_more (λ past. OnDone (HasTrueTrace P past)) [] es e h.traced.traces t;
       own = each_more (λ past. OnDone (HasOwnEvents past)) [] es e h.traced.own o;
     };
     rows = rows_on e m;
@@ -259,7 +267,7 @@ module _ (P : Program) (s : Core) (h : IsSound P s) where
       seen_on t l = omega (arith, l, length-append s.events (e ∷ []))
 
   -- an event that starts no task
-  pub event_added : (task : ℕ) (e : Event) → MayCome P s.events e → OnDone (HasTrueTrace s.events) e → OnDone (HasOwnEvents s.events) e → EndsWell P s.events e
+  pub event_added : (task : ℕ) (e : Event) → MayCome P s.events e → OnDone (HasTrueTrace P s.events) e → OnDone (HasOwnEvents s.events) e → EndsWell P s.events e
       → tasks_of (s.events ++ e ∷ []) ≡ tasks_of s.events → IsSound P (with_event s task e)
   event_added task e m t o w n = record {
     events = events_on P s.events h.events e m t o w;
@@ -274,15 +282,15 @@ module _ (P : Program) (s : Core) (h : IsSound P s) (task : ℕ) (start : Start)
   abbrev spawned : List Event
   spawned = s.events ++ Ev.Spawn task (tasks_of s.events) start ∷ []
 
-  abbrev changed : List TaskState
-  changed = at_task (with_known (tasks_of s.events ∷ [])) task (at_task (with_seen (length s.events + 1)) task s.tasks)
+  abbrev tasks_then : List TaskState
+  tasks_then = at_task (with_known (tasks_of s.events ∷ [])) task (at_task (with_seen (length s.events + 1)) task s.tasks)
 
   known_more : (t : TaskState) → IsSoundTask P spawned task t → (other : ℕ) → Contains t.known other ⊎ Contains (tasks_of s.events ∷ []) other → IsBefore P spawned other task
   known_more t q other (inl c) = q.known other c
   known_more t q other (inr (zero, l, e)) = subst (λ n. IsBefore P spawned n task) e (child_before P s.events h.events task start m.running.started)
   known_more t q other (inr (suc i, l, e)) = absurd (omega (arith, l))
 
-  others : AllTasks (IsSoundTask P spawned) changed
+  others : AllTasks (IsSoundTask P spawned) tasks_then
   others =
       all_changed (IsSoundTask P spawned) (with_known (tasks_of s.events ∷ [])) task (at_task (with_seen (length s.events + 1)) task s.tasks)
       (tasks_on P s h task (Ev.Spawn task (tasks_of s.events) start) m)
@@ -295,13 +303,13 @@ module _ (P : Program) (s : Core) (h : IsSound P s) (task : ℕ) (start : Start)
     known = λ other c. known_before P s.events h.events task start m.running.started other (k other c);
   }
 
-  long : length changed ≡ tasks_of s.events
+  long : length tasks_then ≡ tasks_of s.events
   long =
       count_changed (with_known (tasks_of s.events ∷ [])) task (at_task (with_seen (length s.events + 1)) task s.tasks)
       ∙ count_changed (with_seen (length s.events + 1)) task s.tasks
       ∙ h.count
 
-  with_new : IsSoundTask P spawned (tasks_of s.events) (child_of s start) → (n : ℕ) (t : TaskState) → (slice_get changed n ≡ Some t) ⊎ ((n ≡ length changed) × (child_of s start ≡ t))
+  with_new : IsSoundTask P spawned (tasks_of s.events) (child_of s start) → (n : ℕ) (t : TaskState) → (slice_get tasks_then n ≡ Some t) ⊎ ((n ≡ length tasks_then) × (child_of s start ≡ t))
       → IsSoundTask P spawned n t
   with_new k n t (inl q) = others n t q
   with_new k n t (inr (q, e)) = subst (λ (x : ℕ). IsSoundTask P spawned x t) (sym (q ∙ long)) (subst (IsSoundTask P spawned (tasks_of s.events)) e k)
@@ -310,7 +318,7 @@ module _ (P : Program) (s : Core) (h : IsSound P s) (task : ℕ) (start : Start)
       → IsSound P (with_child (change_task (with_event s task (Ev.Spawn task (tasks_of s.events) start)) task (with_known (tasks_of s.events ∷ []))) (child_of s start))
   child_added k = record {
     events = events_on P s.events h.events (Ev.Spawn task (tasks_of s.events) start) m tt tt tt;
-    count = omega (arith, length-append changed (child_of s start ∷ []), long, tasks_append s.events (Ev.Spawn task (tasks_of s.events) start ∷ []));
-    tasks = λ n t q. with_new (child k) n t (get_last changed (child_of s start) n t q);
+    count = omega (arith, length-append tasks_then (child_of s start ∷ []), long, tasks_append s.events (Ev.Spawn task (tasks_of s.events) start ∷ []));
+    tasks = λ n t q. with_new (child k) n t (get_last tasks_then (child_of s start) n t q);
     opened = tt;
   }

@@ -9,7 +9,7 @@ use Rattle.jl_calculus.specs.Legal.{IsRunning}
 use Rattle.jl_calculus.specs.Past.{tasks_of}
 use Rattle.jl_calculus.specs.Ranges.{CacheRow, rows_of}
 use Rattle.jl_calculus.specs.Words.{fill_length, link_of}
-use Rattle.jl_calculus.specs.World.{defined}
+use Rattle.jl_calculus.specs.World.{changed}
 use Rattle.jl_core.specs.declared.task.Task.{Task}
 use Rattle.jl_core.specs.declared.words.Words.{Words}
 use Rattle.jl_core.specs.Kept.{AreWords, Keeps}
@@ -53,6 +53,7 @@ module _ (P : Program) (room : Places) (s : C.Core) (ws : List Words) (h : Keeps
   pub next : (step : Step) (t : C.Core) (vs : List Words) → C.IsEnabled P room s step → C.Leaves P s t step → AreWords P t.events (C.cut_for t.opened) vs → Keeps P room t vs
   next step t vs k l w = record {
     reached = record {
+      valid = h.reached.valid;
       fuel = h.reached.fuel;
       allowed = h.reached.allowed;
       few_keys = h.reached.few_keys;
@@ -68,8 +69,8 @@ module _ (P : Program) (room : Places) (s : C.Core) (ws : List Words) (h : Keeps
       next step t ws k l
       (subst (λ es. AreWords P es (C.cut_for t.opened) ws) (sym e) (subst (λ (x : Option C.Opened). AreWords P s.events (C.cut_for x) ws) (sym o) h.words_told))
 
-  -- an event that makes neither a world nor a row, while no definition is open
-  pub next_event : (step : Step) (e : Event) (t : C.Core) → s.opened ≡ None → defined (e ∷ []) ≡ [] → rows_of (e ∷ []) ≡ [] → C.IsEnabled P room s step → C.Leaves P s t step
+  -- an event that makes neither a world nor a row, while no change is open
+  pub next_event : (step : Step) (e : Event) (t : C.Core) → s.opened ≡ None → changed (e ∷ []) ≡ [] → rows_of (e ∷ []) ≡ [] → C.IsEnabled P room s step → C.Leaves P s t step
       → t.events ≡ s.events ++ e ∷ [] → t.opened ≡ None → Keeps P room t ws
   next_event step e t closed d n k l q o =
       next step t ws k l
@@ -88,7 +89,7 @@ at_both f g zero (t ∷ ts) = refl
 at_both f g (suc task) (t ∷ ts) = ap (λ (us : List C.TaskState). t ∷ us) (at_both f g task ts)
 
 -- one more event, or none without memory
-pub event_kept : (P : Program) (room : Places) (s : C.Core) (ws : List Words) → Keeps P room s ws → (step : Step) (task : ℕ) (e : Event) → s.opened ≡ None → defined (e ∷ []) ≡ [] → rows_of (e ∷ []) ≡ []
+pub event_kept : (P : Program) (room : Places) (s : C.Core) (ws : List Words) → Keeps P room s ws → (step : Step) (task : ℕ) (e : Event) → s.opened ≡ None → changed (e ∷ []) ≡ [] → rows_of (e ∷ []) ≡ []
     → C.IsEnabled P room s step → C.Leaves P s (C.with_event s task e) step → (t : C.Core) → t.opened ≡ s.opened → {X E : Type 0} (r : Result X E)
     → OnOk r (t.events ≡ s.events ++ e ∷ []) → OnOk r (t.tasks ≡ C.at_task (C.with_seen (length s.events + 1)) task s.tasks) → OnErr r (t.events ≡ s.events) → OnErr r (t.tasks ≡ s.tasks) → Keeps P room t ws
 event_kept P room s ws h step task e closed d n k l t o (Ok x) p q u v =

@@ -9,6 +9,8 @@ mod ReachedLemmas
 pub mod LastLemmas
 mod TaskLemmas
 mod FillLemmas
+mod PickedLemmas
+mod StandingLemmas
 mod RangeLemmas
 mod KeepLemmas
 mod MakeLemmas

@@ -12,7 +12,7 @@ use Rattle.jl_calculus.specs.Legal.{IsRunning}
 use Rattle.jl_calculus.specs.Past.{tasks_of, done_of}
 use Rattle.jl_calculus.specs.Ranges.{CacheRow, rows_of, MayBegin}
 use Rattle.jl_calculus.specs.Words.{IsToCut}
-use Rattle.jl_calculus.specs.World.{world_of}
+use Rattle.jl_calculus.specs.World.{world_of, change_event}
 use Rattle.jl_calculus.proofs.GrowthLemmas.{touches_known}
 use Rattle.jl_core.specs.declared.state.Opening.{Opening}
 use Rattle.jl_core.specs.declared.task.Task.{Task}
@@ -135,18 +135,18 @@ module _ (P : Program) (room : Places) (s : C.Core) (ws : List Words) (h : Keeps
       by key (inl q) = omega (arith, q)
       by key (inr (low, t)) = touches_known P s.events row.first key t
 
-  pub has_published : (o : C.Opened) (t : C.Core) → s.opened ≡ Some o → t.events ≡ s.events ++ Ev.Def o.task o.site ∷ [] → t.tasks ≡ C.at_task (C.with_seen (length s.events + 1)) o.task s.tasks → t.opened ≡ None → C.Leaves P s t St.Publish
-  has_published o t e p q n = (o, e, core_same t (C.with_event s o.task (Ev.Def o.task o.site)) p q n)
+  pub has_published : (o : C.Opened) (t : C.Core) → s.opened ≡ Some o → t.events ≡ s.events ++ change_event o.task o.change ∷ [] → t.tasks ≡ C.at_task (C.with_seen (length s.events + 1)) o.task s.tasks → t.opened ≡ None → C.Leaves P s t St.Publish
+  has_published o t e p q n = (o, e, core_same t (C.with_event s o.task (change_event o.task o.change)) p q n)
 
-  pub publish_next : (o : C.Opened) (t : C.Core) → C.CanPublish P room s → s.opened ≡ Some o → t.events ≡ s.events ++ Ev.Def o.task o.site ∷ [] → t.tasks ≡ C.at_task (C.with_seen (length s.events + 1)) o.task s.tasks → t.opened ≡ None
+  pub publish_next : (o : C.Opened) (t : C.Core) → C.CanPublish P room s → s.opened ≡ Some o → t.events ≡ s.events ++ change_event o.task o.change ∷ [] → t.tasks ≡ C.at_task (C.with_seen (length s.events + 1)) o.task s.tasks → t.opened ≡ None
       → Keeps P room t ws
   publish_next o t (x, y, none) e p q n =
       next P room s ws h St.Publish t ws (x, y, none) (has_published o t e p q n)
       (subst (λ es. AreWords P es (C.cut_for t.opened) ws) (sym p)
-      (subst (λ (z : Option C.Opened). AreWords P (s.events ++ Ev.Def o.task o.site ∷ []) (C.cut_for z) ws) (sym n)
-      (words_made P s.events o.task o.site o.cut ws (subst (λ (z : Option C.Opened). AreWords P s.events (C.cut_for z) ws) e h.words_told) (open_sound o e).cut all begins)))
+      (subst (λ (z : Option C.Opened). AreWords P (s.events ++ change_event o.task o.change ∷ []) (C.cut_for z) ws) (sym n)
+      (words_made P s.events o.task o.change o.cut ws (subst (λ (z : Option C.Opened). AreWords P s.events (C.cut_for z) ws) e h.words_told) (open_sound o e).cut all begins)))
     where
-      all : (r : ℕ) → IsToCut P s.events o.site r → (Contains o.cut r → ⊥) → ⊥
+      all : (r : ℕ) → IsToCut P s.events o.change r → (Contains o.cut r → ⊥) → ⊥
       all r ends m = subst (λ (z : C.Opened). C.IsLeft P room s z r → ⊥) (same_opened x o (sym y ∙ e)) (none r) (record { ends = ends; not_cut = m })
 
   -- ---- fetching
@@ -187,5 +187,5 @@ module _ (P : Program) (room : Places) (s : C.Core) (ws : List Words) (h : Keeps
 pub opened_cut : (o : Option Opening) (cut new : List ℕ) (r : ℕ) → new ≡ cut ++ r ∷ [] → (x : C.Opened) → opened_of o cut ≡ Some x → opened_of o new ≡ Some (C.with_cut x r)
 opened_cut None cut new r e x q = cc
 opened_cut (Some y) cut new r e x q =
-    subst (λ (z : C.Opened). opened_of (Some y) new ≡ Some (C.with_cut z r)) (same_opened (record { task = y.task; site = y.site; cut = cut }) x q)
-    (λ i. Some (record { task = y.task; site = y.site; cut = e i }))
+    subst (λ (z : C.Opened). opened_of (Some y) new ≡ Some (C.with_cut z r)) (same_opened (record { task = y.task; change = y.change; cut = cut }) x q)
+    (λ i. Some (record { task = y.task; change = y.change; cut = e i }))

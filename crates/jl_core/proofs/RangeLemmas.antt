@@ -1,8 +1,6 @@
--- Flags of the definitions that touch a key, and the row that they tell.
-use Rattle.std.proofs.Common.{◌≡◌, ◌∙◌, ap, sym, subst, refl, ℕ, zero, suc, ◌+◌, ◌-◌, ◌<◌, ◌≤◌, ◌⊎◌, ◌↔◌, inl, inr, arith, Bool, true, false, ◌&&◌, cond, nat_eq, All, IsTrue, List, [], ◌∷◌, ◌++◌, length, get_or, take, drop, slice_get, slice_index, add-one, Option, None, Some}
-use Rattle.std.specs.List.{Contains, flat_map, list_all}
-use Rattle.std.specs.List.Sorted.{IsStrictlyIncreasing}
-use Rattle.std.proofs.lemmas.List.{take_more, drop_more}
+-- The changes that touch a key, and the row that their flags tell.
+use Rattle.std.proofs.Common.{◌≡◌, ◌∙◌, ap, sym, subst, refl, ℕ, zero, suc, ◌+◌, ◌-◌, ◌<◌, ◌≤◌, ◌⊎◌, ◌↔◌, inl, inr, arith, Bool, true, false, ◌&&◌, All, IsTrue, List, [], ◌∷◌, ◌++◌, length, get_or, slice_get, Option, None, Some}
+use Rattle.std.specs.List.{flat_map, list_all}
 use Rattle.std.proofs.lemmas.List.Elements.{All-head, All-tail}
 use Rattle.std.proofs.lemmas.Option.{slice_get_read}
 use Rattle.jl_model.specs.declared.ty.Decl.{Decl}
@@ -17,31 +15,29 @@ use Rattle.jl_model.specs.Subtype.{opaque, is_concrete}
 use Rattle.jl_model.specs.Valid.{is_known}
 use Rattle.jl_program.specs.declared.choice.Choice.{Choice}
 use Rattle.jl_program.specs.declared.choice.Choice.TheVariants as C
+use Rattle.jl_program.specs.declared.tree.Delete.{Delete}
 use Rattle.jl_program.specs.declared.tree.Program.{Program}
 use Rattle.jl_program.specs.declared.tree.Site.{Site}
-use Rattle.jl_program.specs.Chooses.{Chooses}
 use Rattle.jl_program.specs.Prelude.{prelude_count}
 use Rattle.jl_program.specs.Scope.{all_types, types_of}
 use Rattle.jl_program.specs.ValidValue.{IsValueType}
-use Rattle.jl_calculus.specs.declared.history.Def.{Def}
+use Rattle.jl_calculus.specs.declared.history.Change.{Change}
 use Rattle.jl_calculus.specs.declared.history.Event.{Event}
-use Rattle.jl_calculus.specs.ChoiceLaws.{AreThoseThatApply}
-use Rattle.jl_calculus.specs.Definitions.{sig_of, methods_of, worlds, HasSite, AppliesTo, def_at, defs_from}
-use Rattle.jl_calculus.specs.Ranges.{site_in, SiteTouches, Touches, Covers, MayBegin}
+use Rattle.jl_calculus.specs.Definitions.{sig_of}
+use Rattle.jl_calculus.specs.Ranges.{head_of_site, head_of_place, HeadTouches, ChangeTouches, Touches, Covers, MayBegin}
 use Rattle.jl_calculus.specs.Words.{IsLastWorld}
-use Rattle.jl_calculus.specs.World.{definitions, world_of, Selects}
-use Rattle.jl_calculus.proofs.GrowthLemmas.{definitions_length}
-use Rattle.jl_calculus.proofs.BetweenLemmas.{of_world, row_made}
-use Rattle.jl_calculus.proofs.ChoiceLaws.{determined}
-use Rattle.jl_calculus.proofs.MethodLemmas.{those_select}
-use Rattle.jl_sig.specs.Readied.{sigs_of}
+use Rattle.jl_calculus.specs.World.{changes, change_at, site_in, world_of, Selects}
+use Rattle.jl_calculus.proofs.GrowthLemmas.{changes_length}
+use Rattle.jl_calculus.proofs.BetweenLemmas.{of_world}
+use Rattle.jl_calculus.proofs.SelectLemmas.{selects_one}
+use Rattle.jl_sig.specs.Readied.{sigs_of, place_sigs}
 use Rattle.jl_match.specs.KeptRow.{AreConcrete}
 use Rattle.jl_match.proofs.ArgumentTypes.{no_arguments}
 use Rattle.jl_match.proofs.ComponentLemmas.{none_of}
 use Rattle.jl_subsig.proofs.DefinitionLemmas.{sig_at}
-use Rattle.jl_subsig.specs.Side.{Every}
 use Rattle.jl_core.specs.declared.range.Range.{Range}
-use Rattle.jl_core.specs.Flags.{AreFlags, picked, IsFlagged, IsFirst, IsLast, IsRange}
+use Rattle.jl_core.specs.Flags.{IsTouching, AreFlags, IsFlagged, IsFirst, IsLast, IsRange}
+use Rattle.jl_core.proofs.PickedLemmas.{flagged, change_flagged, flags_long}
 
 -- ---- the types of a key
 
@@ -64,233 +60,59 @@ concrete_all ds (t ∷ ts) h =
       concrete = both (is_concrete (table_of ds) opaque t) (list_all (is_concrete (table_of ds) opaque) ts) v.concrete k.concrete;
     }
 
--- ---- whether a site touches a key
+-- ---- whether a change touches a key
 
-pub touches_by : (P : Program) (key : Key) (site : ℕ) (found : Site) (w : Written) → slice_get P.sites site ≡ Some found → found.function ≡ key.function → slice_get (sigs_of P.sites) site ≡ Some w → Applicable (types_of P) w key.types
-    → SiteTouches P (slice_get P.sites site) key
-touches_by P key site found w at f s a =
-    let same : w ≡ found.sig = sig_at P.sites site w s ∙ ap sig_of at in
-    subst (λ (o : Option Site). SiteTouches P o key) (sym at) (f, subst (λ (x : Written). Applicable (types_of P) x key.types) same a)
+-- over the table and the types as the code has them
+pub applies_to : (P : Program) (key : Key) (w : Written) (table : List Decl) (types : List Ty) → table ≡ all_types P → types ≡ key.types → Applicable (table_of table) w types → Applicable (types_of P) w key.types
+applies_to P key w table types t u a = subst (λ n. Applicable (table_of n) w key.types) t (subst (Applicable (table_of table) w) u a)
 
-pub touches_not : (P : Program) (key : Key) (site : ℕ) (found : Site) (w : Written) → slice_get P.sites site ≡ Some found → slice_get (sigs_of P.sites) site ≡ Some w → (Applicable (types_of P) w key.types → ⊥)
-    → SiteTouches P (slice_get P.sites site) key → ⊥
-touches_not P key site found w at s n t =
-    let same : w ≡ found.sig = sig_at P.sites site w s ∙ ap sig_of at in
-    n (subst (λ (x : Written). Applicable (types_of P) x key.types) (sym same) (subst (λ (o : Option Site). SiteTouches P o key) at t).1)
+pub to_applies : (P : Program) (key : Key) (w : Written) (table : List Decl) (types : List Ty) → table ≡ all_types P → types ≡ key.types → Applicable (types_of P) w key.types → Applicable (table_of table) w types
+to_applies P key w table types t u a = subst (Applicable (table_of table) w) (sym u) (subst (λ n. Applicable (table_of n) w key.types) (sym t) a)
 
--- as the code has found it
-found_at : (P : Program) (site : ℕ) (found : Site) (slice : List Site) → slice ≡ P.sites → site < length slice → found ≡ get_or slice site found → slice_get P.sites site ≡ Some found
-found_at P site found slice e l x = ap (λ xs. slice_get xs site) (sym e) ∙ slice_get_read slice (length slice) site found refl l x
+got : {X : Type 0} (xs slice : List X) (k : ℕ) (x : X) → slice ≡ xs → k < length slice → x ≡ get_or slice k x → slice_get xs k ≡ Some x
+got xs slice k x e l q = ap (λ ys. slice_get ys k) (sym e) ∙ slice_get_read slice (length slice) k x refl l q
 
-pub touches_yes : (P : Program) (key : Key) (site : ℕ) (found : Site) (w : Written) (slice : List Site) (table : List Decl) (types : List Ty) → slice ≡ P.sites → site < length slice → found ≡ get_or slice site found
-    → found.function ≡ key.function → slice_get (sigs_of P.sites) site ≡ Some w → table ≡ all_types P → types ≡ key.types → Applicable (table_of table) w types → SiteTouches P (slice_get P.sites site) key
-touches_yes P key site found w slice table types e l x f s t u a =
-    touches_by P key site found w (found_at P site found slice e l x) f s (subst (λ n. Applicable (table_of n) w key.types) t (subst (Applicable (table_of table) w) u a))
+place_at : (places : List Delete) (k : ℕ) (w : Written) (place : Delete) → slice_get (place_sigs places) k ≡ Some w → slice_get places k ≡ Some place → w ≡ place.sig
+place_at [] k w place e at = cc
+place_at (p ∷ places) zero w place e at = (let a : p.sig ≡ w = cc in let b : p ≡ place = cc in sym a ∙ ap (λ (x : Delete). x.sig) b)
+place_at (p ∷ places) (suc k) w place e at = place_at places k w place e at
 
-pub touches_no : (P : Program) (key : Key) (site : ℕ) (found : Site) (w : Written) (slice : List Site) (table : List Decl) (types : List Ty) → slice ≡ P.sites → site < length slice → found ≡ get_or slice site found
-    → slice_get (sigs_of P.sites) site ≡ Some w → table ≡ all_types P → types ≡ key.types → (Applicable (table_of table) w types → ⊥) → SiteTouches P (slice_get P.sites site) key → ⊥
-touches_no P key site found w slice table types e l x s t u n =
-    touches_not P key site found w (found_at P site found slice e l x) s (λ a. n (subst (Applicable (table_of table) w) (sym u) (subst (λ n. Applicable (table_of n) w key.types) (sym t) a)))
+module _ (P : Program) (key : Key) (k : ℕ) (w : Written) (b : Bool) where
+  pub site_touched : (found : Site) (slice : List Site) → slice ≡ P.sites → k < length slice → found ≡ get_or slice k found → slice_get (sigs_of P.sites) k ≡ Some w
+      → IsTrue b ↔ ((found.function ≡ key.function) × Applicable (types_of P) w key.types) → IsTrue b ↔ HeadTouches P (head_of_site (slice_get P.sites k)) key
+  site_touched found slice e l q s h =
+      let at = got P.sites slice k found e l q in
+      let same : w ≡ found.sig = sig_at P.sites k w s ∙ ap sig_of at in (
+        λ t. subst (λ (o : Option Site). HeadTouches P (head_of_site o) key) (sym at) ((h.0 t).0, subst (λ (x : Written). Applicable (types_of P) x key.types) same (h.0 t).1),
+        λ t.
+            (let u = subst (λ (o : Option Site). HeadTouches P (head_of_site o) key) at t in
+            h.1 (u.0, subst (λ (x : Written). Applicable (types_of P) x key.types) (sym same) u.1)),
+      )
 
--- ---- flags
-
-module _ (P : Program) (key : Key) where
-  pub flags_push : (sites : List ℕ) (flags : List Bool) (site : ℕ) (b : Bool) → AreFlags P key sites flags → IsTrue b ↔ SiteTouches P (slice_get P.sites site) key → AreFlags P key (sites ++ site ∷ []) (flags ++ b ∷ [])
-  flags_push [] [] site b h k = (k, tt)
-  flags_push [] (c ∷ flags) site b h k = absurd h
-  flags_push (s ∷ sites) [] site b h k = absurd h
-  flags_push (s ∷ sites) (c ∷ flags) site b h k = (h.0, flags_push sites flags site b h.1 k)
-
-  pub flags_long : (sites : List ℕ) (flags : List Bool) → AreFlags P key sites flags → length flags ≡ length sites
-  flags_long [] [] h = refl
-  flags_long [] (c ∷ flags) h = absurd h
-  flags_long (s ∷ sites) [] h = absurd h
-  flags_long (s ∷ sites) (c ∷ flags) h = ap suc (flags_long sites flags h.1)
-
-  pub flags_take : (n : ℕ) (sites : List ℕ) (flags : List Bool) → AreFlags P key sites flags → AreFlags P key (take n sites) (take n flags)
-  flags_take zero sites flags h = tt
-  flags_take (suc n) [] [] h = tt
-  flags_take (suc n) [] (c ∷ flags) h = absurd h
-  flags_take (suc n) (s ∷ sites) [] h = absurd h
-  flags_take (suc n) (s ∷ sites) (c ∷ flags) h = (h.0, flags_take n sites flags h.1)
-
-  -- the definition that makes the next world touches the key exactly where it is flagged
-  flagged : (sites : List ℕ) (flags : List Bool) (d : ℕ) → AreFlags P key sites flags → SiteTouches P (site_in P (slice_get sites d)) key → IsFlagged flags d
-  flagged [] flags d h t = absurd t
-  flagged (s ∷ sites) [] d h t = absurd h
-  flagged (s ∷ sites) (c ∷ flags) zero h t = ap (λ (b : Bool). Some b) (h.0.1 t)
-  flagged (s ∷ sites) (c ∷ flags) (suc d) h t = flagged sites flags d h.1 t
-
-  touched : (sites : List ℕ) (flags : List Bool) (d : ℕ) → AreFlags P key sites flags → IsFlagged flags d → SiteTouches P (site_in P (slice_get sites d)) key
-  touched [] [] d h f = cc
-  touched [] (c ∷ flags) d h f = absurd h
-  touched (s ∷ sites) [] d h f = absurd h
-  touched (s ∷ sites) (c ∷ flags) zero h f = h.0.0 (let e : c ≡ true = cc in e)
-  touched (s ∷ sites) (c ∷ flags) (suc d) h f = touched sites flags d h.1 f
-
-  -- ---- the definitions that apply
-
-  front : (x : Def) (xs : List Def) (d : Def) → Contains (x ∷ xs) d → (x ≡ d) ⊎ Contains xs d
-  front x xs d (zero, l, e) = inl e
-  front x xs d (suc k, l, e) = inr (k, omega (arith, l), e)
-
-  behind : (x : Def) (xs : List Def) (d : Def) → Contains xs d → Contains (x ∷ xs) d
-  behind x xs d (k, l, e) = (suc k, omega (arith, l), e)
-
-  here : (x : Def) (xs : List Def) → Contains (x ∷ xs) x
-  here x xs = (0, omega arith, refl)
-
-  abbrev Those : ℕ → List ℕ → List Bool → Def → Type 0
-  Those n sites flags d = Contains (picked n sites flags) d ↔ (Contains (defs_from P key.function n sites) d × AppliesTo P key.types d)
-
-  -- one more that is flagged
-  those_more : (n s : ℕ) (sites : List ℕ) (flags : List Bool) (d : Def) (site : Site) → slice_get P.sites s ≡ Some site → site.function ≡ key.function → Applicable (types_of P) site.sig key.types → Those (n + 1) sites flags d
-      → Contains (record { world = n; site = s } ∷ picked (n + 1) sites flags) d ↔ (Contains (record { world = n; site = s } ∷ defs_from P key.function (n + 1) sites) d × AppliesTo P key.types d)
-  those_more n s sites flags d site at f a h = (λ c. to (front own (picked (n + 1) sites flags) d c), λ c. from (front own (defs_from P key.function (n + 1) sites) d c.0) c.1)
-    where
-      own : Def
-      own = record { world = n; site = s }
-
-      applies : AppliesTo P key.types (record { world = n; site = s })
-      applies = subst (λ (o : Option Site). Applicable (types_of P) (sig_of o) key.types) (sym at) a
-
-      to : (record { world = n; site = s } ≡ d) ⊎ Contains (picked (n + 1) sites flags) d → Contains (record { world = n; site = s } ∷ defs_from P key.function (n + 1) sites) d × AppliesTo P key.types d
-      to (inl e) = (subst (Contains (record { world = n; site = s } ∷ defs_from P key.function (n + 1) sites)) e (here (record { world = n; site = s }) (defs_from P key.function (n + 1) sites)), subst (AppliesTo P key.types) e applies)
-      to (inr c) = (behind (record { world = n; site = s }) (defs_from P key.function (n + 1) sites) d (h.0 c).0, (h.0 c).1)
-
-      from : (record { world = n; site = s } ≡ d) ⊎ Contains (defs_from P key.function (n + 1) sites) d → AppliesTo P key.types d → Contains (record { world = n; site = s } ∷ picked (n + 1) sites flags) d
-      from (inl e) k = subst (Contains (record { world = n; site = s } ∷ picked (n + 1) sites flags)) e (here (record { world = n; site = s }) (picked (n + 1) sites flags))
-      from (inr c) k = behind (record { world = n; site = s }) (picked (n + 1) sites flags) d (h.1 (c, k))
-
-  -- one more of the function that does not apply
-  those_less : (n s : ℕ) (sites : List ℕ) (flags : List Bool) (d : Def) (site : Site) → slice_get P.sites s ≡ Some site → (Applicable (types_of P) site.sig key.types → ⊥) → Those (n + 1) sites flags d
-      → Contains (picked (n + 1) sites flags) d ↔ (Contains (record { world = n; site = s } ∷ defs_from P key.function (n + 1) sites) d × AppliesTo P key.types d)
-  those_less n s sites flags d site at no_match h =
-      (λ c. (behind (record { world = n; site = s }) (defs_from P key.function (n + 1) sites) d (h.0 c).0, (h.0 c).1), λ c. from (front (record { world = n; site = s }) (defs_from P key.function (n + 1) sites) d c.0) c.1)
-    where
-      from : (record { world = n; site = s } ≡ d) ⊎ Contains (defs_from P key.function (n + 1) sites) d → AppliesTo P key.types d → Contains (picked (n + 1) sites flags) d
-      from (inl e) k =
-          absurd (no_match (subst (λ (o : Option Site). Applicable (types_of P) (sig_of o) key.types) at (subst (AppliesTo P key.types) (sym e) k)))
-      from (inr c) k = h.1 (c, k)
-
-  those_step : (n s : ℕ) (sites : List ℕ) (flags : List Bool) (d : Def) (b : Bool) (o : Option Site) → slice_get P.sites s ≡ o → IsTrue b ↔ SiteTouches P o key → Those (n + 1) sites flags d
-      → Contains (cond b (record { world = n; site = s } ∷ picked (n + 1) sites flags) (picked (n + 1) sites flags)) d
-      ↔ (Contains (def_at o key.function n s (defs_from P key.function (n + 1) sites)) d × AppliesTo P key.types d)
-  those_step n s sites flags d true None at t h = absurd (t.0 refl)
-  those_step n s sites flags d false None at t h = h
-  those_step n s sites flags d true (Some site) at t h =
-      let k = t.0 refl in
-      let q : nat_eq site.function key.function ≡ true = grind (arith, k.0) in
-      subst (λ (x : Bool). Contains (record { world = n; site = s } ∷ picked (n + 1) sites flags) d
-      ↔ (Contains (cond x (record { world = n; site = s } ∷ defs_from P key.function (n + 1) sites) (defs_from P key.function (n + 1) sites)) d × AppliesTo P key.types d)) (sym q)
-      (those_more n s sites flags d site at k.0 k.1 h)
-  those_step n s sites flags d false (Some site) at t h = by (nat_eq site.function key.function) refl
-    where
-      by : (x : Bool) → nat_eq site.function key.function ≡ x → Contains (picked (n + 1) sites flags) d
-          ↔ (Contains (cond x (record { world = n; site = s } ∷ defs_from P key.function (n + 1) sites) (defs_from P key.function (n + 1) sites)) d × AppliesTo P key.types d)
-      by true q = those_less n s sites flags d site at (λ a. (let e : false ≡ true = t.1 ((let f : site.function ≡ key.function = grind (arith, q) in f), a) in cc)) h
-      by false q = h
-
-  none_there : (d : Def) → Contains {X = Def} [] d → ⊥
-  none_there d (k, l, e) = absurd (omega (arith, l))
-
-  pub those : (n : ℕ) (sites : List ℕ) (flags : List Bool) (d : Def) → AreFlags P key sites flags → Those n sites flags d
-  those n [] [] d h = (λ c. absurd (none_there d c), λ c. absurd (none_there d c.0))
-  those n [] (b ∷ flags) d h = absurd h
-  those n (s ∷ sites) [] d h = absurd h
-  those n (s ∷ sites) (b ∷ flags) d h = those_step n s sites flags d b (slice_get P.sites s) refl h.0 (those (n + 1) sites flags d h.1)
-
-  -- ---- what choosing among them asks
-
-  has_site : (sites : List Site) (s : ℕ) → SiteTouches P (slice_get sites s) key → s < length sites
-  has_site [] s t = absurd t
-  has_site (x ∷ sites) zero t = omega arith
-  has_site (x ∷ sites) (suc s) t = omega (arith, has_site sites s t)
-
-  touches_applies : (s : ℕ) (o : Option Site) → slice_get P.sites s ≡ o → SiteTouches P o key → Applicable (types_of P) (sig_of (slice_get P.sites s)) key.types
-  touches_applies s None e t = absurd t
-  touches_applies s (Some site) e t = subst (λ (o : Option Site). Applicable (types_of P) (sig_of o) key.types) (sym e) t.1
-
-  pub picked_sites : (n : ℕ) (sites : List ℕ) (flags : List Bool) → AreFlags P key sites flags → Every (HasSite P) (picked n sites flags) × Every (AppliesTo P key.types) (picked n sites flags)
-  picked_sites n [] [] h = (tt, tt)
-  picked_sites n [] (b ∷ flags) h = absurd h
-  picked_sites n (s ∷ sites) [] h = absurd h
-  picked_sites n (s ∷ sites) (b ∷ flags) h = by b h.0 (picked_sites (n + 1) sites flags h.1)
-    where
-      by : (x : Bool) → IsTrue x ↔ SiteTouches P (slice_get P.sites s) key → Every (HasSite P) (picked (n + 1) sites flags) × Every (AppliesTo P key.types) (picked (n + 1) sites flags)
-          → Every (HasSite P) (cond x (record { world = n; site = s } ∷ picked (n + 1) sites flags) (picked (n + 1) sites flags))
-          × Every (AppliesTo P key.types) (cond x (record { world = n; site = s } ∷ picked (n + 1) sites flags) (picked (n + 1) sites flags))
-      by true t k = ((has_site P.sites s (t.0 refl), k.0), (touches_applies s (slice_get P.sites s) refl (t.0 refl), k.1))
-      by false t k = k
-
-  pub flags_more : (sites : List ℕ) (i d : ℕ) (flags : List Bool) (b : Bool) → AreFlags P key (take i sites) flags → i < length sites → IsTrue b ↔ SiteTouches P (slice_get P.sites (get_or sites i d)) key
-      → AreFlags P key (take (i + 1) sites) (flags ++ b ∷ [])
-  flags_more sites i d flags b h l k = subst (λ xs. AreFlags P key xs (flags ++ b ∷ [])) (sym (take_more sites i d l)) (flags_push (take i sites) flags (get_or sites i d) b h k)
-
-  -- the choice among those that are flagged up to a world
-  pub choice_told : (es : List Event) (sites : List ℕ) (flags : List Bool) (w : ℕ) (defs slice : List Def) (c : Choice) → AreFlags P key sites flags → defs ≡ picked 1 (take w sites) (take w flags) → slice ≡ defs
-      → ((ts : List Ty) → Every (AppliesTo P ts) slice → Chooses (types_of P) (methods_of P slice) ts c) → definitions es ≡ sites → Selects P es key.function key.types w c
-  choice_told es sites flags w defs slice c h p s k e =
-      let taken = flags_take w sites flags h in
-      let one : slice ≡ picked 1 (take w sites) (take w flags) = s ∙ p in
-      let chosen : Chooses (types_of P) (methods_of P slice) key.types c = k key.types (subst (Every (AppliesTo P key.types)) (sym one) (picked_sites 1 (take w sites) (take w flags) taken).1) in
-      let those_in : AreThoseThatApply P es key.function key.types w (picked 1 (take w sites) (take w flags)) =
-      λ d. subst (λ xs. Contains (picked 1 (take w sites) (take w flags)) d ↔ (Contains (defs_from P key.function 1 (take w xs)) d × AppliesTo P key.types d)) (sym e) (those 1 (take w sites) (take w flags) d taken) in
-      (those_select P es key.function key.types w (picked 1 (take w sites) (take w flags)) those_in c).0 (subst (λ ds. Chooses (types_of P) (methods_of P ds) key.types c) one chosen)
-
--- ---- the flagged definitions increase
-
-pub picked_more : (n i : ℕ) (sites : List ℕ) (flags : List Bool) (d : ℕ) (x : Bool) → i < length sites → length flags ≡ length sites
-    → picked n (drop i sites) (drop i flags) ≡ cond (get_or flags i x) (record { world = n; site = get_or sites i d } ∷ picked (n + 1) (drop (i + 1) sites) (drop (i + 1) flags)) (picked (n + 1) (drop (i + 1) sites) (drop (i + 1) flags))
-picked_more n i sites flags d x l e =
-    ap (λ xs. picked n xs (drop i flags)) (drop_more sites i d l)
-    ∙ ap (λ bs. picked n (get_or sites i d ∷ drop (i + 1) sites) bs) (drop_more flags i x (omega (arith, l, e)))
-
-pub picked_skip : (defs : List Def) (sites all : List ℕ) (flags bs : List Bool) (i : ℕ) (x : Bool) → i < length sites → length flags ≡ length sites → get_or flags i x ≡ false → defs ++ picked (i + 1) (drop i sites) (drop i flags) ≡ picked 1 all bs
-    → defs ++ picked (i + 1 + 1) (drop (i + 1) sites) (drop (i + 1) flags) ≡ picked 1 all bs
-picked_skip defs sites all flags bs i x l e f h =
-    ap (λ xs. defs ++ xs)
-    (sym
-    (picked_more (i + 1) i sites flags 0 x l e
-    ∙ ap (λ (b : Bool). cond b (record { world = i + 1; site = get_or sites i 0 } ∷ picked (i + 1 + 1) (drop (i + 1) sites) (drop (i + 1) flags)) (picked (i + 1 + 1) (drop (i + 1) sites) (drop (i + 1) flags))) f))
-    ∙ h
-
--- numbers that increase, from one number on
-record From (low : ℕ) (xs : List ℕ) : Type 0 where
-  first : 0 < length xs → low ≤ slice_index xs 0
-  increasing : IsStrictlyIncreasing xs
-
-before_all : (low : ℕ) (xs : List ℕ) → From (low + 1) xs → From low (low ∷ xs)
-before_all low xs h = record { first = λ l. omega arith; increasing = next }
-  where
-    next : IsStrictlyIncreasing (low ∷ xs)
-    next zero l = let k = h.first (omega arith) in omega arith
-    next (suc k) l = let i = h.increasing k (omega arith) in rw (add-one) (simp add-one at i)
-
-lower : (low : ℕ) (xs : List ℕ) → From (low + 1) xs → From low xs
-lower low xs h = record { first = λ l. (let k = h.first l in omega arith); increasing = h.increasing }
-
-picked_from : (n : ℕ) (sites : List ℕ) (flags : List Bool) → From n (worlds (picked n sites flags))
-picked_from n [] flags = record { first = λ l. absurd (omega arith); increasing = λ k l. absurd (omega arith) }
-picked_from n (s ∷ sites) [] = record { first = λ l. absurd (omega arith); increasing = λ k l. absurd (omega arith) }
-picked_from n (s ∷ sites) (b ∷ flags) = by b (picked_from (n + 1) sites flags)
-  where
-    by : (x : Bool) → From (n + 1) (worlds (picked (n + 1) sites flags)) → From n (worlds (cond x (record { world = n; site = s } ∷ picked (n + 1) sites flags) (picked (n + 1) sites flags)))
-    by true h = before_all n (worlds (picked (n + 1) sites flags)) h
-    by false h = lower n (worlds (picked (n + 1) sites flags)) h
-
-pub picked_increase : (n : ℕ) (sites : List ℕ) (flags : List Bool) → IsStrictlyIncreasing (worlds (picked n sites flags))
-picked_increase n sites flags = let h = picked_from n sites flags in h.increasing
+  pub place_touched : (found : Delete) (slice : List Delete) → slice ≡ P.deletes → k < length slice → found ≡ get_or slice k found → slice_get (place_sigs P.deletes) k ≡ Some w
+      → IsTrue b ↔ ((found.function ≡ key.function) × Applicable (types_of P) w key.types) → IsTrue b ↔ HeadTouches P (head_of_place (slice_get P.deletes k)) key
+  place_touched found slice e l q s h =
+      let at = got P.deletes slice k found e l q in
+      let same : w ≡ found.sig = place_at P.deletes k w found s at in (
+        λ t. subst (λ (o : Option Delete). HeadTouches P (head_of_place o) key) (sym at) ((h.0 t).0, subst (λ (x : Written). Applicable (types_of P) x key.types) same (h.0 t).1),
+        λ t.
+            (let u = subst (λ (o : Option Delete). HeadTouches P (head_of_place o) key) at t in
+            h.1 (u.0, subst (λ (x : Written). Applicable (types_of P) x key.types) (sym same) u.1)),
+      )
 
 -- ---- the row that the flags tell
 
-module _ (P : Program) (es : List Event) (key : Key) (flags : List Bool) (w first last : ℕ) (h : AreFlags P key (definitions es) flags) (f : IsFirst flags w first) (l : IsLast flags w last) where
-  -- the definition of a world that touches the key is flagged
+module _ (P : Program) (es : List Event) (key : Key) (flags : List Bool) (w first last : ℕ) (h : AreFlags (IsTouching P key) (changes es) flags) (f : IsFirst flags w first) (l : IsLast flags w last) where
+  -- the change that makes a world is flagged where it touches the key
   flag_of : (d : ℕ) → Touches P es (suc d) key → IsFlagged flags d
-  flag_of d t = flagged P key (definitions es) flags d h t
+  flag_of d t = by (slice_get (changes es) d) refl t
+    where
+      by : (o : Option Change) → slice_get (changes es) d ≡ o → ChangeTouches P o key → IsFlagged flags d
+      by None e u = absurd u
+      by (Some c) e u = flagged (IsTouching P key) (changes es) flags d c h e u
 
   touch_of : (d : ℕ) → IsFlagged flags d → Touches P es (suc d) key
-  touch_of d t = touched P key (definitions es) flags d h t
+  touch_of d t = (let (c, e, q) = change_flagged (IsTouching P key) (changes es) flags d h t in subst (λ (o : Option Change). ChangeTouches P o key) (sym e) q)
 
   going : (d : ℕ) → first < d → d ≤ w → Touches P es d key → ⊥
   going zero low high t = absurd t
@@ -326,12 +148,19 @@ module _ (P : Program) (es : List Event) (key : Key) (flags : List Bool) (w firs
         touched = subst (λ m. Touches P es m key) (let q : suc last ≡ last + 1 = omega arith in q) (touch_of last t);
       })
 
--- with the site of the choice in that world it is right
-pub range_told : (P : Program) (es : List Event) (key : Key) (flags : List Bool) (w : ℕ) (range : Range) (sites : List ℕ) (d : ℕ) → AreFlags P key (definitions es) flags → IsFirst flags w range.first → IsLast flags w range.last
-    → sites ≡ definitions es → Selects P es key.function key.types w (C.Method d) → range.site ≡ get_or sites (d - 1) 0 → IsRange P es key w range
-range_told P es key flags w range sites d h f l s c e = record {
-  right = row_made P es key range.site range.first w (range_begins P es key flags w range.first range.last h f l) (range_covers P es key flags w range.first range.last h f l)
-      (d, c, sym (e ∙ ap (λ xs. get_or xs (d - 1) 0) s));
+change_is : (es : List Event) (made : List Change) (c : Change) (d : ℕ) → 1 ≤ d → made ≡ changes es → d - 1 < length made → c ≡ get_or made (d - 1) c → change_at es d ≡ Some c
+change_is es made c zero k s low at = absurd (omega (arith, k))
+change_is es made c (suc d) k s low at =
+    let n : suc d - 1 ≡ d = omega arith in
+    ap (slice_get (changes es)) (sym n) ∙ got (changes es) made (suc d - 1) c s low at
+
+-- with the site of the choice in that world
+pub range_told : (P : Program) (es : List Event) (key : Key) (flags : List Bool) (w : ℕ) (range : Range) (made : List Change) (c : Change) (d : ℕ) → AreFlags (IsTouching P key) (changes es) flags
+    → IsFirst flags w range.first → IsLast flags w range.last → made ≡ changes es → Selects P es key.function key.types w (C.Method d) → d - 1 < length made → c ≡ get_or made (d - 1) c
+    → range.site ≡ site_in (Some c) → IsRange P es key w range
+range_told P es key flags w range made c d h f l s chosen low at e = record {
+  begun = range_begins P es key flags w range.first range.last h f l;
+  choice = (d, chosen, ap site_in (change_is es made c d (of_world P es key.function key.types w d chosen).0 s low at) ∙ sym e);
   covers = range_covers P es key flags w range.first range.last h f l;
   last = range_last P es key flags w range.first range.last h f l;
 }
@@ -340,18 +169,19 @@ pub method_bounds : (P : Program) (es : List Event) (f : ℕ) (ts : List Ty) (w 
 method_bounds P es f ts w d c = of_world P es f ts w d c
 
 pub no_method : (P : Program) (es : List Event) (key : Key) (w : ℕ) (c : Choice) → Selects P es key.function key.types w c → ((d : ℕ) → c ≡ C.Method d → ⊥) → (d : ℕ) → Selects P es key.function key.types w (C.Method d) → ⊥
-no_method P es key w c s n d t = n d (determined (types_of P) _ key.types c (C.Method d) s t)
+no_method P es key w c s n d t = n d (selects_one P es key.function key.types w c (C.Method d) s t)
 
 -- what is chosen, as the code has found it
-pub chosen : (P : Program) (es : List Event) (key : Key) (w : ℕ) (choice : Choice) (sites slice : List ℕ) → slice ≡ sites → sites ≡ definitions es
-    → ((fs : List Event) → definitions fs ≡ slice → Selects P fs key.function key.types w choice) → Selects P es key.function key.types w choice
-chosen P es key w choice sites slice s e k = k es (sym (s ∙ e))
+pub chosen : (P : Program) (es : List Event) (key : Key) (w : ℕ) (choice : Choice) (made slice : List Change) → slice ≡ made → made ≡ changes es
+    → ((fs : List Event) → changes fs ≡ slice → Selects P fs key.function key.types w choice) → Selects P es key.function key.types w choice
+chosen P es key w choice made slice s e k = k es (sym (s ∙ e))
 
 pub chosen_method : (P : Program) (es : List Event) (key : Key) (w : ℕ) (choice : Choice) (method : ℕ) → choice ≡ C.Method method → Selects P es key.function key.types w choice → Selects P es key.function key.types w (C.Method method)
 chosen_method P es key w choice method e s = subst (λ (c : Choice). Selects P es key.function key.types w c) e s
 
-pub flags_there : (P : Program) (es : List Event) (key : Key) (sites slice : List ℕ) (flags flagged : List Bool) → slice ≡ sites → sites ≡ definitions es → flagged ≡ flags → AreFlags P key slice flags → AreFlags P key (definitions es) flagged
-flags_there P es key sites slice flags flagged s e f h = subst (λ xs. AreFlags P key xs flagged) (s ∙ e) (subst (AreFlags P key slice) (sym f) h)
+pub flags_there : (P : Program) (es : List Event) (key : Key) (made slice : List Change) (flags flagged : List Bool) → slice ≡ made → made ≡ changes es → flagged ≡ flags → AreFlags (IsTouching P key) slice flags
+    → AreFlags (IsTouching P key) (changes es) flagged
+flags_there P es key made slice flags flagged s e f h = subst (λ xs. AreFlags (IsTouching P key) xs flagged) (s ∙ e) (subst (AreFlags (IsTouching P key) slice) (sym f) h)
 
-pub flags_count : (P : Program) (es : List Event) (key : Key) (flagged : List Bool) → AreFlags P key (definitions es) flagged → length flagged ≡ world_of es
-flags_count P es key flagged h = flags_long P key (definitions es) flagged h ∙ definitions_length es
+pub flags_count : (P : Program) (es : List Event) (key : Key) (flagged : List Bool) → AreFlags (IsTouching P key) (changes es) flagged → length flagged ≡ world_of es
+flags_count P es key flagged h = flags_long (IsTouching P key) (changes es) flagged h ∙ changes_length es

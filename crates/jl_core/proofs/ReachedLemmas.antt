@@ -12,11 +12,12 @@ use Rattle.jl_calculus.specs.Kept.{Places}
 use Rattle.jl_calculus.specs.Legal.{AreFinished}
 use Rattle.jl_calculus.specs.Orders.{wait_order}
 use Rattle.jl_calculus.specs.Past.{tasks_of, done_of}
-use Rattle.jl_calculus.specs.Ranges.{CacheRow, rows_of}
+use Rattle.jl_calculus.specs.Ranges.{CacheRow, keys_of, rows_of}
 use Rattle.jl_calculus.proofs.BetweenLemmas.{row_tells}
 use Rattle.jl_calculus.proofs.OrderLemmas.{path_once, path_only, wait_same}
 use Rattle.jl_core.specs.Reached.{IsReached, IsRightRow, IsRightSite, site_at, site_by, search_by, last_search, found_by, IsRightHit, IsFirstUnfinished, KnowsFinished}
 use Rattle.jl_core.proofs.BeforeLemmas.{before, in_front}
+use Rattle.jl_core.proofs.EventLemmas.{contains_at}
 use Rattle.jl_core.proofs.Sound.{StandsWell, IsSoundSearch, MaySearch, IsSound}
 use Rattle.jl_core.proofs.StepLemmas.{reached_sound}
 
@@ -49,7 +50,7 @@ module _ (P : Program) (room : Places) (s : Core) (h : IsReached P room s) where
   pub rows_right : (row : CacheRow) → Contains (rows_of s.events) row → IsRightRow P s.events row
   rows_right row c =
       let k = sound.events.rows row c in
-      record { key = k.key; named = k.named; choice = λ w l covers. row_tells P s.events k.key row.site row.first w k.right covers }
+      record { key = k.key; named = k.named; choice = λ w l covers. row_tells P h.valid s.events k.key row.site row.first w (sound.events.proper k.key (contains_at (keys_of s.events) row.key k.key k.named)) k.right covers }
 
   -- ---- hits
 

@@ -4,8 +4,10 @@ use Rattle.std.specs.List.{Contains}
 use Rattle.jl_model.specs.declared.ty.Key.{Key}
 use Rattle.jl_program.specs.Prelude.{prelude_count}
 use Rattle.jl_program.specs.declared.tree.Program.{Program}
+use Rattle.jl_program.specs.Valid.{IsValid}
 use Rattle.jl_calculus.specs.declared.history.Event.{Event}
 use Rattle.jl_calculus.specs.Core.{at_row, go_to, is_reached}
+use Rattle.jl_calculus.specs.Legal.{IsKeyOf}
 use Rattle.jl_calculus.specs.Ranges.{CacheRow, keys_of, rows_of, Covers, HasNoEnd, MayBegin, SelectsSite}
 use Rattle.jl_calculus.specs.Words.{one_past, after_last, link_of, IsLastWorld, IsRowWords}
 use Rattle.jl_calculus.specs.World.{world_of}
@@ -90,10 +92,10 @@ module _ (P : Program) (es : List Event) where
   same_key o a b h k = cc
 
   -- what the words of a row tell of a world that is there, where no row was cut that has an end
-  pub hit : ((row : CacheRow) → Contains (rows_of es) row → IsKeptRow P es row) → (cut : List ℕ) (cut_key : (r : ℕ) (row : CacheRow) (key : Key) → Contains cut r → slice_get (rows_of es) r ≡ Some row → slice_get (keys_of es) row.key ≡ Some key → HasNoEnd P es key row.first)
+  pub hit : IsValid P → ((key : Key) → Contains (keys_of es) key → IsKeyOf P key) → ((row : CacheRow) → Contains (rows_of es) row → IsKeptRow P es row) → (cut : List ℕ) (cut_key : (r : ℕ) (row : CacheRow) (key : Key) → Contains cut r → slice_get (rows_of es) r ≡ Some row → slice_get (keys_of es) row.key ≡ Some key → HasNoEnd P es key row.first)
       → (number : ℕ) (key : Key) (w r site first last next : ℕ) → slice_get (keys_of es) number ≡ Some key → StandsWell P es number key w (at_row r)
       → IsRowWords P es cut r site first last next → is_reached first last w ≡ true → SelectsSite P es key w site
-  hit rows cut cut_key number key w r site first last next named (row, at, of) words reached =
+  hit valid proper rows cut cut_key number key w r site first last next named (row, at, of) words reached =
       let kept = rows words.row (contains_at (rows_of es) r words.row words.stands) in
       let parts = reached_parts first last w reached in
       let one : row ≡ words.row = same_row (slice_get (rows_of es) r) row words.row at words.stands in
@@ -105,7 +107,7 @@ module _ (P : Program) (es : List Event) where
       let covers : Covers P es kept.key words.row.first w = by kept.key words.row.first low begins parts.1 (subst (λ (k : Key). (Contains cut r × (last ≡ world_of es)) ⊎ ((Contains cut r → ⊥) × IsLastWorld P es k words.row.first last)) words_key words.last_word)
       (λ c. cut_key r words.row kept.key c words.stands kept.named) in
       subst (λ (k : Key). SelectsSite P es k w site) kept_key
-      (subst (λ (n : ℕ). SelectsSite P es kept.key w n) (sym words.site_word) (row_tells P es kept.key words.row.site words.row.first w kept.right covers))
+      (subst (λ (n : ℕ). SelectsSite P es kept.key w n) (sym words.site_word) (row_tells P valid es kept.key words.row.site words.row.first w (proper kept.key (contains_at (keys_of es) words.row.key kept.key kept.named)) kept.right covers))
     where
       by : (k : Key) (from : ℕ) → prelude_count ≤ from → from ≤ w → (last ≡ 0) ⊎ (w ≤ last) → (Contains cut r × (last ≡ world_of es)) ⊎ ((Contains cut r → ⊥) × IsLastWorld P es k from last)
           → (Contains cut r → HasNoEnd P es k from) → Covers P es k from w

@@ -8,7 +8,7 @@ use Rattle.jl_program.specs.declared.tree.Program.{Program}
 use Rattle.jl_calculus.specs.declared.history.Event.{Event}
 use Rattle.jl_calculus.specs.declared.history.Record.{Record}
 use Rattle.jl_calculus.specs.Core.{in_outcome, Stand, at_row, found, missed, Search, TaskState, Opened, Core, at_task}
-use Rattle.jl_calculus.specs.Legal.{IsRunning, IsKeyOf, MayStand, IsTraced}
+use Rattle.jl_calculus.specs.Legal.{IsRunning, IsKeyOf, MayBeMade, MayStand, IsTraced}
 use Rattle.jl_calculus.specs.Orders.{children_of, wait_order}
 use Rattle.jl_calculus.specs.Past.{tasks_of, done_of}
 use Rattle.jl_calculus.specs.Ranges.{CacheRow, keys_of, rows_of, SelectsSite, IsRightFill}
@@ -35,7 +35,7 @@ module _ (P : Program) (es : List Event) where
 
   pub record AreSoundEvents : Type 0 where
     pub stand : MayStand P es
-    pub traced : IsTraced es
+    pub traced : IsTraced P es
     pub rows : (row : CacheRow) → Contains (rows_of es) row → IsKeptRow row
     pub bounds : (task : ℕ) → Between task (tasks_of es) (children_of task es)
     pub ends : (task : ℕ) (ended : Record) → done_of task es ≡ Some ended → IsKeptEnd task ended
@@ -66,13 +66,12 @@ module _ (P : Program) (es : List Event) where
     pub search : MaySearch t.search
     pub known : (other : ℕ) → Contains t.known other → IsBefore other task
 
-  -- an open definition may be published, and only rows that it will end were cut
+  -- an open change may be published, and only rows that it will end were cut
   pub record IsSoundOpen (o : Opened) : Type 0 where
     pub running : IsRunning es o.task
-    pub past_prelude : prelude_count ≤ o.site
-    pub of_program : o.site < length P.sites
+    pub may : MayBeMade P es o.change
     pub place : world_of es < MOST_WORLDS
-    pub cut : (r : ℕ) → Contains o.cut r → IsToCut P es o.site r
+    pub cut : (r : ℕ) → Contains o.cut r → IsToCut P es o.change r
 
   abbrev pub MayBeOpen : Option Opened → Type 0
   MayBeOpen None = Unit {0}

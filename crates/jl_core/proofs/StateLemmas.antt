@@ -1,6 +1,7 @@
 -- The start, and what a task's last search has found.
 use Rattle.std.proofs.Common.{◌≡◌, ◌∙◌, ap, sym, subst, refl, ℕ, zero, suc, ◌≤◌, ◌<◌, arith, List, [], ◌∷◌, ◌++◌, map, length, get_or, slice_get, Option, None, Some, IfSome}
 use Rattle.jl_program.specs.declared.tree.Program.{Program}
+use Rattle.jl_program.specs.Valid.{IsValid}
 use Rattle.jl_calculus.specs.declared.history.Event.{Event}
 use Rattle.jl_calculus.specs.declared.history.Event.TheVariants as Ev
 use Rattle.jl_calculus.specs.Core as C
@@ -17,9 +18,9 @@ no_words : (ws : List Words) → ws ≡ [] → (r : ℕ) (w : Words) → slice_g
 no_words [] e r w q = cc
 no_words (x ∷ ws) e r w q = cc
 
-pub start_kept : (P : Program) (room : Places) (s : C.Core) (ws : List Words) (fuel : ℕ) → fuel ≤ 1000000000 → room.keys ≤ 8192 → room.rows ≤ 16384 → s ≡ C.first_core fuel → ws ≡ [] → Keeps P room s ws
-start_kept P room s ws fuel few keys rows e n = record {
-  reached = record { fuel = fuel; allowed = few; few_keys = keys; few_rows = rows; way = subst (λ (c : C.Core). C.Reaches P room (C.first_core fuel) c) (sym e) (C.stays (C.first_core fuel)) };
+pub start_kept : (P : Program) → IsValid P → (room : Places) (s : C.Core) (ws : List Words) (fuel : ℕ) → fuel ≤ 1000000000 → room.keys ≤ 8192 → room.rows ≤ 16384 → s ≡ C.first_core fuel → ws ≡ [] → Keeps P room s ws
+start_kept P valid room s ws fuel few keys rows e n = record {
+  reached = record { valid = valid; fuel = fuel; allowed = few; few_keys = keys; few_rows = rows; way = subst (λ (c : C.Core). C.Reaches P room (C.first_core fuel) c) (sym e) (C.stays (C.first_core fuel)) };
   words_told = record {
     rows = ap (λ (xs : List Words). map row_of xs) n ∙ sym (ap (λ (c : C.Core). rows_of c.events) e);
     each = λ r w q. absurd (no_words ws n r w q);

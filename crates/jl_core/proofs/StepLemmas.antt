@@ -4,6 +4,9 @@ use Rattle.std.specs.List.{Contains}
 use Rattle.std.proofs.lemmas.List.Elements.{Contains-append_cases}
 use Rattle.jl_model.specs.declared.ty.Key.{Key}
 use Rattle.jl_program.specs.declared.tree.Program.{Program}
+use Rattle.jl_program.specs.Valid.{IsValid}
+use Rattle.jl_calculus.specs.declared.history.Change.{Change}
+use Rattle.jl_calculus.specs.declared.history.Change.TheVariants as Ch
 use Rattle.jl_calculus.specs.declared.history.Event.{Event}
 use Rattle.jl_calculus.specs.declared.history.Event.TheVariants as Ev
 use Rattle.jl_calculus.specs.declared.history.Record.{Record}
@@ -11,9 +14,11 @@ use Rattle.jl_calculus.specs.declared.step.Step.{Step}
 use Rattle.jl_calculus.specs.declared.step.Step.TheVariants as St
 use Rattle.jl_calculus.specs.Core.{in_outcome, in_start, at_row, found, Search, TaskState, Opened, Core, first_core, cut_for, HasSeen, Knows, CanName, CanSearch, CanFill, CanOpen, CanCut, CanEnd, CanFetch, IsEnabled, change_task, with_seen, with_search, with_known, with_event, with_opened, with_cut, after_row, is_reached, go_to, new_search, HasRead, HasFilled, Leaves, Reaches, stays, goes}
 use Rattle.jl_calculus.specs.Kept.{Places}
+use Rattle.jl_calculus.specs.Legal.{IsChange}
 use Rattle.jl_calculus.specs.Past.{tasks_of, done_of}
 use Rattle.jl_calculus.specs.Ranges.{CacheRow, keys_of, rows_of, Covers, HasNoEnd}
 use Rattle.jl_calculus.specs.Words.{after_last, is_worldly, is_fill_of, world_length, fill_length, one_past, link_of, IsToCut, IsRowWords}
+use Rattle.jl_calculus.specs.World.{change_event}
 use Rattle.jl_calculus.proofs.GrowthLemmas.{first_at_most}
 use Rattle.jl_core.specs.Reached.{IsReached}
 use Rattle.jl_core.proofs.BeforeLemmas.{before_trans}
@@ -55,7 +60,7 @@ nothing r (k, l, e) = absurd (omega (arith, l))
 
 -- ---- the steps
 
-module _ (P : Program) (room : Places) (s : Core) (h : IsSound P s) where
+module _ (P : Program) (valid : IsValid P) (room : Places) (s : Core) (h : IsSound P s) where
   abbrev es : List Event
   es = s.events
 
@@ -113,7 +118,7 @@ module _ (P : Program) (room : Places) (s : Core) (h : IsSound P s) where
       stands = subst (StandsWell P es search.key k.key search.world) stood k.at
 
       by : (b : Bool) → is_reached first last search.world ≡ b → StandsWell P es search.key k.key search.world (cond b (found site) (go_to next))
-      by true e = hit P es h.events.rows (cut_for s.opened) (cut_open s.opened h.opened) search.key k.key search.world r site first last next k.named stands words e
+      by true e = hit P es valid h.events.proper h.events.rows (cut_for s.opened) (cut_open s.opened h.opened) search.key k.key search.world r site first last next k.named stands words e
       by false e =
           let (row, at, of) = stands in
           let one : row ≡ words.row = same_row (slice_get (rows_of es) r) row words.row at words.stands in
@@ -159,28 +164,29 @@ module _ (P : Program) (room : Places) (s : Core) (h : IsSound P s) where
   with_open : (o : Opened) → IsSoundOpen P es o → IsSound P (with_opened s (Some o))
   with_open o k = record { events = h.events; count = h.count; tasks = h.tasks; opened = k }
 
-  opens : (task site : ℕ) → CanOpen P room s task site → IsSound P (with_opened s (Some (record { task = task; site = site; cut = [] })))
-  opens task site k =
-      with_open (record { task = task; site = site; cut = [] })
-      (record { running = k.free.running; past_prelude = k.past_prelude; of_program = k.of_program; place = k.place; cut = λ r c. absurd (nothing r c) })
+  opens : (task : ℕ) (change : Change) → CanOpen P room s task change → IsSound P (with_opened s (Some (record { task = task; change = change; cut = [] })))
+  opens task change k =
+      with_open (record { task = task; change = change; cut = [] })
+      (record { running = k.free.running; may = k.may; place = k.place; cut = λ r c. absurd (nothing r c) })
 
   cuts : (r : ℕ) (o : Opened) → s.opened ≡ Some o → CanCut P room s r → IsSound P (with_opened s (Some (with_cut o r)))
   cuts r o e (p, q, left) =
       let k = open_sound o e in
       let one : p ≡ o = same_opened s.opened p o q e in
-      let ends : IsToCut P es o.site r = subst (λ (x : Opened). IsToCut P es x.site r) one left.ends in
-      with_open (with_cut o r) (record { running = k.running; past_prelude = k.past_prelude; of_program = k.of_program; place = k.place; cut = λ n c. by k ends n (Contains-append_cases o.cut (r ∷ []) n c) })
+      let ends : IsToCut P es o.change r = subst (λ (x : Opened). IsToCut P es x.change r) one left.ends in
+      with_open (with_cut o r) (record { running = k.running; may = k.may; place = k.place; cut = λ n c. by k ends n (Contains-append_cases o.cut (r ∷ []) n c) })
     where
-      by : IsSoundOpen P es o → IsToCut P es o.site r → (n : ℕ) → Contains o.cut n ⊎ Contains (r ∷ []) n → IsToCut P es o.site n
+      by : IsSoundOpen P es o → IsToCut P es o.change r → (n : ℕ) → Contains o.cut n ⊎ Contains (r ∷ []) n → IsToCut P es o.change n
       by k ends n (inl c) = k.cut n c
-      by k ends n (inr (zero, l, q)) = subst (IsToCut P es o.site) q ends
+      by k ends n (inr (zero, l, q)) = subst (IsToCut P es o.change) q ends
       by k ends n (inr (suc i, l, q)) = absurd (omega (arith, l))
 
-  publishes : (o : Opened) → s.opened ≡ Some o → IsSound P (with_event s o.task (Ev.Def o.task o.site))
-  publishes o e =
-      let k = open_sound o e in
-      event_added P s h o.task (Ev.Def o.task o.site) (record { running = k.running; past_prelude = k.past_prelude; of_program = k.of_program; room = k.place }) tt tt tt
-      (alone (Ev.Def o.task o.site) refl)
+  changes : (task : ℕ) (change : Change) → IsChange P es task change → IsSound P (with_event s task (change_event task change))
+  changes task (Ch.Def site) k = event_added P s h task (Ev.Def task site) k tt tt tt (alone (Ev.Def task site) refl)
+  changes task (Ch.Del place) k = event_added P s h task (Ev.Del task place) k tt tt tt (alone (Ev.Del task place) refl)
+
+  publishes : (o : Opened) → s.opened ≡ Some o → IsSound P (with_event s o.task (change_event o.task o.change))
+  publishes o e = (let k = open_sound o e in changes o.task o.change (record { running = k.running; may = k.may; room = k.place }))
 
   -- what a task knows comes before it
   known_before : (task : ℕ) (others : List ℕ) → Knows P room s task others → (other : ℕ) → Contains others other → IsBefore P es other task
@@ -204,20 +210,20 @@ module _ (P : Program) (room : Places) (s : Core) (h : IsSound P s) where
           before_trans other of task _ ((h.events.ends of r e).known other c) (known_before task (of ∷ []) k.known of (0, omega arith, refl))
 
 -- a step keeps what holds of a state
-pub step_sound : (P : Program) (room : Places) → room.keys ≤ 8192 → room.rows ≤ 16384 → (s u : Core) (step : Step) → IsEnabled P room s step → Leaves P s u step → IsSound P s → IsSound P u
-step_sound P room keys rows s u (St.Look task) k l h = subst (IsSound P) (sym l) (looks P room s h task)
-step_sound P room keys rows s u (St.Key task key) k l h = subst (IsSound P) (sym l) (names P room s h keys task key k)
-step_sound P room keys rows s u (St.Head task number w) k l h = subst (IsSound P) (sym l) (searches P room s h task number w k)
-step_sound P room keys rows s u (St.Row task) k l h = reads P room s h task u l
-step_sound P room keys rows s u (St.Fill task number w) k l h = fills P room s h rows task number w u k l
-step_sound P room keys rows s u (St.Open task site) k l h = subst (IsSound P) (sym l) (opens P room s h task site k)
-step_sound P room keys rows s u (St.Cut r) k (o, e, l) h = subst (IsSound P) (sym l) (cuts P room s h r o e k)
-step_sound P room keys rows s u St.Publish k (o, e, l) h = subst (IsSound P) (sym l) (publishes P room s h o e)
-step_sound P room keys rows s u (St.Spawn task start) k l h =
+pub step_sound : (P : Program) → IsValid P → (room : Places) → room.keys ≤ 8192 → room.rows ≤ 16384 → (s u : Core) (step : Step) → IsEnabled P room s step → Leaves P s u step → IsSound P s → IsSound P u
+step_sound P valid room keys rows s u (St.Look task) k l h = subst (IsSound P) (sym l) (looks P valid room s h task)
+step_sound P valid room keys rows s u (St.Key task key) k l h = subst (IsSound P) (sym l) (names P valid room s h keys task key k)
+step_sound P valid room keys rows s u (St.Head task number w) k l h = subst (IsSound P) (sym l) (searches P valid room s h task number w k)
+step_sound P valid room keys rows s u (St.Row task) k l h = reads P valid room s h task u l
+step_sound P valid room keys rows s u (St.Fill task number w) k l h = fills P valid room s h rows task number w u k l
+step_sound P valid room keys rows s u (St.Open task change) k l h = subst (IsSound P) (sym l) (opens P valid room s h task change k)
+step_sound P valid room keys rows s u (St.Cut r) k (o, e, l) h = subst (IsSound P) (sym l) (cuts P valid room s h r o e k)
+step_sound P valid room keys rows s u St.Publish k (o, e, l) h = subst (IsSound P) (sym l) (publishes P valid room s h o e)
+step_sound P valid room keys rows s u (St.Spawn task start) k l h =
     subst (IsSound P) (sym l)
-    (child_added P s h task start (record { running = k.free.running; of_program = k.of_program; next = refl; room = k.place }) (known_before P room s h task (in_start start) k.known))
-step_sound P room keys rows s u (St.Done task ended) k l h = subst (IsSound P) (sym l) (ends P room s h task ended k)
-step_sound P room keys rows s u (St.Fetch task of) k (r, e, l) h = subst (IsSound P) (sym l) (fetches P room s h task of r e k)
+    (child_added P s h task start (record { running = k.free.running; of_program = k.of_program; next = refl; room = k.place }) (known_before P valid room s h task (in_start start) k.known))
+step_sound P valid room keys rows s u (St.Done task ended) k l h = subst (IsSound P) (sym l) (ends P valid room s h task ended k)
+step_sound P valid room keys rows s u (St.Fetch task of) k (r, e, l) h = subst (IsSound P) (sym l) (fetches P valid room s h task of r e k)
 
 -- ---- all states that are reached
 
@@ -248,9 +254,9 @@ first_sound P fuel few = record {
         subst (IsSoundTask P (Ev.Begin fuel ∷ []) 0) one (record { seen = omega arith; search = tt; known = λ other c. absurd (nothing other c) })
     by (suc n) t e = cc
 
-way_sound : (P : Program) (room : Places) → room.keys ≤ 8192 → room.rows ≤ 16384 → (s u : Core) → Reaches P room s u → IsSound P s → IsSound P u
-way_sound P room keys rows s u (stays t) h = h
-way_sound P room keys rows s u (goes a t b step way k l) h = step_sound P room keys rows t u step k l (way_sound P room keys rows s t way h)
+way_sound : (P : Program) → IsValid P → (room : Places) → room.keys ≤ 8192 → room.rows ≤ 16384 → (s u : Core) → Reaches P room s u → IsSound P s → IsSound P u
+way_sound P valid room keys rows s u (stays t) h = h
+way_sound P valid room keys rows s u (goes a t b step way k l) h = step_sound P valid room keys rows t u step k l (way_sound P valid room keys rows s t way h)
 
 pub reached_sound : (P : Program) (room : Places) (s : Core) → IsReached P room s → IsSound P s
-reached_sound P room s h = way_sound P room h.few_keys h.few_rows (first_core h.fuel) s h.way (first_sound P h.fuel h.allowed)
+reached_sound P room s h = way_sound P h.valid room h.few_keys h.few_rows (first_core h.fuel) s h.way (first_sound P h.fuel h.allowed)

@@ -1,33 +1,35 @@
--- The definitions and spawns of a task, in its trace and among the events.
-use Rattle.std.proofs.Common.{◌≡◌, ◌∙◌, ap, sym, subst, refl, ℕ, zero, suc, ◌+◌, ◌<◌, ◌≤◌, arith, Bool, true, false, cond, nat_eq, IsTrue, List, [], ◌∷◌, length, drop, get_or, Option, None, Some}
+-- The definitions, deletions and spawns of a task, in its trace and among the events.
+use Rattle.std.proofs.Common.{◌≡◌, ◌∙◌, ap, sym, refl, ℕ, ◌+◌, ◌<◌, ◌≤◌, true, false, cond, List, [], ◌∷◌, length, drop, get_or, Some}
 use Rattle.std.specs.Prelude.{◌↔◌}
 use Rattle.std.proofs.lemmas.List.{drop_more, drop_all}
 use Rattle.jl_calculus.specs.declared.history.Event.{Event}
 use Rattle.jl_calculus.specs.declared.history.Event.TheVariants as Ev
-use Rattle.jl_calculus.specs.declared.history.Outcome.{Outcome}
-use Rattle.jl_calculus.specs.declared.history.Record.{Record}
 use Rattle.jl_calculus.specs.declared.history.TraceItem.{TraceItem}
 use Rattle.jl_calculus.specs.declared.history.TraceItem.TheVariants as I
-use Rattle.jl_calculus.specs.Past.{EndedSo, own_items, own_events, if_own}
+use Rattle.jl_calculus.specs.Past.{own_items, own_events}
 use Rattle.jl_core.specs.Asked.{is_own, is_by, item_of, IsNextOwn, FollowsEvent}
 
 -- ---- the trace
 
 own_first : (item : TraceItem) (rest : List TraceItem) → is_own item ≡ true → own_items (item ∷ rest) ≡ item ∷ own_items rest
 own_first (I.Def site p) rest h = refl
+own_first (I.Del place p) rest h = refl
 own_first (I.Spawn child p) rest h = refl
 own_first (I.Look w p) rest h = cc
 own_first (I.Fetch task outcome p) rest h = cc
 own_first (I.WorldFull p) rest h = cc
 own_first (I.TaskFull p) rest h = cc
+own_first (I.Absent place p) rest h = cc
 
 not_first : (item : TraceItem) (rest : List TraceItem) → is_own item ≡ false → own_items (item ∷ rest) ≡ own_items rest
 not_first (I.Def site p) rest h = cc
+not_first (I.Del place p) rest h = cc
 not_first (I.Spawn child p) rest h = cc
 not_first (I.Look w p) rest h = refl
 not_first (I.Fetch task outcome p) rest h = refl
 not_first (I.WorldFull p) rest h = refl
 not_first (I.TaskFull p) rest h = refl
+not_first (I.Absent place p) rest h = refl
 
 pub own_at : (trace : List TraceItem) (i : ℕ) (item : TraceItem) → i < length trace → item ≡ get_or trace i item → is_own item ≡ true → own_items (drop i trace) ≡ own_items trace → own_items trace ≡ item ∷ own_items (drop (i + 1) trace)
 own_at trace i item l e h so_far =
@@ -53,20 +55,23 @@ other_follows p e trace rest behind item next differs (other, is, also) =
     let k : other ≡ item = first_same other item (own_items rest) (own_items behind) (sym also ∙ next) in
     differs (is ∙ ap (λ x. Some x) k)
 
--- what follows the first definition or spawn
+-- what follows the first definition, deletion or spawn
 behind_of : (xs : List TraceItem) (x : TraceItem) (ys : List TraceItem) → own_items xs ≡ x ∷ ys → (zs : List TraceItem) × IsNextOwn xs x zs
 behind_of [] x ys h = cc
 behind_of (I.Def site p ∷ xs) x ys h = (xs, ap (λ z. z ∷ own_items xs) (first_same (I.Def site p) x (own_items xs) ys h))
+behind_of (I.Del place p ∷ xs) x ys h = (xs, ap (λ z. z ∷ own_items xs) (first_same (I.Del place p) x (own_items xs) ys h))
 behind_of (I.Spawn child p ∷ xs) x ys h = (xs, ap (λ z. z ∷ own_items xs) (first_same (I.Spawn child p) x (own_items xs) ys h))
 behind_of (I.Look w p ∷ xs) x ys h = behind_of xs x ys h
 behind_of (I.Fetch task outcome p ∷ xs) x ys h = behind_of xs x ys h
 behind_of (I.WorldFull p ∷ xs) x ys h = behind_of xs x ys h
 behind_of (I.TaskFull p ∷ xs) x ys h = behind_of xs x ys h
+behind_of (I.Absent place p ∷ xs) x ys h = behind_of xs x ys h
 
 -- ---- the events of the task
 
 item_there : (task p : ℕ) (e : Event) (es : List Event) → is_by task e ≡ true → (item : TraceItem) → item_of p e ≡ Some item → own_events task p (e ∷ es) ≡ item ∷ own_events task (p + 1) es
 item_there task p (Ev.Def by site) es h item is = ap (λ b. cond b (I.Def site p ∷ own_events task (p + 1) es) (own_events task (p + 1) es)) h ∙ ap (λ x. x ∷ own_events task (p + 1) es) (let k : I.Def site p ≡ item = cc in k)
+item_there task p (Ev.Del by place) es h item is = ap (λ b. cond b (I.Del place p ∷ own_events task (p + 1) es) (own_events task (p + 1) es)) h ∙ ap (λ x. x ∷ own_events task (p + 1) es) (let k : I.Del place p ≡ item = cc in k)
 item_there task p (Ev.Spawn by child start) es h item is = ap (λ b. cond b (I.Spawn child p ∷ own_events task (p + 1) es) (own_events task (p + 1) es)) h ∙ ap (λ x. x ∷ own_events task (p + 1) es) (let k : I.Spawn child p ≡ item = cc in k)
 item_there task p (Ev.Begin fuel) es h item is = cc
 item_there task p (Ev.Key key) es h item is = cc
@@ -75,6 +80,7 @@ item_there task p (Ev.Done by ended) es h item is = cc
 
 not_there : (task p : ℕ) (e : Event) (es : List Event) → is_by task e ≡ false → own_events task p (e ∷ es) ≡ own_events task (p + 1) es
 not_there task p (Ev.Def by site) es h = ap (λ b. cond b (I.Def site p ∷ own_events task (p + 1) es) (own_events task (p + 1) es)) h
+not_there task p (Ev.Del by place) es h = ap (λ b. cond b (I.Del place p ∷ own_events task (p + 1) es) (own_events task (p + 1) es)) h
 not_there task p (Ev.Spawn by child start) es h = ap (λ b. cond b (I.Spawn child p ∷ own_events task (p + 1) es) (own_events task (p + 1) es)) h
 not_there task p (Ev.Begin fuel) es h = refl
 not_there task p (Ev.Key key) es h = refl
@@ -83,6 +89,7 @@ not_there task p (Ev.Done by ended) es h = refl
 
 item_some : (task p : ℕ) (e : Event) → is_by task e ≡ true → (item : TraceItem) × (item_of p e ≡ Some item)
 item_some task p (Ev.Def by site) h = (I.Def site p, refl)
+item_some task p (Ev.Del by place) h = (I.Del place p, refl)
 item_some task p (Ev.Spawn by child start) h = (I.Spawn child p, refl)
 item_some task p (Ev.Begin fuel) h = cc
 item_some task p (Ev.Key key) h = cc

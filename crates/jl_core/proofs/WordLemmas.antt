@@ -5,12 +5,14 @@ use Rattle.std.proofs.lemmas.List.{map-append, take-append-le, take_at}
 use Rattle.std.proofs.lemmas.List.Elements.{Contains-append_cases, Contains-append_left, Contains-append_right}
 use Rattle.jl_model.specs.declared.ty.Key.{Key}
 use Rattle.jl_program.specs.declared.tree.Program.{Program}
+use Rattle.jl_calculus.specs.declared.history.Change.{Change}
+use Rattle.jl_calculus.specs.declared.history.Change.TheVariants as Ch
 use Rattle.jl_calculus.specs.declared.history.Event.{Event}
 use Rattle.jl_calculus.specs.declared.history.Event.TheVariants as Ev
-use Rattle.jl_calculus.specs.Ranges.{CacheRow, keys_of, rows_of, site_in, SiteTouches, Touches, HasNoEnd, EndsWith}
+use Rattle.jl_calculus.specs.Ranges.{CacheRow, keys_of, rows_of, head_of, HeadTouches, ChangeTouches, Touches, HasNoEnd, EndsWith}
 use Rattle.jl_calculus.specs.Words.{link_of, IsLastWorld, IsToCut, IsLastWith, IsRowWords}
-use Rattle.jl_calculus.specs.World.{defined, definitions, world_of}
-use Rattle.jl_calculus.proofs.GrowthLemmas.{get_more, defined_append, definitions_append, definitions_length, rows_append, touches_on, touches_back, touches_known, covers_on}
+use Rattle.jl_calculus.specs.World.{changed, changes, world_of, change_event}
+use Rattle.jl_calculus.proofs.GrowthLemmas.{get_more, changed_append, changes_append, changes_length, rows_append, touches_on, touches_back, touches_known, covers_on}
 use Rattle.jl_core.specs.declared.words.Words.{Words}
 use Rattle.jl_core.specs.Kept.{AreWords}
 use Rattle.jl_core.specs.View.{row_of}
@@ -19,6 +21,10 @@ use Rattle.jl_core.proofs.GrowLemmas.{named_on}
 
 nothing : (r : ℕ) → Contains {X = ℕ} [] r → ⊥
 nothing r (k, l, e) = absurd (omega (arith, l))
+
+get_end : {X : Type 0} (xs : List X) (x : X) → slice_get (xs ++ x ∷ []) (length xs) ≡ Some x
+get_end [] x = refl
+get_end (y ∷ xs) x = get_end xs x
 
 -- ---- ranges, with more events
 
@@ -58,10 +64,10 @@ module _ (P : Program) (es more : List Event) where
 
 -- ---- an event that makes neither a world nor a row
 
-same_world : (es : List Event) (e : Event) → defined (e ∷ []) ≡ [] → world_of (es ++ e ∷ []) ≡ world_of es
-same_world es e n = ap (λ xs. 14 + length xs) (defined_append es (e ∷ []) ∙ ap (λ xs. defined es ++ xs) n ∙ append-nil (defined es))
+same_world : (es : List Event) (e : Event) → changed (e ∷ []) ≡ [] → world_of (es ++ e ∷ []) ≡ world_of es
+same_world es e n = ap (λ xs. 14 + length xs) (changed_append es (e ∷ []) ∙ ap (λ xs. changed es ++ xs) n ∙ append-nil (changed es))
 
-pub words_same : (P : Program) (es : List Event) (e : Event) (cut : List ℕ) (ws : List Words) → defined (e ∷ []) ≡ [] → rows_of (e ∷ []) ≡ [] → AreWords P es cut ws → AreWords P (es ++ e ∷ []) cut ws
+pub words_same : (P : Program) (es : List Event) (e : Event) (cut : List ℕ) (ws : List Words) → changed (e ∷ []) ≡ [] → rows_of (e ∷ []) ≡ [] → AreWords P es cut ws → AreWords P (es ++ e ∷ []) cut ws
 words_same P es e cut ws d n h = record {
   rows = h.rows ∙ sym (rows_append es (e ∷ []) ∙ ap (λ (xs : List CacheRow). rows_of es ++ xs) n ∙ append-nil (rows_of es));
   each = λ r w q. row_words_on P es (e ∷ []) (same_world es e d) cut r w.site w.first w.last w.next (h.each r w q);
@@ -85,10 +91,6 @@ module _ (P : Program) (es : List Event) (ws : List Words) (h : AreWords P es []
       long_map : (xs : List Words) → length xs ≡ length (map row_of xs)
       long_map [] = refl
       long_map (x ∷ xs) = ap suc (long_map xs)
-
-  get_end : {X : Type 0} (xs : List X) (x : X) → slice_get (xs ++ x ∷ []) (length xs) ≡ Some x
-  get_end [] x = refl
-  get_end (y ∷ xs) x = get_end xs x
 
   new_words : IsRowWords P filled [] (length ws) w.site w.first w.last w.next
   new_words = record {
@@ -186,49 +188,56 @@ module _ (P : Program) (es : List Event) (cut : List ℕ) (ws : List Words) (h :
     each = λ n x q. each_cut n x (set_cases ws r v n x q);
   }
 
--- ---- a definition
+-- ---- a change
 
-module _ (P : Program) (es : List Event) (task site : ℕ) where
+changed_by : (task : ℕ) (change : Change) → changed (change_event task change ∷ []) ≡ change ∷ []
+changed_by task (Ch.Def site) = refl
+changed_by task (Ch.Del place) = refl
+
+rows_by : (task : ℕ) (change : Change) → rows_of (change_event task change ∷ []) ≡ []
+rows_by task (Ch.Def site) = refl
+rows_by task (Ch.Del place) = refl
+
+module _ (P : Program) (es : List Event) (task : ℕ) (change : Change) where
   abbrev made : List Event
-  made = es ++ Ev.Def task site ∷ []
+  made = es ++ change_event task change ∷ []
 
-  definitions_made : definitions made ≡ definitions es ++ site ∷ []
-  definitions_made = definitions_append es (Ev.Def task site ∷ [])
+  changes_made : changes made ≡ changes es ++ change ∷ []
+  changes_made = changes_append es (change_event task change ∷ []) ∙ ap (λ xs. changes es ++ xs) (changed_by task change)
 
   world_made : world_of made ≡ suc (world_of es)
-  world_made = omega (arith, ap length (defined_append es (Ev.Def task site ∷ [])), length-append (defined es) (site ∷ []))
+  world_made = omega (arith, ap length (changed_append es (change_event task change ∷ []) ∙ ap (λ xs. changed es ++ xs) (changed_by task change)), length-append (changed es) (change ∷ []))
 
-  get_site : (xs : List ℕ) (x : ℕ) → slice_get (xs ++ x ∷ []) (length xs) ≡ Some x
-  get_site [] x = refl
-  get_site (y ∷ xs) x = get_site xs x
+  rows_made : rows_of made ≡ rows_of es
+  rows_made = rows_append es (change_event task change ∷ []) ∙ ap (λ (xs : List CacheRow). rows_of es ++ xs) (rows_by task change) ∙ append-nil (rows_of es)
 
-  -- the site of the new world
-  newest : slice_get (definitions made) (world_of es) ≡ Some site
+  -- the change that made the new world
+  newest : slice_get (changes made) (world_of es) ≡ Some change
   newest =
-      ap (λ xs. slice_get xs (world_of es)) definitions_made
-      ∙ ap (λ n. slice_get (definitions es ++ site ∷ []) n) (sym (definitions_length es))
-      ∙ get_site (definitions es) site
+      ap (λ xs. slice_get xs (world_of es)) changes_made
+      ∙ ap (λ n. slice_get (changes es ++ change ∷ []) n) (sym (changes_length es))
+      ∙ get_end (changes es) change
 
-  touches_new : (key : Key) → SiteTouches P (slice_get P.sites site) key → Touches P made (suc (world_of es)) key
-  touches_new key t = subst (λ o. SiteTouches P (site_in P o) key) (sym newest) t
+  touches_new : (key : Key) → HeadTouches P (head_of P change) key → Touches P made (suc (world_of es)) key
+  touches_new key t = subst (λ o. ChangeTouches P o key) (sym newest) t
 
-  new_touches : (key : Key) → Touches P made (suc (world_of es)) key → SiteTouches P (slice_get P.sites site) key
-  new_touches key t = subst (λ o. SiteTouches P (site_in P o) key) newest t
+  new_touches : (key : Key) → Touches P made (suc (world_of es)) key → HeadTouches P (head_of P change) key
+  new_touches key t = subst (λ o. ChangeTouches P o key) newest t
 
   -- it does not touch the key
-  no_end_made : (key : Key) (first : ℕ) → HasNoEnd P es key first → (SiteTouches P (slice_get P.sites site) key → ⊥) → HasNoEnd P made key first
+  no_end_made : (key : Key) (first : ℕ) → HasNoEnd P es key first → (HeadTouches P (head_of P change) key → ⊥) → HasNoEnd P made key first
   no_end_made key first h n d l t =
       let known : d ≤ suc (world_of es) = omega (arith, touches_known P made d key t, world_made) in
-      let late : d ≤ world_of es → ⊥ = λ m. h d l (touches_back P es (Ev.Def task site ∷ []) d key m t) in
+      let late : d ≤ world_of es → ⊥ = λ m. h d l (touches_back P es (change_event task change ∷ []) d key m t) in
       let last : d ≡ suc (world_of es) = grind (arith, known, late) in
       n (new_touches key (subst (λ (k : ℕ). Touches P made k key) last t))
 
   -- it does
-  ends_made : (key : Key) (first last : ℕ) → HasNoEnd P es key first → SiteTouches P (slice_get P.sites site) key → first ≤ world_of es → last ≡ world_of es → EndsWith P made key first last
+  ends_made : (key : Key) (first last : ℕ) → HasNoEnd P es key first → HeadTouches P (head_of P change) key → first ≤ world_of es → last ≡ world_of es → EndsWith P made key first last
   ends_made key first last h t l e = record {
     covers = record {
       begun = omega (arith, l, e);
-      going = λ d low high k. h d low (touches_back P es (Ev.Def task site ∷ []) d key (omega (arith, high, e)) k);
+      going = λ d low high k. h d low (touches_back P es (change_event task change ∷ []) d key (omega (arith, high, e)) k);
     };
     touched = subst (λ (k : ℕ). Touches P made k key) (let q : suc (world_of es) ≡ last + 1 = omega (arith, e) in q) (touches_new key t);
   }
@@ -240,36 +249,36 @@ same_key : (o : Option Key) (a b : Key) → o ≡ Some a → o ≡ Some b → a 
 same_key o a b h k = cc
 
 -- where exactly the rows were cut that it ends
-module _ (P : Program) (es : List Event) (task site : ℕ) (cut : List ℕ) (ws : List Words) (h : AreWords P es cut ws) (ends : (r : ℕ) → Contains cut r → IsToCut P es site r) (all : (r : ℕ) → IsToCut P es site r → (Contains cut r → ⊥) → ⊥) (begun : (row : CacheRow) (r : ℕ) → slice_get (rows_of es) r ≡ Some row → row.first ≤ world_of es) where
-  cut_ends : (r last : ℕ) (row : CacheRow) (key : Key) → slice_get (rows_of es) r ≡ Some row → slice_get (keys_of es) row.key ≡ Some key → IsToCut P es site r → last ≡ world_of es → EndsWith P (es ++ Ev.Def task site ∷ []) key row.first last
+module _ (P : Program) (es : List Event) (task : ℕ) (change : Change) (cut : List ℕ) (ws : List Words) (h : AreWords P es cut ws) (ends : (r : ℕ) → Contains cut r → IsToCut P es change r) (all : (r : ℕ) → IsToCut P es change r → (Contains cut r → ⊥) → ⊥) (begun : (row : CacheRow) (r : ℕ) → slice_get (rows_of es) r ≡ Some row → row.first ≤ world_of es) where
+  cut_ends : (r last : ℕ) (row : CacheRow) (key : Key) → slice_get (rows_of es) r ≡ Some row → slice_get (keys_of es) row.key ≡ Some key → IsToCut P es change r → last ≡ world_of es → EndsWith P (es ++ change_event task change ∷ []) key row.first last
   cut_ends r last row key at named k e =
       let one : k.row ≡ row = same_row (slice_get (rows_of es) r) k.row row k.stands at in
       let two : k.key ≡ key = same_key (slice_get (keys_of es) row.key) k.key key (subst (λ (x : CacheRow). slice_get (keys_of es) x.key ≡ Some k.key) one k.named) named in
-      subst (λ (x : CacheRow). EndsWith P (es ++ Ev.Def task site ∷ []) key x.first last) one
-      (subst (λ (x : Key). EndsWith P (es ++ Ev.Def task site ∷ []) x k.row.first last) two
-      (ends_made P es task site k.key k.row.first last k.no_end k.touched (begun k.row r k.stands) e))
+      subst (λ (x : CacheRow). EndsWith P (es ++ change_event task change ∷ []) key x.first last) one
+      (subst (λ (x : Key). EndsWith P (es ++ change_event task change ∷ []) x k.row.first last) two
+      (ends_made P es task change k.key k.row.first last k.no_end k.touched (begun k.row r k.stands) e))
 
   last_made : (r last : ℕ) (row : CacheRow) (key : Key) → slice_get (rows_of es) r ≡ Some row → slice_get (keys_of es) row.key ≡ Some key → IsLastWith P es cut r key row.first last
-      → IsLastWith P (es ++ Ev.Def task site ∷ []) [] r key row.first last
+      → IsLastWith P (es ++ change_event task change ∷ []) [] r key row.first last
   last_made r last row key at named (inl (c, e)) = inr (nothing r, inr (cut_ends r last row key at named (ends r c) e))
   last_made r last row key at named (inr (n, inl (e, k))) =
-      inr (nothing r, inl (e, no_end_made P es task site key row.first k (λ t. all r (record { row = row; stands = at; key = key; named = named; no_end = k; touched = t }) n)))
-  last_made r last row key at named (inr (n, inr k)) = inr (nothing r, inr (ends_on P es (Ev.Def task site ∷ []) key row.first last k))
+      inr (nothing r, inl (e, no_end_made P es task change key row.first k (λ t. all r (record { row = row; stands = at; key = key; named = named; no_end = k; touched = t }) n)))
+  last_made r last row key at named (inr (n, inr k)) = inr (nothing r, inr (ends_on P es (change_event task change ∷ []) key row.first last k))
 
-  row_made : (r fore first last next : ℕ) → IsRowWords P es cut r fore first last next → IsRowWords P (es ++ Ev.Def task site ∷ []) [] r fore first last next
+  row_made : (r fore first last next : ℕ) → IsRowWords P es cut r fore first last next → IsRowWords P (es ++ change_event task change ∷ []) [] r fore first last next
   row_made r fore first last next k = record {
     row = k.row;
-    stands = ap (λ (xs : List CacheRow). slice_get xs r) (rows_append es (Ev.Def task site ∷ [])) ∙ get_more (rows_of es) [] r k.row k.stands;
+    stands = ap (λ (xs : List CacheRow). slice_get xs r) (rows_made P es task change) ∙ k.stands;
     key = k.key;
-    named = named_on P es (Ev.Def task site ∷ []) k.row.key k.key k.named;
+    named = named_on P es (change_event task change ∷ []) k.row.key k.key k.named;
     site_word = k.site_word;
     first_word = k.first_word;
     last_word = last_made r last k.row k.key k.stands k.named k.last_word;
-    next_word = k.next_word ∙ ap (λ (xs : List CacheRow). link_of k.row.key (take r xs)) (sym (rows_append es (Ev.Def task site ∷ []) ∙ append-nil (rows_of es)));
+    next_word = k.next_word ∙ ap (λ (xs : List CacheRow). link_of k.row.key (take r xs)) (sym (rows_made P es task change));
   }
 
-  pub words_made : AreWords P (es ++ Ev.Def task site ∷ []) [] ws
+  pub words_made : AreWords P (es ++ change_event task change ∷ []) [] ws
   words_made = record {
-    rows = h.rows ∙ sym (rows_append es (Ev.Def task site ∷ []) ∙ append-nil (rows_of es));
+    rows = h.rows ∙ sym (rows_made P es task change);
     each = λ r w q. row_made r w.site w.first w.last w.next (h.each r w q);
   }

@@ -48,39 +48,43 @@ abbrev pub IsChoiceOrNone : Program → List Event → ℕ → ℕ → Option Ch
 IsChoiceOrNone P es number w None = (key : Key) → slice_get (keys_of es) number ≡ Some key → w ≤ world_of es → ⊥
 IsChoiceOrNone P es number w (Some choice) = IsChoice P es number w choice
 
--- ---- the definitions and spawns of a task
+-- ---- the definitions, deletions and spawns of a task
 
--- an item is a definition or a spawn
+-- an item is a definition, a deletion or a spawn
 abbrev pub is_own : TraceItem → Bool
 is_own (I.Def site p) = true
+is_own (I.Del place p) = true
 is_own (I.Spawn child p) = true
 is_own (I.Look w p) = false
 is_own (I.Fetch task outcome p) = false
 is_own (I.WorldFull p) = false
 is_own (I.TaskFull p) = false
+is_own (I.Absent place p) = false
 
--- an event is a definition or a spawn by a task
+-- an event is a definition, a deletion or a spawn by a task
 abbrev pub is_by : ℕ → Event → Bool
 is_by task (Ev.Def by site) = nat_eq by task
+is_by task (Ev.Del by place) = nat_eq by task
 is_by task (Ev.Spawn by child start) = nat_eq by task
 is_by task (Ev.Begin fuel) = false
 is_by task (Ev.Key key) = false
 is_by task (Ev.Fill key site first) = false
 is_by task (Ev.Done by ended) = false
 
--- what a definition or a spawn at a place is in the trace of its task
+-- what such an event at a place is in the trace of its task
 abbrev pub item_of : ℕ → Event → Option TraceItem
 item_of p (Ev.Def by site) = Some (I.Def site p)
+item_of p (Ev.Del by place) = Some (I.Del place p)
 item_of p (Ev.Spawn by child start) = Some (I.Spawn child p)
 item_of p (Ev.Begin fuel) = None
 item_of p (Ev.Key key) = None
 item_of p (Ev.Fill key site first) = None
 item_of p (Ev.Done by ended) = None
 
--- the first definition or spawn of a trace, and the items after it
+-- the first definition, deletion or spawn of a trace, and the items after it
 abbrev pub IsNextOwn : List TraceItem → TraceItem → List TraceItem → Type 0
 IsNextOwn trace item rest = own_items trace ≡ item ∷ own_items rest
 
--- such an event at a place is the first definition or spawn of a trace, and this follows it
+-- such an event at a place is the first of these in a trace, and this follows it
 abbrev pub FollowsEvent : ℕ → Event → List TraceItem → List TraceItem → Type 0
 FollowsEvent p e trace rest = (item : TraceItem) × (item_of p e ≡ Some item) × IsNextOwn trace item rest

@@ -15,7 +15,7 @@ use Rattle.jl_core.specs.View.{row_of, task_of}
 
 abbrev pub opened_of : Option Opening → List ℕ → Option C.Opened
 opened_of None cut = None
-opened_of (Some o) cut = Some (record { task = o.task; site = o.site; cut = cut })
+opened_of (Some o) cut = Some (record { task = o.task; change = o.change; cut = cut })
 
 abbrev pub core_of : Inside → C.Core
 core_of a = record { events = a.events.items; tasks = map task_of a.tasks.items; opened = opened_of a.opened a.cut.items }
@@ -23,7 +23,7 @@ core_of a = record { events = a.events.items; tasks = map task_of a.tasks.items;
 abbrev pub state_of : Inside → State
 state_of a = record { program = a.program; room = record { keys = a.keys; rows = a.rows }; core = core_of a }
 
--- the words of all rows, where some were cut for an open definition
+-- the words of all rows, where some were cut for an open change
 pub record AreWords (P : Program) (es : List Event) (cut : List ℕ) (words : List Words) : Type 0 where
   pub rows : map row_of words ≡ rows_of es
   pub each : (r : ℕ) (w : Words) → slice_get words r ≡ Some w → IsRowWords P es cut r w.site w.first w.last w.next

@@ -22,13 +22,13 @@ abbrev pub EventsMayStand : Type 0
 EventsMayStand = (P : Program) (room : Places) (s : Core) → IsReached P room s → MayStand P s.events
 
 abbrev pub EventsAreTraced : Type 0
-EventsAreTraced = (P : Program) (room : Places) (s : Core) → IsReached P room s → IsTraced s.events
+EventsAreTraced = (P : Program) (room : Places) (s : Core) → IsReached P room s → IsTraced P s.events
 
 -- the first task in wait order that has not ended knows finished tasks alone
 abbrev pub FirstKnowsFinished : Type 0
 FirstKnowsFinished = (P : Program) (room : Places) (s : Core) → IsReached P room s → (task : ℕ) → IsFirstUnfinished s.events task → KnowsFinished s task
 
--- so while no definition is open it may fetch each task that it knows
+-- so while no change is open it may fetch each task that it knows
 abbrev pub FirstMayFetch : Type 0
 FirstMayFetch =
     (P : Program) (room : Places) (s : Core) → IsReached P room s → (task : ℕ) → IsFirstUnfinished s.events task → s.opened ≡ None

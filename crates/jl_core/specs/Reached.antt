@@ -4,6 +4,7 @@ use Rattle.std.specs.List.{Contains}
 use Rattle.jl_model.specs.declared.limits.TheConstants.{MOST_FUEL, MOST_CACHE_KEYS, MOST_CACHE_ROWS}
 use Rattle.jl_model.specs.declared.ty.Key.{Key}
 use Rattle.jl_program.specs.declared.tree.Program.{Program}
+use Rattle.jl_program.specs.Valid.{IsValid}
 use Rattle.jl_calculus.specs.declared.history.Event.{Event}
 use Rattle.jl_calculus.specs.declared.history.Record.{Record}
 use Rattle.jl_calculus.specs.Core.{Stand, at_row, found, missed, Search, TaskState, Core, first_core, Reaches}
@@ -13,8 +14,9 @@ use Rattle.jl_calculus.specs.Past.{done_of}
 use Rattle.jl_calculus.specs.Ranges.{CacheRow, keys_of, Covers, SelectsSite}
 use Rattle.jl_calculus.specs.World.{world_of}
 
--- a state that enabled steps reach from the start, with a fuel and with places that may be given
+-- a state of a run of a valid program that enabled steps reach from the start, with a fuel and with places that may be given
 pub record IsReached (P : Program) (room : Places) (s : Core) : Type 0 where
+  pub valid : IsValid P
   pub fuel : ℕ
   pub allowed : fuel ≤ MOST_FUEL
   pub few_keys : room.keys ≤ MOST_CACHE_KEYS

@@ -1,10 +1,11 @@
 //! When steps are enabled.
 
-ghost use Rattle.std.specs.Prelude.{◌≡◌, ◌≤◌, ◌↔◌, ℕ, IsTrue, IfOk};
+ghost use Rattle.std.specs.Prelude.{◌≡◌, ◌<◌, ◌≤◌, ◌↔◌, ℕ, IsTrue, IfOk};
 ghost use Rattle.std.specs.List.{Contains};
+ghost use Rattle.jl_model.specs.declared.limits.TheConstants.{MOST_WORLDS};
 ghost use Rattle.jl_program.specs.declared.prelude.TheConstants.{FIRST_WORLD};
 ghost use Rattle.jl_calculus.specs.Core.{IsFree, Knows, CanName, CanSearch, CanRead, CanFill, CanOpen, CanCut, CanPublish, CanSpawn, CanEnd, CanFetch};
-ghost use Rattle.jl_calculus.specs.Legal.{IsRunning};
+ghost use Rattle.jl_calculus.specs.Legal.{IsRunning, MayBeMade};
 ghost use Rattle.jl_calculus.specs.World.{world_of};
 ghost use Rattle.jl_core.specs.Asked.{HasMethod, IsChoiceOrNone};
 ghost use Rattle.jl_core.specs.Reached.{KnowsOne};
@@ -14,11 +15,12 @@ use crate::events::{count_keys, done_of, has_key, key_at, world_of};
 use crate::keys::is_key_of;
 use crate::mention::{in_outcome, in_start};
 use crate::range::{range_of, select, touches};
+use crate::standing::has_method_for;
 use crate::state::Core;
 use crate::task::last_search;
 use crate::trace::{has_own_events, has_true_trace};
 use crate::words::is_covered;
-use jl_calculus::history::Record;
+use jl_calculus::history::{Change, Record};
 use jl_calculus::step::Step;
 use jl_model::limits::{MOST_TASKS, MOST_WORLDS};
 use jl_model::ty::Key;
@@ -53,7 +55,7 @@ fn are_among(numbers: &[u32], sought: &[u32]) -> bool
 }
 
 impl Core {
-    /// The choice for the key of a number in a world, by all definitions up to it; none exactly where there is no such key or no
+    /// The choice for the key of a number in a world, by all changes up to it; none exactly where there is no such key or no
     /// such world yet.
     pub fn choice(
         &self,
@@ -89,7 +91,7 @@ impl Core {
         }
     }
 
-    /// Whether a task is running while no definition is open.
+    /// Whether a task is running while no change is open.
     fn is_free(&self, task: u32) -> bool
         ensures { IsTrue result ↔ IsFree self.now.program self.now.room self.now.core task }
     {
@@ -99,7 +101,7 @@ impl Core {
         }
     }
 
-    /// Whether a task may name a key: it is running while no definition is open, the key is one of the program and is new, and there
+    /// Whether a task may name a key: it is running while no change is open, the key is one of the program and is new, and there
     /// is a place for it.
     fn may_name(
         &self,
@@ -171,7 +173,7 @@ impl Core {
         }
     }
 
-    /// Whether a task may make a row of a key that covers a world: it is running while no definition is open, and has seen both; a
+    /// Whether a task may make a row of a key that covers a world: it is running while no change is open, and has seen both; a
     /// method is chosen, no row covers the world yet, and there is a place for one.
     fn may_fill(
         &self,
@@ -200,21 +202,46 @@ impl Core {
         Ok(chosen)
     }
 
-    /// Whether a task may open the definition of a site: it is running while none is open, the site is one of the script, and there
-    /// is a world for it.
-    fn may_open(&self, task: u32, site: u32) -> bool
-        ensures { IsTrue result ↔ CanOpen self.now.program self.now.room self.now.core task site }
+    /// Whether a change may be made in the newest world, which is not the last: the site of a definition is one of the script, and a
+    /// deletion finds a method to take away.
+    fn may_be_made(&self, alloc: Global, ready: &Ready, change: Change) -> Result<bool, AllocError>
+        requires program { ready.now ≡ self.now.program }
+        requires place { world_of self.now.core.events < MOST_WORLDS }
+        ensures { IfOk result (λ yes. IsTrue yes ↔ MayBeMade self.now.program self.now.core.events change) }
     {
-        if site < PRELUDE_SITES || site as usize >= self.program.sites.len() {
-            return false;
+        match change {
+            Change::Def(site) => {
+                Ok(PRELUDE_SITES <= site && (site as usize) < self.program.sites.len())
+            }
+            Change::Del(place) => {
+                let found = has_method_for(alloc, ready, self.events.as_slice(), place)?;
+                Ok(found)
+            }
         }
-        if world_of(self.events.as_slice()) >= MOST_WORLDS {
-            return false;
-        }
-        self.is_free(task)
     }
 
-    /// Whether a row may be cut: the open definition will end it, and it was not cut yet.
+    /// Whether a task may open a change: it is running while none is open, the change may be made, and there is a world for it.
+    fn may_open(
+        &self,
+        alloc: Global,
+        ready: &Ready,
+        task: u32,
+        change: Change,
+    ) -> Result<bool, AllocError>
+        requires { ready.now ≡ self.now.program }
+        ensures { IfOk result (λ yes. IsTrue yes ↔ CanOpen self.now.program self.now.room self.now.core task change) }
+    {
+        if !self.is_free(task) {
+            return Ok(false);
+        }
+        if world_of(self.events.as_slice()) >= MOST_WORLDS {
+            return Ok(false);
+        }
+        let may = self.may_be_made(alloc, ready, change)?;
+        Ok(may)
+    }
+
+    /// Whether a row may be cut: the open change will end it, and it was not cut yet.
     fn may_cut(&self, alloc: Global, ready: &Ready, row: u32) -> Result<bool, AllocError>
         requires { ready.now ≡ self.now.program }
         ensures { IfOk result (λ yes. IsTrue yes ↔ CanCut self.now.program self.now.room self.now.core row) }
@@ -232,11 +259,11 @@ impl Core {
         let Some(key) = key_at(self.events.as_slice(), words.key) else {
             return Ok(false);
         };
-        let yes = touches(alloc, ready, opening.site, key)?;
+        let yes = touches(alloc, ready, opening.change, key)?;
         Ok(yes)
     }
 
-    /// Whether the open definition may make its world: no row is left that it will end and that was not cut yet.
+    /// Whether the open change may make its world: no row is left that it will end and that was not cut yet.
     fn may_publish(&self, alloc: Global, ready: &Ready) -> Result<bool, AllocError>
         requires { ready.now ≡ self.now.program }
         ensures { IfOk result (λ yes. IsTrue yes ↔ CanPublish self.now.program self.now.room self.now.core) }
@@ -274,7 +301,7 @@ impl Core {
         }
     }
 
-    /// Whether a task may start another: it is running while no definition is open, there is a number for the new task, the place is
+    /// Whether a task may start another: it is running while no change is open, there is a number for the new task, the place is
     /// one of the program, and it has seen the world and knows the tasks of the start.
     fn may_spawn(&self, alloc: Global, task: u32, start: &Start) -> Result<bool, AllocError>
         ensures { IfOk result (λ yes. IsTrue yes ↔ CanSpawn self.now.program self.now.room self.now.core task start.now) }
@@ -295,9 +322,16 @@ impl Core {
         Ok(self.knows_all(task, others.as_slice()))
     }
 
-    /// Whether a task may end so: it is running while no definition is open, its trace is true and in order and has its own events,
+    /// Whether a task may end so: it is running while no change is open, its trace is true and in order and has its own events,
     /// and it knows the tasks of its outcome.
-    fn may_end(&self, alloc: Global, task: u32, ended: &Record) -> Result<bool, AllocError>
+    fn may_end(
+        &self,
+        alloc: Global,
+        ready: &Ready,
+        task: u32,
+        ended: &Record,
+    ) -> Result<bool, AllocError>
+        requires { ready.now ≡ self.now.program }
         ensures { IfOk result (λ yes. IsTrue yes ↔ CanEnd self.now.program self.now.room self.now.core task ended.now) }
     {
         if !self.is_free(task) {
@@ -305,7 +339,8 @@ impl Core {
         }
         let events = self.events.as_slice();
         let trace = ended.trace.as_slice();
-        if !has_true_trace(events, task, trace) {
+        let holds = has_true_trace(alloc, ready, events, task, trace)?;
+        if !holds {
             return Ok(false);
         }
         if !has_own_events(events, task, trace) {
@@ -315,7 +350,7 @@ impl Core {
         Ok(self.knows_all(task, others.as_slice()))
     }
 
-    /// Whether a task may fetch another: it is running, knows the other, which has ended, and no definition is open.
+    /// Whether a task may fetch another: it is running, knows the other, which has ended, and no change is open.
     fn may_fetch(&self, task: u32, of: u32) -> bool
         ensures { IsTrue result ↔ CanFetch self.now.program self.now.room self.now.core task of }
     {
@@ -345,7 +380,10 @@ impl Core {
                 let yes = self.may_fill(alloc, ready, *task, *key, *world)?;
                 Ok(yes)
             }
-            Step::Open { task, site } => Ok(self.may_open(*task, *site)),
+            Step::Open { task, change } => {
+                let yes = self.may_open(alloc, ready, *task, *change)?;
+                Ok(yes)
+            }
             Step::Cut { row } => {
                 let yes = self.may_cut(alloc, ready, *row)?;
                 Ok(yes)
@@ -359,7 +397,7 @@ impl Core {
                 Ok(yes)
             }
             Step::Done { task, ended } => {
-                let yes = self.may_end(alloc, *task, ended)?;
+                let yes = self.may_end(alloc, ready, *task, ended)?;
                 Ok(yes)
             }
             Step::Fetch { task, of } => Ok(self.may_fetch(*task, *of)),

@@ -6,23 +6,38 @@ ghost use Rattle.jl_calculus.specs.declared.history.Event.TheVariants as Ev;
 ghost use Rattle.jl_calculus.specs.Past.{tasks_of, done_of};
 ghost use Rattle.jl_calculus.specs.Ranges.{keys_of};
 ghost use Rattle.jl_calculus.specs.Words.{is_worldly, is_fill_of, world_length, fill_length};
-ghost use Rattle.jl_calculus.specs.World.{definitions, world_of};
+ghost use Rattle.jl_calculus.specs.World.{changes, world_of};
 
-use jl_calculus::history::{Event, Record};
+use jl_calculus::history::{Change, Event, Record};
 use jl_calculus::same::Same;
 use jl_model::ty::Key;
 use jl_program::prelude::FIRST_WORLD;
 use std::alloc::{AllocError, Global};
 
-/// The sites of the prelude's operations, which are defined before a script begins.
-const PRELUDE: [u32; 14] = [0, 1, 2, 3, 4, 5, 6, 7, 8, 9, 10, 11, 12, 13];
+/// The definitions of the prelude's operations, which are made before a script begins.
+const PRELUDE: [Change; 14] = [
+    Change::Def(0),
+    Change::Def(1),
+    Change::Def(2),
+    Change::Def(3),
+    Change::Def(4),
+    Change::Def(5),
+    Change::Def(6),
+    Change::Def(7),
+    Change::Def(8),
+    Change::Def(9),
+    Change::Def(10),
+    Change::Def(11),
+    Change::Def(12),
+    Change::Def(13),
+];
 
 /// Whether an event makes a world.
 fn is_worldly(event: &Event) -> bool
     ensures { result ≡ is_worldly event.now }
 {
     match event {
-        Event::Begin(_) | Event::Def { .. } => true,
+        Event::Begin(_) | Event::Def { .. } | Event::Del { .. } => true,
         Event::Key(_) | Event::Fill { .. } | Event::Spawn { .. } | Event::Done { .. } => false,
     }
 }
@@ -36,6 +51,7 @@ fn is_fill_of(number: u32, event: &Event) -> bool
         Event::Begin(_)
         | Event::Key(_)
         | Event::Def { .. }
+        | Event::Del { .. }
         | Event::Spawn { .. }
         | Event::Done { .. } => false,
     }
@@ -73,8 +89,10 @@ pub(crate) fn world_of(events: &[Event]) -> usize
 {
     let mut world = FIRST_WORLD as usize;
     for event in events {
-        if let Event::Def { .. } = event {
-            world += 1;
+        match event {
+            Event::Def { .. } => world += 1,
+            Event::Del { .. } => world += 1,
+            _ => {}
         }
     }
     world
@@ -158,15 +176,17 @@ pub(crate) fn done_of(events: &[Event], of: u32) -> Option<&Record>
     None
 }
 
-/// The sites of all definitions, the prelude's first: the definition that makes world 1 stands first.
-pub(crate) fn definitions(alloc: Global, events: &[Event]) -> Result<Vec<u32>, AllocError>
-    ensures { IfOk result (λ sites. sites.items ≡ definitions events.now) }
+/// All changes, the definitions of the prelude first: the change that makes world 1 stands first.
+pub(crate) fn changes(alloc: Global, events: &[Event]) -> Result<Vec<Change>, AllocError>
+    ensures { IfOk result (λ made. made.items ≡ changes events.now) }
 {
-    let mut sites = Vec::from_slice(alloc, &PRELUDE)?;
+    let mut made = Vec::from_slice(alloc, &PRELUDE)?;
     for event in events {
-        if let Event::Def { site, .. } = event {
-            sites.push(*site)?;
+        match event {
+            Event::Def { site, .. } => made.push(Change::Def(*site))?,
+            Event::Del { place, .. } => made.push(Change::Del(*place))?,
+            _ => {}
         }
     }
-    Ok(sites)
+    Ok(made)
 }

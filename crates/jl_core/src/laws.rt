@@ -4,7 +4,7 @@
 ghost use Rattle.jl_core.specs.Laws.{RowsAreRight, HitsAreRight, EventsMayStand, EventsAreTraced, FirstKnowsFinished, FirstMayFetch, FirstIsThere};
 
 /// After every list of enabled steps each row tells the choice in each world of its range up to the present one, and each search
-/// that has hit tells the choice in its own world, whatever was defined in the meantime (Belyakova et al., OOPSLA 2020).
+/// that has hit tells the choice in its own world, whatever was defined or deleted in the meantime (Belyakova et al., OOPSLA 2020).
 pub fn law_hits_are_the_choice()
     ensures rows { RowsAreRight }
     ensures hits { HitsAreRight }
@@ -17,7 +17,7 @@ pub fn law_events_are_legal()
 {}
 
 /// After every list of enabled steps the first task in wait order that has not ended knows finished tasks alone. So while no
-/// definition is open it may fetch each task that it knows; and there is such a task, unless all have ended.
+/// change is open it may fetch each task that it knows; and there is such a task, unless all have ended.
 pub fn law_first_can_go_on()
     ensures knows { FirstKnowsFinished }
     ensures fetches { FirstMayFetch }

@@ -8,20 +8,20 @@ ghost use Rattle.jl_core.specs.State.{first_state};
 
 use crate::task::Task;
 use crate::words::Words;
-use jl_calculus::history::Event;
+use jl_calculus::history::{Change, Event};
 use jl_program::tree::Program;
 use jl_sig::Ready;
 use std::alloc::{AllocError, Global};
 use std::marker::Model;
 
-/// Who makes the open definition, and of which site it is.
+/// Who makes the open change, and which it is.
 #[derive(Clone, Copy)]
 pub(crate) struct Opening {
     pub(crate) task: u32,
-    pub(crate) site: u32,
+    pub(crate) change: Change,
 }
 
-/// A state of the model: the events so far, the tasks, the open definition and the words of the rows. Contracts see it with its program
+/// A state of the model: the events so far, the tasks, the open change and the words of the rows. Contracts see it with its program
 /// and the places that it has for keys and rows. Whatever enabled steps it has made, each of its searches that has hit tells the choice in
 /// its own world (Belyakova et al., OOPSLA 2020).
 #[derive(Drop)]
@@ -62,6 +62,7 @@ fn copy_program(program: &Program) -> Result<Program, AllocError>
         functions: program.functions.copy()?,
         sites: program.sites.copy()?,
         spawns: program.spawns.copy()?,
+        deletes: program.deletes.copy()?,
         top: program.top.copy()?,
     })
 }
@@ -80,6 +81,7 @@ impl Core {
         requires rows { rows ≤ MOST_CACHE_ROWS }
         ensures { IfOk result (λ core. core ≡ first_state ready.now fuel keys rows) }
     {
+        ready.valid();
         let program = copy_program(ready.program())?;
         let mut events = Vec::new(alloc);
         events.push(Event::Begin(fuel))?;
@@ -117,7 +119,7 @@ impl Core {
     pub fn history(&self) -> &[Event]
         ensures events { result.now ≡ self.now.core.events }
         ensures stand { MayStand self.now.program result.now }
-        ensures traced { IsTraced result.now }
+        ensures traced { IsTraced self.now.program result.now }
     {
         self.events.as_slice()
     }

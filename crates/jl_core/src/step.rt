@@ -11,7 +11,7 @@ use crate::range::range_of;
 use crate::state::{Core, Opening};
 use crate::task::{Search, Task, add_event, begin_search, last_search, learn, see};
 use crate::words::{Words, after_row, go_to, link_of};
-use jl_calculus::history::{Event, Record};
+use jl_calculus::history::{Change, Event, Record};
 use jl_calculus::step::Step;
 use jl_model::ty::Key;
 use jl_program::tree::Start;
@@ -63,16 +63,16 @@ impl Core {
         begin_search(&mut self.tasks, task, after_row(last, words));
     }
 
-    /// Opens the definition of a site.
-    fn open(&mut self, task: u32, site: u32)
-        requires { MayMake self.old (St.Open task site) }
-        ensures { Makes self.old (St.Open task site) self.new }
+    /// Opens a change.
+    fn open(&mut self, task: u32, change: Change)
+        requires { MayMake self.old (St.Open task change) }
+        ensures { Makes self.old (St.Open task change) self.new }
     {
         self.cut.clear();
-        self.opened = Some(Opening { task, site });
+        self.opened = Some(Opening { task, change });
     }
 
-    /// Cuts a row for the open definition, at the present world.
+    /// Cuts a row for the open change, at the present world.
     fn cut(&mut self, row: u32) -> Result<(), AllocError>
         requires { MayMake self.old (St.Cut row) }
         ensures made { OnOk result (Makes self.old (St.Cut row) self.new) }
@@ -85,7 +85,7 @@ impl Core {
         Ok(())
     }
 
-    /// The open definition makes its world.
+    /// The open change makes its world.
     fn publish(&mut self) -> Result<(), AllocError>
         requires { MayMake self.old St.Publish }
         ensures made { OnOk result (Makes self.old St.Publish self.new) }
@@ -94,15 +94,8 @@ impl Core {
         let Some(opening) = self.opened else {
             return Ok(());
         };
-        add_event(
-            &mut self.events,
-            &mut self.tasks,
-            opening.task,
-            Event::Def {
-                task: opening.task,
-                site: opening.site,
-            },
-        )?;
+        let event = opening.change.event(opening.task);
+        add_event(&mut self.events, &mut self.tasks, opening.task, event)?;
         self.opened = None;
         Ok(())
     }
@@ -224,8 +217,8 @@ impl Core {
                 Ok(())
             }
             Step::Fill { task, key, world } => self.fill(alloc, ready, task, key, world),
-            Step::Open { task, site } => {
-                self.open(task, site);
+            Step::Open { task, change } => {
+                self.open(task, change);
                 Ok(())
             }
             Step::Cut { row } => self.cut(row),

@@ -1,16 +1,19 @@
 //! Whether the trace of a task is true of the events and in order, and has the task's own events.
 
-ghost use Rattle.std.specs.Prelude.{◌≡◌, ◌≤◌, ◌↔◌, IsTrue, MatchOption, Some, List, [], length, take};
+ghost use Rattle.std.specs.Prelude.{◌≡◌, ◌≤◌, ◌↔◌, IsTrue, IfOk, MatchOption, Some, List, [], length, take};
 ghost use Rattle.jl_calculus.specs.declared.history.TraceItem.{TraceItem};
 ghost use Rattle.jl_calculus.specs.Legal.{AreTrueOf, first_place};
-ghost use Rattle.jl_calculus.specs.Past.{DefinesAt, SpawnsAt, EndedSo, IsTrueOf, IsInOrder, done_of, own_events, own_items, past, place, tasks_of};
+ghost use Rattle.jl_calculus.specs.Past.{DefinesAt, DeletesAt, SpawnsAt, EndedSo, IsAbsent, IsTrueOf, IsInOrder, done_of, own_events, own_items, past, place, tasks_of};
 ghost use Rattle.jl_calculus.specs.World.{world_of};
 ghost use Rattle.jl_core.specs.Asked.{is_own, is_by, item_of, IsNextOwn, FollowsEvent};
 
 use crate::events::{done_of, tasks_of, world_of};
+use crate::standing::is_absent;
 use jl_calculus::history::{Event, Outcome, TraceItem};
 use jl_calculus::same::Same;
 use jl_model::limits::{MOST_TASKS, MOST_WORLDS};
+use jl_sig::Ready;
+use std::alloc::{AllocError, Global};
 
 /// Whether the event at a place is this definition of a task.
 fn is_def_at(events: &[Event], at: u32, by: u32, made: u32) -> bool
@@ -18,6 +21,16 @@ fn is_def_at(events: &[Event], at: u32, by: u32, made: u32) -> bool
 {
     match events.get(at as usize) {
         Some(Event::Def { task, site }) => *task == by && *site == made,
+        _ => false,
+    }
+}
+
+/// Whether the event at a place is this deletion of a task.
+fn is_del_at(events: &[Event], at: u32, by: u32, made: u32) -> bool
+    ensures { IsTrue result ↔ DeletesAt events.now at by made }
+{
+    match events.get(at as usize) {
+        Some(Event::Del { task, place }) => *task == by && *place == made,
         _ => false,
     }
 }
@@ -72,17 +85,47 @@ fn has_outcome(events: &[Event], at: u32, of: u32, outcome: &Outcome) -> bool
     has_ended_so(&events[..at as usize], of, outcome)
 }
 
+/// Whether there was nothing to delete at a place of the program after the first so many events.
+fn was_absent(
+    alloc: Global,
+    ready: &Ready,
+    events: &[Event],
+    at: u32,
+    place: u32,
+) -> Result<bool, AllocError>
+    ensures { IfOk result (λ yes. IsTrue yes ↔ ((at ≤ length events.now) × IsAbsent ready.now (take at events.now) place)) }
+{
+    if at as usize > events.len() {
+        return Ok(false);
+    }
+    let absent = is_absent(alloc, ready, &events[..at as usize], place)?;
+    Ok(absent)
+}
+
 /// Whether an item of a task's trace is true of the events.
-fn is_true(events: &[Event], by: u32, item: &TraceItem) -> bool
-    ensures { IsTrue result ↔ IsTrueOf events.now by item.now }
+fn is_true(
+    alloc: Global,
+    ready: &Ready,
+    events: &[Event],
+    by: u32,
+    item: &TraceItem,
+) -> Result<bool, AllocError>
+    ensures { IfOk result (λ yes. IsTrue yes ↔ IsTrueOf ready.now events.now by item.now) }
 {
     match item {
-        TraceItem::Look { world, at } => has_world(events, *at, *world as usize),
-        TraceItem::Def { site, at } => is_def_at(events, *at, by, *site),
-        TraceItem::Spawn { child, at } => is_spawn_at(events, *at, by, *child),
-        TraceItem::Fetch { task, outcome, at } => has_outcome(events, *at, *task, outcome.get()),
-        TraceItem::WorldFull { at } => has_world(events, *at, MOST_WORLDS),
-        TraceItem::TaskFull { at } => has_tasks(events, *at, MOST_TASKS),
+        TraceItem::Look { world, at } => Ok(has_world(events, *at, *world as usize)),
+        TraceItem::Def { site, at } => Ok(is_def_at(events, *at, by, *site)),
+        TraceItem::Spawn { child, at } => Ok(is_spawn_at(events, *at, by, *child)),
+        TraceItem::Fetch { task, outcome, at } => {
+            Ok(has_outcome(events, *at, *task, outcome.get()))
+        }
+        TraceItem::WorldFull { at } => Ok(has_world(events, *at, MOST_WORLDS)),
+        TraceItem::TaskFull { at } => Ok(has_tasks(events, *at, MOST_TASKS)),
+        TraceItem::Del { place, at } => Ok(is_del_at(events, *at, by, *place)),
+        TraceItem::Absent { place, at } => {
+            let absent = was_absent(alloc, ready, events, *at, *place)?;
+            Ok(absent)
+        }
     }
 }
 
@@ -97,6 +140,8 @@ fn place(item: &TraceItem) -> u32
         TraceItem::Fetch { at, .. } => *at,
         TraceItem::WorldFull { at } => *at,
         TraceItem::TaskFull { at } => *at,
+        TraceItem::Del { at, .. } => *at,
+        TraceItem::Absent { at, .. } => *at,
     }
 }
 
@@ -111,6 +156,8 @@ fn past(item: &TraceItem) -> usize
         TraceItem::Fetch { at, .. } => *at as usize,
         TraceItem::WorldFull { at } => *at as usize,
         TraceItem::TaskFull { at } => *at as usize,
+        TraceItem::Del { at, .. } => *at as usize + 1,
+        TraceItem::Absent { at, .. } => *at as usize,
     }
 }
 
@@ -129,34 +176,46 @@ fn first_place(events: &[Event], task: u32) -> usize
 }
 
 /// Whether the items of a task's trace are true of the events, and in order.
-pub(crate) fn has_true_trace(events: &[Event], task: u32, trace: &[TraceItem]) -> bool
-    ensures { IsTrue result ↔ (AreTrueOf events.now task trace.now × IsInOrder (first_place task 0 events.now) trace.now (length events.now)) }
+pub(crate) fn has_true_trace(
+    alloc: Global,
+    ready: &Ready,
+    events: &[Event],
+    task: u32,
+    trace: &[TraceItem],
+) -> Result<bool, AllocError>
+    ensures { IfOk result (λ yes. IsTrue yes ↔ (AreTrueOf ready.now events.now task trace.now × IsInOrder (first_place task 0 events.now) trace.now (length events.now))) }
 {
     let mut low = first_place(events, task);
     for item in trace {
-        if (place(item) as usize) < low || !is_true(events, task, item) {
-            return false;
+        if (place(item) as usize) < low {
+            return Ok(false);
+        }
+        let holds = is_true(alloc, ready, events, task, item)?;
+        if !holds {
+            return Ok(false);
         }
         low = past(item);
     }
-    low <= events.len()
+    Ok(low <= events.len())
 }
 
-/// Whether an item is a definition or a spawn.
+/// Whether an item is a definition, a deletion or a spawn.
 fn is_own(item: &TraceItem) -> bool
     ensures { result ≡ is_own item.now }
 {
     match item {
         TraceItem::Def { .. } => true,
+        TraceItem::Del { .. } => true,
         TraceItem::Spawn { .. } => true,
         TraceItem::Look { .. } => false,
         TraceItem::Fetch { .. } => false,
         TraceItem::WorldFull { .. } => false,
         TraceItem::TaskFull { .. } => false,
+        TraceItem::Absent { .. } => false,
     }
 }
 
-/// The first definition or spawn of a trace, and the items after it.
+/// The first definition, deletion or spawn of a trace, and the items after it.
 fn next_own(trace: &[TraceItem]) -> Option<(&TraceItem, &[TraceItem])>
     ensures { MatchOption result (own_items trace.now ≡ []) (λ next. IsNextOwn trace.now next.0.now next.1.now) }
 {
@@ -168,12 +227,13 @@ fn next_own(trace: &[TraceItem]) -> Option<(&TraceItem, &[TraceItem])>
     None
 }
 
-/// Whether an event is a definition or a spawn by a task.
+/// Whether an event is a definition, a deletion or a spawn by a task.
 fn is_by(event: &Event, by: u32) -> bool
     ensures { result ≡ is_by by event.now }
 {
     match event {
         Event::Def { task, .. } => *task == by,
+        Event::Del { task, .. } => *task == by,
         Event::Spawn { task, .. } => *task == by,
         Event::Begin(_) => false,
         Event::Key(_) => false,
@@ -182,13 +242,17 @@ fn is_by(event: &Event, by: u32) -> bool
     }
 }
 
-/// Whether an item is that of a definition or a spawn at a place.
+/// Whether an item is that of a definition, a deletion or a spawn at a place.
 fn is_item_of(item: &TraceItem, event: &Event, place: usize) -> bool
     ensures { IsTrue result ↔ (item_of place event.now ≡ Some item.now) }
 {
     match item {
         TraceItem::Def { site: made, at } => match event {
             Event::Def { site, .. } => *at as usize == place && *site == *made,
+            _ => false,
+        },
+        TraceItem::Del { place: made, at } => match event {
+            Event::Del { place: taken, .. } => *at as usize == place && *taken == *made,
             _ => false,
         },
         TraceItem::Spawn { child: made, at } => match event {
@@ -199,7 +263,7 @@ fn is_item_of(item: &TraceItem, event: &Event, place: usize) -> bool
     }
 }
 
-/// What follows a definition or a spawn in the trace of its task, where it is the first there.
+/// What follows a definition, a deletion or a spawn in the trace of its task, where it is the first there.
 fn after_event<'a>(trace: &'a [TraceItem], event: &Event, place: usize) -> Option<&'a [TraceItem]>
     ensures { MatchOption result ((rest : List TraceItem) → FollowsEvent place event.now trace.now rest → ⊥) (λ rest. FollowsEvent place event.now trace.now rest.now) }
 {
@@ -212,7 +276,7 @@ fn after_event<'a>(trace: &'a [TraceItem], event: &Event, place: usize) -> Optio
     Some(rest)
 }
 
-/// Whether the definitions and spawns of a task are those of its trace, in order, each once.
+/// Whether the definitions, deletions and spawns of a task are those of its trace, in order, each once.
 pub(crate) fn has_own_events(events: &[Event], task: u32, trace: &[TraceItem]) -> bool
     ensures { IsTrue result ↔ (own_events task 0 events.now ≡ own_items trace.now) }
 {

@@ -68,7 +68,7 @@ pub record Grew (before now : Knows) : Type 0 where
 -- an item that is told is learnt, and true wherever a list agrees
 pub record Told (now : Knows) (i : TraceItem) : Type 0 where
   pub learnt : now.learnt i
-  pub right : (es : List Event) → now.agrees es → IsTrueOf es now.task i
+  pub right : (es : List Event) → now.agrees es → IsTrueOf now.program es now.task i
 
 -- a look, which answered this world and this length
 pub record Looked (before now : Knows) (w p : ℕ) : Type 0 where
@@ -145,7 +145,7 @@ pub record IsMade (now : Knows) (w : ℕ) : Type 0 where
 
 -- the task knows that the world is the last one: in each list that agrees, it is that of the events that the task has seen
 abbrev pub IsFull : Knows → Type 0
-IsFull now = (es : List Event) → now.agrees es → IsTrueOf es now.task (WorldFull now.seen)
+IsFull now = (es : List Event) → now.agrees es → IsTrueOf now.program es now.task (WorldFull now.seen)
 
 -- the world is the last one
 pub record WorldsFull (before now : Knows) : Type 0 where
@@ -166,7 +166,7 @@ pub record Spawned (before now : Knows) (child : ℕ) (start : Start) : Type 0 w
 
 -- the task knows that there is no room for a task: in each list that agrees, among the events that the task has seen
 abbrev pub AreTasksFull : Knows → Type 0
-AreTasksFull now = (es : List Event) → now.agrees es → IsTrueOf es now.task (TaskFull now.seen)
+AreTasksFull now = (es : List Event) → now.agrees es → IsTrueOf now.program es now.task (TaskFull now.seen)
 
 -- there is no room for a task
 pub record TasksFull (before now : Knows) : Type 0 where

@@ -15,8 +15,8 @@ use Rattle.jl_calculus.specs.declared.history.Outcome.{Outcome}
 use Rattle.jl_calculus.specs.declared.history.Outcome.TheVariants as O
 use Rattle.jl_calculus.specs.Kept.{Keeps}
 use Rattle.jl_calculus.specs.Run.{State, Then, body_of, calls, chosen, performs, runs, with_calls, with_scope}
-use Rattle.jl_calculus.specs.World.{methods_in, Selects}
-use Rattle.jl_calculus.proofs.ChoiceLaws.{determined}
+use Rattle.jl_calculus.specs.World.{Selects}
+use Rattle.jl_calculus.proofs.SelectLemmas.{selects_one}
 use Rattle.jl_point.specs.declared.point.Work.{Work}
 use Rattle.jl_point.specs.declared.point.Work.TheVariants.{Acting, Calling, Ended}
 use Rattle.jl_point.specs.Turns.{Point}
@@ -54,7 +54,7 @@ module _ (j : Job) where
     picked : (room : ℕ) (c : Choice) → s.calls < j.fuel → Selects j.program x.events f (map type_of vs) w c → calls (over j x) E (suc room) f vs w s next → Chosen room c
     picked room c lt sel h =
         let (d, other, kept, go) = rw (lt-ltb s.calls j.fuel lt) at h in
-        let is : d ≡ c = determined (types_of j.program) (methods_in j.program x.events f w) (map type_of vs) d c other sel in
+        let is : d ≡ c = selects_one j.program x.events f (map type_of vs) w d c other sel in
         subst (Chosen room) is go
 
     picks : (room : ℕ) (c : Choice) → s.calls < j.fuel → Selects j.program x.events f (map type_of vs) w c → Keeps j.program x.events j.places f (map type_of vs) w → calls (over j x) E (suc room) f vs w s next ↔ Chosen room c

@@ -1,7 +1,7 @@
 -- One more item at the end of a trace, and what a dispatcher's growth leaves as it was.
 use Rattle.std.proofs.Common.{◌≡◌, ℕ, ◌+◌, ◌≤◌, List, [], ◌∷◌, ◌++◌, refl, sym, ap, arith, length, zero-add}
 use Rattle.jl_calculus.specs.declared.history.TraceItem.{TraceItem}
-use Rattle.jl_calculus.specs.declared.history.TraceItem.TheVariants.{Look, Def, Spawn, Fetch, WorldFull, TaskFull}
+use Rattle.jl_calculus.specs.declared.history.TraceItem.TheVariants.{Look, Def, Del, Spawn, Fetch, WorldFull, TaskFull, Absent}
 use Rattle.jl_point.specs.declared.point.Frame.{Frame}
 use Rattle.jl_point.specs.declared.point.Frame.TheVariants as Fr
 use Rattle.jl_calculus.specs.Past.{IsInOrder, place, past, own_items}
@@ -41,6 +41,8 @@ looks_more (Spawn child p ∷ is) i = looks_more is i
 looks_more (Fetch task o p ∷ is) i = looks_more is i
 looks_more (WorldFull p ∷ is) i = looks_more is i
 looks_more (TaskFull p ∷ is) i = looks_more is i
+looks_more (Del at_place p ∷ is) i = looks_more is i
+looks_more (Absent at_place p ∷ is) i = looks_more is i
 
 pub own_more : (is : List TraceItem) (i : TraceItem) → own_items (is ++ i ∷ []) ≡ own_items is ++ own_items (i ∷ [])
 own_more [] i = refl
@@ -50,6 +52,8 @@ own_more (Spawn child p ∷ is) i = ap (λ xs. Spawn child p ∷ xs) (own_more i
 own_more (Fetch task o p ∷ is) i = own_more is i
 own_more (WorldFull p ∷ is) i = own_more is i
 own_more (TaskFull p ∷ is) i = own_more is i
+own_more (Del at_place p ∷ is) i = ap (λ xs. Del at_place p ∷ xs) (own_more is i)
+own_more (Absent at_place p ∷ is) i = own_more is i
 
 -- a list has at least as many items as looks
 pub looks_le : (is : List TraceItem) → looks_of is ≤ length is
@@ -60,6 +64,8 @@ looks_le (Spawn child p ∷ is) = omega (arith, looks_le is)
 looks_le (Fetch task o p ∷ is) = omega (arith, looks_le is)
 looks_le (WorldFull p ∷ is) = omega (arith, looks_le is)
 looks_le (TaskFull p ∷ is) = omega (arith, looks_le is)
+looks_le (Del at_place p ∷ is) = omega (arith, looks_le is)
+looks_le (Absent at_place p ∷ is) = omega (arith, looks_le is)
 
 pub between_up : (w most most' : ℕ) → most ≤ most' → IsBetween w most → IsBetween w most'
 between_up w most most' le h = (h.0, omega (arith, h.1))

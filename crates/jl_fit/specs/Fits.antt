@@ -9,7 +9,7 @@ use Rattle.jl_calculus.specs.declared.history.Outcome.TheVariants as O
 use Rattle.jl_program.specs.declared.fault.Fault.TheVariants.{TaskFailed}
 use Rattle.jl_calculus.specs.declared.history.Record.{Record}
 use Rattle.jl_calculus.specs.declared.history.TraceItem.{TraceItem}
-use Rattle.jl_calculus.specs.declared.history.TraceItem.TheVariants.{Look, Def, Spawn, Fetch, WorldFull, TaskFull}
+use Rattle.jl_calculus.specs.declared.history.TraceItem.TheVariants.{Look, Def, Del, Spawn, Fetch, WorldFull, TaskFull, Absent}
 use Rattle.jl_calculus.specs.Past.{IsInOrder, own_items}
 use Rattle.jl_calculus.specs.Run.{setting_of, Run}
 use Rattle.jl_point.specs.declared.point.Work.{Work}
@@ -30,6 +30,8 @@ looks_of (Spawn child p ∷ is) = looks_of is
 looks_of (Fetch task o p ∷ is) = looks_of is
 looks_of (WorldFull p ∷ is) = looks_of is
 looks_of (TaskFull p ∷ is) = looks_of is
+looks_of (Del at_place p ∷ is) = looks_of is
+looks_of (Absent at_place p ∷ is) = looks_of is
 
 abbrev pub AllLearnt : Knows → List TraceItem → Type 0
 AllLearnt k [] = Unit {0}

@@ -6,7 +6,7 @@ use Rattle.jl_program.specs.declared.value.Value.{Value}
 use Rattle.jl_program.specs.Meaning.{datum}
 use Rattle.jl_calculus.specs.declared.history.Outcome.{Outcome}
 use Rattle.jl_calculus.specs.declared.history.TraceItem.{TraceItem}
-use Rattle.jl_calculus.specs.declared.history.TraceItem.TheVariants.{Look, Def, Spawn, Fetch, WorldFull, TaskFull}
+use Rattle.jl_calculus.specs.declared.history.TraceItem.TheVariants.{Look, Def, Del, Spawn, Fetch, WorldFull, TaskFull, Absent}
 use Rattle.jl_calculus.specs.Core.{tasks_in, in_outcome, in_start}
 use Rattle.jl_point.specs.declared.point.Frame.{Frame}
 use Rattle.jl_point.specs.declared.point.Frame.TheVariants.{Args, Testing, AfterStmt, Block, AfterItem, Evaluated, Showing, Body}
@@ -30,6 +30,8 @@ brought (Spawn child p) = child ∷ []
 brought (Fetch task o p) = in_outcome o
 brought (WorldFull p) = []
 brought (TaskFull p) = []
+brought (Del at_place p) = []
+brought (Absent at_place p) = []
 
 -- the tasks that are known after a trace
 abbrev pub known_tasks : Option Start → List TraceItem → List ℕ
@@ -46,6 +48,8 @@ IsFetchOf known (Spawn child p) = Unit {0}
 IsFetchOf known (Fetch task o p) = Contains known task
 IsFetchOf known (WorldFull p) = Unit {0}
 IsFetchOf known (TaskFull p) = Unit {0}
+IsFetchOf known (Del at_place p) = Unit {0}
+IsFetchOf known (Absent at_place p) = Unit {0}
 
 -- each task that items fetch is one of these, or one that an item before it brought
 abbrev pub FetchesOf : List ℕ → List TraceItem → Type 0

@@ -69,6 +69,8 @@ step_words (S.Spawn child at) = codes "spawn" ++ spaced (child ∷ at ∷ [])
 step_words (S.Fetch task at) = codes "fetch" ++ spaced (task ∷ at ∷ [])
 step_words (S.WorldFull at) = codes "worldfull" ++ spaced (at ∷ [])
 step_words (S.TaskFull at) = codes "taskfull" ++ spaced (at ∷ [])
+step_words (S.Del place at) = codes "del" ++ spaced (place ∷ at ∷ [])
+step_words (S.Absent place at) = codes "absent" ++ spaced (place ∷ at ∷ [])
 
 pub step_line_is : (s : Step) → step_line s ≡ step_words s ++ newline ∷ []
 step_line_is (S.Look world at) = number_line_is (codes "look") (world ∷ at ∷ [])
@@ -77,6 +79,8 @@ step_line_is (S.Spawn child at) = number_line_is (codes "spawn") (child ∷ at �
 step_line_is (S.Fetch task at) = number_line_is (codes "fetch") (task ∷ at ∷ [])
 step_line_is (S.WorldFull at) = number_line_is (codes "worldfull") (at ∷ [])
 step_line_is (S.TaskFull at) = number_line_is (codes "taskfull") (at ∷ [])
+step_line_is (S.Del place at) = number_line_is (codes "del") (place ∷ at ∷ [])
+step_line_is (S.Absent place at) = number_line_is (codes "absent") (place ∷ at ∷ [])
 
 pub two_small : (a b : ℕ) → a ≤ MOST_NUMBER → b ≤ MOST_NUMBER → AreSmall (a ∷ b ∷ [])
 two_small a b l m = (small_one a l, (small_one b m, tt))
@@ -88,6 +92,8 @@ step_lacks (S.Spawn child at) (l, m) = words_lack (codes "spawn") (child ∷ at 
 step_lacks (S.Fetch task at) (l, m) = words_lack (codes "fetch") (task ∷ at ∷ []) refl (two_small task at l m)
 step_lacks (S.WorldFull at) l = words_lack (codes "worldfull") (at ∷ []) refl (small_one at l, tt)
 step_lacks (S.TaskFull at) l = words_lack (codes "taskfull") (at ∷ []) refl (small_one at l, tt)
+step_lacks (S.Del place at) l = absurd l
+step_lacks (S.Absent place at) l = absurd l
 
 pub record IsStepOf (line : List ℕ) (s : Step) : Type 0 where
   pub fits : IsStep s
@@ -139,6 +145,8 @@ step_again (S.Spawn child at) (l, m) = two_step_again (codes "spawn") (λ a b. S
 step_again (S.Fetch task at) (l, m) = two_step_again (codes "fetch") (λ a b. S.Fetch a b) task at refl l m (λ fields. refl)
 step_again (S.WorldFull at) l = full_again (codes "worldfull") (λ a. S.WorldFull a) at refl l (λ fields. refl)
 step_again (S.TaskFull at) l = full_again (codes "taskfull") (λ a. S.TaskFull a) at refl l (λ fields. refl)
+step_again (S.Del place at) l = absurd l
+step_again (S.Absent place at) l = absurd l
 
 -- ---- texts
 

@@ -86,6 +86,7 @@ lines_of (E.Begin fuel) = (codes "begin" ++ spaced (fuel ∷ [])) ∷ []
 lines_of (E.Key number function tuple) = (codes "key" ++ space ∷ key_fields number function tuple) ∷ []
 lines_of (E.Fill key site first) = (codes "fill" ++ spaced (key ∷ site ∷ first ∷ [])) ∷ []
 lines_of (E.Def task site) = (codes "def" ++ spaced (task ∷ site ∷ [])) ∷ []
+lines_of (E.Del task place) = (codes "del" ++ spaced (task ∷ place ∷ [])) ∷ []
 lines_of (E.Spawn task child place) = (codes "spawn" ++ spaced (task ∷ child ∷ place ∷ [])) ∷ []
 lines_of (E.Done task calls trace out ending) = done_lines task calls trace out ending
 
@@ -111,6 +112,7 @@ joined_entry (E.Begin fuel) = sym (number_line_is (codes "begin") (fuel ∷ []))
 joined_entry (E.Key number function tuple) = joined_key number function tuple
 joined_entry (E.Fill key site first) = sym (number_line_is (codes "fill") (key ∷ site ∷ first ∷ []))
 joined_entry (E.Def task site) = sym (number_line_is (codes "def") (task ∷ site ∷ []))
+joined_entry (E.Del task place) = sym (number_line_is (codes "del") (task ∷ place ∷ []))
 joined_entry (E.Spawn task child place) = sym (number_line_is (codes "spawn") (task ∷ child ∷ place ∷ []))
 joined_entry (E.Done task calls trace out ending) = joined_done task calls trace out ending
 
@@ -124,6 +126,7 @@ entry_free (E.Begin fuel) h = absurd h
 entry_free (E.Key number function tuple) h = (key_free number function tuple h, tt)
 entry_free (E.Fill key site first) h = (words_lack (codes "fill") (key ∷ site ∷ first ∷ []) refl (three_small key site first h.0 h.1 (small_one first h.2)), tt)
 entry_free (E.Def task site) h = (words_lack (codes "def") (task ∷ site ∷ []) refl (two_small task site h.0 h.1), tt)
+entry_free (E.Del task place) h = absurd h
 entry_free (E.Spawn task child place) h = (words_lack (codes "spawn") (task ∷ child ∷ place ∷ []) refl (three_small task child place h.0 h.1 (small_one place h.2)), tt)
 entry_free (E.Done task calls trace out ending) h = (
   words_lack (codes "done") (task ∷ calls ∷ length trace ∷ []) refl (three_small task calls (length trace) h.task_small h.calls_small (omega (arith, h.items))),
@@ -191,6 +194,7 @@ entry_run es (E.Key number function tuple) h = single (codes "key" ++ space ∷ 
 entry_run es (E.Fill key site first) h =
     single (codes "fill" ++ spaced (key ∷ site ∷ first ∷ [])) (at_entry es) (at_entry (es ++ E.Fill key site first ∷ [])) (three_run es (codes "fill") MOST_NUMBER key site first (λ a b c. at_entry (es ++ E.Fill a b c ∷ [])) refl (omega arith) h.0 h.1 h.2 (λ fields. refl))
 entry_run es (E.Def task site) h = single (codes "def" ++ spaced (task ∷ site ∷ [])) (at_entry es) (at_entry (es ++ E.Def task site ∷ [])) (def_run es task site h.0 h.1)
+entry_run es (E.Del task place) h = absurd h
 entry_run es (E.Spawn task child place) h =
     single (codes "spawn" ++ spaced (task ∷ child ∷ place ∷ [])) (at_entry es) (at_entry (es ++ E.Spawn task child place ∷ [])) (three_run es (codes "spawn") MOST_NUMBER task child place (λ a b c. at_entry (es ++ E.Spawn a b c ∷ [])) refl (omega arith) h.0 h.1 h.2 (λ fields. refl))
 entry_run es (E.Done task calls trace out ending) h = done_run es task calls trace out ending h

@@ -172,6 +172,7 @@ entry_long (E.Begin fuel) = omega arith
 entry_long (E.Key number function tuple) = omega arith
 entry_long (E.Fill key site first) = omega arith
 entry_long (E.Def task site) = omega arith
+entry_long (E.Del task place) = omega arith
 entry_long (E.Spawn task child place) = omega arith
 entry_long (E.Done task calls trace output ending) = omega arith
 

@@ -89,6 +89,7 @@ whole_run (E.Begin fuel ∷ es) (h, hs) l =
 whole_run (E.Key number function tuple ∷ es) (h, hs) l = absurd h
 whole_run (E.Fill key site first ∷ es) (h, hs) l = absurd h
 whole_run (E.Def task site ∷ es) (h, hs) l = absurd h
+whole_run (E.Del task place ∷ es) (h, hs) l = absurd h
 whole_run (E.Spawn task child place ∷ es) (h, hs) l = absurd h
 whole_run (E.Done task calls trace output ending ∷ es) (h, hs) l = absurd h
 
@@ -99,6 +100,7 @@ text_free (E.Begin fuel ∷ es) (h, hs) l =
 text_free (E.Key number function tuple ∷ es) (h, hs) l = absurd h
 text_free (E.Fill key site first ∷ es) (h, hs) l = absurd h
 text_free (E.Def task site ∷ es) (h, hs) l = absurd h
+text_free (E.Del task place ∷ es) (h, hs) l = absurd h
 text_free (E.Spawn task child place ∷ es) (h, hs) l = absurd h
 text_free (E.Done task calls trace output ending ∷ es) (h, hs) l = absurd h
 

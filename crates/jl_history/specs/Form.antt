@@ -33,7 +33,7 @@ pub record IsKey (number : ℕ) (function tuple : List ℕ) : Type 0 where
   pub one_word : lacks 32 function ≡ true
   pub types : IsText tuple
 
--- what may be told of an item of a trace
+-- What may be told of an item of a trace. A deletion is never told: this is the form for programs that have no place of one.
 abbrev pub IsStep : Step → Type 0
 IsStep (S.Look world at) = (world ≤ MOST_NUMBER) × (at ≤ MOST_NUMBER)
 IsStep (S.Def site at) = (site ≤ MOST_NUMBER) × (at ≤ MOST_NUMBER)
@@ -41,6 +41,8 @@ IsStep (S.Spawn child at) = (child ≤ MOST_NUMBER) × (at ≤ MOST_NUMBER)
 IsStep (S.Fetch task at) = (task ≤ MOST_NUMBER) × (at ≤ MOST_NUMBER)
 IsStep (S.WorldFull at) = at ≤ MOST_NUMBER
 IsStep (S.TaskFull at) = at ≤ MOST_NUMBER
+IsStep (S.Del place at) = ⊥
+IsStep (S.Absent place at) = ⊥
 
 -- what may be told of a trace
 abbrev pub AreSteps : List Step → Type 0
@@ -67,6 +69,7 @@ IsEntry (E.Begin fuel) = ⊥
 IsEntry (E.Key number function tuple) = IsKey number function tuple
 IsEntry (E.Fill key site first) = (key ≤ MOST_NUMBER) × (site ≤ MOST_NUMBER) × (first ≤ MOST_NUMBER)
 IsEntry (E.Def task site) = (task ≤ MOST_NUMBER) × (site ≤ MOST_NUMBER)
+IsEntry (E.Del task place) = ⊥
 IsEntry (E.Spawn task child place) = (task ≤ MOST_NUMBER) × (child ≤ MOST_NUMBER) × (place ≤ MOST_NUMBER)
 IsEntry (E.Done task calls trace output ending) = IsDone task calls trace output ending
 
@@ -81,6 +84,7 @@ IsBegin (E.Begin fuel) = fuel ≤ MOST_FUEL
 IsBegin (E.Key number function tuple) = ⊥
 IsBegin (E.Fill key site first) = ⊥
 IsBegin (E.Def task site) = ⊥
+IsBegin (E.Del task place) = ⊥
 IsBegin (E.Spawn task child place) = ⊥
 IsBegin (E.Done task calls trace output ending) = ⊥
 

@@ -53,8 +53,8 @@ module _ (P : Program) (es : List Event) (task : ℕ) (items : List TraceItem) (
   grew_on : (p n : ℕ) → seen ≤ p → Grew here (on p n)
   grew_on p n le = record { program = refl; places = refl; task = refl; start = refl; first = refl; world = omega arith; seen = le; agrees = λ xs g. g; learnt = λ i h. h }
 
-  true_item : (p n : ℕ) (i : TraceItem) → IsTrueOf es task i → Told (on p n) i
-  true_item p n i h = record { learnt = λ xs g. true_goes es xs task i h g; right = λ xs g. true_goes es xs task i h g }
+  true_item : (p n : ℕ) (i : TraceItem) → IsTrueOf P es task i → Told (on p n) i
+  true_item p n i h = record { learnt = λ xs g. true_goes P es xs task i h g; right = λ xs g. true_goes P es xs task i h g }
 
   stretch_here : (x : TraceItem) → next_item alone items told ≡ Some x → IsLeft alone es seen left → IsStretch es seen (x ∷ drop (told + 1) items)
   stretch_here x h s =
@@ -186,9 +186,9 @@ module _ (P : Program) (es : List Event) (task : ℕ) (items : List TraceItem) (
   pub looked_off : (w n : ℕ) → look_of (next_item alone items told) ≡ None → seen ≤ length es → w ≡ world_of es → n ≡ length es → Looked here (off n (looks + 1)) w n
   looked_off w n h le world len =
       let x : TraceItem = Look w n in
-      let true_here : IsTrueOf es task x = (omega (arith, len), ap world_of (whole n len) ∙ sym world) in record {
+      let true_here : IsTrueOf P es task x = (omega (arith, len), ap world_of (whole n len) ∙ sym world) in record {
         grew = grew_off n (looks + 1) (omega (arith, le, len));
-        told = record { learnt = λ xs g. true_goes es xs task x true_here g; right = λ xs g. true_goes es xs task x true_here g };
+        told = record { learnt = λ xs g. true_goes P es xs task x true_here g; right = λ xs g. true_goes P es xs task x true_here g };
         length = refl;
         low = omega (arith, world);
         high = omega (arith, world);
@@ -206,8 +206,8 @@ module _ (P : Program) (es : List Event) (task : ℕ) (items : List TraceItem) (
     pub world_off_told : WorldsFull here (off n looks)
     world_off_told =
         let x : TraceItem = WorldFull n in
-        let true_here : IsTrueOf es task x = (omega (arith, len), ap world_of (whole n len) ∙ last) in record {
-          told = record { learnt = λ xs g. true_goes es xs task x true_here g; right = λ xs g. true_goes es xs task x true_here g };
+        let true_here : IsTrueOf P es task x = (omega (arith, len), ap world_of (whole n len) ∙ last) in record {
+          told = record { learnt = λ xs g. true_goes P es xs task x true_here g; right = λ xs g. true_goes P es xs task x true_here g };
           looks = refl;
           own = refl;
           starts = refl;
@@ -225,8 +225,8 @@ module _ (P : Program) (es : List Event) (task : ℕ) (items : List TraceItem) (
     pub tasks_off_told : TasksFull here (off n looks)
     tasks_off_told =
         let x : TraceItem = TaskFull n in
-        let true_here : IsTrueOf es task x = (omega (arith, len), ap tasks_of (whole n len) ∙ last) in record {
-          told = record { learnt = λ xs g. true_goes es xs task x true_here g; right = λ xs g. true_goes es xs task x true_here g };
+        let true_here : IsTrueOf P es task x = (omega (arith, len), ap tasks_of (whole n len) ∙ last) in record {
+          told = record { learnt = λ xs g. true_goes P es xs task x true_here g; right = λ xs g. true_goes P es xs task x true_here g };
           looks = refl;
           own = refl;
           starts = refl;
@@ -244,8 +244,8 @@ module _ (P : Program) (es : List Event) (task : ℕ) (items : List TraceItem) (
     pub ended_off_told : Fetched here (off n looks) of outcome
     ended_off_told =
         let x : TraceItem = Fetch of outcome n in
-        let true_here : IsTrueOf es task x = (omega (arith, len), subst (λ xs. EndedSo (done_of of xs) outcome) (sym (whole n len)) ended) in record {
-          told = record { learnt = λ xs g. true_goes es xs task x true_here g; right = λ xs g. true_goes es xs task x true_here g };
+        let true_here : IsTrueOf P es task x = (omega (arith, len), subst (λ xs. EndedSo (done_of of xs) outcome) (sym (whole n len)) ended) in record {
+          told = record { learnt = λ xs g. true_goes P es xs task x true_here g; right = λ xs g. true_goes P es xs task x true_here g };
           looks = refl;
           own = refl;
           starts = refl;
@@ -306,7 +306,7 @@ module _ (P : Program) (es : List Event) (task : ℕ) (items : List TraceItem) (
     pub define_made : Defined here after_def site
     define_made =
         let p : length (es ++ def ∷ []) - 1 ≡ length es = place_is def in
-        let there : (xs : List Event) → GoesOn (es ++ def ∷ []) xs → IsTrueOf xs task (Def site (length (es ++ def ∷ []) - 1)) = λ xs g. subst (λ n. slice_get xs n ≡ Some def) (sym p) (made_there def refl (λ q. refl) xs g) in record {
+        let there : (xs : List Event) → GoesOn (es ++ def ∷ []) xs → IsTrueOf P xs task (Def site (length (es ++ def ∷ []) - 1)) = λ xs g. subst (λ n. slice_get xs n ≡ Some def) (sym p) (made_there def refl (λ q. refl) xs g) in record {
           told = record { learnt = there; right = there };
           place = omega (arith, le, longer def refl (λ q. refl));
           looks = refl;
@@ -355,7 +355,7 @@ module _ (P : Program) (es : List Event) (task : ℕ) (items : List TraceItem) (
     pub spawn_made : Spawned here after_spawn (tasks_of es) start
     spawn_made =
         let p : length (es ++ spawn ∷ []) - 1 ≡ length es = place_is spawn in
-        let there : (xs : List Event) → GoesOn (es ++ spawn ∷ []) xs → IsTrueOf xs task (Spawn (tasks_of es) (length (es ++ spawn ∷ []) - 1)) = λ xs g. (start, subst (λ n. slice_get xs n ≡ Some spawn) (sym p) (made_there spawn apart_here firsts_here xs g)) in record {
+        let there : (xs : List Event) → GoesOn (es ++ spawn ∷ []) xs → IsTrueOf P xs task (Spawn (tasks_of es) (length (es ++ spawn ∷ []) - 1)) = λ xs g. (start, subst (λ n. slice_get xs n ≡ Some spawn) (sym p) (made_there spawn apart_here firsts_here xs g)) in record {
           told = record { learnt = there; right = there };
           place = omega (arith, le, longer spawn apart_here firsts_here);
           looks = refl;
@@ -383,13 +383,13 @@ module _ (P : Program) (es : List Event) (task : ℕ) (items : List TraceItem) (
     first_all [] = refl
     first_all (y ∷ ys) = ap (λ zs. y ∷ zs) (first_all ys)
 
-    true_then : IsTrueOf (es ++ done ∷ []) task (Fetch of ended.outcome (length (es ++ done ∷ [])))
+    true_then : IsTrueOf P (es ++ done ∷ []) task (Fetch of ended.outcome (length (es ++ done ∷ [])))
     true_then = (omega arith, subst (λ o. EndedSo o ended.outcome) (sym (ap (done_of of) (first_all (es ++ done ∷ [])) ∙ done_there)) refl)
 
     pub end_fetched : Fetched here after_done of ended.outcome
     end_fetched =
         let x : TraceItem = Fetch of ended.outcome (length (es ++ done ∷ [])) in record {
-          told = record { learnt = λ xs g. true_goes (es ++ done ∷ []) xs task x true_then g; right = λ xs g. true_goes (es ++ done ∷ []) xs task x true_then g };
+          told = record { learnt = λ xs g. true_goes P (es ++ done ∷ []) xs task x true_then g; right = λ xs g. true_goes P (es ++ done ∷ []) xs task x true_then g };
           looks = refl;
           own = own_later task es (done ∷ []) ∙ append-nil (own_events task 0 es);
           starts = starts_append task es (done ∷ []) ∙ append-nil (own_starts task es);
@@ -416,12 +416,14 @@ module _ (P : Program) (es : List Event) (task : ℕ) (items : List TraceItem) (
           some (Ev.Key key ∷ ys) = some ys
           some (Ev.Fill key site first ∷ ys) = some ys
           some (Ev.Def by site ∷ ys) = some ys
+          some (Ev.Del by place ∷ ys) = some ys
           some (Ev.Done by ended ∷ ys) = some ys
       tasks_first (Ev.Spawn by child start ∷ xs) (suc p) = let k = tasks_first xs p in omega (arith, k)
       tasks_first (Ev.Begin fuel ∷ xs) (suc p) = tasks_first xs p
       tasks_first (Ev.Key key ∷ xs) (suc p) = tasks_first xs p
       tasks_first (Ev.Fill key site first ∷ xs) (suc p) = tasks_first xs p
       tasks_first (Ev.Def by site ∷ xs) (suc p) = tasks_first xs p
+      tasks_first (Ev.Del by place ∷ xs) (suc p) = tasks_first xs p
       tasks_first (Ev.Done by ended ∷ xs) (suc p) = tasks_first xs p
 
   -- ---- a choice
@@ -432,7 +434,7 @@ module _ (P : Program) (es : List Event) (task : ℕ) (items : List TraceItem) (
   by_site f w ts (C.Method d) le o s xs (rest, q) = (
     d,
     subst (λ ys. Selects P ys f ts w (C.Method d)) (sym q) (selects_on P es rest f ts w (C.Method d) le s),
-    ap (λ ys. site_of ys d) q ∙ site_more P es rest d o.0 (omega (arith, o.1, le)),
+    ap (λ ys. site_of ys d) q ∙ site_more P es rest d (omega (arith, o.1, le)),
   )
 
   pub right : (f w : ℕ) (ts : List Ty) (c : Choice) → w ≤ world_of es → IsOfWorld c w → Selects P es f ts w c → IsRight here f ts w c

@@ -10,13 +10,13 @@ use Rattle.jl_calculus.specs.declared.history.Outcome.{Outcome}
 use Rattle.jl_calculus.specs.declared.history.Outcome.TheVariants as O
 use Rattle.jl_calculus.specs.declared.history.Record.{Record}
 use Rattle.jl_calculus.specs.declared.history.TraceItem.{TraceItem}
-use Rattle.jl_calculus.specs.declared.history.TraceItem.TheVariants.{Look, Def, Spawn, Fetch, WorldFull, TaskFull}
+use Rattle.jl_calculus.specs.declared.history.TraceItem.TheVariants.{Look, Def, Del, Spawn, Fetch, WorldFull, TaskFull, Absent}
 use Rattle.jl_calculus.specs.Legal.{start_of}
 use Rattle.jl_calculus.specs.Past.{own_items, own_events, own_starts, tasks_of}
-use Rattle.jl_calculus.specs.Run.{Question, a_look, a_definition, a_spawn, a_fetch, halts}
+use Rattle.jl_calculus.specs.Run.{Question, a_look, a_definition, a_deletion, a_spawn, a_fetch, halts}
 use Rattle.jl_calculus.specs.ValidHistory.{IsValidOutcome}
-use Rattle.jl_calculus.specs.World.{defined, world_of}
-use Rattle.jl_calculus.proofs.GrowthLemmas.{defined_append, first_at_most}
+use Rattle.jl_calculus.specs.World.{changed, world_of}
+use Rattle.jl_calculus.proofs.GrowthLemmas.{changed_append, first_at_most}
 use Rattle.jl_point.specs.declared.point.Work.TheVariants as W
 use Rattle.jl_point.specs.Questions.{IsAnswerTo, GoesOnFrom}
 use Rattle.jl_dispatcher.specs.Knows.{Knows}
@@ -54,6 +54,7 @@ made_def task n site p es (Ev.Def t z ∷ []) by e =
 made_def task n site p es (Ev.Spawn t child start ∷ []) by e =
     let same : Def site p ∷ [] ≡ Spawn child n ∷ [] = e ∙ subst (λ u. own_events task n (Ev.Spawn u child start ∷ []) ≡ Spawn child n ∷ []) (sym by.0) (own_made_spawn task n child start) in absurd (cc (same))
 made_def task n site p es (Ev.Done t ended ∷ []) by e = absurd (cc (e))
+made_def task n site p es (Ev.Del t at ∷ []) by e = absurd by
 made_def task n site p es (Ev.Begin fuel ∷ []) by e = absurd by
 made_def task n site p es (Ev.Key key ∷ []) by e = absurd by
 made_def task n site p es (Ev.Fill key z first ∷ []) by e = absurd by
@@ -70,19 +71,21 @@ made_spawn task n child p es (Ev.Spawn t c start ∷ []) by e =
 made_spawn task n child p es (Ev.Def t z ∷ []) by e =
     let same : Spawn child p ∷ [] ≡ Def z n ∷ [] = e ∙ subst (λ u. own_events task n (Ev.Def u z ∷ []) ≡ Def z n ∷ []) (sym by) (own_made_def task n z) in absurd (cc (same))
 made_spawn task n child p es (Ev.Done t ended ∷ []) by e = absurd (cc (e))
+made_spawn task n child p es (Ev.Del t at ∷ []) by e = absurd by
 made_spawn task n child p es (Ev.Begin fuel ∷ []) by e = absurd by
 made_spawn task n child p es (Ev.Key key ∷ []) by e = absurd by
 made_spawn task n child p es (Ev.Fill key z first ∷ []) by e = absurd by
 made_spawn task n child p es (x ∷ y ∷ made) by e = absurd by
 
 -- where nothing is its own, the worlds and the tasks are as they were
-made_none : (task n : ℕ) (es made : List Event) → AreMadeBy task es made → [] ≡ own_events task n made → (defined made ≡ []) × (tasks_of made ≡ 1)
+made_none : (task n : ℕ) (es made : List Event) → AreMadeBy task es made → [] ≡ own_events task n made → (changed made ≡ []) × (tasks_of made ≡ 1)
 made_none task n es [] by e = (refl, refl)
 made_none task n es (Ev.Done t ended ∷ []) by e = (refl, refl)
 made_none task n es (Ev.Def t z ∷ []) by e =
     let same : [] ≡ Def z n ∷ [] = e ∙ subst (λ u. own_events task n (Ev.Def u z ∷ []) ≡ Def z n ∷ []) (sym by) (own_made_def task n z) in absurd (cc (same))
 made_none task n es (Ev.Spawn t c start ∷ []) by e =
     let same : [] ≡ Spawn c n ∷ [] = e ∙ subst (λ u. own_events task n (Ev.Spawn u c start ∷ []) ≡ Spawn c n ∷ []) (sym by.0) (own_made_spawn task n c start) in absurd (cc (same))
+made_none task n es (Ev.Del t at ∷ []) by e = absurd by
 made_none task n es (Ev.Begin fuel ∷ []) by e = absurd by
 made_none task n es (Ev.Key key ∷ []) by e = absurd by
 made_none task n es (Ev.Fill key z first ∷ []) by e = absurd by
@@ -98,6 +101,7 @@ is_def site task es [] by h = absurd h
 is_def site task es (Ev.Def t z ∷ []) by h = λ i. Ev.Def (by i) (h i) ∷ []
 is_def site task es (Ev.Spawn t c start ∷ []) by h = absurd h
 is_def site task es (Ev.Done t ended ∷ []) by h = absurd h
+is_def site task es (Ev.Del t at ∷ []) by h = absurd h
 is_def site task es (Ev.Begin fuel ∷ []) by h = absurd h
 is_def site task es (Ev.Key key ∷ []) by h = absurd h
 is_def site task es (Ev.Fill key z first ∷ []) by h = absurd h
@@ -108,6 +112,7 @@ is_spawn place task es [] by h = absurd h
 is_spawn place task es (Ev.Spawn t c start ∷ []) by h = (start, (λ i. Ev.Spawn (by.0 i) (by.1 i) start ∷ []), h)
 is_spawn place task es (Ev.Def t z ∷ []) by h = absurd h
 is_spawn place task es (Ev.Done t ended ∷ []) by h = absurd h
+is_spawn place task es (Ev.Del t at ∷ []) by h = absurd h
 is_spawn place task es (Ev.Begin fuel ∷ []) by h = absurd h
 is_spawn place task es (Ev.Key key ∷ []) by h = absurd h
 is_spawn place task es (Ev.Fill key z first ∷ []) by h = absurd h
@@ -123,11 +128,15 @@ same_question a_look (Look w p) (Spawn c r) a b = absurd b
 same_question a_look (Look w p) (Fetch t o r) a b = absurd b
 same_question a_look (Look w p) (WorldFull r) a b = absurd b
 same_question a_look (Look w p) (TaskFull r) a b = absurd b
+same_question a_look (Look w p) (Del u r) a b = absurd b
+same_question a_look (Look w p) (Absent u r) a b = absurd b
 same_question a_look (Def s p) j a b = absurd a
 same_question a_look (Spawn c p) j a b = absurd a
 same_question a_look (Fetch t o p) j a b = absurd a
 same_question a_look (WorldFull p) j a b = absurd a
 same_question a_look (TaskFull p) j a b = absurd a
+same_question a_look (Del s p) j a b = absurd a
+same_question a_look (Absent s p) j a b = absurd a
 same_question (a_definition z) (Def s p) (Def u r) a b = a ∙ sym b
 same_question (a_definition z) (Def s p) (WorldFull r) a b = tt
 same_question (a_definition z) (WorldFull p) (Def u r) a b = tt
@@ -136,14 +145,49 @@ same_question (a_definition z) (Def s p) (Look v r) a b = absurd b
 same_question (a_definition z) (Def s p) (Spawn c r) a b = absurd b
 same_question (a_definition z) (Def s p) (Fetch t o r) a b = absurd b
 same_question (a_definition z) (Def s p) (TaskFull r) a b = absurd b
+same_question (a_definition z) (Def s p) (Del u r) a b = absurd b
+same_question (a_definition z) (Def s p) (Absent u r) a b = absurd b
 same_question (a_definition z) (WorldFull p) (Look v r) a b = absurd b
 same_question (a_definition z) (WorldFull p) (Spawn c r) a b = absurd b
 same_question (a_definition z) (WorldFull p) (Fetch t o r) a b = absurd b
 same_question (a_definition z) (WorldFull p) (TaskFull r) a b = absurd b
+same_question (a_definition z) (WorldFull p) (Del u r) a b = absurd b
+same_question (a_definition z) (WorldFull p) (Absent u r) a b = absurd b
 same_question (a_definition z) (Look w p) j a b = absurd a
 same_question (a_definition z) (Spawn c p) j a b = absurd a
 same_question (a_definition z) (Fetch t o p) j a b = absurd a
 same_question (a_definition z) (TaskFull p) j a b = absurd a
+same_question (a_definition z) (Del s p) j a b = absurd a
+same_question (a_definition z) (Absent s p) j a b = absurd a
+same_question (a_deletion z) (Del s p) (Del u r) a b = a ∙ sym b
+same_question (a_deletion z) (Del s p) (Absent u r) a b = a ∙ sym b
+same_question (a_deletion z) (Del s p) (WorldFull r) a b = tt
+same_question (a_deletion z) (Absent s p) (Del u r) a b = a ∙ sym b
+same_question (a_deletion z) (Absent s p) (Absent u r) a b = a ∙ sym b
+same_question (a_deletion z) (Absent s p) (WorldFull r) a b = tt
+same_question (a_deletion z) (WorldFull p) (Del u r) a b = tt
+same_question (a_deletion z) (WorldFull p) (Absent u r) a b = tt
+same_question (a_deletion z) (WorldFull p) (WorldFull r) a b = tt
+same_question (a_deletion z) (Del s p) (Look v r) a b = absurd b
+same_question (a_deletion z) (Del s p) (Def u r) a b = absurd b
+same_question (a_deletion z) (Del s p) (Spawn c r) a b = absurd b
+same_question (a_deletion z) (Del s p) (Fetch t o r) a b = absurd b
+same_question (a_deletion z) (Del s p) (TaskFull r) a b = absurd b
+same_question (a_deletion z) (Absent s p) (Look v r) a b = absurd b
+same_question (a_deletion z) (Absent s p) (Def u r) a b = absurd b
+same_question (a_deletion z) (Absent s p) (Spawn c r) a b = absurd b
+same_question (a_deletion z) (Absent s p) (Fetch t o r) a b = absurd b
+same_question (a_deletion z) (Absent s p) (TaskFull r) a b = absurd b
+same_question (a_deletion z) (WorldFull p) (Look v r) a b = absurd b
+same_question (a_deletion z) (WorldFull p) (Def u r) a b = absurd b
+same_question (a_deletion z) (WorldFull p) (Spawn c r) a b = absurd b
+same_question (a_deletion z) (WorldFull p) (Fetch t o r) a b = absurd b
+same_question (a_deletion z) (WorldFull p) (TaskFull r) a b = absurd b
+same_question (a_deletion z) (Look w p) j a b = absurd a
+same_question (a_deletion z) (Def s p) j a b = absurd a
+same_question (a_deletion z) (Spawn c p) j a b = absurd a
+same_question (a_deletion z) (Fetch t o p) j a b = absurd a
+same_question (a_deletion z) (TaskFull p) j a b = absurd a
 same_question (a_spawn z) (Spawn c p) (Spawn d r) a b = tt
 same_question (a_spawn z) (Spawn c p) (TaskFull r) a b = tt
 same_question (a_spawn z) (TaskFull p) (Spawn d r) a b = tt
@@ -152,25 +196,35 @@ same_question (a_spawn z) (Spawn c p) (Look v r) a b = absurd b
 same_question (a_spawn z) (Spawn c p) (Def u r) a b = absurd b
 same_question (a_spawn z) (Spawn c p) (Fetch t o r) a b = absurd b
 same_question (a_spawn z) (Spawn c p) (WorldFull r) a b = absurd b
+same_question (a_spawn z) (Spawn c p) (Del u r) a b = absurd b
+same_question (a_spawn z) (Spawn c p) (Absent u r) a b = absurd b
 same_question (a_spawn z) (TaskFull p) (Look v r) a b = absurd b
 same_question (a_spawn z) (TaskFull p) (Def u r) a b = absurd b
 same_question (a_spawn z) (TaskFull p) (Fetch t o r) a b = absurd b
 same_question (a_spawn z) (TaskFull p) (WorldFull r) a b = absurd b
+same_question (a_spawn z) (TaskFull p) (Del u r) a b = absurd b
+same_question (a_spawn z) (TaskFull p) (Absent u r) a b = absurd b
 same_question (a_spawn z) (Look w p) j a b = absurd a
 same_question (a_spawn z) (Def s p) j a b = absurd a
 same_question (a_spawn z) (Fetch t o p) j a b = absurd a
 same_question (a_spawn z) (WorldFull p) j a b = absurd a
+same_question (a_spawn z) (Del s p) j a b = absurd a
+same_question (a_spawn z) (Absent s p) j a b = absurd a
 same_question (a_fetch z) (Fetch t o p) (Fetch u v r) a b = a ∙ sym b
 same_question (a_fetch z) (Fetch t o p) (Look v r) a b = absurd b
 same_question (a_fetch z) (Fetch t o p) (Def u r) a b = absurd b
 same_question (a_fetch z) (Fetch t o p) (Spawn c r) a b = absurd b
 same_question (a_fetch z) (Fetch t o p) (WorldFull r) a b = absurd b
 same_question (a_fetch z) (Fetch t o p) (TaskFull r) a b = absurd b
+same_question (a_fetch z) (Fetch t o p) (Del u r) a b = absurd b
+same_question (a_fetch z) (Fetch t o p) (Absent u r) a b = absurd b
 same_question (a_fetch z) (Look w p) j a b = absurd a
 same_question (a_fetch z) (Def s p) j a b = absurd a
 same_question (a_fetch z) (Spawn c p) j a b = absurd a
 same_question (a_fetch z) (WorldFull p) j a b = absurd a
 same_question (a_fetch z) (TaskFull p) j a b = absurd a
+same_question (a_fetch z) (Del s p) j a b = absurd a
+same_question (a_fetch z) (Absent s p) j a b = absurd a
 
 -- where a run goes on there, with an item that is told or at the question itself
 goes_on : (u : Option Question) (q : Question) (i : TraceItem) (left : List TraceItem) → IsAnswerTo q i → (Begins i left → ⊥) → GoesOnFrom u q left → (left ≡ []) × halts u q
@@ -272,6 +326,8 @@ module _ (P : Program) (m0 : Machine) (d0 : Led) (m : Machine) (d : Led) (a : Is
       at (Fetch t o p) h = absurd (cc (h))
       at (WorldFull p) h = absurd (cc (h))
       at (TaskFull p) h = absurd (cc (h))
+      at (Del z p) h = absurd (cc (h))
+      at (Absent z p) h = absurd (cc (h))
 
   def_question : (site : ℕ) → made ≡ Ev.Def task site ∷ [] → a.question ≡ a_definition site
   def_question site e = at a.question (subst (IsAnswerTo a.question) (def_item site e) a.answers)
@@ -280,6 +336,7 @@ module _ (P : Program) (m0 : Machine) (d0 : Led) (m : Machine) (d : Led) (a : Is
       at a_look h = absurd h
       at (a_definition s) h = ap a_definition (sym h)
       at (a_spawn s) h = absurd h
+      at (a_deletion z) h = absurd h
       at (a_fetch t) h = absurd h
 
   -- what it asked was this definition, so it was made, where the world is not the last
@@ -293,14 +350,16 @@ module _ (P : Program) (m0 : Machine) (d0 : Led) (m : Machine) (d : Led) (a : Is
           let full = (l d.past.1 (goes_self d.past.1)).1 in
           let most = first_at_most d.past.1 p in
           let same_world = ap world_of a.made.2 in
-          let more = ap length (defined_append es made) in
-          let len = length-append (defined es) (defined made) in
-          let zero_more : length (defined made) ≡ 0 = ap length none in
+          let more = ap length (changed_append es made) in
+          let len = length-append (changed es) (changed made) in
+          let zero_more : length (changed made) ≡ 0 = ap length none in
           absurd (omega (arith, room, full, most, same_world, more, len, zero_more))
       at (Look w p) h e l = absurd h
       at (Spawn c p) h e l = absurd h
       at (Fetch t o p) h e l = absurd h
       at (TaskFull p) h e l = absurd h
+      at (Del z p) h e l = absurd h
+      at (Absent z p) h e l = absurd h
 
   pub away_definition : (site : ℕ) (answer : Bool) → world_of es < 65535 → left_of d ≡ [] → IsTrue answer ↔ IsDefAt site (slice_get d.past.1 (length es)) → TellsDefinition P es task (fuel_of m0) (whole_trace m0 d0) site answer
   away_definition site answer room none told xs g = (
@@ -334,6 +393,8 @@ module _ (P : Program) (m0 : Machine) (d0 : Led) (m : Machine) (d : Led) (a : Is
       at (Fetch t o p) h = absurd (cc (h))
       at (WorldFull p) h = absurd (cc (h))
       at (TaskFull p) h = absurd (cc (h))
+      at (Del z p) h = absurd (cc (h))
+      at (Absent z p) h = absurd (cc (h))
 
   spawn_question : (start : Start) → made ≡ Ev.Spawn task (tasks_of es) start ∷ [] → a.question ≡ a_spawn start
   spawn_question start e = at a.question (subst (IsAnswerTo a.question) (spawn_item start e) a.answers) (subst (λ i. StartsJoin a.question i (own_starts task es) (own_starts d.task d.past.1)) (spawn_item start e) a.joins)
@@ -347,6 +408,7 @@ module _ (P : Program) (m0 : Machine) (d0 : Led) (m : Machine) (d : Led) (a : Is
       at a_look h j = absurd h
       at (a_definition s) h j = absurd h
       at (a_spawn s) h j = let one : s ∷ [] ≡ start ∷ [] = cancel_starts (own_starts task es) (s ∷ []) (start ∷ []) (sym j ∙ starts_then) in ap a_spawn (cc (one))
+      at (a_deletion z) h j = absurd h
       at (a_fetch t) h j = absurd h
 
   -- what it asked was a spawn from this start, so the task was started, where there is room
@@ -361,12 +423,14 @@ module _ (P : Program) (m0 : Machine) (d0 : Led) (m : Machine) (d : Led) (a : Is
       tasks_first (Ev.Key key ∷ ys) zero = tasks_first ys zero
       tasks_first (Ev.Fill key z first ∷ ys) zero = tasks_first ys zero
       tasks_first (Ev.Def t z ∷ ys) zero = tasks_first ys zero
+      tasks_first (Ev.Del t z ∷ ys) zero = tasks_first ys zero
       tasks_first (Ev.Done t ended ∷ ys) zero = tasks_first ys zero
       tasks_first (Ev.Spawn t c s ∷ ys) (suc p) = let k = tasks_first ys p in omega (arith, k)
       tasks_first (Ev.Begin fuel ∷ ys) (suc p) = tasks_first ys p
       tasks_first (Ev.Key key ∷ ys) (suc p) = tasks_first ys p
       tasks_first (Ev.Fill key z first ∷ ys) (suc p) = tasks_first ys p
       tasks_first (Ev.Def t z ∷ ys) (suc p) = tasks_first ys p
+      tasks_first (Ev.Del t z ∷ ys) (suc p) = tasks_first ys p
       tasks_first (Ev.Done t ended ∷ ys) (suc p) = tasks_first ys p
 
       at : (i : TraceItem) → IsAnswerTo (a_spawn start) i → own_items (i ∷ []) ≡ own_events task (length es) made → (knows_of d).learnt i → (s : Start) × (made ≡ Ev.Spawn task (tasks_of es) s ∷ [])
@@ -382,6 +446,8 @@ module _ (P : Program) (m0 : Machine) (d0 : Led) (m : Machine) (d : Led) (a : Is
       at (Def s p) h e l = absurd h
       at (Fetch t o p) h e l = absurd h
       at (WorldFull p) h e l = absurd h
+      at (Del z p) h e l = absurd h
+      at (Absent z p) h e l = absurd h
 
   spawn_there : (place : ℕ) → IsSpawnAt place (slice_get d.past.1 (length es)) → (start : Start) × (made ≡ Ev.Spawn task (tasks_of es) start ∷ []) × (start.spawn ≡ place)
   spawn_there place h = is_spawn place task es made by (subst (IsSpawnAt place) (ap (λ ys. slice_get ys (length es)) a.made.2 ∙ after_es es made) h)

@@ -1,10 +1,11 @@
 -- What one more event leaves of what the events tell.
 use Rattle.std.proofs.Common.{◌≡◌, ◌∙◌, ap, sym, subst, refl, ℕ, suc, ◌+◌, ◌<◌, arith, Bool, true, false, cond, nat_eq, List, [], ◌∷◌, ◌++◌, length, append_assoc, append-nil, Some, None}
+use Rattle.jl_program.specs.declared.tree.Program.{Program}
 use Rattle.jl_program.specs.declared.tree.Start.{Start}
 use Rattle.jl_calculus.specs.declared.history.Event.{Event}
 use Rattle.jl_calculus.specs.declared.history.Event.TheVariants as Ev
 use Rattle.jl_calculus.specs.declared.history.TraceItem.{TraceItem}
-use Rattle.jl_calculus.specs.declared.history.TraceItem.TheVariants.{Def, Spawn}
+use Rattle.jl_calculus.specs.declared.history.TraceItem.TheVariants.{Def, Del, Spawn}
 use Rattle.jl_calculus.specs.declared.history.Record.{Record}
 use Rattle.jl_calculus.specs.Legal.{start_of, first_place}
 use Rattle.jl_calculus.specs.Past.{IsTrueOf, tasks_of, done_of, own_events, own_starts}
@@ -27,8 +28,8 @@ goes_self es = ([], sym (append-nil es))
 pub goes_less : (es made xs : List Event) → GoesOn (es ++ made) xs → GoesOn es xs
 goes_less es made xs (more, q) = (made ++ more, q ∙ append_assoc es made more)
 
-pub true_goes : (es xs : List Event) (task : ℕ) (i : TraceItem) → IsTrueOf es task i → GoesOn es xs → IsTrueOf xs task i
-true_goes es xs task i h (more, q) = subst (λ ys. IsTrueOf ys task i) (sym q) (true_on es more task i h)
+pub true_goes : (P : Program) (es xs : List Event) (task : ℕ) (i : TraceItem) → IsTrueOf P es task i → GoesOn es xs → IsTrueOf P xs task i
+true_goes P es xs task i h (more, q) = subst (λ ys. IsTrueOf P ys task i) (sym q) (true_on es more P task i h)
 
 -- ---- tasks
 
@@ -40,6 +41,7 @@ tasks_append (Ev.Begin fuel ∷ es) more = omega (arith, tasks_append es more)
 tasks_append (Ev.Key key ∷ es) more = omega (arith, tasks_append es more)
 tasks_append (Ev.Fill key site first ∷ es) more = omega (arith, tasks_append es more)
 tasks_append (Ev.Def by site ∷ es) more = omega (arith, tasks_append es more)
+tasks_append (Ev.Del by place ∷ es) more = omega (arith, tasks_append es more)
 tasks_append (Ev.Done by ended ∷ es) more = omega (arith, tasks_append es more)
 
 -- a task that has ended has ended as it did
@@ -50,6 +52,7 @@ done_stays t (Ev.Begin fuel ∷ es) more r h = done_stays t es more r h
 done_stays t (Ev.Key key ∷ es) more r h = done_stays t es more r h
 done_stays t (Ev.Fill key site first ∷ es) more r h = done_stays t es more r h
 done_stays t (Ev.Def by site ∷ es) more r h = done_stays t es more r h
+done_stays t (Ev.Del by place ∷ es) more r h = done_stays t es more r h
 done_stays t (Ev.Done by ended ∷ es) more r h = go (nat_eq by t) h (λ k. done_stays t es more r k)
   where
     go : (b : Bool) → cond b (Some ended) (done_of t es) ≡ Some r → (done_of t es ≡ Some r → done_of t (es ++ more) ≡ Some r) → cond b (Some ended) (done_of t (es ++ more)) ≡ Some r
@@ -63,6 +66,7 @@ done_later t (Ev.Begin fuel ∷ es) more h = done_later t es more h
 done_later t (Ev.Key key ∷ es) more h = done_later t es more h
 done_later t (Ev.Fill key site first ∷ es) more h = done_later t es more h
 done_later t (Ev.Def by site ∷ es) more h = done_later t es more h
+done_later t (Ev.Del by place ∷ es) more h = done_later t es more h
 done_later t (Ev.Done by ended ∷ es) more h = go (nat_eq by t) h (λ k. done_later t es more k)
   where
     go : (b : Bool) → cond b (Some ended) (done_of t es) ≡ None → (done_of t es ≡ None → done_of t (es ++ more) ≡ done_of t more) → cond b (Some ended) (done_of t (es ++ more)) ≡ done_of t more
@@ -76,6 +80,7 @@ start_before t (Ev.Begin fuel ∷ es) more h = start_before t es more h
 start_before t (Ev.Key key ∷ es) more h = start_before t es more h
 start_before t (Ev.Fill key site first ∷ es) more h = start_before t es more h
 start_before t (Ev.Def by site ∷ es) more h = start_before t es more h
+start_before t (Ev.Del by place ∷ es) more h = start_before t es more h
 start_before t (Ev.Done by ended ∷ es) more h = start_before t es more h
 start_before t (Ev.Spawn parent child start ∷ es) more h = ap (λ o. cond (nat_eq child t) (Some start) o) (start_before t es more h)
 
@@ -85,6 +90,7 @@ first_before t p (Ev.Begin fuel ∷ es) more h = first_before t (p + 1) es more 
 first_before t p (Ev.Key key ∷ es) more h = first_before t (p + 1) es more h
 first_before t p (Ev.Fill key site first ∷ es) more h = first_before t (p + 1) es more h
 first_before t p (Ev.Def by site ∷ es) more h = first_before t (p + 1) es more h
+first_before t p (Ev.Del by place ∷ es) more h = first_before t (p + 1) es more h
 first_before t p (Ev.Done by ended ∷ es) more h = first_before t (p + 1) es more h
 first_before t p (Ev.Spawn parent child start ∷ es) more h = ap (λ n. cond (nat_eq child t) (p + 1) n) (first_before t (p + 1) es more h)
 
@@ -102,6 +108,9 @@ own_append t p [] more = ap (λ n. own_events t n more) (omega arith)
 own_append t p (Ev.Def by site ∷ es) more =
     ap (λ (xs : List TraceItem). cond (nat_eq by t) (Def site p ∷ xs) xs) (shift t p (length es) more (own_events t (p + 1) es) (own_events t (p + 1) (es ++ more)) (own_append t (p + 1) es more))
     ∙ cond_more (nat_eq by t) (Def site p) (own_events t (p + 1) es) (own_events t (p + suc (length es)) more)
+own_append t p (Ev.Del by place ∷ es) more =
+    ap (λ (xs : List TraceItem). cond (nat_eq by t) (Del place p ∷ xs) xs) (shift t p (length es) more (own_events t (p + 1) es) (own_events t (p + 1) (es ++ more)) (own_append t (p + 1) es more))
+    ∙ cond_more (nat_eq by t) (Del place p) (own_events t (p + 1) es) (own_events t (p + suc (length es)) more)
 own_append t p (Ev.Spawn by child start ∷ es) more =
     ap (λ (xs : List TraceItem). cond (nat_eq by t) (Spawn child p ∷ xs) xs) (shift t p (length es) more (own_events t (p + 1) es) (own_events t (p + 1) (es ++ more)) (own_append t (p + 1) es more))
     ∙ cond_more (nat_eq by t) (Spawn child p) (own_events t (p + 1) es) (own_events t (p + suc (length es)) more)
@@ -122,4 +131,5 @@ starts_append t (Ev.Begin fuel ∷ es) more = starts_append t es more
 starts_append t (Ev.Key key ∷ es) more = starts_append t es more
 starts_append t (Ev.Fill key site first ∷ es) more = starts_append t es more
 starts_append t (Ev.Def by site ∷ es) more = starts_append t es more
+starts_append t (Ev.Del by place ∷ es) more = starts_append t es more
 starts_append t (Ev.Done by ended ∷ es) more = starts_append t es more

@@ -9,30 +9,30 @@ use Rattle.jl_program.specs.declared.tree.Site.{Site}
 use Rattle.jl_program.specs.declared.tree.Program.{Program}
 use Rattle.jl_program.specs.Prelude.{prelude_sites, prelude_functions, prelude_numbers}
 use Rattle.jl_program.specs.Valid.{IsValid, IsValidSite}
-use Rattle.jl_calculus.specs.Definitions.{def_at, defs_from, HasSite}
+use Rattle.jl_calculus.specs.Definitions.{def_at, HasSite}
 use Rattle.jl_subsig.specs.Side.{Every}
-use Rattle.jl_lead.specs.ByFunction.{Rising, AreBefore, in_world, with_def, AreByFunction}
+use Rattle.jl_lead.specs.ByFunction.{Rising, AreBefore, in_world, with_def, defs_of, AreByFunction}
 
 -- ---- those of a world
 
 module _ (P : Program) (f : ℕ) where
-  none_yet : (n w : ℕ) (sites : List ℕ) → w < n → in_world w (defs_from P f n sites) ≡ []
+  none_yet : (n w : ℕ) (sites : List ℕ) → w < n → in_world w (defs_of P f n sites) ≡ []
   none_yet n w [] l = refl
   none_yet n w (s ∷ sites) l = at (none_yet (n + 1) w sites (omega (arith, l))) (slice_get P.sites s)
     where
       late : nat_le n w ≡ false
       late = grind (arith, l)
 
-      at : in_world w (defs_from P f (n + 1) sites) ≡ [] → (o : Option Site) → in_world w (def_at o f n s (defs_from P f (n + 1) sites)) ≡ []
+      at : in_world w (defs_of P f (n + 1) sites) ≡ [] → (o : Option Site) → in_world w (def_at o f n s (defs_of P f (n + 1) sites)) ≡ []
       at next None = next
       at next (Some site) = cases (nat_eq site.function f)
         where
-          cases : (b : Bool) → in_world w (cond b (record { world = n; site = s } ∷ defs_from P f (n + 1) sites) (defs_from P f (n + 1) sites)) ≡ []
+          cases : (b : Bool) → in_world w (cond b (record { world = n; site = s } ∷ defs_of P f (n + 1) sites) (defs_of P f (n + 1) sites)) ≡ []
           cases true = rw late refl
           cases false = next
 
   -- the definitions of a world are the first ones
-  pub first_ones : (c n w : ℕ) (sites : List ℕ) → n + c ≡ w + 1 → in_world w (defs_from P f n sites) ≡ defs_from P f n (take c sites)
+  pub first_ones : (c n w : ℕ) (sites : List ℕ) → n + c ≡ w + 1 → in_world w (defs_of P f n sites) ≡ defs_of P f n (take c sites)
   first_ones zero n w [] e = refl
   first_ones (suc c) n w [] e = refl
   first_ones zero n w (s ∷ sites) e = none_yet n w (s ∷ sites) (omega (arith, e))
@@ -41,47 +41,47 @@ module _ (P : Program) (f : ℕ) where
       soon : nat_le n w ≡ true
       soon = grind (arith, e)
 
-      at : in_world w (defs_from P f (n + 1) sites) ≡ defs_from P f (n + 1) (take c sites) → (o : Option Site)
-          → in_world w (def_at o f n s (defs_from P f (n + 1) sites)) ≡ def_at o f n s (defs_from P f (n + 1) (take c sites))
+      at : in_world w (defs_of P f (n + 1) sites) ≡ defs_of P f (n + 1) (take c sites) → (o : Option Site)
+          → in_world w (def_at o f n s (defs_of P f (n + 1) sites)) ≡ def_at o f n s (defs_of P f (n + 1) (take c sites))
       at next None = next
       at next (Some site) = cases (nat_eq site.function f)
         where
           cases : (b : Bool)
-              → in_world w (cond b (record { world = n; site = s } ∷ defs_from P f (n + 1) sites) (defs_from P f (n + 1) sites))
-              ≡ cond b (record { world = n; site = s } ∷ defs_from P f (n + 1) (take c sites)) (defs_from P f (n + 1) (take c sites))
+              → in_world w (cond b (record { world = n; site = s } ∷ defs_of P f (n + 1) sites) (defs_of P f (n + 1) sites))
+              ≡ cond b (record { world = n; site = s } ∷ defs_of P f (n + 1) (take c sites)) (defs_of P f (n + 1) (take c sites))
           cases true = rw soon (ap (λ ds. record { world = n; site = s } ∷ ds) next)
           cases false = next
 
   -- one more definition
-  pub defs_push : (n : ℕ) (sites : List ℕ) (s : ℕ) → defs_from P f n (sites ++ s ∷ []) ≡ defs_from P f n sites ++ def_at (slice_get P.sites s) f (n + length sites) s []
+  pub defs_push : (n : ℕ) (sites : List ℕ) (s : ℕ) → defs_of P f n (sites ++ s ∷ []) ≡ defs_of P f n sites ++ def_at (slice_get P.sites s) f (n + length sites) s []
   defs_push n [] s = ap (λ k. def_at (slice_get P.sites s) f k s []) (omega arith)
   defs_push n (x ∷ sites) s =
-      at (defs_push (n + 1) sites s ∙ ap (λ k. defs_from P f (n + 1) sites ++ def_at (slice_get P.sites s) f k s []) (omega arith)) (slice_get P.sites x)
+      at (defs_push (n + 1) sites s ∙ ap (λ k. defs_of P f (n + 1) sites ++ def_at (slice_get P.sites s) f k s []) (omega arith)) (slice_get P.sites x)
     where
       last : List Def
       last = def_at (slice_get P.sites s) f (n + length (x ∷ sites)) s []
 
-      at : defs_from P f (n + 1) (sites ++ s ∷ []) ≡ defs_from P f (n + 1) sites ++ last → (o : Option Site)
-          → def_at o f n x (defs_from P f (n + 1) (sites ++ s ∷ [])) ≡ def_at o f n x (defs_from P f (n + 1) sites) ++ last
+      at : defs_of P f (n + 1) (sites ++ s ∷ []) ≡ defs_of P f (n + 1) sites ++ last → (o : Option Site)
+          → def_at o f n x (defs_of P f (n + 1) (sites ++ s ∷ [])) ≡ def_at o f n x (defs_of P f (n + 1) sites) ++ last
       at next None = next
       at next (Some site) = cases (nat_eq site.function f)
         where
           cases : (b : Bool)
-              → cond b (record { world = n; site = x } ∷ defs_from P f (n + 1) (sites ++ s ∷ [])) (defs_from P f (n + 1) (sites ++ s ∷ []))
-              ≡ cond b (record { world = n; site = x } ∷ defs_from P f (n + 1) sites) (defs_from P f (n + 1) sites) ++ last
+              → cond b (record { world = n; site = x } ∷ defs_of P f (n + 1) (sites ++ s ∷ [])) (defs_of P f (n + 1) (sites ++ s ∷ []))
+              ≡ cond b (record { world = n; site = x } ∷ defs_of P f (n + 1) sites) (defs_of P f (n + 1) sites) ++ last
           cases true = ap (λ ds. record { world = n; site = x } ∷ ds) next
           cases false = next
 
   -- their worlds rise
-  pub defs_rise : (low n : ℕ) (sites : List ℕ) → low ≤ n → Rising low (defs_from P f n sites)
+  pub defs_rise : (low n : ℕ) (sites : List ℕ) → low ≤ n → Rising low (defs_of P f n sites)
   defs_rise low n [] l = tt
   defs_rise low n (s ∷ sites) l = at (defs_rise low (n + 1) sites (omega (arith, l))) (defs_rise (n + 1) (n + 1) sites (omega arith)) (slice_get P.sites s)
     where
-      at : Rising low (defs_from P f (n + 1) sites) → Rising (n + 1) (defs_from P f (n + 1) sites) → (o : Option Site) → Rising low (def_at o f n s (defs_from P f (n + 1) sites))
+      at : Rising low (defs_of P f (n + 1) sites) → Rising (n + 1) (defs_of P f (n + 1) sites) → (o : Option Site) → Rising low (def_at o f n s (defs_of P f (n + 1) sites))
       at same next None = same
       at same next (Some site) = cases (nat_eq site.function f)
         where
-          cases : (b : Bool) → Rising low (cond b (record { world = n; site = s } ∷ defs_from P f (n + 1) sites) (defs_from P f (n + 1) sites))
+          cases : (b : Bool) → Rising low (cond b (record { world = n; site = s } ∷ defs_of P f (n + 1) sites) (defs_of P f (n + 1) sites))
           cases true = (l, next)
           cases false = same
 
@@ -91,15 +91,15 @@ module _ (P : Program) (f : ℕ) where
   there (y ∷ xs) (suc k) x e = let l = there xs k x e in omega (arith, l)
 
   -- and they are of sites of the program
-  pub defs_sites : (n : ℕ) (sites : List ℕ) → Every (HasSite P) (defs_from P f n sites)
+  pub defs_sites : (n : ℕ) (sites : List ℕ) → Every (HasSite P) (defs_of P f n sites)
   defs_sites n [] = tt
   defs_sites n (s ∷ sites) = at (defs_sites (n + 1) sites) (slice_get P.sites s) refl
     where
-      at : Every (HasSite P) (defs_from P f (n + 1) sites) → (o : Option Site) → slice_get P.sites s ≡ o → Every (HasSite P) (def_at o f n s (defs_from P f (n + 1) sites))
+      at : Every (HasSite P) (defs_of P f (n + 1) sites) → (o : Option Site) → slice_get P.sites s ≡ o → Every (HasSite P) (def_at o f n s (defs_of P f (n + 1) sites))
       at next None e = next
       at next (Some site) e = cases (nat_eq site.function f)
         where
-          cases : (b : Bool) → Every (HasSite P) (cond b (record { world = n; site = s } ∷ defs_from P f (n + 1) sites) (defs_from P f (n + 1) sites))
+          cases : (b : Bool) → Every (HasSite P) (cond b (record { world = n; site = s } ∷ defs_of P f (n + 1) sites) (defs_of P f (n + 1) sites))
           cases true = (there P.sites s site e, next)
           cases false = next
 
@@ -111,7 +111,7 @@ with_push P sites rows s w site e at_world few h = record {
   count = length-set rows site.function (get_or rows site.function [] ++ def ∷ []) ∙ h.count;
   each = λ f. (
       cases f (nat_eq site.function f) refl
-      ∙ sym (defs_push P f 1 sites s ∙ ap (λ o. defs_from P f 1 sites ++ def_at o f (1 + length sites) s []) e)
+      ∙ sym (defs_push P f 1 sites s ∙ ap (λ o. defs_of P f 1 sites ++ def_at o f (1 + length sites) s []) e)
       );
 }
   where
@@ -119,20 +119,20 @@ with_push P sites rows s w site e at_world few h = record {
     def = record { world = w; site = s }
 
     cases : (f : ℕ) (b : Bool) → nat_eq site.function f ≡ b
-        → get_or (with_def site.function def rows) f [] ≡ defs_from P f 1 sites ++ cond (nat_eq site.function f) (record { world = 1 + length sites; site = s } ∷ []) []
+        → get_or (with_def site.function def rows) f [] ≡ defs_of P f 1 sites ++ cond (nat_eq site.function f) (record { world = 1 + length sites; site = s } ∷ []) []
     cases f true q =
         let e : site.function ≡ f = eqb-true site.function f q in
         ap (λ g. get_or (with_def site.function def rows) g []) (sym e)
         ∙ get_or-set_same rows site.function (get_or rows site.function [] ++ def ∷ []) [] few
-        ∙ ap (λ ds. ds ++ def ∷ []) (h.each site.function ∙ ap (λ g. defs_from P g 1 sites) e)
-        ∙ ap (λ k. defs_from P f 1 sites ++ record { world = k; site = s } ∷ []) at_world
-        ∙ ap (λ b. defs_from P f 1 sites ++ cond b (record { world = 1 + length sites; site = s } ∷ []) []) (sym q)
+        ∙ ap (λ ds. ds ++ def ∷ []) (h.each site.function ∙ ap (λ g. defs_of P g 1 sites) e)
+        ∙ ap (λ k. defs_of P f 1 sites ++ record { world = k; site = s } ∷ []) at_world
+        ∙ ap (λ b. defs_of P f 1 sites ++ cond b (record { world = 1 + length sites; site = s } ∷ []) []) (sym q)
     cases f false q =
         let differ : f ≡ site.function → ⊥ = λ e. (let g : nat_eq site.function f ≡ true = grind (arith, e) in let z : true ≡ false = sym g ∙ q in cc) in
         get_or-set_other rows site.function f (get_or rows site.function [] ++ def ∷ []) [] differ
         ∙ h.each f
-        ∙ sym (append-nil (defs_from P f 1 sites))
-        ∙ ap (λ b. defs_from P f 1 sites ++ cond b (record { world = 1 + length sites; site = s } ∷ []) []) (sym q)
+        ∙ sym (append-nil (defs_of P f 1 sites))
+        ∙ ap (λ b. defs_of P f 1 sites ++ cond b (record { world = 1 + length sites; site = s } ∷ []) []) (sym q)
 
 -- ---- the function of a site
 
@@ -215,7 +215,7 @@ module _ (P : Program) (v : IsValid P) where
 
 -- the definitions of a function in a world, by its row
 pub row_in_world : (P : Program) (sites : List ℕ) (rows : List (List Def)) (f w : ℕ) (row : List Def) → AreByFunction P sites rows → get_or rows f [] ≡ row
-    → in_world w row ≡ defs_from P f 1 (take w sites)
+    → in_world w row ≡ defs_of P f 1 (take w sites)
 row_in_world P sites rows f w row h e = ap (in_world w) (sym e ∙ h.each f) ∙ first_ones P f w 1 w sites (omega arith)
 
 -- the prelude's sites, one by one
@@ -241,15 +241,15 @@ prelude_step P new old k l e n =
     n ∙ ap (λ (v : Program × List ℕ). (v.0, v.1 ++ k ∷ [])) e ∙ ap (λ xs. (P, xs)) (sym (prelude_next k l))
 
 -- all definitions so far are before the next world
-pub defs_before : (P : Program) (f n : ℕ) (sites : List ℕ) → AreBefore (n + length sites) (defs_from P f n sites)
+pub defs_before : (P : Program) (f n : ℕ) (sites : List ℕ) → AreBefore (n + length sites) (defs_of P f n sites)
 defs_before P f n [] d (k, l, e) = absurd (omega arith)
 defs_before P f n (s ∷ sites) d c = at (λ e i. (let w = defs_before P f (n + 1) sites e i in omega (arith, w))) (slice_get P.sites s) c
   where
-    at : AreBefore (n + length (s ∷ sites)) (defs_from P f (n + 1) sites) → (o : Option Site) → Contains (def_at o f n s (defs_from P f (n + 1) sites)) d → d.world < n + length (s ∷ sites)
+    at : AreBefore (n + length (s ∷ sites)) (defs_of P f (n + 1) sites) → (o : Option Site) → Contains (def_at o f n s (defs_of P f (n + 1) sites)) d → d.world < n + length (s ∷ sites)
     at next None i = next d i
     at next (Some site) i = cases (nat_eq site.function f) i
       where
-        cases : (b : Bool) → Contains (cond b (record { world = n; site = s } ∷ defs_from P f (n + 1) sites) (defs_from P f (n + 1) sites)) d → d.world < n + length (s ∷ sites)
+        cases : (b : Bool) → Contains (cond b (record { world = n; site = s } ∷ defs_of P f (n + 1) sites) (defs_of P f (n + 1) sites)) d → d.world < n + length (s ∷ sites)
         cases true (zero, l, e) = let w : n ≡ d.world = ap (λ (z : Def). z.world) e in omega (arith, w)
         cases true (suc k, l, e) = next d (k, omega arith, e)
         cases false i = next d i
@@ -257,4 +257,4 @@ defs_before P f n (s ∷ sites) d c = at (λ e i. (let w = defs_before P f (n + 
 pub row_before : (P : Program) (sites : List ℕ) (rows : List (List Def)) (f w : ℕ) → AreByFunction P sites rows → w ≡ length sites → AreBefore (w + 1) (get_or rows f [])
 row_before P sites rows f w h e =
     let world : 1 + length sites ≡ w + 1 = omega (arith, e) in
-    subst (AreBefore (w + 1)) (sym (h.each f)) (subst (λ k. AreBefore k (defs_from P f 1 sites)) world (defs_before P f 1 sites))
+    subst (AreBefore (w + 1)) (sym (h.each f)) (subst (λ k. AreBefore k (defs_of P f 1 sites)) world (defs_before P f 1 sites))

@@ -5,7 +5,7 @@ use Rattle.jl_calculus.specs.declared.history.Event.{Event}
 use Rattle.jl_calculus.specs.declared.history.Outcome.{Outcome}
 use Rattle.jl_calculus.specs.declared.history.Seen.{Seen}
 use Rattle.jl_calculus.specs.declared.history.TraceItem.{TraceItem}
-use Rattle.jl_calculus.specs.declared.history.TraceItem.TheVariants.{Look, Def, Spawn, Fetch, WorldFull, TaskFull}
+use Rattle.jl_calculus.specs.declared.history.TraceItem.TheVariants.{Look, Def, Del, Spawn, Fetch, WorldFull, TaskFull, Absent}
 use Rattle.jl_lead.specs.Items.{IsSameQuestion, Begins, Departs, next_item, look_of, world_full_of, task_full_of, IsNoFetch}
 use Rattle.jl_lead.specs.Leads.{IsOn}
 use Rattle.jl_lead.specs.Stretch.{IsStretch}
@@ -33,6 +33,8 @@ is_look (Some (Spawn c p)) s h = absurd (none-some _ h)
 is_look (Some (Fetch t o p)) s h = absurd (none-some _ h)
 is_look (Some (WorldFull p)) s h = absurd (none-some _ h)
 is_look (Some (TaskFull p)) s h = absurd (none-some _ h)
+is_look (Some (Del place p)) s h = absurd (none-some _ h)
+is_look (Some (Absent place p)) s h = absurd (none-some _ h)
 
 pub is_world_full : (o : Option TraceItem) (p : ℕ) → world_full_of o ≡ Some p → o ≡ Some (WorldFull p)
 is_world_full None p h = absurd (none-some _ h)
@@ -42,6 +44,8 @@ is_world_full (Some (Def site q)) p h = absurd (none-some _ h)
 is_world_full (Some (Spawn c q)) p h = absurd (none-some _ h)
 is_world_full (Some (Fetch t o q)) p h = absurd (none-some _ h)
 is_world_full (Some (TaskFull q)) p h = absurd (none-some _ h)
+is_world_full (Some (Del place q)) p h = absurd (none-some _ h)
+is_world_full (Some (Absent place q)) p h = absurd (none-some _ h)
 
 pub is_task_full : (o : Option TraceItem) (p : ℕ) → task_full_of o ≡ Some p → o ≡ Some (TaskFull p)
 is_task_full None p h = absurd (none-some _ h)
@@ -51,6 +55,8 @@ is_task_full (Some (Def site q)) p h = absurd (none-some _ h)
 is_task_full (Some (Spawn c q)) p h = absurd (none-some _ h)
 is_task_full (Some (Fetch t o q)) p h = absurd (none-some _ h)
 is_task_full (Some (WorldFull q)) p h = absurd (none-some _ h)
+is_task_full (Some (Del place q)) p h = absurd (none-some _ h)
+is_task_full (Some (Absent place q)) p h = absurd (none-some _ h)
 
 -- ---- what does not stand next
 
@@ -63,6 +69,8 @@ no_look (Spawn c q ∷ is) zero w p h b = b
 no_look (Fetch t o q ∷ is) zero w p h b = b
 no_look (WorldFull q ∷ is) zero w p h b = b
 no_look (TaskFull q ∷ is) zero w p h b = b
+no_look (Del place q ∷ is) zero w p h b = b
+no_look (Absent place q ∷ is) zero w p h b = b
 no_look (y ∷ is) (suc n) w p h b = no_look is n w p h b
 
 module _ (es : List Event) (low : ℕ) where
@@ -75,6 +83,8 @@ module _ (es : List Event) (low : ℕ) where
   no_def (Fetch t o q ∷ is) zero site p h s b = b
   no_def (WorldFull q ∷ is) zero site p h s b = none-some _ (sym h)
   no_def (TaskFull q ∷ is) zero site p h s b = b
+  no_def (Del place q ∷ is) zero site p h s b = s
+  no_def (Absent place q ∷ is) zero site p h s b = s
   no_def (y ∷ is) (suc n) site p h s b = no_def is n site p h s b
 
   pub no_world_full : (is : List TraceItem) (n p : ℕ) → world_full_of (slice_get is n) ≡ None → IsStretch es low (drop n is) → Begins (WorldFull p) (drop n is) → ⊥
@@ -86,6 +96,8 @@ module _ (es : List Event) (low : ℕ) where
   no_world_full (Fetch t o q ∷ is) zero p h s b = b
   no_world_full (WorldFull q ∷ is) zero p h s b = none-some _ (sym h)
   no_world_full (TaskFull q ∷ is) zero p h s b = b
+  no_world_full (Del place q ∷ is) zero p h s b = s
+  no_world_full (Absent place q ∷ is) zero p h s b = s
   no_world_full (y ∷ is) (suc n) p h s b = no_world_full is n p h s b
 
   pub no_spawn : (is : List TraceItem) (n child p : ℕ) → task_full_of (slice_get is n) ≡ None → IsStretch es low (drop n is) → Begins (Spawn child p) (drop n is) → ⊥
@@ -97,6 +109,8 @@ module _ (es : List Event) (low : ℕ) where
   no_spawn (Fetch t o q ∷ is) zero child p h s b = b
   no_spawn (WorldFull q ∷ is) zero child p h s b = b
   no_spawn (TaskFull q ∷ is) zero child p h s b = none-some _ (sym h)
+  no_spawn (Del place q ∷ is) zero child p h s b = s
+  no_spawn (Absent place q ∷ is) zero child p h s b = s
   no_spawn (y ∷ is) (suc n) child p h s b = no_spawn is n child p h s b
 
   pub no_task_full : (is : List TraceItem) (n p : ℕ) → task_full_of (slice_get is n) ≡ None → IsStretch es low (drop n is) → Begins (TaskFull p) (drop n is) → ⊥
@@ -108,6 +122,8 @@ module _ (es : List Event) (low : ℕ) where
   no_task_full (Fetch t o q ∷ is) zero p h s b = b
   no_task_full (WorldFull q ∷ is) zero p h s b = b
   no_task_full (TaskFull q ∷ is) zero p h s b = none-some _ (sym h)
+  no_task_full (Del place q ∷ is) zero p h s b = s
+  no_task_full (Absent place q ∷ is) zero p h s b = s
   no_task_full (y ∷ is) (suc n) p h s b = no_task_full is n p h s b
 
 pub no_fetch : (is : List TraceItem) (n of : ℕ) (outcome : Outcome) (p : ℕ) → IsNoFetch (slice_get is n) of → Begins (Fetch of outcome p) (drop n is) → ⊥
@@ -119,6 +135,8 @@ no_fetch (Spawn c q ∷ is) zero of outcome p h b = b
 no_fetch (Fetch t o q ∷ is) zero of outcome p h b = h (sym b)
 no_fetch (WorldFull q ∷ is) zero of outcome p h b = b
 no_fetch (TaskFull q ∷ is) zero of outcome p h b = b
+no_fetch (Del place q ∷ is) zero of outcome p h b = b
+no_fetch (Absent place q ∷ is) zero of outcome p h b = b
 no_fetch (y ∷ is) (suc n) of outcome p h b = no_fetch is n of outcome p h b
 
 -- ---- a trace that departs
@@ -130,6 +148,8 @@ same (Spawn c p) = tt
 same (Fetch t o p) = refl
 same (WorldFull p) = tt
 same (TaskFull p) = tt
+same (Del place p) = refl
+same (Absent place p) = refl
 
 -- one more item is followed
 pub one_more : (trace whole is : List TraceItem) (n : ℕ) (x : TraceItem) → slice_get is n ≡ Some x → trace ++ drop n is ≡ whole → (trace ++ x ∷ []) ++ drop (n + 1) is ≡ whole

@@ -1,31 +1,29 @@
 -- What is kept of the events, and one more event.
-use Rattle.std.proofs.Common.{◌≡◌, ◌∙◌, ap, sym, subst, refl, ℕ, zero, suc, ◌⊎◌, inl, inr, get_or, slice_get, ◌+◌, ◌-◌, ◌<◌, ◌≤◌, ◌^◌, arith, Bool, true, false, cond, nat_eq, List, [], ◌∷◌, ◌++◌, length, take, drop, take-append-drop, append-nil, length-append, Option, Some, None, Result, Ok, Err, IfOk}
+use Rattle.std.proofs.Common.{◌≡◌, ◌∙◌, ap, sym, subst, refl, ℕ, zero, suc, ◌⊎◌, inl, inr, get_or, slice_get, ◌+◌, ◌-◌, ◌<◌, ◌≤◌, ◌^◌, arith, Bool, true, false, cond, nat_eq, List, [], ◌∷◌, ◌++◌, map, length, take, drop, take-append-drop, append-nil, length-append, Option, Some, None, Result, Ok, Err, IfOk}
 use Rattle.std.proofs.lemmas.Option.{same_Some, none-some, slice_get-get_or}
-use Rattle.std.proofs.lemmas.List.{length-take-le}
+use Rattle.std.specs.List.{take-map}
+use Rattle.std.proofs.lemmas.List.{length-map, map-append}
 use Rattle.jl_model.specs.declared.ty.Ty.{Ty}
+use Rattle.jl_model.specs.declared.ty.Written.{Written}
 use Rattle.jl_program.specs.declared.choice.Choice.{Choice}
 use Rattle.jl_program.specs.declared.tree.Program.{Program}
 use Rattle.jl_program.specs.declared.tree.Start.{Start}
-use Rattle.jl_program.specs.Chooses.{Chooses}
 use Rattle.jl_program.specs.Prelude.{prelude_numbers}
-use Rattle.jl_program.specs.Scope.{types_of}
-use Rattle.jl_program.specs.Valid.{IsValid}
+use Rattle.jl_calculus.specs.declared.history.Change.TheVariants as Ch
 use Rattle.jl_calculus.specs.declared.history.Def.{Def}
 use Rattle.jl_calculus.specs.declared.history.Event.{Event}
 use Rattle.jl_calculus.specs.declared.history.Event.TheVariants as Ev
 use Rattle.jl_calculus.specs.declared.history.Outcome.{Outcome}
 use Rattle.jl_calculus.specs.declared.history.Record.{Record}
-use Rattle.jl_calculus.specs.Definitions.{methods_of, defs_from}
+use Rattle.jl_calculus.specs.Definitions.{sig_of, defs_from, defs_in}
 use Rattle.jl_calculus.specs.Past.{EndedSo, done_of, tasks_of}
 use Rattle.jl_calculus.specs.ValidHistory.{IsValidOutcome}
-use Rattle.jl_calculus.specs.World.{Selects, defined, definitions, world_of}
-use Rattle.jl_calculus.proofs.GrowthLemmas.{defined_append, definitions_append, definitions_length, world_more}
-use Rattle.jl_calculus.proofs.MethodLemmas.{methods_of_defs, selects_from_chooses}
-use Rattle.jl_dispatcher.specs.Knows.{IsOfWorld}
-use Rattle.jl_lead.specs.ByFunction.{AreLatest}
-use Rattle.jl_lead.proofs.ChoiceOf.{of_world}
-use Rattle.jl_lead.proofs.FunctionLemmas.{defs_sites}
-use Rattle.jl_lead.proofs.PickLemmas.{latest_chooses}
+use Rattle.jl_calculus.specs.World.{changed, changes, change_at, site_in, site_of, world_of, Deletes, Selects}
+use Rattle.jl_calculus.proofs.GrowthLemmas.{changed_append, changes_append, changes_length, world_more}
+use Rattle.jl_subsig.specs.Standing.{HaveLatest, ChoosesLeft}
+use Rattle.jl_subsig.proofs.StandingChoice.{left_selects}
+use Rattle.jl_lead.specs.ByFunction.{defs_of, AreLatest}
+use Rattle.jl_lead.proofs.PickLemmas.{latest_for}
 use Rattle.jl_lead.specs.Known.{IsNoted, IsStartAmong, AreSound, IsKnownSo, IsPlain, IsSpawnOf}
 use Rattle.jl_lead.proofs.EndLemmas.{ends_none, ends_same, ends_kept, ends_done}
 use Rattle.jl_lead.proofs.EventFacts.{tasks_append, done_stays, done_later}
@@ -57,7 +55,7 @@ sound_more P es e h outcomes starts = record {
 
 pub known_new : (P : Program) → IsKnownSo P prelude_numbers [] 1 []
 known_new P = record {
-  sites_are = sym (append-nil prelude_numbers);
+  sites_are = append-nil (map Ch.Def prelude_numbers);
   worlds = omega arith;
   tasks_are = refl;
   few = omega arith;
@@ -75,8 +73,8 @@ module _ (P : Program) (sites : List ℕ) (es : List Event) (tasks : ℕ) (ends 
 
   pub known_def : (task site : ℕ) → world_of es < 65535 → IsKnownSo P (sites ++ site ∷ []) (es ++ Ev.Def task site ∷ []) tasks ends
   known_def task site room = record {
-    sites_are = ap (λ xs. xs ++ site ∷ []) h.sites_are ∙ sym (definitions_append es (Ev.Def task site ∷ []));
-    worlds = let n = ap length (defined_append es (Ev.Def task site ∷ [])) in let m = length-append (defined es) (site ∷ []) in omega (arith, n, m, room);
+    sites_are = changes_append es (Ev.Def task site ∷ []) ∙ ap (λ cs. cs ++ Ch.Def site ∷ []) h.sites_are ∙ sym (map-append Ch.Def sites (site ∷ []));
+    worlds = let n = ap length (changed_append es (Ev.Def task site ∷ [])) in let m = length-append (changed es) (Ch.Def site ∷ []) in omega (arith, n, m, room);
     tasks_are = let n = tasks_append es (Ev.Def task site ∷ []) in let t = h.tasks_are in omega (arith, n, t);
     few = let n = tasks_append es (Ev.Def task site ∷ []) in let f = h.few in omega (arith, n, f);
     short = one_longer (Ev.Def task site);
@@ -86,8 +84,8 @@ module _ (P : Program) (sites : List ℕ) (es : List Event) (tasks : ℕ) (ends 
 
   pub known_spawn : (task : ℕ) (start : Start) → IsStartAmong P es start → tasks_of es < 4096 → IsKnownSo P sites (es ++ Ev.Spawn task (tasks_of es) start ∷ []) (tasks + 1) ends
   known_spawn task start among room = record {
-    sites_are = h.sites_are ∙ sym (append-nil (definitions es)) ∙ sym (definitions_append es (Ev.Spawn task (tasks_of es) start ∷ []));
-    worlds = let n = ap length (defined_append es (Ev.Spawn task (tasks_of es) start ∷ [])) in let m = length-append (defined es) [] in let w = h.worlds in omega (arith, n, m, w);
+    sites_are = changes_append es (Ev.Spawn task (tasks_of es) start ∷ []) ∙ append-nil (changes es) ∙ h.sites_are;
+    worlds = let n = ap length (changed_append es (Ev.Spawn task (tasks_of es) start ∷ [])) in let m = length-append (changed es) [] in let w = h.worlds in omega (arith, n, m, w);
     tasks_are = let n = tasks_append es (Ev.Spawn task (tasks_of es) start ∷ []) in let t = h.tasks_are in omega (arith, n, t);
     few = let n = tasks_append es (Ev.Spawn task (tasks_of es) start ∷ []) in omega (arith, n, room);
     short = one_longer (Ev.Spawn task (tasks_of es) start);
@@ -97,8 +95,8 @@ module _ (P : Program) (sites : List ℕ) (es : List Event) (tasks : ℕ) (ends 
 
   pub known_done : (task : ℕ) (ended : Record) (new : List (Option ℕ)) → IsNoted task (length es) ends new → IsValidOutcome P ended.outcome → IsKnownSo P sites (es ++ Ev.Done task ended ∷ []) tasks new
   known_done task ended new noted valid = record {
-    sites_are = h.sites_are ∙ sym (append-nil (definitions es)) ∙ sym (definitions_append es (Ev.Done task ended ∷ []));
-    worlds = let n = ap length (defined_append es (Ev.Done task ended ∷ [])) in let m = length-append (defined es) [] in let w = h.worlds in omega (arith, n, m, w);
+    sites_are = changes_append es (Ev.Done task ended ∷ []) ∙ append-nil (changes es) ∙ h.sites_are;
+    worlds = let n = ap length (changed_append es (Ev.Done task ended ∷ [])) in let m = length-append (changed es) [] in let w = h.worlds in omega (arith, n, m, w);
     tasks_are = let n = tasks_append es (Ev.Done task ended ∷ []) in let t = h.tasks_are in omega (arith, n, t);
     few = let n = tasks_append es (Ev.Done task ended ∷ []) in let f = h.few in omega (arith, n, f);
     short = one_longer (Ev.Done task ended);
@@ -113,10 +111,10 @@ module _ (P : Program) (sites : List ℕ) (es : List Event) (tasks : ℕ) (ends 
   pub known_plain : (e : Event) → IsPlain e → IsKnownSo P sites (es ++ e ∷ []) tasks ends
   known_plain e plain = at e plain
     where
-      more : (x : Event) → defined (x ∷ []) ≡ [] → tasks_of (x ∷ []) ≡ 1 → ((t : ℕ) → done_of t (x ∷ []) ≡ None) → ((t c : ℕ) (s : Start) → x ≡ Ev.Spawn t c s → ⊥) → IsKnownSo P sites (es ++ x ∷ []) tasks ends
+      more : (x : Event) → changed (x ∷ []) ≡ [] → tasks_of (x ∷ []) ≡ 1 → ((t : ℕ) → done_of t (x ∷ []) ≡ None) → ((t c : ℕ) (s : Start) → x ≡ Ev.Spawn t c s → ⊥) → IsKnownSo P sites (es ++ x ∷ []) tasks ends
       more x no_def no_task no_done no_start = record {
-        sites_are = h.sites_are ∙ sym (append-nil (definitions es)) ∙ ap (λ ds. definitions es ++ ds) (sym no_def) ∙ sym (definitions_append es (x ∷ []));
-        worlds = let n = ap length (defined_append es (x ∷ [])) in let m = length-append (defined es) (defined (x ∷ [])) in let z = ap length no_def in let w = h.worlds in omega (arith, n, m, z, w);
+        sites_are = changes_append es (x ∷ []) ∙ ap (λ cs. changes es ++ cs) no_def ∙ append-nil (changes es) ∙ h.sites_are;
+        worlds = let n = ap length (changed_append es (x ∷ [])) in let m = length-append (changed es) (changed (x ∷ [])) in let z = ap length no_def in let w = h.worlds in omega (arith, n, m, z, w);
         tasks_are = let n = tasks_append es (x ∷ []) in let t = h.tasks_are in omega (arith, n, t, no_task);
         few = let n = tasks_append es (x ∷ []) in let f = h.few in omega (arith, n, f, no_task);
         short = one_longer x;
@@ -129,6 +127,7 @@ module _ (P : Program) (sites : List ℕ) (es : List Event) (tasks : ℕ) (ends 
       at (Ev.Key key) p = more (Ev.Key key) refl refl (λ t. refl) (λ t c s q. cc (q))
       at (Ev.Fill key site first) p = more (Ev.Fill key site first) refl refl (λ t. refl) (λ t c s q. cc (q))
       at (Ev.Def task site) p = absurd p
+      at (Ev.Del task place) p = absurd p
       at (Ev.Spawn task child start) p = absurd p
       at (Ev.Done task ended) p = absurd p
 
@@ -197,19 +196,35 @@ ended_valid P es h of p outcome e = at (done_of of (take p es)) refl e
 -- ---- choices
 
 pub sites_length : (P : Program) (sites : List ℕ) (es : List Event) (tasks : ℕ) (ends : List (Option ℕ)) → IsKnownSo P sites es tasks ends → length sites ≡ world_of es
-sites_length P sites es tasks ends h = ap length h.sites_are ∙ definitions_length es
+sites_length P sites es tasks ends h = sym (length-map sites Ch.Def) ∙ ap length (sym h.sites_are) ∙ changes_length es
+
+-- the site of a definition, by its place
+pub site_is : (P : Program) (sites : List ℕ) (es : List Event) (tasks : ℕ) (ends : List (Option ℕ)) → IsKnownSo P sites es tasks ends → (d : ℕ) → 1 ≤ d → get_or sites (d - 1) 0 ≡ site_of es d
+site_is P sites es tasks ends h zero l = absurd (omega (arith, l))
+site_is P sites es tasks ends h (suc d) l = (let at : suc d - 1 ≡ d = omega arith in ap (λ k. get_or sites k 0) at ∙ got_site sites d ∙ ap (λ cs. site_in (slice_get cs d)) (sym h.sites_are))
+  where
+    got_site : (xs : List ℕ) (k : ℕ) → get_or xs k 0 ≡ site_in (slice_get (map Ch.Def xs) k)
+    got_site [] k = refl
+    got_site (x ∷ xs) zero = refl
+    got_site (x ∷ xs) (suc k) = got_site xs k
+
+-- where all changes are definitions, none deletes
+none_deletes : (P : Program) (sites : List ℕ) (es : List Event) → changes es ≡ map Ch.Def sites → (f e : ℕ) (sig : Written) → Deletes P (change_at es e) f sig → ⊥
+none_deletes P sites es q f zero sig k = k
+none_deletes P sites es q f (suc e) sig k = at sites e (subst (λ cs. Deletes P (slice_get cs e) f sig) q k)
+  where
+    at : (xs : List ℕ) (n : ℕ) → Deletes P (slice_get (map Ch.Def xs) n) f sig → ⊥
+    at [] n j = j
+    at (x ∷ xs) zero j = j
+    at (x ∷ xs) (suc n) j = at xs n j
 
 -- the choice among the latest definitions of their sites is the choice of the rules
-pub chosen : {E : Type 0} (P : Program) (sites : List ℕ) (es : List Event) (tasks : ℕ) (ends : List (Option ℕ)) (h : IsKnownSo P sites es tasks ends) (Q : Program) (f w : ℕ) (ts types : List Ty) (defs : List Def) → Q ≡ P → IsValid Q
-    → AreLatest (defs_from P f 1 (take w sites)) defs → types ≡ ts → (r : Result Choice E) → IfOk r (λ c. Chooses (types_of Q) (methods_of Q defs) types c) → IfOk r (λ c. Selects P es f ts w c)
-chosen P sites es tasks ends h Q f w ts types defs p v e q (Ok c) k =
-    let among : Chooses (types_of P) (methods_of P defs) ts c = subst (λ xs. Chooses (types_of P) (methods_of P defs) xs c) q (subst (λ R. Chooses (types_of R) (methods_of R defs) types c) p k) in
-    selects_from_chooses P f es w ts c (defs_from P f 1 (take w sites)) (ap (λ xs. defs_from P f 1 (take w xs)) h.sites_are)
-    (latest_chooses P (subst IsValid p v) ts (defs_from P f 1 (take w sites)) defs (defs_sites P f 1 (take w sites)) e c among)
-chosen P sites es tasks ends h Q f w ts types defs p v e q (Err x) k = tt
-
--- what is chosen is a definition of the world
-pub chosen_of_world : (P : Program) (es : List Event) (f w : ℕ) (ts : List Ty) (c : Choice) → w ≤ world_of es → Selects P es f ts w c → IsOfWorld c w
-chosen_of_world P es f w ts c le s =
-    of_world P f w (take w (definitions es)) ts c (omega (arith, length-take-le w (definitions es) (omega (arith, le, definitions_length es))))
-    (subst (λ ms. Chooses (types_of P) ms ts c) (sym (methods_of_defs P f 1 (take w (definitions es)))) s)
+pub chosen : {E : Type 0} (P : Program) (sites : List ℕ) (es : List Event) (tasks : ℕ) (ends : List (Option ℕ)) (h : IsKnownSo P sites es tasks ends) (Q : Program) (f w : ℕ) (ts types : List Ty) (defs : List Def) → Q ≡ P
+    → AreLatest (defs_of P f 1 (take w sites)) defs → types ≡ ts → (r : Result Choice E) → IfOk r (λ c. (all : List Def) → HaveLatest Q types all defs → ChoosesLeft Q [] types all c) → IfOk r (λ c. Selects P es f ts w c)
+chosen P sites es tasks ends h Q f w ts types defs p e q (Ok c) k =
+    let all : List Def = defs_of P f 1 (take w sites) in
+    let among : ChoosesLeft P [] ts all c = subst (λ xs. ChoosesLeft P [] xs all c) q (subst (λ R. ChoosesLeft R [] types all c) p (k all (latest_for Q types all defs e))) in
+    let made : all ≡ defs_in P es f w = ap (defs_from P f 1) (sym (take-map Ch.Def w sites) ∙ ap (take w) (sym h.sites_are)) in
+    left_selects P es f w [] ts (λ d i a left n low high x. none_deletes P sites es h.sites_are f n (sig_of (slice_get P.sites d.site)) x) (λ d i a kept e (k, l, q) takes. absurd (omega (arith, l))) c
+    (subst (λ ds. ChoosesLeft P [] ts ds c) made among)
+chosen P sites es tasks ends h Q f w ts types defs p e q (Err x) k = tt

@@ -3,7 +3,8 @@ use Rattle.std.proofs.Common.{◌≡◌, ◌∙◌, sym, ap, subst, refl, ℕ, z
 use Rattle.std.specs.List.{Contains}
 use Rattle.std.proofs.lemmas.List.{get_or_append_left}
 use Rattle.jl_calculus.specs.declared.history.Def.{Def}
-use Rattle.jl_lead.specs.ByFunction.{in_world, Rising, AreBefore, HasLater, AreLatest, IsKeptSo, IsRenewed}
+use Rattle.jl_subsig.specs.Standing.{HasLaterAtSite}
+use Rattle.jl_lead.specs.ByFunction.{in_world, Rising, AreBefore, AreLatest, IsKeptSo, IsRenewed}
 
 abbrev nothing : Def
 nothing = record { world = 0; site = 0 }
@@ -139,18 +140,18 @@ kept_push def all latest more new h b e r =
     from_new d (inl c) = push_stay all def d (o.there d c)
     from_new d (inr q) = subst (Contains (all ++ def ∷ [])) (sym q) (last_there all def)
 
-    by_kept : (d : Def) (c : Contains all d) (l : HasLater latest d) → (l.by.site ≡ def.site) ⊎ Contains new l.by → HasLater new d
-    by_kept d c l (inl s) = record { by = def; contained = r.own; site = sym s ∙ l.site; later = (let w = b d c in omega (arith, w)) }
-    by_kept d c l (inr i) = record { by = l.by; contained = i; site = l.site; later = l.later }
+    by_kept : (d : Def) (c : Contains all d) (l : HasLaterAtSite latest d) → (l.by.site ≡ def.site) ⊎ Contains new l.by → HasLaterAtSite new d
+    by_kept d c l (inl s) = record { by = def; stays = r.own; site_is = sym s ∙ l.site_is; later = (let w = b d c in omega (arith, w)) }
+    by_kept d c l (inr i) = record { by = l.by; stays = i; site_is = l.site_is; later = l.later }
 
-    covers : (d : Def) → Contains all d ⊎ (d ≡ def) → HasLater new d
-    covers d (inl c) = let l = o.covered d c in by_kept d c l (r.stay l.by l.contained)
-    covers d (inr q) = record { by = def; contained = r.own; site = ap (λ (z : Def). z.site) (sym q); later = (let w : d.world ≡ def.world = ap (λ (z : Def). z.world) q in omega (arith, w)) }
+    covers : (d : Def) → Contains all d ⊎ (d ≡ def) → HasLaterAtSite new d
+    covers d (inl c) = let l = o.covered d c in by_kept d c l (r.stay l.by l.stays)
+    covers d (inr q) = record { by = def; stays = r.own; site_is = ap (λ (z : Def). z.site) (sym q); later = (let w : d.world ≡ def.world = ap (λ (z : Def). z.world) q in omega (arith, w)) }
 
 -- ---- those of a world
 
 pub latest_self : (ds : List Def) → Rising 0 ds → AreLatest ds ds
-latest_self ds h = record { there = λ d c. c; covered = λ d c. record { by = d; contained = c; site = refl; later = omega arith }; rising = h }
+latest_self ds h = record { there = λ d c. c; covered = λ d c. record { by = d; stays = c; site_is = refl; later = omega arith }; rising = h }
 
 pub world_rising : (low w : ℕ) (ds : List Def) → Rising low ds → Rising low (in_world w ds)
 world_rising low w [] h = tt

@@ -2,7 +2,6 @@ pub mod Slices
 pub mod LatestLemmas
 pub mod FunctionLemmas
 pub mod PickLemmas
-pub mod ChoiceOf
 pub mod KeyTypes
 pub mod EventFacts
 pub mod EndLemmas

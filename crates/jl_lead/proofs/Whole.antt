@@ -45,6 +45,7 @@ some_tasks (Ev.Begin fuel ∷ es) = some_tasks es
 some_tasks (Ev.Key key ∷ es) = some_tasks es
 some_tasks (Ev.Fill key site first ∷ es) = some_tasks es
 some_tasks (Ev.Def by site ∷ es) = some_tasks es
+some_tasks (Ev.Del by place ∷ es) = some_tasks es
 some_tasks (Ev.Done by ended ∷ es) = some_tasks es
 
 -- after one more event

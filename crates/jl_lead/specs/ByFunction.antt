@@ -1,9 +1,11 @@
 -- Definitions by their functions.
-use Rattle.std.specs.Prelude.{ℕ, ◌+◌, ◌≡◌, ◌<◌, ◌≤◌, ◌⊎◌, cond, nat_le, List, [], ◌∷◌, ◌++◌, length, get_or, set}
+use Rattle.std.specs.Prelude.{ℕ, ◌+◌, ◌≡◌, ◌<◌, ◌≤◌, ◌⊎◌, cond, nat_le, List, [], ◌∷◌, ◌++◌, map, length, get_or, set}
 use Rattle.std.specs.List.{Contains}
+use Rattle.jl_calculus.specs.declared.history.Change.TheVariants as Ch
 use Rattle.jl_calculus.specs.declared.history.Def.{Def}
 use Rattle.jl_program.specs.declared.tree.Program.{Program}
 use Rattle.jl_calculus.specs.Definitions.{defs_from}
+use Rattle.jl_subsig.specs.Standing.{HasLaterAtSite}
 
 -- those of a list of definitions, in order, that a world has
 abbrev pub in_world : ℕ → List Def → List Def
@@ -19,17 +21,10 @@ Rising low (d ∷ ds) = (low ≤ d.world) × Rising (d.world + 1) ds
 abbrev pub AreBefore : ℕ → List Def → Type 0
 AreBefore w ds = (d : Def) → Contains ds d → d.world < w
 
--- of the same site one is there that is no earlier
-pub record HasLater (some : List Def) (d : Def) : Type 0 where
-  pub by : Def
-  pub contained : Contains some by
-  pub site : by.site ≡ d.site
-  pub later : d.world ≤ by.world
-
 -- some of these definitions, in order, with the latest one of each site
 pub record AreLatest (all some : List Def) : Type 0 where
   pub there : (d : Def) → Contains some d → Contains all d
-  pub covered : (d : Def) → Contains all d → HasLater some d
+  pub covered : (d : Def) → Contains all d → HasLaterAtSite some d
   pub rising : Rising 0 some
 
 -- what is kept of the definitions of a function
@@ -48,7 +43,11 @@ pub record IsRenewed (def : Def) (old new : List Def) : Type 0 where
 abbrev pub with_def : ℕ → Def → List (List Def) → List (List Def)
 with_def f d rows = set rows f (get_or rows f [] ++ d ∷ [])
 
+-- the definitions of a function that these sites make, which make worlds from here on
+abbrev pub defs_of : Program → ℕ → ℕ → List ℕ → List Def
+defs_of P f world sites = defs_from P f world (map Ch.Def sites)
+
 -- each row has the definitions of one function of the program among those of these sites
 pub record AreByFunction (P : Program) (sites : List ℕ) (rows : List (List Def)) : Type 0 where
   pub count : length rows ≡ length P.functions
-  pub each : (f : ℕ) → get_or rows f [] ≡ defs_from P f 1 sites
+  pub each : (f : ℕ) → get_or rows f [] ≡ defs_of P f 1 sites

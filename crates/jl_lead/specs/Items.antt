@@ -2,9 +2,9 @@
 use Rattle.std.specs.Prelude.{◌≡◌, List, [], ◌∷◌, ◌++◌, Option, None, Some, ℕ, slice_get, Bool, true, false}
 use Rattle.jl_calculus.specs.declared.history.Seen.{Seen}
 use Rattle.jl_calculus.specs.declared.history.TraceItem.{TraceItem}
-use Rattle.jl_calculus.specs.declared.history.TraceItem.TheVariants.{Look, Def, Spawn, Fetch, WorldFull, TaskFull}
+use Rattle.jl_calculus.specs.declared.history.TraceItem.TheVariants.{Look, Def, Del, Spawn, Fetch, WorldFull, TaskFull, Absent}
 
--- two items answer the same question: a look, the definition of a site, a spawn, the outcome of a task
+-- two items answer the same question: a look, the definition of a site, a spawn, the outcome of a task, the deletion at a place
 abbrev pub IsSameQuestion : TraceItem → TraceItem → Type 0
 IsSameQuestion (Look w p) (Look v q) = Unit {0}
 IsSameQuestion (Def site p) (Def made q) = site ≡ made
@@ -16,6 +16,14 @@ IsSameQuestion (Spawn child p) (TaskFull q) = Unit {0}
 IsSameQuestion (TaskFull p) (Spawn made q) = Unit {0}
 IsSameQuestion (TaskFull p) (TaskFull q) = Unit {0}
 IsSameQuestion (Fetch task o p) (Fetch other u q) = task ≡ other
+IsSameQuestion (Del place p) (Del made q) = place ≡ made
+IsSameQuestion (Del place p) (Absent made q) = place ≡ made
+IsSameQuestion (Del place p) (WorldFull q) = Unit {0}
+IsSameQuestion (Absent place p) (Del made q) = place ≡ made
+IsSameQuestion (Absent place p) (Absent made q) = place ≡ made
+IsSameQuestion (Absent place p) (WorldFull q) = Unit {0}
+IsSameQuestion (WorldFull p) (Del made q) = Unit {0}
+IsSameQuestion (WorldFull p) (Absent made q) = Unit {0}
 IsSameQuestion _ _ = ⊥
 
 -- a trace begins with an answer to the question that an item answers

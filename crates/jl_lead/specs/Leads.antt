@@ -20,6 +20,7 @@ abbrev pub IsMadeBy : ℕ → List Event → Event → Type 0
 IsMadeBy task es (Ev.Def by site) = by ≡ task
 IsMadeBy task es (Ev.Spawn by child start) = (by ≡ task) × (child ≡ tasks_of es)
 IsMadeBy task es (Ev.Done by ended) = Unit {0}
+IsMadeBy task es (Ev.Del by place) = ⊥
 IsMadeBy task es (Ev.Begin fuel) = ⊥
 IsMadeBy task es (Ev.Key key) = ⊥
 IsMadeBy task es (Ev.Fill key site first) = ⊥
@@ -52,7 +53,7 @@ led_knows P es task items told seen looks alone = record {
   agrees = GoesOn es;
   events = es ++ [];
   agreed = ([], refl);
-  learnt = λ i. (xs : List Event) → GoesOn es xs → IsTrueOf xs task i;
+  learnt = λ i. (xs : List Event) → GoesOn es xs → IsTrueOf P xs task i;
   own = own_events task 0 es;
   starts = own_starts task es;
   looks = looks;

@@ -7,11 +7,12 @@ use Rattle.jl_calculus.specs.declared.history.Event.{Event}
 use Rattle.jl_calculus.specs.declared.history.Outcome.{Outcome}
 use Rattle.jl_calculus.specs.declared.history.Record.{Record}
 use Rattle.jl_calculus.specs.declared.history.TraceItem.{TraceItem}
-use Rattle.jl_calculus.specs.declared.history.TraceItem.TheVariants.{Look, Def, Spawn, Fetch, WorldFull, TaskFull}
+use Rattle.jl_calculus.specs.declared.history.TraceItem.TheVariants.{Look, Def, Del, Spawn, Fetch, WorldFull, TaskFull, Absent}
 use Rattle.jl_calculus.specs.Past.{EndedSo, done_of, tasks_of}
 use Rattle.jl_calculus.specs.World.{world_of}
 
--- the items are true of the events, follow one another from a place on, and no definition and no spawn is among them
+-- The items are true of the events, follow one another from a place on, and no definition and no spawn is among them. Nothing is told
+-- of a deletion: no run that is led asks for one.
 abbrev pub IsStretch : List Event → ℕ → List TraceItem → Type 0
 IsStretch es low [] = low ≤ length es
 IsStretch es low (Look w p ∷ is) = (low ≤ p) × (p ≤ length es) × (world_of (take p es) ≡ w) × IsStretch es p is
@@ -20,6 +21,8 @@ IsStretch es low (WorldFull p ∷ is) = (low ≤ p) × (p ≤ length es) × (wor
 IsStretch es low (TaskFull p ∷ is) = (low ≤ p) × (p ≤ length es) × (tasks_of (take p es) ≡ MOST_TASKS) × IsStretch es p is
 IsStretch es low (Def site p ∷ is) = ⊥
 IsStretch es low (Spawn child p ∷ is) = ⊥
+IsStretch es low (Del place p ∷ is) = ⊥
+IsStretch es low (Absent place p ∷ is) = ⊥
 
 -- what is left is such a stretch, unless the task goes on alone
 abbrev pub IsLeft : Bool → List Event → ℕ → List TraceItem → Type 0
@@ -41,6 +44,8 @@ IsStretch-prop es low (WorldFull p ∷ is) = four_prop (low ≤ p) (p ≤ length
 IsStretch-prop es low (TaskFull p ∷ is) = four_prop (low ≤ p) (p ≤ length es) (tasks_of (take p es) ≡ MOST_TASKS) (IsStretch es p is) le_prop le_prop (Coded-set coded_ℕ _ _) (IsStretch-prop es p is)
 IsStretch-prop es low (Def site p ∷ is) = λ x y. absurd x
 IsStretch-prop es low (Spawn child p ∷ is) = λ x y. absurd x
+IsStretch-prop es low (Del place p ∷ is) = λ x y. absurd x
+IsStretch-prop es low (Absent place p ∷ is) = λ x y. absurd x
 
 pub IsLeft-prop : (alone : Bool) (es : List Event) (seen : ℕ) (is : List TraceItem) → IsProp (IsLeft alone es seen is)
 IsLeft-prop true es seen is = Unit-prop

@@ -3,8 +3,7 @@
 ghost use Rattle.std.specs.Prelude.{ℕ, ◌-◌, ◌≡◌, ◌<◌, MatchOption, ◌≤◌, ◌++◌, [], ◌∷◌, take, length, get_or, IfOk, OnOk, OnErr};
 ghost use Rattle.jl_model.specs.declared.limits.TheConstants.{MOST_WORLDS};
 ghost use Rattle.jl_program.specs.Prelude.{prelude_numbers};
-ghost use Rattle.jl_calculus.specs.Definitions.{defs_from};
-ghost use Rattle.jl_lead.specs.ByFunction.{in_world, with_def, AreBefore, AreLatest, IsRenewed};
+ghost use Rattle.jl_lead.specs.ByFunction.{defs_of, in_world, with_def, AreBefore, AreLatest, IsRenewed};
 
 use jl_calculus::history::Def;
 use jl_program::prelude::PRELUDE_SITES;
@@ -209,7 +208,7 @@ impl<'p> Definitions<'p> {
     /// The latest ones of their sites among the definitions of a function in a world, or all of these.
     pub fn of(&self, function: u32, world: u32) -> &[Def]
         requires { world ≤ length self.now.1 }
-        ensures { AreLatest (defs_from self.now.0 function 1 (take world self.now.1)) result.now }
+        ensures { AreLatest (defs_of self.now.0 function 1 (take world self.now.1)) result.now }
     {
         match self.methods.get(function as usize) {
             Some(methods) => methods.in_world(world),

@@ -6,7 +6,6 @@ ghost use Rattle.jl_calculus.specs.Legal.{IsKeyOf};
 ghost use Rattle.jl_calculus.specs.Past.{EndedSo, done_of, tasks_of};
 ghost use Rattle.jl_calculus.specs.ValidHistory.{IsValidOutcome};
 ghost use Rattle.jl_calculus.specs.World.{Selects, site_of, world_of};
-ghost use Rattle.jl_program.specs.Valid.{IsValid};
 ghost use Rattle.jl_lead.specs.Known.{AreEnds, AreSound, IsNoted, IsStartAmong, IsPlain, IsSpawnOf, IsNoSpawn};
 
 use crate::choosing::choose_for;
@@ -181,7 +180,6 @@ impl<'p> Past<'p> {
         ensures { IfOk result (λ c. Selects self.now.0 self.now.1 key.now.function key.now.types world c) }
     {
         let ready = self.definitions.ready();
-        ready.valid();
         let defs = self.definitions.of(key.function, world);
         choose_for(self.alloc, ready, defs, key.types.as_slice())
     }

@@ -1,5 +1,5 @@
 -- The entries of a legal history may stand in a text.
-use Rattle.std.proofs.Common.{◌≡◌, subst, refl, ℕ, zero, suc, ◌+◌, ◌-◌, ◌<◌, ◌≤◌, inl, inr, arith, Bool, true, false, cond, nat_eq, List, [], ◌∷◌, ◌++◌, length, length-append, take, get_or, slice_get, Option, None, Some}
+use Rattle.std.proofs.Common.{◌≡◌, subst, refl, ℕ, zero, suc, ◌+◌, ◌<◌, ◌≤◌, inl, inr, arith, Bool, true, false, cond, nat_eq, List, [], ◌∷◌, ◌++◌, map, length, length-append, take, slice_get, Option, None, Some}
 use Rattle.std.proofs.lemmas.Option.{slice_get_within}
 use Rattle.jl_model.specs.declared.limits.TheConstants.{MOST_FUEL}
 use Rattle.jl_model.specs.declared.ty.Key.{Key}
@@ -8,20 +8,23 @@ use Rattle.jl_program.specs.declared.tree.Program.{Program}
 use Rattle.jl_program.specs.Prelude.{prelude_numbers}
 use Rattle.jl_program.specs.Text.{function_name, type_text, value_text, fault_text}
 use Rattle.jl_program.specs.Valid.{IsValid}
+use Rattle.jl_calculus.specs.declared.history.Change.{Change}
+use Rattle.jl_calculus.specs.declared.history.Change.TheVariants as Ch
 use Rattle.jl_calculus.specs.declared.history.Event.{Event}
 use Rattle.jl_calculus.specs.declared.history.Event.TheVariants as Ev
 use Rattle.jl_calculus.specs.declared.history.Outcome.{Outcome}
 use Rattle.jl_calculus.specs.declared.history.Outcome.TheVariants as O
 use Rattle.jl_calculus.specs.declared.history.Record.{Record}
 use Rattle.jl_calculus.specs.declared.history.TraceItem.{TraceItem}
-use Rattle.jl_calculus.specs.declared.history.TraceItem.TheVariants.{Look, Def, Spawn, Fetch, WorldFull, TaskFull}
+use Rattle.jl_calculus.specs.declared.history.TraceItem.TheVariants.{Look, Def, Del, Spawn, Fetch, WorldFull, TaskFull, Absent}
 use Rattle.jl_calculus.specs.Legal.{MayCome, start_of, AreTrueOf, HasTrueTrace, HasRun, OnDone, EachAfter, IsLegal}
 use Rattle.jl_calculus.specs.Past.{tasks_of, done_of, own_starts, EndedSo, IsTrueOf}
 use Rattle.jl_calculus.specs.Ranges.{keys_of, MayBegin, SelectsSite}
-use Rattle.jl_calculus.specs.World.{defined, definitions, site_of, world_of}
+use Rattle.jl_calculus.specs.World.{changed, changes, site_in, site_of, world_of}
 use Rattle.jl_calculus.proofs.GrowthLemmas.{first_at_most, touches_known}
 use Rattle.jl_report.specs.HistoryText.{step_of, steps_of, ending_of, entry_of, keys_with, entries_from, entries_of, entry_lines, all_lines, history_text}
 use Rattle.jl_report.proofs.EntryLemmas.{entries_length}
+use Rattle.jl_report.proofs.PlainLemmas.{names_nothing, none_comes}
 use Rattle.jl_history.specs.declared.fields.TheConstants.{MOST_NUMBER}
 use Rattle.jl_history.specs.declared.history.TheConstants.{MOST_HISTORY_BYTES}
 use Rattle.jl_history.specs.Form.{IsText, IsStep, AreSteps, IsEnding, IsEntry, AreLater, AreFirst, AreEntries}
@@ -46,6 +49,7 @@ tasks_few (Ev.Begin fuel ∷ es) = omega (arith, tasks_few es)
 tasks_few (Ev.Key key ∷ es) = omega (arith, tasks_few es)
 tasks_few (Ev.Fill key site begins ∷ es) = omega (arith, tasks_few es)
 tasks_few (Ev.Def task site ∷ es) = omega (arith, tasks_few es)
+tasks_few (Ev.Del task place ∷ es) = omega (arith, tasks_few es)
 tasks_few (Ev.Done task ended ∷ es) = omega (arith, tasks_few es)
 
 keys_few : (es : List Event) → length (keys_of es) ≤ length es
@@ -54,28 +58,31 @@ keys_few (Ev.Key key ∷ es) = omega (arith, keys_few es)
 keys_few (Ev.Begin fuel ∷ es) = omega (arith, keys_few es)
 keys_few (Ev.Fill key site begins ∷ es) = omega (arith, keys_few es)
 keys_few (Ev.Def task site ∷ es) = omega (arith, keys_few es)
+keys_few (Ev.Del task place ∷ es) = omega (arith, keys_few es)
 keys_few (Ev.Spawn task child start ∷ es) = omega (arith, keys_few es)
 keys_few (Ev.Done task ended ∷ es) = omega (arith, keys_few es)
 
-defined_few : (es : List Event) → length (defined es) ≤ length es
-defined_few [] = omega arith
-defined_few (Ev.Def task site ∷ es) = omega (arith, defined_few es)
-defined_few (Ev.Begin fuel ∷ es) = omega (arith, defined_few es)
-defined_few (Ev.Key key ∷ es) = omega (arith, defined_few es)
-defined_few (Ev.Fill key site begins ∷ es) = omega (arith, defined_few es)
-defined_few (Ev.Spawn task child start ∷ es) = omega (arith, defined_few es)
-defined_few (Ev.Done task ended ∷ es) = omega (arith, defined_few es)
+changed_few : (es : List Event) → length (changed es) ≤ length es
+changed_few [] = omega arith
+changed_few (Ev.Def task site ∷ es) = omega (arith, changed_few es)
+changed_few (Ev.Del task place ∷ es) = omega (arith, changed_few es)
+changed_few (Ev.Begin fuel ∷ es) = omega (arith, changed_few es)
+changed_few (Ev.Key key ∷ es) = omega (arith, changed_few es)
+changed_few (Ev.Fill key site begins ∷ es) = omega (arith, changed_few es)
+changed_few (Ev.Spawn task child start ∷ es) = omega (arith, changed_few es)
+changed_few (Ev.Done task ended ∷ es) = omega (arith, changed_few es)
 
 world_few : (es : List Event) → world_of es ≤ 14 + length es
-world_few es = omega (arith, defined_few es)
+world_few es = omega (arith, changed_few es)
 
--- ---- the numbers of events that came before
+-- ---- the numbers of events that came before, none of which is a deletion
 
 abbrev IsSmall : Event → Type 0
 IsSmall (Ev.Begin fuel) = Unit {0}
 IsSmall (Ev.Key key) = Unit {0}
 IsSmall (Ev.Fill key site begins) = Unit {0}
 IsSmall (Ev.Def task site) = site ≤ MOST_NUMBER
+IsSmall (Ev.Del task place) = ⊥
 IsSmall (Ev.Spawn task child start) = child ≤ MOST_NUMBER
 IsSmall (Ev.Done task ended) = task ≤ MOST_NUMBER
 
@@ -108,32 +115,37 @@ small_done t (Ev.Begin fuel ∷ es) r h g = small_done t es r h.1 g
 small_done t (Ev.Key key ∷ es) r h g = small_done t es r h.1 g
 small_done t (Ev.Fill key site begins ∷ es) r h g = small_done t es r h.1 g
 small_done t (Ev.Def task site ∷ es) r h g = small_done t es r h.1 g
+small_done t (Ev.Del task place ∷ es) r h g = small_done t es r h.1 g
 small_done t (Ev.Spawn task child start ∷ es) r h g = small_done t es r h.1 g
 
--- the sites that they define
-abbrev AreSites : List ℕ → Type 0
+-- the sites that changes define
+abbrev AreSites : List Change → Type 0
 AreSites [] = Unit {0}
-AreSites (n ∷ ns) = (n ≤ MOST_NUMBER) × AreSites ns
+AreSites (Ch.Def site ∷ cs) = (site ≤ MOST_NUMBER) × AreSites cs
+AreSites (Ch.Del place ∷ cs) = ⊥
 
-sites_append : (xs ys : List ℕ) → AreSites xs → AreSites ys → AreSites (xs ++ ys)
+sites_append : (xs ys : List Change) → AreSites xs → AreSites ys → AreSites (xs ++ ys)
 sites_append [] ys h k = k
-sites_append (x ∷ xs) ys h k = (h.0, sites_append xs ys h.1 k)
+sites_append (Ch.Def site ∷ xs) ys h k = (h.0, sites_append xs ys h.1 k)
+sites_append (Ch.Del place ∷ xs) ys h k = absurd h
 
-site_at : (ns : List ℕ) (k : ℕ) → AreSites ns → get_or ns k 0 ≤ MOST_NUMBER
+site_at : (cs : List Change) (k : ℕ) → AreSites cs → site_in (slice_get cs k) ≤ MOST_NUMBER
 site_at [] k h = omega arith
-site_at (n ∷ ns) zero h = h.0
-site_at (n ∷ ns) (suc k) h = site_at ns k h.1
+site_at (Ch.Def site ∷ cs) zero h = h.0
+site_at (Ch.Def site ∷ cs) (suc k) h = site_at cs k h.1
+site_at (Ch.Del place ∷ cs) k h = absurd h
 
-defined_sites : (es : List Event) → AreSmall es → AreSites (defined es)
+defined_sites : (es : List Event) → AreSmall es → AreSites (changed es)
 defined_sites [] h = tt
 defined_sites (Ev.Def task site ∷ es) h = (h.0, defined_sites es h.1)
+defined_sites (Ev.Del task place ∷ es) h = absurd h.0
 defined_sites (Ev.Begin fuel ∷ es) h = defined_sites es h.1
 defined_sites (Ev.Key key ∷ es) h = defined_sites es h.1
 defined_sites (Ev.Fill key site begins ∷ es) h = defined_sites es h.1
 defined_sites (Ev.Spawn task child start ∷ es) h = defined_sites es h.1
 defined_sites (Ev.Done task ended ∷ es) h = defined_sites es h.1
 
-prelude_sites_few : AreSites prelude_numbers
+prelude_sites_few : AreSites (map Ch.Def prelude_numbers)
 prelude_sites_few = (
   omega arith,
   (
@@ -146,7 +158,8 @@ prelude_sites_few = (
 )
 
 site_few : (es : List Event) (d : ℕ) → AreSmall es → site_of es d ≤ MOST_NUMBER
-site_few es d h = site_at (definitions es) (d - 1) (sites_append prelude_numbers (defined es) prelude_sites_few (defined_sites es h))
+site_few es zero h = omega arith
+site_few es (suc d) h = site_at (changes es) d (sites_append (map Ch.Def prelude_numbers) (changed es) prelude_sites_few (defined_sites es h))
 
 -- ---- traces
 
@@ -159,26 +172,28 @@ pub record AreFew (es : List Event) : Type 0 where
   pub few : length es ≤ MOST_HISTORY_BYTES
   pub small : AreSmall es
 
-item_fits : (es : List Event) (t : ℕ) (i : TraceItem) → AreFew es → IsTrueOf es t i → IsStep (step_of i)
-item_fits es t (Look w p) f h =
+item_fits : (P : Program) → P.deletes ≡ [] → (es : List Event) (t : ℕ) (i : TraceItem) → AreFew es → IsTrueOf P es t i → IsStep (step_of i)
+item_fits P plain es t (Look w p) f h =
     let at : world_of (take p es) ≡ w = h.1 in
     let low : world_of (take p es) ≤ world_of es = first_at_most es p in
     (omega (arith, at, low, world_few es, f.few), omega (arith, h.0, f.few))
-item_fits es t (Def site p) f h = (small_at es p (Ev.Def t site) f.small h, omega (arith, slice_get_within es p (Ev.Def t site) h, f.few))
-item_fits es t (Spawn child p) f h = (small_at es p (Ev.Spawn t child h.0) f.small h.1, omega (arith, slice_get_within es p (Ev.Spawn t child h.0) h.1, f.few))
-item_fits es t (Fetch task outcome p) f h =
+item_fits P plain es t (Def site p) f h = (small_at es p (Ev.Def t site) f.small h, omega (arith, slice_get_within es p (Ev.Def t site) h, f.few))
+item_fits P plain es t (Spawn child p) f h = (small_at es p (Ev.Spawn t child h.0) f.small h.1, omega (arith, slice_get_within es p (Ev.Spawn t child h.0) h.1, f.few))
+item_fits P plain es t (Fetch task outcome p) f h =
     let r = ended_some (done_of task (take p es)) outcome h.1 in
     (small_done task (take p es) r.0 (small_take p es f.small) r.1, omega (arith, h.0, f.few))
-item_fits es t (WorldFull p) f h = omega (arith, h.0, f.few)
-item_fits es t (TaskFull p) f h = omega (arith, h.0, f.few)
+item_fits P plain es t (WorldFull p) f h = omega (arith, h.0, f.few)
+item_fits P plain es t (TaskFull p) f h = omega (arith, h.0, f.few)
+item_fits P plain es t (Del place p) f h = small_at es p (Ev.Del t place) f.small h
+item_fits P plain es t (Absent place p) f h = names_nothing P plain place h.1.known
 
-items_fit : (es : List Event) (t : ℕ) (is : List TraceItem) → AreFew es → AreTrueOf es t is → AreSteps (steps_of is)
-items_fit es t [] f h = tt
-items_fit es t (i ∷ is) f h = (item_fits es t i f h.0, items_fit es t is f h.1)
+items_fit : (P : Program) → P.deletes ≡ [] → (es : List Event) (t : ℕ) (is : List TraceItem) → AreFew es → AreTrueOf P es t is → AreSteps (steps_of is)
+items_fit P plain es t [] f h = tt
+items_fit P plain es t (i ∷ is) f h = (item_fits P plain es t i f h.0, items_fit P plain es t is f h.1)
 
 -- ---- entries
 
-module _ (P : Program) (v : IsValid P) (n : IsNumbered P) where
+module _ (P : Program) (v : IsValid P) (n : IsNumbered P) (plain : P.deletes ≡ []) where
   ending_fits : (o : Outcome) → IsTold o → IsEnding (ending_of P o)
   ending_fits (O.Value x) h = text_of_line (value_text P x) (value_some P v x) (value_line P v x)
   ending_fits (O.Error e) h = text_of_line (fault_text P e) (fault_some P v e) (fault_line P v e h)
@@ -208,7 +223,7 @@ module _ (P : Program) (v : IsValid P) (n : IsNumbered P) where
           types = text_of_line (type_text P (Tuple key.types)) (tuple_type_some P v key.types) (type_line P v (Tuple key.types));
         }
 
-    done_fits : (before : List Event) (k task : ℕ) (ended : Record) → AreFew (after before) → MayCome P (after before) (Ev.Done task ended) → HasTrueTrace (after before) task ended → HasRun P None (after before) task ended
+    done_fits : (before : List Event) (k task : ℕ) (ended : Record) → AreFew (after before) → MayCome P (after before) (Ev.Done task ended) → HasTrueTrace P (after before) task ended → HasRun P None (after before) task ended
         → length (entry_lines (entry_of P k (Ev.Done task ended))) ≤ MOST_HISTORY_BYTES → IsEntry (entry_of P k (Ev.Done task ended))
     done_fits before k task ended f m t r l =
         let told = run_told P v (after before) None fuel (start_of task (after before)) ended.trace ended.outcome ended.output ended.calls (own_starts task (after before)) (r fuel refl) in
@@ -216,12 +231,12 @@ module _ (P : Program) (v : IsValid P) (n : IsNumbered P) where
           task_small = running_few (after before) task f.few m.started;
           calls_small = omega (arith, told.few, allowed);
           items = omega (arith, items_few task ended.calls (steps_of ended.trace) ended.output (ending_of P ended.outcome), l);
-          steps = items_fit (after before) task ended.trace f t.true_items;
+          steps = items_fit P plain (after before) task ended.trace f t.true_items;
           utf8 = told.utf8;
           ends = ending_fits ended.outcome told.named;
         }
 
-    entry_fits : (before : List Event) (k : ℕ) (e : Event) → k ≤ MOST_NUMBER → AreFew (after before) → MayCome P (after before) e → OnDone (HasTrueTrace (after before)) e → OnDone (HasRun P None (after before)) e
+    entry_fits : (before : List Event) (k : ℕ) (e : Event) → k ≤ MOST_NUMBER → AreFew (after before) → MayCome P (after before) e → OnDone (HasTrueTrace P (after before)) e → OnDone (HasRun P None (after before)) e
         → length (entry_lines (entry_of P k e)) ≤ MOST_HISTORY_BYTES → IsEntry (entry_of P k e)
     entry_fits before k (Ev.Begin other) s f m t r l = absurd (let h : Ev.Begin fuel ∷ before ≡ [] = m.nothing_before in cc)
     entry_fits before k (Ev.Key key) s f m t r l = key_fits before k key s m
@@ -230,7 +245,8 @@ module _ (P : Program) (v : IsValid P) (n : IsNumbered P) where
       site_chosen (after before) m.key begins site f.small m.right.choice,
       begins_few (after before) m.key begins f.few m.right.begun,
     )
-    entry_fits before k (Ev.Def task site) s f m t r l = (running_few (after before) task f.few m.running.started, omega (arith, m.of_program, n.sites))
+    entry_fits before k (Ev.Def task site) s f m t r l = (running_few (after before) task f.few m.running.started, omega (arith, m.may.1, n.sites))
+    entry_fits before k (Ev.Del task place) s f m t r l = absurd (none_comes P plain (after before) task place m)
     entry_fits before k (Ev.Spawn task child start) s f m t r l = (
       running_few (after before) task f.few m.running.started,
       omega (arith, m.next, tasks_few (after before), f.few),
@@ -242,7 +258,8 @@ module _ (P : Program) (v : IsValid P) (n : IsNumbered P) where
     small_event before (Ev.Begin other) f m = tt
     small_event before (Ev.Key key) f m = tt
     small_event before (Ev.Fill number site begins) f m = tt
-    small_event before (Ev.Def task site) f m = omega (arith, m.of_program, n.sites)
+    small_event before (Ev.Def task site) f m = omega (arith, m.may.1, n.sites)
+    small_event before (Ev.Del task place) f m = none_comes P plain (after before) task place m
     small_event before (Ev.Spawn task child start) f m = omega (arith, m.next, tasks_few (after before), f)
     small_event before (Ev.Done task ended) f m = running_few (after before) task f m.started
 
@@ -251,11 +268,12 @@ module _ (P : Program) (v : IsValid P) (n : IsNumbered P) where
     keys_grow k (Ev.Key key) = omega arith
     keys_grow k (Ev.Fill number site begins) = omega arith
     keys_grow k (Ev.Def task site) = omega arith
+    keys_grow k (Ev.Del task place) = omega arith
     keys_grow k (Ev.Spawn task child start) = omega arith
     keys_grow k (Ev.Done task ended) = omega arith
 
     later_fit : (before es : List Event) (k : ℕ) → k ≤ length (after before) → AreSmall (after before) → length (after before) + length es ≤ MOST_HISTORY_BYTES → length (all_lines (entries_from P k es)) ≤ MOST_HISTORY_BYTES
-        → EachAfter (MayCome P) (after before) es → EachAfter (λ past. OnDone (HasTrueTrace past)) (after before) es → EachAfter (λ past. OnDone (HasRun P None past)) (after before) es → AreLater (entries_from P k es)
+        → EachAfter (MayCome P) (after before) es → EachAfter (λ past. OnDone (HasTrueTrace P past)) (after before) es → EachAfter (λ past. OnDone (HasRun P None past)) (after before) es → AreLater (entries_from P k es)
     later_fit before [] k s small f l m t r = tt
     later_fit before (e ∷ es) k s small f l m t r =
         let parts = length-append (entry_lines (entry_of P k e)) (all_lines (entries_from P (keys_with k e) es)) in
@@ -266,24 +284,25 @@ module _ (P : Program) (v : IsValid P) (n : IsNumbered P) where
         )
 
 -- what follows a begin, and the begin
-entries_fit : (P : Program) → IsValid P → IsNumbered P → (es : List Event) → IsLegal P es → length (all_lines (entries_of P es)) ≤ MOST_HISTORY_BYTES → length es ≤ MOST_HISTORY_BYTES → AreFirst (entries_of P es)
-entries_fit P v n [] g l f = let bad : false ≡ true = g.so_far.stand.begun in cc
-entries_fit P v n (Ev.Begin fuel ∷ es) g l f =
+entries_fit : (P : Program) → IsValid P → IsNumbered P → P.deletes ≡ [] → (es : List Event) → IsLegal P es → length (all_lines (entries_of P es)) ≤ MOST_HISTORY_BYTES → length es ≤ MOST_HISTORY_BYTES → AreFirst (entries_of P es)
+entries_fit P v n plain [] g l f = let bad : false ≡ true = g.so_far.stand.begun in cc
+entries_fit P v n plain (Ev.Begin fuel ∷ es) g l f =
     let come = g.so_far.stand.come in
     let parts = length-append (entry_lines (entry_of P 0 (Ev.Begin fuel))) (all_lines (entries_from P 0 es)) in (
       come.0.allowed,
-      later_fit P v n fuel come.0.allowed [] es 0 (omega arith) (tt, tt) (omega (arith, f)) (omega (arith, parts, l)) come.1 g.so_far.traced.traces.1 g.so_far.runs.1,
+      later_fit P v n plain fuel come.0.allowed [] es 0 (omega arith) (tt, tt) (omega (arith, f)) (omega (arith, parts, l)) come.1 g.so_far.traced.traces.1 g.so_far.runs.1,
     )
-entries_fit P v n (Ev.Key key ∷ es) g l f = let bad : false ≡ true = g.so_far.stand.begun in cc
-entries_fit P v n (Ev.Fill key site begins ∷ es) g l f = let bad : false ≡ true = g.so_far.stand.begun in cc
-entries_fit P v n (Ev.Def task site ∷ es) g l f = let bad : false ≡ true = g.so_far.stand.begun in cc
-entries_fit P v n (Ev.Spawn task child start ∷ es) g l f = let bad : false ≡ true = g.so_far.stand.begun in cc
-entries_fit P v n (Ev.Done task ended ∷ es) g l f = let bad : false ≡ true = g.so_far.stand.begun in cc
+entries_fit P v n plain (Ev.Key key ∷ es) g l f = let bad : false ≡ true = g.so_far.stand.begun in cc
+entries_fit P v n plain (Ev.Fill key site begins ∷ es) g l f = let bad : false ≡ true = g.so_far.stand.begun in cc
+entries_fit P v n plain (Ev.Def task site ∷ es) g l f = let bad : false ≡ true = g.so_far.stand.begun in cc
+entries_fit P v n plain (Ev.Del task place ∷ es) g l f = let bad : false ≡ true = g.so_far.stand.begun in cc
+entries_fit P v n plain (Ev.Spawn task child start ∷ es) g l f = let bad : false ≡ true = g.so_far.stand.begun in cc
+entries_fit P v n plain (Ev.Done task ended ∷ es) g l f = let bad : false ≡ true = g.so_far.stand.begun in cc
 
-pub legal_entries : (P : Program) → IsValid P → IsNumbered P → (es : List Event) → IsLegal P es → length (history_text P es) ≤ MOST_HISTORY_BYTES → AreEntries (entries_of P es)
-legal_entries P v n es g l =
+pub legal_entries : (P : Program) → IsValid P → IsNumbered P → P.deletes ≡ [] → (es : List Event) → IsLegal P es → length (history_text P es) ≤ MOST_HISTORY_BYTES → AreEntries (entries_of P es)
+legal_entries P v n plain es g l =
     let lines = lines_few (entries_of P es) in
     let many = entries_few (entries_of P es) in
     let same = entries_length P es in
-    let first : AreFirst (entries_of P es) = entries_fit P v n es g (omega (arith, lines, l)) (omega (arith, lines, many, same, l)) in
+    let first : AreFirst (entries_of P es) = entries_fit P v n plain es g (omega (arith, lines, l)) (omega (arith, lines, many, same, l)) in
     (first, omega (arith, lines, many, l))

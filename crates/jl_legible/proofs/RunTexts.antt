@@ -34,7 +34,7 @@ use Rattle.jl_calculus.specs.declared.history.Event.{Event}
 use Rattle.jl_calculus.specs.declared.history.Outcome.{Outcome}
 use Rattle.jl_calculus.specs.declared.history.Outcome.TheVariants as O
 use Rattle.jl_calculus.specs.declared.history.TraceItem.{TraceItem}
-use Rattle.jl_calculus.specs.declared.history.TraceItem.TheVariants.{Look, Def, Spawn, Fetch, WorldFull, TaskFull}
+use Rattle.jl_calculus.specs.declared.history.TraceItem.TheVariants.{Look, Def, Del, Spawn, Fetch, WorldFull, TaskFull, Absent}
 use Rattle.jl_calculus.specs.Answers.{Answer}
 use Rattle.jl_calculus.specs.Kept.{Places}
 use Rattle.jl_calculus.specs.Run.{Setting, State, Then, Runs, ItemRuns, PieceRuns, Caller, Body, operation, code, code_of, body_of, each_runs, texts_run, stmts_run, items_run, either, newline, with_scope, looks, defines, spawns, fetched, fetches, fetches_value, decides, answers, operation_runs, expr_runs, stmt_runs, item_runs, piece_runs, runs, runs_stmt, runs_item, runs_piece, chosen, performs, calls, open_calls, first_state, task_state, task_runs, setting_of, IsEnd, Run}
@@ -85,6 +85,8 @@ module _ (P : Program) (v : IsValid P) (es : List Event) (places : Option Places
   of_looks (Fetch task o p ∷ rest) s n m k a = absurd k
   of_looks (WorldFull p ∷ rest) s n m k a = absurd k
   of_looks (TaskFull p ∷ rest) s n m k a = absurd k
+  of_looks (Del place p ∷ rest) s n m k a = absurd k
+  of_looks (Absent place p ∷ rest) s n m k a = absurd k
 
   of_defines : (left : List TraceItem) (site : ℕ) (s : State) (n : State → Type 0) → ((s1 : State) → n s1 → Kept s1 → R) → defines g Q left site s n → Kept s → R
   of_defines [] site s n m k a = absurd k
@@ -94,6 +96,8 @@ module _ (P : Program) (v : IsValid P) (es : List Event) (places : Option Places
   of_defines (Spawn child p ∷ rest) site s n m k a = absurd k
   of_defines (Fetch task o p ∷ rest) site s n m k a = absurd k
   of_defines (TaskFull p ∷ rest) site s n m k a = absurd k
+  of_defines (Del place p ∷ rest) site s n m k a = absurd k
+  of_defines (Absent place p ∷ rest) site s n m k a = absurd k
 
   of_spawns : (left : List TraceItem) (start : Start) (s : State) (n : Then) → Goes n → spawns g Q left start s n → Kept s → R
   of_spawns [] start s n m k a = absurd k
@@ -103,6 +107,8 @@ module _ (P : Program) (v : IsValid P) (es : List Event) (places : Option Places
   of_spawns (Def made p ∷ rest) start s n m k a = absurd k
   of_spawns (Fetch task o p ∷ rest) start s n m k a = absurd k
   of_spawns (WorldFull p ∷ rest) start s n m k a = absurd k
+  of_spawns (Del place p ∷ rest) start s n m k a = absurd k
+  of_spawns (Absent place p ∷ rest) start s n m k a = absurd k
 
   of_fetched : (task : ℕ) (o : Outcome) (s : State) (n : Then) → Goes n → fetched g Q task o s n → Kept s → R
   of_fetched task (O.Value x) s n m k a = m x s k a
@@ -116,6 +122,8 @@ module _ (P : Program) (v : IsValid P) (es : List Event) (places : Option Places
   of_fetches (Spawn child p ∷ rest) of s n m k a = absurd k
   of_fetches (WorldFull p ∷ rest) of s n m k a = absurd k
   of_fetches (TaskFull p ∷ rest) of s n m k a = absurd k
+  of_fetches (Del place p ∷ rest) of s n m k a = absurd k
+  of_fetches (Absent place p ∷ rest) of s n m k a = absurd k
 
   of_value : (x : Value) (s : State) (n : Then) → Goes n → fetches_value g Q x s n → Kept s → R
   of_value (V.Task task) s n m k a = of_fetches s.left task s n m k a

@@ -26,6 +26,8 @@ step_some (S.Spawn child at) = number_line_some (codes "spawn") (child ∷ at �
 step_some (S.Fetch task at) = number_line_some (codes "fetch") (task ∷ at ∷ [])
 step_some (S.WorldFull at) = number_line_some (codes "worldfull") (at ∷ [])
 step_some (S.TaskFull at) = number_line_some (codes "taskfull") (at ∷ [])
+step_some (S.Del place at) = number_line_some (codes "del") (place ∷ at ∷ [])
+step_some (S.Absent place at) = number_line_some (codes "absent") (place ∷ at ∷ [])
 
 steps_few : (ss : List Step) → length ss ≤ length (step_lines ss)
 steps_few [] = omega arith
@@ -51,6 +53,7 @@ entry_some (E.Begin fuel) = number_line_some (codes "begin") (fuel ∷ [])
 entry_some (E.Key number function tuple) = key_some number function tuple
 entry_some (E.Fill k site first) = number_line_some (codes "fill") (k ∷ site ∷ first ∷ [])
 entry_some (E.Def task site) = number_line_some (codes "def") (task ∷ site ∷ [])
+entry_some (E.Del task place) = number_line_some (codes "del") (task ∷ place ∷ [])
 entry_some (E.Spawn task child place) = number_line_some (codes "spawn") (task ∷ child ∷ place ∷ [])
 entry_some (E.Done task calls trace output ending) = omega (arith, items_few task calls trace output ending)
 

@@ -22,7 +22,7 @@ use Rattle.jl_program.specs.TypeOf.{type_of}
 use Rattle.jl_calculus.specs.declared.history.Outcome.{Outcome}
 use Rattle.jl_calculus.specs.declared.history.Outcome.TheVariants as O
 use Rattle.jl_calculus.specs.declared.history.TraceItem.{TraceItem}
-use Rattle.jl_calculus.specs.declared.history.TraceItem.TheVariants.{Look, Def, Spawn, Fetch, WorldFull, TaskFull}
+use Rattle.jl_calculus.specs.declared.history.TraceItem.TheVariants.{Look, Def, Del, Spawn, Fetch, WorldFull, TaskFull, Absent}
 use Rattle.jl_calculus.specs.ValidHistory.{IsValidOutcome, IsValidValue}
 use Rattle.jl_frames.specs.Held.{Held, with_open, first_value}
 use Rattle.jl_point.specs.declared.point.Work.{Work}
@@ -77,6 +77,8 @@ module _ (P : Program) (views : List View) (x : Item) (xs : List Item) (v : Valu
 abbrev IsPlain : TraceItem → Type 0
 IsPlain (Look w p) = Unit {0}
 IsPlain (Def site p) = Unit {0}
+IsPlain (Del place p) = Unit {0}
+IsPlain (Absent place p) = Unit {0}
 IsPlain (WorldFull p) = Unit {0}
 IsPlain (TaskFull p) = Unit {0}
 IsPlain (Spawn child p) = ⊥
@@ -90,6 +92,8 @@ knows_plain k k' w t i p plain grew starts keeps =
     fetch_of : (i : TraceItem) → IsPlain i → IsFetchOf (known_tasks k.start t.trace) i
     fetch_of (Look w p) h = tt
     fetch_of (Def site p) h = tt
+    fetch_of (Del place p) h = tt
+    fetch_of (Absent place p) h = tt
     fetch_of (WorldFull p) h = tt
     fetch_of (TaskFull p) h = tt
     fetch_of (Spawn child p) h = tt

@@ -1,5 +1,5 @@
 -- What the choice of a method asks for and tells, where the code chooses.
-use Rattle.std.proofs.Common.{◌≡◌, refl, sym, ap, ◌∙◌, subst, ℕ, zero, suc, ◌<◌, List, [], ◌∷◌, ◌++◌, map, length, slice_get, Some, arith}
+use Rattle.std.proofs.Common.{◌≡◌, refl, sym, ap, ◌∙◌, subst, ℕ, zero, suc, ◌<◌, List, [], ◌∷◌, ◌++◌, map, length, slice_get, Option, None, Some, arith}
 use Rattle.std.specs.List.{All, flat_map, list_all}
 use Rattle.std.proofs.lemmas.Bool.{and_from}
 use Rattle.std.proofs.lemmas.List.Elements.{All-head, All-tail}
@@ -33,7 +33,7 @@ use Rattle.jl_match.proofs.ComponentLemmas.{none_of}
 use Rattle.jl_point.specs.declared.point.Work.TheVariants as W
 use Rattle.jl_point.proofs.AskedLemmas.{call_key}
 use Rattle.jl_point.proofs.SelectedLemmas.{IsSelected}
-use Rattle.jl_dispatcher.specs.Knows.{Knows, Asked, IsRight, IsOfSite}
+use Rattle.jl_dispatcher.specs.Knows.{Knows, Asked, IsMethod, IsRight, IsOfSite, variables_of}
 use Rattle.jl_fit.specs.Fits.{Progress, Fitting}
 use Rattle.jl_fit.proofs.Calling.{of_site}
 use Rattle.jl_machine.specs.Steps.{AppliesAt, variables_at}
@@ -103,6 +103,18 @@ module _ (k k' : Knows) (P : Program) (f w d site : ℕ) (ts : List Ty) (eP : P 
   pub kept_later : (k2 : Knows) → Asked k' k2 → (es : List Event) → k2.agrees es → Keeps k2.program es k2.places f ts w
   kept_later k2 b es a =
       subst (λ room. Keeps k2.program es room f ts w) (sym b.grew.places) (subst (λ Q. Keeps Q es k'.places f ts w) (sym b.grew.program) (right.kept es (b.grew.agrees es a)))
+
+  -- what the dispatcher is asked to keep
+  pub chosen_method : (us : List Ty) → variables_at P ts (slice_get P.sites site) ≡ us → IsMethod k' f ts w site us
+  chosen_method us bound = record {
+    right = chosen;
+    kept = right.kept;
+    bound = same (slice_get k'.program.sites site) ∙ subst (λ Q. variables_at Q ts (slice_get Q.sites site) ≡ us) (eP ∙ sym asked.grew.program) bound;
+  }
+    where
+      same : (o : Option Site) → variables_of k' ts o ≡ variables_at k'.program ts o
+      same None = refl
+      same (Some s) = refl
 
 -- ---- the types of the variables of a signature
 

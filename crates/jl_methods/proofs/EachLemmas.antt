@@ -1,6 +1,6 @@
 -- Steps of loops over numbers that are in order, each above those before it.
-use Rattle.std.proofs.Common.{◌≡◌, ◌∙◌, ap, sym, subst, ℕ, zero, suc, ◌+◌, ◌<◌, ◌≤◌, arith, List, [], ◌∷◌, length, take, drop, get_or}
-use Rattle.std.specs.List.{All}
+use Rattle.std.proofs.Common.{◌≡◌, ◌∙◌, ap, sym, subst, refl, ℕ, zero, suc, ◌+◌, ◌<◌, ◌≤◌, arith, List, [], ◌∷◌, ◌++◌, length, take, drop, get_or}
+use Rattle.std.specs.List.{All, Contains}
 use Rattle.std.proofs.lemmas.List.{drop_more, take_all}
 use Rattle.std.proofs.lemmas.List.Elements.{All-head, All-tail, All-more, All-weaker}
 use Rattle.jl_methods.specs.Numbered.{put_each, put_at, change_at, change_each, RisesFrom}
@@ -13,6 +13,13 @@ pub rises_at : (low : ℕ) (ns : List ℕ) (k d : ℕ) → k < length ns → Ris
 rises_at low [] k d l h = absurd (omega (arith, l))
 rises_at low (n ∷ ns) zero d l h = h.0
 rises_at low (n ∷ ns) (suc k) d l h = omega (arith, h.0, rises_at (n + 1) ns k d (omega (arith, l)) h.1)
+
+-- one more at the end
+pub rises_push : (low : ℕ) (ns : List ℕ) (n : ℕ) → low ≤ n → RisesFrom low ns → ((m : ℕ) → Contains ns m → m < n) → RisesFrom low (ns ++ n ∷ [])
+rises_push low [] n l r b = (l, tt)
+rises_push low (m ∷ ns) n l r b =
+    let w = b m (0, omega arith, refl) in
+    (r.0, rises_push (m + 1) ns n (omega (arith, w)) r.1 (λ k c. b k (suc c.0, omega (arith, c.1), c.2)))
 
 module _ (P Q : ℕ → Type 0) where
   pub first_has : (ns : List ℕ) (i : ℕ) → i < length ns → All P (drop i ns) → P (get_or ns i 0)

@@ -1,18 +1,11 @@
 -- Parts of lists by number: one more at the end, and what is in them.
-use Rattle.std.proofs.Common.{◌≡◌, ◌∙◌, ap, sym, subst, refl, ℕ, zero, suc, ◌+◌, ◌≤◌, ◌⊎◌, inl, inr, arith, Bool, true, false, cond, nat_eq, List, [], ◌∷◌, ◌++◌, map, length, slice_get, Option, None, Some}
+use Rattle.std.proofs.Common.{◌≡◌, ◌∙◌, ap, sym, subst, refl, ℕ, zero, suc, ◌+◌, ◌≤◌, ◌⊎◌, inl, inr, arith, Bool, true, false, cond, List, [], ◌∷◌, ◌++◌, map, length}
 use Rattle.std.specs.List.{Contains}
-use Rattle.jl_program.specs.declared.tree.Site.{Site}
-use Rattle.jl_program.specs.declared.tree.Program.{Program}
-use Rattle.jl_calculus.specs.declared.history.Def.{Def}
-use Rattle.jl_calculus.specs.Definitions.{def_at, defs_from}
 use Rattle.jl_methods.specs.Filters.{numbers_from, ArePicked}
 use Rattle.jl_methods.specs.Numbered.{RisesFrom}
 use Rattle.jl_methods.proofs.EachLemmas.{rises_less}
 
 -- ---- one more
-
-abbrev pub def : ℕ → ℕ → Def
-def world site = record { world = world; site = site }
 
 cond_push : {X : Type 0} (b : Bool) (x : X) (r s t : List X) → r ≡ s ++ t → cond b (x ∷ r) r ≡ cond b (x ∷ s) s ++ t
 cond_push true x r s t e = ap (λ xs. x ∷ xs) e
@@ -29,18 +22,6 @@ numbers_push test n (y ∷ xs) x =
     let more : ℕ → List ℕ = λ m. numbers_from test (n + 1) xs ++ cond (test x) (m ∷ []) [] in
     cond_push (test y) n (numbers_from test (n + 1) (xs ++ x ∷ [])) (numbers_from test (n + 1) xs) (cond (test x) ((n + suc (length xs)) ∷ []) [])
     (numbers_push test (n + 1) xs x ∙ ap more e)
-
-def_at_push : (o : Option Site) (f world site : ℕ) (r s t : List Def) → r ≡ s ++ t → def_at o f world site r ≡ def_at o f world site s ++ t
-def_at_push None f world site r s t e = e
-def_at_push (Some o) f world site r s t e = cond_push (nat_eq o.function f) (def world site) r s t e
-
-pub defs_push : (P : Program) (f world : ℕ) (sites : List ℕ) (site : ℕ)
-    → defs_from P f world (sites ++ site ∷ []) ≡ defs_from P f world sites ++ def_at (slice_get P.sites site) f (world + length sites) site []
-defs_push P f world [] site = let e : world ≡ world + 0 = omega arith in ap (λ w. def_at (slice_get P.sites site) f w site []) e
-defs_push P f world (other ∷ sites) site =
-    let e : (world + 1) + length sites ≡ world + suc (length sites) = omega arith in
-    def_at_push (slice_get P.sites other) f world other (defs_from P f (world + 1) (sites ++ site ∷ [])) (defs_from P f (world + 1) sites) (def_at (slice_get P.sites site) f (world + suc (length sites)) site [])
-    (defs_push P f (world + 1) sites site ∙ ap (λ w. defs_from P f (world + 1) sites ++ def_at (slice_get P.sites site) f w site []) e)
 
 -- ---- what is in a list
 
@@ -111,21 +92,3 @@ numbers_rise test low n (x ∷ xs) l = by (test x) (numbers_rise test (n + 1) (n
     by : (b : Bool) → RisesFrom (n + 1) (numbers_from test (n + 1) xs) → RisesFrom low (numbers_from test (n + 1) xs) → RisesFrom low (cond b (n ∷ numbers_from test (n + 1) xs) (numbers_from test (n + 1) xs))
     by true r s = (l, r)
     by false r s = s
-
-pub defs_rise : (P : Program) (f low world : ℕ) (sites : List ℕ) → low ≤ world → RisesFrom low (map (λ (d : Def). d.world) (defs_from P f world sites))
-defs_rise P f low world [] l = tt
-defs_rise P f low world (site ∷ sites) l = by (slice_get P.sites site) (defs_rise P f (world + 1) (world + 1) sites (omega arith)) (defs_rise P f low (world + 1) sites (omega (arith, l)))
-  where
-    worlds : List Def → List ℕ
-    worlds ds = map (λ (d : Def). d.world) ds
-
-    rest : List Def
-    rest = defs_from P f (world + 1) sites
-
-    one : (b : Bool) → RisesFrom (world + 1) (worlds rest) → RisesFrom low (worlds rest) → RisesFrom low (worlds (cond b (def world site ∷ rest) rest))
-    one true r s = (l, r)
-    one false r s = s
-
-    by : (o : Option Site) → RisesFrom (world + 1) (worlds rest) → RisesFrom low (worlds rest) → RisesFrom low (worlds (def_at o f world site rest))
-    by None r s = s
-    by (Some o) r s = one (nat_eq o.function f) r s

@@ -1,13 +1,18 @@
--- The function of each site of a valid program is one of the program.
+-- The function of each site and of each deletion place of a valid program is one of the program.
 use Rattle.std.proofs.Common.{◌≡◌, ◌∙◌, ap, sym, subst, refl, ℕ, zero, suc, ◌<◌, ◌≤◌, arith, true, nat_lt, List, [], ◌∷◌, ◌++◌, length, take, drop, slice_get, Some}
 use Rattle.std.specs.List.{All, list_all}
 use Rattle.std.proofs.lemmas.Bool.{ltb-true, and_parts}
 use Rattle.std.proofs.lemmas.List.{take-append-drop}
 use Rattle.std.proofs.lemmas.List.Elements.{All-nil, All-cons, All-head, All-tail, All-append, All-weaker}
+use Rattle.jl_program.specs.declared.tree.Delete.{Delete}
 use Rattle.jl_program.specs.declared.tree.Site.{Site}
 use Rattle.jl_program.specs.declared.tree.Program.{Program}
 use Rattle.jl_program.specs.Prelude.{prelude_functions, prelude_sites}
-use Rattle.jl_program.specs.Valid.{IsValid, IsValidSite}
+use Rattle.jl_program.specs.Valid.{IsValid, IsValidDelete, IsValidSite}
+use Rattle.jl_calculus.specs.declared.history.Change.{Change}
+use Rattle.jl_calculus.specs.declared.history.Change.TheVariants as Ch
+use Rattle.jl_calculus.specs.Ranges.{head_of_site, head_of_place}
+use Rattle.jl_methods.specs.Filters.{IsOfProgram}
 use Rattle.jl_methods.specs.Noted.{function_in, function_of}
 
 pub take_most : {X : Type 0} (n : ℕ) (xs : List X) → length (take n xs) ≤ length xs
@@ -54,7 +59,13 @@ module _ (P : Program) (valid : IsValid P) where
   pub function_known : (site : ℕ) (s : Site) → slice_get P.sites site ≡ Some s → s.function < length P.functions
   function_known site s e = all_get (HasFunction (length P.functions)) P.sites site s all_functions e
 
-  pub function_of_known : (site : ℕ) → site < length P.sites → function_of P site < length P.functions
-  function_of_known site l =
+  pub place_known : (place : ℕ) (p : Delete) → slice_get P.deletes place ≡ Some p → p.function < length P.functions
+  place_known place p e = (all_get (IsValidDelete P) P.deletes place p valid.deletes e).function
+
+  pub function_of_known : (change : Change) → IsOfProgram P change → function_of P change < length P.functions
+  function_of_known (Ch.Def site) l =
       let (s, e) = get_there P.sites site l in
-      omega (arith, function_known site s e, ap function_in e)
+      omega (arith, function_known site s e, ap (λ o. function_in (head_of_site o)) e)
+  function_of_known (Ch.Del place) l =
+      let (p, e) = get_there P.deletes place l in
+      omega (arith, place_known place p e, ap (λ o. function_in (head_of_place o)) e)

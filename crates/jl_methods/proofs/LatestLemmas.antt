@@ -1,20 +1,20 @@
--- The latest definition of each site, when one more is made.
-use Rattle.std.proofs.Common.{◌≡◌, ◌∙◌, ap, sym, subst, refl, ℕ, ◌+◌, ◌-◌, ◌<◌, ◌≤◌, ◌⊎◌, inl, inr, arith, Bool, true, false, true≢false, not, nat_eq, cond, List, [], ◌∷◌, ◌++◌, append_assoc, append-nil, get_or}
+-- What stays when each new one takes the place of that of its own number.
+use Rattle.std.proofs.Common.{◌≡◌, ◌∙◌, ap, sym, subst, refl, ℕ, ◌+◌, ◌<◌, ◌≤◌, ◌⊎◌, inl, inr, arith, Bool, true, false, true≢false, not, nat_eq, cond, List, [], ◌∷◌, ◌++◌, append_assoc, append-nil, map}
+use Rattle.std.specs.Prelude.{◌↔◌}
 use Rattle.std.specs.List.{Contains, filter}
 use Rattle.std.proofs.lemmas.Bool.{eqb-true, eq-eqb}
 use Rattle.std.proofs.lemmas.List.Elements.{Contains-append_left, Contains-append_right, Contains-append_cases}
 use Rattle.jl_model.specs.declared.ty.Key.{Key}
-use Rattle.jl_model.specs.declared.ty.Ty.{Ty}
 use Rattle.jl_program.specs.declared.tree.Program.{Program}
+use Rattle.jl_calculus.specs.declared.history.Change.{Change}
 use Rattle.jl_calculus.specs.declared.history.Def.{Def}
-use Rattle.jl_calculus.specs.Definitions.{AppliesTo, defs_from, worlds}
-use Rattle.jl_methods.specs.Filters.{ArePicked}
-use Rattle.jl_methods.specs.Latest.{renewed, renewed_by, HasLaterOfSite, AreLatestOfSites}
+use Rattle.jl_calculus.specs.Definitions.{AppliesTo, defs_from}
+use Rattle.jl_methods.specs.Filters.{AreTouchingAmong, defs_at}
+use Rattle.jl_methods.specs.Latest.{renewed, renewed_by, site_number, HasLater, AreLatestOf, AreLatestOfSites}
 use Rattle.jl_methods.specs.Numbered.{RisesFrom}
 use Rattle.jl_methods.proofs.EachLemmas.{rises_less}
-use Rattle.jl_methods.proofs.FilterLemmas.{def, here, there, here_or_there, none_there, defs_rise}
-use Rattle.jl_methods.proofs.TouchLemmas.{def_of}
-use Rattle.jl_methods.proofs.UpLemmas.{get_or_of}
+use Rattle.jl_methods.proofs.FilterLemmas.{here, there, here_or_there, none_there}
+use Rattle.jl_methods.proofs.UpLemmas.{defs_at_rise, made_exact}
 
 -- ---- what passes a test
 
@@ -52,144 +52,143 @@ filter_stay {X} t (y ∷ xs) x e c = by (t y) refl (here_or_there y x xs c) (fil
     by false q (inl d) more = absurd (true≢false (sym e ∙ ap t (sym d) ∙ q))
     by false q (inr d) more = more d
 
-filter_rise : (t : Def → Bool) (low : ℕ) (ds : List Def) → RisesFrom low (worlds ds) → RisesFrom low (worlds (filter t ds))
-filter_rise t low [] r = tt
-filter_rise t low (x ∷ ds) r = by (t x) (filter_rise t (x.world + 1) ds r.1)
-  where
-    by : (b : Bool) → RisesFrom (x.world + 1) (worlds (filter t ds)) → RisesFrom low (worlds (cond b (x ∷ filter t ds) (filter t ds)))
-    by true h = (r.0, h)
-    by false h = rises_less low (x.world + 1) (worlds (filter t ds)) (omega (arith, r.0)) h
-
-push_rise : (low : ℕ) (ds : List Def) (d : Def) → low ≤ d.world → RisesFrom low (worlds ds) → ((x : Def) → Contains ds x → x.world < d.world) → RisesFrom low (worlds (ds ++ d ∷ []))
-push_rise low [] d l r b = (l, tt)
-push_rise low (x ∷ ds) d l r b =
-    let w = b x (here x x ds refl) in (r.0, push_rise (x.world + 1) ds d (omega (arith, w)) r.1 (λ y c. b y (there x y ds c)))
-
--- ---- one more in place of those of its site
-
-module _ (d : Def) where
-  abbrev is_other : Def → Bool
-  is_other x = not (nat_eq x.site d.site)
-
-  is_last : (x : Def) → Contains (d ∷ []) x → d ≡ x
-  is_last x c = by (here_or_there d x [] c)
+module _ {X : Type 0} (number world : X → ℕ) where
+  filter_rise : (t : X → Bool) (low : ℕ) (xs : List X) → RisesFrom low (map world xs) → RisesFrom low (map world (filter t xs))
+  filter_rise t low [] r = tt
+  filter_rise t low (x ∷ xs) r = by (t x) (filter_rise t (world x + 1) xs r.1)
     where
-      by : (d ≡ x) ⊎ Contains [] x → d ≡ x
-      by (inl e) = e
-      by (inr n) = absurd (none_there x [] refl n)
+      by : (b : Bool) → RisesFrom (world x + 1) (map world (filter t xs)) → RisesFrom low (map world (cond b (x ∷ filter t xs) (filter t xs)))
+      by true h = (r.0, h)
+      by false h = rises_less low (world x + 1) (map world (filter t xs)) (omega (arith, r.0)) h
 
-  renewed_there : (ds : List Def) (x : Def) → Contains (renewed ds d) x → Contains ds x ⊎ (d ≡ x)
-  renewed_there ds x c = by (Contains-append_cases (filter is_other ds) (d ∷ []) x c)
+  push_rise : (low : ℕ) (xs : List X) (d : X) → low ≤ world d → RisesFrom low (map world xs) → ((x : X) → Contains xs x → world x < world d) → RisesFrom low (map world (xs ++ d ∷ []))
+  push_rise low [] d l r b = (l, tt)
+  push_rise low (x ∷ xs) d l r b =
+      let w = b x (here x x xs refl) in (r.0, push_rise (world x + 1) xs d (omega (arith, w)) r.1 (λ y c. b y (there x y xs c)))
+
+  -- ---- one more in place of those of its number
+
+  module _ (d : X) where
+    abbrev is_other : X → Bool
+    is_other x = not (nat_eq (number x) (number d))
+
+    is_last : (x : X) → Contains (d ∷ []) x → d ≡ x
+    is_last x c = by (here_or_there d x [] c)
+      where
+        by : (d ≡ x) ⊎ Contains [] x → d ≡ x
+        by (inl e) = e
+        by (inr n) = absurd (none_there x [] refl n)
+
+    renewed_there : (xs : List X) (x : X) → Contains (renewed number xs d) x → Contains xs x ⊎ (d ≡ x)
+    renewed_there xs x c = by (Contains-append_cases (filter is_other xs) (d ∷ []) x c)
+      where
+        by : Contains (filter is_other xs) x ⊎ Contains (d ∷ []) x → Contains xs x ⊎ (d ≡ x)
+        by (inl k) = inl (filter_from is_other xs x k)
+        by (inr k) = inr (is_last x k)
+
+    -- of those that were there it is one of another number
+    renewed_from : (xs : List X) (x : X) → Contains (renewed number xs d) x → (Contains xs x × (number x ≡ number d → ⊥)) ⊎ (d ≡ x)
+    renewed_from xs x c = by (Contains-append_cases (filter is_other xs) (d ∷ []) x c)
+      where
+        by : Contains (filter is_other xs) x ⊎ Contains (d ∷ []) x → (Contains xs x × (number x ≡ number d → ⊥)) ⊎ (d ≡ x)
+        by (inl k) = inl (filter_from is_other xs x k, λ e. true≢false (sym (filter_passes is_other xs x k) ∙ ap not (eq-eqb (number x) (number d) e)))
+        by (inr k) = inr (is_last x k)
+
+    renewed_own : (xs : List X) → Contains (renewed number xs d) d
+    renewed_own xs = Contains-append_right (filter is_other xs) (d ∷ []) d (here d d [] refl)
+
+    renewed_stay : (xs : List X) (x : X) → Contains xs x → (number x ≡ number d) ⊎ Contains (renewed number xs d) x
+    renewed_stay xs x c = by (nat_eq (number x) (number d)) refl
+      where
+        by : (b : Bool) → nat_eq (number x) (number d) ≡ b → (number x ≡ number d) ⊎ Contains (renewed number xs d) x
+        by true e = inl (eqb-true (number x) (number d) e)
+        by false e = inr (Contains-append_left (filter is_other xs) (d ∷ []) x (filter_stay is_other xs x (ap not e) c))
+
+  -- ---- one more at the end
+
+  module _ (Is : X → Type 0) (all some : List X) (h : AreLatestOf number world Is all some) (d : X) where
+    -- it is of the kind
+    pub latest_more : Is d → ((x : X) → Contains all x → world x < world d) → AreLatestOf number world Is (all ++ d ∷ []) (renewed number some d)
+    latest_more is before = record {
+      there = λ x c. stands x (renewed_there d some x c);
+      covered = λ x c a. covers x a (Contains-append_cases all (d ∷ []) x c);
+      latest = λ x e c k a q. is_latest x e a q (renewed_from d some x c) (Contains-append_cases all (d ∷ []) e k);
+      rises = push_rise 0 (filter (is_other d) some) d (omega arith) (filter_rise (is_other d) 0 some h.rises) (λ x c. before x (h.there x (filter_from (is_other d) some x c)).0);
+    }
+      where
+        stands : (x : X) → Contains some x ⊎ (d ≡ x) → Contains (all ++ d ∷ []) x × Is x
+        stands x (inl c) = let t = h.there x c in (Contains-append_left all (d ∷ []) x t.0, t.1)
+        stands x (inr e) = (Contains-append_right all (d ∷ []) x (here d x [] e), subst Is e is)
+
+        is_latest : (x e : X) → Is e → number e ≡ number x → (Contains some x × (number x ≡ number d → ⊥)) ⊎ (d ≡ x) → Contains all e ⊎ Contains (d ∷ []) e → world e ≤ world x
+        is_latest x e a q (inl c) (inl k) = h.latest x e c.0 k a q
+        is_latest x e a q (inl c) (inr k) = absurd (c.1 (sym q ∙ ap number (sym (is_last d e k))))
+        is_latest x e a q (inr s) (inl k) = let w = before e k in let t : world d ≡ world x = ap world s in omega (arith, w, t)
+        is_latest x e a q (inr s) (inr k) = let t : world e ≡ world x = ap world (sym (is_last d e k) ∙ s) in omega (arith, t)
+
+        keep : (x : X) → Contains all x → (l : HasLater number world some x) → (number l.by ≡ number d) ⊎ Contains (renewed number some d) l.by → HasLater number world (renewed number some d) x
+        keep x c l (inl s) = record { by = d; stays = renewed_own d some; same = sym s ∙ l.same; later = (let w = before x c in omega (arith, w)) }
+        keep x c l (inr k) = record { by = l.by; stays = k; same = l.same; later = l.later }
+
+        covers : (x : X) → Is x → Contains all x ⊎ Contains (d ∷ []) x → HasLater number world (renewed number some d) x
+        covers x a (inl c) = let l = h.covered x c a in keep x c l (renewed_stay d some l.by l.stays)
+        covers x a (inr c) =
+            let e = is_last d x c in
+            record { by = d; stays = renewed_own d some; same = ap number e; later = (let w : world d ≡ world x = ap world e in omega (arith, w)) }
+
+    -- it is not
+    pub latest_same : (Is d → ⊥) → AreLatestOf number world Is (all ++ d ∷ []) some
+    latest_same lacks = record {
+      there = λ x c. (let t = h.there x c in (Contains-append_left all (d ∷ []) x t.0, t.1));
+      covered = λ x c a. covers x a (Contains-append_cases all (d ∷ []) x c);
+      latest = λ x e c k a q. is_latest x e c a q (Contains-append_cases all (d ∷ []) e k);
+      rises = h.rises;
+    }
+      where
+        covers : (x : X) → Is x → Contains all x ⊎ Contains (d ∷ []) x → HasLater number world some x
+        covers x a (inl c) = h.covered x c a
+        covers x a (inr c) = absurd (lacks (subst Is (sym (is_last d x c)) a))
+
+        is_latest : (x e : X) → Contains some x → Is e → number e ≡ number x → Contains all e ⊎ Contains (d ∷ []) e → world e ≤ world x
+        is_latest x e c a q (inl k) = h.latest x e c k a q
+        is_latest x e c a q (inr k) = absurd (lacks (subst Is (sym (is_last d e k)) a))
+
+  pub latest_none : (Is : X → Type 0) → AreLatestOf number world Is [] []
+  latest_none Is =
+      record { there = λ x c. absurd (none_there x [] refl c); covered = λ x c a. absurd (none_there x [] refl c); latest = λ x e c k a q. absurd (none_there x [] refl c); rises = tt }
+
+  -- ---- many, each in place of those of its number
+
+  push_below : (x : X) (done : List X) (low : ℕ) → ((y : X) → Contains done y → world y < low) → low ≤ world x → (y : X) → Contains (done ++ x ∷ []) y → world y < world x + 1
+  push_below x done low b l y c = by (Contains-append_cases done (x ∷ []) y c)
     where
-      by : Contains (filter is_other ds) x ⊎ Contains (d ∷ []) x → Contains ds x ⊎ (d ≡ x)
-      by (inl k) = inl (filter_from is_other ds x k)
-      by (inr k) = inr (is_last x k)
+      by : Contains done y ⊎ Contains (x ∷ []) y → world y < world x + 1
+      by (inl k) = let w = b y k in omega (arith, w, l)
+      by (inr k) = let w : world x ≡ world y = ap world (is_last x y k) in omega (arith, w)
 
-  -- of those that were there it is one of another site
-  renewed_from : (ds : List Def) (x : Def) → Contains (renewed ds d) x → (Contains ds x × (x.site ≡ d.site → ⊥)) ⊎ (d ≡ x)
-  renewed_from ds x c = by (Contains-append_cases (filter is_other ds) (d ∷ []) x c)
-    where
-      by : Contains (filter is_other ds) x ⊎ Contains (d ∷ []) x → (Contains ds x × (x.site ≡ d.site → ⊥)) ⊎ (d ≡ x)
-      by (inl k) = inl (filter_from is_other ds x k, λ e. true≢false (sym (filter_passes is_other ds x k) ∙ ap not (eq-eqb x.site d.site e)))
-      by (inr k) = inr (is_last x k)
+  abbrev IsAny : X → Type 0
+  IsAny x = Unit {0}
 
-  renewed_own : (ds : List Def) → Contains (renewed ds d) d
-  renewed_own ds = Contains-append_right (filter is_other ds) (d ∷ []) d (here d d [] refl)
+  latest_by : (done xs some : List X) (low : ℕ) → AreLatestOf number world IsAny done some → ((x : X) → Contains done x → world x < low) → RisesFrom low (map world xs)
+      → AreLatestOf number world IsAny (done ++ xs) (renewed_by number some xs)
+  latest_by done [] some low h b r = subst (λ xs. AreLatestOf number world IsAny xs some) (sym (append-nil done)) h
+  latest_by done (x ∷ xs) some low h b r =
+      subst (λ ys. AreLatestOf number world IsAny ys (renewed_by number (renewed number some x) xs)) (append_assoc done (x ∷ []) xs)
+      (latest_by (done ++ x ∷ []) xs (renewed number some x) (world x + 1) (latest_more IsAny done some h x tt (λ y c. (let w = b y c in omega (arith, w, r.0)))) (push_below x done low b r.0) r.1)
 
-  renewed_stay : (ds : List Def) (x : Def) → Contains ds x → (x.site ≡ d.site) ⊎ Contains (renewed ds d) x
-  renewed_stay ds x c = by (nat_eq x.site d.site) refl
-    where
-      by : (b : Bool) → nat_eq x.site d.site ≡ b → (x.site ≡ d.site) ⊎ Contains (renewed ds d) x
-      by true e = inl (eqb-true x.site d.site e)
-      by false e = inr (Contains-append_left (filter is_other ds) (d ∷ []) x (filter_stay is_other ds x (ap not e) c))
-
--- ---- one more definition of a function
-
-module _ (P : Program) (ts : List Ty) (all some : List Def) (h : AreLatestOfSites P ts all some) (d : Def) where
-  -- it applies
-  pub latest_more : AppliesTo P ts d → ((x : Def) → Contains all x → x.world < d.world) → AreLatestOfSites P ts (all ++ d ∷ []) (renewed some d)
-  latest_more applies before = record {
-    there = λ x c. stands x (renewed_there d some x c);
-    covered = λ x c a. covers x a (Contains-append_cases all (d ∷ []) x c);
-    latest = λ x e c k a q. is_latest x e a q (renewed_from d some x c) (Contains-append_cases all (d ∷ []) e k);
-    rises = push_rise 0 (filter (is_other d) some) d (omega arith) (filter_rise (is_other d) 0 some h.rises) (λ x c. before x (h.there x (filter_from (is_other d) some x c)).0);
-  }
-    where
-      stands : (x : Def) → Contains some x ⊎ (d ≡ x) → Contains (all ++ d ∷ []) x × AppliesTo P ts x
-      stands x (inl c) = let t = h.there x c in (Contains-append_left all (d ∷ []) x t.0, t.1)
-      stands x (inr e) = (Contains-append_right all (d ∷ []) x (here d x [] e), subst (AppliesTo P ts) e applies)
-
-      is_latest : (x e : Def) → AppliesTo P ts e → e.site ≡ x.site → (Contains some x × (x.site ≡ d.site → ⊥)) ⊎ (d ≡ x) → Contains all e ⊎ Contains (d ∷ []) e → e.world ≤ x.world
-      is_latest x e a q (inl c) (inl k) = h.latest x e c.0 k a q
-      is_latest x e a q (inl c) (inr k) = absurd (c.1 (sym q ∙ ap (λ (z : Def). z.site) (sym (is_last d e k))))
-      is_latest x e a q (inr s) (inl k) = let w = before e k in let t : d.world ≡ x.world = ap (λ (z : Def). z.world) s in omega (arith, w, t)
-      is_latest x e a q (inr s) (inr k) = let t : e.world ≡ x.world = ap (λ (z : Def). z.world) (sym (is_last d e k) ∙ s) in omega (arith, t)
-
-      keep : (x : Def) → Contains all x → (l : HasLaterOfSite some x) → (l.by.site ≡ d.site) ⊎ Contains (renewed some d) l.by → HasLaterOfSite (renewed some d) x
-      keep x c l (inl s) = record { by = d; stays = renewed_own d some; site_is = sym s ∙ l.site_is; later = (let w = before x c in omega (arith, w)) }
-      keep x c l (inr k) = record { by = l.by; stays = k; site_is = l.site_is; later = l.later }
-
-      covers : (x : Def) → AppliesTo P ts x → Contains all x ⊎ Contains (d ∷ []) x → HasLaterOfSite (renewed some d) x
-      covers x a (inl c) = let l = h.covered x c a in keep x c l (renewed_stay d some l.by l.stays)
-      covers x a (inr c) =
-          let e = is_last d x c in
-          record { by = d; stays = renewed_own d some; site_is = ap (λ (z : Def). z.site) e; later = (let w : d.world ≡ x.world = ap (λ (z : Def). z.world) e in omega (arith, w)) }
-
-  -- it does not
-  pub latest_same : (AppliesTo P ts d → ⊥) → AreLatestOfSites P ts (all ++ d ∷ []) some
-  latest_same lacks = record {
-    there = λ x c. (let t = h.there x c in (Contains-append_left all (d ∷ []) x t.0, t.1));
-    covered = λ x c a. covers x a (Contains-append_cases all (d ∷ []) x c);
-    latest = λ x e c k a q. is_latest x e c a q (Contains-append_cases all (d ∷ []) e k);
+  -- of those of a kind they are the latest of the kind
+  latest_among : (Is : X → Type 0) (all those some : List X) → ((x : X) → Contains those x ↔ (Contains all x × Is x)) → AreLatestOf number world IsAny those some → AreLatestOf number world Is all some
+  latest_among Is all those some same h = record {
+    there = λ x c. (same x).0 (h.there x c).0;
+    covered = λ x c a. h.covered x ((same x).1 (c, a)) tt;
+    latest = λ x y c k a q. h.latest x y c ((same y).1 (k, a)) tt q;
     rises = h.rises;
   }
-    where
-      covers : (x : Def) → AppliesTo P ts x → Contains all x ⊎ Contains (d ∷ []) x → HasLaterOfSite some x
-      covers x a (inl c) = h.covered x c a
-      covers x a (inr c) = absurd (lacks (subst (AppliesTo P ts) (sym (is_last d x c)) a))
 
-      is_latest : (x e : Def) → Contains some x → AppliesTo P ts e → e.site ≡ x.site → Contains all e ⊎ Contains (d ∷ []) e → e.world ≤ x.world
-      is_latest x e c a q (inl k) = h.latest x e c k a q
-      is_latest x e c a q (inr k) = absurd (lacks (subst (AppliesTo P ts) (sym (is_last d e k)) a))
-
--- ---- a new key
-
-push_below : (x : Def) (done : List Def) (low : ℕ) → ((y : Def) → Contains done y → y.world < low) → low ≤ x.world → (y : Def) → Contains (done ++ x ∷ []) y → y.world < x.world + 1
-push_below x done low b l y c = by (Contains-append_cases done (x ∷ []) y c)
-  where
-    by : Contains done y ⊎ Contains (x ∷ []) y → y.world < x.world + 1
-    by (inl k) = let w = b y k in omega (arith, w, l)
-    by (inr k) = let w : x.world ≡ y.world = ap (λ (z : Def). z.world) (is_last x y k) in omega (arith, w)
-
-module _ (P : Program) (ts : List Ty) (sites : List ℕ) where
-  abbrev made : ℕ → Def
-  made n = def n (get_or sites (n - 1) 0)
-
-  latest_picked : (done xs some : List Def) (ns : List ℕ) (low : ℕ) → AreLatestOfSites P ts done some → ((x : Def) → Contains done x → x.world < low) → RisesFrom low (worlds xs)
-      → ((x : Def) → Contains xs x → made x.world ≡ x) → ArePicked (AppliesTo P ts) (λ (d : Def). d.world) xs ns → AreLatestOfSites P ts (done ++ xs) (renewed_by sites some ns)
-  latest_picked done [] some ns low h b r m p =
-      subst (λ ds. AreLatestOfSites P ts ds (renewed_by sites some ns)) (sym (append-nil done)) (subst (λ ms. AreLatestOfSites P ts done (renewed_by sites some ms)) (sym p) h)
-  latest_picked done (x ∷ xs) some ns low h b r m (inl (a, (rest, e, p))) =
-      let next = latest_picked (done ++ x ∷ []) xs (renewed some x) rest (x.world + 1) (latest_more P ts done some h x a (λ y c. (let w = b y c in omega (arith, w, r.0)))) (push_below x done low b r.0) r.1 (λ y c. m y (there x y xs c)) p in
-      subst (λ ms. AreLatestOfSites P ts (done ++ x ∷ xs) (renewed_by sites some ms)) (sym e)
-      (subst (λ z. AreLatestOfSites P ts (done ++ x ∷ xs) (renewed_by sites (renewed some z) rest)) (sym (m x (here x x xs refl)))
-      (subst (λ ds. AreLatestOfSites P ts ds (renewed_by sites (renewed some x) rest)) (append_assoc done (x ∷ []) xs) next))
-  latest_picked done (x ∷ xs) some ns low h b r m (inr (lacks, p)) =
-      let next = latest_picked (done ++ x ∷ []) xs some ns (x.world + 1) (latest_same P ts done some h x lacks) (push_below x done low b r.0) r.1 (λ y c. m y (there x y xs c)) p in
-      subst (λ ds. AreLatestOfSites P ts ds (renewed_by sites some ns)) (append_assoc done (x ∷ []) xs) next
+  pub latest_of : (Is : X → Type 0) (all those : List X) → ((x : X) → Contains those x ↔ (Contains all x × Is x)) → RisesFrom 0 (map world those) → AreLatestOf number world Is all (renewed_by number [] those)
+  latest_of Is all those same r = latest_among Is all those (renewed_by number [] those) same (latest_by [] those [] 0 (latest_none IsAny) (λ x c. absurd (none_there x [] refl c)) r)
 
 -- those of the definitions that touch a key
-pub latest_of_key : (P : Program) (sites : List ℕ) (key : Key) (ws : List ℕ) → ArePicked (AppliesTo P key.types) (λ (d : Def). d.world) (defs_from P key.function 1 sites) ws
-    → AreLatestOfSites P key.types (defs_from P key.function 1 sites) (renewed_by sites [] ws)
-latest_of_key P sites key ws p =
-    latest_picked P key.types sites [] (defs_from P key.function 1 sites) [] ws 1 none (λ x c. absurd (none_there x [] refl c)) (defs_rise P key.function 1 1 sites (omega arith)) is_made p
-  where
-    none : AreLatestOfSites P key.types [] []
-    none = record { there = λ x c. absurd (none_there x [] refl c); covered = λ x c a. absurd (none_there x [] refl c); latest = λ x e c k a q. absurd (none_there x [] refl c); rises = tt }
-
-    is_made : (x : Def) → Contains (defs_from P key.function 1 sites) x → made P key.types sites x.world ≡ x
-    is_made x c =
-        let i = def_of P key.function 1 sites x c in
-        let at : x.world - 1 ≡ i.place = omega (arith, i.world_is) in
-        let site : get_or sites (x.world - 1) 0 ≡ x.site = ap (λ k. get_or sites k 0) at ∙ get_or_of sites i.place x.site i.site_is in
-        λ j. def x.world (site j)
+pub latest_of_key : (P : Program) (cs : List Change) (key : Key) (ws : List ℕ) → AreTouchingAmong P cs key ws → AreLatestOfSites P key.types (defs_from P key.function 1 cs) (renewed_by site_number [] (defs_at cs ws))
+latest_of_key P cs key ws h =
+    latest_of site_number (λ (d : Def). d.world) (AppliesTo P key.types) (defs_from P key.function 1 cs) (defs_at cs ws) (made_exact P cs key ws h) (defs_at_rise cs 0 ws h.rises)

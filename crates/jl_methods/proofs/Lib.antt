@@ -2,6 +2,7 @@ pub mod RoomLemmas
 pub mod EachLemmas
 pub mod FilterLemmas
 pub mod PutLemmas
+pub mod ChangeLemmas
 pub mod FunctionLemmas
 pub mod TouchLemmas
 pub mod AppliesLemmas

@@ -1,5 +1,5 @@
 -- What one more element at the end of some of the lists makes of each of them.
-use Rattle.std.proofs.Common.{◌≡◌, ◌∙◌, ap, sym, subst, refl, ℕ, zero, suc, ◌+◌, ◌<◌, ◌⊎◌, inl, inr, arith, Bool, true, false, ◌||◌, cond, nat_eq, List, [], ◌∷◌, ◌++◌, length, get_or, slice_get, Some}
+use Rattle.std.proofs.Common.{◌≡◌, ◌∙◌, ap, sym, subst, refl, ℕ, zero, suc, ◌+◌, ◌<◌, ◌≤◌, ◌⊎◌, inl, inr, arith, Bool, true, false, ◌||◌, cond, nat_eq, List, [], ◌∷◌, ◌++◌, length, take, get_or, slice_get, Some}
 use Rattle.std.specs.List.{All, Contains, list_any}
 use Rattle.std.proofs.lemmas.Bool.{eqb-true, eqb-false}
 use Rattle.std.proofs.lemmas.List.{append-nil, length-set, get_or-set_same, get_or-set_other}
@@ -86,7 +86,7 @@ nth_put_each low ls (n ∷ ns) x m r h =
 
 -- ---- the list of a number changed
 
-nth_change_at : {T : Type 0} (f : List T → List T) (ls : List (List T)) (n m : ℕ) → n < length ls → nth (change_at f ls n) m ≡ cond (nat_eq m n) (f (nth ls m)) (nth ls m)
+pub nth_change_at : {T : Type 0} (f : List T → List T) (ls : List (List T)) (n m : ℕ) → n < length ls → nth (change_at f ls n) m ≡ cond (nat_eq m n) (f (nth ls m)) (nth ls m)
 nth_change_at f ls n m l = by (nat_eq m n) refl
   where
     by : (b : Bool) → nat_eq m n ≡ b → nth (change_at f ls n) m ≡ cond b (f (nth ls m)) (nth ls m)
@@ -170,3 +170,8 @@ get_push (z ∷ xs) y x (suc n) e = by (get_push xs y x n e)
     by : (slice_get xs n ≡ Some x) ⊎ ((n ≡ length xs) × (y ≡ x)) → (slice_get xs n ≡ Some x) ⊎ ((suc n ≡ suc (length xs)) × (y ≡ x))
     by (inl q) = inl q
     by (inr (q, r)) = inr (ap suc q, r)
+
+pub take_within : {X : Type 0} (n : ℕ) (xs : List X) → length (take n xs) ≤ n
+take_within zero xs = omega arith
+take_within (suc n) [] = omega arith
+take_within (suc n) (x ∷ xs) = omega (arith, take_within n xs)

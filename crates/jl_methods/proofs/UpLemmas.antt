@@ -1,222 +1,257 @@
--- The definitions that touch a key up to a world are those that apply in that world.
-use Rattle.std.proofs.Common.{◌≡◌, ◌∙◌, ap, sym, subst, refl, ℕ, zero, suc, ◌+◌, ◌-◌, ◌<◌, ◌≤◌, ◌⊎◌, inl, inr, arith, Bool, true, false, cond, nat_le, List, [], ◌∷◌, ◌++◌, length, take, drop, get_or, slice_get, Option, None, Some}
+-- The changes that touch a key up to a world: they are those among the changes up to it, and their definitions are those that apply.
+use Rattle.std.proofs.Common.{◌≡◌, ◌∙◌, ap, sym, subst, refl, ℕ, zero, suc, ◌+◌, ◌-◌, ◌<◌, ◌≤◌, ◌⊎◌, inl, inr, arith, List, [], ◌∷◌, ◌++◌, length, take, drop, get_or, slice_get, Option, None, Some}
+use Rattle.std.specs.Prelude.{◌↔◌, option_to_list}
 use Rattle.std.specs.List.{All, Contains}
 use Rattle.std.specs.List.Sorted.{IsStrictlyIncreasing}
-use Rattle.std.proofs.lemmas.Bool.{leb-true, le-leb, lt-leb}
-use Rattle.std.proofs.lemmas.List.{append-nil, append_assoc, drop_more, drop_all}
-use Rattle.std.proofs.lemmas.List.Elements.{Contains-get_or}
+use Rattle.std.proofs.lemmas.List.{drop_more}
+use Rattle.std.proofs.lemmas.List.Elements.{Contains-get_or, Contains-append_left, Contains-append_right, Contains-append_cases}
 use Rattle.jl_model.specs.declared.ty.Key.{Key}
-use Rattle.jl_model.specs.Signature.{Applicable}
-use Rattle.jl_program.specs.declared.tree.Site.{Site}
 use Rattle.jl_program.specs.declared.tree.Program.{Program}
-use Rattle.jl_program.specs.Scope.{types_of}
+use Rattle.jl_calculus.specs.declared.history.Change.{Change}
+use Rattle.jl_calculus.specs.declared.history.Change.TheVariants as Ch
 use Rattle.jl_calculus.specs.declared.history.Def.{Def}
 use Rattle.jl_calculus.specs.declared.history.Event.{Event}
-use Rattle.jl_calculus.specs.ChoiceLaws.{AreThoseThatApply}
-use Rattle.jl_calculus.specs.Definitions.{AppliesTo, HasSite, defs_from, sig_of, worlds}
-use Rattle.jl_calculus.specs.Ranges.{SiteTouches, Touches, site_in, keys_of}
-use Rattle.jl_calculus.specs.World.{definitions}
+use Rattle.jl_calculus.specs.Definitions.{AppliesTo, HasSite, defs_from, worlds}
+use Rattle.jl_calculus.specs.Ranges.{head_of, keys_of, HeadTouches, ChangeTouches}
+use Rattle.jl_calculus.specs.World.{changes}
 use Rattle.jl_methods.specs.declared.index.Index.{Index}
-use Rattle.jl_methods.specs.Filters.{AreTouching, defs_up_to}
+use Rattle.jl_methods.specs.Counted.{IsCountUpTo}
+use Rattle.jl_methods.specs.Filters.{AreTouching, AreTouchingAmong, AreMadeThatApply, change_in, def_by, defs_at}
 use Rattle.jl_methods.specs.Indexed.{IsIndexOf}
 use Rattle.jl_methods.specs.Numbered.{RisesFrom, nth}
 use Rattle.jl_methods.specs.Room.{items_of}
+use Rattle.jl_methods.proofs.ChangeLemmas.{def, def_of, def_there, change_read}
 use Rattle.jl_methods.proofs.EachLemmas.{rises_less}
-use Rattle.jl_methods.proofs.FilterLemmas.{def, here, there, here_or_there, none_there, picked_rise, defs_rise}
+use Rattle.jl_methods.proofs.FilterLemmas.{here, there, here_or_there, none_there}
 use Rattle.jl_methods.proofs.FunctionLemmas.{get_there}
-use Rattle.jl_methods.proofs.PutLemmas.{get_known}
-use Rattle.jl_methods.proofs.TouchLemmas.{def_of, def_there, touching_exact, rises_next}
+use Rattle.jl_methods.proofs.PutLemmas.{get_known, take_within}
+use Rattle.jl_methods.proofs.TouchLemmas.{touch_of, touch_at, def_applies, applies_def, def_touches, touching_applies, site_row, increases}
 
--- ---- the list
+-- ---- the definitions that made some worlds
 
-module _ (sites : List ℕ) (w : ℕ) where
-  abbrev pub made : ℕ → Def
-  made n = def n (get_or sites (n - 1) 0)
+-- what made a world, as a list
+abbrev pub made_by : ℕ → Option Change → List Def
+made_by w o = option_to_list (def_by w o)
 
-  module _ (items more : List Def) (ns : List ℕ) (i : ℕ) (l : i < length ns) (h : items ++ defs_up_to sites w (drop i ns) ≡ defs_up_to sites w ns) where
-    next : (b : Bool) → nat_le (get_or ns i 0) w ≡ b → defs_up_to sites w (drop i ns) ≡ cond b (made (get_or ns i 0) ∷ defs_up_to sites w (drop (i + 1) ns)) (defs_up_to sites w (drop (i + 1) ns))
-    next b e =
-        ap (defs_up_to sites w) (drop_more ns i 0 l) ∙ ap (λ b. cond b (made (get_or ns i 0) ∷ defs_up_to sites w (drop (i + 1) ns)) (defs_up_to sites w (drop (i + 1) ns))) e
+by_world : (w : ℕ) (o : Option Change) (d : Def) → Contains (made_by w o) d → (o ≡ Some (Ch.Def d.site)) × (w ≡ d.world)
+by_world w None d c = absurd (none_there d [] refl c)
+by_world w (Some (Ch.Def site)) d c = at (here_or_there (def w site) d [] c)
+  where
+    at : (def w site ≡ d) ⊎ Contains [] d → (Some (Ch.Def site) ≡ Some (Ch.Def d.site)) × (w ≡ d.world)
+    at (inl e) = (ap (λ (d : Def). Some (Ch.Def d.site)) e, ap (λ (d : Def). d.world) e)
+    at (inr n) = absurd (none_there d [] refl n)
+by_world w (Some (Ch.Del place)) d c = absurd (none_there d [] refl c)
 
-    pub up_more : get_or ns i 0 ≤ w → more ≡ items ++ made (get_or ns i 0) ∷ [] → more ++ defs_up_to sites w (drop (i + 1) ns) ≡ defs_up_to sites w ns
-    up_more low e =
-        ap (λ ds. ds ++ defs_up_to sites w (drop (i + 1) ns)) e
-        ∙ append_assoc items (made (get_or ns i 0) ∷ []) (defs_up_to sites w (drop (i + 1) ns))
-        ∙ ap (λ ds. items ++ ds) (sym (next true (le-leb (get_or ns i 0) w low)))
-        ∙ h
-
-    pub up_same : w < get_or ns i 0 → more ≡ items → more ++ defs_up_to sites w (drop (i + 1) ns) ≡ defs_up_to sites w ns
-    up_same high e =
-        ap (λ ds. ds ++ defs_up_to sites w (drop (i + 1) ns)) e ∙ ap (λ ds. items ++ ds) (sym (next false (lt-leb (get_or ns i 0) w high))) ∙ h
-
-  -- one of the list
-  pub record IsUp (ns : List ℕ) (d : Def) : Type 0 where
-    pub stands : Contains ns d.world
-    pub low : d.world ≤ w
-    pub is : d ≡ made d.world
-
-  later : (n : ℕ) (ns : List ℕ) (d : Def) → IsUp ns d → IsUp (n ∷ ns) d
-  later n ns d h = record { stands = there n d.world ns h.stands; low = h.low; is = h.is }
-
-  first : (n : ℕ) (ns : List ℕ) (d : Def) → n ≤ w → made n ≡ d → IsUp (n ∷ ns) d
-  first n ns d l e = subst (IsUp (n ∷ ns)) e (record { stands = here n n ns refl; low = l; is = refl })
-
-  pub up_from : (ns : List ℕ) (d : Def) → Contains (defs_up_to sites w ns) d → IsUp ns d
-  up_from [] d c = absurd (none_there d [] refl c)
-  up_from (n ∷ ns) d c = by (nat_le n w) refl c (up_from ns d)
+module _ (cs : List Change) where
+  pub defs_at_from : (ns : List ℕ) (d : Def) → Contains (defs_at cs ns) d → Contains ns d.world × (change_in cs d.world ≡ Some (Ch.Def d.site))
+  defs_at_from [] d c = absurd (none_there d [] refl c)
+  defs_at_from (n ∷ ns) d c = by (Contains-append_cases (made_by n (change_in cs n)) (defs_at cs ns) d c) (defs_at_from ns d)
     where
-      one : n ≤ w → (Contains (defs_up_to sites w ns) d → IsUp ns d) → (made n ≡ d) ⊎ Contains (defs_up_to sites w ns) d → IsUp (n ∷ ns) d
-      one l more (inl e) = first n ns d l e
-      one l more (inr i) = later n ns d (more i)
+      by : Contains (made_by n (change_in cs n)) d ⊎ Contains (defs_at cs ns) d → (Contains (defs_at cs ns) d → Contains ns d.world × (change_in cs d.world ≡ Some (Ch.Def d.site)))
+          → Contains (n ∷ ns) d.world × (change_in cs d.world ≡ Some (Ch.Def d.site))
+      by (inl i) more =
+          let (e, w) = by_world n (change_in cs n) d i in
+          (here n d.world ns w, ap (change_in cs) (sym w) ∙ e)
+      by (inr i) more = let (j, e) = more i in (there n d.world ns j, e)
 
-      by : (b : Bool) → nat_le n w ≡ b → Contains (cond b (made n ∷ defs_up_to sites w ns) (defs_up_to sites w ns)) d → (Contains (defs_up_to sites w ns) d → IsUp ns d) → IsUp (n ∷ ns) d
-      by true e c more = one (leb-true n w e) more (here_or_there (made n) d (defs_up_to sites w ns) c)
-      by false e c more = later n ns d (more c)
-
-  pub up_to : (ns : List ℕ) (n : ℕ) → Contains ns n → n ≤ w → Contains (defs_up_to sites w ns) (made n)
-  up_to [] n c l = absurd (none_there n [] refl c)
-  up_to (m ∷ ns) n c l = by (here_or_there m n ns c) (λ d. up_to ns n d l)
+  pub defs_at_there : (ns : List ℕ) (n site : ℕ) → Contains ns n → change_in cs n ≡ Some (Ch.Def site) → Contains (defs_at cs ns) (def n site)
+  defs_at_there [] n site c e = absurd (none_there n [] refl c)
+  defs_at_there (m ∷ ns) n site c e = by (here_or_there m n ns c) (λ d. defs_at_there ns n site d e)
     where
-      passed : (b : Bool) → Contains (defs_up_to sites w ns) (made n) → Contains (cond b (made m ∷ defs_up_to sites w ns) (defs_up_to sites w ns)) (made n)
-      passed true c = there (made m) (made n) (defs_up_to sites w ns) c
-      passed false c = c
+      by : (m ≡ n) ⊎ Contains ns n → (Contains ns n → Contains (defs_at cs ns) (def n site)) → Contains (defs_at cs (m ∷ ns)) (def n site)
+      by (inl q) more =
+          Contains-append_left (made_by m (change_in cs m)) (defs_at cs ns) (def n site)
+          (subst (λ k. Contains (made_by k (change_in cs k)) (def n site)) (sym q) (subst (λ o. Contains (made_by n o) (def n site)) (sym e) (here (def n site) (def n site) [] refl)))
+      by (inr d) more = Contains-append_right (made_by m (change_in cs m)) (defs_at cs ns) (def n site) (more d)
 
-      by : (m ≡ n) ⊎ Contains ns n → (Contains ns n → Contains (defs_up_to sites w ns) (made n)) → Contains (cond (nat_le m w) (made m ∷ defs_up_to sites w ns) (defs_up_to sites w ns)) (made n)
-      by (inl e) more =
-          subst (λ b. Contains (cond b (made m ∷ defs_up_to sites w ns) (defs_up_to sites w ns)) (made n)) (sym (ap (λ k. nat_le k w) e ∙ le-leb n w l))
-          (here (made m) (made n) (defs_up_to sites w ns) (ap made e))
-      by (inr d) more = passed (nat_le m w) (more d)
-
-  pub up_rises : (low : ℕ) (ns : List ℕ) → RisesFrom low ns → RisesFrom low (worlds (defs_up_to sites w ns))
-  up_rises low [] r = tt
-  up_rises low (n ∷ ns) r = by (nat_le n w) (up_rises (n + 1) ns r.1)
+  pub defs_at_rise : (low : ℕ) (ns : List ℕ) → RisesFrom low ns → RisesFrom low (worlds (defs_at cs ns))
+  defs_at_rise low [] r = tt
+  defs_at_rise low (n ∷ ns) r = by (change_in cs n) (defs_at_rise (n + 1) ns r.1)
     where
-      by : (b : Bool) → RisesFrom (n + 1) (worlds (defs_up_to sites w ns)) → RisesFrom low (worlds (cond b (made n ∷ defs_up_to sites w ns) (defs_up_to sites w ns)))
-      by true h = (r.0, h)
-      by false h = rises_less low (n + 1) (worlds (defs_up_to sites w ns)) (omega (arith, r.0)) h
+      by : (o : Option Change) → RisesFrom (n + 1) (worlds (defs_at cs ns)) → RisesFrom low (worlds (made_by n o ++ defs_at cs ns))
+      by None h = rises_less low (n + 1) (worlds (defs_at cs ns)) (omega (arith, r.0)) h
+      by (Some (Ch.Def site)) h = (r.0, h)
+      by (Some (Ch.Del place)) h = rises_less low (n + 1) (worlds (defs_at cs ns)) (omega (arith, r.0)) h
 
--- ---- what applies in a world
+  -- one step of a walk over the worlds
+  pub defs_at_step : (ns : List ℕ) (i : ℕ) (d : Change) (o : Option Def) → i < length ns → All (λ n. (1 ≤ n) × (n ≤ length cs)) ns → o ≡ def_by (get_or ns i 0) (Some (get_or cs (get_or ns i 0 - 1) d))
+      → defs_at cs (drop i ns) ≡ option_to_list o ++ defs_at cs (drop (i + 1) ns)
+  defs_at_step ns i d o l within e =
+      let (low, high) = within i 0 l in
+      ap (defs_at cs) (drop_more ns i 0 l)
+      ∙ ap (λ o. option_to_list (def_by (get_or ns i 0) o) ++ defs_at cs (drop (i + 1) ns)) (change_read cs (get_or ns i 0) d low high)
+      ∙ ap (λ o. option_to_list o ++ defs_at cs (drop (i + 1) ns)) (sym e)
 
-get_take : {X : Type 0} (n : ℕ) (xs : List X) (k : ℕ) → k < n → slice_get (take n xs) k ≡ slice_get xs k
+-- ---- those that touch a key
+
+module _ (P : Program) (cs : List Change) (key : Key) (ws : List ℕ) (h : AreTouchingAmong P cs key ws) where
+  -- a world that touches is there
+  pub touch_known : (w : ℕ) → Contains ws w → (1 ≤ w) × (w ≤ length cs)
+  touch_known w c =
+      let t = touch_of P cs w key ((h.exact w).0 c) in
+      let low : 1 ≤ w = omega (arith, t.world_is) in
+      let high : w ≤ length cs = omega (arith, t.world_is, get_known cs t.place t.change t.change_is) in
+      (low, high)
+
+  same_change : (k : ℕ) (c d : Change) → slice_get cs k ≡ Some c → slice_get cs k ≡ Some d → c ≡ d
+  same_change k c d e f = cc
+
+  made_from : (d : Def) → Contains (defs_at cs ws) d → Contains (defs_from P key.function 1 cs) d × AppliesTo P key.types d
+  made_from d c =
+      let (i, e) = defs_at_from cs ws d c in
+      let t = touch_of P cs d.world key ((h.exact d.world).0 i) in
+      let is : slice_get cs t.place ≡ Some (Ch.Def d.site) = sym (ap (change_in cs) t.world_is) ∙ e in
+      let touches : HeadTouches P (head_of P (Ch.Def d.site)) key = subst (λ c. HeadTouches P (head_of P c) key) (same_change t.place t.change (Ch.Def d.site) t.change_is is) t.touches in
+      let (s, q, f) = site_row P (slice_get P.sites d.site) key touches in
+      let world : 1 + t.place ≡ d.world = omega (arith, t.world_is) in
+      let same : def (1 + t.place) d.site ≡ d = λ i. def (world i) d.site in
+      (subst (Contains (defs_from P key.function 1 cs)) same (def_there P key.function 1 cs t.place d.site s is q f), def_applies P d s key.types q (touching_applies P (Ch.Def d.site) key touches).1)
+
+  made_to : (d : Def) → Contains (defs_from P key.function 1 cs) d × AppliesTo P key.types d → Contains (defs_at cs ws) d
+  made_to d (c, a) =
+      let i = def_of P key.function 1 cs d c in
+      let at : d.world ≡ suc i.place = omega (arith, i.world_is) in
+      let touches = def_touches P key.function 1 cs d key refl i (applies_def P d i.site key.types i.stands a) in
+      defs_at_there cs ws d.world d.site ((h.exact d.world).1 (touch_at P cs i.place d.world (Ch.Def d.site) key at i.change_is touches)) (ap (change_in cs) at ∙ i.change_is)
+
+  -- their definitions are those that apply
+  pub made_exact : (d : Def) → Contains (defs_at cs ws) d ↔ (Contains (defs_from P key.function 1 cs) d × AppliesTo P key.types d)
+  made_exact d = (made_from d, made_to d)
+
+  pub made_sites : All (HasSite P) (defs_at cs ws)
+  made_sites =
+      λ k d l.
+      let ds = defs_at cs ws in
+      let i = def_of P key.function 1 cs (get_or ds k d) (made_from (get_or ds k d) (Contains-get_or ds k d l)).0 in
+      get_known P.sites (get_or ds k d).site i.site i.stands
+
+-- ---- up to a world
+
+pub get_take : {X : Type 0} (n : ℕ) (xs : List X) (k : ℕ) → k < n → slice_get (take n xs) k ≡ slice_get xs k
 get_take zero xs k l = absurd (omega (arith, l))
 get_take (suc n) [] k l = refl
 get_take (suc n) (x ∷ xs) zero l = refl
 get_take (suc n) (x ∷ xs) (suc k) l = get_take n xs k (omega (arith, l))
 
-take_within : {X : Type 0} (n : ℕ) (xs : List X) → length (take n xs) ≤ n
-take_within zero xs = omega arith
-take_within (suc n) [] = omega arith
-take_within (suc n) (x ∷ xs) = omega (arith, take_within n xs)
+in_take : (cs : List Change) (w n : ℕ) → n ≤ w → change_in (take w cs) n ≡ change_in cs n
+in_take cs w zero l = refl
+in_take cs w (suc n) l = get_take w cs n (omega (arith, l))
 
-pub get_or_of : (xs : List ℕ) (k x : ℕ) → slice_get xs k ≡ Some x → get_or xs k 0 ≡ x
-get_or_of [] k x e = cc
-get_or_of (y ∷ xs) zero x e = cc
-get_or_of (y ∷ xs) (suc k) x e = get_or_of xs k x e
-
--- a definition that touches a key has a site, whose signature applies
-pub record IsTouch (P : Program) (es : List Event) (w : ℕ) (key : Key) : Type 0 where
-  pub place : ℕ
-  pub site : ℕ
-  pub row : Site
-  pub world_is : w ≡ suc place
-  pub site_is : slice_get (definitions es) place ≡ Some site
-  pub stands : slice_get P.sites site ≡ Some row
-  pub function_is : row.function ≡ key.function
-  pub applies : Applicable (types_of P) row.sig key.types
-
-pub touch_of : (P : Program) (es : List Event) (w : ℕ) (key : Key) → Touches P es w key → IsTouch P es w key
-touch_of P es zero key t = absurd t
-touch_of P es (suc j) key t = by (slice_get (definitions es) j) refl t
+take_from : (ws : List ℕ) (k n : ℕ) → Contains (take k ws) n → (j : ℕ) × (j < k) × (j < length ws) × (get_or ws j 0 ≡ n)
+take_from ws zero n c = absurd (none_there n [] refl c)
+take_from [] (suc k) n c = absurd (none_there n [] refl c)
+take_from (m ∷ ws) (suc k) n c = by (here_or_there m n (take k ws) c) (take_from ws k n)
   where
-    row_by : (site : ℕ) → slice_get (definitions es) j ≡ Some site → (o : Option Site) → slice_get P.sites site ≡ o → SiteTouches P o key → IsTouch P es (suc j) key
-    row_by site e None q t = absurd t
-    row_by site e (Some s) q t =
-        record { place = j; site = site; row = s; world_is = refl; site_is = e; stands = q; function_is = t.0; applies = t.1 }
+    by : (m ≡ n) ⊎ Contains (take k ws) n → (Contains (take k ws) n → (j : ℕ) × (j < k) × (j < length ws) × (get_or ws j 0 ≡ n))
+        → (j : ℕ) × (j < suc k) × (j < suc (length ws)) × (get_or (m ∷ ws) j 0 ≡ n)
+    by (inl e) more = (0, omega arith, omega arith, e)
+    by (inr d) more = let (j, a, b, e) = more d in (suc j, omega (arith, a), omega (arith, b), e)
 
-    by : (o : Option ℕ) → slice_get (definitions es) j ≡ o → SiteTouches P (site_in P o) key → IsTouch P es (suc j) key
-    by None e t = absurd t
-    by (Some site) e t = row_by site e (slice_get P.sites site) refl t
+take_there : (ws : List ℕ) (k j n : ℕ) → j < k → j < length ws → get_or ws j 0 ≡ n → Contains (take k ws) n
+take_there ws zero j n a b e = absurd (omega (arith, a))
+take_there [] (suc k) j n a b e = absurd (omega (arith, b))
+take_there (m ∷ ws) (suc k) zero n a b e = here m n (take k ws) e
+take_there (m ∷ ws) (suc k) (suc j) n a b e = there m n (take k ws) (take_there ws k j n (omega (arith, a)) (omega (arith, b)) e)
 
-pub increases : (ns : List ℕ) → RisesFrom 0 ns → IsStrictlyIncreasing ns
-increases ns r =
-    λ k l.
-    let next : suc k ≡ k + 1 = omega arith in
-    subst (λ j. get_or ns k 0 < get_or ns j 0) next (rises_next 0 ns k r (omega (arith, l)))
+take_rises : (low k : ℕ) (ws : List ℕ) → RisesFrom low ws → RisesFrom low (take k ws)
+take_rises low zero ws r = tt
+take_rises low (suc k) [] r = tt
+take_rises low (suc k) (w ∷ ws) r = (r.0, take_rises (w + 1) k ws r.1)
 
-module _ (P : Program) (es : List Event) (key : Key) (w : ℕ) (ws : List ℕ) (h : AreTouching P es key ws) where
-  pub up_applies : (d : Def) → Contains (defs_up_to (definitions es) w ws) d → Contains (defs_from P key.function 1 (take w (definitions es))) d × AppliesTo P key.types d
-  up_applies d c =
-      let u = up_from (definitions es) w ws d c in
-      let t = touch_of P es d.world key ((touching_exact P es key ws h d.world).0 u.stands) in
-      let at : d.world - 1 ≡ t.place = omega (arith, t.world_is) in
-      let site : d.site ≡ t.site = ap (λ (d : Def). d.site) u.is ∙ ap (λ k. get_or (definitions es) k 0) at ∙ get_or_of (definitions es) t.place t.site t.site_is in
-      let low : t.place < w = omega (arith, t.world_is, u.low) in
-      let world : 1 + t.place ≡ d.world = omega (arith, t.world_is) in
-      let same : def (1 + t.place) t.site ≡ d = λ i. def (world i) (sym site i) in (
-        subst (Contains (defs_from P key.function 1 (take w (definitions es)))) same
-            (def_there P key.function 1 (take w (definitions es)) t.place t.site t.row (get_take w (definitions es) t.place low ∙ t.site_is) t.stands t.function_is),
-        subst (λ s. Applicable (types_of P) (sig_of (slice_get P.sites s)) key.types) (sym site)
-            (subst (λ o. Applicable (types_of P) (sig_of o) key.types) (sym t.stands) t.applies),
-      )
+pub contained_at : (ws : List ℕ) (n : ℕ) → Contains ws n → (j : ℕ) × (j < length ws) × (get_or ws j 0 ≡ n)
+contained_at [] n c = absurd (none_there n [] refl c)
+contained_at (m ∷ ws) n c = by (here_or_there m n ws c) (contained_at ws n)
+  where
+    by : (m ≡ n) ⊎ Contains ws n → (Contains ws n → (j : ℕ) × (j < length ws) × (get_or ws j 0 ≡ n)) → (j : ℕ) × (j < suc (length ws)) × (get_or (m ∷ ws) j 0 ≡ n)
+    by (inl e) more = (0, omega arith, e)
+    by (inr d) more = let (j, a, e) = more d in (suc j, omega (arith, a), e)
 
-  pub applies_up : (d : Def) → Contains (defs_from P key.function 1 (take w (definitions es))) d × AppliesTo P key.types d → Contains (defs_up_to (definitions es) w ws) d
-  applies_up d (c, a) =
-      let i = def_of P key.function 1 (take w (definitions es)) d c in
-      let low : i.place < w = omega (arith, get_known (take w (definitions es)) i.place d.site i.site_is, take_within w (definitions es)) in
-      let site_is : slice_get (definitions es) i.place ≡ Some d.site = sym (get_take w (definitions es) i.place low) ∙ i.site_is in
-      let world : suc i.place ≡ d.world = omega (arith, i.world_is) in
-      let at : d.world - 1 ≡ i.place = omega (arith, world) in
-      let t : Touches P es d.world key =
-      subst (λ w. Touches P es w key) world
-      (subst (λ o. SiteTouches P (site_in P o) key) (sym site_is)
-      (subst (λ o. SiteTouches P o key) (sym i.stands) (i.function_is, subst (λ o. Applicable (types_of P) (sig_of o) key.types) i.stands a)))
-      in
-      let site : get_or (definitions es) (d.world - 1) 0 ≡ d.site = ap (λ k. get_or (definitions es) k 0) at ∙ get_or_of (definitions es) i.place d.site site_is in
-      let same : def d.world (get_or (definitions es) (d.world - 1) 0) ≡ d = λ i. def d.world (site i) in
-      subst (Contains (defs_up_to (definitions es) w ws)) same
-      (up_to (definitions es) w ws d.world ((touching_exact P es key ws h d.world).1 t) (omega (arith, world, low)))
+module _ (P : Program) (cs : List Change) (key : Key) (ws : List ℕ) (w k : ℕ) (h : AreTouchingAmong P cs key ws) (count : IsCountUpTo ws w k) where
+  up_low : (n : ℕ) → Contains (take k ws) n → n ≤ w
+  up_low n c =
+      let (j, a, b, e) = take_from ws k n c in
+      omega (arith, count.low j a, e)
 
-  pub up_are : AreThoseThatApply P es key.function key.types w (defs_up_to (definitions es) w ws)
-  up_are d = (up_applies d, applies_up d)
+  up_from : (n : ℕ) → Contains (take k ws) n → ChangeTouches P (change_in (take w cs) n) key
+  up_from n c =
+      let (j, a, b, e) = take_from ws k n c in
+      let low = up_low n c in
+      subst (λ o. ChangeTouches P o key) (sym (in_take cs w n low)) ((h.exact n).0 (subst (Contains ws) e (Contains-get_or ws j 0 b)))
 
-  pub up_increase : IsStrictlyIncreasing (worlds (defs_up_to (definitions es) w ws))
-  up_increase =
-      increases (worlds (defs_up_to (definitions es) w ws))
-      (up_rises (definitions es) w 0 ws (picked_rise (AppliesTo P key.types) (λ (d : Def). d.world) 0 (defs_from P key.function 1 (definitions es)) ws (defs_rise P key.function 0 1 (definitions es) (omega arith)) h))
+  up_to : (n : ℕ) → ChangeTouches P (change_in (take w cs) n) key → Contains (take k ws) n
+  up_to n t =
+      let is = touch_of P (take w cs) n key t in
+      let low : n ≤ w = omega (arith, is.world_is, get_known (take w cs) is.place is.change is.change_is, take_within w cs) in
+      let (j, b, e) = contained_at ws n ((h.exact n).1 (subst (λ o. ChangeTouches P o key) (in_take cs w n low) t)) in
+      by j b e low (cases j)
+    where
+      cases : (j : ℕ) → (j < k) ⊎ (k ≤ j)
+      cases j = grind arith
 
-  pub up_sites : All (HasSite P) (defs_up_to (definitions es) w ws)
-  up_sites =
-      λ k d l.
-      let ds = defs_up_to (definitions es) w ws in
-      let (c, a) = up_applies (get_or ds k d) (Contains-get_or ds k d l) in
-      let i = def_of P key.function 1 (take w (definitions es)) (get_or ds k d) c in
-      get_known P.sites (get_or ds k d).site i.site i.stands
+      by : (j : ℕ) → j < length ws → get_or ws j 0 ≡ n → n ≤ w → (j < k) ⊎ (k ≤ j) → Contains (take k ws) n
+      by j b e low (inl a) = take_there ws k j n a b e
+      by j b e low (inr a) = let high = count.high j a b in absurd (omega (arith, high, e, low))
+
+  -- so many of them are those among the changes up to the world
+  pub touching_up : AreTouchingAmong P (take w cs) key (take k ws)
+  touching_up = record { exact = λ n. (up_from n, up_to n); rises = take_rises 0 k ws h.rises }
+
+  same_at : (ns : List ℕ) → ((n : ℕ) → Contains ns n → n ≤ w) → defs_at (take w cs) ns ≡ defs_at cs ns
+  same_at [] l = refl
+  same_at (n ∷ ns) l =
+      ap (λ o. made_by n o ++ defs_at (take w cs) ns) (in_take cs w n (l n (here n n ns refl))) ∙ ap (λ ds. made_by n (change_in cs n) ++ ds) (same_at ns (λ m c. l m (there n m ns c)))
+
+  pub defs_up : defs_at (take w cs) (take k ws) ≡ defs_at cs (take k ws)
+  defs_up = same_at (take k ws) up_low
 
 -- ---- of an index
 
--- a world that touches a key is there
-pub world_known : (P : Program) (es : List Event) (index : Index) (key : ℕ) (ws : List ℕ) (i : ℕ) → IsIndexOf P es index → key < length index.keys.items → ws ≡ nth (items_of index.touching) key → i < length ws
-    → (1 ≤ get_or ws i 0) × (get_or ws i 0 ≤ length index.sites.items)
-world_known P es index key ws i h l e m =
-    let (k, at) = get_there (keys_of es) key (omega (arith, l, ap length h.known_keys)) in
-    let touching : AreTouching P es k ws = subst (AreTouching P es k) (sym e) (h.each_touching key k at) in
-    let t = touch_of P es (get_or ws i 0) k ((touching_exact P es k ws touching (get_or ws i 0)).0 (Contains-get_or ws i 0 m)) in
-    let low : 1 ≤ get_or ws i 0 = omega (arith, t.world_is) in
-    let high : get_or ws i 0 ≤ length index.sites.items = omega (arith, t.world_is, get_known (definitions es) t.place t.site t.site_is, ap length h.known_sites) in
-    (low, high)
-
-pub worlds_known : (P : Program) (es : List Event) (index : Index) (key : Key) (ws : List ℕ) → IsIndexOf P es index → AreTouching P es key ws → All (λ n. (1 ≤ n) × (n ≤ length index.sites.items)) ws
+-- the worlds that touch a key are there
+pub worlds_known : (P : Program) (es : List Event) (index : Index) (key : Key) (ws : List ℕ) → IsIndexOf P es index → AreTouching P es key ws → All (λ n. (1 ≤ n) × (n ≤ length index.changes.items)) ws
 worlds_known P es index key ws h touching =
     λ k d l.
-    let t = touch_of P es (get_or ws k d) key ((touching_exact P es key ws touching (get_or ws k d)).0 (Contains-get_or ws k d l)) in
-    let low : 1 ≤ get_or ws k d = omega (arith, t.world_is) in
-    let high : get_or ws k d ≤ length index.sites.items = omega (arith, t.world_is, get_known (definitions es) t.place t.site t.site_is, ap length h.known_sites) in
-    (low, high)
+    let (low, high) = touch_known P (changes es) key ws touching (get_or ws k d) (Contains-get_or ws k d l) in
+    let within : get_or ws k d ≤ length index.changes.items = omega (arith, high, ap length h.known_changes) in
+    (low, within)
 
-pub up_same_sites : (P : Program) (es : List Event) (index : Index) (key w : ℕ) (k : Key) (ws : List ℕ) (ds : List Def) → IsIndexOf P es index → slice_get (keys_of es) key ≡ Some k
-    → ws ≡ nth (items_of index.touching) key → ds ≡ defs_up_to index.sites.items w ws → (AreTouching P es k ws) × (ds ≡ defs_up_to (definitions es) w ws)
-up_same_sites P es index key w k ws ds h at e f =
-    (subst (AreTouching P es k) (sym e) (h.each_touching key k at), f ∙ ap (λ sites. defs_up_to sites w ws) h.known_sites)
+pub touching_of_key : (P : Program) (es : List Event) (index : Index) (key : ℕ) (k : Key) (ws : List ℕ) → IsIndexOf P es index → slice_get (keys_of es) key ≡ Some k → ws ≡ nth (items_of index.touching) key → AreTouching P es k ws
+touching_of_key P es index key k ws h at e = subst (AreTouching P es k) (sym e) (h.each_touching key k at)
 
-pub up_whole : (sites : List ℕ) (w : ℕ) (items : List Def) (ns : List ℕ) (i : ℕ) → length ns ≤ i → items ++ defs_up_to sites w (drop i ns) ≡ defs_up_to sites w ns → items ≡ defs_up_to sites w ns
-up_whole sites w items ns i l h = sym (append-nil items) ∙ ap (λ xs. items ++ defs_up_to sites w xs) (sym (drop_all i ns l)) ∙ h
+-- of a key that is there the worlds are in order, and those up to a world are there
+module _ (P : Program) (es : List Event) (index : Index) (key : ℕ) (ws : List ℕ) (h : IsIndexOf P es index) (l : key < length index.keys.items) (e : ws ≡ nth (items_of index.touching) key) where
+  there_is : (k : Key) × (slice_get (keys_of es) key ≡ Some k)
+  there_is = get_there (keys_of es) key (omega (arith, l, ap length h.known_keys))
+
+  pub touching_in_order : IsStrictlyIncreasing ws
+  touching_in_order = let (k, at) = there_is in increases ws (touching_of_key P es index key k ws h at e).rises
+
+  pub taken_known : (count : ℕ) → All (λ n. (1 ≤ n) × (n ≤ length index.changes.items)) (take count ws)
+  taken_known count =
+      λ j d l.
+      let (k, at) = there_is in
+      let (i, a, b, q) = take_from ws count (get_or (take count ws) j d) (Contains-get_or (take count ws) j d l) in
+      subst (λ n. (1 ≤ n) × (n ≤ length index.changes.items)) q (worlds_known P es index k ws h (touching_of_key P es index key k ws h at e) i 0 b)
+
+-- the definitions of a key up to a world, as the index reads them
+module _ (P : Program) (es : List Event) (index : Index) (key w count : ℕ) (k : Key) (ws : List ℕ) (ds : List Def) (h : IsIndexOf P es index) (at : slice_get (keys_of es) key ≡ Some k)
+    (e : ws ≡ nth (items_of index.touching) key) (counted : IsStrictlyIncreasing ws → IsCountUpTo ws w count) (f : ds ≡ defs_at index.changes.items (take count ws)) where
+  touching : AreTouching P es k ws
+  touching = touching_of_key P es index key k ws h at e
+
+  up : IsCountUpTo ws w count
+  up = counted (increases ws touching.rises)
+
+  those : ds ≡ defs_at (take w (changes es)) (take count ws)
+  those = f ∙ ap (λ cs. defs_at cs (take count ws)) h.known_changes ∙ sym (defs_up P (changes es) k ws w count touching up)
+
+  pub applicable_exact : AreMadeThatApply P es k.function k.types w ds
+  applicable_exact =
+      subst (AreMadeThatApply P es k.function k.types w) (sym those) (made_exact P (take w (changes es)) k (take count ws) (touching_up P (changes es) k ws w count touching up))
+
+  pub applicable_increase : IsStrictlyIncreasing (worlds ds)
+  applicable_increase =
+      subst (λ ds. IsStrictlyIncreasing (worlds ds)) (sym those)
+      (increases (worlds (defs_at (take w (changes es)) (take count ws))) (defs_at_rise (take w (changes es)) 0 (take count ws) (take_rises 0 count ws touching.rises)))
+
+  pub applicable_sites : All (HasSite P) ds
+  applicable_sites = subst (All (HasSite P)) (sym those) (made_sites P (take w (changes es)) k (take count ws) (touching_up P (changes es) k ws w count touching up))

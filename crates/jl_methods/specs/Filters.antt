@@ -1,19 +1,25 @@
--- What an index tells of a list of events: parts of the definitions, of the keys and of the rows, each in the order of its events
+-- What an index tells of a list of events: parts of the changes, of the keys and of the rows, each in the order of its events
 -- (Julia manual, Redefining Methods; Belyakova et al., OOPSLA 2020).
-use Rattle.std.specs.Prelude.{ℕ, ◌+◌, ◌-◌, nat_le, get_or, ◌<◌, ◌≡◌, ◌⊎◌, ◌↔◌, Bool, cond, nat_eq, List, [], ◌∷◌, length, slice_get, Some}
-use Rattle.std.specs.List.{All, Contains}
+use Rattle.std.specs.Prelude.{ℕ, zero, suc, ◌+◌, ◌<◌, ◌≡◌, ◌⊎◌, ◌↔◌, Bool, cond, nat_eq, List, [], ◌∷◌, length, option_to_list, take, slice_get, Option, None, Some}
+use Rattle.std.specs.List.{All, Contains, flat_map}
 use Rattle.jl_model.specs.declared.ty.Key.{Key}
 use Rattle.jl_model.specs.declared.ty.Ty.{Ty}
+use Rattle.jl_model.specs.declared.ty.Written.{Written}
 use Rattle.jl_model.specs.Signature.{Applicable}
 use Rattle.jl_program.specs.declared.tree.Program.{Program}
+use Rattle.jl_calculus.specs.declared.history.Change.{Change}
+use Rattle.jl_calculus.specs.declared.history.Change.TheVariants as Ch
 use Rattle.jl_calculus.specs.declared.history.Def.{Def}
+use Rattle.jl_calculus.specs.declared.history.Del.{Del}
 use Rattle.jl_calculus.specs.declared.history.Event.{Event}
 use Rattle.jl_calculus.specs.declared.history.Event.TheVariants as Ev
 use Rattle.jl_program.specs.Scope.{types_of}
-use Rattle.jl_calculus.specs.Definitions.{sig_of, AppliesTo, defs_from}
-use Rattle.jl_calculus.specs.Ranges.{CacheRow, keys_of, rows_of, SiteTouches}
-use Rattle.jl_calculus.specs.World.{definitions}
+use Rattle.jl_calculus.specs.Definitions.{AppliesTo, defs_from, defs_in, dels_from}
+use Rattle.jl_calculus.specs.Ranges.{CacheRow, Head, head_of, keys_of, rows_of, HeadTouches, ChangeTouches}
+use Rattle.jl_calculus.specs.World.{changes}
 use Rattle.jl_methods.specs.Numbered.{RisesFrom}
+
+-- ---- parts in their order
 
 -- the numbers of those that meet a test, where the first has this number
 abbrev pub numbers_from : {X : Type 0} → (X → Bool) → ℕ → List X → List ℕ
@@ -22,7 +28,15 @@ numbers_from test n (x ∷ xs) = cond (test x) (n ∷ numbers_from test (n + 1) 
 
 -- the definitions of a function, the prelude's first
 abbrev pub defs_of : Program → List Event → ℕ → List Def
-defs_of P es f = defs_from P f 1 (definitions es)
+defs_of P es f = defs_from P f 1 (changes es)
+
+-- the deletions of a function
+abbrev pub dels_of : Program → List Event → ℕ → List Del
+dels_of P es f = dels_from P f 1 (changes es)
+
+-- those that were made up to a world
+abbrev pub dels_in : Program → List Event → ℕ → ℕ → List Del
+dels_in P es f w = dels_from P f 1 (take w (changes es))
 
 abbrev pub is_key_of : ℕ → Key → Bool
 is_key_of f key = nat_eq key.function f
@@ -44,29 +58,74 @@ ArePicked Is number [] ns = ns ≡ []
 ArePicked Is number (x ∷ xs) ns =
     (Is x × ((rest : List ℕ) × (ns ≡ number x ∷ rest) × ArePicked Is number xs rest)) ⊎ ((Is x → ⊥) × ArePicked Is number xs ns)
 
--- the signature of a site applies to these types
-abbrev pub SiteApplies : Program → ℕ → List Ty → Type 0
-SiteApplies P site ts = Applicable (types_of P) (sig_of (slice_get P.sites site)) ts
+-- ---- changes
 
--- these are the worlds of the definitions of a key's function that apply to its types, in their order
+-- a change is of a site or of a deletion place of the program
+abbrev pub IsOfProgram : Program → Change → Type 0
+IsOfProgram P (Ch.Def site) = site < length P.sites
+IsOfProgram P (Ch.Del place) = place < length P.deletes
+
+-- a change is a definition
+abbrev pub IsDefinition : Option Change → Type 0
+IsDefinition None = ⊥
+IsDefinition (Some (Ch.Def site)) = Unit {0}
+IsDefinition (Some (Ch.Del place)) = ⊥
+
+-- a change is there and has this signature
+abbrev pub HasSig : Option Head → Written → Type 0
+HasSig None sig = ⊥
+HasSig (Some h) sig = h.sig ≡ sig
+
+-- what has this signature applies to these types
+abbrev pub HeadApplies : Program → Option Head → List Ty → Type 0
+HeadApplies P None ts = ⊥
+HeadApplies P (Some h) ts = Applicable (types_of P) h.sig ts
+
+-- the signature of a change applies to these types
+abbrev pub ChangeApplies : Program → Change → List Ty → Type 0
+ChangeApplies P change ts = HeadApplies P (head_of P change) ts
+
+-- the change that made a world, where there is one
+abbrev pub change_in : List Change → ℕ → Option Change
+change_in cs zero = None
+change_in cs (suc d) = slice_get cs d
+
+-- these are the worlds of exactly those among some changes that touch a key, in their order
+pub record AreTouchingAmong (P : Program) (cs : List Change) (key : Key) (ws : List ℕ) : Type 0 where
+  pub exact : (w : ℕ) → Contains ws w ↔ ChangeTouches P (change_in cs w) key
+  pub rises : RisesFrom 0 ws
+
+-- the same of the changes of a list of events
 abbrev pub AreTouching : Program → List Event → Key → List ℕ → Type 0
-AreTouching P es key ws = ArePicked (AppliesTo P key.types) (λ (d : Def). d.world) (defs_of P es key.function) ws
+AreTouching P es key ws = AreTouchingAmong P (changes es) key ws
 
--- the definitions that made these worlds, up to a world
-abbrev pub defs_up_to : List ℕ → ℕ → List ℕ → List Def
-defs_up_to sites w [] = []
-defs_up_to sites w (n ∷ ns) = cond (nat_le n w) (record { world = n; site = get_or sites (n - 1) 0 } ∷ defs_up_to sites w ns) (defs_up_to sites w ns)
+-- these are exactly the definitions of a function that were made up to a world and apply to these types, whether or not they stand
+abbrev pub AreMadeThatApply : Program → List Event → ℕ → List Ty → ℕ → List Def → Type 0
+AreMadeThatApply P es f ts w ds = (d : Def) → Contains ds d ↔ (Contains (defs_in P es f w) d × AppliesTo P ts d)
 
--- these are the numbers of those among the keys that a definition of a site touches, in their order
-pub record AreTouched (P : Program) (keys : List Key) (site : ℕ) (ns : List ℕ) : Type 0 where
+-- the definition that made a world, where the change that made it is one
+abbrev pub def_by : ℕ → Option Change → Option Def
+def_by w None = None
+def_by w (Some (Ch.Def site)) = Some (record { world = w; site = site })
+def_by w (Some (Ch.Del place)) = None
+
+-- the definitions that made some of these worlds
+abbrev pub defs_at : List Change → List ℕ → List Def
+defs_at cs ws = flat_map (λ w. option_to_list (def_by w (change_in cs w))) ws
+
+-- ---- what comes along
+
+-- these are the numbers of those among the keys that a change touches, in their order
+pub record AreTouched (P : Program) (keys : List Key) (change : Change) (ns : List ℕ) : Type 0 where
   pub known : All (λ n. n < length keys) ns
   pub rises : RisesFrom 0 ns
-  pub exact : (n : ℕ) (key : Key) → slice_get keys n ≡ Some key → Contains ns n ↔ SiteTouches P (slice_get P.sites site) key
+  pub exact : (n : ℕ) (key : Key) → slice_get keys n ≡ Some key → Contains ns n ↔ HeadTouches P (head_of P change) key
 
--- what comes along with an event: with a key the definitions that touch it, with a definition the keys that it touches
+-- what comes along with an event: with a key the changes that touch it, with a change the keys that it touches
 abbrev pub ComesWith : Program → List Event → Event → List ℕ → Type 0
 ComesWith P es (Ev.Key key) ns = AreTouching P es key ns
-ComesWith P es (Ev.Def task site) ns = AreTouched P (keys_of es) site ns
+ComesWith P es (Ev.Def task site) ns = AreTouched P (keys_of es) (Ch.Def site) ns
+ComesWith P es (Ev.Del task place) ns = AreTouched P (keys_of es) (Ch.Del place) ns
 ComesWith P es (Ev.Begin fuel) ns = ns ≡ []
 ComesWith P es (Ev.Fill key site first) ns = ns ≡ []
 ComesWith P es (Ev.Spawn task child start) ns = ns ≡ []

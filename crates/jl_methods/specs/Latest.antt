@@ -1,31 +1,47 @@
--- The definitions that stay when each new one takes the place of that of its own site.
-use Rattle.std.specs.Prelude.{ℕ, ◌-◌, ◌≡◌, ◌≤◌, not, nat_eq, List, [], ◌∷◌, ◌++◌, get_or}
+-- What stays when each new one takes the place of that of its own number: definitions by their sites, deletions by their places.
+use Rattle.std.specs.Prelude.{ℕ, ◌≡◌, ◌≤◌, not, nat_eq, List, [], ◌∷◌, ◌++◌, map}
 use Rattle.std.specs.List.{Contains, filter}
 use Rattle.jl_model.specs.declared.ty.Ty.{Ty}
 use Rattle.jl_program.specs.declared.tree.Program.{Program}
 use Rattle.jl_calculus.specs.declared.history.Def.{Def}
-use Rattle.jl_calculus.specs.Definitions.{AppliesTo, worlds}
+use Rattle.jl_calculus.specs.declared.history.Del.{Del}
+use Rattle.jl_calculus.specs.Definitions.{AppliesTo}
 use Rattle.jl_methods.specs.Numbered.{RisesFrom}
 
--- one more definition at the end, in place of those of its own site
-abbrev pub renewed : List Def → Def → List Def
-renewed ds d = filter (λ (x : Def). not (nat_eq x.site d.site)) ds ++ d ∷ []
+-- one more at the end, in place of those of its own number
+abbrev pub renewed : {X : Type 0} → (X → ℕ) → List X → X → List X
+renewed number xs x = filter (λ y. not (nat_eq (number y) (number x))) xs ++ x ∷ []
 
--- so for each of these worlds, which definitions of these sites made
-abbrev pub renewed_by : List ℕ → List Def → List ℕ → List Def
-renewed_by sites ds [] = ds
-renewed_by sites ds (n ∷ ns) = renewed_by sites (renewed ds (record { world = n; site = get_or sites (n - 1) 0 })) ns
+-- so for each of these
+abbrev pub renewed_by : {X : Type 0} → (X → ℕ) → List X → List X → List X
+renewed_by number xs [] = xs
+renewed_by number xs (x ∷ more) = renewed_by number (renewed number xs x) more
 
--- of the same site one is there that is no earlier
-pub record HasLaterOfSite (some : List Def) (d : Def) : Type 0 where
-  pub by : Def
-  pub stays : Contains some by
-  pub site_is : by.site ≡ d.site
-  pub later : d.world ≤ by.world
+abbrev pub site_number : Def → ℕ
+site_number d = d.site
+
+abbrev pub place_number : Del → ℕ
+place_number d = d.place
+
+module _ {X : Type 0} (number world : X → ℕ) where
+  -- of the same number one is there that is no earlier
+  pub record HasLater (some : List X) (x : X) : Type 0 where
+    pub by : X
+    pub stays : Contains some by
+    pub same : number by ≡ number x
+    pub later : world x ≤ world by
+
+  -- these are, in order, those of a kind that no later one of the kind and of the same number replaced
+  pub record AreLatestOf (Is : X → Type 0) (all some : List X) : Type 0 where
+    pub there : (x : X) → Contains some x → Contains all x × Is x
+    pub covered : (x : X) → Contains all x → Is x → HasLater some x
+    pub latest : (x y : X) → Contains some x → Contains all y → Is y → number y ≡ number x → world y ≤ world x
+    pub rises : RisesFrom 0 (map world some)
 
 -- these are, in order, the definitions that apply to types and that no later one of the same site replaced
-pub record AreLatestOfSites (P : Program) (ts : List Ty) (all some : List Def) : Type 0 where
-  pub there : (d : Def) → Contains some d → Contains all d × AppliesTo P ts d
-  pub covered : (d : Def) → Contains all d → AppliesTo P ts d → HasLaterOfSite some d
-  pub latest : (d e : Def) → Contains some d → Contains all e → AppliesTo P ts e → e.site ≡ d.site → e.world ≤ d.world
-  pub rises : RisesFrom 0 (worlds some)
+abbrev pub AreLatestOfSites : Program → List Ty → List Def → List Def → Type 0
+AreLatestOfSites P ts all some = AreLatestOf site_number (λ (d : Def). d.world) (AppliesTo P ts) all some
+
+-- these are, in order, the deletions that no later one of the same place repeats
+abbrev pub AreLatestOfPlaces : List Del → List Del → Type 0
+AreLatestOfPlaces all some = AreLatestOf place_number (λ (d : Del). d.world) (λ d. Unit {0}) all some

@@ -1,29 +1,30 @@
 //! The lists by function and by key that a history's events make.
 
-ghost use Rattle.std.specs.Prelude.{◌≡◌, ◌<◌, ◌≤◌, ◌+◌, ◌↔◌, ◌++◌, ◌∷◌, [], ℕ, List, IfOk, OnOk, All, length, slice_get, Some};
+ghost use Rattle.std.specs.Prelude.{◌≡◌, ◌<◌, ◌≤◌, ◌+◌, ◌↔◌, ◌++◌, ◌∷◌, [], ℕ, List, IfOk, OnOk, All, length, map, slice_get, Some};
 ghost use Rattle.std.specs.List.{Contains};
 ghost use Rattle.std.specs.List.Sorted.{IsStrictlyIncreasing};
 ghost use Rattle.jl_model.specs.declared.limits.TheConstants.{MOST_WORLDS, MOST_CACHE_KEYS};
 ghost use Rattle.jl_model.specs.declared.ty.Key.{Key};
 ghost use Rattle.jl_program.specs.declared.tree.Program.{Program};
 ghost use Rattle.jl_program.specs.Prelude.{prelude_numbers};
+ghost use Rattle.jl_calculus.specs.declared.history.Change.TheVariants as Ch;
 ghost use Rattle.jl_calculus.specs.declared.history.Event.{Event};
 ghost use Rattle.jl_calculus.specs.Definitions.{defs_from};
 ghost use Rattle.jl_calculus.specs.Legal.{MayCome};
 ghost use Rattle.jl_calculus.specs.Ranges.{keys_of, rows_of, Touches};
-ghost use Rattle.jl_calculus.specs.World.{site_of, world_of};
-ghost use Rattle.jl_methods.specs.Filters.{defs_of, key_numbers, row_numbers, ComesWith};
-ghost use Rattle.jl_methods.specs.Indexed.{noted_in, awaited_in, IsIndexOf, MayBeNoted, HasRoomFor, HasRoomForKey, HasRoomForRow, HasRoomForDef};
-ghost use Rattle.jl_methods.specs.Latest.{AreLatestOfSites};
+ghost use Rattle.jl_calculus.specs.World.{change_at, site_of, world_of};
+ghost use Rattle.jl_methods.specs.Filters.{defs_of, dels_of, dels_in, change_in, key_numbers, row_numbers, ComesWith, IsDefinition, IsOfProgram};
+ghost use Rattle.jl_methods.specs.Indexed.{noted_in, awaited_in, IsIndexOf, MayBeNoted, HasRoomFor, HasRoomForKey, HasRoomForRow, HasRoomForChange, HasRoomForDef, HasRoomForDel};
+ghost use Rattle.jl_methods.specs.Latest.{AreLatestOfSites, AreLatestOfPlaces};
 ghost use Rattle.jl_methods.specs.Newest.{IsNewestOf};
-ghost use Rattle.jl_methods.specs.Noted.{with_key, with_row, with_def, function_of};
+ghost use Rattle.jl_methods.specs.Noted.{with_key, with_row, with_def, with_del, function_of};
 ghost use Rattle.jl_methods.specs.Numbered.{nth, RisesFrom};
 ghost use Rattle.jl_methods.specs.Room.{items_of};
 
 use crate::latest::make_latest;
 use crate::lists::Lists;
 use crate::newest::{NewestRow, newer};
-use jl_calculus::history::{Def, Event};
+use jl_calculus::history::{Change, Def, Del, Event};
 use jl_model::ty::Key;
 use jl_program::prelude::PRELUDE_SITES;
 use jl_sig::Ready;
@@ -36,8 +37,10 @@ use std::mem;
 pub struct Index {
     alloc: Global,
     pub(crate) keys: Vec<Key>,
-    pub(crate) sites: Vec<u32>,
+    pub(crate) changes: Vec<Change>,
     pub(crate) defs: Lists<Def>,
+    pub(crate) dels: Lists<Del>,
+    latest_dels: Lists<Del>,
     pub(crate) numbers: Lists<u32>,
     rows: Lists<u32>,
     pub(crate) touching: Lists<u32>,
@@ -49,12 +52,15 @@ pub struct Index {
     awaited: Vec<u32>,
 }
 
-/// The function of a site.
-pub(crate) fn function_of(ready: &Ready, site: u32) -> u32
-    requires { site < length ready.now.sites }
-    ensures { result ≡ function_of ready.now site }
+/// The function of a change.
+pub(crate) fn function_of(ready: &Ready, change: Change) -> u32
+    requires { IsOfProgram ready.now change }
+    ensures { result ≡ function_of ready.now change }
 {
-    ready.program().sites.as_slice()[site as usize].function
+    match change {
+        Change::Def(site) => ready.program().sites.as_slice()[site as usize].function,
+        Change::Del(place) => ready.program().deletes.as_slice()[place as usize].function,
+    }
 }
 
 /// So many lists without elements.
@@ -70,26 +76,26 @@ fn empty_lists<T: Drop>(alloc: Global, count: usize) -> Result<Lists<T>, AllocEr
     Ok(lists)
 }
 
-/// The sites of the prelude's definitions, in order.
-fn prelude_sites(alloc: Global) -> Result<Vec<u32>, AllocError>
-    ensures { IfOk result (λ sites. sites.items ≡ prelude_numbers) }
+/// The prelude's definitions, in order.
+fn prelude_changes(alloc: Global) -> Result<Vec<Change>, AllocError>
+    ensures { IfOk result (λ changes. changes.items ≡ map Ch.Def prelude_numbers) }
 {
-    let mut sites = Vec::new(alloc);
+    let mut changes = Vec::new(alloc);
     for site in 0..PRELUDE_SITES {
-        sites.push(site)?;
+        changes.push(Change::Def(site))?;
     }
-    Ok(sites)
+    Ok(changes)
 }
 
 /// The prelude's definitions, by function.
 fn prelude_defs(alloc: Global, ready: &Ready) -> Result<Lists<Def>, AllocError>
     ensures count { IfOk result (λ defs. length (items_of defs) ≡ length ready.now.functions) }
-    ensures each { IfOk result (λ defs. (f : ℕ) → nth (items_of defs) f ≡ defs_from ready.now f 1 prelude_numbers) }
+    ensures each { IfOk result (λ defs. (f : ℕ) → nth (items_of defs) f ≡ defs_from ready.now f 1 (map Ch.Def prelude_numbers)) }
 {
     ready.valid();
     let mut defs = empty_lists(alloc, ready.program().functions.len())?;
     for site in 0..PRELUDE_SITES {
-        let function = function_of(ready, site);
+        let function = function_of(ready, Change::Def(site));
         defs.reserve(function)?;
         let world = site + 1;
         defs.put(function, Def { world, site });
@@ -102,13 +108,19 @@ impl Index {
     pub fn new(alloc: Global, ready: &Ready) -> Result<Index, AllocError>
         ensures { IfOk result (λ index. IsIndexOf ready.now [] index) }
     {
+        let functions = ready.program().functions.len();
+        let changes = prelude_changes(alloc)?;
         let defs = prelude_defs(alloc, ready)?;
-        let numbers = empty_lists(alloc, ready.program().functions.len())?;
+        let dels = empty_lists(alloc, functions)?;
+        let latest_dels = empty_lists(alloc, functions)?;
+        let numbers = empty_lists(alloc, functions)?;
         Ok(Index {
             alloc,
             keys: Vec::new(alloc),
-            sites: prelude_sites(alloc)?,
+            changes,
             defs,
+            dels,
+            latest_dels,
             numbers,
             rows: Lists::new(alloc),
             touching: Lists::new(alloc),
@@ -128,6 +140,29 @@ impl Index {
         self.defs.get(function)
     }
 
+    /// The deletions of a function, in the order of their worlds.
+    pub fn dels_of(&self, function: u32) -> &[Del]
+        ensures { (P : Program) (es : List Event) → IsIndexOf P es self.now → result.now ≡ dels_of P es function }
+    {
+        self.dels.get(function)
+    }
+
+    /// Those of them that were made up to a world. They are found by halves.
+    pub fn dels_up_to(&self, function: u32, world: u32) -> &[Del]
+        ensures { (P : Program) (es : List Event) → IsIndexOf P es self.now → result.now ≡ dels_in P es function world }
+    {
+        let dels = self.dels.get(function);
+        &dels[..dels.partition_point(|del| del.world <= world)]
+    }
+
+    /// The deletions of a function, in the order of their worlds, without those that a later one of the same place repeats. There are no
+    /// more of them than the function has deletion places, however often these are reached.
+    pub fn latest_dels_of(&self, function: u32) -> &[Del]
+        ensures { (P : Program) (es : List Event) → IsIndexOf P es self.now → AreLatestOfPlaces (dels_of P es function) result.now }
+    {
+        self.latest_dels.get(function)
+    }
+
     /// The numbers of the keys of a function, in order.
     pub fn keys_of(&self, function: u32) -> &[u32]
         ensures { (P : Program) (es : List Event) → IsIndexOf P es self.now → result.now ≡ key_numbers es function }
@@ -142,7 +177,8 @@ impl Index {
         self.rows.get(key)
     }
 
-    /// The worlds of the definitions that touch a key, in order: those of its function that apply to its types.
+    /// The worlds of the changes that touch a key, in order: the definitions and the deletions of its function that apply to its
+    /// types.
     pub fn touching(&self, key: u32) -> &[u32]
         ensures exact { (P : Program) (es : List Event) (k : Key) → IsIndexOf P es self.now → slice_get (keys_of es) key ≡ Some k → (w : ℕ) → Contains result.now w ↔ Touches P es w k }
         ensures ordered { (P : Program) (es : List Event) (k : Key) → IsIndexOf P es self.now → slice_get (keys_of es) key ≡ Some k → IsStrictlyIncreasing result.now }
@@ -150,9 +186,9 @@ impl Index {
         self.touching.get(key)
     }
 
-    /// The definitions that touch a key, in the order of their worlds, without those that a later one of the same site replaced. In
-    /// a world that has all definitions that touch the key, what is chosen among these is the choice for the key. There are no
-    /// more of them than the function has sites, however often these are defined.
+    /// The definitions that touch a key, in the order of their worlds, without those that a later one of the same site replaced, and
+    /// whether or not they are deleted. In a world that has all changes that touch the key, what is chosen among those of them that stand
+    /// is the choice for the key. There are no more of them than the function has sites, however often these are defined.
     pub fn latest(&self, key: u32) -> &[Def]
         ensures { (P : Program) (es : List Event) (k : Key) → IsIndexOf P es self.now → slice_get (keys_of es) key ≡ Some k → AreLatestOfSites P k.types (defs_of P es k.function) result.now }
     {
@@ -177,24 +213,35 @@ impl Index {
         &self.keys[number as usize]
     }
 
+    /// The change that made a world.
+    pub fn change(&self, world: u32) -> Change
+        requires { (1 ≤ world) × (world ≤ length (noted_in self.now).changes) }
+        ensures { (P : Program) (es : List Event) → IsIndexOf P es self.now → change_at es world ≡ Some result }
+    {
+        self.changes[world as usize - 1]
+    }
+
     /// The site of the definition that made a world.
     pub fn site(&self, world: u32) -> u32
-        requires { (1 ≤ world) × (world ≤ length (noted_in self.now).sites) }
+        requires { IsDefinition (change_in (noted_in self.now).changes world) }
         ensures { (P : Program) (es : List Event) → IsIndexOf P es self.now → result ≡ site_of es world }
     {
-        self.sites[world as usize - 1]
+        match self.changes[world as usize - 1] {
+            Change::Def(site) => site,
+            Change::Del(_) => unreachable!(),
+        }
     }
 
     /// How many worlds there are, which is the number of the newest.
     pub fn worlds(&self) -> usize
         ensures { (P : Program) (es : List Event) → IsIndexOf P es self.now → result ≡ world_of es }
     {
-        self.sites.len()
+        self.changes.len()
     }
 
-    /// Takes all the memory that noting this event needs. Along with a definition come the numbers of the keys that it touches, along
-    /// with a key the worlds of the definitions that touch it, and nothing with another event. What was reserved before is
-    /// given up.
+    /// Takes all the memory that noting this event needs. Along with a definition or a deletion come the numbers of the keys that it
+    /// touches, along with a key the worlds of the changes that touch it, and nothing with another event. What was reserved before
+    /// is given up.
     pub fn reserve(
         &mut self,
         ready: &Ready,
@@ -219,7 +266,12 @@ impl Index {
         match event {
             Event::Key(_) => self.note_key(),
             Event::Fill { key, first, .. } => self.note_row(*key, *first),
-            Event::Def { site, .. } => self.note_def(function_of(ready, *site), *site),
+            Event::Def { site, .. } => {
+                self.note_def(function_of(ready, Change::Def(*site)), *site);
+            }
+            Event::Del { place, .. } => {
+                self.note_del(function_of(ready, Change::Del(*place)), *place);
+            }
             Event::Begin(_) => {}
             Event::Spawn { .. } => {}
             Event::Done { .. } => {}
@@ -236,7 +288,8 @@ impl Index {
         match event {
             Event::Key(key) => self.reserve_key(key),
             Event::Fill { key, .. } => self.rows.reserve(*key),
-            Event::Def { site, .. } => self.reserve_def(function_of(ready, *site)),
+            Event::Def { site, .. } => self.reserve_def(function_of(ready, Change::Def(*site))),
+            Event::Del { place, .. } => self.reserve_del(function_of(ready, Change::Del(*place))),
             Event::Begin(_) => Ok(()),
             Event::Spawn { .. } => Ok(()),
             Event::Done { .. } => Ok(()),
@@ -246,7 +299,7 @@ impl Index {
     fn reserve_key(&mut self, key: &Key) -> Result<(), AllocError>
         requires function { key.now.function < length (noted_in self.old).numbers }
         requires few { length (noted_in self.old).keys < MOST_CACHE_KEYS }
-        requires worlds { All (λ n. (1 ≤ n) × (n ≤ length (noted_in self.old).sites)) (awaited_in self.old) }
+        requires worlds { All (λ n. (1 ≤ n) × (n ≤ length (noted_in self.old).changes)) (awaited_in self.old) }
         ensures room { OnOk result (HasRoomForKey key.now self.new) }
         ensures awaited { awaited_in self.new ≡ awaited_in self.old }
         ensures kept { noted_in self.new ≡ noted_in self.old }
@@ -257,14 +310,30 @@ impl Index {
         self.touching.reserve_list()?;
         self.latest.reserve_list()?;
         self.newest.reserve(1)?;
-        self.next_latest = make_latest(self.alloc, self.sites.as_slice(), self.awaited.as_slice())?;
+        self.next_latest = make_latest(
+            self.alloc,
+            self.changes.as_slice(),
+            self.awaited.as_slice(),
+        )?;
         self.next_key = Some(key.copy()?);
         Ok(())
     }
 
+    fn reserve_change(&mut self) -> Result<(), AllocError>
+        requires few { length (noted_in self.old).changes < MOST_WORLDS }
+        requires known { All (λ n. n < length (noted_in self.old).touching) (awaited_in self.old) }
+        requires rises { RisesFrom 0 (awaited_in self.old) }
+        ensures room { OnOk result (HasRoomForChange self.new) }
+        ensures awaited { awaited_in self.new ≡ awaited_in self.old }
+        ensures kept { noted_in self.new ≡ noted_in self.old }
+    {
+        self.changes.reserve(1)?;
+        self.touching.reserve_each(self.awaited.as_slice())
+    }
+
     fn reserve_def(&mut self, function: u32) -> Result<(), AllocError>
         requires function { function < length (noted_in self.old).defs }
-        requires few { length (noted_in self.old).sites < MOST_WORLDS }
+        requires few { length (noted_in self.old).changes < MOST_WORLDS }
         requires known { All (λ n. n < length (noted_in self.old).touching) (awaited_in self.old) }
         requires known_latest { All (λ n. n < length (noted_in self.old).latest) (awaited_in self.old) }
         requires rises { RisesFrom 0 (awaited_in self.old) }
@@ -272,10 +341,24 @@ impl Index {
         ensures awaited { awaited_in self.new ≡ awaited_in self.old }
         ensures kept { noted_in self.new ≡ noted_in self.old }
     {
-        self.sites.reserve(1)?;
+        self.reserve_change()?;
         self.defs.reserve(function)?;
-        self.touching.reserve_each(self.awaited.as_slice())?;
         self.latest.reserve_each(self.awaited.as_slice())
+    }
+
+    fn reserve_del(&mut self, function: u32) -> Result<(), AllocError>
+        requires function { function < length (noted_in self.old).dels }
+        requires function_latest { function < length (noted_in self.old).latest_dels }
+        requires few { length (noted_in self.old).changes < MOST_WORLDS }
+        requires known { All (λ n. n < length (noted_in self.old).touching) (awaited_in self.old) }
+        requires rises { RisesFrom 0 (awaited_in self.old) }
+        ensures room { OnOk result (HasRoomForDel function self.new) }
+        ensures awaited { awaited_in self.new ≡ awaited_in self.old }
+        ensures kept { noted_in self.new ≡ noted_in self.old }
+    {
+        self.reserve_change()?;
+        self.dels.reserve(function)?;
+        self.latest_dels.reserve(function)
     }
 
     fn note_key(&mut self)
@@ -312,11 +395,22 @@ impl Index {
         requires { HasRoomForDef function self.old }
         ensures { noted_in self.new ≡ with_def function site (awaited_in self.old) (noted_in self.old) }
     {
-        let world = self.sites.len() as u32 + 1;
-        self.sites.push_reserved(site);
+        let world = self.changes.len() as u32 + 1;
+        self.changes.push_reserved(Change::Def(site));
         self.defs.put(function, Def { world, site });
         self.touching.put_each(self.awaited.as_slice(), world);
         self.latest
             .renew_each(self.awaited.as_slice(), Def { world, site });
+    }
+
+    fn note_del(&mut self, function: u32, place: u32)
+        requires { HasRoomForDel function self.old }
+        ensures { noted_in self.new ≡ with_del function place (awaited_in self.old) (noted_in self.old) }
+    {
+        let world = self.changes.len() as u32 + 1;
+        self.changes.push_reserved(Change::Del(place));
+        self.dels.put(function, Del { world, place });
+        self.latest_dels.renew(function, Del { world, place });
+        self.touching.put_each(self.awaited.as_slice(), world);
     }
 }

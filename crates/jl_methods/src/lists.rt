@@ -2,12 +2,12 @@
 
 ghost use Rattle.std.specs.Prelude.{◌≡◌, ◌<◌, ◌++◌, ◌∷◌, [], ℕ, length, OnOk};
 ghost use Rattle.std.specs.List.{All};
-ghost use Rattle.jl_methods.specs.Latest.{renewed};
+ghost use Rattle.jl_methods.specs.Latest.{renewed, site_number, place_number};
 ghost use Rattle.jl_methods.specs.Numbered.{nth, put_at, put_each, change_at, change_each};
 ghost use Rattle.jl_methods.specs.Room.{items_of, HasRoomAt, HasRoomAtEach, HasPlace};
 
-use crate::latest::renew;
-use jl_calculus::history::Def;
+use crate::latest::{renew_def, renew_del};
+use jl_calculus::history::{Def, Del};
 use std::alloc::{AllocError, Global};
 
 /// Lists by number, each of which grows at its end. Memory is taken ahead, by `reserve` and `reserve_list`, so that `put` and
@@ -103,19 +103,29 @@ impl Lists<Def> {
     /// Puts a definition at the end of a list, in place of that of its own site, where there is one.
     pub(crate) fn renew(&mut self, number: u32, def: Def)
         requires { HasRoomAt self.old number }
-        ensures renewed { items_of self.new ≡ change_at (λ ds. renewed ds def) (items_of self.old) number }
+        ensures renewed { items_of self.new ≡ change_at (λ ds. renewed site_number ds def) (items_of self.old) number }
         ensures other { (n : ℕ) → (n ≡ number → ⊥) → HasRoomAt self.old n → HasRoomAt self.new n }
     {
-        renew(&mut self.lists[number as usize], def);
+        renew_def(&mut self.lists[number as usize], def);
     }
 
     /// The same in each of these lists, whose numbers are in order.
     pub(crate) fn renew_each(&mut self, numbers: &[u32], def: Def)
         requires { HasRoomAtEach self.old numbers.now }
-        ensures { items_of self.new ≡ change_each (λ ds. renewed ds def) (items_of self.old) numbers.now }
+        ensures { items_of self.new ≡ change_each (λ ds. renewed site_number ds def) (items_of self.old) numbers.now }
     {
         for number in numbers {
             self.renew(*number, def);
         }
+    }
+}
+
+impl Lists<Del> {
+    /// Puts a deletion at the end of a list, in place of that of its own place, where there is one.
+    pub(crate) fn renew(&mut self, number: u32, del: Del)
+        requires { HasRoomAt self.old number }
+        ensures { items_of self.new ≡ change_at (λ ds. renewed place_number ds del) (items_of self.old) number }
+    {
+        renew_del(&mut self.lists[number as usize], del);
     }
 }

@@ -3,7 +3,7 @@ use Rattle.std.proofs.Common.{◌≡◌, ◌↔◌, refl, sym, ap, ◌∙◌, su
 use Rattle.jl_program.specs.declared.value.Value.{Value}
 use Rattle.jl_program.specs.declared.value.Value.TheVariants as V
 use Rattle.jl_calculus.specs.declared.history.TraceItem.{TraceItem}
-use Rattle.jl_calculus.specs.declared.history.TraceItem.TheVariants.{Look, Def, Spawn, Fetch, WorldFull, TaskFull}
+use Rattle.jl_calculus.specs.declared.history.TraceItem.TheVariants.{Look, Def, Del, Spawn, Fetch, WorldFull, TaskFull, Absent}
 use Rattle.jl_calculus.specs.declared.history.Outcome.{Outcome}
 use Rattle.jl_program.specs.declared.tree.Expr.{Expr, out-Expr}
 use Rattle.jl_program.specs.declared.tree.Stmt.{Stmt}
@@ -138,6 +138,8 @@ module _ (g : Setting) (Ends : Outcome → State → Type 0) where
   goes_look (Fetch c o q ∷ left) s after h = absurd h
   goes_look (WorldFull q ∷ left) s after h = absurd h
   goes_look (TaskFull q ∷ left) s after h = absurd h
+  goes_look (Del at_place q ∷ left) s after h = absurd h
+  goes_look (Absent at_place q ∷ left) s after h = absurd h
 
   -- likewise a definition, a spawn and a fetch
   pub goes_definition : (left : List TraceItem) (site : ℕ) (s : State) (after : State → Type 0) → defines g Ends left site s after → GoesOnFrom g.until (a_definition site) left
@@ -148,6 +150,8 @@ module _ (g : Setting) (Ends : Outcome → State → Type 0) where
   goes_definition (Spawn c q ∷ left) site s after h = absurd h
   goes_definition (Fetch c o q ∷ left) site s after h = absurd h
   goes_definition (TaskFull q ∷ left) site s after h = absurd h
+  goes_definition (Del at_place q ∷ left) site s after h = absurd h
+  goes_definition (Absent at_place q ∷ left) site s after h = absurd h
 
   pub goes_spawn : (left : List TraceItem) (start : Start) (s : State) (after : Then) → spawns g Ends left start s after → GoesOnFrom g.until (a_spawn start) left
   goes_spawn [] start s after h = h
@@ -157,6 +161,8 @@ module _ (g : Setting) (Ends : Outcome → State → Type 0) where
   goes_spawn (Def made q ∷ left) start s after h = absurd h
   goes_spawn (Fetch c o q ∷ left) start s after h = absurd h
   goes_spawn (WorldFull q ∷ left) start s after h = absurd h
+  goes_spawn (Del at_place q ∷ left) start s after h = absurd h
+  goes_spawn (Absent at_place q ∷ left) start s after h = absurd h
 
   pub goes_fetch : (left : List TraceItem) (of : ℕ) (s : State) (after : Then) → fetches g Ends left of s after → GoesOnFrom g.until (a_fetch of) left
   goes_fetch [] of s after h = h
@@ -166,3 +172,5 @@ module _ (g : Setting) (Ends : Outcome → State → Type 0) where
   goes_fetch (Spawn c q ∷ left) of s after h = absurd h
   goes_fetch (WorldFull q ∷ left) of s after h = absurd h
   goes_fetch (TaskFull q ∷ left) of s after h = absurd h
+  goes_fetch (Del at_place q ∷ left) of s after h = absurd h
+  goes_fetch (Absent at_place q ∷ left) of s after h = absurd h

@@ -19,5 +19,6 @@ P = record {
   functions = prelude_functions ++ codes "f" ∷ [];
   sites = prelude_sites ++ f_site ∷ [];
   spawns = [];
+  deletes = [];
   top = I.Define 14 ∷ I.Do (X.Print (Pi.Show (X.Call 12 (E.Int (pos 2) ∷ [])) ∷ []) true) ∷ [];
 }

@@ -14,7 +14,7 @@ use Rattle.std.specs.List.{list_all}
 use Rattle.jl_program.specs.Names.{is_free_name}
 use Rattle.jl_program.specs.BodyTypes.{IsAllowedType, IsSmallStruct}
 use Rattle.jl_program.specs.Scope.{all_types, in_body, at_top, is_valid_expr, are_valid_items}
-use Rattle.jl_program.specs.Valid.{IsValid, IsValidSite}
+use Rattle.jl_program.specs.Valid.{IsValidDelete, IsValid, IsValidSite}
 use Rattle.jl_program.proofs.Computing.{names}
 use Rattle.jl_program.proofs.FirstProgram.{P, f_site}
 use Rattle.jl_program.proofs.PlainSigs.{any, plain_valid}
@@ -88,6 +88,7 @@ program_valid = record {
   once = λ place l. absurd (omega (arith, l));
   prelude = refl;
   sites = all_one f_site (record { function = omega arith; signature = plain_valid [] (T.Any ∷ []) (any, tt) (omega arith); body = body_valid });
+  deletes = none (IsValidDelete P) [] refl;
   top = top_valid;
   written = none (IsAllowedType (all_types P)) (written_types P) no_types;
   inferred = none (IsSmallStruct (all_types P)) (inferred_structs P) no_structs;

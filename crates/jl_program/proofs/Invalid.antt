@@ -32,7 +32,7 @@ use Rattle.jl_program.proofs.ValidLayers.{valid-int, valid-local, valid-call, va
 
 -- the function f, these sites, expressions of spawn places and statements
 abbrev program : List Site → List Expr → List Item → Program
-program sites spawns top = record { decls = []; functions = prelude_functions ++ codes "f" ∷ []; sites = prelude_sites ++ sites; spawns = spawns; top = top }
+program sites spawns top = record { decls = []; functions = prelude_functions ++ codes "f" ∷ []; sites = prelude_sites ++ sites; spawns = spawns; deletes = []; top = top }
 
 abbrev one : Expr
 one = E.Int (pos 1)

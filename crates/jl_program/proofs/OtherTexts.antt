@@ -27,7 +27,7 @@ abbrev wood : Decl
 wood = record { name = codes "Wood"; kind = Struct; params = []; parent = T.Any; fields = [] }
 
 abbrev P : Program
-P = record { decls = box ∷ wood ∷ []; functions = prelude_functions; sites = prelude_sites; spawns = []; top = [] }
+P = record { decls = box ∷ wood ∷ []; functions = prelude_functions; sites = prelude_sites; spawns = []; deletes = []; top = [] }
 
 nominal-text : (n : ℕ) (ts : List Ty) → type_text P (W.Nominal n ts) ≡ type_name P n ++ arguments (map (type_text P) ts)
 nominal-text n ts = ap (type_text P) (sym (rolls-Nominal n ts)) ∙ fold-roll-Ty (List ℕ) (type_step P) (L.Nominal n ts)

@@ -24,7 +24,7 @@ use Rattle.jl_program.specs.Gathered.{own_place, own_types, own_struct, spawned_
 use Rattle.jl_program.specs.Names.{is_free_name}
 use Rattle.jl_program.specs.Prelude.{prelude_functions, prelude_sites, plain}
 use Rattle.jl_program.specs.Scope.{View, all_types, in_body, at_top, is_valid_expr, are_valid_items, are_valid_tasks}
-use Rattle.jl_program.specs.Valid.{IsValid, IsValidSite}
+use Rattle.jl_program.specs.Valid.{IsValidDelete, IsValid, IsValidSite}
 use Rattle.jl_program.proofs.Computing.{names}
 use Rattle.jl_program.proofs.PlainSigs.{any, plain_valid}
 use Rattle.jl_program.proofs.ValidLayers.{valid-truth, valid-int, valid-local, valid-call, valid-if, valid-block, valid-eval, valid-spawn, valid-fetch, valid-print, valid-show, valid-text, valid-define, valid-top-bind, valid-top-do, valid-bind, valid-do, valid-return, in-layer, in-nothing, in-int, in-local, in-call, in-print, in-spawn, in-show, in-text, in-define, in-top-bind, in-top-do, in-bind, in-do, in-return}
@@ -59,6 +59,7 @@ P = record {
   functions = prelude_functions ++ codes "f" ∷ [];
   sites = prelude_sites ++ site ∷ [];
   spawns = E.Local 1 ∷ [];
+  deletes = [];
   top = I.Define 14 ∷ I.Bind 0 call ∷ I.Do (X.Eval (I.Do call ∷ [])) ∷ I.Do (X.Print pieces true) ∷ [];
 }
 
@@ -250,6 +251,7 @@ program_valid = record {
   once = once;
   prelude = refl;
   sites = all_one site (record { function = omega arith; signature = plain_valid [] (T.Any ∷ []) (any, tt) (omega arith); body = body_valid });
+  deletes = none (IsValidDelete P) [] refl;
   top = top_valid;
   written = none (IsAllowedType (all_types P)) (written_types P) no_types;
   inferred = none (IsSmallStruct (all_types P)) (inferred_structs P) no_structs;

@@ -1,6 +1,6 @@
 -- When a program is valid: what its numbers, slots and places stand for is there, its names are names, its declarations and
 -- signatures are allowed, and so are the types written in its bodies.
-use Rattle.std.specs.Prelude.{ℕ, ◌≡◌, ◌<◌, Bool, ◌&&◌, nat_lt, IsTrue, All, List, length, take, drop}
+use Rattle.std.specs.Prelude.{ℕ, ◌≡◌, ◌<◌, ◌≤◌, Bool, ◌&&◌, nat_lt, IsTrue, All, List, length, take, drop}
 use Rattle.std.specs.List.{flat_map, list_all}
 use Rattle.jl_model.specs.declared.ty.Decl.{Decl}
 use Rattle.jl_model.specs.declared.ty.Written.{Written}
@@ -8,6 +8,7 @@ use Rattle.jl_model.specs.Refusals.{Declared}
 use Rattle.jl_model.specs.Rows.{vars_in}
 use Rattle.jl_model.specs.SigRefusals.{types_in, IsAllowedSig}
 use Rattle.jl_model.specs.Valid.{is_known}
+use Rattle.jl_program.specs.declared.tree.Delete.{Delete}
 use Rattle.jl_program.specs.declared.tree.Site.{Site}
 use Rattle.jl_program.specs.declared.tree.Program.{Program}
 use Rattle.jl_program.specs.BodyTypes.{IsAllowedType, IsSmallStruct}
@@ -32,6 +33,12 @@ pub record IsValidSite (P : Program) (views : List View) (site : Site) : Type 0 
   pub signature : IsValidSig (all_types P) site.sig
   pub body : IsTrue (is_valid_expr P views site.body (in_body site.sig))
 
+-- a deletion place: its function is one of the script's, and its signature is valid
+pub record IsValidDelete (P : Program) (place : Delete) : Type 0 where
+  pub function : place.function < length P.functions
+  pub past_prelude : length prelude_functions ≤ place.function
+  pub signature : IsValidSig (all_types P) place.sig
+
 pub record IsValid (P : Program) : Type 0 where
   -- the declarations, each as it is kept, and their names
   pub decls : Declared (all_types P)
@@ -47,6 +54,8 @@ pub record IsValid (P : Program) : Type 0 where
   -- the sites: the prelude's, and then those of the script
   pub prelude : take (length prelude_sites) P.sites ≡ prelude_sites
   pub sites : All (IsValidSite P views) (drop (length prelude_sites) P.sites)
+  -- the deletion places
+  pub deletes : All (IsValidDelete P) P.deletes
   -- the statements at the top
   pub top : IsTrue (are_valid_items P views P.top at_top)
   -- the types written in bodies, and the structs whose parameters are inferred

@@ -20,6 +20,8 @@ pub type Items = SharedList<Item>;
 pub type Pieces = SharedList<Piece>;
 /// Definition sites.
 pub type Sites = SharedList<Site>;
+/// Deletion places.
+pub type Deletes = SharedList<Delete>;
 
 /// An expression. A function, a site, a struct and a spawn place stand by their numbers, a local name by its slot.
 #[derive(Drop)]
@@ -159,6 +161,13 @@ pub struct Site {
     pub body: Expr,
 }
 
+/// A deletion place: the function and the signature whose methods it takes away.
+#[derive(Drop)]
+pub struct Delete {
+    pub function: u32,
+    pub sig: Written,
+}
+
 /// Where a task starts: its spawn place, the values and the types that it sees, and its world.
 #[derive(Drop)]
 pub struct Start {
@@ -184,12 +193,13 @@ impl Start {
 }
 
 /// A program: the types that its script declares, its functions (the prelude's 12 first), its definition sites (the
-/// prelude's 14 first), the expressions of its spawn places and its top-level statements.
+/// prelude's 14 first), the expressions of its spawn places, its deletion places and its top-level statements.
 #[derive(Drop)]
 pub struct Program {
     pub decls: Decls,
     pub functions: Names,
     pub sites: Sites,
     pub spawns: Exprs,
+    pub deletes: Deletes,
     pub top: Items,
 }

@@ -71,6 +71,14 @@ more_others task (Ev.Def by site) es o h =
       start = h.start;
       first = λ p. h.first (p + 1);
     }
+more_others task (Ev.Del by place) es o h =
+    let q = not_same by task o in
+    record {
+      own = λ p. ap (λ b. cond b (I.Del place p ∷ own_events task (p + 1) es) (own_events task (p + 1) es)) q ∙ h.own (p + 1);
+      starts = h.starts;
+      start = h.start;
+      first = λ p. h.first (p + 1);
+    }
 more_others task (Ev.Spawn by child start) es o h =
     let q = not_same by task (λ e. o (inl e)) in
     let c = not_same child task (λ e. o (inr e)) in
@@ -88,6 +96,7 @@ of_none P past (Ev.Key key) task m l k o = o
 of_none P past (Ev.Fill key site first) task m l k o = o
 of_none P past (Ev.Done by ended) task m l k o = o
 of_none P past (Ev.Def by site) task m l k o = omega (arith, m.running.started, l, o)
+of_none P past (Ev.Del by place) task m l k o = omega (arith, m.running.started, l, o)
 of_none P past (Ev.Spawn by child start) task m l k (inl o) = omega (arith, m.running.started, l, o)
 of_none P past (Ev.Spawn by child start) task m l k (inr o) = omega (arith, m.next, k, o, tasks_append past (Ev.Spawn by child start ∷ []))
 
@@ -109,6 +118,7 @@ start_later task (Ev.Begin fuel ∷ es) more q = start_later task es more q
 start_later task (Ev.Key key ∷ es) more q = start_later task es more q
 start_later task (Ev.Fill key site first ∷ es) more q = start_later task es more q
 start_later task (Ev.Def by site ∷ es) more q = start_later task es more q
+start_later task (Ev.Del by place ∷ es) more q = start_later task es more q
 start_later task (Ev.Done by ended ∷ es) more q = start_later task es more q
 start_later task (Ev.Spawn by child start ∷ es) more q = go (nat_eq child task) q (λ k. start_later task es more k)
   where
@@ -122,6 +132,7 @@ first_small task p (Ev.Begin fuel ∷ es) l = omega (arith, first_small task (p 
 first_small task p (Ev.Key key ∷ es) l = omega (arith, first_small task (p + 1) es (omega arith))
 first_small task p (Ev.Fill key site first ∷ es) l = omega (arith, first_small task (p + 1) es (omega arith))
 first_small task p (Ev.Def by site ∷ es) l = omega (arith, first_small task (p + 1) es (omega arith))
+first_small task p (Ev.Del by place ∷ es) l = omega (arith, first_small task (p + 1) es (omega arith))
 first_small task p (Ev.Done by ended ∷ es) l = omega (arith, first_small task (p + 1) es (omega arith))
 first_small task p (Ev.Spawn by child start ∷ es) l = go (nat_eq child task) (first_small task (p + 1) es (omega arith))
   where

@@ -43,6 +43,7 @@ module _ (P : Program) (k : ℕ) where
   key_with (Ev.Key key) number function tuple h = record { key = key; is = refl; by_function = cc h; by_types = cc h }
   key_with (Ev.Fill n site first) number function tuple h = absurd (cc h)
   key_with (Ev.Def by site) number function tuple h = absurd (cc h)
+  key_with (Ev.Del by place) number function tuple h = absurd (cc h)
   key_with (Ev.Spawn by child start) number function tuple h = absurd (cc h)
   key_with (Ev.Done by ended) number function tuple h = absurd (cc h)
 
@@ -55,6 +56,7 @@ module _ (P : Program) (k : ℕ) where
       let c : f ≡ first = cc h in
       λ i. Ev.Fill (a i) (b i) (c i)
   fill_with (Ev.Def by s) key site first h = absurd (cc h)
+  fill_with (Ev.Del by place) key site first h = absurd (cc h)
   fill_with (Ev.Spawn by child start) key site first h = absurd (cc h)
   fill_with (Ev.Done by ended) key site first h = absurd (cc h)
 
@@ -66,6 +68,7 @@ module _ (P : Program) (k : ℕ) where
       let a : by ≡ task = cc h in
       let b : s ≡ site = cc h in
       λ i. Ev.Def (a i) (b i)
+  def_with (Ev.Del by place) task site h = absurd (cc h)
   def_with (Ev.Spawn by child start) task site h = absurd (cc h)
   def_with (Ev.Done by ended) task site h = absurd (cc h)
 
@@ -74,6 +77,7 @@ module _ (P : Program) (k : ℕ) where
   spawn_with (Ev.Key q) task child place h = absurd (cc h)
   spawn_with (Ev.Fill n s f) task child place h = absurd (cc h)
   spawn_with (Ev.Def by s) task child place h = absurd (cc h)
+  spawn_with (Ev.Del by made) task child place h = absurd (cc h)
   spawn_with (Ev.Spawn by c start) task child place h =
       let a : by ≡ task = cc h in
       let b : c ≡ child = cc h in
@@ -85,6 +89,7 @@ module _ (P : Program) (k : ℕ) where
   end_with (Ev.Key q) task calls trace output ending h = absurd (cc h)
   end_with (Ev.Fill n s f) task calls trace output ending h = absurd (cc h)
   end_with (Ev.Def by s) task calls trace output ending h = absurd (cc h)
+  end_with (Ev.Del by place) task calls trace output ending h = absurd (cc h)
   end_with (Ev.Spawn by c start) task calls trace output ending h = absurd (cc h)
   end_with (Ev.Done by ended) task calls trace output ending h =
       let a : by ≡ task = cc h in
@@ -97,5 +102,6 @@ key_entry (Some (E.Key number f t)) function tuple (a, b) = (number, λ i. Some 
 key_entry (Some (E.Begin fuel)) function tuple h = absurd h
 key_entry (Some (E.Fill key site first)) function tuple h = absurd h
 key_entry (Some (E.Def task site)) function tuple h = absurd h
+key_entry (Some (E.Del task place)) function tuple h = absurd h
 key_entry (Some (E.Spawn task child place)) function tuple h = absurd h
 key_entry (Some (E.Done task calls trace output ending)) function tuple h = absurd h

@@ -32,6 +32,7 @@ use Rattle.jl_replay.proofs.Next.{IsNextStep}
 -- the event is of neither of these tasks
 abbrev pub IsOf : ℕ → Event → Type 0
 IsOf task (Ev.Def by site) = by ≡ task
+IsOf task (Ev.Del by place) = by ≡ task
 IsOf task (Ev.Spawn by child start) = (by ≡ task) ⊎ (child ≡ task)
 IsOf task (Ev.Begin fuel) = ⊥
 IsOf task (Ev.Key key) = ⊥
@@ -49,6 +50,9 @@ others task (Ev.Done by ended) o = record { own = λ p. refl; starts = refl; sta
 others task (Ev.Def by site) o =
     let q = not_same by task o in
     record { own = λ p. ap (λ b. cond b (I.Def site p ∷ []) []) q; starts = refl; start = refl; first = λ p. refl }
+others task (Ev.Del by place) o =
+    let q = not_same by task o in
+    record { own = λ p. ap (λ b. cond b (I.Del place p ∷ []) []) q; starts = refl; start = refl; first = λ p. refl }
 others task (Ev.Spawn by child start) o =
     let q = not_same by task (λ e. o (inl e)) in
     let c = not_same child task (λ e. o (inr e)) in

@@ -20,6 +20,7 @@ no_trace (E.Begin fuel ∷ xs) w = refl
 no_trace (E.Key number function tuple ∷ xs) w = absurd w
 no_trace (E.Fill key site first ∷ xs) w = absurd w
 no_trace (E.Def by site ∷ xs) w = absurd w
+no_trace (E.Del by place ∷ xs) w = absurd w
 no_trace (E.Spawn by child place ∷ xs) w = absurd w
 no_trace (E.Done by calls trace output ending ∷ xs) w = absurd w
 
@@ -40,6 +41,7 @@ one_more all rest ends n (E.Begin fuel) g h = record { many = h.many; at = h.at 
 one_more all rest ends n (E.Key number function tuple) g h = record { many = h.many; at = h.at }
 one_more all rest ends n (E.Fill key site first) g h = record { many = h.many; at = h.at }
 one_more all rest ends n (E.Def by site) g h = record { many = h.many; at = h.at }
+one_more all rest ends n (E.Del by place) g h = record { many = h.many; at = h.at }
 one_more all rest ends n (E.Spawn by child place) g h = record { many = h.many; at = h.at }
 one_more all rest ends n (E.Done by calls trace output ending) g h =
     record { many = set_length ends by n ∙ h.many; at = λ task l. go task l (nat_eq by task) refl }

@@ -25,6 +25,7 @@ ends_same P (E.Begin fuel ∷ xs) (e ∷ es) task h = subst (λ d. has_end xs ta
 ends_same P (E.Key number function tuple ∷ xs) (e ∷ es) task h = subst (λ d. has_end xs task ≡ is_some (done_of task (d ∷ es))) (sym h.0.2) (ends_same P xs es task h.1)
 ends_same P (E.Fill key site first ∷ xs) (e ∷ es) task h = subst (λ d. has_end xs task ≡ is_some (done_of task (d ∷ es))) (sym h.0) (ends_same P xs es task h.1)
 ends_same P (E.Def by site ∷ xs) (e ∷ es) task h = subst (λ d. has_end xs task ≡ is_some (done_of task (d ∷ es))) (sym h.0) (ends_same P xs es task h.1)
+ends_same P (E.Del by place ∷ xs) (e ∷ es) task h = subst (λ d. has_end xs task ≡ is_some (done_of task (d ∷ es))) (sym h.0) (ends_same P xs es task h.1)
 ends_same P (E.Spawn by child at ∷ xs) (e ∷ es) task h = subst (λ d. has_end xs task ≡ is_some (done_of task (d ∷ es))) (sym h.0) (ends_same P xs es task h.1)
 ends_same P (E.Done by calls trace output ending ∷ xs) (e ∷ es) task h =
     subst (λ d. (nat_eq by task || has_end xs task) ≡ is_some (done_of task (d ∷ es))) (sym h.0) (go (nat_eq by task) (ends_same P xs es task h.1))
@@ -60,6 +61,7 @@ first_end task (E.Begin fuel ∷ xs) h = end_later task (E.Begin fuel) xs refl r
 first_end task (E.Key number function tuple ∷ xs) h = end_later task (E.Key number function tuple) xs refl refl (λ m. refl) (first_end task xs h)
 first_end task (E.Fill key site first ∷ xs) h = end_later task (E.Fill key site first) xs refl refl (λ m. refl) (first_end task xs h)
 first_end task (E.Def by site ∷ xs) h = end_later task (E.Def by site) xs refl refl (λ m. refl) (first_end task xs h)
+first_end task (E.Del by place ∷ xs) h = end_later task (E.Del by place) xs refl refl (λ m. refl) (first_end task xs h)
 first_end task (E.Spawn by child at ∷ xs) h = end_later task (E.Spawn by child at) xs refl refl (λ m. refl) (first_end task xs h)
 first_end task (E.Done by calls trace output ending ∷ xs) h = go (nat_eq by task) refl h (first_end task xs)
   where

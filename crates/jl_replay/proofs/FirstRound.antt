@@ -36,6 +36,7 @@ OnKey R (Ev.Key key) = R key
 OnKey R (Ev.Begin fuel) = Unit {0}
 OnKey R (Ev.Fill key site first) = Unit {0}
 OnKey R (Ev.Def task site) = Unit {0}
+OnKey R (Ev.Del task place) = Unit {0}
 OnKey R (Ev.Spawn task child start) = Unit {0}
 OnKey R (Ev.Done task ended) = Unit {0}
 
@@ -51,6 +52,7 @@ module _ (P : Program) where
   key_first (Ev.Begin fuel) ds h = tt
   key_first (Ev.Fill number site first) ds h = tt
   key_first (Ev.Def task site) ds h = tt
+  key_first (Ev.Del task place) ds h = tt
   key_first (Ev.Spawn task child start) ds h = tt
   key_first (Ev.Done task ended) ds h = tt
 
@@ -59,6 +61,7 @@ module _ (P : Program) where
   key_rest (Ev.Begin fuel) ds h = h
   key_rest (Ev.Fill number site first) ds h = h
   key_rest (Ev.Def task site) ds h = h
+  key_rest (Ev.Del task place) ds h = h
   key_rest (Ev.Spawn task child start) ds h = h
   key_rest (Ev.Done task ended) ds h = h
 
@@ -72,6 +75,7 @@ module _ (P : Program) where
     alike_one k (Ev.Key key) e h (other, named, is) = subst (λ x. IsAlike x (Ev.Key key)) (sym is) (ap Ev.Key (apart _ _ key other (own_names key h) named))
     alike_one k (Ev.Fill number site first) e h t = subst (λ x. IsAlike x (Ev.Fill number site first)) (sym t) refl
     alike_one k (Ev.Def task site) e h t = subst (λ x. IsAlike x (Ev.Def task site)) (sym t) refl
+    alike_one k (Ev.Del task place) e h t = subst (λ x. IsAlike x (Ev.Del task place)) (sym t) refl
     alike_one k (Ev.Spawn task child start) e h t = subst (λ x. IsAlike x (Ev.Spawn task child start)) (sym t) (start, refl, refl)
     alike_one k (Ev.Done task ended) e h t = subst (λ x. IsAlike x (Ev.Done task ended)) (sym t) (ended, refl, sym (steps_items (steps_of ended.trace)))
 
@@ -87,6 +91,7 @@ module _ (P : Program) (all : List Entry) where
   made_key es (Ev.Begin fuel) m = tt
   made_key es (Ev.Fill number site first) m = tt
   made_key es (Ev.Def task site) m = tt
+  made_key es (Ev.Del task place) m = tt
   made_key es (Ev.Spawn task child start) m = tt
   made_key es (Ev.Done task ended) m = tt
 
@@ -96,6 +101,7 @@ module _ (P : Program) (all : List Entry) where
   keys_made before (Ev.Begin fuel ∷ es) h = keys_made (before ++ Ev.Begin fuel ∷ []) es h.1
   keys_made before (Ev.Fill number site first ∷ es) h = keys_made (before ++ Ev.Fill number site first ∷ []) es h.1
   keys_made before (Ev.Def task site ∷ es) h = keys_made (before ++ Ev.Def task site ∷ []) es h.1
+  keys_made before (Ev.Del task place ∷ es) h = keys_made (before ++ Ev.Del task place ∷ []) es h.1
   keys_made before (Ev.Spawn task child start ∷ es) h = keys_made (before ++ Ev.Spawn task child start ∷ []) es h.1
   keys_made before (Ev.Done task ended ∷ es) h = keys_made (before ++ Ev.Done task ended ∷ []) es h.1
 
@@ -110,6 +116,8 @@ fetches_told es (S.Def site p ∷ ss) = (tt, fetches_told es ss)
 fetches_told es (S.Spawn child p ∷ ss) = (tt, fetches_told es ss)
 fetches_told es (S.WorldFull p ∷ ss) = (tt, fetches_told es ss)
 fetches_told es (S.TaskFull p ∷ ss) = (tt, fetches_told es ss)
+fetches_told es (S.Del place p ∷ ss) = (tt, fetches_told es ss)
+fetches_told es (S.Absent place p ∷ ss) = (tt, fetches_told es ss)
 
 module _ (P : Program) (all : List Entry) where
   fetches_made : (before es : List Event) → EachAfter (IsMadeByRun P all) before es → EachAfter (λ past. OnDone (λ task ended. AreFetchesTold past ended.trace)) before es
@@ -120,6 +128,7 @@ module _ (P : Program) (all : List Entry) where
   fetches_made before (Ev.Key key ∷ es) h = (tt, fetches_made (before ++ Ev.Key key ∷ []) es h.1)
   fetches_made before (Ev.Fill number site first ∷ es) h = (tt, fetches_made (before ++ Ev.Fill number site first ∷ []) es h.1)
   fetches_made before (Ev.Def task site ∷ es) h = (tt, fetches_made (before ++ Ev.Def task site ∷ []) es h.1)
+  fetches_made before (Ev.Del task place ∷ es) h = (tt, fetches_made (before ++ Ev.Del task place ∷ []) es h.1)
   fetches_made before (Ev.Spawn task child start ∷ es) h = (tt, fetches_made (before ++ Ev.Spawn task child start ∷ []) es h.1)
 
 -- ---- the next entry
@@ -137,8 +146,8 @@ module _ (P : Program) (all : List Entry) (j : AreJudged P all) where
   pub fetches_are : (es : List Event) → EachAfter (IsMadeByRun P all) [] es → TellsFetches es
   fetches_are es made = fetches_made P all [] es made
 
-  pub stands : (es : List Event) → AreReplayed P all es → 0 < length es → MayStand P es × IsTraced es
-  stands es h l = no_cause_so_far P all h.rest es j.apart (keys_are es h.made) (fetches_are es h.made) j.well j.clean h.told l
+  pub stands : (es : List Event) → AreReplayed P all es → 0 < length es → MayStand P es × IsTraced P es
+  stands es h l = no_cause_so_far P all h.rest es j.plain j.apart (keys_are es h.made) (fetches_are es h.made) j.well j.clean h.told l
 
   pub front : (es : List Event) → AreReplayed P all es → Front P all es
   front es h =
@@ -159,4 +168,4 @@ module _ (P : Program) (all : List Entry) (j : AreJudged P all) where
       let f = front es h in
       let (d, there, tells) = event_at P all f.ds (length es) x f.clean.told at in
       comes_to P (take (length es) f.ds) es d e f.alike (alike_one P j.apart k e d proper (subst (λ y. Tells P y d) (sym is) tells))
-      (comes_at P all j.well all f.ds [] (append-nil all) f.clean (length es) d there)
+      (comes_at P j.plain all j.well all f.ds [] (append-nil all) f.clean (length es) d there)

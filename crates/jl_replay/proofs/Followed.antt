@@ -5,11 +5,12 @@ use Rattle.jl_model.specs.declared.ty.Key.{Key}
 use Rattle.jl_program.specs.declared.tree.Program.{Program}
 use Rattle.jl_program.specs.declared.tree.Start.{Start}
 use Rattle.jl_program.specs.Valid.{IsValid}
+use Rattle.jl_calculus.specs.declared.history.Change.TheVariants as Ch
 use Rattle.jl_calculus.specs.declared.history.Event.{Event}
 use Rattle.jl_calculus.specs.declared.history.Event.TheVariants as Ev
 use Rattle.jl_calculus.specs.declared.history.Record.{Record}
 use Rattle.jl_calculus.specs.declared.history.TraceItem.TheVariants as I
-use Rattle.jl_calculus.specs.Legal.{EachAfter, IsLegal, IsDefinition, IsSpawn, IsRunning, MayCome, MayStand, fuel_of}
+use Rattle.jl_calculus.specs.Legal.{EachAfter, IsLegal, IsChange, IsSpawn, IsRunning, MayCome, MayStand, fuel_of}
 use Rattle.jl_calculus.specs.Past.{IsInOrder, tasks_of}
 use Rattle.jl_calculus.specs.World.{world_of}
 use Rattle.jl_machine.specs.declared.task.Machine.{Machine}
@@ -21,6 +22,7 @@ use Rattle.jl_report.specs.declared.entry.Entry.{Entry}
 use Rattle.jl_report.specs.declared.entry.Entry.TheVariants as E
 use Rattle.jl_report.specs.declared.entry.Step.{Step}
 use Rattle.jl_report.specs.declared.entry.Step.TheVariants as S
+use Rattle.jl_report.proofs.PlainLemmas.{names_nothing}
 use Rattle.jl_report.specs.HistoryText.{entry_of, entries_of}
 use Rattle.jl_causes.specs.declared.cause.Cause.TheVariants as C
 use Rattle.jl_causes.specs.Sketch.{Names, items_of}
@@ -49,6 +51,7 @@ few_more P past (Ev.Begin fuel) m l = omega (arith, l, tasks_append past (Ev.Beg
 few_more P past (Ev.Key key) m l = omega (arith, l, tasks_append past (Ev.Key key ∷ []))
 few_more P past (Ev.Fill key site first) m l = omega (arith, l, tasks_append past (Ev.Fill key site first ∷ []))
 few_more P past (Ev.Def by site) m l = omega (arith, l, tasks_append past (Ev.Def by site ∷ []))
+few_more P past (Ev.Del by place) m l = omega (arith, l, tasks_append past (Ev.Del by place ∷ []))
 few_more P past (Ev.Done by ended) m l = omega (arith, l, tasks_append past (Ev.Done by ended ∷ []))
 
 few_all : (P : Program) (past es : List Event) → EachAfter (MayCome P) past es → tasks_of past ≤ MOST_TASKS → tasks_of (past ++ es) ≤ MOST_TASKS
@@ -139,7 +142,7 @@ module _ (P : Program) (all : List Entry) (j : AreJudged P all) (runs : Runs) (h
     -- ---- a definition
 
     module _ (task site : ℕ) (at : slice_get all n ≡ Some (E.Def task site)) where
-      may_define : IsDefinition P es task site
+      may_define : IsChange P es task (Ch.Def site)
       may_define = may_come P all j es h.replayed (E.Def task site) (entry_here (E.Def task site) at) (Ev.Def task site) 0 refl tt
 
       pub definition_here : IsRunningHere task
@@ -326,6 +329,7 @@ no_legal P all fuel at (e ∷ xs) l told =
     is (Ev.Key key) q = absurd (cc q)
     is (Ev.Fill key site first) q = absurd (cc q)
     is (Ev.Def by site) q = absurd (cc q)
+    is (Ev.Del by place) q = absurd (cc q)
     is (Ev.Spawn by child start) q = absurd (cc q)
     is (Ev.Done by ended) q = absurd (cc q)
 
@@ -369,8 +373,13 @@ key_there P all j n function tuple at none = by_entry (slice_get all n) refl at
     by_entry (Some (E.Begin fuel)) q k = k
     by_entry (Some (E.Fill key site first)) q k = k
     by_entry (Some (E.Def task site)) q k = k
+    by_entry (Some (E.Del task place)) q k = k
     by_entry (Some (E.Spawn task child place)) q k = k
     by_entry (Some (E.Done task calls trace output ending)) q k = k
+
+-- no entry is a deletion
+pub no_deletion : (P : Program) (all : List Entry) (j : AreJudged P all) (n task place : ℕ) → slice_get all n ≡ Some (E.Del task place) → ⊥
+no_deletion P all j n task place at = names_nothing P j.plain place (j.clean.1.clean n (E.Del task place) at C.Site)
 
 pub inside_after : (tasks gone : List (Option Running)) (task : ℕ) → gone ≡ set tasks task None → task < length tasks → task < length gone
 inside_after tasks gone task is l = omega (arith, l, ap length is, set_length tasks task None)

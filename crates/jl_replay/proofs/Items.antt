@@ -1,8 +1,9 @@
--- Items and the steps that are told of them: true items are those of their steps, and a trace is split at its definition or spawn at a
--- place.
+-- Items and the steps that are told of them: true items are those of their steps, and a trace is split at its definition, deletion or
+-- spawn at a place.
 use Rattle.std.proofs.Common.{◌≡◌, ◌∙◌, ap, sym, subst, refl, ℕ, ◌+◌, ◌<◌, ◌≤◌, arith, Bool, true, false, cond, nat_eq, List, [], ◌∷◌, ◌++◌, length, take, drop, take-append-drop, Option, Some, None}
 use Rattle.std.proofs.lemmas.List.{take-append-le}
 use Rattle.jl_model.specs.declared.limits.TheConstants.{MOST_WORLDS, MOST_TASKS}
+use Rattle.jl_program.specs.declared.tree.Program.{Program}
 use Rattle.jl_calculus.specs.declared.history.Event.{Event}
 use Rattle.jl_calculus.specs.declared.history.Event.TheVariants as Ev
 use Rattle.jl_calculus.specs.declared.history.Outcome.{Outcome}
@@ -11,7 +12,7 @@ use Rattle.jl_calculus.specs.declared.history.TraceItem.{TraceItem}
 use Rattle.jl_calculus.specs.declared.history.TraceItem.TheVariants as I
 use Rattle.jl_calculus.specs.Led.{spawn_count, items_before}
 use Rattle.jl_calculus.specs.Legal.{AreTrueOf}
-use Rattle.jl_calculus.specs.Past.{tasks_of, done_of, EndedSo, IsTrueOf, IsInOrder, place, past, own_items, own_events, own_starts}
+use Rattle.jl_calculus.specs.Past.{tasks_of, done_of, EndedSo, IsAbsent, IsTrueOf, IsInOrder, place, past, own_items, own_events, own_starts}
 use Rattle.jl_calculus.specs.World.{world_of}
 use Rattle.jl_calculus.proofs.GrowthLemmas.{get_same}
 use Rattle.jl_lead.proofs.EventFacts.{self_eq, done_stays}
@@ -32,19 +33,21 @@ fetch_told es task p outcome h =
     let (r, is, so) = ended_so (done_of task (take p es)) outcome h in
     ap outcome_or_nothing (subst (λ xs. done_of task xs ≡ Some r) (take-append-drop p es) (done_stays task (take p es) (drop p es) r is)) ∙ so
 
-pub item_true : (es : List Event) (t : ℕ) (i : TraceItem) → IsTrueOf es t i → item_told es (step_of i) ≡ i
-item_true es t (I.Look w p) h = refl
-item_true es t (I.Def site p) h = refl
-item_true es t (I.Spawn child p) h = refl
-item_true es t (I.Fetch task outcome p) h = ap (λ o. I.Fetch task o p) (fetch_told es task p outcome h.1)
-item_true es t (I.WorldFull p) h = refl
-item_true es t (I.TaskFull p) h = refl
+pub item_true : (P : Program) (es : List Event) (t : ℕ) (i : TraceItem) → IsTrueOf P es t i → item_told es (step_of i) ≡ i
+item_true P es t (I.Look w p) h = refl
+item_true P es t (I.Def site p) h = refl
+item_true P es t (I.Spawn child p) h = refl
+item_true P es t (I.Fetch task outcome p) h = ap (λ o. I.Fetch task o p) (fetch_told es task p outcome h.1)
+item_true P es t (I.WorldFull p) h = refl
+item_true P es t (I.TaskFull p) h = refl
+item_true P es t (I.Del place p) h = refl
+item_true P es t (I.Absent place p) h = refl
 
-pub items_true : (es : List Event) (t : ℕ) (is : List TraceItem) → AreTrueOf es t is → is ≡ items_told es (steps_of is)
-items_true es t [] h = refl
-items_true es t (i ∷ is) h =
-    let one : i ≡ item_told es (step_of i) = sym (item_true es t i h.0) in
-    let more : is ≡ items_told es (steps_of is) = items_true es t is h.1 in
+pub items_true : (P : Program) (es : List Event) (t : ℕ) (is : List TraceItem) → AreTrueOf P es t is → is ≡ items_told es (steps_of is)
+items_true P es t [] h = refl
+items_true P es t (i ∷ is) h =
+    let one : i ≡ item_told es (step_of i) = sym (item_true P es t i h.0) in
+    let more : is ≡ items_told es (steps_of is) = items_true P es t is h.1 in
     λ k. one k ∷ more k
 
 step_told : (es : List Event) (s : Step) → step_of (item_told es s) ≡ s
@@ -54,6 +57,8 @@ step_told es (S.Spawn child p) = refl
 step_told es (S.Fetch task p) = refl
 step_told es (S.WorldFull p) = refl
 step_told es (S.TaskFull p) = refl
+step_told es (S.Del place p) = refl
+step_told es (S.Absent place p) = refl
 
 -- the steps of the items that steps are
 pub steps_told : (es : List Event) (ss : List Step) → steps_of (items_told es ss) ≡ ss
@@ -81,28 +86,32 @@ order_high low (I.Spawn child p ∷ is) high h = omega (arith, h.0, order_high (
 order_high low (I.Fetch task outcome p ∷ is) high h = omega (arith, h.0, order_high p is high h.1)
 order_high low (I.WorldFull p ∷ is) high h = omega (arith, h.0, order_high p is high h.1)
 order_high low (I.TaskFull p ∷ is) high h = omega (arith, h.0, order_high p is high h.1)
+order_high low (I.Del at p ∷ is) high h = omega (arith, h.0, order_high (p + 1) is high h.1)
+order_high low (I.Absent at p ∷ is) high h = omega (arith, h.0, order_high p is high h.1)
 
 -- what is true of a longer list and tells of its first events alone is true of these
-pub true_cut : (es more : List Event) (t : ℕ) (i : TraceItem) → past i ≤ length es → IsTrueOf (es ++ more) t i → IsTrueOf es t i
-true_cut es more t (I.Look w p) l h = (l, subst (λ xs. world_of xs ≡ w) (take-append-le p es more l) h.1)
-true_cut es more t (I.Def site p) l h = sym (get_same es more p (omega (arith, l))) ∙ h
-true_cut es more t (I.Spawn child p) l h = (h.0, sym (get_same es more p (omega (arith, l))) ∙ h.1)
-true_cut es more t (I.Fetch task outcome p) l h = (l, subst (λ xs. EndedSo (done_of task xs) outcome) (take-append-le p es more l) h.1)
-true_cut es more t (I.WorldFull p) l h = (l, subst (λ xs. world_of xs ≡ MOST_WORLDS) (take-append-le p es more l) h.1)
-true_cut es more t (I.TaskFull p) l h = (l, subst (λ xs. tasks_of xs ≡ MOST_TASKS) (take-append-le p es more l) h.1)
+pub true_cut : (P : Program) (es more : List Event) (t : ℕ) (i : TraceItem) → past i ≤ length es → IsTrueOf P (es ++ more) t i → IsTrueOf P es t i
+true_cut P es more t (I.Look w p) l h = (l, subst (λ xs. world_of xs ≡ w) (take-append-le p es more l) h.1)
+true_cut P es more t (I.Def site p) l h = sym (get_same es more p (omega (arith, l))) ∙ h
+true_cut P es more t (I.Spawn child p) l h = (h.0, sym (get_same es more p (omega (arith, l))) ∙ h.1)
+true_cut P es more t (I.Fetch task outcome p) l h = (l, subst (λ xs. EndedSo (done_of task xs) outcome) (take-append-le p es more l) h.1)
+true_cut P es more t (I.WorldFull p) l h = (l, subst (λ xs. world_of xs ≡ MOST_WORLDS) (take-append-le p es more l) h.1)
+true_cut P es more t (I.TaskFull p) l h = (l, subst (λ xs. tasks_of xs ≡ MOST_TASKS) (take-append-le p es more l) h.1)
+true_cut P es more t (I.Del at p) l h = sym (get_same es more p (omega (arith, l))) ∙ h
+true_cut P es more t (I.Absent at p) l h = (l, subst (λ xs. IsAbsent P xs at) (take-append-le p es more l) h.1)
 
-pub all_cut : (es more : List Event) (t low : ℕ) (is : List TraceItem) → IsInOrder low is (length es) → AreTrueOf (es ++ more) t is → AreTrueOf es t is
-all_cut es more t low [] o h = tt
-all_cut es more t low (i ∷ is) o h = (true_cut es more t i (order_high (past i) is (length es) o.1) h.0, all_cut es more t (past i) is o.1 h.1)
+pub all_cut : (P : Program) (es more : List Event) (t low : ℕ) (is : List TraceItem) → IsInOrder low is (length es) → AreTrueOf P (es ++ more) t is → AreTrueOf P es t is
+all_cut P es more t low [] o h = tt
+all_cut P es more t low (i ∷ is) o h = (true_cut P es more t i (order_high (past i) is (length es) o.1) h.0, all_cut P es more t (past i) is o.1 h.1)
 
 -- the items before one that is at a place
 pub order_before : (low high : ℕ) (before : List TraceItem) (i : TraceItem) (after : List TraceItem) → IsInOrder low (before ++ i ∷ after) high → IsInOrder low before (place i)
 order_before low high [] i after h = h.0
 order_before low high (j ∷ js) i after h = (h.0, order_before (past j) high js i after h.1)
 
-pub true_before : (es : List Event) (t : ℕ) (before after : List TraceItem) → AreTrueOf es t (before ++ after) → AreTrueOf es t before
-true_before es t [] after h = tt
-true_before es t (j ∷ js) after h = (h.0, true_before es t js after h.1)
+pub true_before : (P : Program) (es : List Event) (t : ℕ) (before after : List TraceItem) → AreTrueOf P es t (before ++ after) → AreTrueOf P es t before
+true_before P es t [] after h = tt
+true_before P es t (j ∷ js) after h = (h.0, true_before P es t js after h.1)
 
 -- ---- a trace, split at its definition or spawn at a place
 
@@ -165,6 +174,10 @@ module _ (n : ℕ) (x : TraceItem) (stops : (js : List TraceItem) → items_befo
   split (I.TaskFull p ∷ is) own b q =
       let r = split is own b q in
       record { after = r.after; whole = ap (λ js. I.TaskFull p ∷ js) r.whole; own_before = r.own_before }
+  split (I.Del at p ∷ is) own b q = private_head (I.Del at p) is (λ js. refl) (λ js. refl) own b q (λ less c e. split is less c e)
+  split (I.Absent at p ∷ is) own b q =
+      let r = split is own b q in
+      record { after = r.after; whole = ap (λ js. I.Absent at p ∷ js) r.whole; own_before = r.own_before }
 
 pub def_stops : (site n : ℕ) (js : List TraceItem) → items_before n (I.Def site n ∷ js) ≡ []
 def_stops site n js = ap (λ t. cond t [] (I.Def site n ∷ items_before n js)) (self_eq n)
@@ -185,6 +198,8 @@ steps_before_are n (I.Spawn child p ∷ is) = steps_cond (nat_eq p n) (I.Spawn c
 steps_before_are n (I.Fetch task outcome p ∷ is) = ap (λ ss. S.Fetch task p ∷ ss) (steps_before_are n is)
 steps_before_are n (I.WorldFull p ∷ is) = ap (λ ss. S.WorldFull p ∷ ss) (steps_before_are n is)
 steps_before_are n (I.TaskFull p ∷ is) = ap (λ ss. S.TaskFull p ∷ ss) (steps_before_are n is)
+steps_before_are n (I.Del at p ∷ is) = steps_cond (nat_eq p n) (I.Del at p) (items_before n is) (steps_before n (steps_of is)) (steps_before_are n is)
+steps_before_are n (I.Absent at p ∷ is) = ap (λ ss. S.Absent at p ∷ ss) (steps_before_are n is)
 
 -- ---- what a task made so far
 
@@ -195,6 +210,7 @@ before_cond false n i is l h = h
 pub own_places : (t n p : ℕ) (es : List Event) → p + length es ≤ n → AreBefore n (own_events t p es)
 own_places t n p [] l = tt
 own_places t n p (Ev.Def task site ∷ es) l = before_cond (nat_eq task t) n (I.Def site p) (own_events t (p + 1) es) (omega (arith, l)) (own_places t n (p + 1) es (omega (arith, l)))
+own_places t n p (Ev.Del task at ∷ es) l = before_cond (nat_eq task t) n (I.Del at p) (own_events t (p + 1) es) (omega (arith, l)) (own_places t n (p + 1) es (omega (arith, l)))
 own_places t n p (Ev.Spawn task child start ∷ es) l =
     before_cond (nat_eq task t) n (I.Spawn child p) (own_events t (p + 1) es) (omega (arith, l)) (own_places t n (p + 1) es (omega (arith, l)))
 own_places t n p (Ev.Begin fuel ∷ es) l = own_places t n (p + 1) es (omega (arith, l))
@@ -211,12 +227,19 @@ spawns_own (I.Spawn child p ∷ is) = ap (λ n. 1 + n) (spawns_own is)
 spawns_own (I.Fetch task outcome p ∷ is) = spawns_own is
 spawns_own (I.WorldFull p ∷ is) = spawns_own is
 spawns_own (I.TaskFull p ∷ is) = spawns_own is
+spawns_own (I.Del at p ∷ is) = spawns_own is
+spawns_own (I.Absent at p ∷ is) = spawns_own is
 
 pub starts_counted : (t p : ℕ) (es : List Event) → spawn_count (own_events t p es) ≡ length (own_starts t es)
 starts_counted t p [] = refl
 starts_counted t p (Ev.Def task site ∷ es) = go (nat_eq task t) (starts_counted t (p + 1) es)
   where
     go : (b : Bool) → spawn_count (own_events t (p + 1) es) ≡ length (own_starts t es) → spawn_count (cond b (I.Def site p ∷ own_events t (p + 1) es) (own_events t (p + 1) es)) ≡ length (own_starts t es)
+    go true h = h
+    go false h = h
+starts_counted t p (Ev.Del task at ∷ es) = go (nat_eq task t) (starts_counted t (p + 1) es)
+  where
+    go : (b : Bool) → spawn_count (own_events t (p + 1) es) ≡ length (own_starts t es) → spawn_count (cond b (I.Del at p ∷ own_events t (p + 1) es) (own_events t (p + 1) es)) ≡ length (own_starts t es)
     go true h = h
     go false h = h
 starts_counted t p (Ev.Spawn task child start ∷ es) = go (nat_eq task t) (starts_counted t (p + 1) es)

@@ -8,7 +8,7 @@ use Rattle.jl_calculus.specs.declared.history.Event.TheVariants as Ev
 use Rattle.jl_calculus.specs.Legal.{IsLegal}
 use Rattle.jl_report.specs.declared.entry.Entry.{Entry}
 use Rattle.jl_report.specs.declared.entry.Entry.TheVariants as E
-use Rattle.jl_report.specs.HistoryText.{entries_of, entries_text, history_text}
+use Rattle.jl_report.specs.HistoryText.{entries_of, entries_text}
 use Rattle.jl_history.specs.declared.fault.HistoryFault.TheVariants.{BadText}
 use Rattle.jl_history.specs.declared.history.TheConstants.{MOST_HISTORY_BYTES}
 use Rattle.jl_history.specs.Form.{AreLater, AreFirst, AreEntries, IsFirstBad, UnlessMemory}
@@ -41,6 +41,7 @@ later_begin (E.Begin fuel ∷ xs) h = absurd h.0
 later_begin (E.Key number function tuple ∷ xs) h = later_begin xs h.1
 later_begin (E.Fill key site first ∷ xs) h = later_begin xs h.1
 later_begin (E.Def task site ∷ xs) h = later_begin xs h.1
+later_begin (E.Del task place ∷ xs) h = absurd h.0
 later_begin (E.Spawn task child place ∷ xs) h = later_begin xs h.1
 later_begin (E.Done task calls trace output ending ∷ xs) h = later_begin xs h.1
 
@@ -50,6 +51,7 @@ well_of (E.Begin fuel ∷ xs) h = (h.0, later_begin xs h.1)
 well_of (E.Key number function tuple ∷ xs) h = absurd h.0
 well_of (E.Fill key site first ∷ xs) h = absurd h.0
 well_of (E.Def task site ∷ xs) h = absurd h.0
+well_of (E.Del task place ∷ xs) h = absurd h.0
 well_of (E.Spawn task child place ∷ xs) h = absurd h.0
 well_of (E.Done task calls trace output ending ∷ xs) h = absurd h.0
 
@@ -65,6 +67,7 @@ module _ (P : Program) (apart : AreApart P) where
   tells_one (E.Key number function tuple) e d a b = a.2 ∙ ap Ev.Key (apart function tuple a.0 b.0 a.1 b.1) ∙ sym b.2
   tells_one (E.Fill key site first) e d a b = a ∙ sym b
   tells_one (E.Def task site) e d a b = a ∙ sym b
+  tells_one (E.Del task place) e d a b = a ∙ sym b
   tells_one (E.Spawn task child place) e d a b = a ∙ sym b
   tells_one (E.Done task calls trace output ending) e d a b = a ∙ sym b
 
@@ -91,8 +94,8 @@ module _ (P : Program) (apart : AreApart P) where
 pub judged_difference : (P : Program) (all : List Entry) (n : ℕ) → HasNoCause P all → IsDifference P all n → AreJudgedSo P all (V.Illegal n RunDiffers)
 judged_difference P all n clean d = (inr (refl, clean, d.first), d.illegal)
 
-pub are_read : (P : Program) (text : List ℕ) → IsValid P → IsNumbered P → length text ≤ MOST_HISTORY_BYTES → AreRead P text
-are_read P text v n short es legal is = legal_entries P v n es legal (subst (λ t. length t ≤ MOST_HISTORY_BYTES) is short)
+pub are_read : (P : Program) (text : List ℕ) → IsValid P → IsNumbered P → P.deletes ≡ [] → length text ≤ MOST_HISTORY_BYTES → AreRead P text
+are_read P text v n plain short es legal is = legal_entries P v n plain es legal (subst (λ t. length t ≤ MOST_HISTORY_BYTES) is short)
 
 pub bad_is : (P : Program) (text : List ℕ) (line other : ℕ) → line ≡ other → AreRead P text → IsFirstBad line text → IsBadText P text other
 bad_is P text line other same read first =

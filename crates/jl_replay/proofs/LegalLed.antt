@@ -52,8 +52,8 @@ module _ (P : Program) (all : List Entry) (es more : List Event) (e : Event) (le
       run : HasRun P None ys task r
       run = each_in (λ past. OnDone (HasRun P None past)) ys tail (Ev.Done task r) (subst (EachAfter (λ past. OnDone (HasRun P None past)) []) parts legal.so_far.runs)
 
-      traced : HasTrueTrace ys task r
-      traced = each_in (λ past. OnDone (HasTrueTrace past)) ys tail (Ev.Done task r) (subst (EachAfter (λ past. OnDone (HasTrueTrace past)) []) parts legal.so_far.traced.traces)
+      traced : HasTrueTrace P ys task r
+      traced = each_in (λ past. OnDone (HasTrueTrace P past)) ys tail (Ev.Done task r) (subst (EachAfter (λ past. OnDone (HasTrueTrace P past)) []) parts legal.so_far.traced.traces)
 
       owned : HasOwnEvents ys task r
       owned = each_in (λ past. OnDone (HasOwnEvents past)) ys tail (Ev.Done task r) (subst (EachAfter (λ past. OnDone (HasOwnEvents past)) []) parts legal.so_far.traced.own)
@@ -72,15 +72,15 @@ module _ (P : Program) (all : List Entry) (es more : List Event) (e : Event) (le
           subst (IsInOrder (first_place task 0 ys) before) here
           (order_before (first_place task 0 ys) (length ys) before x cut.after (subst (λ is. IsInOrder (first_place task 0 ys) is (length ys)) cut.whole traced.in_order))
 
-      true_items : AreTrueOf es task before
+      true_items : AreTrueOf P es task before
       true_items =
-          all_cut es (e ∷ mid) task (first_place task 0 ys) before in_order (true_before ys task before (x ∷ cut.after) (subst (AreTrueOf ys task) cut.whole traced.true_items))
+          all_cut P es (e ∷ mid) task (first_place task 0 ys) before in_order (true_before P ys task before (x ∷ cut.after) (subst (AreTrueOf P ys task) cut.whole traced.true_items))
 
       told_items : items_told es (steps_before (length es) (trace_told task all)) ≡ before
       told_items =
           ap (λ ss. items_told es (steps_before (length es) ss)) (ap (trace_told task) (sym told) ∙ trace_is P 0 task (es ++ e ∷ more) r first)
           ∙ ap (items_told es) (steps_before_are (length es) r.trace)
-          ∙ sym (items_true es task before true_items)
+          ∙ sym (items_true P es task before true_items)
 
       started : start_of task ys ≡ start_of task es
       started =
@@ -128,11 +128,11 @@ module _ (P : Program) (all : List Entry) (es more : List Event) where
   pub led_end : (task : ℕ) (ended : Record) → IsLegal P (es ++ Ev.Done task ended ∷ more) → entries_of P (es ++ Ev.Done task ended ∷ more) ≡ all → IsMadeByRun P all es (Ev.Done task ended)
   led_end task ended legal told =
       let running : IsRunning es task = may_come P all es more (Ev.Done task ended) legal told in
-      let traced : HasTrueTrace es task ended = each_in (λ past. OnDone (HasTrueTrace past)) es more (Ev.Done task ended) legal.so_far.traced.traces in
+      let traced : HasTrueTrace P es task ended = each_in (λ past. OnDone (HasTrueTrace P past)) es more (Ev.Done task ended) legal.so_far.traced.traces in
       let first : done_of task (es ++ Ev.Done task ended ∷ more) ≡ Some ended =
       done_later task es (Ev.Done task ended ∷ more) running.going ∙ ap (λ b. cond b (Some ended) (done_of task more)) (self_eq task)
       in (
-        items_true es task ended.trace traced.true_items
+        items_true P es task ended.trace traced.true_items
             ∙ ap (items_told es) (sym (trace_is P 0 task (es ++ Ev.Done task ended ∷ more) ended first) ∙ ap (trace_told task) told),
         each_in (λ past. OnDone (HasRun P None past)) es more (Ev.Done task ended) legal.so_far.runs,
       )

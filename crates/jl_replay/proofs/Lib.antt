@@ -3,6 +3,7 @@ pub mod Items
 pub mod Lists
 pub mod Cuts
 pub mod FirstRound
+pub mod Reading
 pub mod Stretches
 pub mod FirstEnd
 pub mod Traces

@@ -86,6 +86,7 @@ fuel_stays (Ev.Begin f ∷ es) more fuel h = h
 fuel_stays (Ev.Key key ∷ es) more fuel h = absurd (cc h)
 fuel_stays (Ev.Fill key site first ∷ es) more fuel h = absurd (cc h)
 fuel_stays (Ev.Def by site ∷ es) more fuel h = absurd (cc h)
+fuel_stays (Ev.Del by place ∷ es) more fuel h = absurd (cc h)
 fuel_stays (Ev.Spawn parent child start ∷ es) more fuel h = absurd (cc h)
 fuel_stays (Ev.Done by ended ∷ es) more fuel h = absurd (cc h)
 
@@ -96,6 +97,7 @@ not_again P t past (Ev.Begin fuel ∷ es) l h = not_again P t (past ++ Ev.Begin 
 not_again P t past (Ev.Key key ∷ es) l h = not_again P t (past ++ Ev.Key key ∷ []) es (omega (arith, l, tasks_append past (Ev.Key key ∷ []))) h.1
 not_again P t past (Ev.Fill key site first ∷ es) l h = not_again P t (past ++ Ev.Fill key site first ∷ []) es (omega (arith, l, tasks_append past (Ev.Fill key site first ∷ []))) h.1
 not_again P t past (Ev.Def by site ∷ es) l h = not_again P t (past ++ Ev.Def by site ∷ []) es (omega (arith, l, tasks_append past (Ev.Def by site ∷ []))) h.1
+not_again P t past (Ev.Del by place ∷ es) l h = not_again P t (past ++ Ev.Del by place ∷ []) es (omega (arith, l, tasks_append past (Ev.Del by place ∷ []))) h.1
 not_again P t past (Ev.Done by ended ∷ es) l h = not_again P t (past ++ Ev.Done by ended ∷ []) es (omega (arith, l, tasks_append past (Ev.Done by ended ∷ []))) h.1
 not_again P t past (Ev.Spawn parent child start ∷ es) l h =
     let new : child ≡ tasks_of past = h.0.next in
@@ -110,6 +112,7 @@ tasks_some (Ev.Begin fuel ∷ es) = tasks_some es
 tasks_some (Ev.Key key ∷ es) = tasks_some es
 tasks_some (Ev.Fill key site first ∷ es) = tasks_some es
 tasks_some (Ev.Def by site ∷ es) = tasks_some es
+tasks_some (Ev.Del by place ∷ es) = tasks_some es
 tasks_some (Ev.Done by ended ∷ es) = tasks_some es
 
 -- ---- the end of a task
@@ -129,6 +132,7 @@ ends_in (Ev.Begin fuel ∷ xs) t r h = ends_later xs t r (Ev.Begin fuel) (ends_i
 ends_in (Ev.Key key ∷ xs) t r h = ends_later xs t r (Ev.Key key) (ends_in xs t r h)
 ends_in (Ev.Fill key site first ∷ xs) t r h = ends_later xs t r (Ev.Fill key site first) (ends_in xs t r h)
 ends_in (Ev.Def by site ∷ xs) t r h = ends_later xs t r (Ev.Def by site) (ends_in xs t r h)
+ends_in (Ev.Del by place ∷ xs) t r h = ends_later xs t r (Ev.Del by place) (ends_in xs t r h)
 ends_in (Ev.Spawn parent child start ∷ xs) t r h = ends_later xs t r (Ev.Spawn parent child start) (ends_in xs t r h)
 ends_in (Ev.Done by ended ∷ xs) t r h = go (nat_eq by t) refl h (λ k. ends_in xs t r k)
   where
@@ -146,6 +150,7 @@ trace_is P k t (Ev.Begin fuel ∷ xs) r h = trace_is P k t xs r h
 trace_is P k t (Ev.Key key ∷ xs) r h = trace_is P (k + 1) t xs r h
 trace_is P k t (Ev.Fill key site first ∷ xs) r h = trace_is P k t xs r h
 trace_is P k t (Ev.Def by site ∷ xs) r h = trace_is P k t xs r h
+trace_is P k t (Ev.Del by place ∷ xs) r h = trace_is P k t xs r h
 trace_is P k t (Ev.Spawn parent child start ∷ xs) r h = trace_is P k t xs r h
 trace_is P k t (Ev.Done by ended ∷ xs) r h = go (nat_eq by t) h (λ m. trace_is P k t xs r m)
   where
@@ -163,6 +168,7 @@ keys_step k (Ev.Begin fuel) es = refl
 keys_step k (Ev.Key key) es = omega arith
 keys_step k (Ev.Fill key site first) es = refl
 keys_step k (Ev.Def by site) es = refl
+keys_step k (Ev.Del by place) es = refl
 keys_step k (Ev.Spawn parent child start) es = refl
 keys_step k (Ev.Done by ended) es = refl
 
@@ -209,6 +215,7 @@ keys_told P k (Ev.Begin fuel ∷ es) (d ∷ ds) h = ap (λ x. length (keys_of (x
 keys_told P k (Ev.Key key ∷ es) (d ∷ ds) h = ap (λ x. length (keys_of (x ∷ ds))) h.0.2 ∙ ap suc (keys_told P (k + 1) es ds h.1)
 keys_told P k (Ev.Fill key site first ∷ es) (d ∷ ds) h = ap (λ x. length (keys_of (x ∷ ds))) h.0 ∙ keys_told P k es ds h.1
 keys_told P k (Ev.Def by site ∷ es) (d ∷ ds) h = ap (λ x. length (keys_of (x ∷ ds))) h.0 ∙ keys_told P k es ds h.1
+keys_told P k (Ev.Del by place ∷ es) (d ∷ ds) h = ap (λ x. length (keys_of (x ∷ ds))) h.0 ∙ keys_told P k es ds h.1
 keys_told P k (Ev.Spawn parent child start ∷ es) (d ∷ ds) h = ap (λ x. length (keys_of (x ∷ ds))) h.0 ∙ keys_told P k es ds h.1
 keys_told P k (Ev.Done by ended ∷ es) (d ∷ ds) h = ap (λ x. length (keys_of (x ∷ ds))) h.0 ∙ keys_told P k es ds h.1
 
@@ -219,5 +226,6 @@ tasks_told P k (Ev.Begin fuel ∷ es) (d ∷ ds) h = ap (λ x. tasks_of (x ∷ d
 tasks_told P k (Ev.Key key ∷ es) (d ∷ ds) h = ap (λ x. tasks_of (x ∷ ds)) h.0.2 ∙ tasks_told P (k + 1) es ds h.1
 tasks_told P k (Ev.Fill key site first ∷ es) (d ∷ ds) h = ap (λ x. tasks_of (x ∷ ds)) h.0 ∙ tasks_told P k es ds h.1
 tasks_told P k (Ev.Def by site ∷ es) (d ∷ ds) h = ap (λ x. tasks_of (x ∷ ds)) h.0 ∙ tasks_told P k es ds h.1
+tasks_told P k (Ev.Del by place ∷ es) (d ∷ ds) h = ap (λ x. tasks_of (x ∷ ds)) h.0 ∙ tasks_told P k es ds h.1
 tasks_told P k (Ev.Spawn parent child start ∷ es) (d ∷ ds) h = ap (λ x. tasks_of (x ∷ ds)) h.0 ∙ ap (λ n. 1 + n) (tasks_told P k es ds h.1)
 tasks_told P k (Ev.Done by ended ∷ es) (d ∷ ds) h = ap (λ x. tasks_of (x ∷ ds)) h.0 ∙ tasks_told P k es ds h.1

@@ -4,7 +4,7 @@ use Rattle.jl_program.specs.declared.tree.Program.{Program}
 use Rattle.jl_calculus.specs.declared.history.Event.{Event}
 use Rattle.jl_calculus.specs.declared.history.Event.TheVariants as Ev
 use Rattle.jl_calculus.specs.Legal.{EachAfter, HasRun, IsKeyOf, IsLegal, fuel_of, start_of}
-use Rattle.jl_calculus.specs.Run.{Question, a_definition, a_spawn, Comes}
+use Rattle.jl_calculus.specs.Run.{Question, a_definition, a_deletion, a_spawn, Comes}
 use Rattle.jl_report.specs.declared.entry.Entry.{Entry}
 use Rattle.jl_report.specs.HistoryText.{entries_of}
 use Rattle.jl_replay.specs.Told.{trace_told, steps_before, items_told}
@@ -14,9 +14,10 @@ abbrev pub ComesAsTold : Program → List Entry → List Event → ℕ → Quest
 ComesAsTold P all es task question =
     (fuel : ℕ) → fuel_of es ≡ Some fuel → Comes P es None fuel (start_of task es) (items_told es (steps_before (length es) (trace_told task all))) question
 
--- an event is one that the run of its task makes after these: it comes to a definition or a spawn, or ends with this record
+-- an event is one that the run of its task makes after these: it comes to a definition, a deletion or a spawn, or ends with this record
 abbrev pub IsMadeByRun : Program → List Entry → List Event → Event → Type 0
 IsMadeByRun P all es (Ev.Def task site) = ComesAsTold P all es task (a_definition site)
+IsMadeByRun P all es (Ev.Del task place) = ComesAsTold P all es task (a_deletion place)
 IsMadeByRun P all es (Ev.Spawn task child start) = ComesAsTold P all es task (a_spawn start)
 IsMadeByRun P all es (Ev.Done task ended) = (ended.trace ≡ items_told es (trace_told task all)) × HasRun P None es task ended
 IsMadeByRun P all es (Ev.Begin fuel) = Unit {0}

@@ -49,8 +49,9 @@ pub record AreReplayed (P : Program) (all : List Entry) (es : List Event) : Type
   pub made : EachAfter (IsMadeByRun P all) [] es
   pub legal : (xs : List Event) → IsLegal P xs → entries_of P xs ≡ all → take (length es) xs ≡ es
 
--- entries of which no cause holds that needs no run
+-- entries of which no cause holds that needs no run, for a program without a deletion place
 pub record AreJudged (P : Program) (all : List Entry) : Type 0 where
+  pub plain : P.deletes ≡ []
   pub apart : AreApart P
   pub well : StartWell all
   pub clean : HasNoCause P all
@@ -85,6 +86,7 @@ IsKeyAt (Some (E.Key number f t)) function tuple = (f ≡ function) × (t ≡ tu
 IsKeyAt (Some (E.Begin fuel)) function tuple = ⊥
 IsKeyAt (Some (E.Fill key site first)) function tuple = ⊥
 IsKeyAt (Some (E.Def task site)) function tuple = ⊥
+IsKeyAt (Some (E.Del task place)) function tuple = ⊥
 IsKeyAt (Some (E.Spawn task child place)) function tuple = ⊥
 IsKeyAt (Some (E.Done task calls trace output ending)) function tuple = ⊥
 

@@ -23,6 +23,7 @@ trace_told task (E.Begin fuel ∷ xs) = trace_told task xs
 trace_told task (E.Key number function tuple ∷ xs) = trace_told task xs
 trace_told task (E.Fill key site first ∷ xs) = trace_told task xs
 trace_told task (E.Def by site ∷ xs) = trace_told task xs
+trace_told task (E.Del by place ∷ xs) = trace_told task xs
 trace_told task (E.Spawn by child place ∷ xs) = trace_told task xs
 
 -- the place of its end, among entries that stand from a place on
@@ -33,9 +34,10 @@ end_told task n (E.Begin fuel ∷ xs) = end_told task (n + 1) xs
 end_told task n (E.Key number function tuple ∷ xs) = end_told task (n + 1) xs
 end_told task n (E.Fill key site first ∷ xs) = end_told task (n + 1) xs
 end_told task n (E.Def by site ∷ xs) = end_told task (n + 1) xs
+end_told task n (E.Del by place ∷ xs) = end_told task (n + 1) xs
 end_told task n (E.Spawn by child place ∷ xs) = end_told task (n + 1) xs
 
--- the steps before the definition or spawn at a place
+-- the steps before the definition, deletion or spawn at a place
 abbrev pub steps_before : ℕ → List Step → List Step
 steps_before p [] = []
 steps_before p (S.Def site q ∷ ss) = cond (nat_eq q p) [] (S.Def site q ∷ steps_before p ss)
@@ -44,8 +46,10 @@ steps_before p (S.Look w q ∷ ss) = S.Look w q ∷ steps_before p ss
 steps_before p (S.Fetch task q ∷ ss) = S.Fetch task q ∷ steps_before p ss
 steps_before p (S.WorldFull q ∷ ss) = S.WorldFull q ∷ steps_before p ss
 steps_before p (S.TaskFull q ∷ ss) = S.TaskFull q ∷ steps_before p ss
+steps_before p (S.Del place q ∷ ss) = cond (nat_eq q p) [] (S.Del place q ∷ steps_before p ss)
+steps_before p (S.Absent place q ∷ ss) = S.Absent place q ∷ steps_before p ss
 
--- a step is a definition or a spawn
+-- a step is a definition, a deletion or a spawn
 abbrev pub is_own : Step → Bool
 is_own (S.Def site q) = true
 is_own (S.Spawn child q) = true
@@ -53,8 +57,10 @@ is_own (S.Look w q) = false
 is_own (S.Fetch task q) = false
 is_own (S.WorldFull q) = false
 is_own (S.TaskFull q) = false
+is_own (S.Del place q) = true
+is_own (S.Absent place q) = false
 
--- the steps up to the next definition or spawn
+-- the steps up to the next definition, deletion or spawn
 abbrev pub stretch : List Step → List Step
 stretch [] = []
 stretch (S.Def site q ∷ ss) = []
@@ -63,6 +69,8 @@ stretch (S.Look w q ∷ ss) = S.Look w q ∷ stretch ss
 stretch (S.Fetch task q ∷ ss) = S.Fetch task q ∷ stretch ss
 stretch (S.WorldFull q ∷ ss) = S.WorldFull q ∷ stretch ss
 stretch (S.TaskFull q ∷ ss) = S.TaskFull q ∷ stretch ss
+stretch (S.Del place q ∷ ss) = []
+stretch (S.Absent place q ∷ ss) = S.Absent place q ∷ stretch ss
 
 -- ---- the items that steps are
 
@@ -79,6 +87,8 @@ item_told es (S.Spawn child p) = I.Spawn child p
 item_told es (S.Fetch task p) = I.Fetch task (outcome_or_nothing (done_of task es)) p
 item_told es (S.WorldFull p) = I.WorldFull p
 item_told es (S.TaskFull p) = I.TaskFull p
+item_told es (S.Del place p) = I.Del place p
+item_told es (S.Absent place p) = I.Absent place p
 
 abbrev pub items_told : List Event → List Step → List TraceItem
 items_told es [] = []
@@ -94,6 +104,7 @@ trace_at (Some (E.Begin fuel)) = []
 trace_at (Some (E.Key number function tuple)) = []
 trace_at (Some (E.Fill key site first)) = []
 trace_at (Some (E.Def by site)) = []
+trace_at (Some (E.Del by place)) = []
 trace_at (Some (E.Spawn by child place)) = []
 
 -- the table with the end of a task, where an entry at a place is one
@@ -103,4 +114,5 @@ with_end (E.Begin fuel) n ends = ends
 with_end (E.Key number function tuple) n ends = ends
 with_end (E.Fill key site first) n ends = ends
 with_end (E.Def by site) n ends = ends
+with_end (E.Del by place) n ends = ends
 with_end (E.Spawn by child place) n ends = ends

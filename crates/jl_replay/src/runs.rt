@@ -346,6 +346,7 @@ impl<'p> Runs<'p> {
             Entry::Def { task, site } => {
                 self.follow_definition(alloc, ready, ops, entries, ends, n, *task, *site)
             }
+            Entry::Del { .. } => unreachable!(),
             Entry::Spawn { task, child, place } => {
                 self.follow_spawn(alloc, ready, ops, entries, ends, n, *task, *child, *place)
             }

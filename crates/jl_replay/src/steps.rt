@@ -48,21 +48,32 @@ fn item_of(alloc: Global, past: &Past<'_>, step: &Step) -> Result<TraceItem, All
         }
         Step::WorldFull { at } => Ok(TraceItem::WorldFull { at: *at }),
         Step::TaskFull { at } => Ok(TraceItem::TaskFull { at: *at }),
+        Step::Del { place, at } => Ok(TraceItem::Del {
+            place: *place,
+            at: *at,
+        }),
+        Step::Absent { place, at } => Ok(TraceItem::Absent {
+            place: *place,
+            at: *at,
+        }),
     }
 }
 
-/// Whether a step is a definition or a spawn.
+/// Whether a step is a definition, a deletion or a spawn.
 fn is_own(step: &Step) -> bool
     ensures { result ≡ is_own step.now }
 {
     match step {
-        Step::Def { .. } | Step::Spawn { .. } => true,
-        Step::Look { .. } | Step::Fetch { .. } | Step::WorldFull { .. } | Step::TaskFull { .. } =>
-            false,
+        Step::Def { .. } | Step::Del { .. } | Step::Spawn { .. } => true,
+        Step::Look { .. }
+        | Step::Fetch { .. }
+        | Step::WorldFull { .. }
+        | Step::TaskFull { .. }
+        | Step::Absent { .. } => false,
     }
 }
 
-/// The items of the steps from a place on, up to the next definition or spawn.
+/// The items of the steps from a place on, up to the next definition, deletion or spawn.
 pub(crate) fn read_stretch(
     alloc: Global,
     past: &Past<'_>,

@@ -1,6 +1,6 @@
 //! The judgement of a text.
 
-ghost use Rattle.std.specs.Prelude.{◌≡◌, ◌≤◌, ◌↔◌, ℕ, List, length, IfOk, IsTrue};
+ghost use Rattle.std.specs.Prelude.{◌≡◌, ◌≤◌, ◌↔◌, ℕ, List, [], length, IfOk, IsTrue};
 ghost use Rattle.jl_calculus.specs.declared.history.Event.{Event};
 ghost use Rattle.jl_calculus.specs.Legal.{IsLegal};
 ghost use Rattle.jl_report.specs.HistoryText.{history_text};
@@ -28,7 +28,8 @@ fn judge(
     ops: &HostOps,
     entries: &[Entry],
 ) -> Result<Verdict, AllocError>
-    requires { AreEntries entries.now }
+    requires plain { ready.now.deletes ≡ [] }
+    requires form { AreEntries entries.now }
     ensures { IfOk result (λ verdict. AreJudgedSo ready.now entries.now verdict) }
 {
     law_keys_apart();
@@ -58,6 +59,7 @@ fn judge_text(
     text: &[u8],
     ops: &HostOps,
 ) -> Result<Verdict, AllocError>
+    requires plain { ready.now.deletes ≡ [] }
     requires short { length text.now ≤ MOST_HISTORY_BYTES }
     requires read { AreRead ready.now text.now }
     ensures verdict { IfOk result (λ verdict. IsVerdict ready.now text.now verdict) }
@@ -78,7 +80,7 @@ fn judge_text(
 /// Judges the text of a history of a program, of at most 67,108,864 bytes: whether it is that of a legal history, and else why not.
 /// `BadText` has the first line that is not of the form. `Illegal` has the least event with a cause, and the first of its causes; the
 /// runs of the tasks are asked only where no other cause holds anywhere. The only error is want of memory. `ops` has the
-/// operations of the prelude.
+/// operations of the prelude. The program has no deletion place, so a text that tells of a deletion is not of the form.
 ///
 /// The numbers of a text have 32 bits. A program with more definition sites or spawn places than that would need a hundred times
 /// the memory of a machine, and is answered as if memory ran out. No script is such a program: it has at most 4,110 sites, and
@@ -89,6 +91,7 @@ pub fn replay(
     text: &[u8],
     ops: &HostOps,
 ) -> Result<Verdict, AllocError>
+    requires plain { ready.now.deletes ≡ [] }
     requires short { length text.now ≤ MOST_HISTORY_BYTES }
     ensures verdict { IfOk result (λ verdict. IsVerdict ready.now text.now verdict) }
     ensures legal { (es : List Event) → IsLegal ready.now es → text.now ≡ history_text ready.now es → IfOk result (λ verdict. verdict ≡ Legal (length es)) }

@@ -37,6 +37,7 @@ tasks_append (Ev.Begin fuel ∷ es) more = tasks_append es more
 tasks_append (Ev.Key key ∷ es) more = tasks_append es more
 tasks_append (Ev.Fill key site first ∷ es) more = tasks_append es more
 tasks_append (Ev.Def task site ∷ es) more = tasks_append es more
+tasks_append (Ev.Del task place ∷ es) more = tasks_append es more
 tasks_append (Ev.Done task ended ∷ es) more = tasks_append es more
 
 cond_append : (b : Bool) (y : ℕ) (ys zs : List ℕ) → cond b (y ∷ (ys ++ zs)) (ys ++ zs) ≡ cond b (y ∷ ys) ys ++ zs
@@ -51,6 +52,7 @@ children_append t (Ev.Begin fuel ∷ es) more = children_append t es more
 children_append t (Ev.Key key ∷ es) more = children_append t es more
 children_append t (Ev.Fill key site first ∷ es) more = children_append t es more
 children_append t (Ev.Def task site ∷ es) more = children_append t es more
+children_append t (Ev.Del task place ∷ es) more = children_append t es more
 children_append t (Ev.Done task ended ∷ es) more = children_append t es more
 
 or_else : Option Record → Option Record → Option Record
@@ -77,6 +79,7 @@ done_append t (Ev.Begin fuel ∷ es) more = done_append t es more
 done_append t (Ev.Key key ∷ es) more = done_append t es more
 done_append t (Ev.Fill key site first ∷ es) more = done_append t es more
 done_append t (Ev.Def task site ∷ es) more = done_append t es more
+done_append t (Ev.Del task place ∷ es) more = done_append t es more
 
 -- ---- one more event
 
@@ -138,6 +141,7 @@ family_more es (Ev.Begin fuel) os cs f h = same es (Ev.Begin fuel) os cs f refl 
 family_more es (Ev.Key key) os cs f h = same es (Ev.Key key) os cs f refl (λ t. refl) (λ t. refl)
 family_more es (Ev.Fill key site first) os cs f h = same es (Ev.Fill key site first) os cs f refl (λ t. refl) (λ t. refl)
 family_more es (Ev.Def task site) os cs f h = same es (Ev.Def task site) os cs f refl (λ t. refl) (λ t. refl)
+family_more es (Ev.Del task place) os cs f h = same es (Ev.Del task place) os cs f refl (λ t. refl) (λ t. refl)
 family_more es (Ev.Spawn task child start) os cs f (l, e) = spawned es task child start os cs f l
 family_more es (Ev.Done task ended) os cs f (l, n) = ended_with es task ended os cs f l n
 
@@ -168,6 +172,7 @@ may_come P past (Ev.Begin fuel) h = tt
 may_come P past (Ev.Key key) h = tt
 may_come P past (Ev.Fill key site first) h = tt
 may_come P past (Ev.Def task site) h = tt
+may_come P past (Ev.Del task place) h = tt
 may_come P past (Ev.Spawn task child start) h = (h.running.started, h.next)
 may_come P past (Ev.Done task ended) h = (h.started, h.going)
 
@@ -207,6 +212,7 @@ module _ (es : List Event) (h : AreOfTasks es) (i : ℕ) (e : Event) (os cs : Li
       by (Ev.Key key) k = tt
       by (Ev.Fill key site first) k = tt
       by (Ev.Def task site) k = tt
+      by (Ev.Del task place) k = tt
       by (Ev.Spawn task child start) k = omega (arith, k.0, f.many_children)
       by (Ev.Done task ended) k = omega (arith, k.0, f.many_outputs)
 

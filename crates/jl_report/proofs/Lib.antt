@@ -1,3 +1,4 @@
 pub mod EntryLemmas
 pub mod PieceLemmas
 pub mod FamilyLemmas
+pub mod PlainLemmas

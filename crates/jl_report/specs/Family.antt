@@ -15,6 +15,7 @@ IsOfTasks past (Ev.Begin fuel) = Unit {0}
 IsOfTasks past (Ev.Key key) = Unit {0}
 IsOfTasks past (Ev.Fill key site first) = Unit {0}
 IsOfTasks past (Ev.Def task site) = Unit {0}
+IsOfTasks past (Ev.Del task place) = Unit {0}
 
 abbrev pub AreOfTasks : List Event → Type 0
 AreOfTasks es = EachAfter IsOfTasks [] es
@@ -34,6 +35,7 @@ outputs_with outputs (Ev.Begin fuel) = outputs
 outputs_with outputs (Ev.Key key) = outputs
 outputs_with outputs (Ev.Fill key site first) = outputs
 outputs_with outputs (Ev.Def task site) = outputs
+outputs_with outputs (Ev.Del task place) = outputs
 
 abbrev pub children_with : List (List ℕ) → Event → List (List ℕ)
 children_with children (Ev.Spawn task child start) = slice_set children task (get_or children task [] ++ child ∷ []) ++ [] ∷ []
@@ -42,6 +44,7 @@ children_with children (Ev.Begin fuel) = children
 children_with children (Ev.Key key) = children
 children_with children (Ev.Fill key site first) = children
 children_with children (Ev.Def task site) = children
+children_with children (Ev.Del task place) = children
 
 -- what a task and those below it printed, in path order, as far as so many generations
 abbrev pub printed_below : List (List ℕ) → List (List ℕ) → ℕ → ℕ → List ℕ
@@ -56,3 +59,4 @@ IsWithin outputs children (Ev.Begin fuel) = Unit {0}
 IsWithin outputs children (Ev.Key key) = Unit {0}
 IsWithin outputs children (Ev.Fill key site first) = Unit {0}
 IsWithin outputs children (Ev.Def task site) = Unit {0}
+IsWithin outputs children (Ev.Del task place) = Unit {0}

@@ -30,6 +30,8 @@ step_of (I.Spawn child p) = S.Spawn child p
 step_of (I.Fetch task outcome p) = S.Fetch task p
 step_of (I.WorldFull p) = S.WorldFull p
 step_of (I.TaskFull p) = S.TaskFull p
+step_of (I.Del place p) = S.Del place p
+step_of (I.Absent place p) = S.Absent place p
 
 -- what it tells of the items of a trace
 abbrev pub steps_of : List TraceItem → List Step
@@ -48,6 +50,7 @@ entry_of P keys (Ev.Begin fuel) = E.Begin fuel
 entry_of P keys (Ev.Key k) = E.Key keys (function_name P k.function) (type_text P (Tuple k.types))
 entry_of P keys (Ev.Fill k site first) = E.Fill k site first
 entry_of P keys (Ev.Def task site) = E.Def task site
+entry_of P keys (Ev.Del task place) = E.Del task place
 entry_of P keys (Ev.Spawn task child start) = E.Spawn task child start.spawn
 entry_of P keys (Ev.Done task ended) = E.Done task ended.calls (steps_of ended.trace) ended.output (ending_of P ended.outcome)
 
@@ -57,6 +60,7 @@ keys_with keys (Ev.Key k) = keys + 1
 keys_with keys (Ev.Begin fuel) = keys
 keys_with keys (Ev.Fill k site first) = keys
 keys_with keys (Ev.Def task site) = keys
+keys_with keys (Ev.Del task place) = keys
 keys_with keys (Ev.Spawn task child start) = keys
 keys_with keys (Ev.Done task ended) = keys
 
@@ -118,6 +122,8 @@ step_line (S.Spawn child at) = number_line (codes "spawn") (child ∷ at ∷ [])
 step_line (S.Fetch task at) = number_line (codes "fetch") (task ∷ at ∷ [])
 step_line (S.WorldFull at) = number_line (codes "worldfull") (at ∷ [])
 step_line (S.TaskFull at) = number_line (codes "taskfull") (at ∷ [])
+step_line (S.Del place at) = number_line (codes "del") (place ∷ at ∷ [])
+step_line (S.Absent place at) = number_line (codes "absent") (place ∷ at ∷ [])
 
 -- the lines of a trace
 abbrev pub step_lines : List Step → List ℕ
@@ -135,6 +141,7 @@ entry_lines (E.Begin fuel) = number_line (codes "begin") (fuel ∷ [])
 entry_lines (E.Key number function tuple) = codes "key" ++ (spaced (number ∷ []) ++ (codes " " ++ (function ++ (codes " " ++ (tuple ++ codes "\n")))))
 entry_lines (E.Fill k site first) = number_line (codes "fill") (k ∷ site ∷ first ∷ [])
 entry_lines (E.Def task site) = number_line (codes "def") (task ∷ site ∷ [])
+entry_lines (E.Del task place) = number_line (codes "del") (task ∷ place ∷ [])
 entry_lines (E.Spawn task child place) = number_line (codes "spawn") (task ∷ child ∷ place ∷ [])
 entry_lines (E.Done task calls trace output ending) =
     number_line (codes "done") (task ∷ calls ∷ length trace ∷ []) ++ (step_lines trace ++ (text_line (codes "output ") (quoted output) ++ ending_line ending))

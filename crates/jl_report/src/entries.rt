@@ -125,6 +125,9 @@ fn append_entry(
         Event::Def { task, site } => {
             append_numbers(out, b"def", &[u64::from(*task), u64::from(*site)])
         }
+        Event::Del { task, place } => {
+            append_numbers(out, b"del", &[u64::from(*task), u64::from(*place)])
+        }
         Event::Spawn { task, child, start } => {
             let numbers = [u64::from(*task), u64::from(*child), u64::from(start.spawn)];
             append_numbers(out, b"spawn", &numbers)
@@ -176,8 +179,9 @@ fn append_events(out: &mut Row<u8>, program: &Program, events: &[Event]) -> Resu
 
 /// Appends the text of a history of the program, as tools read it: a first line, one line for each event in order, with the
 /// trace, the output and the outcome of each task after the line of its end, and a last line with the number of events.
-/// The one error is want of memory.
+/// The program has no deletion place: the first line is that of such a program. The one error is want of memory.
 pub fn append_history(out: &mut Row<u8>, ready: &Ready, history: &History) -> Result<(), AllocError>
+    requires plain { ready.now.deletes ≡ [] }
     ensures text { OnOk result (out.new ≡ out.old ++ history_text ready.now history.now.events) }
 {
     append_events(out, ready.program(), history.events.as_slice())
@@ -185,6 +189,7 @@ pub fn append_history(out: &mut Row<u8>, ready: &Ready, history: &History) -> Re
 
 /// The text of a history, as [`append_history`] writes it. The one error is want of memory.
 pub fn history_text(alloc: Global, ready: &Ready, history: &History) -> Result<Bytes, AllocError>
+    requires plain { ready.now.deletes ≡ [] }
     ensures text { IfOk result (λ text. text ≡ history_text ready.now history.now.events) }
 {
     let mut out = Row::new(alloc);

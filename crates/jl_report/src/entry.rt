@@ -17,6 +17,8 @@ pub enum Step {
     Fetch { task: u32, at: u32 },
     WorldFull { at: u32 },
     TaskFull { at: u32 },
+    Del { place: u32, at: u32 },
+    Absent { place: u32, at: u32 },
 }
 
 /// How a task ended, by the text of its value or of its fault.
@@ -44,6 +46,10 @@ pub enum Entry {
     Def {
         task: u32,
         site: u32,
+    },
+    Del {
+        task: u32,
+        place: u32,
     },
     Spawn {
         task: u32,

@@ -26,6 +26,8 @@ fn append_step(out: &mut Row<u8>, item: &TraceItem) -> Result<(), AllocError>
         TraceItem::Fetch { task, at, .. } => append_two(out, b"fetch", *task, *at),
         TraceItem::WorldFull { at } => append_numbers(out, b"worldfull", &[u64::from(*at)]),
         TraceItem::TaskFull { at } => append_numbers(out, b"taskfull", &[u64::from(*at)]),
+        TraceItem::Del { place, at } => append_two(out, b"del", *place, *at),
+        TraceItem::Absent { place, at } => append_two(out, b"absent", *place, *at),
     }
 }
 

@@ -57,8 +57,9 @@ fn newest_world(events: &[Event]) -> u64
 {
     let mut world = u64::from(PRELUDE_SITES);
     for event in events {
-        if let Event::Def { .. } = event {
-            world += 1;
+        match event {
+            Event::Def { .. } | Event::Del { .. } => world += 1,
+            _ => {}
         }
     }
     world

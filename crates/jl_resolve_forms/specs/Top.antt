@@ -79,7 +79,7 @@ pub record Resolved : Type 0 where
 
 abbrev pub program_as : Known → List Code → State → Resolved
 program_as k top s = record {
-  program = record { decls = drop BUILTIN_TYPES k.decls; functions = k.functions; sites = s.sites; spawns = s.spawns; top = top };
+  program = record { decls = drop BUILTIN_TYPES k.decls; functions = k.functions; sites = s.sites; spawns = s.spawns; deletes = []; top = top };
   fault = s.fault;
 }
 

@@ -4,6 +4,7 @@ use Rattle.std.specs.Prelude.{◌↔◌}
 use Rattle.std.specs.List.{Contains}
 use Rattle.std.proofs.lemmas.List.{take_all}
 use Rattle.jl_program.specs.declared.tree.Program.{Program}
+use Rattle.jl_calculus.specs.declared.history.Change.{Change}
 use Rattle.jl_calculus.specs.declared.history.Event.{Event}
 use Rattle.jl_calculus.specs.Legal.{MayStand}
 use Rattle.jl_calculus.specs.Ranges.{keys_of}
@@ -68,11 +69,11 @@ module _ (P : Program) (es : List Event) where
       λ o. (k r).1 (among_back r o),
     )
 
-  -- at the end they are those that a definition ends
-  pub all_cut : (numbers cut : List ℕ) (i site : ℕ) → length numbers ≤ i → AreCutOf (take i numbers) cut → AreTouched P (keys_of es) site numbers → AreAllCut P es site cut
-  all_cut numbers cut i site l h touched r = (λ c. to_cut ((h r).0 c), λ t. (h r).1 (from_cut t))
+  -- at the end they are those that a change ends
+  pub all_cut : (numbers cut : List ℕ) (i : ℕ) (change : Change) → length numbers ≤ i → AreCutOf (take i numbers) cut → AreTouched P (keys_of es) change numbers → AreAllCut P es change cut
+  all_cut numbers cut i change l h touched r = (λ c. to_cut ((h r).0 c), λ t. (h r).1 (from_cut t))
     where
-      to_cut : IsOpenAmong P es (take i numbers) r → IsToCut P es site r
+      to_cut : IsOpenAmong P es (take i numbers) r → IsToCut P es change r
       to_cut (n, c, o) =
           let a = o.is_open in
           let named : slice_get (keys_of es) n ≡ Some a.key = subst (λ m. slice_get (keys_of es) m ≡ Some a.key) o.of_key a.named in
@@ -85,7 +86,7 @@ module _ (P : Program) (es : List Event) where
             touched = (touched.exact n a.key named).0 (subst (λ xs. Contains xs n) (take_all i numbers l) c);
           }
 
-      from_cut : IsToCut P es site r → IsOpenAmong P es (take i numbers) r
+      from_cut : IsToCut P es change r → IsOpenAmong P es (take i numbers) r
       from_cut t = (
         t.row.key,
         subst (λ xs. Contains xs t.row.key) (sym (take_all i numbers l)) ((touched.exact t.row.key t.key t.named).1 t.touched),

@@ -3,8 +3,8 @@ pub mod SpanLemmas
 pub mod OpenLemmas
 pub mod RowReads
 pub mod CutLemmas
-pub mod LatestLemmas
 pub mod ApplyingLemmas
+pub mod DeletionLemmas
 pub mod NewestLemmas
 pub mod PlanLemmas
 pub mod KeptLemmas

@@ -45,6 +45,7 @@ module _ (P : Program) where
   one_more past (Ev.Begin fuel) h m = no_row past (Ev.Begin fuel) refl h
   one_more past (Ev.Key key) h m = no_row past (Ev.Key key) refl h
   one_more past (Ev.Def task site) h m = no_row past (Ev.Def task site) refl h
+  one_more past (Ev.Del task place) h m = no_row past (Ev.Del task place) refl h
   one_more past (Ev.Spawn task child start) h m = no_row past (Ev.Spawn task child start) refl h
   one_more past (Ev.Done task ended) h m = no_row past (Ev.Done task ended) refl h
   one_more past (Ev.Fill number site first) h m =

@@ -1,21 +1,26 @@
 -- Which row is right for a key around a world.
-use Rattle.std.proofs.Common.{◌≡◌, sym, subst, ℕ, ◌+◌, ◌<◌, ◌⊎◌, inl, inr, List, length, slice_get, Option, Some, None}
+use Rattle.std.proofs.Common.{◌≡◌, ap, sym, subst, arith, ℕ, suc, ◌+◌, ◌<◌, ◌⊎◌, inl, inr, List, length, take, slice_get, Option, Some, None}
 use Rattle.std.specs.Prelude.{◌↔◌}
 use Rattle.std.specs.List.{Contains}
 use Rattle.jl_model.specs.declared.ty.Key.{Key}
+use Rattle.jl_model.specs.declared.ty.Ty.{Ty}
+use Rattle.jl_model.specs.Choice.{Method}
 use Rattle.jl_program.specs.declared.choice.Choice.{Choice}
 use Rattle.jl_program.specs.declared.choice.Choice.TheVariants as C
 use Rattle.jl_program.specs.declared.tree.Program.{Program}
 use Rattle.jl_program.specs.Prelude.{prelude_count}
+use Rattle.jl_program.specs.Valid.{IsValid}
+use Rattle.jl_calculus.specs.declared.history.Change.TheVariants as Ch
 use Rattle.jl_calculus.specs.declared.history.Event.{Event}
 use Rattle.jl_calculus.specs.Learnt.{IsNamed, IsUncovered}
-use Rattle.jl_calculus.specs.Legal.{MayStand}
+use Rattle.jl_calculus.specs.Legal.{IsKeyOf, MayStand}
 use Rattle.jl_calculus.specs.Ranges.{keys_of, rows_of, Touches, Covers, MayBegin, IsCovered}
-use Rattle.jl_calculus.specs.World.{site_of, Selects}
-use Rattle.jl_calculus.proofs.BetweenLemmas.{row_made}
+use Rattle.jl_calculus.specs.World.{changes, site_of, Selects}
+use Rattle.jl_calculus.proofs.BetweenLemmas.{is_of, taken_below, row_made}
 use Rattle.jl_calculus.proofs.RowLemmas.{one_first}
 use Rattle.jl_cache.specs.Finds.{IsRangeEnd, HasRangeEnd}
 use Rattle.jl_methods.specs.declared.index.Index.{Index}
+use Rattle.jl_methods.specs.Filters.{change_in, IsDefinition}
 use Rattle.jl_methods.specs.Indexed.{IsIndexOf}
 use Rattle.jl_world.specs.declared.about.About.{About}
 use Rattle.jl_world.specs.Adds.{IsNextFill}
@@ -28,7 +33,16 @@ use Rattle.jl_rows.specs.Open.{HasRowFrom}
 use Rattle.jl_rows.specs.Plans.{IsRowFor, IsRowPlan, IsPlanFor}
 use Rattle.jl_rows.specs.Spans.{EndsSo, IsSpanAt}
 
-module _ (P : Program) (es : List Event) (stand : MayStand P es) (number : ℕ) (key : Key) (named : IsNamed es number key) (ws : List ℕ)
+-- what is chosen in a world is a definition
+pub chosen_definition : (P : Program) (es : List Event) (f : ℕ) (ts : List Ty) (w d : ℕ) → Selects P es f ts w (C.Method d) → IsDefinition (change_in (changes es) d)
+chosen_definition P es f ts w d (ms, are, (m, b, e)) =
+    let i = ((are m b.candidate.applies.below).0 b.candidate.applies.stands).made in
+    let o = is_of P f 1 (take w (changes es)) m i in
+    let number : 1 + o.place ≡ m.number = ap (λ (x : Method). x.number) o.is in
+    let at : suc o.place ≡ d = omega (arith, number, e) in
+    subst (λ n. IsDefinition (change_in (changes es) n)) at (subst IsDefinition (sym (taken_below w (changes es) o.place (Ch.Def o.number) o.stands).1) tt)
+
+module _ (P : Program) (valid : IsValid P) (es : List Event) (stand : MayStand P es) (number : ℕ) (key : Key) (proper : IsKeyOf P key) (named : IsNamed es number key) (ws : List ℕ)
     (exact : (d : ℕ) → Contains ws d ↔ Touches P es d key) (w : ℕ) (span : Span) (h : IsSpanAt ws w span) where
   begins : MayBegin P es key span.first
   begins = by h.begun
@@ -76,7 +90,7 @@ module _ (P : Program) (es : List Event) (stand : MayStand P es) (number : ℕ) 
       fill = record {
         key = key;
         named = named;
-        right = row_made P es key row.site span.first w begins covers (d, chosen, sym site);
+        right = row_made P valid es key row.site span.first w proper begins covers (d, chosen, sym site);
         new = λ r c of f. none (record { row = r; stands = c; of_key = of; begins = f });
       }
 

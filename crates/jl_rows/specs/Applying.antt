@@ -1,4 +1,4 @@
--- The definitions that apply to a call, up to a world.
+-- The definitions that apply to a call and were made up to a world.
 use Rattle.std.specs.Prelude.{ℕ, ◌≤◌, List, [], ◌∷◌}
 use Rattle.jl_model.specs.declared.ty.Ty.{Ty}
 use Rattle.jl_program.specs.declared.tree.Program.{Program}

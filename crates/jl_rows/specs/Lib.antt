@@ -1,5 +1,5 @@
 pub mod Applying
-pub mod Latest
+pub mod Touching
 pub mod Spans
 pub mod Open
 pub mod Plans

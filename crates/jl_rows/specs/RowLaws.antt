@@ -5,11 +5,12 @@ use Rattle.jl_model.specs.declared.ty.Ty.{Ty}
 use Rattle.jl_program.specs.declared.choice.Choice.{Choice}
 use Rattle.jl_program.specs.declared.choice.Choice.TheVariants as C
 use Rattle.jl_program.specs.declared.tree.Program.{Program}
+use Rattle.jl_program.specs.Valid.{IsValid}
 use Rattle.jl_calculus.specs.declared.history.Event.{Event}
 use Rattle.jl_calculus.specs.declared.history.Event.TheVariants as Ev
 use Rattle.jl_calculus.specs.Kept.{Places, IsKeptFor}
 use Rattle.jl_calculus.specs.Learnt.{IsNamed, IsChosen}
-use Rattle.jl_calculus.specs.Legal.{MayStand}
+use Rattle.jl_calculus.specs.Legal.{IsKeyOf, MayStand}
 use Rattle.jl_calculus.specs.Ranges.{keys_of, rows_of, IsCovered}
 use Rattle.jl_calculus.specs.World.{world_of, Selects}
 use Rattle.jl_world.specs.declared.about.About.{About}
@@ -22,10 +23,10 @@ use Rattle.jl_rows.specs.Plans.{IsPlanFor, IsRowFor, places_of, with_row}
 abbrev pub OneOpenRow : Type 0
 OneOpenRow = (P : Program) (es : List Event) → MayStand P es → (number r s : ℕ) → IsOpenOf P es number r → IsOpenOf P es number s → r ≡ s
 
--- a row that was linked as planned covers the world, and tells the choice there
+-- a row that was linked as planned for a key of a valid program covers the world, and tells the choice there
 abbrev pub LinkedIsChosen : Type 0
 LinkedIsChosen =
-    (P : Program) (es : List Event) (number w : ℕ) (key : Key) (row : NewRow) → w ≤ world_of es → IsNamed es number key → IsRowFor P es number key w row
+    (P : Program) → IsValid P → (es : List Event) (number w : ℕ) (key : Key) (row : NewRow) → IsKeyOf P key → w ≤ world_of es → IsNamed es number key → IsRowFor P es number key w row
     → IsChosen P (es ++ Ev.Fill number row.site row.first ∷ []) number w row.site
 
 -- a call in a world that is there is kept where all key places are in use, and where all rows are
@@ -55,8 +56,8 @@ NoMethodIsKept =
     (P : Program) (es : List Event) (room : Places) (number w : ℕ) (key : Key) (c : Choice) → w ≤ world_of es → IsNamed es number key
     → Selects P es key.function key.types w c → ((d : ℕ) → c ≡ C.Method d → ⊥) → IsKeptFor P es room key.function key.types w
 
--- so a call for which a plan was made is kept when what was planned is done
+-- so a call for which a plan was made, for a key of a valid program, is kept when what was planned is done
 abbrev pub PlannedIsKept : Type 0
 PlannedIsKept =
-    (about : About) (es : List Event) (number w : ℕ) (plan : Plan) → w ≤ world_of es → (made : IsPlanFor about es number w plan)
+    (about : About) → IsValid about.program.value → (es : List Event) (number w : ℕ) (plan : Plan) → w ≤ world_of es → (made : IsPlanFor about es number w plan) → IsKeyOf about.program.value made.key
     → IsKeptFor about.program.value (with_row es number plan.row) (places_of about) made.key.function made.key.types w

@@ -1,4 +1,4 @@
--- The worlds around one in which a choice does not change: between two worlds of definitions that touch a key (Belyakova et al.,
+-- The worlds around one in which a choice does not change: between two worlds of changes that touch a key (Belyakova et al.,
 -- OOPSLA 2020).
 use Rattle.std.specs.Prelude.{ℕ, ◌+◌, ◌≡◌, ◌<◌, ◌≤◌, ◌⊎◌, List, Option, None, Some}
 use Rattle.std.specs.List.{Contains}

@@ -1,7 +1,8 @@
-//! Which rows a definition ends.
+//! Which rows a change ends.
 
 ghost use Rattle.std.specs.Prelude.{◌≡◌, ◌⊎◌, ◌↔◌, ℕ, []};
 ghost use Rattle.std.specs.List.{Contains};
+ghost use Rattle.jl_calculus.specs.declared.history.Change.{Change as C};
 ghost use Rattle.jl_calculus.specs.Ranges.{keys_of};
 ghost use Rattle.jl_calculus.specs.Words.{AreAllCut};
 ghost use Rattle.jl_calculus.specs.World.{world_of};
@@ -29,14 +30,14 @@ fn cut_row<N: Naming>(index: &Index, cache: &Cache<N>, book: &mut BookSeat<N>, k
     cache.cut(book, row, world);
 }
 
-/// Cuts, at the present world, exactly the rows without an end of the keys that a definition of a site touches, ahead of that
-/// definition. It takes no memory. Of each key one row at most has no end.
+/// Cuts, at the present world, exactly the rows without an end of the keys that a definition or a deletion touches, ahead of it. It
+/// takes no memory. Of each key one row at most has no end.
 pub fn cut_rows<N: Naming>(index: &Index, cache: &Cache<N>, book: &mut BookSeat<N>, touched: &[u32])
     requires index { IsIndexOf N.about.program.value book.old.events index.now }
     requires history { IsHistory N.about book.old.events }
     requires uncut { book.old.cut ≡ [] }
     ensures same { book.new ≡ with_cut book.new.cut book.old }
-    ensures cut { (site : ℕ) → AreTouched N.about.program.value (keys_of book.old.events) site touched.now → AreAllCut N.about.program.value book.old.events site book.new.cut }
+    ensures cut { (change : C) → AreTouched N.about.program.value (keys_of book.old.events) change touched.now → AreAllCut N.about.program.value book.old.events change book.new.cut }
 {
     let world = index.worlds() as u32;
     for number in touched {

@@ -4,6 +4,7 @@ ghost use Rattle.std.specs.Prelude.{◌≡◌, ◌<◌, ◌≤◌, ℕ, IfOk, le
 ghost use Rattle.jl_model.specs.declared.ty.Key.{Key};
 ghost use Rattle.jl_program.specs.declared.choice.Choice.TheVariants.{Method};
 ghost use Rattle.jl_program.specs.Prelude.{prelude_count};
+ghost use Rattle.jl_program.specs.Valid.{IsValid};
 ghost use Rattle.jl_calculus.specs.Learnt.{IsNamed};
 ghost use Rattle.jl_calculus.specs.Ranges.{keys_of};
 ghost use Rattle.jl_calculus.specs.World.{world_of, Selects};
@@ -57,6 +58,7 @@ fn plan_row<N: Naming>(
 ) -> RowPlan
     requires index { IsIndexOf N.about.program.value book.old.events index.now }
     requires history { IsHistory N.about book.old.events }
+    requires valid { IsValid N.about.program.value }
     requires key { key < length (keys_of book.old.events) }
     requires world { (prelude_count ≤ world) × (world ≤ world_of book.old.events) }
     requires choice { (k : Key) → IsNamed book.old.events key k → Selects N.about.program.value book.old.events k.function k.types world (Method definition) }
@@ -80,9 +82,9 @@ fn plan_row<N: Naming>(
 }
 
 /// The choice for a key of the history in a world, and what is to be done about a row: the first that holds of no method, covered
-/// and all rows in use, and else the row that is right. It begins at the last world, at most the asked one, whose definition touches
-/// the key, and in the last world of the prelude where there is none past it; it ends just before the next definition that touches
-/// the key (Belyakova et al., OOPSLA 2020). The cost is in the definitions that touch the key and in the key's rows.
+/// and all rows in use, and else the row that is right. It begins at the last world, at most the asked one, whose change touches the
+/// key, and in the last world of the prelude where there is none past it; it ends just before the next change that touches the key
+/// (Belyakova et al., OOPSLA 2020). The cost is that of `choose_for_key`, and in the key's rows.
 pub fn plan_for_key<N: Naming>(
     alloc: Global,
     ready: &Ready,
@@ -100,6 +102,7 @@ pub fn plan_for_key<N: Naming>(
     ensures same { book.new ≡ book.old }
     ensures plan { IfOk result (λ plan. IsPlanFor N.about book.old.events key world plan) }
 {
+    ready.valid();
     let choice = choose_for_key(alloc, ready, index, key, world)?;
     let row = match choice {
         Choice::Method(definition) => plan_row(index, cache, book, key, world, definition),

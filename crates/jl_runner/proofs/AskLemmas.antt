@@ -1,25 +1,27 @@
 -- What a task knows after it has asked.
-use Rattle.std.proofs.Common.{◌≡◌, ◌∙◌, ap, sym, subst, ℕ, ◌<◌, ◌≤◌, arith, List, [], ◌∷◌, length, Option, None, Some, MatchOption, slice_get, zero, suc}
+use Rattle.std.proofs.Common.{◌≡◌, ◌∙◌, ap, sym, subst, ℕ, ◌<◌, arith, List, [], ◌∷◌, length, Option, None, Some, MatchOption, slice_get, zero, suc}
 use Rattle.jl_model.specs.declared.ty.Key.{Key}
 use Rattle.jl_model.specs.declared.ty.Ty.{Ty}
 use Rattle.jl_program.specs.declared.choice.Choice.{Choice}
 use Rattle.jl_program.specs.declared.choice.Choice.TheVariants as C
+use Rattle.jl_program.specs.declared.tree.Program.{Program}
 use Rattle.jl_calculus.specs.declared.history.Event.{Event}
 use Rattle.jl_calculus.specs.declared.history.TraceItem.TheVariants.{Look}
 use Rattle.jl_calculus.specs.Kept.{IsKeptFor}
 use Rattle.jl_calculus.specs.Learnt.{IsNamed, IsChosen}
 use Rattle.jl_calculus.specs.Past.{IsTrueOf}
-use Rattle.jl_calculus.specs.World.{world_of, Selects}
+use Rattle.jl_calculus.specs.World.{change_at, changes, world_of, Selects}
 use Rattle.jl_world.specs.declared.about.About.{About}
 use Rattle.jl_world.specs.declared.view.TaskView.{TaskView}
 use Rattle.jl_world.specs.Views.{Begins, met, looked}
-use Rattle.jl_calculus.proofs.BetweenLemmas.{of_world}
 use Rattle.jl_world.proofs.Growth.{worlds_grow}
+use Rattle.jl_methods.specs.Filters.{change_in, IsDefinition}
 use Rattle.jl_rows.specs.Plans.{places_of}
-use Rattle.jl_dispatcher.specs.Knows.{Grew, Looked, Asked, Refused, IsRight, IsOfWorld}
+use Rattle.jl_rows.proofs.PlanLemmas.{chosen_definition}
+use Rattle.jl_dispatcher.specs.Knows.{Grew, Looked, Asked, Refused, IsRight}
 use Rattle.jl_dispatcher.specs.Worlds.{IsWorld}
 use Rattle.jl_runner.specs.declared.known.Knowing.{Knowing}
-use Rattle.jl_runner.specs.Knowing.{knows_of, IsKnowing, IsSiteOf}
+use Rattle.jl_runner.specs.Knowing.{knows_of, IsKnowing, IsOfDefinition, IsSiteOf}
 use Rattle.jl_runner.specs.Keys.{IsNumbered, AreNamed}
 use Rattle.jl_runner.proofs.FirstLemmas.{begun_more}
 use Rattle.jl_runner.proofs.KeyLemmas.{named_more}
@@ -41,7 +43,7 @@ abbrev pub seen_as : TaskView → ℕ → ℕ → Knowing
 seen_as v f s = record { view = v; first = f; site = s }
 
 module _ (about : About) (k : Knowing) (v w : TaskView) (f s : ℕ) (is : seen_as v f s ≡ k) where
-  pub looked_known : (world n : ℕ) → w ≡ looked w.seen v → Begins v.seen w.seen → ((t : ℕ) → IsTrueOf w.seen t (Look world n)) → world_of w.seen ≡ world → n ≡ length w.seen
+  pub looked_known : (world n : ℕ) → w ≡ looked w.seen v → Begins v.seen w.seen → ((t : ℕ) → IsTrueOf about.program.value w.seen t (Look world n)) → world_of w.seen ≡ world → n ≡ length w.seen
       → Looked (knows_of about k) (knows_of about (seen_as w f s)) world n
   looked_known world n same b item world_is l =
       subst (λ u. Looked (knows_of about u) (knows_of about (seen_as w f s)) world n) is (looked_so about v w f s world n same b item world_is l)
@@ -86,13 +88,15 @@ module _ (about : About) (k : Knowing) (v w : TaskView) (f s : ℕ) (is : seen_a
       (subst (λ xs. IsKeptFor about.program.value xs (places_of about) key.function key.types world) (sym e) kept)
       (subst (λ xs. IsSiteOf xs c site) (sym e) site_is)
 
--- a definition that is chosen is one of the worlds that are there
-pub of_world_known : (about : About) (v es : List Event) (f : ℕ) (ts : List Ty) (world : ℕ) (c : Choice) → Begins v es → world ≤ world_of v → Selects about.program.value es f ts world c → IsOfWorld c (world_of es)
-of_world_known about v es f ts world C.None b l h = tt
-of_world_known about v es f ts world (C.Ambiguous p q) b l h = tt
-of_world_known about v es f ts world (C.Method d) b l h =
-    let o = of_world about.program.value es f ts world d h in
-    (o.0, omega (arith, o.1, l, worlds_grow v es b))
+-- a method that is chosen is that of a definition
+pub definition_known : (P : Program) (es : List Event) (f : ℕ) (ts : List Ty) (world : ℕ) (c : Choice) → Selects P es f ts world c → IsOfDefinition es c
+definition_known P es f ts world C.None h = tt
+definition_known P es f ts world (C.Ambiguous p q) h = tt
+definition_known P es f ts world (C.Method d) h = at d (chosen_definition P es f ts world d h)
+  where
+    at : (d : ℕ) → IsDefinition (change_in (changes es) d) → IsDefinition (change_at es d)
+    at zero i = i
+    at (suc n) i = i
 
 -- a key that has a number is one of the keys
 pub named_low : {X : Type 0} (xs : List X) (n : ℕ) (x : X) → slice_get xs n ≡ Some x → n < length xs

@@ -79,7 +79,7 @@ on_err (Err e) x = x
 -- ---- what became of a task
 
 pub fetched_known : (r : Result Outcome FetchFault) (about : About) (k : Knowing) (v w : TaskView) (f s : ℕ) → seen_as v f s ≡ k → (es : List Event) → w ≡ met es v → (of : ℕ)
-    → IfOk r (λ o. (t : ℕ) → IsTrueOf es t (Fetch of o (length es))) → IfOk r (λ o. Fetched (knows_of about k) (knows_of about (seen_as w f s)) of o)
+    → IfOk r (λ o. (t : ℕ) → IsTrueOf about.program.value es t (Fetch of o (length es))) → IfOk r (λ o. Fetched (knows_of about k) (knows_of about (seen_as w f s)) of o)
 fetched_known (Ok o) about k v w f s is es same of h = subst (λ u. Fetched (knows_of about u) (knows_of about (seen_as w f s)) of o) is (fetched_so about v w f s es same of o h)
 fetched_known (Err x) about k v w f s is es same of h = tt
 

@@ -16,7 +16,9 @@ use Rattle.indexmap.proofs.map.IndexMap.TheSendSync as indexmap
 use Rattle.indexmap.proofs.set.IndexSet.TheSendSync as indexset
 use Rattle.jl_model.specs.contracts.ty.Key as key
 use Rattle.jl_program.specs.contracts.tree.Start as start
+use Rattle.jl_calculus.specs.contracts.history.Change as change
 use Rattle.jl_calculus.specs.contracts.history.Def as def
+use Rattle.jl_calculus.specs.contracts.history.Del as del
 use Rattle.jl_calculus.specs.contracts.history.Event as event
 use Rattle.jl_world.specs.declared.name.Naming as naming
 use Rattle.jl_world.specs.contracts.seats.BookSeat as seat
@@ -45,11 +47,17 @@ word_send = search sendable
 def_send : IsSend def.the_row
 def_send = search sendable depth 20
 
+del_send : IsSend del.the_row
+del_send = search sendable depth 20
+
+change_send : IsSend change.the_row
+change_send = variants_send change.enum ((number_send, tt), ((number_send, tt), tt))
+
 newest_send : IsSend newest.the_row
 newest_send = search sendable depth 20
 
 index_send : IsSend index.the_row
-index_send = declared_send index.the_type (heap.the_send, (vec_send key.the_row key_send, (vec_send u32 word_send, (search (def_send, crosses, sendable) depth 20, (search (crosses, sendable) depth 20, (search (crosses, sendable) depth 20, (search (crosses, sendable) depth 20, (search (def_send, crosses, sendable) depth 20, (vec_send (option_type.the_row newest.the_row) (option.the_send newest.the_row newest_send), (number_send, (option.the_send key.the_row key_send, (vec_send def.the_row def_send, (vec_send u32 word_send, tt)))))))))))))
+index_send = declared_send index.the_type (heap.the_send, (vec_send key.the_row key_send, (vec_send change.the_row change_send, (search (def_send, crosses, sendable) depth 20, (search (del_send, crosses, sendable) depth 20, (search (del_send, crosses, sendable) depth 20, (search (crosses, sendable) depth 20, (search (crosses, sendable) depth 20, (search (crosses, sendable) depth 20, (search (def_send, crosses, sendable) depth 20, (vec_send (option_type.the_row newest.the_row) (option.the_send newest.the_row newest_send), (number_send, (option.the_send key.the_row key_send, (vec_send def.the_row def_send, (vec_send u32 word_send, tt)))))))))))))))
 
 numbers_send : IsSend numbers.the_row
 numbers_send = view_send numbers_inside.the_row _ _ _ _ (recorded_send numbers_inside.the_field.row _ _ numbers_inside.the_type.to_one (struct_send (shape numbers_inside.the_type)

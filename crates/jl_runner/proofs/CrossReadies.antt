@@ -29,4 +29,4 @@ pub sig_sync : IsSync sig.the_row
 sig_sync = search (list.the_send, list.the_sync, crosses, types.crosses_both, sendable) depth 60 fits 20000
 
 pub ready_sync : IsSync ready.the_row
-ready_sync = view_sync inside.the_row _ _ _ _ (declared_sync inside.the_type (program_sync, (table_sync, (search (sig_send, sig_sync, crosses, as_row_sync), (search (sig_send, sig_sync, option.the_send, option.the_sync, option.the_field_send, option.the_field_sync, crosses, as_row_sync), tt)))))
+ready_sync = view_sync inside.the_row _ _ _ _ (declared_sync inside.the_type (program_sync, (table_sync, (search (sig_send, sig_sync, crosses, as_row_sync), (search (sig_send, sig_sync, crosses, as_row_sync), (search (sig_send, sig_sync, option.the_send, option.the_sync, option.the_field_send, option.the_field_sync, crosses, as_row_sync), tt))))))

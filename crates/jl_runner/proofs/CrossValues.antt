@@ -67,10 +67,10 @@ pub long_sync : IsSync (as_row u64-field)
 long_sync = search sendable
 
 pub trace_item_send : IsSend trace_item.the_row
-trace_item_send = variants_send trace_item.enum ((number_send, (number_send, tt)), ((number_send, (number_send, tt)), ((number_send, (number_send, tt)), ((number_send, (ending_send, (number_send, tt))), ((number_send, tt), ((number_send, tt), tt))))))
+trace_item_send = variants_send trace_item.enum ((number_send, (number_send, tt)), ((number_send, (number_send, tt)), ((number_send, (number_send, tt)), ((number_send, (ending_send, (number_send, tt))), ((number_send, tt), ((number_send, tt), ((number_send, (number_send, tt)), ((number_send, (number_send, tt)), tt))))))))
 
 pub trace_item_sync : IsSync trace_item.the_row
-trace_item_sync = variants_sync trace_item.enum ((number_sync, (number_sync, tt)), ((number_sync, (number_sync, tt)), ((number_sync, (number_sync, tt)), ((number_sync, (ending_sync, (number_sync, tt))), ((number_sync, tt), ((number_sync, tt), tt))))))
+trace_item_sync = variants_sync trace_item.enum ((number_sync, (number_sync, tt)), ((number_sync, (number_sync, tt)), ((number_sync, (number_sync, tt)), ((number_sync, (ending_sync, (number_sync, tt))), ((number_sync, tt), ((number_sync, tt), ((number_sync, (number_sync, tt)), ((number_sync, (number_sync, tt)), tt))))))))
 
 pub list_send : (R : RattleType) → IsSend R → IsSync R → IsSend (as_row (list_type.the_field R))
 list_send R s t = as_row_send (list_type.the_field R) (list.the_send R s t)
@@ -94,4 +94,4 @@ pub key_send : IsSend key.the_row
 key_send = search (list.the_send, list.the_sync, crosses, types.crosses_both, sendable) depth 60 fits 20000
 
 pub event_send : IsSend event.the_row
-event_send = variants_send event.enum ((long_send, tt), ((key_send, tt), ((number_send, (number_send, (number_send, tt))), ((number_send, (number_send, tt)), ((number_send, (number_send, (start_send, tt))), ((number_send, (record_send, tt)), tt))))))
+event_send = variants_send event.enum ((long_send, tt), ((key_send, tt), ((number_send, (number_send, (number_send, tt))), ((number_send, (number_send, tt)), ((number_send, (number_send, tt)), ((number_send, (number_send, (start_send, tt))), ((number_send, (record_send, tt)), tt)))))))

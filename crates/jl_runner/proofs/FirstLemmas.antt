@@ -43,6 +43,7 @@ first_later t p (Ev.Begin fuel ∷ es) more h = first_later t (p + 1) es more h 
 first_later t p (Ev.Key key ∷ es) more h = first_later t (p + 1) es more h ∙ ap (λ n. first_place t n more) (omega arith)
 first_later t p (Ev.Fill key site first ∷ es) more h = first_later t (p + 1) es more h ∙ ap (λ n. first_place t n more) (omega arith)
 first_later t p (Ev.Def by site ∷ es) more h = first_later t (p + 1) es more h ∙ ap (λ n. first_place t n more) (omega arith)
+first_later t p (Ev.Del by place ∷ es) more h = first_later t (p + 1) es more h ∙ ap (λ n. first_place t n more) (omega arith)
 first_later t p (Ev.Done by ended ∷ es) more h = first_later t (p + 1) es more h ∙ ap (λ n. first_place t n more) (omega arith)
 
 pub first_spawned : (P : Program) (es : List Event) (parent child : ℕ) (start : Start) → MayStand P es → child ≡ tasks_of es

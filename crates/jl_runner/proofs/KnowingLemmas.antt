@@ -38,9 +38,9 @@ first_seen es xs b = ap (take (length es)) b.1 ∙ take-append-le (length es) es
 
 module _ (about : About) (v : TaskView) (f s : ℕ) where
   -- an item that is true of what was seen is told
-  told : (i : TraceItem) → IsTrueOf v.seen (task_in v) i → Told (knows_at about v f s) i
+  told : (i : TraceItem) → IsTrueOf about.program.value v.seen (task_in v) i → Told (knows_at about v f s) i
   told i h =
-      let on : (es : List Event) → Begins v.seen es → IsTrueOf es (task_in v) i = λ es b. still_true about.program.value v.seen es b (task_in v) (traced i) h in
+      let on : (es : List Event) → Begins v.seen es → IsTrueOf about.program.value es (task_in v) i = λ es b. still_true about.program.value v.seen es b (task_in v) (traced i) h in
       record { learnt = on; right = on }
 
   -- a task that has done nothing yet
@@ -90,7 +90,7 @@ module _ (about : About) (v : TaskView) (f s : ℕ) where
 
 -- ---- looks
 
-pub looked_so : (about : About) (v w : TaskView) (f s world length_ : ℕ) → w ≡ looked w.seen v → Begins v.seen w.seen → ((t : ℕ) → IsTrueOf w.seen t (Look world length_)) → world_of w.seen ≡ world
+pub looked_so : (about : About) (v w : TaskView) (f s world length_ : ℕ) → w ≡ looked w.seen v → Begins v.seen w.seen → ((t : ℕ) → IsTrueOf about.program.value w.seen t (Look world length_)) → world_of w.seen ≡ world
     → length_ ≡ length w.seen → Looked (knows_at about v f s) (knows_at about w f s) world length_
 looked_so about v w f s world n same b item is l =
     subst (λ u. Looked (knows_at about v f s) (knows_at about u f s) world n) (sym same) (record {
@@ -151,7 +151,7 @@ module _ (about : About) (v : TaskView) (f s : ℕ) where
       let o = of_world about.program.value v.seen fn ts w d h in (
         d,
         subst (λ ys. Selects about.program.value ys fn ts w (C.Method d)) (sym b.1) (selects_on about.program.value v.seen b.0 fn ts w (C.Method d) l h),
-        ap (λ ys. site_of ys d) b.1 ∙ site_more about.program.value v.seen b.0 d o.0 (omega (arith, o.1, l)) ∙ sym site,
+        ap (λ ys. site_of ys d) b.1 ∙ site_more about.program.value v.seen b.0 d (omega (arith, o.1, l)) ∙ sym site,
       )
 
   is_of_world : (fn : ℕ) (ts : List Ty) (w : ℕ) (c : Choice) → Selects about.program.value v.seen fn ts w c → IsOfWorld c w
@@ -307,7 +307,7 @@ module _ (about : About) (v w : TaskView) (f s : ℕ) (es : List Event) (now : w
 
   -- ---- what became of a task
 
-  pub fetched_so : (of : ℕ) (outcome : Outcome) → ((t : ℕ) → IsTrueOf es t (Fetch of outcome (length es))) → Fetched (knows_at about v f s) (knows_at about w f s) of outcome
+  pub fetched_so : (of : ℕ) (outcome : Outcome) → ((t : ℕ) → IsTrueOf about.program.value es t (Fetch of outcome (length es))) → Fetched (knows_at about v f s) (knows_at about w f s) of outcome
   fetched_so of outcome h = subst (λ u. Fetched (knows_at about v f s) (knows_at about u f s) of outcome) (sym now) (record {
     told = told about (met es v) f s (Fetch of outcome (length es)) (h (task_in v));
     looks = refl;

@@ -54,7 +54,7 @@ pub valid_end : (P : Program) (fuel : ℕ) (k : Knows) (m : Machine) (r : Record
 valid_end P fuel k m r f h = valid_work P fuel k m.work m.task r.outcome h.work f.task
 
 -- what it has learnt is true of what it has seen
-true_of : (about : About) (v : TaskView) (f s : ℕ) (is : List TraceItem) → AllLearnt (knows_at about v f s) is → AreTrueOf v.seen (task_in v) is
+true_of : (about : About) (v : TaskView) (f s : ℕ) (is : List TraceItem) → AllLearnt (knows_at about v f s) is → AreTrueOf about.program.value v.seen (task_in v) is
 true_of about v f s [] h = tt
 true_of about v f s (i ∷ is) h = (h.0 v.seen (begins_self v.seen), true_of about v f s is h.1)
 

@@ -11,7 +11,7 @@ use Rattle.jl_calculus.specs.Learnt.{IsNamed}
 use Rattle.jl_calculus.specs.Past.{IsTrueOf}
 use Rattle.jl_calculus.specs.Ranges.{keys_of}
 use Rattle.jl_calculus.specs.ValidStart.{IsValidStart}
-use Rattle.jl_calculus.specs.World.{world_of, site_of}
+use Rattle.jl_calculus.specs.World.{change_at, site_of, world_of}
 use Rattle.jl_world.specs.declared.about.About.{About}
 use Rattle.jl_world.specs.declared.view.TaskView.{TaskView}
 use Rattle.jl_world.specs.Views.{Begins}
@@ -19,6 +19,7 @@ use Rattle.jl_dispatcher.specs.Knows.{Knows}
 use Rattle.jl_dispatcher.specs.Worlds.{IsWorld}
 use Rattle.jl_runner.specs.declared.known.Knowing.{Knowing}
 use Rattle.jl_book.specs.Passes.{task_in, first_of, HasStarted}
+use Rattle.jl_methods.specs.Filters.{IsDefinition}
 use Rattle.jl_rows.specs.Plans.{places_of}
 use Rattle.jl_runner.specs.Keys.{AreNamed}
 
@@ -34,7 +35,7 @@ knows_at about v first site = record {
   agrees = Begins v.seen;
   events = v.seen;
   agreed = ([], sym (append-nil v.seen));
-  learnt = λ i. (es : List Event) → Begins v.seen es → IsTrueOf es (task_in v) i;
+  learnt = λ i. (es : List Event) → Begins v.seen es → IsTrueOf about.program.value es (task_in v) i;
   own = v.own;
   starts = v.starts;
   looks = v.looks;
@@ -50,6 +51,12 @@ knows_of about k = knows_at about k.view k.first k.site
 abbrev pub IsNumberOf : About → List Event → Key → Option ℕ → Type 0
 IsNumberOf about es key None = about.keys ≤ length (keys_of es)
 IsNumberOf about es key (Some number) = IsNamed es number key
+
+-- a method that was chosen is that of a definition
+abbrev pub IsOfDefinition : List Event → Choice → Type 0
+IsOfDefinition es (C.Method d) = IsDefinition (change_at es d)
+IsOfDefinition es C.None = Unit {0}
+IsOfDefinition es (C.Ambiguous a b) = Unit {0}
 
 -- the site that is told for a definition that was chosen is its own
 abbrev pub IsSiteOf : List Event → Choice → ℕ → Type 0

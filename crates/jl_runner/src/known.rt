@@ -12,9 +12,9 @@ ghost use Rattle.jl_calculus.specs.Ranges.{keys_of};
 ghost use Rattle.jl_calculus.specs.ValidHistory.{IsValidOutcome};
 ghost use Rattle.jl_calculus.specs.ValidStart.{IsValidStart};
 ghost use Rattle.jl_calculus.specs.World.{world_of};
-ghost use Rattle.jl_dispatcher.specs.Knows.{Looked, Grew, Asked, Refused, IsRight, Defined, IsMade, WorldsFull, IsFull, Spawned, TasksFull, AreTasksFull, Fetched, IsNotDone, IsOfWorld};
+ghost use Rattle.jl_dispatcher.specs.Knows.{Looked, Grew, Asked, Refused, IsRight, Defined, IsMade, WorldsFull, IsFull, Spawned, TasksFull, AreTasksFull, Fetched, IsNotDone};
 ghost use Rattle.jl_dispatcher.specs.Worlds.{IsWorld};
-ghost use Rattle.jl_runner.specs.Knowing.{knows_of, IsNew, IsBegun, IsSiteOf, IsNumberOf};
+ghost use Rattle.jl_runner.specs.Knowing.{knows_of, IsNew, IsBegun, IsOfDefinition, IsSiteOf, IsNumberOf};
 
 use crate::keys::KeyNumbers;
 use jl_book::{Book, KeyFault, Pass};
@@ -63,7 +63,7 @@ impl<N: Naming> Model for Known<N> {
 
 /// The site of the definition that was chosen, if one was.
 fn site_of<N: Naming>(book: &Book<N>, choice: Choice) -> u32
-    requires { IsOfWorld choice (world_of book.now) }
+    requires { IsOfDefinition book.now choice }
     ensures { IsSiteOf book.now choice result }
 {
     match choice {

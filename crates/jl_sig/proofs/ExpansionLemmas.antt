@@ -8,9 +8,8 @@ use Rattle.jl_model.specs.declared.ty.Ty.TheOpen.{Ty-F, Any, Union, Tuple, Nomin
 use Rattle.jl_model.specs.declared.ty.Ty.TheViews.{out-Ty, rolls-Any, rolls-Union, rolls-Tuple, rolls-Nominal, rolls-Var}
 use Rattle.jl_model.specs.declared.ty.Ty.TheViews as V
 use Rattle.jl_model.specs.declared.ty.Ty.TheVariants as W
-use Rattle.jl_model.specs.declared.ty.Ty.TheFolds.{para-roll-Ty}
-use Rattle.jl_model.specs.Rows.{choices, forms, forms_step}
-use Rattle.jl_model.proofs.FormLemmas.{firsts, seconds, flat_seconds, is_any, is_union, is_tuple, is_nominal, is_var}
+use Rattle.jl_model.specs.Rows.{choices, forms}
+use Rattle.jl_model.proofs.FormLemmas.{is_any, is_union, is_tuple, is_nominal, is_var}
 use Rattle.jl_types.proofs.FormEquations.{forms-any, forms-var, forms-union, forms-tuple, forms-nominal}
 
 module _ (at : ℕ → List Ty) where

@@ -6,6 +6,7 @@ use Rattle.jl_model.specs.Ancestors.{builtin_types}
 use Rattle.jl_model.specs.Refusals.{Declared, builtin, added, IsReady}
 use Rattle.jl_model.specs.declared.ty.Written.{Written}
 use Rattle.std.proofs.lemmas.List.Elements.{All-append}
+use Rattle.jl_program.specs.declared.tree.Delete.{Delete}
 use Rattle.jl_program.specs.declared.tree.Program.{Program}
 use Rattle.jl_program.specs.declared.tree.Site.{Site}
 use Rattle.jl_program.specs.Scope.{all_types}
@@ -13,7 +14,7 @@ use Rattle.jl_program.specs.Valid.{IsValid}
 use Rattle.jl_program.proofs.SiteSigs.{sites_valid}
 use Rattle.jl_sig.specs.declared.sig.Sig.{Sig}
 use Rattle.jl_sig.specs.Prepared.{IsSigOf}
-use Rattle.jl_sig.specs.Readied.{sigs_of, AreSigsOf, HasValidSigs}
+use Rattle.jl_sig.specs.Readied.{AreSigsOf, HasValidSigs}
 use Rattle.jl_sig.specs.SigParts.{written_of}
 use Rattle.jl_sig.proofs.FormSteps.{drop_at}
 
@@ -68,23 +69,29 @@ one : (ds : List Decl) (g : Sig) → IsSigOf ds g → All (IsSigOf ds) (g ∷ []
 one ds g h zero d l = h
 one ds g h (suc k) d l = absurd (omega arith)
 
-pub sigs_step : (ds : List Decl) (sites : List Site) (i : ℕ) (site : Site) (g : Sig) (old new : List Sig) → i < length sites → site ≡ get_or sites i site → written_of g ≡ site.sig → IsSigOf ds g
-    → new ≡ old ++ g ∷ [] → (map written_of old ++ sigs_of (drop i sites) ≡ sigs_of sites) × All (IsSigOf ds) old
-    → (map written_of new ++ sigs_of (drop (i + 1) sites) ≡ sigs_of sites) × All (IsSigOf ds) new
-sigs_step ds sites i site g old new l e w h n inv =
-    let rest : List Written = sigs_of (drop (i + 1) sites) in (
+pub sigs_step : {X : Type 0} (sig : X → Written) (ds : List Decl) (xs : List X) (i : ℕ) (x : X) (g : Sig) (old new : List Sig) → i < length xs → x ≡ get_or xs i x → written_of g ≡ sig x → IsSigOf ds g
+    → new ≡ old ++ g ∷ [] → (map written_of old ++ map sig (drop i xs) ≡ map sig xs) × All (IsSigOf ds) old
+    → (map written_of new ++ map sig (drop (i + 1) xs) ≡ map sig xs) × All (IsSigOf ds) new
+sigs_step sig ds xs i x g old new l e w h n inv =
+    let rest : List Written = map sig (drop (i + 1) xs) in (
       ap (λ z. map written_of z ++ rest) n ∙ ap (λ z. z ++ rest) (map_push old g) ∙ append_assoc (map written_of old) (written_of g ∷ []) rest
-          ∙ ap (λ z. map written_of old ++ z ∷ rest) w ∙ ap (λ z. map written_of old ++ sigs_of z) (sym (drop_at sites i site l e)) ∙ inv.0,
+          ∙ ap (λ z. map written_of old ++ z ∷ rest) w ∙ ap (λ z. map written_of old ++ map sig z) (sym (drop_at xs i x l e)) ∙ inv.0,
       subst (All (IsSigOf ds)) (sym n) (All-append (IsSigOf ds) old (g ∷ []) inv.1 (one ds g h)),
     )
 
-pub valid_sigs : (P : Program) → IsValid P → (ds : List Decl) (sites : List Site) → ds ≡ all_types P → sites ≡ P.sites → HasValidSigs ds sites
-valid_sigs P v ds sites e f = subst (λ z. HasValidSigs z sites) (sym e) (subst (HasValidSigs (all_types P)) (sym f) (sites_valid P v))
+pub valid_sigs : (P : Program) → IsValid P → (ds : List Decl) (sites : List Site) → ds ≡ all_types P → sites ≡ P.sites → HasValidSigs (λ (site : Site). site.sig) ds sites
+valid_sigs P v ds sites e f =
+    subst (λ z. HasValidSigs (λ (site : Site). site.sig) z sites) (sym e) (subst (HasValidSigs (λ (site : Site). site.sig) (all_types P)) (sym f) (sites_valid P v))
 
-pub kept_at : (P Q : Program) (gs : List Sig) (k : ℕ) (g : Sig) → Q ≡ P → AreSigsOf (all_types P) P.sites gs → k < length Q.sites → g ≡ get_or gs k g → IsSigOf (all_types Q) g
-kept_at P Q gs k g same are l e =
-    let long : length (map written_of gs) ≡ length (sigs_of P.sites) = ap length are.written in
+pub valid_places : (P : Program) → IsValid P → (ds : List Decl) (places : List Delete) → ds ≡ all_types P → places ≡ P.deletes → HasValidSigs (λ (place : Delete). place.sig) ds places
+valid_places P v ds places e f =
+    subst (λ z. HasValidSigs (λ (place : Delete). place.sig) z places) (sym e)
+    (subst (HasValidSigs (λ (place : Delete). place.sig) (all_types P)) (sym f) (λ k d l. (v.deletes k d l).signature))
+
+-- what is kept of the signature of a number
+pub kept_at : {X : Type 0} (sig : X → Written) (ds : List Decl) (xs : List X) (gs : List Sig) (k : ℕ) (g : Sig) → AreSigsOf ds (map sig xs) gs → k < length xs → g ≡ get_or gs k g → IsSigOf ds g
+kept_at sig ds xs gs k g are l e =
+    let long : length (map written_of gs) ≡ length (map sig xs) = ap length are.written in
     let a = length-map gs written_of in
-    let b = length-map P.sites (λ (site : Site). site.sig) in
-    let c : length Q.sites ≡ length P.sites = ap (λ (z : Program). length z.sites) same in
-    subst (λ z. IsSigOf (all_types z) g) (sym same) (subst (IsSigOf (all_types P)) (sym e) (are.kept k g (omega arith)))
+    let b = length-map xs sig in
+    subst (IsSigOf ds) (sym e) (are.kept k g (omega (arith, l, long, a, b)))

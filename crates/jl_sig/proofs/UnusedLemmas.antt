@@ -6,7 +6,7 @@ use Rattle.jl_model.specs.declared.ty.Ty.TheViews as V
 use Rattle.jl_model.specs.declared.ty.Bound.{Bound}
 use Rattle.jl_model.specs.declared.ty.Written.{Written}
 use Rattle.jl_model.specs.AllRows.{each_var}
-use Rattle.jl_model.specs.Kinds.{Kind, Places, places, plus_all, kind_of, unused, once, diagonal, bound}
+use Rattle.jl_model.specs.Kinds.{Places, places, plus_all, kind_of, unused, once, diagonal, bound}
 use Rattle.jl_model.specs.Rows.{kind}
 use Rattle.jl_model.specs.SigRefusals.{UnusedVariable}
 use Rattle.jl_model.specs.Usable.{stands_in}

@@ -8,25 +8,26 @@ ghost use Rattle.jl_program.specs.Gathered.{inferred_structs};
 ghost use Rattle.jl_program.specs.Valid.{IsValid};
 ghost use Rattle.jl_sig.specs.Inferred.{is_one_of};
 ghost use Rattle.jl_sig.specs.Prepared.{IsSigOf};
-ghost use Rattle.jl_sig.specs.Readied.{sigs_of, AreSigsOf, HasValidSigs, HasFieldSig};
+ghost use Rattle.jl_sig.specs.Readied.{sigs_of, place_sigs, AreSigsOf, HasValidSigs, HasFieldSig};
 ghost use Rattle.jl_sig.specs.SigParts.{written_of};
 
 use crate::field_sigs::field_sigs;
 use crate::inferred::inferred_structs;
 use crate::sig::Sig;
 use jl_model::ty::Decl;
-use jl_program::tree::{Program, Site};
+use jl_program::tree::{Delete, Program, Site};
 use jl_types::Table;
 use std::alloc::{AllocError, Global};
 use std::marker::Model;
 
-/// A valid program with what its runs need: the table of its types, the signatures of its sites, and those of the fields of
-/// each struct whose inferred constructor it calls. Contracts see it as the program.
+/// A valid program with what its runs need: the table of its types, the signatures of its sites and of its deletion places, and
+/// those of the fields of each struct whose inferred constructor it calls. Contracts see it as the program.
 #[derive(Drop)]
 pub struct Ready {
     program: Program,
     table: Table,
     sites: Vec<Sig>,
+    places: Vec<Sig>,
     fields: Vec<Option<Sig>>,
 }
 
@@ -41,7 +42,7 @@ impl Model for Ready {
 
     ghost view = { λ r. r.program };
 
-    ghost invariant = { λ r. IsReadied r.program r.table r.sites.items r.fields.items };
+    ghost invariant = { λ r. IsReadied r.program r.table r.sites.items r.places.items r.fields.items };
 }
 
 /// An equal declaration, whose parts are shared.
@@ -72,12 +73,25 @@ fn table_with(alloc: Global, decls: &[Decl]) -> Result<Table, AllocError>
 
 /// The signature of each site.
 fn site_sigs(alloc: Global, table: &Table, sites: &[Site]) -> Result<Vec<Sig>, AllocError>
-    requires { HasValidSigs table.now sites.now }
-    ensures { IfOk result (λ sigs. AreSigsOf table.now sites.now sigs.items) }
+    requires { HasValidSigs (λ site. site.sig) table.now sites.now }
+    ensures { IfOk result (λ sigs. AreSigsOf table.now (sigs_of sites.now) sigs.items) }
 {
     let mut sigs = Vec::new(alloc);
     for site in sites {
         let sig = Sig::of(alloc, table, &site.sig)?;
+        sigs.push(sig)?;
+    }
+    Ok(sigs)
+}
+
+/// The signature of each deletion place.
+fn delete_sigs(alloc: Global, table: &Table, places: &[Delete]) -> Result<Vec<Sig>, AllocError>
+    requires { HasValidSigs (λ place. place.sig) table.now places.now }
+    ensures { IfOk result (λ sigs. AreSigsOf table.now (place_sigs places.now) sigs.items) }
+{
+    let mut sigs = Vec::new(alloc);
+    for place in places {
+        let sig = Sig::of(alloc, table, &place.sig)?;
         sigs.push(sig)?;
     }
     Ok(sigs)
@@ -91,12 +105,14 @@ impl Ready {
     {
         let table = table_with(alloc, program.decls.as_slice())?;
         let sites = site_sigs(alloc, &table, program.sites.as_slice())?;
+        let places = delete_sigs(alloc, &table, program.deletes.as_slice())?;
         let called = inferred_structs(alloc, &program)?;
         let fields = field_sigs(alloc, &table, called.as_slice())?;
         Ok(Ready {
             program,
             table,
             sites,
+            places,
             fields,
         })
     }
@@ -122,6 +138,15 @@ impl Ready {
         ensures kept { IsSigOf (all_types self.now) result.now }
     {
         &self.sites[site as usize]
+    }
+
+    /// The signature of the deletion place of this number.
+    pub fn delete_sig(&self, place: u32) -> &Sig
+        requires { place < length self.now.deletes }
+        ensures written { slice_get (place_sigs self.now.deletes) place ≡ Some (written_of result.now) }
+        ensures kept { IsSigOf (all_types self.now) result.now }
+    {
+        &self.places[place as usize]
     }
 
     /// The signature of the fields of a struct whose inferred constructor the program calls, and nothing for another type.

@@ -26,7 +26,7 @@ use Rattle.jl_sig.specs.SigParts.{kept_of, bounded_of}
 use Rattle.jl_subsig.specs.Side.{held, tops, IsItem, ArePlain, IsRigid, closed, applied, AreHeld, Every, AnyOf}
 use Rattle.jl_search.specs.Serving.{IsPlain}
 use Rattle.jl_search.proofs.HasLemmas.{Has, has_left, has_right, none_has, has_none}
-use Rattle.jl_subsig.proofs.LiftLemmas.{lift}
+use Rattle.jl_subsume.proofs.LiftLemmas.{lift}
 use Rattle.jl_subsig.proofs.OrderLemmas.{before, after}
 use Rattle.jl_subsig.proofs.HeldLemmas as H
 use Rattle.jl_subsig.proofs.FixedLemmas as F

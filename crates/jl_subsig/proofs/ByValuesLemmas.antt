@@ -6,7 +6,7 @@ use Rattle.jl_model.specs.Ancestors.{table_of}
 use Rattle.jl_model.specs.Signature.{RowBelow, SigBelow}
 use Rattle.jl_model.specs.Refusals.{Declared}
 use Rattle.jl_model.proofs.DeclaredLemmas.{declared_lawful}
-use Rattle.jl_subsig.specs.Scoped.{IsScoped, IsPlaced, IsOrdered}
+use Rattle.jl_subsume.specs.Scoped.{IsScoped, IsPlaced, IsOrdered}
 use Rattle.jl_subsig.specs.Alike.{IsKeptForm}
 use Rattle.jl_subsig.specs.Values.{RowBelowBy, values, BelowByValues}
 use Rattle.jl_subsig.proofs.ValuesLemmas.{values_are_found}

@@ -20,15 +20,15 @@ use Rattle.jl_model.proofs.TransLemmas.{below_trans}
 use Rattle.jl_model.proofs.DeclaredLemmas.{declared_lawful}
 use Rattle.jl_model.specs.Refusals.{builtin}
 use Rattle.jl_model.specs.Valid.{is_closed}
-use Rattle.jl_subsig.specs.Scoped.{IsScoped}
+use Rattle.jl_subsume.specs.Scoped.{IsScoped}
 use Rattle.jl_subsig.specs.Chain.{builtins, int, below_int, first_of_chain, middle_of_chain, last_of_chain}
 use Rattle.jl_search.proofs.HasLemmas.{Has, Picks, has_of, of_has, has_none}
 use Rattle.jl_types.proofs.FormEquations.{forms-var, forms-nominal}
 use Rattle.jl_search.proofs.PickLemmas.{has_choices, choices_has}
-use Rattle.jl_subsig.proofs.LiftLemmas.{lift, refl_below}
-use Rattle.jl_subsig.proofs.ScopeLemmas.{places-nominal, places-var, diagonal_small, occurs_small}
-use Rattle.jl_subsig.proofs.PutBelowLemmas.{none_below}
-use Rattle.jl_subsig.proofs.SureLemmas.{concrete-nominal}
+use Rattle.jl_subsume.proofs.LiftLemmas.{lift, refl_below}
+use Rattle.jl_subsume.proofs.ScopeLemmas.{places-nominal, places-var, diagonal_small, occurs_small}
+use Rattle.jl_subsume.proofs.PutBelowLemmas.{none_below}
+use Rattle.jl_subsume.proofs.SureLemmas.{concrete-nominal}
 
 -- a type at the last place: the variable, or `Int64`
 abbrev last : Bool → Ty

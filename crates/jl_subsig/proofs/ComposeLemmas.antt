@@ -13,15 +13,15 @@ use Rattle.jl_model.proofs.FormLemmas.{is_tuple, is_nominal, is_var, put-tuple, 
 use Rattle.jl_model.proofs.PutLemmas.{put-closed, put_all-put}
 use Rattle.jl_model.proofs.AncestorLemmas.{Lawful, eq_of}
 use Rattle.jl_model.proofs.TransLemmas.{equal_trans}
-use Rattle.jl_subsig.specs.Scoped.{IsScoped, IsOrdered}
+use Rattle.jl_subsume.specs.Scoped.{IsScoped, IsOrdered}
 use Rattle.jl_search.proofs.HasLemmas.{Has, has_left, has_right, has_flat, has_map, has_of, of_has, has_none}
 use Rattle.jl_search.proofs.PickLemmas.{has_choices, choices_has}
 use Rattle.jl_search.proofs.PartLemmas.{Plain, AllPlain, tuple_parts, nominal_arguments, var_number, head_plain, tail_plain, plain_single}
-use Rattle.jl_subsig.proofs.ScopeLemmas.{IsSlot, Never, Bare, Small, root_own, low_none, top_closed, own_small, row_plain, diagonal_small}
-use Rattle.jl_subsig.proofs.PutBelowLemmas.{put_opaque, equals_put, lifted_put}
-use Rattle.jl_subsig.proofs.SubsumeLemmas.{bare_vars}
+use Rattle.jl_subsume.proofs.ScopeLemmas.{IsSlot, Never, Bare, Small, root_own, low_none, top_closed, own_small, row_plain, diagonal_small}
+use Rattle.jl_subsume.proofs.PutBelowLemmas.{put_opaque, equals_put, lifted_put}
+use Rattle.jl_subsume.proofs.SubsumeLemmas.{bare_vars}
 use Rattle.jl_subsig.proofs.ReflexiveLemmas.{all_keep}
-use Rattle.jl_subsig.proofs.SureLemmas.{Sure, AllSure, sure_end, sure_more, sure_tuple, sure_nominal, sure_var, sure_of, of_sure, sure_equal, sure_parts, sure_struct, sure_number, not_any}
+use Rattle.jl_subsume.proofs.SureLemmas.{Sure, AllSure, sure_end, sure_more, sure_tuple, sure_nominal, sure_var, sure_of, of_sure, sure_equal, sure_parts, sure_struct, sure_number, not_any}
 use Rattle.jl_subsig.proofs.LeftBelowLemmas.{left_of, high_bare, left_part, bare_part, at_tuple, at_nominal, struct_equal, tuple_equal, only_own, left_sure}
 use Rattle.jl_subsig.proofs.MiddleLemmas.{Sits, AllSit, sit_end, sit_more, sits_meet, all_retake}
 use Rattle.jl_subsig.proofs.TransitiveLemmas.{chain, split, sits_high, high_of, trans_left, bare_self, bare_left, bare_middle, diagonal_of, sits_below, closed_below, put_below_closed, sure_put, put_over}

@@ -2,47 +2,39 @@
 use Rattle.std.proofs.Common.{◌≡◌, ◌∙◌, sym, ap, subst, refl, ℕ, zero, suc, ◌<◌, ◌≤◌, arith, List, [], ◌∷◌, map, length, slice_get, slice_index_or, Some}
 use Rattle.std.specs.List.{Contains}
 use Rattle.std.specs.List.Sorted.{IsStrictlyIncreasing}
-use Rattle.std.proofs.lemmas.List.Elements.{All-head, All-tail}
 use Rattle.jl_model.specs.declared.ty.Ty.{Ty}
 use Rattle.jl_model.specs.declared.ty.Decl.{Decl}
 use Rattle.jl_model.specs.declared.ty.Written.{Written}
 use Rattle.jl_model.specs.Choice as M
 use Rattle.jl_model.specs.Ancestors.{table_of}
-use Rattle.jl_model.specs.SigRefusals.{IsAllowedSig}
 use Rattle.jl_model.specs.Signature.{Applicable}
 use Rattle.jl_program.specs.declared.choice.Choice.{Choice}
 use Rattle.jl_program.specs.declared.choice.Choice.TheVariants as C
+use Rattle.jl_program.specs.declared.tree.Delete.{Delete}
 use Rattle.jl_program.specs.declared.tree.Program.{Program}
 use Rattle.jl_program.specs.declared.tree.Site.{Site}
 use Rattle.jl_program.specs.Chooses.{Chooses}
 use Rattle.jl_program.specs.Scope.{all_types, types_of}
-use Rattle.jl_program.specs.Valid.{IsValid, IsValidSig}
-use Rattle.jl_program.proofs.SiteSigs.{sites_valid}
 use Rattle.jl_calculus.specs.declared.history.Def.{Def}
 use Rattle.jl_calculus.specs.Definitions.{sig_of, method_of, methods_of, worlds, AppliesTo}
-use Rattle.jl_sig.specs.Readied.{sigs_of, HasValidSigs}
+use Rattle.jl_sig.specs.Readied.{sigs_of, place_sigs}
 use Rattle.jl_sig.specs.SigParts.{written_of}
 use Rattle.jl_subsig.specs.declared.choice.Method.{Method}
 use Rattle.jl_subsig.specs.Side.{Every}
 use Rattle.jl_subsig.specs.Decide.{method_in, methods_in}
+use Rattle.jl_subsig.specs.Standing.{sig_of_place}
 
--- ---- the signature of a site
+-- ---- the signature of a site and that of a deletion place
 
 pub sig_at : (sites : List Site) (k : ℕ) (w : Written) → slice_get (sigs_of sites) k ≡ Some w → w ≡ sig_of (slice_get sites k)
 sig_at [] k w e = cc
 sig_at (s ∷ sites) zero w e = cc
 sig_at (s ∷ sites) (suc k) w e = sig_at sites k w e
 
-allowed_in : (ds : List Decl) (sites : List Site) (k : ℕ) (w : Written) → HasValidSigs ds sites → slice_get (sigs_of sites) k ≡ Some w → IsAllowedSig ds w
-allowed_in ds [] k w h e = cc
-allowed_in ds (s ∷ sites) zero w h e =
-    let v = All-head (λ (site : Site). IsValidSig ds site.sig) s sites h in
-    let q : s.sig ≡ w = cc in
-    subst (IsAllowedSig ds) q v.allowed
-allowed_in ds (s ∷ sites) (suc k) w h e = allowed_in ds sites k w (All-tail (λ (site : Site). IsValidSig ds site.sig) s sites h) e
-
-pub allowed_at : (P : Program) → IsValid P → (k : ℕ) (w : Written) → slice_get (sigs_of P.sites) k ≡ Some w → IsAllowedSig (all_types P) w
-allowed_at P v k w e = allowed_in (all_types P) P.sites k w (sites_valid P v) e
+pub place_sig_at : (places : List Delete) (k : ℕ) (w : Written) → slice_get (place_sigs places) k ≡ Some w → w ≡ sig_of_place (slice_get places k)
+place_sig_at [] k w e = cc
+place_sig_at (p ∷ places) zero w e = cc
+place_sig_at (p ∷ places) (suc k) w e = place_sig_at places k w e
 
 -- ---- lists of methods
 

@@ -12,12 +12,12 @@ use Rattle.jl_model.specs.Subtype.{Table, Fixed, opaque, Below}
 use Rattle.jl_model.proofs.FormLemmas.{is_any, is_tuple, is_nominal, is_var, vars-any, vars-tuple, vars-nominal, vars-var}
 use Rattle.jl_model.proofs.BelowLemmas.{below_any}
 use Rattle.jl_model.proofs.AncestorLemmas.{Lawful}
-use Rattle.jl_subsig.specs.Scoped.{IsScoped, IsOrdered}
+use Rattle.jl_subsume.specs.Scoped.{IsScoped, IsOrdered}
 use Rattle.jl_search.proofs.HasLemmas.{Has, has_split, has_of, of_has, has_none}
 use Rattle.jl_search.proofs.PartLemmas.{Plain, plain_any, plain_tuple, plain_nominal, plain_var, AllPlain, all_end, all_more, plain_single}
-use Rattle.jl_subsig.proofs.ScopeLemmas.{IsSlot, slot_diagonal, slot_atom, Never, Bare, Small, bound_plain, root_own, root_atom, low_at, high_at, high_atom, top_closed, top_diagonal, top_other, which, has_or, slot_high}
-use Rattle.jl_subsig.proofs.PutBelowLemmas.{none_below}
-use Rattle.jl_subsig.proofs.SubsumeLemmas.{bare_vars}
+use Rattle.jl_subsume.proofs.ScopeLemmas.{IsSlot, slot_diagonal, slot_atom, Never, Bare, Small, bound_plain, root_own, root_atom, low_at, high_at, high_atom, top_closed, top_diagonal, top_other, which, has_or, slot_high}
+use Rattle.jl_subsume.proofs.PutBelowLemmas.{none_below}
+use Rattle.jl_subsume.proofs.SubsumeLemmas.{bare_vars}
 use Rattle.jl_subsig.proofs.OrderLemmas.{trans, Ordered}
 
 module _ (n : Table) (law : Lawful n) (a : Written) (scope : IsScoped a) (ordered : IsOrdered n a) (l : Row) (row : IsRow n a l) where

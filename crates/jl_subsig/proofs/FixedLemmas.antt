@@ -16,9 +16,9 @@ use Rattle.jl_model.proofs.BelowLemmas.{below_any}
 use Rattle.jl_types.proofs.GroundLemmas.{Tells}
 use Rattle.jl_subsig.specs.Side.{IsRigid, closed, applied, Every, AnyOf}
 use Rattle.jl_search.proofs.HasLemmas.{Has, has_none, has_flat, flat_has}
-use Rattle.jl_subsig.proofs.ScopeLemmas.{Never, alts_closed}
-use Rattle.jl_subsig.proofs.LiftLemmas.{lift, covered_at, found_in, below_found, found_below, single_found, found_single, alt_fine, by_alts, part_single}
-use Rattle.jl_subsig.proofs.PutBelowLemmas.{Env, put_below}
+use Rattle.jl_subsume.proofs.ScopeLemmas.{Never, alts_closed}
+use Rattle.jl_subsume.proofs.LiftLemmas.{lift, covered_at, found_in, below_found, found_below, single_found, found_single, alt_fine, by_alts, part_single}
+use Rattle.jl_subsume.proofs.PutBelowLemmas.{Env, put_below}
 
 -- no variable
 abbrev pub Fast : Ty → Type 0

@@ -30,7 +30,7 @@ use Rattle.jl_model.specs.Found.{first, or_none, or_type, raised, parts_of, argu
 use Rattle.jl_subsig.specs.Side.{row_of, held, sided, IsItem, IsLeftPart, AreLeftParts, AreValues, IsSide}
 use Rattle.jl_search.proofs.HasLemmas.{Has, has_left, has_right, has_map, of_has, has_none, none_has}
 use Rattle.jl_search.proofs.PartLemmas.{Plain, AllPlain, all_end, all_more, plain_map, tuple_parts, nominal_arguments, var_number}
-use Rattle.jl_subsig.proofs.ScopeLemmas.{IsSlot, Small, bare_plain_n, bound_plain_n, root_own, slot_high_by}
+use Rattle.jl_subsume.proofs.ScopeLemmas.{IsSlot, Small, bare_plain_n, bound_plain_n, root_own, slot_high_by}
 use Rattle.jl_search.specs.Open.{IsOpen, AreOpen, closed, variable, applied, open_end, open_more}
 use Rattle.jl_subsig.proofs.LeftLemmas.{IsLeft, lifted_at}
 use Rattle.jl_subsig.proofs.LeftPartLemmas.{plain_left, tuple_left, left-at}

@@ -25,7 +25,7 @@ use Rattle.jl_model.proofs.DeclaredLemmas.{declared_lawful}
 use Rattle.jl_types.specs.Form.{Settles, AllSettle, any, var, union, tuple, nominal, none, more}
 use Rattle.jl_types.proofs.ExistLemmas.{exists}
 use Rattle.jl_types.proofs.DecideLemmas.{Decided, above}
-use Rattle.jl_subsig.specs.Scoped.{IsOrdered}
+use Rattle.jl_subsume.specs.Scoped.{IsOrdered}
 use Rattle.jl_subsig.specs.Alike.{IsKeptForm}
 use Rattle.jl_search.proofs.HasLemmas.{Has, of_has}
 

@@ -21,7 +21,7 @@ use Rattle.jl_sig.specs.SigParts.{kept_of, bounded_of, diagonals_of, alternative
 use Rattle.jl_search.proofs.KindLemmas.{is_diag, less_or}
 use Rattle.jl_subsig.specs.Side.{held, tops, IsPlainForm, IsTold, AreHeld}
 use Rattle.jl_search.specs.Serving.{IsPlain}
-use Rattle.jl_subsig.proofs.ScopeLemmas.{is_less}
+use Rattle.jl_subsume.proofs.ScopeLemmas.{is_less}
 
 pub any_plain : (ds : List Decl) → IsPlain ds W.Any
 any_plain ds = record { normal = normal_any W.Any outs-Any; known = known-any (length ds); closed = vars-any }

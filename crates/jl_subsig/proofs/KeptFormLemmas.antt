@@ -26,7 +26,7 @@ use Rattle.jl_types.specs.Form.{Settles, AllSettle, any, var, union, tuple, nomi
 use Rattle.jl_types.proofs.ExistLemmas.{exists}
 use Rattle.jl_types.proofs.PartsLemmas.{closed_parts}
 use Rattle.jl_subsig.specs.Alike.{EqualArguments, Alike, AreAlike, IsKeptForm}
-use Rattle.jl_subsig.specs.Scoped.{IsScoped, IsPlaced, IsOrdered, HasNormalArguments}
+use Rattle.jl_subsume.specs.Scoped.{IsScoped, IsPlaced, IsOrdered, HasNormalArguments}
 use Rattle.jl_model.specs.SigRefusals.{is_argument, is_component}
 use Rattle.jl_search.proofs.HasLemmas.{Has, has_left, has_right, has_split, has_of, all_has, none_has, has_none}
 use Rattle.jl_search.proofs.EqualLemmas.{nominal_form}

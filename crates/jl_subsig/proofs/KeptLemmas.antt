@@ -17,10 +17,10 @@ use Rattle.jl_model.proofs.TransLemmas.{below_trans}
 use Rattle.jl_subsig.specs.Alike.{EqualArguments, Alike, AreAlike}
 use Rattle.jl_subsig.proofs.MatchLemmas.{Matches, matches_of}
 use Rattle.jl_search.proofs.HasLemmas.{has_of, of_has}
-use Rattle.jl_subsig.proofs.ScopeLemmas.{has_or, which}
-use Rattle.jl_subsig.proofs.SureLemmas.{Sure, AllSure, sure_end, sure_more, sure_tuple, sure_nominal, sure_var, sure_of, of_sure}
+use Rattle.jl_subsume.proofs.ScopeLemmas.{has_or, which}
+use Rattle.jl_subsume.proofs.SureLemmas.{Sure, AllSure, sure_end, sure_more, sure_tuple, sure_nominal, sure_var, sure_of, of_sure}
 use Rattle.jl_subsig.proofs.OrderLemmas.{before, after}
-use Rattle.jl_subsig.proofs.PutBelowLemmas.{put_opaque}
+use Rattle.jl_subsume.proofs.PutBelowLemmas.{put_opaque}
 use Rattle.jl_subsig.proofs.PairLemmas.{pairs_end, pairs_more, TyPairs, RowPairs, pairs_right, pairs_get, all_of_pairs, alts_pairs}
 use Rattle.jl_subsig.proofs.RowPairLemmas.{row_component_pairs}
 use Rattle.jl_subsig.proofs.AlikeLemmas.{alike_equal, alike_self, alike_turned, pairs_vars, pairs_turned, SameFixed, below_there, meet_alike}

@@ -21,11 +21,11 @@ use Rattle.jl_model.proofs.NormalLemmas.{normal_same}
 use Rattle.jl_model.proofs.DeclaredLemmas.{declared_lawful}
 use Rattle.jl_types.specs.Form.{Settles, AllSettle, any, var, union, tuple, nominal, none, more}
 use Rattle.jl_types.proofs.SettleLemmas.{Grows, settles_equal}
-use Rattle.jl_subsig.specs.Scoped.{IsScoped, IsPlaced}
+use Rattle.jl_subsume.specs.Scoped.{IsScoped, IsPlaced}
 use Rattle.jl_model.specs.SigRefusals.{is_component}
 use Rattle.jl_subsig.specs.Alike.{IsKeptForm, IsKeptRow}
 use Rattle.jl_search.proofs.HasLemmas.{Has, has_of, of_has, all_has}
-use Rattle.jl_subsig.proofs.ScopeLemmas.{IsSlot, SmallN, components_plain_n, high_none, has_or}
+use Rattle.jl_subsume.proofs.ScopeLemmas.{IsSlot, SmallN, components_plain_n, high_none, has_or}
 use Rattle.jl_subsig.proofs.PairLemmas.{pairs_end, pairs_more, TyPairs, RowPairs, pairs_left, pairs_right, all_of_pairs, alts_pairs, settle_any, settle_var, settle_union, settle_tuple, settle_nominal}
 use Rattle.jl_subsig.proofs.RowPairLemmas.{row_component_pairs}
 use Rattle.jl_subsig.proofs.MatchLemmas.{Matches, matches_of, lows, highs}

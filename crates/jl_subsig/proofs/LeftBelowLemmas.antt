@@ -12,15 +12,15 @@ use Rattle.jl_model.specs.Subtype.{Table, Fixed, opaque, lifted, Below, Covered,
 use Rattle.jl_model.proofs.FormLemmas.{is_tuple, is_nominal, is_var, alts-var}
 use Rattle.jl_model.proofs.AncestorLemmas.{Lawful, eq_of}
 use Rattle.jl_model.proofs.TransLemmas.{near, far}
-use Rattle.jl_subsig.specs.Scoped.{IsScoped}
+use Rattle.jl_subsume.specs.Scoped.{IsScoped}
 use Rattle.jl_search.proofs.HasLemmas.{Has, Picks}
-use Rattle.jl_subsig.proofs.FormsLemmas.{form_tuple}
+use Rattle.jl_subsume.proofs.FormsLemmas.{form_tuple}
 use Rattle.jl_search.proofs.PartLemmas.{Plain, plain_tuple, AllPlain, plain_single, tuple_parts, var_number, head_plain, tail_plain}
-use Rattle.jl_subsig.proofs.LiftLemmas.{covered_from, covered_at, found_in, single_found, found_single, part_single, alt_fine}
-use Rattle.jl_subsig.proofs.ScopeLemmas.{IsSlot, Never, Bare, Small, bare_plain, slot_high}
-use Rattle.jl_subsig.proofs.PutBelowLemmas.{tuple_below}
+use Rattle.jl_subsume.proofs.LiftLemmas.{covered_from, covered_at, found_in, single_found, found_single, part_single, alt_fine}
+use Rattle.jl_subsume.proofs.ScopeLemmas.{IsSlot, Never, Bare, Small, bare_plain, slot_high}
+use Rattle.jl_subsume.proofs.PutBelowLemmas.{tuple_below}
 use Rattle.jl_search.proofs.EqualLemmas.{nominals}
-use Rattle.jl_subsig.proofs.SureLemmas.{Sure, AllSure, sure_more, sure_tuple, sure_nominal, sure_var, sure_equal}
+use Rattle.jl_subsume.proofs.SureLemmas.{Sure, AllSure, sure_more, sure_tuple, sure_nominal, sure_var, sure_equal}
 
 module _ (n : Table) (a : Written) (scope : IsScoped a) (l : Row) (row : IsRow n a l) where
   abbrev pub G : Fixed

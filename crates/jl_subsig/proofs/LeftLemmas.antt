@@ -24,14 +24,14 @@ use Rattle.jl_model.proofs.TransLemmas.{near, far}
 use Rattle.jl_model.proofs.FillLemmas.{ancestors_normal}
 use Rattle.jl_model.proofs.AncestorLemmas.{Lawful}
 use Rattle.jl_model.proofs.DeclaredLemmas.{declared_lawful}
-use Rattle.jl_subsig.specs.Scoped.{IsScoped, IsOrdered, HasNormalArguments}
+use Rattle.jl_subsume.specs.Scoped.{IsScoped, IsOrdered, HasNormalArguments}
 use Rattle.jl_search.proofs.HasLemmas.{Has, has_left, has_right, has_split, has_map, has_flat, of_has, has_none}
 use Rattle.jl_search.proofs.PartLemmas.{Plain, plain_any, plain_tuple, plain_nominal, plain_var, AllPlain, all_end, all_more, plain_map, tuple_parts, nominal_arguments, var_number}
-use Rattle.jl_subsig.proofs.MadeLemmas.{Seeds}
-use Rattle.jl_subsig.proofs.LiftLemmas.{lift}
-use Rattle.jl_subsig.proofs.ScopeLemmas.{IsSlot, Never, Bare, Small, SmallN, BareN, row_plain_n, bare_plain_n, bound_plain_n, root_own, slot_high_by, diagonal_small}
-use Rattle.jl_subsig.proofs.SureLemmas.{Sure, AllSure, sure_more, sure_of, of_sure, sure_equal, sure_parts, sure_number, not_any}
-use Rattle.jl_subsig.proofs.SubsumeLemmas.{bare_vars}
+use Rattle.jl_subsume.proofs.MadeLemmas.{Seeds}
+use Rattle.jl_subsume.proofs.LiftLemmas.{lift}
+use Rattle.jl_subsume.proofs.ScopeLemmas.{IsSlot, Never, Bare, Small, SmallN, BareN, row_plain_n, bare_plain_n, bound_plain_n, root_own, slot_high_by, diagonal_small}
+use Rattle.jl_subsume.proofs.SureLemmas.{Sure, AllSure, sure_more, sure_of, of_sure, sure_equal, sure_parts, sure_number, not_any}
+use Rattle.jl_subsume.proofs.SubsumeLemmas.{bare_vars}
 use Rattle.jl_subsig.proofs.OrderLemmas.{before}
 use Rattle.jl_subsig.proofs.EnvLemmas.{left_trans, closed_trans}
 use Rattle.jl_search.proofs.MeetLemmas.{LeftForms, Laws}

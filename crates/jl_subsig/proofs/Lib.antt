@@ -1,12 +1,4 @@
-pub mod FormsLemmas
-pub mod MadeLemmas
-pub mod ScopeLemmas
-pub mod LiftLemmas
 pub mod ReflexiveLemmas
-pub mod PutBelowLemmas
-pub mod SureLemmas
-pub mod FitLemmas
-pub mod SubsumeLemmas
 pub mod OrderLemmas
 pub mod RightLemmas
 pub mod EnvLemmas
@@ -52,3 +44,7 @@ pub mod ChoicePairs
 pub mod ChoiceLemmas
 pub mod PlaceLemmas
 pub mod DefinitionLemmas
+pub mod PickLemmas
+pub mod LatestLemmas
+pub mod StandingLemmas
+pub mod StandingChoice

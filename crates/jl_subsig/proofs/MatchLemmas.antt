@@ -15,7 +15,7 @@ use Rattle.jl_model.proofs.TypeInduction.{Each, by_cases}
 use Rattle.jl_model.proofs.FormLemmas.{is_union, is_tuple, is_nominal, vars-any, vars-union, vars-tuple, vars-nominal, vars-var}
 use Rattle.jl_types.specs.Form.{Settles, AllSettle, any, var, union, tuple, nominal, none, more}
 use Rattle.jl_subsig.specs.Alike.{EqualArguments, Alike, AreAlike}
-use Rattle.jl_subsig.proofs.ScopeLemmas.{places-any, places-union, places-tuple, places-nominal, places-var}
+use Rattle.jl_subsume.proofs.ScopeLemmas.{places-any, places-union, places-tuple, places-nominal, places-var}
 use Rattle.jl_subsig.proofs.AlikeLemmas.{all_vars, alike_self}
 
 pub record Matches (n : Table) (a b : Written) : Type 0 where

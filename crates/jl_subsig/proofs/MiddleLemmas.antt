@@ -16,12 +16,12 @@ use Rattle.jl_model.proofs.TypeInduction.{Each, by_cases}
 use Rattle.jl_model.proofs.FormLemmas.{vars-union, vars-tuple, vars-var}
 use Rattle.jl_model.proofs.PutLemmas.{put-closed}
 use Rattle.jl_model.proofs.AncestorLemmas.{Lawful}
-use Rattle.jl_subsig.specs.Scoped.{IsScoped, IsOrdered}
+use Rattle.jl_subsume.specs.Scoped.{IsScoped, IsOrdered}
 use Rattle.jl_search.proofs.HasLemmas.{Has, Picks, has_left, has_right, has_flat, of_has}
-use Rattle.jl_subsig.proofs.FormsLemmas.{any_form, union_form, form_union, tuple_form, form_tuple, nominal_form, var_form, form_var}
+use Rattle.jl_subsume.proofs.FormsLemmas.{any_form, union_form, form_union, tuple_form, form_tuple, nominal_form, var_form, form_var}
 use Rattle.jl_search.proofs.PartLemmas.{Plain, AllPlain, tuple_parts, var_number, head_plain, tail_plain}
-use Rattle.jl_subsig.proofs.LiftLemmas.{each_has}
-use Rattle.jl_subsig.proofs.ScopeLemmas.{IsSlot, Never, Bare, Small, is_less, root_own, root_atom, atom_past, at_atoms, an_atom, low_none, high_at, high_atom, top_closed, bound_plain, diagonal_small, occurs_small}
+use Rattle.jl_subsume.proofs.LiftLemmas.{each_has}
+use Rattle.jl_subsume.proofs.ScopeLemmas.{IsSlot, Never, Bare, Small, is_less, root_own, root_atom, atom_past, at_atoms, an_atom, low_none, high_at, high_atom, top_closed, bound_plain, diagonal_small, occurs_small}
 use Rattle.jl_subsig.proofs.OrderLemmas.{before}
 use Rattle.jl_subsig.proofs.EnvLemmas.{left_trans, own_trans}
 use Rattle.jl_subsig.proofs.LeftBelowLemmas.{left_of, high_bare, alt_of_left}

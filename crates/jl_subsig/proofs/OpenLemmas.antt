@@ -13,10 +13,10 @@ use Rattle.jl_model.specs.Signature.{Row, IsRow, fixed, SigBelow, StrictlyBelow,
 use Rattle.jl_model.specs.Subtype.{Table, opaque, is_concrete}
 use Rattle.jl_model.specs.Refusals.{Declared}
 use Rattle.jl_model.proofs.DeclaredLemmas.{declared_lawful}
-use Rattle.jl_subsig.specs.Scoped.{IsScoped, IsOpen}
+use Rattle.jl_subsume.specs.Scoped.{IsScoped, IsOpen}
 use Rattle.jl_search.proofs.HasLemmas.{has_of, of_has}
-use Rattle.jl_subsig.proofs.ScopeLemmas.{IsSlot, slot_diagonal, slot_atom, high_at, high_atom, top_diagonal, has_or}
-use Rattle.jl_subsig.proofs.SureLemmas.{Sure, of_sure, not_any}
+use Rattle.jl_subsume.proofs.ScopeLemmas.{IsSlot, slot_diagonal, slot_atom, high_at, high_atom, top_diagonal, has_or}
+use Rattle.jl_subsume.proofs.SureLemmas.{Sure, of_sure, not_any}
 use Rattle.jl_search.proofs.AbstractLemmas.{ancestor_abstract}
 use Rattle.jl_subsig.proofs.ComposeLemmas.{NoStructAbove, composed}
 

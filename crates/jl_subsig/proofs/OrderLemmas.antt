@@ -14,9 +14,9 @@ use Rattle.jl_model.proofs.HeightLemmas.{PartBy, by_any, by_tuple, by_nominal, b
 use Rattle.jl_model.proofs.BelowLemmas.{below_part, part_below, equals_both}
 use Rattle.jl_model.proofs.TransLemmas.{below_trans}
 use Rattle.jl_search.proofs.HasLemmas.{Has, has_flat, has_none}
-use Rattle.jl_subsig.proofs.LiftLemmas.{lift_part, covered_from, covered_at, found_in, found_single, alt_fine, alt_below}
-use Rattle.jl_subsig.proofs.ScopeLemmas.{alts_within}
-use Rattle.jl_subsig.proofs.PutBelowLemmas.{alt_some, none_below}
+use Rattle.jl_subsume.proofs.LiftLemmas.{lift_part, covered_from, covered_at, found_in, found_single, alt_fine, alt_below}
+use Rattle.jl_subsume.proofs.ScopeLemmas.{alts_within}
+use Rattle.jl_subsume.proofs.PutBelowLemmas.{alt_some, none_below}
 
 module _ (n : Table) (law : Lawful n) where
   abbrev B : Ty → Ty → Type 0

@@ -16,11 +16,11 @@ use Rattle.jl_model.proofs.TypeInduction.{Each, by_cases}
 use Rattle.jl_model.proofs.FormLemmas.{is_var, is_tuple, is_nominal, alts-var, put-any, put-union, put-tuple, put-nominal, put-var, vars-any, vars-union, vars-tuple, vars-nominal, vars-var}
 use Rattle.jl_model.proofs.PutLemmas.{put-closed}
 use Rattle.jl_model.proofs.SelfLemmas.{own_arguments, equal_self}
-use Rattle.jl_subsig.specs.Scoped.{IsScoped}
+use Rattle.jl_subsume.specs.Scoped.{IsScoped}
 use Rattle.jl_search.proofs.HasLemmas.{Has, has_left, has_right, has_map, has_of, of_has, has_none}
 use Rattle.jl_search.proofs.PartLemmas.{Plain, plain_any, plain_tuple, plain_nominal, plain_var, AllPlain, all_end, all_more}
-use Rattle.jl_subsig.proofs.LiftLemmas.{refl_below, found_below, alt_below, found_in, part_single, equals_self}
-use Rattle.jl_subsig.proofs.ScopeLemmas.{IsSlot, slot_diagonal, slot_atom, Small, root_own, root_atom, row_plain, occurs_small, low_none, low_at, high_at, top_closed}
+use Rattle.jl_subsume.proofs.LiftLemmas.{refl_below, found_below, alt_below, found_in, part_single, equals_self}
+use Rattle.jl_subsume.proofs.ScopeLemmas.{IsSlot, slot_diagonal, slot_atom, Small, root_own, root_atom, row_plain, occurs_small, low_none, low_at, high_at, top_closed}
 
 -- a variable of a list stands for itself
 abbrev pub itself : List ℕ → ℕ → Ty

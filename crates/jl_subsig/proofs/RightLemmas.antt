@@ -16,15 +16,15 @@ use Rattle.jl_model.proofs.FormLemmas.{is_any, is_tuple, is_nominal, is_var, var
 use Rattle.jl_model.proofs.PutLemmas.{and_l, and_r}
 use Rattle.jl_model.specs.Found.{outer, inner}
 use Rattle.jl_sig.proofs.FitLemmas.{argument-union, argument-tuple, argument-nominal, component-union, component-tuple, component-nominal}
-use Rattle.jl_subsig.specs.Scoped.{IsScoped, IsPlaced}
+use Rattle.jl_subsume.specs.Scoped.{IsScoped, IsPlaced}
 use Rattle.jl_model.specs.SigRefusals.{is_argument, is_component}
 use Rattle.jl_search.proofs.HasLemmas.{Has, Picks, has_left, has_right, has_split, has_map, map_has, has_flat, flat_has, has_of, of_has, all_has, none_has, has_none}
-use Rattle.jl_subsig.proofs.FormsLemmas.{any_form, union_form, tuple_form, nominal_form, var_form}
+use Rattle.jl_subsume.proofs.FormsLemmas.{any_form, union_form, tuple_form, nominal_form, var_form}
 use Rattle.jl_search.proofs.PickLemmas.{choices_has}
 use Rattle.jl_search.proofs.PartLemmas.{Plain, plain_any, plain_tuple, plain_nominal, plain_var, AllPlain, all_end, all_more, all_map}
-use Rattle.jl_subsig.proofs.MadeLemmas.{Seeds}
-use Rattle.jl_subsig.proofs.LiftLemmas.{each_has}
-use Rattle.jl_subsig.proofs.ScopeLemmas.{IsSlot, slot_diagonal, slot_atom, SmallN, row_plain_n, is_less, root_own, root_atom, at_atoms, alts_closed, high_none, diagonal_small, bound_small, occurs_small, places-union, places-tuple, places-nominal, places-var}
+use Rattle.jl_subsume.proofs.MadeLemmas.{Seeds}
+use Rattle.jl_subsume.proofs.LiftLemmas.{each_has}
+use Rattle.jl_subsume.proofs.ScopeLemmas.{IsSlot, slot_diagonal, slot_atom, SmallN, row_plain_n, is_less, root_own, root_atom, at_atoms, alts_closed, high_none, diagonal_small, bound_small, occurs_small, places-union, places-tuple, places-nominal, places-var}
 use Rattle.jl_search.proofs.FindLemmas as L
 use Rattle.jl_search.specs.Open.{IsOpen, AreOpen, closed, variable, applied, open_end, open_more}
 use Rattle.jl_search.proofs.MeetLemmas.{AnyNumber}

@@ -23,7 +23,7 @@ use Rattle.jl_model.specs.Found.{found, outer}
 use Rattle.jl_search.proofs.KindLemmas.{is_diag, less_or}
 use Rattle.jl_subsig.specs.Side.{row_of, held, sided, IsSide}
 use Rattle.jl_search.proofs.HasLemmas.{Has, has_of, of_has, has_none}
-use Rattle.jl_subsig.proofs.ScopeLemmas.{root_own, occurs_small}
+use Rattle.jl_subsume.proofs.ScopeLemmas.{root_own, occurs_small}
 use Rattle.jl_subsig.proofs.OrderLemmas.{before, after}
 use Rattle.jl_subsig.proofs.RightLemmas.{right_row}
 use Rattle.jl_subsig.proofs.LeftLemmas.{IsLeft, IsOver, lefts, left_forms, left_laws}

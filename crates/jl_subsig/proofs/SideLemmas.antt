@@ -31,8 +31,8 @@ use Rattle.jl_subsig.specs.Side.{row_of, held, sided, AreLeftParts, IsRightPart,
 use Rattle.jl_search.specs.Serving.{IsPlain, IsPlace}
 use Rattle.jl_search.proofs.HasLemmas.{Has, has_left, has_right, has_split, has_of, all_has, has_none, none_has}
 use Rattle.jl_search.proofs.PartLemmas.{Plain, plain_any, plain_tuple, plain_nominal, plain_var, AllPlain, all_end, all_more}
-use Rattle.jl_subsig.proofs.MadeLemmas.{Seeds, seeds_both}
-use Rattle.jl_subsig.proofs.ScopeLemmas.{IsSlot, slot_diagonal, slot_atom, SmallN, BareN, row_plain_n, root_own, root_atom, atom_past, high_none, foreign, occurs_small, diagonal_small}
+use Rattle.jl_subsume.proofs.MadeLemmas.{Seeds, seeds_both}
+use Rattle.jl_subsume.proofs.ScopeLemmas.{IsSlot, slot_diagonal, slot_atom, SmallN, BareN, row_plain_n, root_own, root_atom, atom_past, high_none, foreign, occurs_small, diagonal_small}
 use Rattle.jl_search.proofs.FindLemmas.{outer-any, outer-tuple, outer-nominal, outer-var}
 use Rattle.jl_search.specs.Open.{IsOpen, AreOpen, closed, variable, applied, open_end, open_more}
 use Rattle.jl_subsig.proofs.RightLemmas.{Allowed, allowed_seeds}

@@ -37,13 +37,13 @@ use Rattle.jl_sig.specs.Fit as F
 use Rattle.jl_sig.specs.Prepared.{IsKeptOf, IsSigOf}
 use Rattle.jl_sig.proofs.WholeLemmas.{Carries, forms_have}
 use Rattle.jl_search.proofs.KindLemmas.{less_or}
-use Rattle.jl_subsig.specs.Scoped.{IsScoped, IsPlaced, IsOrdered, HasNormalArguments}
+use Rattle.jl_subsume.specs.Scoped.{IsScoped, IsPlaced, IsOrdered, HasNormalArguments}
 use Rattle.jl_subsig.specs.Alike.{IsKeptForm, IsKeptRow}
 use Rattle.jl_subsig.specs.Side.{row_of, IsPlainForm, IsSide}
 use Rattle.jl_search.specs.Serving.{IsPlain}
 use Rattle.jl_search.proofs.HasLemmas.{Has, has_of, of_has, all_has}
 use Rattle.jl_search.proofs.PartLemmas.{Plain, plain_any, plain_tuple, plain_nominal, plain_var, AllPlain, all_end, all_more}
-use Rattle.jl_subsig.proofs.ScopeLemmas.{diagonal_small, Never, bound_plain_n, alts_closed, low_none, high_none, foreign, has_or}
+use Rattle.jl_subsume.proofs.ScopeLemmas.{diagonal_small, Never, bound_plain_n, alts_closed, low_none, high_none, foreign, has_or}
 use Rattle.jl_subsig.proofs.PairLemmas.{settle_any}
 use Rattle.jl_subsig.proofs.MatchLemmas.{Matches, matches_of, lows, highs}
 use Rattle.jl_subsig.proofs.AlikeLemmas.{alike_equal}

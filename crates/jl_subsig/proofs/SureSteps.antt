@@ -16,7 +16,7 @@ use Rattle.jl_sig.specs.declared.row.SigRow.{SigRow}
 use Rattle.jl_sig.specs.declared.sig.Sig.{Sig}
 use Rattle.jl_sig.specs.SigParts.{diagonals_of}
 use Rattle.jl_subsig.specs.Side.{held, IsTold}
-use Rattle.jl_subsig.proofs.SureLemmas.{concrete-nominal, concrete-var}
+use Rattle.jl_subsume.proofs.SureLemmas.{concrete-nominal, concrete-var}
 
 pub known_parts : (m : ℕ) (t : Ty) (ts vs : List Ty) → t ≡ V.Tuple ts → vs ≡ ts → is_known m t ≡ true → list_all (is_known m) vs ≡ true
 known_parts m t ts vs e f h = ap (list_all (is_known m)) f ∙ sym (known-tuple m ts) ∙ sym (ap (is_known m) e) ∙ h

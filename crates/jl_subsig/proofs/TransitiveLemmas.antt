@@ -18,18 +18,18 @@ use Rattle.jl_model.proofs.SelfLemmas.{own_arguments}
 use Rattle.jl_model.proofs.AncestorLemmas.{Lawful}
 use Rattle.jl_model.proofs.BelowLemmas.{below_any}
 use Rattle.jl_model.proofs.TransLemmas.{lifted_again}
-use Rattle.jl_subsig.specs.Scoped.{IsScoped, IsOrdered}
+use Rattle.jl_subsume.specs.Scoped.{IsScoped, IsOrdered}
 use Rattle.jl_search.proofs.HasLemmas.{Has, Picks, has_split, has_flat, of_has, has_none}
-use Rattle.jl_subsig.proofs.FormsLemmas.{tuple_form}
+use Rattle.jl_subsume.proofs.FormsLemmas.{tuple_form}
 use Rattle.jl_search.proofs.PartLemmas.{Plain, plain_any, plain_tuple, plain_nominal, plain_var, AllPlain, all_end, all_more, plain_single, tuple_parts, var_number, head_plain, tail_plain}
-use Rattle.jl_subsig.proofs.LiftLemmas.{lift, alt_fine, alt_below, below_found, found_below, found_single, found_in, part_single, by_alts, equals_self}
-use Rattle.jl_subsig.proofs.ScopeLemmas.{IsSlot, Never, Bare, Small, alts_within, closed_plain, bare_plain, root_own, low_none, low_at, high_at, top_closed, slot_high, diagonal_small}
+use Rattle.jl_subsume.proofs.LiftLemmas.{lift, alt_fine, alt_below, below_found, found_below, found_single, found_in, part_single, by_alts, equals_self}
+use Rattle.jl_subsume.proofs.ScopeLemmas.{IsSlot, Never, Bare, Small, alts_within, closed_plain, bare_plain, root_own, low_none, low_at, high_at, top_closed, slot_high, diagonal_small}
 use Rattle.jl_subsig.proofs.ReflexiveLemmas.{all_keep}
-use Rattle.jl_subsig.proofs.PutBelowLemmas.{comes, put_to, put_nominal, equals_put, lifted_put}
-use Rattle.jl_subsig.proofs.SubsumeLemmas.{bare_vars}
+use Rattle.jl_subsume.proofs.PutBelowLemmas.{comes, put_to, put_nominal, equals_put, lifted_put}
+use Rattle.jl_subsume.proofs.SubsumeLemmas.{bare_vars}
 use Rattle.jl_search.proofs.EqualLemmas.{turned}
 use Rattle.jl_subsig.proofs.AlikeLemmas.{lifted_equal, equals_trans}
-use Rattle.jl_subsig.proofs.SureLemmas.{Sure, AllSure, sure_end, sure_more, sure_tuple, sure_nominal, sure_var, sure_of}
+use Rattle.jl_subsume.proofs.SureLemmas.{Sure, AllSure, sure_end, sure_more, sure_tuple, sure_nominal, sure_var, sure_of}
 use Rattle.jl_subsig.proofs.OrderLemmas.{after}
 use Rattle.jl_subsig.proofs.LeftBelowLemmas.{left_of, high_bare, raise_below, tuple_left}
 use Rattle.jl_subsig.proofs.MiddleLemmas.{Sits, sits_any, sits_tuple, sits_raised, sits_nominal, sits_var, AllSit, sit_end, sit_more, sits_meet, bare_sits, at_var, from_put, from_left, name_small, put_top, put_low}

@@ -11,9 +11,9 @@ use Rattle.jl_model.specs.Signature.{Row, IsRow, top, Serves, Meet, fixed, RowBe
 use Rattle.jl_model.specs.Refusals.{Declared}
 use Rattle.jl_model.specs.Found.{found}
 use Rattle.jl_model.proofs.FormLemmas.{vars-any}
-use Rattle.jl_subsig.specs.Scoped.{IsScoped, IsPlaced, IsOrdered, HasNormalArguments}
+use Rattle.jl_subsume.specs.Scoped.{IsScoped, IsPlaced, IsOrdered, HasNormalArguments}
 use Rattle.jl_search.proofs.HasLemmas.{has_of, of_has, has_none}
-use Rattle.jl_subsig.proofs.ScopeLemmas.{low_none, top_closed}
+use Rattle.jl_subsume.proofs.ScopeLemmas.{low_none, top_closed}
 use Rattle.jl_subsig.proofs.RightLemmas.{right_row}
 use Rattle.jl_subsig.proofs.LeftLemmas.{IsLeft, IsOver, lefts, left_forms, left_laws}
 use Rattle.jl_search.proofs.FoundLemmas.{values, all_good}

@@ -1,5 +1,5 @@
 -- A row of a signature with what is kept of both, for the walks over two rows.
-use Rattle.std.specs.Prelude.{ℕ, ◌-◌, ◌%◌, ◌/◌, ◌≡◌, ◌<◌, Bool, false, cond, nat_lt, IsTrue, ◌⊎◌, List, [], ◌∷◌, ◌++◌, map, length, get_or, Option, None}
+use Rattle.std.specs.Prelude.{ℕ, ◌-◌, ◌%◌, ◌/◌, ◌≡◌, ◌<◌, false, cond, nat_lt, IsTrue, ◌⊎◌, List, [], ◌∷◌, ◌++◌, map, length, get_or, Option, None}
 use Rattle.std.specs.List.{flat_map, list_all, Contains}
 use Rattle.jl_model.specs.declared.ty.Ty.{Ty}
 use Rattle.jl_model.specs.declared.ty.Ty.TheOpen.{Ty-F, Any, Union, Tuple, Nominal, Var}
@@ -8,16 +8,16 @@ use Rattle.jl_model.specs.declared.ty.Bound.{Bound}
 use Rattle.jl_model.specs.declared.ty.Decl.{Decl}
 use Rattle.jl_model.specs.declared.ty.Written.{Written}
 use Rattle.jl_model.specs.Ancestors.{table_of}
-use Rattle.jl_model.specs.Kinds.{diagonal, bound}
-use Rattle.jl_model.specs.Rows.{alts, free, width, low, high, kind, root, vars_in, Occurs}
+use Rattle.jl_model.specs.Kinds.{diagonal}
+use Rattle.jl_model.specs.Rows.{alts, free, width, low, high, kind, vars_in, Occurs}
 use Rattle.jl_model.specs.Signature.{Row, IsRow, top, fixed, is_diagonal}
-use Rattle.jl_model.specs.Subtype.{Table, Fixed, at, lifted, Below, Equal, is_concrete}
+use Rattle.jl_model.specs.Subtype.{Table, Fixed, at, lifted, Equal}
 use Rattle.jl_model.specs.Normal.{IsNormal, AllNormal, is_single}
 use Rattle.jl_model.specs.Valid.{is_known}
 use Rattle.jl_model.specs.Refusals.{bound_types}
 use Rattle.jl_types.specs.Ground.{AreSingles}
 use Rattle.jl_sig.specs.declared.row.SigRow.{SigRow}
-use Rattle.jl_subsig.specs.Scoped.{IsScoped, IsPlaced, IsOrdered, HasNormalArguments}
+use Rattle.jl_subsume.specs.Scoped.{IsScoped, IsPlaced, IsOrdered, HasNormalArguments}
 use Rattle.jl_model.specs.SigRefusals.{is_argument}
 use Rattle.jl_model.specs.Found.{outer}
 use Rattle.jl_sig.specs.declared.sig.Sig.{Sig}

@@ -12,7 +12,7 @@ use jl_types::Table;
 use std::alloc::{AllocError, Global};
 
 /// Whether one method is to run in place of another, where both apply: its signature is below that of the other, which is earlier or
-/// not below in turn. Then the other is replaced, or is no candidate that it isn't strictly below.
+/// not below in turn: then the other is replaced by it, or it is strictly below the other.
 fn precedes(
     alloc: Global,
     table: &Table,

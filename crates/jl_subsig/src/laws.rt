@@ -13,7 +13,7 @@ ghost use Rattle.jl_model.specs.Ancestors.{table_of};
 ghost use Rattle.jl_model.specs.Refusals.{Declared};
 ghost use Rattle.jl_subsig.specs.Alike.{AreAlike, IsKeptForm, IsKeptRow};
 ghost use Rattle.jl_subsig.specs.Chain.{builtins, first_of_chain, middle_of_chain, last_of_chain};
-ghost use Rattle.jl_subsig.specs.Scoped.{IsScoped, IsPlaced, IsOrdered, HasNormalArguments, IsOpen};
+ghost use Rattle.jl_subsume.specs.Scoped.{IsScoped, IsPlaced, IsOrdered, HasNormalArguments, IsOpen};
 ghost use Rattle.jl_subsig.specs.Values.{RowBelowBy, values, BelowByValues};
 
 /// Values are found. Where any types put for the variables of a right row serve for a left row, those serve that are found by

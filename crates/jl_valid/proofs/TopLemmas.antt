@@ -15,7 +15,7 @@ use Rattle.jl_program.specs.Names.{is_free_name, are_distinct}
 use Rattle.jl_model.specs.Refusals.{Declared}
 use Rattle.jl_program.specs.Prelude.{prelude_count, prelude_functions, prelude_sites}
 use Rattle.jl_program.specs.Scope.{all_types, View, Statement, nothing_seen, bound, in_turn, item_of, is_valid_expr, are_valid_items, are_valid_tasks, item_step as valid_item}
-use Rattle.jl_program.specs.Valid.{IsValid, IsValidSite}
+use Rattle.jl_program.specs.Valid.{IsValid, IsValidDelete, IsValidSite}
 use Rattle.jl_program.proofs.ValidLayers.{in-nothing, valid-define, valid-top-bind, valid-top-do}
 use Rattle.jl_grammar.specs.declared.tree.Item.{Item}
 use Rattle.jl_grammar.specs.declared.tree.Item.TheVariants as N
@@ -217,6 +217,7 @@ valid t k items f formed of told_all e =
       prelude = ap (take (length prelude_sites)) adds.sites_are ∙ take-append_seam prelude_sites adds.sites;
       sites = subst (λ xs. All (IsValidSite P adds.views) xs) (sym (ap (drop (length prelude_sites)) adds.sites_are ∙ drop-append_seam prelude_sites adds.sites))
           (all_of (IsValidSite P adds.views) adds.sites (adds.valid P adds.views within));
+      deletes = all_of (IsValidDelete P) [] tt;
       top = adds.holds P adds.views within 0 (omega arith);
       written = subst (λ ds. All (IsAllowedType ds) (written_types P)) (sym types) (subst (λ xs. All (IsAllowedType k.decls) xs) (sym all_written) (all_of (IsAllowedType k.decls) ((sites.types ++ gathered own_types adds.spawns) ++ got_top.types) allowed));
       inferred = subst (λ ds. All (IsSmallStruct ds) (inferred_structs P)) (sym types) (subst (λ xs. All (IsSmallStruct k.decls) xs) (sym all_inferred) (all_of (IsSmallStruct k.decls) ((sites.structs ++ gathered own_struct adds.spawns) ++ got_top.structs) small));

@@ -7,8 +7,8 @@ use Rattle.jl_calculus.specs.declared.history.Record.{Record}
 use Rattle.jl_calculus.specs.Legal.{MayCome, MayStand}
 use Rattle.jl_calculus.specs.Past.{tasks_of, done_of}
 use Rattle.jl_calculus.specs.Ranges.{keys_of, rows_of}
-use Rattle.jl_calculus.specs.World.{defined, world_of}
-use Rattle.jl_calculus.proofs.GrowthLemmas.{defined_append, keys_append, rows_append}
+use Rattle.jl_calculus.specs.World.{changed, world_of}
+use Rattle.jl_calculus.proofs.GrowthLemmas.{changed_append, keys_append, rows_append}
 use Rattle.jl_world.specs.Places.{most_events}
 use Rattle.jl_world.proofs.Growth.{tasks_append, tasks_some, done_append, each_grow, differ, agree, agreed}
 
@@ -26,6 +26,7 @@ one_done (Ev.Begin fuel) = 0
 one_done (Ev.Key key) = 0
 one_done (Ev.Fill key site first) = 0
 one_done (Ev.Def by site) = 0
+one_done (Ev.Del by place) = 0
 one_done (Ev.Spawn by child start) = 0
 one_done (Ev.Done by ended) = 1
 
@@ -46,6 +47,7 @@ done_stays t (Ev.Begin fuel ∷ es) more r h = done_stays t es more r h
 done_stays t (Ev.Key key ∷ es) more r h = done_stays t es more r h
 done_stays t (Ev.Fill key site first ∷ es) more r h = done_stays t es more r h
 done_stays t (Ev.Def by site ∷ es) more r h = done_stays t es more r h
+done_stays t (Ev.Del by place ∷ es) more r h = done_stays t es more r h
 done_stays t (Ev.Done by ended ∷ es) more r h = go (nat_eq by t) h (λ k. done_stays t es more r k)
   where
     go : (b : Bool) → cond b (Some ended) (done_of t es) ≡ Some r → (done_of t es ≡ Some r → done_of t (es ++ more) ≡ Some r) → cond b (Some ended) (done_of t (es ++ more)) ≡ Some r
@@ -92,7 +94,7 @@ open_first (suc n) = omega (arith, open_first n)
 
 -- what is counted, in all
 record IsCounted (es : List Event) : Type 0 where
-  all : length es ≤ length (keys_of es) + length (rows_of es) + length (defined es) + tasks_of es + dones es
+  all : length es ≤ length (keys_of es) + length (rows_of es) + length (changed es) + tasks_of es + dones es
   keys : length (keys_of es) ≤ 8192
   rows : length (rows_of es) ≤ 16384
   worlds : world_of es ≤ 65535
@@ -112,8 +114,8 @@ module _ (P : Program) where
       rows_more : (e : Event) → length (rows_of (past ++ e ∷ [])) ≡ length (rows_of past) + length (rows_of (e ∷ []))
       rows_more e = ap length (rows_append past (e ∷ [])) ∙ length-append (rows_of past) (rows_of (e ∷ []))
 
-      defined_more : (e : Event) → length (defined (past ++ e ∷ [])) ≡ length (defined past) + length (defined (e ∷ []))
-      defined_more e = ap length (defined_append past (e ∷ [])) ∙ length-append (defined past) (defined (e ∷ []))
+      defined_more : (e : Event) → length (changed (past ++ e ∷ [])) ≡ length (changed past) + length (changed (e ∷ []))
+      defined_more e = ap length (changed_append past (e ∷ [])) ∙ length-append (changed past) (changed (e ∷ []))
 
       -- an event that ends no task
       goes_on : (e : Event) → one_done e ≡ 0 → (n : ℕ) → tasks_of (past ++ e ∷ []) ≤ n → dones (past ++ e ∷ []) + open_below n (past ++ e ∷ []) ≤ n
@@ -152,6 +154,16 @@ module _ (P : Program) where
           }
       by (Ev.Def task site) m =
           let e : Event = Ev.Def task site in
+          record {
+            all = omega (arith, h.all, longer e, keys_more e, rows_more e, defined_more e, tasks_append past (e ∷ []), dones_append past (e ∷ []));
+            keys = omega (arith, keys_more e, h.keys);
+            rows = omega (arith, rows_more e, h.rows);
+            worlds = omega (arith, defined_more e, m.room);
+            tasks = omega (arith, tasks_append past (e ∷ []), h.tasks);
+            ends = goes_on e refl;
+          }
+      by (Ev.Del task place) m =
+          let e : Event = Ev.Del task place in
           record {
             all = omega (arith, h.all, longer e, keys_more e, rows_more e, defined_more e, tasks_append past (e ∷ []), dones_append past (e ∷ []));
             keys = omega (arith, keys_more e, h.keys);

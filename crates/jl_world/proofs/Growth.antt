@@ -5,14 +5,14 @@ use Rattle.jl_program.specs.declared.tree.Start.{Start}
 use Rattle.jl_calculus.specs.declared.history.Event.{Event}
 use Rattle.jl_calculus.specs.declared.history.Event.TheVariants as Ev
 use Rattle.jl_calculus.specs.declared.history.TraceItem.{TraceItem}
-use Rattle.jl_calculus.specs.declared.history.TraceItem.TheVariants.{Def, Spawn}
+use Rattle.jl_calculus.specs.declared.history.TraceItem.TheVariants.{Def, Del, Spawn}
 use Rattle.jl_calculus.specs.declared.history.Record.{Record}
 use Rattle.jl_calculus.specs.Learnt.{IsLearntOf}
 use Rattle.jl_calculus.specs.Legal.{fuel_of, start_of, IsRunning, MayCome, EachAfter, MayStand}
 use Rattle.jl_calculus.specs.Past.{tasks_of, done_of, own_events, own_starts}
 use Rattle.jl_calculus.specs.Ranges.{keys_of, rows_of}
-use Rattle.jl_calculus.specs.World.{defined, world_of}
-use Rattle.jl_calculus.proofs.GrowthLemmas.{defined_append, keys_append, rows_append, world_more, learnt_on}
+use Rattle.jl_calculus.specs.World.{changed, world_of}
+use Rattle.jl_calculus.proofs.GrowthLemmas.{changed_append, keys_append, rows_append, world_more, learnt_on}
 use Rattle.jl_world.specs.Views.{Begins, AreTrueStill}
 
 -- ---- beginnings
@@ -59,6 +59,7 @@ fuel_append (Ev.Begin fuel ∷ es) more h = refl
 fuel_append (Ev.Key key ∷ es) more h = refl
 fuel_append (Ev.Fill key site first ∷ es) more h = refl
 fuel_append (Ev.Def by site ∷ es) more h = refl
+fuel_append (Ev.Del by place ∷ es) more h = refl
 fuel_append (Ev.Spawn parent child start ∷ es) more h = refl
 fuel_append (Ev.Done by ended ∷ es) more h = refl
 
@@ -70,6 +71,7 @@ tasks_append (Ev.Begin fuel ∷ es) more = omega (arith, tasks_append es more)
 tasks_append (Ev.Key key ∷ es) more = omega (arith, tasks_append es more)
 tasks_append (Ev.Fill key site first ∷ es) more = omega (arith, tasks_append es more)
 tasks_append (Ev.Def by site ∷ es) more = omega (arith, tasks_append es more)
+tasks_append (Ev.Del by place ∷ es) more = omega (arith, tasks_append es more)
 tasks_append (Ev.Done by ended ∷ es) more = omega (arith, tasks_append es more)
 
 pub tasks_some : (es : List Event) → 1 ≤ tasks_of es
@@ -79,6 +81,7 @@ tasks_some (Ev.Begin fuel ∷ es) = tasks_some es
 tasks_some (Ev.Key key ∷ es) = tasks_some es
 tasks_some (Ev.Fill key site first ∷ es) = tasks_some es
 tasks_some (Ev.Def by site ∷ es) = tasks_some es
+tasks_some (Ev.Del by place ∷ es) = tasks_some es
 tasks_some (Ev.Done by ended ∷ es) = tasks_some es
 
 pub done_append : (t : ℕ) (es more : List Event) → done_of t es ≡ None → done_of t (es ++ more) ≡ done_of t more
@@ -88,6 +91,7 @@ done_append t (Ev.Begin fuel ∷ es) more h = done_append t es more h
 done_append t (Ev.Key key ∷ es) more h = done_append t es more h
 done_append t (Ev.Fill key site first ∷ es) more h = done_append t es more h
 done_append t (Ev.Def by site ∷ es) more h = done_append t es more h
+done_append t (Ev.Del by place ∷ es) more h = done_append t es more h
 done_append t (Ev.Done by ended ∷ es) more h = go (nat_eq by t) h (λ k. done_append t es more k)
   where
     go : (b : Bool) → cond b (Some ended) (done_of t es) ≡ None → (done_of t es ≡ None → done_of t (es ++ more) ≡ done_of t more) → cond b (Some ended) (done_of t (es ++ more)) ≡ done_of t more
@@ -106,6 +110,9 @@ own_append t p [] more = ap (λ n. own_events t n more) (omega arith)
 own_append t p (Ev.Def by site ∷ es) more =
     ap (λ (xs : List TraceItem). cond (nat_eq by t) (Def site p ∷ xs) xs) (shift t p (length es) more (own_events t (p + 1) es) (own_events t (p + 1) (es ++ more)) (own_append t (p + 1) es more))
     ∙ cond_more (nat_eq by t) (Def site p) (own_events t (p + 1) es) (own_events t (p + suc (length es)) more)
+own_append t p (Ev.Del by at_place ∷ es) more =
+    ap (λ (xs : List TraceItem). cond (nat_eq by t) (Del at_place p ∷ xs) xs) (shift t p (length es) more (own_events t (p + 1) es) (own_events t (p + 1) (es ++ more)) (own_append t (p + 1) es more))
+    ∙ cond_more (nat_eq by t) (Del at_place p) (own_events t (p + 1) es) (own_events t (p + suc (length es)) more)
 own_append t p (Ev.Spawn by child start ∷ es) more =
     ap (λ (xs : List TraceItem). cond (nat_eq by t) (Spawn child p ∷ xs) xs) (shift t p (length es) more (own_events t (p + 1) es) (own_events t (p + 1) (es ++ more)) (own_append t (p + 1) es more))
     ∙ cond_more (nat_eq by t) (Spawn child p) (own_events t (p + 1) es) (own_events t (p + suc (length es)) more)
@@ -122,6 +129,7 @@ starts_append t (Ev.Begin fuel ∷ es) more = starts_append t es more
 starts_append t (Ev.Key key ∷ es) more = starts_append t es more
 starts_append t (Ev.Fill key site first ∷ es) more = starts_append t es more
 starts_append t (Ev.Def by site ∷ es) more = starts_append t es more
+starts_append t (Ev.Del by place ∷ es) more = starts_append t es more
 starts_append t (Ev.Done by ended ∷ es) more = starts_append t es more
 
 -- where a task starts later, it did not start before
@@ -131,6 +139,7 @@ start_later t (Ev.Begin fuel ∷ es) more h = start_later t es more h
 start_later t (Ev.Key key ∷ es) more h = start_later t es more h
 start_later t (Ev.Fill key site first ∷ es) more h = start_later t es more h
 start_later t (Ev.Def by site ∷ es) more h = start_later t es more h
+start_later t (Ev.Del by place ∷ es) more h = start_later t es more h
 start_later t (Ev.Done by ended ∷ es) more h = start_later t es more h
 start_later t (Ev.Spawn parent child start ∷ es) more h = go (nat_eq child t) h (λ k. start_later t es more k)
   where
@@ -144,6 +153,7 @@ start_before t (Ev.Begin fuel ∷ es) more h = start_before t es more h
 start_before t (Ev.Key key ∷ es) more h = start_before t es more h
 start_before t (Ev.Fill key site first ∷ es) more h = start_before t es more h
 start_before t (Ev.Def by site ∷ es) more h = start_before t es more h
+start_before t (Ev.Del by place ∷ es) more h = start_before t es more h
 start_before t (Ev.Done by ended ∷ es) more h = start_before t es more h
 start_before t (Ev.Spawn parent child start ∷ es) more h = ap (λ o. cond (nat_eq child t) (Some start) o) (start_before t es more h)
 
@@ -168,6 +178,7 @@ NotOf (Ev.Begin fuel) t = Unit {0}
 NotOf (Ev.Key key) t = Unit {0}
 NotOf (Ev.Fill key site first) t = Unit {0}
 NotOf (Ev.Def by site) t = by ≡ t → ⊥
+NotOf (Ev.Del by place) t = by ≡ t → ⊥
 NotOf (Ev.Spawn by child start) t = (by ≡ t → ⊥) × (child ≡ t → ⊥)
 NotOf (Ev.Done by ended) t = by ≡ t → ⊥
 
@@ -183,6 +194,7 @@ aside (Ev.Begin fuel) t h = ((λ p. refl), refl, (refl, refl))
 aside (Ev.Key key) t h = ((λ p. refl), refl, (refl, refl))
 aside (Ev.Fill key site first) t h = ((λ p. refl), refl, (refl, refl))
 aside (Ev.Def by site) t h = ((λ p. ap (λ b. cond b (Def site p ∷ []) []) (differ by t h)), refl, (refl, refl))
+aside (Ev.Del by at_place) t h = ((λ p. ap (λ b. cond b (Del at_place p ∷ []) []) (differ by t h)), refl, (refl, refl))
 aside (Ev.Spawn by child start) t h = (
   (λ p. ap (λ b. cond b (Spawn child p ∷ []) []) (differ by t h.0)),
   ap (λ b. cond b (start ∷ []) []) (differ by t h.0),
@@ -238,6 +250,7 @@ module _ (P : Program) where
   none_of past (Ev.Key key) c m l = tt
   none_of past (Ev.Fill key site first) c m l = tt
   none_of past (Ev.Def by site) c m l = λ q. omega (arith, m.running.started, q, l, tasks_append past (Ev.Def by site ∷ []))
+  none_of past (Ev.Del by place) c m l = λ q. omega (arith, m.running.started, q, l, tasks_append past (Ev.Del by place ∷ []))
   none_of past (Ev.Spawn by child start) c m l = (
     (λ q. omega (arith, m.running.started, q, l, tasks_append past (Ev.Spawn by child start ∷ []))),
     (λ q. omega (arith, m.next, q, l, tasks_append past (Ev.Spawn by child start ∷ []))),

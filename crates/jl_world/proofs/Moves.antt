@@ -9,13 +9,14 @@ use lib.ListN.{get_elem?}
 use Rattle.atomic_table.specs.Table.{State, Me, Step, step, keeps, Allows}
 use Rattle.atomic_table.proofs.Lists.{set_again}
 use Rattle.jl_program.specs.declared.tree.Program.{Program}
+use Rattle.jl_calculus.specs.declared.history.Change.{Change}
 use Rattle.jl_calculus.specs.declared.history.Event.{Event}
 use Rattle.jl_calculus.specs.declared.history.Event.TheVariants as Ev
 use Rattle.jl_calculus.specs.Legal.{MayStand}
 use Rattle.jl_calculus.specs.Ranges.{CacheRow, keys_of, rows_of, HasNoEnd}
 use Rattle.jl_calculus.specs.Words.{upper, one_past, after_last, is_worldly, is_fill_of, world_length, world_word, link_of, fill_length, head_word, IsRowWords, IsLastWith}
-use Rattle.jl_calculus.specs.World.{defined, world_of}
-use Rattle.jl_calculus.proofs.GrowthLemmas.{defined_append, rows_append}
+use Rattle.jl_calculus.specs.World.{changed, world_of}
+use Rattle.jl_calculus.proofs.GrowthLemmas.{changed_append, rows_append}
 use Rattle.jl_world.specs.declared.about.About.{About}
 use Rattle.jl_world.specs.declared.row_word.RowWord.{RowWord}
 use Rattle.jl_world.specs.declared.row_word.RowWord.TheVariants.{Site, First, Last, Next}
@@ -45,7 +46,7 @@ pub high_half : (w n : ℕ) → w < upper → (w + upper * n) / upper ≡ n
 high_half w n lt = ap (λ k. k / upper) (let z : w + upper * n ≡ n * upper + w = omega arith in z) ∙ div-mul-add n upper w lt
 
 -- where nothing of a kind stands among events, they make no world, and no row of a key
-pub no_worlds : (es : List Event) → after_last is_worldly es ≡ 0 → defined es ≡ []
+pub no_worlds : (es : List Event) → after_last is_worldly es ≡ 0 → changed es ≡ []
 no_worlds [] e = refl
 no_worlds (x ∷ es) e = by x (none_met is_worldly (x ∷ es) e 0 x refl) (no_worlds es (rest (after_last is_worldly es) (is_worldly x) e))
   where
@@ -53,9 +54,10 @@ no_worlds (x ∷ es) e = by x (none_met is_worldly (x ∷ es) e 0 x refl) (no_wo
     rest zero b e = refl
     rest (suc n) b e = absurd (omega (arith, e))
 
-    by : (x : Event) → is_worldly x ≡ false → defined es ≡ [] → defined (x ∷ es) ≡ []
+    by : (x : Event) → is_worldly x ≡ false → changed es ≡ [] → changed (x ∷ es) ≡ []
     by (Ev.Begin fuel) is h = absurd cc
     by (Ev.Def task site) is h = absurd cc
+    by (Ev.Del task place) is h = absurd cc
     by (Ev.Key key) is h = h
     by (Ev.Fill key site first) is h = h
     by (Ev.Spawn task child start) is h = h
@@ -72,6 +74,7 @@ no_rows k (x ∷ es) e = by x (none_met (is_fill_of k) (x ∷ es) e 0 x refl) (n
     by : (x : Event) → is_fill_of k x ≡ false → after_last (λ (row : CacheRow). nat_eq row.key k) (rows_of es) ≡ 0 → after_last (λ (row : CacheRow). nat_eq row.key k) (rows_of (x ∷ es)) ≡ 0
     by (Ev.Begin fuel) is h = h
     by (Ev.Def task site) is h = h
+    by (Ev.Del task place) is h = h
     by (Ev.Key key) is h = h
     by (Ev.Fill key site first) is h = (λ i. one_past (h i) (is i))
     by (Ev.Spawn task child start) is h = h
@@ -95,7 +98,7 @@ module _ (events : List Event) (q : ℕ) (short : q ≤ length events) where
   none_after test le = none_behind test front back (omega (arith, le, ap (after_last test) whole, long))
 
   pub world_first : world_length events ≤ q → world_of front ≡ world_of events
-  world_first le = omega (arith, ap (λ xs. length (defined xs)) whole, ap length (defined_append front back ∙ ap (λ xs. defined front ++ xs) (no_worlds back (none_after is_worldly le)) ∙ append-nil (defined front)))
+  world_first le = omega (arith, ap (λ xs. length (changed xs)) whole, ap length (changed_append front back ∙ ap (λ (xs : List Change). changed front ++ xs) (no_worlds back (none_after is_worldly le)) ∙ append-nil (changed front)))
 
   -- a head is that of each beginning which is as long as it tells
   pub head_first : (k : ℕ) → fill_length k events ≤ q → head_word front k ≡ head_word events k

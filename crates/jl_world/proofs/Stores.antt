@@ -7,6 +7,7 @@ use lib.ListN.{get_elem?}
 use Rattle.atomic_table.specs.Table.{State, Me, Step, step, keeps, Allows}
 use Rattle.jl_program.specs.declared.tree.Program.{Program}
 use Rattle.jl_program.specs.declared.tree.Start.{Start}
+use Rattle.jl_calculus.specs.declared.history.Change.TheVariants as Ch
 use Rattle.jl_calculus.specs.declared.history.Event.{Event}
 use Rattle.jl_calculus.specs.declared.history.Event.TheVariants as Ev
 use Rattle.jl_calculus.specs.declared.history.Record.{Record}
@@ -30,7 +31,7 @@ use Rattle.jl_world.specs.Views.{Begins, Each, IsViewOf, IsOwn, Fits, HasTask, N
 use Rattle.jl_world.proofs.Bounds.{few_events}
 use Rattle.jl_world.proofs.Growth.{NotOf, KeepsOn, IsAside, agree, agreed, aside, begins_more, begins_self, differ, done_append, fuel_append, own_append, runs_on, stand_push, start_before, start_later, starts_append, still_true, tasks_append, unstarted}
 use Rattle.jl_world.proofs.SeatLists.{each_map, SeatsAre, OneSeat, Apart, seats_set, one_set, still_apart}
-use Rattle.jl_world.proofs.Wording.{words_noted, words_defined, words_linked, words_cut, words_stored}
+use Rattle.jl_world.proofs.Wording.{words_noted, IsChangeBy, words_changed, words_linked, words_cut, words_stored}
 
 -- ---- one view
 
@@ -145,6 +146,7 @@ module _ (about : About) (b : BookView) where
   held_fits (Ev.Key key) may stand come fits = all_noted (Ev.Key key) (λ t run. (refl, refl)) fits
   held_fits (Ev.Fill number site first) may stand come fits = all_noted (Ev.Fill number site first) (λ t run. (refl, refl)) fits
   held_fits (Ev.Def task site) may stand come fits = all_noted (Ev.Def task site) (λ t run. (refl, refl)) fits
+  held_fits (Ev.Del task place) may stand come fits = all_noted (Ev.Del task place) (λ t run. (refl, refl)) fits
   held_fits (Ev.Spawn task child start) may stand come fits = (
     fits_child P b.events task child start stand come,
     all_noted (Ev.Spawn task child start) (λ t run. (refl, ap (λ x. cond x (Some start) None) (differ child t (λ same. omega (arith, same, come.next, run.started))))) fits,
@@ -155,8 +157,8 @@ module _ (about : About) (b : BookView) where
   may_come (Ev.Begin fuel) may fits = absurd may.may
   may_come (Ev.Key key) may fits = may.may
   may_come (Ev.Fill number site first) may fits = may.may
-  may_come (Ev.Def task site) may fits =
-      let m = may.may in record { running = has_running P b.events task b.held fits may.holds; past_prelude = m.0; of_program = m.1; room = m.2 }
+  may_come (Ev.Def task site) may fits = record { running = has_running P b.events task b.held fits may.holds; may = may.may.0; room = may.may.1 }
+  may_come (Ev.Del task place) may fits = record { running = has_running P b.events task b.held fits may.holds; may = may.may.0; room = may.may.1 }
   may_come (Ev.Spawn task child start) may fits = may.may
   may_come (Ev.Done task ended) may fits = has_running P b.events task b.held fits may.holds
 
@@ -179,6 +181,7 @@ has_after about b (Ev.Begin fuel) t may has = absurd may.may
 has_after about b (Ev.Key key) t may has = inl (has_map (noted (length b.events) (Ev.Key key)) (λ v. refl) t b.held has)
 has_after about b (Ev.Fill number site first) t may has = inl (has_map (noted (length b.events) (Ev.Fill number site first)) (λ v. refl) t b.held has)
 has_after about b (Ev.Def task site) t may has = inl (has_map (noted (length b.events) (Ev.Def task site)) (λ v. refl) t b.held has)
+has_after about b (Ev.Del task place) t may has = inl (has_map (noted (length b.events) (Ev.Del task place)) (λ v. refl) t b.held has)
 has_after about b (Ev.Spawn task child start) t may (inl is) = inr (let e : child ≡ t = cc (is) in sym e ∙ may.may.next)
 has_after about b (Ev.Spawn task child start) t may (inr has) = inl (has_map (noted (length b.events) (Ev.Spawn task child start)) (λ v. refl) t b.held has)
 has_after about b (Ev.Done task ended) t may has = inl (has_without task t b.held has)
@@ -200,6 +203,7 @@ held_once about b (Ev.Begin fuel) may fits once = absurd may.may
 held_once about b (Ev.Key key) may fits once = once_map (noted (length b.events) (Ev.Key key)) (λ v. refl) b.held once
 held_once about b (Ev.Fill number site first) may fits once = once_map (noted (length b.events) (Ev.Fill number site first)) (λ v. refl) b.held once
 held_once about b (Ev.Def task site) may fits once = once_map (noted (length b.events) (Ev.Def task site)) (λ v. refl) b.held once
+held_once about b (Ev.Del task place) may fits once = once_map (noted (length b.events) (Ev.Del task place)) (λ v. refl) b.held once
 held_once about b (Ev.Spawn task child start) may fits once = (
   (λ t is has.
       let h = has_map (noted (length b.events) (Ev.Spawn task child start)) (λ v. refl) t b.held has in
@@ -216,6 +220,7 @@ other_task about b (Ev.Begin fuel) t may run apart = tt
 other_task about b (Ev.Key key) t may run apart = tt
 other_task about b (Ev.Fill number site first) t may run apart = tt
 other_task about b (Ev.Def task site) t may run apart = λ same. apart (subst (λ n. HasTask n b.held) same may.holds)
+other_task about b (Ev.Del task place) t may run apart = λ same. apart (subst (λ n. HasTask n b.held) same may.holds)
 other_task about b (Ev.Spawn task child start) t may run apart = ((λ same. apart (subst (λ n. HasTask n b.held) same may.holds)), (λ same. omega (arith, same, may.may.next, run.started)))
 other_task about b (Ev.Done task ended) t may run apart = λ same. apart (subst (λ n. HasTask n b.held) same may.holds)
 
@@ -238,7 +243,10 @@ words_store about b words (Ev.Fill number site first) history h may =
     let (uncut, filled) = may.ready in
     let (key, named, stored) = filled in
     words_linked about (now_of b) words number site first key h uncut named stored (omega (arith, slice_get_within (keys_of b.events) number key named, history.few.0))
-words_store about b words (Ev.Def task site) history h may = words_defined about (now_of b) words task site history.stand h may.ready
+words_store about b words (Ev.Def task site) history h may =
+    words_changed about (now_of b) words (Ev.Def task site) (Ch.Def site) (record { makes = refl; rows = refl; noted = refl; fills = λ k. refl }) history.stand h may.ready
+words_store about b words (Ev.Del task place) history h may =
+    words_changed about (now_of b) words (Ev.Del task place) (Ch.Del place) (record { makes = refl; rows = refl; noted = refl; fills = λ k. refl }) history.stand h may.ready
 words_store about b words (Ev.Spawn task child start) history h may = words_noted about (now_of b) words (Ev.Spawn task child start) h may.ready (record { rows = refl; defs = refl; worldly = refl; noted = refl; fills = λ k. refl })
 words_store about b words (Ev.Done task ended) history h may = words_noted about (now_of b) words (Ev.Done task ended) h may.ready (record { rows = refl; defs = refl; worldly = refl; noted = refl; fills = λ k. refl })
 
@@ -257,6 +265,7 @@ few_more about es e place few all = by e place all
     by (Ev.Key key) p l = (omega (arith, keys (Ev.Key key), p), omega (arith, rows (Ev.Key key), few.1), l)
     by (Ev.Fill n s f) p l = (omega (arith, keys (Ev.Fill n s f), few.0), omega (arith, rows (Ev.Fill n s f), p), l)
     by (Ev.Def t s) p l = (omega (arith, keys (Ev.Def t s), few.0), omega (arith, rows (Ev.Def t s), few.1), l)
+    by (Ev.Del t s) p l = (omega (arith, keys (Ev.Del t s), few.0), omega (arith, rows (Ev.Del t s), few.1), l)
     by (Ev.Spawn t c s) p l = (omega (arith, keys (Ev.Spawn t c s), few.0), omega (arith, rows (Ev.Spawn t c s), few.1), l)
     by (Ev.Done t r) p l = (omega (arith, keys (Ev.Done t r), few.0), omega (arith, rows (Ev.Done t r), few.1), l)
 
@@ -269,6 +278,7 @@ narrow_one (Ev.Begin fuel) n = tt
 narrow_one (Ev.Key key) n = tt
 narrow_one (Ev.Fill number site first) n = (n, tt)
 narrow_one (Ev.Def task site) n = tt
+narrow_one (Ev.Del task place) n = tt
 narrow_one (Ev.Spawn task child start) n = tt
 narrow_one (Ev.Done task ended) n = tt
 
@@ -341,6 +351,7 @@ pub place_small : (about : About) (b : BookView) (e : Event) → HasPlaces about
 place_small about b (Ev.Begin fuel) places few may = absurd may.may
 place_small about b (Ev.Key key) places few may = omega (arith, places)
 place_small about b (Ev.Def task site) places few may = omega (arith, places)
+place_small about b (Ev.Del task place) places few may = omega (arith, places)
 place_small about b (Ev.Spawn task child start) places few may = omega (arith, places)
 place_small about b (Ev.Done task ended) places few may = omega (arith, places)
 place_small about b (Ev.Fill number site first) places few may =

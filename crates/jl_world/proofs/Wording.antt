@@ -5,13 +5,14 @@ use Rattle.std.proofs.lemmas.Option.{same_Some, slice_get_within}
 use Rattle.std.specs.Prelude.{slice_index, slice_set}
 use Rattle.jl_model.specs.declared.ty.Key.{Key}
 use Rattle.jl_program.specs.declared.tree.Program.{Program}
+use Rattle.jl_calculus.specs.declared.history.Change.{Change}
 use Rattle.jl_calculus.specs.declared.history.Event.{Event}
 use Rattle.jl_calculus.specs.declared.history.Event.TheVariants as Ev
 use Rattle.jl_calculus.specs.Legal.{MayStand}
 use Rattle.jl_calculus.specs.Ranges.{CacheRow, keys_of, rows_of}
 use Rattle.jl_calculus.specs.Words.{upper, is_worldly, is_noted, is_fill_of, world_word, notes_word, link_of, fill_length, head_word, AreAllCut, IsLastWith, IsRowWords}
-use Rattle.jl_calculus.specs.World.{defined, world_of}
-use Rattle.jl_calculus.proofs.GrowthLemmas.{defined_append, rows_append}
+use Rattle.jl_calculus.specs.World.{changed, world_of}
+use Rattle.jl_calculus.proofs.GrowthLemmas.{changed_append, rows_append}
 use Rattle.jl_world.specs.declared.about.About.{About}
 use Rattle.jl_world.specs.declared.row_word.RowWord.{RowWord}
 use Rattle.jl_world.specs.declared.row_word.RowWord.TheVariants.{Site, First, Last, Next, Top}
@@ -96,8 +97,8 @@ row_grown P es e cut later r a b c d last h =
       next_word = h.next_word ∙ ap (link_of h.row.key) (sym (ap (take r) (rows_append es (e ∷ [])) ∙ take_short (rows_of es) (rows_of (e ∷ [])) r (omega (arith, low))));
     }
 
--- with no row cut ahead, an event that is no definition leaves the last worlds
-last_kept : (P : Program) (es : List Event) (e : Event) → defined (e ∷ []) ≡ [] → (r : ℕ) (key : Key) (first last : ℕ) → IsLastWith P es [] r key first last → IsLastWith P (es ++ e ∷ []) [] r key first last
+-- with no row cut ahead, an event that is no change leaves the last worlds
+last_kept : (P : Program) (es : List Event) (e : Event) → changed (e ∷ []) ≡ [] → (r : ℕ) (key : Key) (first last : ℕ) → IsLastWith P es [] r key first last → IsLastWith P (es ++ e ∷ []) [] r key first last
 last_kept P es e none r key first last (inl (c, x)) = absurd (contains_none r c)
 last_kept P es e none r key first last (inr (not, h)) = inr (not, last_on P es e none key first last h)
 
@@ -110,10 +111,10 @@ module _ (es : List Event) (e : Event) where
   pub same_rows : rows_of (e ∷ []) ≡ [] → rows_of more ≡ rows_of es
   same_rows none = rows_append es (e ∷ []) ∙ ap (λ (xs : List CacheRow). rows_of es ++ xs) none ∙ append-nil (rows_of es)
 
-  pub same_world : defined (e ∷ []) ≡ [] → world_of more ≡ world_of es
-  same_world none = omega (arith, ap length (defined_append es (e ∷ []) ∙ ap (λ xs. defined es ++ xs) none ∙ append-nil (defined es)))
+  pub same_world : changed (e ∷ []) ≡ [] → world_of more ≡ world_of es
+  same_world none = omega (arith, ap length (changed_append es (e ∷ []) ∙ ap (λ (xs : List Change). changed es ++ xs) none ∙ append-nil (changed es)))
 
-  same_world_word : defined (e ∷ []) ≡ [] → is_worldly e ≡ false → world_word more ≡ world_word es
+  same_world_word : changed (e ∷ []) ≡ [] → is_worldly e ≡ false → world_word more ≡ world_word es
   same_world_word none quiet = let w = same_world none in let l = last_miss is_worldly es e quiet in (λ i. w i + upper * l i)
 
   same_head : (k : ℕ) → rows_of (e ∷ []) ≡ [] → is_fill_of k e ≡ false → head_word more k ≡ head_word es k
@@ -136,7 +137,7 @@ loose_kept about now words e i v ne h r w n free is = else words i (row_place r 
 -- an event that the notes word tells
 pub record IsPlain (e : Event) : Type 0 where
   pub rows : rows_of (e ∷ []) ≡ []
-  pub defs : defined (e ∷ []) ≡ []
+  pub defs : changed (e ∷ []) ≡ []
   pub worldly : is_worldly e ≡ false
   pub noted : is_noted e ≡ true
   pub fills : (k : ℕ) → is_fill_of k e ≡ false
@@ -159,24 +160,30 @@ words_noted about now words e h uncut plain =
       loose = loose_kept about now words e notes_place v notes_elsewhere h;
     }
 
--- a definition, which ends the rows that were cut ahead of it
-pub words_defined : (about : About) (now : Now) (words : List ℕ) (task site : ℕ) → MayStand about.program.value now.events → Words about now words → AreAllCut about.program.value now.events site now.cut
-    → Words about (then now (Ev.Def task site)) (slice_set words world_place (world_word (now.events ++ Ev.Def task site ∷ [])))
-words_defined about now words task site stand h all =
+-- an event that makes a change, and neither a key nor a row
+pub record IsChangeBy (e : Event) (change : Change) : Type 0 where
+  pub makes : changed (e ∷ []) ≡ change ∷ []
+  pub rows : rows_of (e ∷ []) ≡ []
+  pub noted : is_noted e ≡ false
+  pub fills : (k : ℕ) → is_fill_of k e ≡ false
+
+-- a definition or a deletion, which ends the rows that were cut ahead of it
+pub words_changed : (about : About) (now : Now) (words : List ℕ) (e : Event) (change : Change) → IsChangeBy e change → MayStand about.program.value now.events → Words about now words
+    → AreAllCut about.program.value now.events change now.cut → Words about (then now e) (slice_set words world_place (world_word (now.events ++ e ∷ [])))
+words_changed about now words e change by stand h all =
     let P = about.program.value in
-    let e : Event = Ev.Def task site in
     let v : ℕ = world_word (now.events ++ e ∷ []) in
-    let rs = same_rows now.events e refl in
+    let rs = same_rows now.events e by.rows in
     record {
       places = h.places;
       wide = length-set words world_place v ∙ h.wide;
       world = here words world_place v (omega (arith, h.wide, h.places));
-      notes = else words world_place notes_place v (λ x. omega (arith, x)) ∙ h.notes ∙ sym (last_miss is_noted now.events e refl);
-      heads = λ k lt. else words world_place (head_place k) v (λ x. omega (arith, x)) ∙ h.heads k lt ∙ sym (same_head now.events e k refl refl);
+      notes = else words world_place notes_place v (λ x. omega (arith, x)) ∙ h.notes ∙ sym (last_miss is_noted now.events e by.noted);
+      heads = λ k lt. else words world_place (head_place k) v (λ x. omega (arith, x)) ∙ h.heads k lt ∙ sym (same_head now.events e k by.rows (by.fills k));
       rows = λ r lt. row_kept P (then now e) words world_place v r (world_elsewhere r)
           (row_grown P now.events e now.cut [] r _ _ _ _ (λ row key at named last.
           let right = rows_right P now.events stand r row at in
-          cut_ends P now.events task site now.cut r row key _ all at named (begins_low P now.events right.key row.first right.right.begun).1 last) (h.rows r (omega (arith, lt, ap length rs))));
+          cut_ends P now.events e change by.makes now.cut r row key _ all at named (begins_low P now.events right.key row.first right.right.begun).1 last) (h.rows r (omega (arith, lt, ap length rs))));
       tops = λ r lt. top_kept (now.events ++ e ∷ []) words world_place v r (world_elsewhere r Top) (top_more now.events (e ∷ []) r _ (h.tops r (omega (arith, lt, ap length rs))));
       cut = λ r c. absurd (contains_none r c);
       loose = loose_kept about now words e world_place v world_elsewhere h;

@@ -4,10 +4,10 @@ use Rattle.std.specs.List.{Contains}
 use Rattle.jl_model.specs.declared.ty.Key.{Key}
 use Rattle.jl_model.specs.declared.limits.TheConstants.{MOST_WORLDS}
 use Rattle.jl_program.specs.declared.tree.Program.{Program}
-use Rattle.jl_program.specs.Prelude.{prelude_count}
+use Rattle.jl_calculus.specs.declared.history.Change.TheVariants as Ch
 use Rattle.jl_calculus.specs.declared.history.Event.{Event}
 use Rattle.jl_calculus.specs.declared.history.Event.TheVariants as Ev
-use Rattle.jl_calculus.specs.Legal.{MayCome}
+use Rattle.jl_calculus.specs.Legal.{MayBeMade, MayCome}
 use Rattle.jl_calculus.specs.Ranges.{CacheRow, keys_of, rows_of, IsRightFill}
 use Rattle.jl_calculus.specs.Words.{upper, AreAllCut, IsLastWorld, link_of}
 use Rattle.jl_calculus.specs.World.{world_of}
@@ -26,15 +26,17 @@ IsNote (Ev.Begin fuel) = ⊥
 IsNote (Ev.Key key) = Unit {0}
 IsNote (Ev.Fill key site first) = ⊥
 IsNote (Ev.Def task site) = ⊥
+IsNote (Ev.Del task place) = ⊥
 IsNote (Ev.Spawn task child start) = Unit {0}
 IsNote (Ev.Done task ended) = Unit {0}
 
--- the task of a definition, a spawn or an end is among these
+-- the task of a definition, a deletion, a spawn or an end is among these
 abbrev pub HoldsActor : List TaskView → Event → Type 0
 HoldsActor vs (Ev.Begin fuel) = Unit {0}
 HoldsActor vs (Ev.Key key) = Unit {0}
 HoldsActor vs (Ev.Fill key site first) = Unit {0}
 HoldsActor vs (Ev.Def task site) = HasTask task vs
+HoldsActor vs (Ev.Del task place) = HasTask task vs
 HoldsActor vs (Ev.Spawn task child start) = HasTask task vs
 HoldsActor vs (Ev.Done task ended) = HasTask task vs
 
@@ -44,6 +46,7 @@ HasPlaceFor about es (Ev.Begin fuel) = Unit {0}
 HasPlaceFor about es (Ev.Key key) = length (keys_of es) < about.keys
 HasPlaceFor about es (Ev.Fill key site first) = length (rows_of es) < about.rows
 HasPlaceFor about es (Ev.Def task site) = Unit {0}
+HasPlaceFor about es (Ev.Del task place) = Unit {0}
 HasPlaceFor about es (Ev.Spawn task child start) = Unit {0}
 HasPlaceFor about es (Ev.Done task ended) = Unit {0}
 
@@ -69,13 +72,14 @@ pub record IsNextFill (P : Program) (es : List Event) (number site first : ℕ) 
 abbrev pub HasWordsOf : Program → BookView → ℕ → ℕ → ℕ → Type 0
 HasWordsOf P b number site first = (key : Key) × (slice_get (keys_of b.events) number ≡ Some key) × AreStored P b.events b.stored (length (rows_of b.events)) number key site first
 
--- the rows cut ahead are those that a definition ends, and none at another event; a fill has its words in the first row that is not
+-- the rows cut ahead are those that a definition or deletion ends, and none at another event; a fill has its words in the first row that is not
 -- linked
 abbrev pub IsReady : Program → BookView → Event → Type 0
 IsReady P b (Ev.Begin fuel) = ⊥
 IsReady P b (Ev.Key key) = b.cut ≡ []
 IsReady P b (Ev.Fill number site first) = (b.cut ≡ []) × HasWordsOf P b number site first
-IsReady P b (Ev.Def task site) = AreAllCut P b.events site b.cut
+IsReady P b (Ev.Def task site) = AreAllCut P b.events (Ch.Def site) b.cut
+IsReady P b (Ev.Del task place) = AreAllCut P b.events (Ch.Del place) b.cut
 IsReady P b (Ev.Spawn task child start) = b.cut ≡ []
 IsReady P b (Ev.Done task ended) = b.cut ≡ []
 
@@ -84,7 +88,8 @@ abbrev pub MayFollow : Program → List Event → Event → Type 0
 MayFollow P es (Ev.Begin fuel) = ⊥
 MayFollow P es (Ev.Key key) = MayCome P es (Ev.Key key)
 MayFollow P es (Ev.Fill number site first) = MayCome P es (Ev.Fill number site first)
-MayFollow P es (Ev.Def task site) = (prelude_count ≤ site) × (site < length P.sites) × (world_of es < MOST_WORLDS)
+MayFollow P es (Ev.Def task site) = MayBeMade P es (Ch.Def site) × (world_of es < MOST_WORLDS)
+MayFollow P es (Ev.Del task place) = MayBeMade P es (Ch.Del place) × (world_of es < MOST_WORLDS)
 MayFollow P es (Ev.Spawn task child start) = MayCome P es (Ev.Spawn task child start)
 MayFollow P es (Ev.Done task ended) = Unit {0}
 
@@ -94,6 +99,7 @@ IsNarrow (Ev.Begin fuel) = Unit {0}
 IsNarrow (Ev.Key key) = Unit {0}
 IsNarrow (Ev.Fill number site first) = site < upper
 IsNarrow (Ev.Def task site) = Unit {0}
+IsNarrow (Ev.Del task place) = Unit {0}
 IsNarrow (Ev.Spawn task child start) = Unit {0}
 IsNarrow (Ev.Done task ended) = Unit {0}
 

@@ -47,7 +47,7 @@ word_count about = 8 * max about.keys about.rows
 abbrev pub HasPlaces : About → Type 0
 HasPlaces about = (0 < about.keys) × (about.keys ≤ MOST_CACHE_KEYS) × (0 < about.rows) × (about.rows ≤ MOST_CACHE_ROWS)
 
--- the most events that a history can have: a Begin, the keys, the rows, the definitions past the prelude, and for each task a Spawn,
+-- the most events that a history can have: a Begin, the keys, the rows, the definitions and deletions past the prelude, and for each task a Spawn,
 -- but for the root, and a Done
 abbrev pub most_events : ℕ
 most_events = 98289
@@ -67,6 +67,7 @@ place_of (Ev.Begin fuel) = notes_place
 place_of (Ev.Key key) = notes_place
 place_of (Ev.Fill key site first) = head_place key
 place_of (Ev.Def task site) = world_place
+place_of (Ev.Del task place) = world_place
 place_of (Ev.Spawn task child start) = notes_place
 place_of (Ev.Done task ended) = notes_place
 
@@ -76,5 +77,6 @@ word_of (Ev.Begin fuel) es = notes_word es
 word_of (Ev.Key key) es = notes_word es
 word_of (Ev.Fill key site first) es = head_word es key
 word_of (Ev.Def task site) es = world_word es
+word_of (Ev.Del task place) es = world_word es
 word_of (Ev.Spawn task child start) es = notes_word es
 word_of (Ev.Done task ended) es = notes_word es

@@ -27,7 +27,7 @@ abbrev pub no_table : TableId
 no_table = record { words = 0; slots = 0; views_name = 0; atom = 0; block = 0; offset = 0; slot_names = [] }
 
 abbrev pub no_program : Program
-no_program = record { decls = []; functions = []; sites = []; spawns = []; top = [] }
+no_program = record { decls = []; functions = []; sites = []; spawns = []; deletes = []; top = [] }
 
 abbrev pub no_about : About
 no_about = record { program = record { value = no_program; marker = record {} }; fuel = 0; keys = 1; rows = 1 }

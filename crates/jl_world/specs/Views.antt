@@ -48,7 +48,7 @@ met es v = record { task = v.task; start = v.start; fuel = v.fuel; seen = es; ow
 abbrev pub looked : List Event → TaskView → TaskView
 looked es v = record { task = v.task; start = v.start; fuel = v.fuel; seen = es; own = v.own; starts = v.starts; looks = v.looks + 1 }
 
--- the definitions and spawns of a view's task among events that stand from a place on
+-- the definitions, deletions and spawns of a view's task among events that stand from a place on
 abbrev pub own_of : Option ℕ → ℕ → List Event → List TraceItem
 own_of None p es = []
 own_of (Some t) p es = own_events t p es
@@ -72,7 +72,7 @@ noted p e v = record {
 
 -- ---- what is right of it
 
--- a view is that of a running task: its start, the fuel, and all definitions and spawns of the task
+-- a view is that of a running task: its start, the fuel, and all definitions, deletions and spawns of the task
 pub record IsViewOf (es : List Event) (t : ℕ) (v : TaskView) : Type 0 where
   pub running : IsRunning es t
   pub start : v.start ≡ start_of t es
@@ -139,6 +139,7 @@ held_after es (Ev.Begin fuel) vs = map (noted (length es) (Ev.Begin fuel)) vs
 held_after es (Ev.Key key) vs = map (noted (length es) (Ev.Key key)) vs
 held_after es (Ev.Fill key site first) vs = map (noted (length es) (Ev.Fill key site first)) vs
 held_after es (Ev.Def task site) vs = map (noted (length es) (Ev.Def task site)) vs
+held_after es (Ev.Del task place) vs = map (noted (length es) (Ev.Del task place)) vs
 held_after es (Ev.Spawn task child start) vs = begun child (Some start) (es ++ Ev.Spawn task child start ∷ []) ∷ map (noted (length es) (Ev.Spawn task child start)) vs
 held_after es (Ev.Done task ended) vs = without task vs
 
@@ -148,6 +149,7 @@ stored_after (Ev.Begin fuel) xs = xs
 stored_after (Ev.Key key) xs = xs
 stored_after (Ev.Fill key site first) xs = []
 stored_after (Ev.Def task site) xs = xs
+stored_after (Ev.Del task place) xs = xs
 stored_after (Ev.Spawn task child start) xs = xs
 stored_after (Ev.Done task ended) xs = xs
 

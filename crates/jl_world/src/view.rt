@@ -4,7 +4,7 @@ use jl_calculus::history::{Event, TraceItem};
 use jl_program::tree::Start;
 use std::collections::LinkedList;
 
-/// What the seat of a task knows: its task and how it started, the events that it has seen, the task's own definitions and
+/// What the seat of a task knows: its task and how it started, the events that it has seen, the task's own definitions, deletions and
 /// spawns with their places, the starts of what it spawned, and how often it has looked.
 pub struct TaskView {
     pub task: Option<u64>,

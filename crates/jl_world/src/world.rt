@@ -2,14 +2,12 @@
 
 ghost use Rattle.std.specs.Prelude.{◌≡◌, ℕ, true, ◌+◌, ◌*◌, ◌<◌, ◌≤◌, ◌++◌, ◌∷◌, [], length, slice_get, Some, None};
 ghost use Rattle.jl_model.specs.declared.limits.TheConstants.{MOST_WORLDS};
-ghost use Rattle.jl_calculus.specs.declared.history.Event.TheVariants.{Def};
 ghost use Rattle.jl_calculus.specs.declared.history.TraceItem.TheVariants.{Look};
-ghost use Rattle.jl_calculus.specs.Legal.{MayCome};
+ghost use Rattle.jl_calculus.specs.Legal.{MayBeMade, MayCome};
 ghost use Rattle.jl_calculus.specs.Past.{IsTrueOf};
 ghost use Rattle.jl_calculus.specs.Ranges.{rows_of};
 ghost use Rattle.jl_calculus.specs.Words.{AreAllCut};
-ghost use Rattle.jl_calculus.specs.World.{world_of};
-ghost use Rattle.jl_program.specs.Prelude.{prelude_count};
+ghost use Rattle.jl_calculus.specs.World.{world_of, change_event};
 ghost use Rattle.jl_world.specs.Places.{HasPlaces, place_of, word_count, word_of};
 ghost use Rattle.jl_world.specs.Rule.{IsHistory, first_events};
 ghost use Rattle.jl_world.specs.Adds.{IsNote, HasPlaceFor, HoldsActor, MayAdd};
@@ -19,7 +17,7 @@ use crate::blank::{Blank, UPPER, WordTable};
 use crate::name::Naming;
 use crate::seats::{BookSeat, TaskSeat};
 use crate::steps::{Asked, Checks, Copies, Gives, Grows, HandsOver, Looks, Returns, TakesIn, Told};
-use jl_calculus::history::{Event, Seen};
+use jl_calculus::history::{Change, Event, Seen};
 use jl_program::prelude::FIRST_WORLD;
 use std::marker::{Brand, PhantomData};
 
@@ -71,7 +69,7 @@ impl<N: Naming> World<N> {
 
     /// Sees which world is the newest. It waits for nobody.
     pub fn look(&self, seat: &mut TaskSeat<N>) -> Seen
-        ensures item { (task : ℕ) → IsTrueOf seat.new.seen task (Look result.world result.length) }
+        ensures item { (task : ℕ) → IsTrueOf N.about.program.value seat.new.seen task (Look result.world result.length) }
         ensures world { world_of seat.new.seen ≡ result.world }
         ensures seen { Begins seat.old.seen seat.new.seen × (result.length ≡ length seat.new.seen) }
         ensures looks { seat.new.looks ≡ seat.old.looks + 1 }
@@ -89,15 +87,15 @@ impl<N: Naming> World<N> {
         }
     }
 
-    /// Makes the next world: one store publishes the definition of a site by a task, and all rows that were cut for it.
-    pub fn publish(&self, book: &mut BookSeat<N>, task: u32, site: u32)
+    /// Makes the next world: one store publishes a definition or a deletion by a task, and all rows that were cut for it.
+    pub fn publish(&self, book: &mut BookSeat<N>, task: u32, change: Change)
         requires held { HasTask task book.old.held }
-        requires site { (prelude_count ≤ site) × (site < length N.about.program.value.sites) }
-        requires cut { AreAllCut N.about.program.value book.old.events site book.old.cut }
+        requires change { MayBeMade N.about.program.value book.old.events change }
+        requires cut { AreAllCut N.about.program.value book.old.events change book.old.cut }
         requires world { world_of book.old.events < MOST_WORLDS }
-        ensures { book.new ≡ grown (Def task site) book.old }
+        ensures { book.new ≡ grown (change_event task change) book.old }
     {
-        let event = Event::Def { task, site };
+        let event = change.event(task);
         let count = book.count + 1;
         let world = book.world + 1;
         let linked = book.linked;

@@ -7,7 +7,7 @@ ghost use Rattle.jl_model.specs.Rows.{free};
 ghost use Rattle.jl_value.specs.Samples.{struct_decl, field_of, pair_decl, box_decl, square_decl, wood_decl, part_decl, sample_types};
 
 use jl_model::ty::{Bound, Bounds, Bytes, Decl, DeclKind, Decls, Field, Fields, Ty, Tys};
-use jl_program::tree::{Exprs, Items, Names, Program, Sites};
+use jl_program::tree::{Deletes, Exprs, Items, Names, Program, Sites};
 use jl_types::Table;
 use std::alloc::{AllocError, Global};
 
@@ -21,11 +21,17 @@ pub fn bytes(alloc: Global, name: &[u8]) -> Result<Bytes, AllocError>
     Bytes::from_vec(alloc, Vec::from_slice(alloc, name)?)
 }
 
+/// A field. Its type is let go by a call: a drop at a `?` is unrolled into the proof.
 fn field(alloc: Global, name: &[u8], ty: Ty) -> Result<Field, AllocError>
     ensures { IfOk result (λ f. f ≡ field_of name.now ty) }
 {
-    let name = bytes(alloc, name)?;
-    Ok(Field { name, ty })
+    match bytes(alloc, name) {
+        Ok(name) => Ok(Field { name, ty }),
+        Err(error) => {
+            drop(ty);
+            Err(error)
+        }
+    }
 }
 
 /// The bounds of a parameter that has none.
@@ -178,6 +184,7 @@ pub fn sample_program(alloc: Global) -> Result<Program, AllocError> {
         functions,
         sites: Sites::empty(),
         spawns: Exprs::empty(),
+        deletes: Deletes::empty(),
         top: Items::empty(),
     })
 }

@@ -1,5 +1,5 @@
 use Rattle.std.proofs.Common.{arith}
-use Rattle.jl_methods.proofs.StepLemmas.{get_at}
+use Rattle.jl_methods.proofs.ChangeLemmas.{get_at}
 use Rattle.jl_book.proofs.Ends.{none_past, place_there, told, no_other}
 use Rattle.jl_book.proofs.parts.record_of.Goals as goal
 

@@ -1,4 +1,4 @@
-use Rattle.std.proofs.Common.{List, length, take, drop}
+use Rattle.std.proofs.Common.{◌≡◌, List, [], length, take, drop}
 use Rattle.std.specs.Prelude.{◌↔◌}
 use Rattle.jl_program.specs.declared.tree.Program.{Program}
 use Rattle.jl_calculus.specs.declared.history.Event.{Event}
@@ -10,6 +10,6 @@ use Rattle.jl_causes.proofs.trace.has_true_trace.Given as goal
 
 abbrev pub invariant-loop-step : goal.invariant-loop-step
 invariant-loop-step l =
-    (P : Program) (es : List Event) → AreTasks es l.tasks → ArePlaces es l.places → AllTell P (take (length es) l.entries) es
-    → (AreTrueOf es l.task (items_of (drop l.step-index l.trace)) × IsInOrder l.low (items_of (drop l.step-index l.trace)) (length es))
-    ↔ (AreTrueOf es l.task (items_of l.trace) × IsInOrder (first_place l.task 0 es) (items_of l.trace) (length es))
+    (P : Program) (es : List Event) → AreTasks es l.tasks → ArePlaces es l.places → AllTell P (take (length es) l.entries) es → P.deletes ≡ []
+    → (AreTrueOf P es l.task (items_of (drop l.step-index l.trace)) × IsInOrder l.low (items_of (drop l.step-index l.trace)) (length es))
+    ↔ (AreTrueOf P es l.task (items_of l.trace) × IsInOrder (first_place l.task 0 es) (items_of l.trace) (length es))

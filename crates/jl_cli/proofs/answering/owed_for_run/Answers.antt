@@ -11,9 +11,9 @@ pub returns-in_ok-line-in-Err : goal.returns-in_ok-line-in-Err
 returns-in_ok-line-in-Err g c =
     refused_so c.refused.result (W.Run c.args.setup c.args.telling) c.args.bytes.now c.in_ok-line-in-Err.line
     (line_along c.args.bytes.now (static_line c.args.bytes.now c.in-Err.fault) c.in_ok-line-in-Err.line c.in_ok-line-in-Err.ensures.line
-    (no_program_line c.args.bytes.now c.args.script.now c.in-Err.fault c.requires.script c.in-Err.ensures c.in_ok-line-in-Err.ensures.told))
+    (no_program_line c.args.bytes.now c.args.script.now c.in-Err.fault c.requires.script c.in-Err.ensures.means c.in_ok-line-in-Err.ensures.told))
     c.refused.ensures
 
 pub returns-in_ok-due-in-Ok : goal.returns-in_ok-due-in-Ok
 returns-in_ok-due-in-Ok g c =
-    worked (W.Run c.args.setup c.args.telling) c.args.bytes.now c.in-Ok.ready _ _ _ (c.args.script.now, c.requires.script, c.in-Ok.ensures) c.in_ok-due-in-Ok.ensures
+    worked (W.Run c.args.setup c.args.telling) c.args.bytes.now c.in-Ok.ready _ _ _ (c.args.script.now, c.requires.script, c.in-Ok.ensures.means) c.in_ok-due-in-Ok.ensures

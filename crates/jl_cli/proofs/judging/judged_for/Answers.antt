@@ -10,9 +10,9 @@ pub returns-in_ok-line-in-Err : goal.returns-in_ok-line-in-Err
 returns-in_ok-line-in-Err g c =
     unjudged_so c.refused.result c.args.bytes.now c.args.history.now c.in_ok-line-in-Err.line
     (line_along c.args.bytes.now (static_line c.args.bytes.now c.in-Err.fault) c.in_ok-line-in-Err.line c.in_ok-line-in-Err.ensures.line
-    (no_program_line c.args.bytes.now c.args.script.now c.in-Err.fault c.requires.script c.in-Err.ensures c.in_ok-line-in-Err.ensures.told))
+    (no_program_line c.args.bytes.now c.args.script.now c.in-Err.fault c.requires.script c.in-Err.ensures.means c.in_ok-line-in-Err.ensures.told))
     c.refused.ensures
 
 pub returns-in_ok-due-in-Ok : goal.returns-in_ok-due-in-Ok
 returns-in_ok-due-in-Ok g c =
-    (judged c.args.bytes.now c.args.history.now c.in-Ok.ready _ _ (c.args.script.now, c.requires.script, c.in-Ok.ensures) c.in_ok-due-in-Ok.ensures.0, c.in_ok-due-in-Ok.ensures.1)
+    (judged c.args.bytes.now c.args.history.now c.in-Ok.ready _ _ (c.args.script.now, c.requires.script, c.in-Ok.ensures.means) c.in_ok-due-in-Ok.ensures.0, c.in_ok-due-in-Ok.ensures.1)

@@ -6,5 +6,5 @@ use Rattle.jl_core.proofs.trace.has_true_trace.Given as goal
 
 abbrev pub invariant-loop-item : goal.invariant-loop-item
 invariant-loop-item l =
-    (AreTrueOf l.events l.task (drop l.item-index l.trace) × IsInOrder l.low (drop l.item-index l.trace) (length l.events))
-    ↔ (AreTrueOf l.events l.task l.trace × IsInOrder (first_place l.task 0 l.events) l.trace (length l.events))
+    (AreTrueOf l.ready l.events l.task (drop l.item-index l.trace) × IsInOrder l.low (drop l.item-index l.trace) (length l.events))
+    ↔ (AreTrueOf l.ready l.events l.task l.trace × IsInOrder (first_place l.task 0 l.events) l.trace (length l.events))

@@ -5,8 +5,8 @@ use Rattle.jl_subsig.specs.Side.{Every}
 use Rattle.jl_lead.specs.Picked.{Picked}
 use Rattle.jl_lead.proofs.choosing.pick.Given as goal
 
-abbrev pub invariant-loop-i : goal.invariant-loop-i
-invariant-loop-i l = record {
-  goes_on : (rest : List Def) → Picked l.ready l.types (drop l.i l.defs) rest → Picked l.ready l.types l.defs (l.those.items ++ rest);
-  sites : Every (HasSite l.ready) (drop l.i l.defs);
+abbrev pub invariant-loop-def : goal.invariant-loop-def
+invariant-loop-def l = record {
+  goes_on : (rest : List Def) → Picked l.ready l.types (drop l.def-index l.defs) rest → Picked l.ready l.types l.defs (l.those.items ++ rest);
+  sites : Every (HasSite l.ready) (drop l.def-index l.defs);
 }

@@ -35,5 +35,5 @@ loop-number-preserved g c =
 
 pub returns-clause-cut : goal.returns-clause-cut
 returns-clause-cut g c =
-    λ site touched.
-    all_cut g.N.Naming.about.program.value c.args.book.now.events c.args.touched.now c.loop-number.book.cut c.loop-number.number-index site (omega (arith, c.loop-number-test.false)) c.loop-number.invariant.cut touched
+    λ change touched.
+    all_cut g.N.Naming.about.program.value c.args.book.now.events c.args.touched.now c.loop-number.book.cut c.loop-number.number-index change (omega (arith, c.loop-number-test.false)) c.loop-number.invariant.cut touched

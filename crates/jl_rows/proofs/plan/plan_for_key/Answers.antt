@@ -1,6 +1,7 @@
 use Rattle.std.proofs.Common.{sym, subst, refl}
 use Rattle.jl_program.specs.declared.choice.Choice.{Choice}
 use Rattle.jl_program.specs.declared.tree.Program.{Program}
+use Rattle.jl_program.specs.Valid.{IsValid}
 use Rattle.jl_program.specs.declared.choice.Choice.TheVariants.{Method}
 use Rattle.jl_calculus.specs.World.{Selects}
 use Rattle.jl_methods.specs.Indexed.{IsIndexOf}
@@ -13,6 +14,17 @@ pub choose_for_key-requires-clause-index : goal.choose_for_key-requires-clause-i
 choose_for_key-requires-clause-index g c =
     let es = c.args.book.now.events in
     (es, subst (λ (P : Program). IsIndexOf P es c.args.index.now) (sym c.requires.program) c.requires.index)
+
+pub plan_row-row-requires-clause-valid : goal.plan_row-row-requires-clause-valid
+plan_row-row-requires-clause-valid g c = subst IsValid c.requires.program c.valid.ensures
+
+pub plan_row-row-requires-clause-choice : goal.plan_row-row-requires-clause-choice
+plan_row-row-requires-clause-choice g c =
+    let es = c.args.book.now.events in
+    λ k at.
+    subst (λ (P : Program). Selects P es k.function k.types c.args.world (Method c.in-Method.definition)) c.requires.program
+    (subst (λ (o : Choice). Selects c.args.ready.now es k.function k.types c.args.world o) c.in-Method.is
+    (c.in_ok-choice.ensures es k (subst (λ (P : Program). IsIndexOf P es c.args.index.now) (sym c.requires.program) c.requires.index) at))
 
 pub returns-in-Method-clause-plan : goal.returns-in-Method-clause-plan
 returns-in-Method-clause-plan g c =

@@ -1,12 +1,13 @@
-use Rattle.std.proofs.Common.{◌≡◌, ◌∙◌, ap, sym, refl, arith, length, true≢false}
+use Rattle.std.proofs.Common.{◌≡◌, ◌∙◌, ap, sym, subst, refl, arith, length, true≢false}
+use Rattle.jl_calculus.specs.Legal.{IsKeyOf}
 use Rattle.jl_calculus.specs.Ranges.{keys_of, rows_of}
-use Rattle.jl_calculus.proofs.BetweenLemmas.{of_world}
-use Rattle.jl_calculus.proofs.GrowthLemmas.{definitions_length}
 use Rattle.jl_cache.proofs.Linked.{row_free}
+use Rattle.jl_methods.specs.Filters.{change_in, IsDefinition}
+use Rattle.jl_methods.proofs.FunctionLemmas.{all_get}
 use Rattle.jl_world.specs.declared.view.BookView.{BookView}
 use Rattle.jl_world.proofs.Lists.{there}
 use Rattle.jl_rows.specs.Open.{HasRowFrom}
-use Rattle.jl_rows.proofs.PlanLemmas.{from_covers, none_covers, row_for}
+use Rattle.jl_rows.proofs.PlanLemmas.{chosen_definition, from_covers, none_covers, row_for}
 use Rattle.jl_rows.proofs.plan.plan_row.Goals as goal
 
 pub span_at-span-requires-clause-ordered : goal.span_at-span-requires-clause-ordered
@@ -20,7 +21,7 @@ returns-then-has_row_from-clause-plan g c =
     let P = g.N.Naming.about.program.value in
     let es = c.args.book.now.events in
     λ k named.
-    from_covers P es c.requires.history.stand c.args.key k named c.touching.result.now (c.touching.ensures.exact P es k c.requires.index named) c.args.world c.span_at-span.result c.span_at-span.ensures
+    from_covers P c.requires.valid es c.requires.history.stand c.args.key k (all_get (IsKeyOf P) (keys_of es) c.args.key k c.requires.index.proper_keys named) named c.touching.result.now (c.touching.ensures.exact P es k c.requires.index named) c.args.world c.span_at-span.result c.span_at-span.ensures
     (c.has_row_from.ensures.found.0 c.if-has_row_from.true)
 
 pub returns-then-linked-rows-clause-plan : goal.returns-then-linked-rows-clause-plan
@@ -28,7 +29,7 @@ returns-then-linked-rows-clause-plan g c =
     let P = g.N.Naming.about.program.value in
     let es = c.args.book.now.events in
     λ k named. (
-      none_covers P es c.requires.history.stand c.args.key k named c.touching.result.now (c.touching.ensures.exact P es k c.requires.index named) c.args.world c.span_at-span.result c.span_at-span.ensures
+      none_covers P c.requires.valid es c.requires.history.stand c.args.key k (all_get (IsKeyOf P) (keys_of es) c.args.key k c.requires.index.proper_keys named) named c.touching.result.now (c.touching.ensures.exact P es k c.requires.index named) c.args.world c.span_at-span.result c.span_at-span.ensures
           (λ h. true≢false (sym (c.has_row_from.ensures.found.1 h) ∙ c.if-has_row_from.false)),
       ap (λ (b : BookView). length (rows_of b.events)) (sym c.has_row_from.ensures.same) ∙ sym c.linked.ensures.count ∙ c.if-linked-rows.true ∙ c.rows.ensures,
     )
@@ -38,8 +39,7 @@ site-site-requires g c =
     let P = g.N.Naming.about.program.value in
     let es = c.args.book.now.events in
     let (k, at) = there (keys_of es) c.args.key c.requires.key in
-    let low = of_world P es k.function k.types c.args.world c.args.definition (c.requires.choice k at) in
-    (low.0, omega (arith, low.1, c.requires.world.1, definitions_length es, ap length c.requires.index.known_sites))
+    subst (λ cs. IsDefinition (change_in cs c.args.definition)) (sym c.requires.index.known_changes) (chosen_definition P es k.function k.types c.args.world c.args.definition (c.requires.choice k at))
 
 pub returns-clause-plan : goal.returns-clause-plan
 returns-clause-plan g c =
@@ -51,8 +51,8 @@ returns-clause-plan g c =
     let free = row_free _ _ _ c.linked.ensures.few c.rows.ensures c.if-linked-rows.false in
     λ k named.
     let exact = c.touching.ensures.exact P es k c.requires.index named in (
-      none_covers P es c.requires.history.stand c.args.key k named c.touching.result.now exact c.args.world span c.span_at-span.ensures none,
+      none_covers P c.requires.valid es c.requires.history.stand c.args.key k (all_get (IsKeyOf P) (keys_of es) c.args.key k c.requires.index.proper_keys named) named c.touching.result.now exact c.args.world span c.span_at-span.ensures none,
       omega (arith, free, c.linked.ensures.count, same),
-      row_for P es c.requires.history.stand c.args.key k named c.touching.result.now exact c.args.world span c.span_at-span.ensures c.args.definition (c.requires.choice k named) none _
+      row_for P c.requires.valid es c.requires.history.stand c.args.key k (all_get (IsKeyOf P) (keys_of es) c.args.key k c.requires.index.proper_keys named) named c.touching.result.now exact c.args.world span c.span_at-span.ensures c.args.definition (c.requires.choice k named) none _
           (c.site-site.ensures P es c.requires.index) refl refl,
     )

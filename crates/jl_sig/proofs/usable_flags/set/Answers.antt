@@ -1,4 +1,4 @@
-use Rattle.std.proofs.Common.{◌≤◌, ◌∙◌, arith, length}
+use Rattle.std.proofs.Common.{◌∙◌, arith}
 use Rattle.jl_sig.proofs.FlagLemmas.{one_set, none_set}
 use Rattle.jl_sig.proofs.usable_flags.set.Goals as goal
 

@@ -1,4 +1,3 @@
-use Rattle.std.proofs.Common.{◌≡◌, ◌<◌, length, get_or}
 use Rattle.jl_model.specs.Ancestors.{table_of}
 use Rattle.jl_subsig.specs.declared.choice.Method.{Method}
 use Rattle.jl_subsig.specs.Decide.{method_in}

@@ -6,7 +6,7 @@ use Rattle.jl_model.specs.Subtype.{is_concrete}
 use Rattle.jl_model.specs.Valid.{is_known}
 use Rattle.jl_types.proofs.GroundLemmas.{size-tuple, size-at, all-at}
 use Rattle.jl_subsig.specs.Side.{held}
-use Rattle.jl_subsig.proofs.SureLemmas.{concrete-tuple}
+use Rattle.jl_subsume.proofs.SureLemmas.{concrete-tuple}
 use Rattle.jl_subsig.proofs.SureSteps.{known_parts, kind_is, none_sure}
 use Rattle.jl_subsig.proofs.concrete.+concrete.Goals as goal
 

@@ -1,6 +1,6 @@
 use Rattle.jl_model.specs.Ancestors.{table_of}
 use Rattle.jl_model.proofs.DeclaredLemmas.{declared_lawful}
-use Rattle.jl_subsig.proofs.SubsumeLemmas.{subsumed}
+use Rattle.jl_subsume.proofs.SubsumeLemmas.{subsumed}
 use Rattle.jl_subsig.proofs.laws.law_subsumption.Goals as goal
 
 pub returns : goal.returns

@@ -1,8 +1,11 @@
-use Rattle.std.proofs.Common.{◌∙◌, ap, subst, [], ◌∷◌, ◌++◌, None}
+use Rattle.std.proofs.Common.{◌∙◌, ap, sym, subst, [], ◌∷◌, ◌++◌, None}
+use Rattle.jl_program.specs.Valid.{IsValid}
 use Rattle.jl_calculus.specs.declared.history.Event.TheVariants as Ev
 use Rattle.jl_world.specs.declared.view.BookView.{BookView}
 use Rattle.jl_world.specs.Rule.{IsHistory}
+use Rattle.jl_book.specs.Passes.{IsPass}
 use Rattle.jl_book.proofs.PartLemmas.{first_parts}
+use Rattle.jl_book.proofs.Starts.{met_pass, root_pass}
 use Rattle.jl_book.proofs.book.Book.open.Goals as goal
 
 pub invariant_of-book : goal.invariant_of-book
@@ -15,3 +18,9 @@ invariant_of-book g c =
     c.in_ok-index.ensures
     c.new-keys.ensures.empty
     (c.in_ok-push-2.ensures.items ∙ ap (λ xs. xs ++ None ∷ []) c.new-ends.ensures.items)
+
+pub invariant_of-pass : goal.invariant_of-pass
+invariant_of-pass g c =
+    let about = g.N.Naming.about in
+    let valid = subst IsValid c.requires.ready c.valid.ensures in
+    met_pass about _ 0 _ c.meet.new.seat (subst (IsPass about 0) (sym c.open-world.ensures.root) (root_pass about valid)) c.meet.ensures.fits.prefix c.meet.ensures.seat

@@ -1,7 +1,9 @@
 use Rattle.std.proofs.Common.{◌≡◌, ◌∙◌, ap, sym, subst, arith, length, ◌≤◌}
+use Rattle.jl_calculus.specs.Legal.{IsKeyOf}
 use Rattle.jl_calculus.specs.Ranges.{keys_of}
 use Rattle.jl_calculus.specs.World.{world_of}
 use Rattle.jl_methods.specs.Indexed.{IsIndexOf}
+use Rattle.jl_methods.proofs.FunctionLemmas.{all_get}
 use Rattle.jl_rows.specs.Plans.{IsPlanFor, with_row}
 use Rattle.jl_world.specs.declared.view.BookView.{BookView}
 use Rattle.jl_world.specs.declared.view.TaskView.{TaskView}
@@ -64,4 +66,5 @@ returns-clause-kept g c =
     let added : c.make_row.new.self ≡ with_row es n plan.row =
     c.in_ok-row.ensures.added ∙ ap (λ (b : BookView). with_row b.events c.key-key.result plan.row) (c.in_ok-plan.ensures.same ∙ c.meet.ensures.book) ∙ ap (λ k. with_row es k plan.row) c.key-key.ensures
     in
-    plan_kept about seen es c.make_row.new.self n w plan b low made added
+    let proper = all_get (IsKeyOf about.program.value) (keys_of es) n made.key c.self.invariant.filters.proper_keys made.named in
+    plan_kept about seen es c.make_row.new.self n w plan b low made added c.pass.invariant.valid proper

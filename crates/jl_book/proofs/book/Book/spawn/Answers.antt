@@ -42,7 +42,7 @@ invariant_of-result g c =
     let history = history_push about es (Ev.Spawn t child start) h.book.history may tt tt in
     let is : c.spawn-event.result.1 ≡ begun child (Some start) (es ++ Ev.Spawn t child start ∷ []) =
     c.spawn-event.ensures.child ∙ (λ k. begun child (Some (c.in-Ok.ensures.start k)) ((c.meet.ensures.book k).events ++ Ev.Spawn t child (c.in-Ok.ensures.start k) ∷ [])) in
-    subst (IsPass about child) (sym is) (child_pass about es t child start h.book.history history next)
+    subst (IsPass about child) (sym is) (child_pass about c.pass.invariant.valid es t child start h.book.history history next)
 
 pub invariant_of-self-2 : goal.invariant_of-self-2
 invariant_of-self-2 g c =

@@ -1,11 +1,11 @@
 use Rattle.std.proofs.Common.{ℕ, suc, ◌≡◌, ◌-◌, ◌≤◌, ⊎_elim, true≢false, refl, sym, ◌∙◌, subst, arith}
 use Rattle.jl_world.specs.declared.view.TaskView.{TaskView}
 use Rattle.jl_world.specs.declared.row_word.RowWord.TheVariants.{Site, First, Last, Next, Top}
-use Rattle.jl_calculus.specs.Learnt.{IsChosen, IsUncovered}
+use Rattle.jl_calculus.specs.Learnt.{IsUncovered}
 use Rattle.jl_calculus.specs.World.{world_of}
 use Rattle.jl_world.specs.Tells.{IsRowWord}
 use Rattle.jl_world.proofs.Growth.{worlds_grow}
-use Rattle.jl_cache.specs.Finds.{Reaches}
+use Rattle.jl_cache.specs.Finds.{IsHit, Reaches}
 use Rattle.jl_cache.proofs.Linked.{head_link}
 use Rattle.jl_cache.proofs.Tried.{Tried, tried_first, find_hit, find_on, find_stop, tried_all, told_at}
 use Rattle.jl_cache.proofs.cache.Cache.find.Given as given
@@ -28,7 +28,7 @@ returns-then-covers-clause-found g c =
     let here : c.loop-link.link ≡ suc j = omega (arith, c.loop-link-test.true) in
     let low : c.args.world ≤ world_of at.seen = omega (arith, c.requires.world, worlds_grow c.args.seat.now.seen at.seen c.load_head-head.ensures.seen) in
     let yes = subst (λ (w : ℕ). (c.load_row-first.result ≤ w) × Reaches c.load_row-last.result w) c.from.ensures (c.covers.ensures.0 c.if-covers.true) in
-    subst (λ (v : TaskView). IsChosen P v.seen c.args.key c.args.world c.load_row-site.result) (sym (three.same ∙ two.same ∙ one.same ∙ i.0))
+    subst (λ (v : TaskView). IsHit P v.seen c.args.key c.args.world c.load_row-site.result) (sym (three.same ∙ two.same ∙ one.same ∙ i.0))
     (find_hit P at.seen c.args.key c.args.world j c.load_row-first.result c.load_row-last.result c.load_row-site.result (subst (Tried P at.seen c.args.key c.args.world) here i.1) low
     (told_at P c.loop-link.seat at j _ First i.0 one.word) (told_at P c.load_row-first.new.seat at j _ Last (one.same ∙ i.0) two.word)
     (told_at P c.load_row-last.new.seat at j _ Site (two.same ∙ one.same ∙ i.0) three.word) yes.0 yes.1)

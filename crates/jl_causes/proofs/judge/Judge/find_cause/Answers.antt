@@ -28,6 +28,12 @@ pub returns-in-Def : goal.returns-in-Def
 returns-in-Def c = λ es h told later named.
     subst (λ x. IsJudged c.args.ready.now c.args.entries.now es x c.judge_def.result) (sym c.in-Def.is) (c.judge_def.ensures c.args.entries.now es h)
 
+pub returns-in-Del : goal.returns-in-Del
+returns-in-Del c =
+    let P = c.args.ready.now in
+    λ es h told later named.
+    subst (λ x. IsJudged P c.args.entries.now es x c.judge_del.result) (sym c.in-Del.is) (c.judge_del.ensures P c.args.entries.now es c.in-Del.place h)
+
 pub judge_spawn-requires : goal.judge_spawn-requires
 judge_spawn-requires c = let (es, h) = c.requires in (c.args.entries.now, es, h)
 

@@ -1,7 +1,7 @@
-use Rattle.std.proofs.Common.{ap, subst, arith, length}
+use Rattle.std.proofs.Common.{sym, subst}
 use Rattle.jl_calculus.specs.World.{Selects}
-use Rattle.jl_calculus.proofs.GrowthLemmas.{definitions_length}
-use Rattle.jl_causes.proofs.RowLemmas.{known_key, no_site, site_chosen, chosen_known}
+use Rattle.jl_methods.specs.Filters.{IsDefinition, change_in}
+use Rattle.jl_causes.proofs.RowLemmas.{known_key, no_site, site_chosen, chosen_definition}
 use Rattle.jl_causes.proofs.rows.Rows.chooses_right.Goals as goal
 
 pub choose_for_key-requires-clause-key : goal.choose_for_key-requires-clause-key
@@ -21,8 +21,9 @@ pub site-requires : goal.site-requires
 site-requires c =
     let P = c.args.ready.now in
     let (es, k, h, at, b) = c.requires in
-    let w = chosen_known P es k c.args.first c.in-Method.method (subst (Selects P es k.function k.types c.args.first) c.in-Method.is (c.in_ok-choice.ensures es k h.indexed at)) b in
-    (w.0, omega (arith, w.1, ap length h.indexed.known_sites, definitions_length es))
+    let d = c.in-Method.method in
+    subst (λ cs. IsDefinition (change_in cs d)) (sym h.indexed.known_changes)
+    (chosen_definition P es k.function k.types c.args.first d (subst (Selects P es k.function k.types c.args.first) c.in-Method.is (c.in_ok-choice.ensures es k h.indexed at)))
 
 pub returns : goal.returns
 returns c =

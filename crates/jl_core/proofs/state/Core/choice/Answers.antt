@@ -1,4 +1,4 @@
-use Rattle.std.proofs.Common.{◌≡◌, ◌∙◌, ap, sym, subst, arith, slice_get, Some}
+use Rattle.std.proofs.Common.{◌≡◌, ◌∙◌, ap, sym, subst, arith, slice_get}
 use Rattle.jl_calculus.specs.Legal.{IsKeyOf}
 use Rattle.jl_calculus.specs.Ranges.{keys_of}
 use Rattle.jl_calculus.specs.World.{world_of}

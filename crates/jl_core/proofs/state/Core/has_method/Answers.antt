@@ -1,5 +1,4 @@
-use Rattle.std.proofs.Common.{◌≡◌, ◌∙◌, ◌↔◌, IsTrue, true, false, ap, sym, subst, arith, length, slice_get, Some, None, Bor}
-use Rattle.jl_model.specs.declared.ty.Key.{Key}
+use Rattle.std.proofs.Common.{◌≡◌, ◌∙◌, ◌↔◌, IsTrue, true, false, ap, sym, subst, arith, slice_get}
 use Rattle.jl_calculus.specs.Legal.{IsKeyOf}
 use Rattle.jl_calculus.specs.Ranges.{keys_of}
 use Rattle.jl_calculus.specs.World.{world_of}
@@ -7,8 +6,8 @@ use Rattle.jl_core.specs.Asked.{HasMethod}
 use Rattle.jl_core.specs.Flags.{IsRangeOrNone}
 use Rattle.jl_core.specs.Kept.{core_of}
 use Rattle.jl_core.specs.State.{State}
-use Rattle.jl_core.proofs.AskLemmas.{no_name, method_there, no_method, few_known}
-use Rattle.jl_core.proofs.EnabledLemmas.{yes_where, no_where, none_told, key_proper}
+use Rattle.jl_core.proofs.AskLemmas.{method_there, no_method, few_known}
+use Rattle.jl_core.proofs.EnabledLemmas.{yes_where, no_where, key_proper}
 use Rattle.jl_core.proofs.state.Core.has_method.Goals as goal
 
 pub range_of-requires-clause-key : goal.range_of-requires-clause-key

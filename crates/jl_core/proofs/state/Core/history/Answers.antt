@@ -13,4 +13,5 @@ returns-clause-stand c =
 pub returns-clause-traced : goal.returns-clause-traced
 returns-clause-traced c =
     let a = c.self.inside in
-    subst IsTraced (sym c.as_slice.ensures.value) (reached_sound a.program (record { keys = a.keys; rows = a.rows }) (core_of a) c.self.invariant.reached).events.traced
+    subst (λ s. IsTraced s.program c.as_slice.result.now) c.self.view_is
+    (subst (IsTraced a.program) (sym c.as_slice.ensures.value) (reached_sound a.program (record { keys = a.keys; rows = a.rows }) (core_of a) c.self.invariant.reached).events.traced)

@@ -4,7 +4,7 @@ use Rattle.jl_model.specs.declared.ty.Key.{Key}
 use Rattle.jl_program.specs.declared.tree.Program.{Program}
 use Rattle.jl_calculus.specs.Core as C
 use Rattle.jl_calculus.specs.Legal.{IsKeyOf}
-use Rattle.jl_calculus.specs.Ranges.{keys_of, SiteTouches}
+use Rattle.jl_calculus.specs.Ranges.{keys_of, head_of, HeadTouches}
 use Rattle.jl_core.specs.Kept.{core_of, opened_of}
 use Rattle.jl_core.specs.State.{State}
 use Rattle.jl_core.proofs.EnabledLemmas.{no_where, none_told, has_end, no_key, key_proper, left_where}
@@ -39,7 +39,7 @@ returns c =
     let at = slice_get_read a.words.items _ c.args.row c.index-words.result.now refl (omega (arith, c.if-row-len.false, c.len.ensures, a.words.ok.0)) c.index-words.ensures in
     let named = ap (λ es. slice_get (keys_of es) c.index-words.result.now.key) (sym c.as_slice.ensures.value) ∙ c.in-Some-key_at.ensures in
     let same : c.args.ready.now ≡ a.program = c.requires ∙ sym (ap (λ (s : State). s.program) c.self.view_is) in
-    let o : C.Opened = record { task = c.in-Some.opening.task; site = c.in-Some.opening.site; cut = a.cut.items } in
-    let told = subst (λ (P : Program). IsTrue c.in_ok-yes.yes ↔ SiteTouches P (slice_get P.sites c.in-Some.opening.site) c.in-Some-key_at.key.now) same c.in_ok-yes.ensures in
+    let o : C.Opened = record { task = c.in-Some.opening.task; change = c.in-Some.opening.change; cut = a.cut.items } in
+    let told = subst (λ (P : Program). IsTrue c.in_ok-yes.yes ↔ HeadTouches P (head_of P c.in-Some.opening.change) c.in-Some-key_at.key.now) same c.in_ok-yes.ensures in
     subst (λ s. IsTrue c.in_ok-yes.yes ↔ C.CanCut s.program s.room s.core c.args.row) c.self.view_is
     (left_where _ _ (core_of a) _ c.self.invariant c.args.row c.index-words.result.now o c.in-Some-key_at.key.now c.in_ok-yes.yes at c.if-words-ne0.false (ap (λ x. opened_of x a.cut.items) c.in-Some.is) named told)

@@ -1,10 +1,9 @@
 use Rattle.std.proofs.Common.{◌∙◌, ◌↔◌, IsTrue, false, ap, sym, subst, arith}
 use Rattle.jl_calculus.specs.Core.{IsFree, HasSeen, CanFill}
-use Rattle.jl_calculus.specs.World.{world_of}
 use Rattle.jl_calculus.proofs.GrowthLemmas.{first_at_most}
 use Rattle.jl_core.specs.Asked.{HasMethod, any_reached}
 use Rattle.jl_core.specs.Kept.{core_of}
-use Rattle.jl_core.proofs.AskLemmas.{refuted, no_place, is_there, fill_where}
+use Rattle.jl_core.proofs.AskLemmas.{is_there, fill_where}
 use Rattle.jl_core.proofs.EnabledLemmas.{no_where}
 use Rattle.jl_core.proofs.state.Core.may_fill.Goals as goal
 

@@ -7,7 +7,7 @@ use Rattle.jl_calculus.specs.Legal.{IsKeyOf}
 use Rattle.jl_calculus.specs.Ranges.{keys_of}
 use Rattle.jl_core.specs.Kept.{core_of}
 use Rattle.jl_core.specs.State.{State}
-use Rattle.jl_core.proofs.AskLemmas.{refuted, named_key, key_named, name_where}
+use Rattle.jl_core.proofs.AskLemmas.{named_key, key_named, name_where}
 use Rattle.jl_core.proofs.EnabledLemmas.{no_where, not_both}
 use Rattle.jl_core.proofs.state.Core.may_name.Goals as goal
 

@@ -25,7 +25,7 @@ returns-then-left c =
 pub returns : goal.returns
 returns c =
     let a = c.self.inside in
-    let o : C.Opened = record { task = c.in-Some.field-0.task; site = c.in-Some.field-0.site; cut = a.cut.items } in
+    let o : C.Opened = record { task = c.in-Some.field-0.task; change = c.in-Some.field-0.change; cut = a.cut.items } in
     subst (λ s. IsTrue true ↔ C.CanPublish s.program s.room s.core) c.self.view_is
     (yes_where
     (none_left _ _ (core_of a) _ c.self.invariant o (ap (λ x. opened_of x a.cut.items) c.in-Some.is)

@@ -1,8 +1,7 @@
-use Rattle.std.proofs.Common.{◌∙◌, ◌↔◌, IsTrue, false, ap, sym, subst, refl, arith, length}
-use Rattle.jl_program.specs.declared.tree.Program.{Program}
+use Rattle.std.proofs.Common.{◌∙◌, ◌↔◌, IsTrue, false, sym, subst, refl, arith}
 use Rattle.jl_calculus.specs.Core.{IsFree, HasSeenWorld, Knows, CanSpawn}
 use Rattle.jl_core.specs.Kept.{core_of}
-use Rattle.jl_core.proofs.AskLemmas.{refuted, spawn_where}
+use Rattle.jl_core.proofs.AskLemmas.{spawn_where}
 use Rattle.jl_core.proofs.EnabledLemmas.{no_where}
 use Rattle.jl_core.proofs.KeepLemmas.{count_of}
 use Rattle.jl_core.proofs.state.Core.may_spawn.Goals as goal

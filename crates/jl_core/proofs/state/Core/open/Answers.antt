@@ -9,9 +9,9 @@ use Rattle.jl_core.proofs.state.Core.open.Goals as goal
 pub invariant_of-self : goal.invariant_of-self
 invariant_of-self c =
     let a = c.self.inside in
-    let may = subst (λ s. MayMake s (St.Open c.args.task c.args.site)) (sym c.self.view_is) c.requires in
-    next _ _ (core_of a) _ c.self.invariant (St.Open c.args.task c.args.site) _ _ may
-    (core_same _ (C.with_opened (core_of a) (Some (record { task = c.args.task; site = c.args.site; cut = [] }))) refl refl
-    (λ i. Some (record { task = c.args.task; site = c.args.site; cut = c.clear.ensures.items i })))
+    let may = subst (λ s. MayMake s (St.Open c.args.task c.args.change)) (sym c.self.view_is) c.requires in
+    next _ _ (core_of a) _ c.self.invariant (St.Open c.args.task c.args.change) _ _ may
+    (core_same _ (C.with_opened (core_of a) (Some (record { task = c.args.task; change = c.args.change; cut = [] }))) refl refl
+    (λ i. Some (record { task = c.args.task; change = c.args.change; cut = c.clear.ensures.items i })))
     (subst (λ cut. AreWords a.program a.events.items cut a.words.items) (sym c.clear.ensures.items)
     (subst (λ (x : Option C.Opened). AreWords a.program a.events.items (C.cut_for x) a.words.items) may.free.closed c.self.invariant.words_told))

@@ -1,10 +1,11 @@
 use Rattle.std.proofs.Common.{◌≤◌, sym, subst, arith, take, IfOk}
 use Rattle.jl_program.specs.Scope.{all_types}
-use Rattle.jl_calculus.specs.Definitions.{HasSite, defs_from}
+use Rattle.jl_calculus.specs.Definitions.{HasSite}
 use Rattle.jl_calculus.specs.Legal.{IsKeyOf}
 use Rattle.jl_calculus.specs.World.{Selects, world_of}
 use Rattle.jl_match.specs.KeptRow.{AreConcrete}
 use Rattle.jl_subsig.specs.Side.{Every}
+use Rattle.jl_lead.specs.ByFunction.{defs_of}
 use Rattle.jl_lead.proofs.FunctionLemmas.{defs_sites}
 use Rattle.jl_lead.proofs.PickLemmas.{latest_sites}
 use Rattle.jl_lead.proofs.KeyTypes.{concrete_types}
@@ -21,7 +22,7 @@ pub choose_for-requires-clause-sites : goal.choose_for-requires-clause-sites
 choose_for-requires-clause-sites c =
     let d = c.self.inside in
     subst (λ P. Every (HasSite P) c.of-defs.result.now) (sym c.ready-ready.ensures)
-    (latest_sites d.definitions.0 (defs_from d.definitions.0 c.args.key.now.function 1 (take c.args.world d.definitions.1)) c.of-defs.result.now
+    (latest_sites d.definitions.0 (defs_of d.definitions.0 c.args.key.now.function 1 (take c.args.world d.definitions.1)) c.of-defs.result.now
     (defs_sites d.definitions.0 c.args.key.now.function 1 (take c.args.world d.definitions.1)) c.of-defs.ensures)
 
 pub choose_for-requires-clause-ordered : goal.choose_for-requires-clause-ordered
@@ -39,4 +40,4 @@ returns c =
     let d = c.self.inside in
     subst (λ v. IfOk c.choose_for.result (λ choice. Selects v.0 v.1 c.args.key.now.function c.args.key.now.types c.args.world choice)) c.self.view_is
     (chosen d.definitions.0 d.definitions.1 d.events.items d.tasks d.ends.items c.self.invariant c.ready-ready.result.now c.args.key.now.function c.args.world c.args.key.now.types c.as_slice.result.now c.of-defs.result.now
-    c.ready-ready.ensures c.valid.ensures c.of-defs.ensures c.as_slice.ensures c.choose_for.result c.choose_for.ensures)
+    c.ready-ready.ensures c.of-defs.ensures c.as_slice.ensures c.choose_for.result c.choose_for.ensures)

@@ -1,6 +1,6 @@
 use Rattle.std.proofs.Common.{◌≡◌, ◌∙◌, ap, map}
 use Rattle.jl_program.specs.TypeOf.{type_of}
-use Rattle.jl_machine.proofs.Choosing.{key_is, concrete_is, chosen_there, chosen_below, chosen_applies, chosen_later, kept_later, asked_twice}
+use Rattle.jl_machine.proofs.Choosing.{key_is, concrete_is, chosen_there, chosen_below, chosen_applies, chosen_later, kept_later, chosen_method, asked_twice}
 use Rattle.jl_machine.proofs.Stepping.{lent_none, lent_ambiguous, lent_method_is}
 use Rattle.jl_machine.proofs.TakenLemmas.{chosen_taken}
 use Rattle.jl_machine.proofs.task.Task.choose.Goals as goal
@@ -33,6 +33,11 @@ perform-requires-clause-taken g c =
     let right = rw (c.in-Method.is, c.in_ok-copy.ensures) at c.in_ok-select.ensures.right in
     let there = chosen_there _ _ c.args.ready.now c.args.function c.args.world c.in-Method.definition c.site-site.result c.in_ok-types.types c.requires.program c.select.ensures.asked right c.site-site.ensures in
     chosen_taken _ _ c.args.ready.now c.args.function c.args.world c.site-site.result _ c.in_ok-types.types c.requires.program (c.in_ok-types.ensures ∙ ap (map type_of) c.open_values.ensures) c.requires.fits there
+
+pub keep-requires : goal.keep-requires
+keep-requires g c =
+    let right = rw (c.in-Method.is, c.in_ok-copy.ensures) at c.in_ok-select.ensures.right in
+    chosen_method _ _ c.args.ready.now c.args.function c.args.world c.in-Method.definition c.site-site.result c.in_ok-types.types c.requires.program c.select.ensures.asked right c.site-site.ensures _ c.in_ok-statics-in-Method.ensures
 
 pub returns-in-None : goal.returns-in-None
 returns-in-None g c =

@@ -1,6 +1,6 @@
 use Rattle.std.proofs.Common.{◌∙◌, ap, sym, subst}
 use Rattle.jl_methods.specs.Indexed.{noted_in, awaited_in, HasRoomFor}
-use Rattle.jl_methods.specs.Noted.{with_event, with_def}
+use Rattle.jl_methods.specs.Noted.{with_event, with_def, with_del}
 use Rattle.jl_methods.proofs.NoteLemmas.{noted_is}
 use Rattle.jl_methods.proofs.index.Index.note.Goals as goal
 
@@ -25,6 +25,13 @@ returns-in-Def c =
     let i = c.args.self.now in
     λ es. noted_is P c.valid.ensures es c.args.event.now (awaited_in i) (noted_in i) (noted_in c.note_def.new.self)
     (c.note_def.ensures ∙ ap (λ f. with_def f c.in-Def.site (awaited_in i) (noted_in i)) c.function_of.ensures ∙ sym (ap (λ e. with_event P e (awaited_in i) (noted_in i)) c.in-Def.is))
+
+pub returns-in-Del : goal.returns-in-Del
+returns-in-Del c =
+    let P = c.args.ready.now in
+    let i = c.args.self.now in
+    λ es. noted_is P c.valid.ensures es c.args.event.now (awaited_in i) (noted_in i) (noted_in c.note_del.new.self)
+    (c.note_del.ensures ∙ ap (λ f. with_del f c.in-Del.place (awaited_in i) (noted_in i)) c.function_of-in-Del.ensures ∙ sym (ap (λ e. with_event P e (awaited_in i) (noted_in i)) c.in-Del.is))
 
 pub returns-in-Spawn : goal.returns-in-Spawn
 returns-in-Spawn c =

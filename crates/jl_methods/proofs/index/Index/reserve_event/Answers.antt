@@ -1,4 +1,5 @@
 use Rattle.std.proofs.Common.{arith, subst}
+use Rattle.jl_calculus.specs.declared.history.Change.TheVariants as Ch
 use Rattle.jl_calculus.specs.Legal.{MayCome}
 use Rattle.jl_methods.specs.Filters.{ComesWith}
 use Rattle.jl_methods.specs.Indexed.{awaited_in}
@@ -10,7 +11,7 @@ pub reserve_def-requires-clause-function : goal.reserve_def-requires-clause-func
 reserve_def-requires-clause-function c =
     let P = c.args.ready.now in
     let may = subst (MayCome P c.requires.es) c.in-Def.is c.requires.may_come in
-    omega (arith, function_of_known P c.valid.ensures c.in-Def.site may.of_program, c.function_of.ensures, c.requires.index.all_defs)
+    omega (arith, function_of_known P c.valid.ensures (Ch.Def c.in-Def.site) may.may.1, c.function_of.ensures, c.requires.index.all_defs)
 
 pub reserve_key-requires-clause-worlds : goal.reserve_key-requires-clause-worlds
 reserve_key-requires-clause-worlds c =

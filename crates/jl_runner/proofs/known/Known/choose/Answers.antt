@@ -1,6 +1,6 @@
 use Rattle.std.proofs.Common.{sym, subst}
 use Rattle.jl_world.specs.Views.{Begins}
-use Rattle.jl_runner.proofs.AskLemmas.{knowing_met, asked_known, choice_known, world_known, of_world_known}
+use Rattle.jl_runner.proofs.AskLemmas.{knowing_met, asked_known, choice_known, definition_known}
 use Rattle.jl_runner.proofs.known.Known.choose.Goals as goal
 
 pub invariant_of-self : goal.invariant_of-self
@@ -16,10 +16,7 @@ returns-in_err-choice-clause-asked g c =
 
 pub site_of-self-inside-requires : goal.site_of-self-inside-requires
 site_of-self-inside-requires g c =
-    let k = c.self.inside in
-    let w = world_known g.N.Naming.about c.args.self.now k.pass c.select.new.pass k.first k.site c.self.view_is c.args.world c.requires.world in
-    of_world_known g.N.Naming.about k.pass.seen c.select.new.self c.args.key.now.function c.args.key.now.types c.args.world c.in_ok-choice.choice
-    (subst (Begins k.pass.seen) (sym c.select.ensures.book) c.select.ensures.seen) w.1 c.in_ok-choice.ensures.choice
+    definition_known g.N.Naming.about.program.value c.select.new.self c.args.key.now.function c.args.key.now.types c.args.world c.in_ok-choice.choice c.in_ok-choice.ensures.choice
 
 pub invariant_of-self-2 : goal.invariant_of-self-2
 invariant_of-self-2 g c =

@@ -2,7 +2,7 @@ use Rattle.std.proofs.Common.{sym, subst}
 use Rattle.jl_world.proofs.Growth.{begins_trans}
 use Rattle.jl_calculus.specs.Learnt.{IsNamed}
 use Rattle.jl_runner.specs.declared.known.Knowing.{Knowing}
-use Rattle.jl_runner.proofs.AskLemmas.{knowing_met, asked_known, choice_known, world_known, of_world_known}
+use Rattle.jl_runner.proofs.AskLemmas.{knowing_met, asked_known, choice_known, definition_known}
 use Rattle.jl_runner.proofs.BookLemmas.{resolved_grows}
 use Rattle.jl_runner.proofs.known.Known.resolve.Goals as goal
 
@@ -21,12 +21,8 @@ returns-in_err-resolved-clause-asked g c =
 
 pub site_of-self-inside-requires : goal.site_of-self-inside-requires
 site_of-self-inside-requires g c =
-    let k = c.self.inside in
-    let b = resolved_grows c.resolve.result g.N.Naming.about c.args.book.now c.resolve.new.self c.args.miss.key c.args.miss.world c.resolve.ensures.resolved c.resolve.ensures.refused in
-    let w = world_known g.N.Naming.about c.args.self.now k.pass c.resolve.new.pass k.first k.site c.self.view_is c.args.miss.world c.requires.world in
     let named = subst (λ (u : Knowing). IsNamed u.view.seen c.args.miss.key c.args.key.now) (sym c.self.view_is) c.requires.named in
-    of_world_known g.N.Naming.about k.pass.seen c.resolve.new.self c.args.key.now.function c.args.key.now.types c.args.miss.world c.in_ok-resolved.resolved.choice
-    (begins_trans k.pass.seen c.args.book.now c.resolve.new.self c.resolve.ensures.seen b) w.1 (c.in_ok-resolved.ensures.choice c.args.key.now named)
+    definition_known g.N.Naming.about.program.value c.resolve.new.self c.args.key.now.function c.args.key.now.types c.args.miss.world c.in_ok-resolved.resolved.choice (c.in_ok-resolved.ensures.choice c.args.key.now named)
 
 pub invariant_of-self-2 : goal.invariant_of-self-2
 invariant_of-self-2 g c =

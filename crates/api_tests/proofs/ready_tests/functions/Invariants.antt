@@ -1,5 +1,0 @@
-use Rattle.std.proofs.Common.{◌≡◌, ◌++◌, drop, map, List, ℕ, Bor}
-use Rattle.api_tests.proofs.ready_tests.functions.Given as goal
-
-abbrev pub invariant-loop-name : goal.invariant-loop-name
-invariant-loop-name l = l.functions.items ++ map (λ (w : Bor (List ℕ)). w.now) (drop l.name-index l.name-items) ≡ map (λ (w : Bor (List ℕ)). w.now) l.name-items

@@ -1,6 +1,0 @@
-use Rattle.std.proofs.Common.{◌≡◌, ◌++◌, drop, map}
-use Rattle.api_tests.specs.SamplePrograms.{row_site}
-use Rattle.api_tests.proofs.ready_tests.sites.Given as goal
-
-abbrev pub invariant-loop-function : goal.invariant-loop-function
-invariant-loop-function l = l.sites.items ++ map row_site (drop l.function-index l.function-items) ≡ map row_site l.function-items

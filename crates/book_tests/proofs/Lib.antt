@@ -1,5 +1,0 @@
-pub mod ValidLemmas
-pub mod StartLemmas
-pub mod ChildLemmas
-pub mod KeyLemmas
-pub mod IndexLemmas

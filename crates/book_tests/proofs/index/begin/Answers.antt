@@ -1,6 +1,0 @@
-use Rattle.std.proofs.Common.{refl, []}
-use Rattle.book_tests.proofs.IndexLemmas.{may_begin, on_ok}
-use Rattle.book_tests.proofs.index.begin.Goals as goal
-
-pub returns : goal.returns
-returns c = on_ok c.note-noted.result _ _ (λ noted. noted [] c.requires (may_begin c.args.ready.now) refl) c.note-noted.ensures

@@ -1,6 +1,0 @@
-use Rattle.std.proofs.Common.{◌≡◌, length}
-use Rattle.book_tests.specs.Simple.{AreSimple}
-use Rattle.book_tests.proofs.keys.make_types.Given as goal
-
-abbrev pub invariant-loop : goal.invariant-loop
-invariant-loop l = AreSimple l.types.items × (length l.types.items ≡ l.counter)

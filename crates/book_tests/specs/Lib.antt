@@ -1,5 +1,0 @@
-pub mod Programs
-pub mod Child
-pub mod Simple
-pub mod Crossed
-pub mod Starts

@@ -1,0 +1,8 @@
+pub mod FormsLemmas
+pub mod MadeLemmas
+pub mod ScopeLemmas
+pub mod LiftLemmas
+pub mod PutBelowLemmas
+pub mod SureLemmas
+pub mod FitLemmas
+pub mod SubsumeLemmas

@@ -1,6 +1,0 @@
-use Rattle.std.proofs.Common.{◌<◌, length}
-use Rattle.jl_calculus.specs.Ranges.{keys_of}
-use Rattle.word_tests.proofs.searches.search_often.Given as goal
-
-abbrev pub invariant-loop : goal.invariant-loop
-invariant-loop g l = 0 < length (keys_of l.seat.seen)

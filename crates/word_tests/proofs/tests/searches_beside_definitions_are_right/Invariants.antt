@@ -1,6 +1,0 @@
-use Rattle.jl_world.specs.Names.{table_of, about_of}
-use Rattle.word_tests.proofs.tests.searches_beside_definitions_are_right.Given as goal
-
--- the words that were just made
-abbrev pub ghosts-search_beside_definitions : goal.ghosts-search_beside_definitions
-ghosts-search_beside_definitions g a = record { table = table_of a.blank; about = about_of a.blank }
