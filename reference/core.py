@@ -67,8 +67,10 @@ class Program:
 
     def is_signature_below(self, one, other):
         """Whether the other takes all that the first takes: a variable of the first is held fixed, so it equals itself alone, and one
-        of the other stands for the same type wherever it occurs."""
-        if len(one) != len(other):
+        of the other stands for the same type wherever it occurs. What has a part `Union{}` takes nothing."""
+        if any(part[0] == "Union{}" for part in one):
+            return True
+        if len(one) != len(other) or any(part[0] == "Union{}" for part in other):
             return False
         top = lambda part: part[1] or part[0]
         name_below = lambda a, b: b == "Any" or (a != "Any" and self.is_below((a, []), b))
