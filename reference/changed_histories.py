@@ -40,12 +40,15 @@ SCRIPTS = (
     b"struct Box{T}; x::T end\ng(b::Box{T}, c) where T = 1\nprintln(g(Box((1, true)), Box(Box(1))))\n@eval g(b::Box, c::Int64) = 2\nprintln(g(Box(1), 2))\n",
     "é(x) = x\nprintln(é(1))\n".encode(),
     b"\n",
+    b"f(x) = 1\nf(x::Int64) = 2\nprintln(f(0))\nBase.delete_method(which(f, Tuple{Int64}))\nprintln(f(0))\nBase.delete_method(which(f, Tuple{Int64}))\n",
+    b"f() = 1\nt = Threads.@spawn Base.delete_method(which(f, Tuple{}))\nprintln(fetch(t))\nu = Threads.@spawn Base.delete_method(which(f, Tuple{}))\nfetch(u)\n",
+    b"f() = 1\nif false; Base.delete_method(which(f, Tuple{})) end\n",
 )
 # The causes that the text alone tells; of the others a part is told as well, or none.
 TOLD = ("KeyOrder", "FillKey", "NotRunning", "ChildOrder", "Limit", "Unfinished", "ItemFalse", "EventMissing")
 ORDER = (
-    "KeyOrder KeyUnknown FillKey FillWorld FillChoice NotRunning Site ChildOrder Limit Unfinished ItemFalse EventMissing RunDiffers".split()
-)
+    "KeyOrder KeyUnknown FillKey FillWorld FillChoice NotRunning Site NoDefinition ChildOrder Limit Unfinished ItemFalse EventMissing RunDiffers"
+).split()
 NUMBERS = (
     b"0",
     b"1",
@@ -62,7 +65,7 @@ NUMBERS = (
     b"1_0",
     b"",
 )
-BYTES = b'0123456789 \n\r\t"\\nabcdefgkpswl%{},:\x00\x7f\x80\xa9\xc3\xed\xff'
+BYTES = b'0123456789 \n\r\t"\\nabcdefgkpstwl%{},:\x00\x7f\x80\xa9\xc3\xed\xff'
 
 
 def run(words, data):
@@ -83,7 +86,7 @@ def histories():
     for script in scripts:
         for threads in ("1", "8"):
             out, status = run(["trace", "--threads", threads], script)
-            if status in (0, 1) and b"%%history 1\n" not in script:
+            if status in (0, 1) and not FIRST_LINE.search(script):
                 history = jl_history.part(out)[1]
                 if len(history) <= MOST_BYTES:
                     yield whole_line(script), history
@@ -156,19 +159,25 @@ def changed(chance, history):
 
 # ---- what the reader says, and what replay says
 
+FIRST_LINE = re.compile(rb"^%%history [12]$", re.MULTILINE)
+
 
 def told(text):
-    """What the reader says of the input of `replay`, where the history begins with its first line that is exactly the header."""
-    found = re.search(rb"(?:\A|\n)(%%history 1(?:\n|\Z))", text)
+    """What the reader says of the input of `replay`, where the history begins with the first line that is one of the two headers: the fault,
+    the cause, and at which events a task says that it found nothing to delete, which the script alone can judge."""
+    found = FIRST_LINE.search(text)
     if not found:
-        return "no history", None
+        return "no history", None, ()
     try:
-        return None, jl_history.first_cause(jl_history.read(text[found.start(1) :]))
+        version = 2 if b"delete_method(which(" in text[: found.start()] else 1
+        events = jl_history.read(text[found.start() :], version)
     except jl_history.BadText as fault:
-        return f"illegal: line {fault.line}: BadText", None
+        return f"illegal: line {fault.line}: BadText", None, ()
+    finds_nothing = [place for place, event in enumerate(events) if event.kind == "done" and any(item.kind == "absent" for item in event.trace)]
+    return None, jl_history.first_cause(events), finds_nothing
 
 
-def is_same(answer, fault, cause):
+def is_same(answer, fault, cause, finds_nothing):
     if fault == "no history":
         return answer.startswith("ERROR: ")
     if fault:
@@ -177,9 +186,10 @@ def is_same(answer, fault, cause):
     if not found or found[2] == "RunDiffers":
         return cause is None and (found or answer.startswith("legal: ")) is not None
     event, name = int(found[1]), found[2]
+    is_told = name in TOLD and not (name == "ItemFalse" and event in finds_nothing)
     if cause is None:
-        return name not in TOLD
-    if name in TOLD:
+        return not is_told
+    if is_told:
         return (cause.event, cause.cause) == (event, name)
     return (event, ORDER.index(name)) <= (cause.event, ORDER.index(cause.cause))
 
@@ -194,8 +204,8 @@ def compare_changed(count, seed):
         answer = run(["replay"], text)[0].decode().rstrip("\n")
         kind = "BadText" if answer.endswith("BadText") else answer.split(" ")[-1] if answer.startswith("illegal") else answer.split(" ")[0]
         kinds[kind] = kinds.get(kind, 0) + 1
-        fault, cause = told(text)
-        if not is_same(answer, fault, cause):
+        fault, cause, finds_nothing = told(text)
+        if not is_same(answer, fault, cause, finds_nothing):
             differ += 1
             print(f"differs: replay says {answer!r}, the reader {fault!r} {cause}:\n{text!r}", file=sys.stderr)
     print("answers: " + ", ".join(f"{kind} {number}" for kind, number in sorted(kinds.items())))

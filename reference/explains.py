@@ -6,16 +6,18 @@
     reference/explains.py --script         writes the script and runs nothing
     JL=FILE reference/explains.py          with another program than crates/jl_main/out/jl_main
 
-Two tasks define one signature over and over, each time from another place of the text, while six tasks call it, 10,002 times by
-`Base.invokelatest` and as often plainly and in an evaluated statement. Each call gives the number of the definition that answered
-it, so each printed line says which one that was. From the history that `trace` writes, and from it alone, it is worked out again
-which definition was the newest one in the world of that call: the world that the task saw when it looked, or, of a plain call, the
-world that the task was started in. What is true of a history is tested by the way: that each look saw the world of the events before
-it, that definitions, tasks and fetches are the events that they say, that a row of the cache begins where a definition touched its key
-and holds the method of that world, and that the text is that of the tasks in their order.
+Two tasks define one signature over and over, each time from another place of the text, a third one defines it and starts a task each time
+that deletes it, where it is still there, while six tasks call it, 10,002 times by `Base.invokelatest` and as often plainly and in
+an evaluated statement. Each call gives the number of the definition that answered it, or that of a more general one where it is deleted, so
+each printed line says which one that was. From the history that `trace` writes, and from it alone, it is worked out again which definition
+was the newest one in the world of that call: the world that the task saw when it looked, or, of a plain call, the world that the task was
+started in. What is true of a history is tested by the way: that each look saw the world of the events before it, that definitions,
+deletions, tasks and fetches are the events that they say, that a task found nothing to delete exactly where nothing was there, that a row
+of the cache begins where a definition or deletion touched its key and holds the method of that world, and that the text is that of the
+tasks in their order.
 
-The last line counts runs, lines and differences, and says how often a line of a task has another definition than its last line of that
-kind, which shows how much the tasks ran side by side. The status is 0 only where there is no difference.
+The last line counts runs, lines, tasks that found nothing and differences, and says how often a line of a task has another definition than
+its last line of that kind, which shows how much the tasks ran side by side. The status is 0 only where there is no difference.
 """
 
 import os
@@ -32,6 +34,9 @@ FIRST_WORLD = 14
 # How many callers and how often each calls, and how many places of each definer and how often it goes through them.
 CALLERS, CALLS = 6, 1_667
 PLACES, ROUNDS = 20, 150
+# How often the one that has it deleted goes through its places.
+DELETED_ROUNDS = 75
+DELETION = "Threads.@spawn Base.delete_method(which(f, Tuple{Int64}))"
 # How many calls of another function come between, so that the tasks last long enough to run side by side.
 SPIN = 60
 
@@ -42,14 +47,20 @@ def definer(name, first):
     return f"function {name}(n::Int64)\n    if n == 0\n        return 0\n    end\n{places}    {name}(n - 1)\nend\n"
 
 
+def deleter():
+    """A function that defines `f` from all its places, so often, and each time starts a task that deletes it."""
+    places = "".join(f"    @eval f(x::Int64) = {3_000 + place}\n    spin({SPIN})\n    {DELETION}\n    spin({SPIN})\n" for place in range(PLACES))
+    return f"function delete(n::Int64)\n    if n == 0\n        return 0\n    end\n{places}    delete(n - 1)\nend\n"
+
+
 def script():
     """The script, and the number that each definition of `f` gives by its site."""
-    text = "f(x::Int64) = 1\nspin(n::Int64) = n == 0 ? 0 : spin(n - 1)\n"
-    text += definer("define_a", 1_000) + definer("define_b", 2_000)
+    text = "f(x) = 0\nf(x::Int64) = 1\nspin(n::Int64) = n == 0 ? 0 : spin(n - 1)\n"
+    text += definer("define_a", 1_000) + definer("define_b", 2_000) + deleter()
     text += "function call(n::Int64)\n    if n == 0\n        return 0\n    end\n"
     text += '    println("latest ", Base.invokelatest(f, n))\n    println("own ", f(n))\n'
     text += f'    @eval println("evaluated ", f(1))\n    spin({SPIN})\n    call(n - 1)\nend\n'
-    tasks = ["define_a({r})", "call({c})", "call({c})", "call({c})", "define_b({r})", "call({c})", "call({c})", "call({c})"]
+    tasks = ["define_a({r})", "call({c})", "call({c})", "call({c})", "define_b({r})", "call({c})", "call({c})", "call({c})", f"delete({DELETED_ROUNDS})"]
     for number, task in enumerate(tasks, 1):
         text += f"t{number} = Threads.@spawn {task.format(r=ROUNDS, c=CALLS)}\n"
     text += "".join(f"println(\"fetched \", fetch(t{number}))\n" for number in range(1, len(tasks) + 1))
@@ -96,13 +107,14 @@ class Task:
 
 
 class History:
-    """The events of a history, with the records of its tasks."""
+    """The events of a history of either version, with the records of its tasks."""
 
     def __init__(self, lines):
         self.lines, self.at = lines, 0
         # By the number of events: the world of so many first ones.
         self.worlds = [FIRST_WORLD]
-        self.events, self.definitions, self.tasks = [], [], {0: Task(None, 0)}
+        # The changes are the sites of definitions, and none for a deletion.
+        self.events, self.changes, self.tasks = [], [], {0: Task(None, 0)}
         self.read()
 
     def line(self):
@@ -111,7 +123,7 @@ class History:
         return self.lines[self.at - 1]
 
     def read(self):
-        ask(self.line() == "%%history 1", "no first line")
+        ask(self.line() in ("%%history 1", "%%history 2"), "no first line")
         ask(self.line().startswith("begin "), "no begin")
         self.add(("begin",))
         while True:
@@ -124,7 +136,7 @@ class History:
 
     def add(self, event):
         self.events.append(event)
-        self.worlds.append(self.worlds[-1] + (event[0] == "def"))
+        self.worlds.append(self.worlds[-1] + (event[0] in ("def", "del")))
 
     def key(self, number, function, *types):
         self.add(("key", int(number), function, " ".join(types)))
@@ -151,12 +163,17 @@ class History:
         self.add(("done", int(task)))
 
     def define(self, task, site):
-        self.definitions.append(int(site))
+        self.changes.append(int(site))
         self.add(("def", int(task), int(site)))
 
+    def delete(self, task, place):
+        self.changes.append(None)
+        self.add(("del", int(task), int(place)))
 
-# `def` is a word of Python.
+
+# `def` and `del` are words of Python.
 setattr(History, "def", History.define)
+setattr(History, "del", History.delete)
 
 
 def is_true(history, number, item):
@@ -166,10 +183,10 @@ def is_true(history, number, item):
     at = numbers[-1]
     if name == "look":
         return at <= len(history.events) and history.worlds[at] == numbers[0]
-    if name == "def":
-        return history.events[at] == ("def", number, numbers[0])
-    if name == "spawn":
-        return history.events[at] == ("spawn", number, numbers[0])
+    if name in ("def", "del", "spawn"):
+        return history.events[at] == (name, number, numbers[0])
+    if name == "absent":
+        return at <= len(history.events) and history.worlds[at] < 65_535
     if name == "fetch":
         ended = history.tasks[numbers[0]].done
         return ended is not None and ended < at
@@ -183,21 +200,21 @@ def test_items(history, number, task):
     for item in task.items:
         at = int(item[-1])
         ask(at >= before, f"task {number}: {item} is out of order")
-        before = at + (item[0] in ("def", "spawn"))
+        before = at + (item[0] in ("def", "del", "spawn"))
         ask(is_true(history, number, item), f"task {number}: {item} is not true")
     ask(before <= task.done, f"task {number} ends before its last item")
-    own = [(kind, rest[1]) for kind, *rest in history.events if kind in ("def", "spawn") and rest[0] == number]
-    recorded = [(item[0], int(item[1])) for item in task.items if item[0] in ("def", "spawn")]
+    own = [(kind, rest[1]) for kind, *rest in history.events if kind in ("def", "del", "spawn") and rest[0] == number]
+    recorded = [(item[0], int(item[1])) for item in task.items if item[0] in ("def", "del", "spawn")]
     ask(own == recorded, f"task {number}: its events are not those of its record")
 
 
 class Newest:
-    """Which definition of `f` is the newest one in a world."""
+    """Which definition of `f` is the newest one in a world: after a deletion the general one, which is the first of the script."""
 
     def __init__(self, history, values):
         self.values, self.by_world = values, [None] * (FIRST_WORLD + 1)
-        for site in history.definitions:
-            self.by_world.append(site if site in values else self.by_world[-1])
+        for site in history.changes:
+            self.by_world.append(min(values) if site is None else site if site in values else self.by_world[-1])
         # The world w has the definitions up to the w-th, and this list has one entry before the first world.
         self.by_world = self.by_world[1:]
 
@@ -207,6 +224,24 @@ class Newest:
     def value(self, world):
         return self.values[self.site(world)]
 
+    def is_deleted(self, world):
+        return self.site(world) == min(self.values)
+
+
+def test_deletions(history, newest):
+    """Each deletion has something to delete, and a task that found nothing is right and ends so. Returns how many found nothing."""
+    for place, event in enumerate(history.events):
+        if event[0] == "del":
+            ask(not newest.is_deleted(history.worlds[place]), f"event {place} deletes what is not there")
+    nothing = 0
+    for number, task in history.tasks.items():
+        absent = [int(item[-1]) for item in task.items if item[0] == "absent"]
+        for at in absent:
+            ask(newest.is_deleted(history.worlds[at]), f"task {number} found nothing to delete, and it was there")
+        ask(bool(absent) == (task.outcome == "error NoSuchMethod: f"), f"task {number} ends with {task.outcome}")
+        nothing += bool(absent)
+    return nothing
+
 
 def test_rows(history, newest):
     """The rows of the keys of `f` hold the method of the world that they begin with."""
@@ -215,16 +250,16 @@ def test_rows(history, newest):
         if event[0] == "key":
             ask(event[1] == len(keys) and event[2:] not in keys.values(), "a key is wrong")
             keys[event[1]] = event[2:]
-        elif event[0] == "def":
+        elif event[0] in ("def", "del"):
             world += 1
-            if event[2] in newest.values:
+            if event[0] == "del" or event[2] in newest.values:
                 touched.add(world)
         elif event[0] == "fill":
             _, key, site, first = event
             ask((key, first) not in rows, "a row begins where another one does")
             rows.add((key, first))
             if keys[key] == ("f", "Tuple{Int64}"):
-                ask(first in touched, "a row begins where no definition is")
+                ask(first in touched, "a row begins where no definition or deletion is")
                 ask(newest.site(first) == site, "a row holds another method")
 
 
@@ -242,6 +277,8 @@ def world_of_start(history, task):
 def test_lines(history, number, task, newest):
     """Each line of a task shows the newest definition in the world of its call. Returns how many lines there are, and how many show
     another one than the last line of that kind."""
+    if not task.output:
+        return 0, 0
     own = FIRST_WORLD if task.parent is None else world_of_start(history, task)
     looks = iter([int(item[1]) for item in task.items if item[0] == "look"])
     count = changes = 0
@@ -258,7 +295,7 @@ def test_lines(history, number, task, newest):
         count += 1
         changes += before.get(kind, shown) != shown
         before[kind] = shown
-    if task.output and number:
+    if number:
         ask(next(looks, None) is None, f"task {number} looks more often than it prints")
     return count, changes
 
@@ -270,29 +307,36 @@ def text_of(history, number=0):
 
 
 def test_root(history, newest):
-    """The root prints what the tasks gave, and what the last definition gives."""
-    last = newest.value(history.worlds[-1])
-    due = "".join("fetched 0\n" for _ in range(8)) + f"latest {last}\n"
+    """The root prints what the tasks gave, and what the newest definition gives in the world of its last look."""
+    last = newest.value([int(item[1]) for item in history.tasks[0].items if item[0] == "look"][-1])
+    due = "".join("fetched 0\n" for _ in range(9)) + f"latest {last}\n"
     ask(history.tasks[0].output == due, "the root prints something else")
 
 
+def parted(out):
+    """The text of a run and its history, which begins with the last line that is one of the two first ones."""
+    starts = [it.start() for it in re.finditer(rb"^%%history [12]$", out, re.MULTILINE)]
+    ask(starts, "no history")
+    return out[: starts[-1]], out[starts[-1] :]
+
+
 def explain(values, out, status):
-    """Tests what a run wrote. Returns how many lines were explained, and how many show another definition than the line before."""
+    """Tests what a run wrote. Returns how many lines were explained, how many show another definition than the line before, and how many
+    tasks found nothing to delete."""
     ask(status == 0, f"status {status}")
-    text, found, rest = out.decode().rpartition("%%history 1\n")
-    ask(found, "no history")
-    history = History(("%%history 1\n" + rest).splitlines())
+    text, rest = parted(out)
+    history = History(rest.decode().splitlines())
     newest = Newest(history, values)
     lines = changes = 0
     for number, task in history.tasks.items():
         test_items(history, number, task)
         more, changed = test_lines(history, number, task, newest)
         lines, changes = lines + more, changes + changed
-    ask(text == text_of(history), "the text is not that of the tasks")
+    ask(text.decode() == text_of(history), "the text is not that of the tasks")
     ask(lines == 3 * CALLERS * CALLS, f"{lines} lines")
     test_root(history, newest)
     test_rows(history, newest)
-    return lines, changes
+    return lines, changes, test_deletions(history, newest)
 
 
 def once(job):
@@ -302,7 +346,7 @@ def once(job):
     try:
         return threads, None, explain(values, run.stdout, run.returncode)
     except Fault as fault:
-        return threads, str(fault), (0, 0)
+        return threads, str(fault), (0, 0, 0)
 
 
 def main():
@@ -312,16 +356,19 @@ def main():
         return
     times = int(sys.argv[1]) if len(sys.argv) > 1 else 20
     values = values_of(text)
-    ask(len(values) == 1 + 2 * PLACES, "the sites of the script are not found")
-    runs = lines = changes = differ = 0
+    ask(len(values) == 2 + 3 * PLACES, "the sites of the script are not found")
+    runs = lines = changes = nothing = differ = 0
     jobs = [(threads, text, values) for threads in THREADS for _ in range(times)]
     with ThreadPoolExecutor(1) as workers:
-        for threads, fault, (more, changed) in workers.map(once, jobs):
-            runs, lines, changes = runs + 1, lines + more, changes + changed
+        for threads, fault, (more, changed, found) in workers.map(once, jobs):
+            runs, lines, changes, nothing = runs + 1, lines + more, changes + changed, nothing + found
             if fault:
                 differ += 1
                 print(f"{threads} threads: {fault}", flush=True)
-    print(f"{runs} runs, {lines} lines explained, {changes} of them another definition than the one before, {differ} differences")
+    print(
+        f"{runs} runs, {lines} lines explained, {changes} of them another definition than the one before, {nothing} tasks that found nothing "
+        f"to delete, {differ} differences"
+    )
     sys.exit(1 if differ else 0)
 
 

@@ -35,6 +35,8 @@ PROGRAM = os.environ.get("JL") or os.path.join(HERE, "..", "crates", "jl_main", 
 # The commands that take the inputs which are made by chance.
 COMMANDS = os.environ.get("COMMANDS", "check run trace replay").split()
 MOST_BYTES = 1_048_576
+# The first line of a history.
+FIRST_LINE = re.compile(rb"^%%history [12]$", re.M)
 # A run of a script that is made by chance.
 MOST_SECONDS, MOST_MEGABYTES = 1.0, 500
 # The seconds after which a run is killed.
@@ -50,7 +52,7 @@ OUTCOMES = re.compile(
     r"|MethodError: no method matching \S.*\(.*\)|DivideError: integer division error|TypeError: field \S+ of .+ got .+"
     r"|TypeError: .+ breaks a declared bound|FieldError: .+ has no field \S+|BoundsError: .+ has no part \d+"
     r"|TypeError: non-boolean \(.+\) used in boolean context|NotTask: .+|TaskFailedException: task \d+|FuelSpent: \d+ calls"
-    r"|StackOverflowError: 100000 open calls|WorldLimit: 65535 worlds|TaskLimit: 4096 tasks|TypeLimit|ValueLimit)"
+    r"|NoSuchMethod: \S+|StackOverflowError: 100000 open calls|WorldLimit: 65535 worlds|TaskLimit: 4096 tasks|TypeLimit|ValueLimit)"
 )
 
 
@@ -123,7 +125,7 @@ def fault_in(line, text):
 
 def script_before(text):
     """What is in front of the first line that begins a history: the script that `replay` reads."""
-    found = re.search(rb"^%%history 1(\n|\Z)", text, re.M)
+    found = FIRST_LINE.search(text)
     return text[: found.start()] if found else text
 
 
@@ -158,10 +160,8 @@ def wrong_with_trace(ran):
     """What is wrong with the history of a run: an event or an item of a record that is not true."""
     if ran.status not in (0, 1):
         return f"status {ran.status}"
-    _, found, rest = ran.out.decode().rpartition("%%history 1\n")
     try:
-        explains.ask(found, "no history")
-        history = explains.History(("%%history 1\n" + rest).split("\n")[:-1])
+        history = explains.History(explains.parted(ran.out)[1].decode().split("\n")[:-1])
         for number, task in history.tasks.items():
             explains.test_items(history, number, task)
         failed = history.tasks[0].outcome.startswith("error ")
@@ -242,6 +242,7 @@ OPEN = {
     "fetches": ("fetch(", "", "Syntax"),
     "prints": ("println(", "", "Syntax"),
     "latest": ("Base.invokelatest(f, ", "", "Syntax"),
+    "braces of deletions": ("Tuple{", "Base.delete_method(which(f, ", "BadType"),
     "sums": ("1 + ", "", "Syntax"),
     "both": ("x && ", "", "Syntax"),
     "either": ("x || ", "", "Syntax"),
@@ -465,18 +466,51 @@ REPLAY_ROWS = [
 ]
 
 
+# A script that deletes, and histories of it.
+DELETES = "f() = 1\nBase.delete_method(which(f, Tuple{}))\nBase.delete_method(which(f, Tuple{}))\n"
+DELETE_HISTORY = (
+    '%%history 2\nbegin 10000000\ndef 0 14\ndel 0 0\ndone 0 0 6\nlook 14 1\ndef 14 1\nlook 15 2\ndel 0 2\nlook 16 3\nabsent 1 3\n'
+    'output ""\noutcome error NoSuchMethod: f\nend 4\n'
+)
+DELETE_ROWS = [
+    ("", "", ("legal: 4 events\n", 0)),
+    ("%%history 2", "%%history 1", bad(1)),
+    ("del 0 0", "del 1 0", illegal(2, "NotRunning")),
+    ("del 0 0", "del 0 2", illegal(2, "Site")),
+    ("del 0 0", "del 0 1", illegal(3, "ItemFalse")),
+    ("def 0 14\ndel 0 0", "del 0 0\ndef 0 14", illegal(1, "NoDefinition")),
+    ("del 0 0", "del 0 0\ndel 0 0", bad(15)),
+    ("del 0 0", "del 0 4294967295", illegal(2, "Site")),
+    ("del 0 0", "del 0 4294967296", bad(4)),
+    ("del 0 0", "del 0", bad(4)),
+    ("del 0 2", "del 0 1", illegal(3, "ItemFalse")),
+    ("del 0 2", "del 0 02", bad(9)),
+    ("absent 1 3", "absent 0 3", illegal(3, "RunDiffers")),
+    ("absent 1 3", "absent 2 3", illegal(3, "ItemFalse")),
+    ("absent 1 3", "absent 1 4", illegal(3, "ItemFalse")),
+    ("look 16 3\nabsent 1 3", "look 15 2\nabsent 1 3", illegal(3, "ItemFalse")),
+    ("absent 1 3", "worldfull 3", illegal(3, "ItemFalse")),
+    ("absent 1 3", "absent 1", bad(11)),
+    ("NoSuchMethod: f", "NoSuchMethod: g", illegal(3, "RunDiffers")),
+]
+
+
 def test_rows(part):
     """Sources at the limits and one past them, whose answers are known."""
     for command, text, due in ROWS:
         compare(part, f"{command} {text[:20]!r}", [command], text.encode(), due)
     compare(part, "trace of the first script", ["trace"], FIRST.encode(), ("3\n" + HISTORY, 0))
+    compare(part, "trace of a script that deletes", ["trace"], DELETES.encode(), ("ERROR: NoSuchMethod: f\n" + DELETE_HISTORY, 1))
 
 
 def test_replay(part):
     """Histories that are not legal, and all cuts of one that is."""
     for old, new, due in REPLAY_ROWS:
         compare(part, f"replay with {new!r}", ["replay"], (FIRST + HISTORY.replace(old, new, 1) if old else FIRST + HISTORY).encode(), due)
-    for first in ("", "%%history 1\r\n", "%%history 2\n", " %%history 1\n"):
+    for old, new, due in DELETE_ROWS:
+        compare(part, f"replay with {new!r}", ["replay"], (DELETES + DELETE_HISTORY.replace(old, new, 1) if old else DELETES + DELETE_HISTORY).encode(), due)
+    compare(part, "replay of the other version", ["replay"], (FIRST + HISTORY.replace("%%history 1", "%%history 2")).encode(), bad(1))
+    for first in ("", "%%history 1\r\n", "%%history 3\n", " %%history 2\n"):
         compare(part, f"replay without a history, with {first!r}", ["replay"], (FIRST + first).encode(), ("ERROR: NoHistory\n", 3))
     compare(part, "replay of a history of another script", ["replay"], HISTORY.encode(), illegal(1, "Site"))
     compare(part, "replay of two histories", ["replay"], (FIRST + "%%history 1\n" + HISTORY).encode(), bad(2))
@@ -543,7 +577,8 @@ def asked_of(text, number):
     """The commands that a text is given to, each with what it reads. `replay` reads it without a history, before that of another script,
     or as the history of the first script."""
     limits = ["--fuel", "300", "--threads", ("1", "2", "4", "8", "64")[number % 5]]
-    judged = (text, text + b"\n" + HISTORY.encode(), FIRST.encode() + b"%%history 1\n" + text)[number % 3]
+    heads = ((FIRST, "%%history 1\n"), (DELETES, "%%history 2\n"))
+    judged = (text, text + b"\n" + HISTORY.encode(), "".join(heads[number % 2]).encode() + text)[number % 3]
     asked = [(["check"], text), (["run", *limits], text), (["replay"], judged)]
     if number % 4 == 0:
         asked.append((["trace", *limits], text))
@@ -567,16 +602,17 @@ def ask_history(chance, text, number):
     """The answer of `replay` to a script with the history of its run, changed but for every fourth one, which must be legal."""
     script = text if text.endswith(b"\n") else text + b"\n"
     trace = ask(["trace", "--fuel", "300", "--threads", ("1", "2", "4", "8", "64")[number % 5]], script)
-    _, found, history = trace.out.rpartition(b"%%history 1\n")
+    found = trace.status in (0, 1)
+    first, _, history = explains.parted(trace.out)[1].partition(b"\n") if found else (b"", b"", b"")
     if found and number % 4:
         for _ in range(chance.randrange(1, 4)):
             history = random_scripts.change(chance, history, [history])
-    given = script + found + history if found else script
+    given = script + first + b"\n" + history if found else script
     ran = ask(["replay"], given)
     wrong = wrong_with(["replay"], given, ran)
     # A line of the script itself may be the first of a history.
-    parted = b"%%history 1" in script.split(b"\n")
-    if not wrong and not parted and (ran.status == 3) == bool(found):
+    parted = FIRST_LINE.search(script)
+    if not wrong and not parted and (ran.status == 3) == found:
         wrong = f"status {ran.status}"
     if found and not parted and number % 4 == 0 and ran.out != b"legal: " + history.rstrip(b"\n").rpartition(b"end ")[2] + b" events\n":
         wrong = "a history that was written by the program is not legal"

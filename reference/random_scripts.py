@@ -6,7 +6,7 @@ import os
 HERE = os.path.dirname(os.path.abspath(__file__))
 WORDS = (
     "abstract type struct function end if elseif else begin quote return where true false nothing isa for while let do const global "
-    "Any Union Tuple Number Real Integer Signed Int64 Int Bool Nothing Task Base Threads eval fetch println print invokelatest div rem "
+    "Any Union Tuple Number Real Integer Signed Int64 Int Bool Nothing Task Base Threads eval fetch println print invokelatest delete_method which div rem "
     "f g h x y n T S P A Box é 0 1 2 9223372036854775807 9223372036854775808 1_0 @eval @spawn @x === !== :: <: >: == != <= >= && || = < > "
     "+ - * ÷ % ! ? : . , ; ( ) [ ] { } # #= =# \" \\ $ \"a\" \"\\n\" -1 -9223372036854775808 \n \t \r \0"
 ).split(" ") + ["\n", "\n", ";", " "]
@@ -16,6 +16,7 @@ PHRASES = (
     "Base.invokelatest(f, 1)", "println(x)", 'println("a", 1)', "(1, 2)", "(1,)", "()", "x.a", "x[1]", "Box{Int64}(1)", "Box(1)", "1 isa Int64",
     "Int64 <: Integer", "if x; 1 else 2 end", "begin 1; 2 end", "struct Box{T}; a::T end", "abstract type A{T} end", "function f(x) return x end",
     "eval(quote 1 end)", "x = 1", "1 + 2", "x === y", "!true", "-x", "x ? 1 : 2", "x && y", "Base.:+(x::Bool, y::Bool) = 1", "where {T, S<:T}",
+    "Base.delete_method(which(f, Tuple{Any}))", "Base.delete_method(", "which(f, Tuple{Int64})", "Base.delete_method(which(f, (Tuple{T} where T)))",
 )
 
 
@@ -51,6 +52,7 @@ class Maker:
     def __init__(self, chance):
         self.chance = chance
         self.structs, self.abstracts, self.functions, self.count = [], [], ["f", "g", "h"], 0
+        self.defined = []  # functions with the types of their parameters and their `where`
 
     def pick(self, *choices):
         return self.chance.choice(choices)
@@ -137,6 +139,7 @@ class Maker:
             lambda: self.call(depth, names),
             lambda: self.call(depth, names),
             lambda: self.made(depth, names),
+            self.deletion,
         ]
         return self.chance.choice(forms)()
 
@@ -145,17 +148,28 @@ class Maker:
         count = self.chance.randrange(3)
         variables = [f"V{i}" for i in range(count)]
         names = [f"x{i}" for i in range(self.chance.randrange(1, 3))]
-        params = [name + (f"::{self.type(2, variables)}" if self.chance.random() < 0.6 else "") for name in names]
-        params += [f"::{variable}" for variable in variables]
+        types = [self.type(2, variables) if self.chance.random() < 0.6 else "Any" for _ in names] + variables
+        params = [name + (f"::{ty}" if ty != "Any" else "") for name, ty in zip(names + [""] * count, types)]
         bounds = [v + self.pick("", "<:Integer", "<:Number") for v in variables]
         where = f" where {{{', '.join(bounds)}}}" if count else ""
-        return f"{self.chance.choice(self.functions)}({', '.join(params)}){where} = {self.expr(depth, names)}"
+        function = self.chance.choice(self.functions)
+        self.defined.append((function, types, where))
+        return f"{function}({', '.join(params)}){where} = {self.expr(depth, names)}"
+
+    def deletion(self):
+        """A deletion, mostly of something that is defined."""
+        function, types, where = self.chance.choice(self.defined)
+        if self.chance.random() < 0.2:
+            types = [self.type(1, types[len(types) - where.count("V") :] if where else ()) for _ in types]
+        tuple_type = f"Tuple{{{', '.join(types)}}}"
+        return f"Base.delete_method(which({function}, {f'({tuple_type}{where})' if where else tuple_type}))"
 
     def script(self):
         items, names = [], []
         for _ in range(self.chance.randrange(4)):
             items.append(self.declaration())
         items += [f"{name}(x, y) = x" for name in self.functions]
+        self.defined += [(name, ["Any", "Any"], "") for name in self.functions]
         for _ in range(self.chance.randrange(1, 10)):
             kind = self.chance.random()
             if kind < 0.3:

@@ -52,8 +52,8 @@ println(fetch(a) + fetch(b) + fetch(c) + fetch(d))
 """
 
 
-def example(name):
-    with open(os.path.join(HERE, "..", "examples", f"{name}.jl"), "rb") as file:
+def example(name, end="jl"):
+    with open(os.path.join(HERE, "..", "examples", f"{name}.{end}"), "rb") as file:
         return file.read()
 
 
@@ -121,6 +121,10 @@ def test_memory(shim, part, step):
     refuse_memory(shim, part, "shapes, 4 threads, and all after it", ["run", "--threads", "4"], shapes, step, True)
     refuse_memory(shim, part, "redefined, 4 threads", ["run", "--threads", "4"], REDEFINED, step, False)
     refuse_memory(shim, part, "redefined, 64 threads, and all after it", ["run", "--threads", "64"], REDEFINED, step, True)
+    deleted, history = example("deleted"), example("deleted", "out")
+    refuse_memory(shim, part, "a deletion", ["trace"], deleted, step, False)
+    refuse_memory(shim, part, "a deletion, judged", ["replay"], deleted + history[history.index(b"%%history") :], step, False)
+    refuse_memory(shim, part, "unload, 4 threads", ["run", "--threads", "4"], example("unload"), step, False)
     refuse_memory(shim, part, "trace of the first script", ["trace"], FIRST, step, False)
     refuse_memory(shim, part, "check of shapes", ["check"], shapes, step, False)
     refuse_memory(shim, part, "a fault", ["run"], b"f(x) =", step, False)

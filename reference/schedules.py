@@ -7,11 +7,12 @@
     JL=FILE reference/schedules.py       with another program than crates/jl_main/out/jl_main
 
 What a script is to write and its status are given beside it. They follow from the rules of the language (docs/LANGUAGE.md), and not from a
-run; the one script whose text depends on the schedule is judged by its history. The last line counts the runs and the differences; the
+run; the two scripts whose text depends on the schedule are judged by their histories. The last line counts the runs and the differences; the
 status is 0 only where there is no difference.
 """
 
 import os
+import re
 import subprocess
 import sys
 
@@ -43,7 +44,38 @@ RACE = lines(
 # The sites of the two definitions of f, after the 14 built-in ones, f itself, and the function that has the first of them.
 RACE_SITES = {"1": 16, "2": 18}
 
-# Each script: its text, what it writes, and its status.
+# Two tasks delete one method, which only one of them finds, and the root fetches both.
+DELETE = "Base.delete_method(which(f, Tuple{}))"
+DELETE_RACE = lines("f() = 0", f"a = Threads.@spawn {DELETE}", f"b = Threads.@spawn {DELETE}", "println(f())", "fetch(a)", "fetch(b)")
+
+
+def lines_of(history):
+    """The lines of the events, each with the lines that come after its `done`."""
+    rest = iter(history.splitlines())
+    for line in rest:
+        count = int(line.split(" ")[3]) + 2 if line.startswith("done ") else 0
+        yield line, [next(rest) for _ in range(count)]
+
+
+def later_one(history):
+    """What the race writes by its history: the text of the definition that comes later."""
+    defined = [int(line.split(" ")[2]) for line, _ in lines_of(history) if line.startswith("def ")]
+    last = [site for site in defined if site in RACE_SITES.values()][-1]
+    return next(value for value, site in RACE_SITES.items() if site == last) + "\n"
+
+
+def failed_one(history):
+    """What the race of deletions writes by its history: the root looks before the deletion or after it, and one task finds nothing."""
+    done = {int(line.split(" ")[1]): record for line, record in lines_of(history) if line.startswith("done ")}
+    failed = [task for task in (1, 2) if any(line.startswith("absent ") for line in done[task])]
+    looks = [line.split(" ") for line in done[0] if line.startswith("look ")]
+    world = int(looks[3][1])  # that of the fourth statement; 15 is before the deletion
+    if world > 15:
+        return f"ERROR: MethodError: no method matching f() in world {world}\n"
+    return f"0\nERROR: TaskFailedException: task {failed[0]}\n" if len(failed) == 1 else "no one of the tasks"
+
+
+# Each script: its text, what it writes or a function that tells it by the history, and its status.
 SCRIPTS = {
     "first": (lines("f(x) = x + 1", "println(f(2))"), "3\n", 0),
     "late": (
@@ -106,27 +138,24 @@ SCRIPTS = {
         lines("f(n) = n == 0 ? 0 : f(n - 1)", "t = Threads.@spawn f(3)", "u = Threads.@spawn f(1000000000)", "println(fetch(t))", "fetch(u)"),
         "0\nERROR: TaskFailedException: task 2\n", 1,
     ),
-    "race": (RACE, None, 0),
+    "late deletion": (
+        lines("f() = 1", "late() = f()", "t = Threads.@spawn late()", DELETE, "println(fetch(t))", "println(f())"),
+        "1\nERROR: MethodError: no method matching f() in world 17\n", 1,
+    ),
+    "all worlds, deleted": (
+        lines("function more(n::Int64)", "@eval f() = 1", "n == 1 ? 0 : more(n - 1)", "end", "println(more(65519))", DELETE, "println(1)", DELETE),
+        "0\n1\nERROR: WorldLimit: 65535 worlds\n", 1,
+    ),
+    "unload": example("unload"),
+    "race": (RACE, later_one, 0),
+    "race of deletions": (DELETE_RACE, failed_one, 1),
 }
-
-
-def later_one(history):
-    """What the race writes by its history: the text of the definition that comes later. The record of a task is none of the events."""
-    last, rest = None, iter(history.splitlines())
-    for line in rest:
-        name, *numbers = line.split(" ")
-        if name == "done":
-            for _ in range(int(numbers[2]) + 2):
-                next(rest)
-        if name == "def" and int(numbers[1]) in RACE_SITES.values():
-            last = int(numbers[1])
-    return next(value for value, site in RACE_SITES.items() if site == last) + "\n"
 
 
 def test_once(name, threads):
     """Runs a script, and returns what is wrong."""
     script, due, status = SCRIPTS[name]
-    command = "run" if due is not None else "trace"
+    command = "trace" if callable(due) else "run"
     try:
         run = subprocess.run(
             [PROGRAM, command, "--threads", str(threads)],
@@ -135,9 +164,9 @@ def test_once(name, threads):
     except subprocess.TimeoutExpired:
         return f"no end in {LONGEST} seconds"
     out = run.stdout.decode()
-    if due is None:
-        out, _, history = out.partition("%%history 1\n")
-        due = later_one(history)
+    if callable(due):
+        out, _, history = re.split(r"^(%%history [12]\n)", out, maxsplit=1, flags=re.MULTILINE)
+        due = due(history)
     if run.returncode != status:
         return f"status {run.returncode}, and {status} is due"
     if run.stderr:

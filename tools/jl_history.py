@@ -23,7 +23,7 @@ import sys
 from dataclasses import dataclass
 from typing import NamedTuple
 
-HEADER = b"%%history 1"
+HEADERS = {b"%%history 1": 1, b"%%history 2": 2}  # the first lines of the two versions
 FIRST_WORLD = 14  # the world in which a run begins: the prelude has so many definitions
 MOST_FUEL = 1_000_000_000
 MOST_NUMBER = 4_294_967_295
@@ -36,6 +36,7 @@ MOST_WORLDS, MOST_TASKS, MOST_KEYS, MOST_FILLS = 65_535, 4_096, 8_192, 16_384
 class Begin:
     kind = "begin"
     fuel: int
+    version: int = 1  # of the text: 2 where the script has a deletion, and only there
 
 
 @dataclass
@@ -62,6 +63,13 @@ class Def:
 
 
 @dataclass
+class Del:
+    kind = "del"
+    task: int
+    place: int
+
+
+@dataclass
 class Spawn:
     kind = "spawn"
     task: int
@@ -81,14 +89,26 @@ class Done:
 
 
 class Item(NamedTuple):
-    """A line of a trace. `number` is its world, site, child or task; `worldfull` and `taskfull` have none."""
+    """A line of a trace. `number` is its world, site, place, child or task; `worldfull` and `taskfull` have none."""
 
     kind: str
     number: int
     at: int
 
 
-NUMBER_OF_ITEM = {"look": "world", "def": "site", "spawn": "child", "fetch": "task", "worldfull": None, "taskfull": None}
+NUMBER_OF_ITEM = {
+    "look": "world",
+    "def": "site",
+    "del": "place",
+    "absent": "place",
+    "spawn": "child",
+    "fetch": "task",
+    "worldfull": None,
+    "taskfull": None,
+}
+CHANGES = ("def", "del")  # the events that make worlds
+OWN = ("def", "del", "spawn")  # the lines of a trace that name an event of the task
+OF_VERSION_2 = ("del", "absent")  # the first words that version 1 does not have
 
 
 class BadText(Exception):
@@ -128,9 +148,9 @@ def load(data):
 
 def part(data):
     """What comes before the history, and the history: it begins with the last line that is exactly its first."""
-    starts = [found.start(1) for found in re.finditer(rb"(?:\A|\n)(%%history 1)(?=\n|\Z)", data)]
+    starts = [found.start(1) for found in re.finditer(rb"(?:\A|\n)(%%history [12])(?=\n|\Z)", data)]
     if not starts:
-        raise NoHistory("there is no history in the input: no line is exactly %%history 1" + last_error(data))
+        raise NoHistory("there is no history in the input: no line is exactly %%history 1 or %%history 2" + last_error(data))
     return data[: starts[-1]], data[starts[-1] :]
 
 
@@ -145,7 +165,7 @@ class Lines:
 
     def __init__(self, history):
         *self.lines, self.rest = history.split(b"\n")
-        self.next = 0
+        self.next, self.version = 0, 1
 
     def take(self):
         if self.next == len(self.lines):
@@ -188,15 +208,19 @@ def shown(data):
     return "`" + data[:40].decode("utf-8", "replace") + "`"
 
 
-def read(history):
-    """The events of the text of a history, its first line included; BadText where there are none."""
+def read(history, version=None):
+    """The events of the text of a history, its first line included; BadText where there are none.
+
+    The version is that of the first line, or the one that is due for the script.
+    """
     lines = Lines(history)
-    if lines.take() != HEADER:
-        lines.fail("the first line is not %%history 1")
+    lines.version = HEADERS.get(lines.take())
+    if lines.version is None or version not in (None, lines.version):
+        lines.fail(f"the first line is not %%history {version or '1 or %%history 2'}")
     words = lines.take().split(b" ")
     if words[0] != b"begin" or len(words) != 2:
         lines.fail("the second line is not `begin FUEL`")
-    events = [Begin(lines.number(words[1], MOST_FUEL))]
+    events = [Begin(lines.number(words[1], MOST_FUEL), lines.version)]
     while True:
         line = lines.take()
         words = line.split(b" ")
@@ -215,6 +239,8 @@ def read_event(lines, line, words):
         return Fill(*lines.numbers(words[1:], 3))
     if words[0] == b"def":
         return Def(*lines.numbers(words[1:], 2))
+    if words[0] == b"del" and lines.version == 2:
+        return Del(*lines.numbers(words[1:], 2))
     if words[0] == b"spawn":
         return Spawn(*lines.numbers(words[1:], 3))
     if words[0] == b"done":
@@ -248,7 +274,7 @@ def read_done(lines, words):
 def read_item(lines):
     words = lines.take().split(b" ")
     kind = words[0].decode("utf-8", "replace")
-    if kind not in NUMBER_OF_ITEM:
+    if kind not in NUMBER_OF_ITEM or kind in OF_VERSION_2 and lines.version == 1:
         lines.fail(f"{shown(words[0])} begins no line of a trace")
     if NUMBER_OF_ITEM[kind] is None:
         return Item(kind, None, *lines.numbers(words[1:], 1))
@@ -275,6 +301,8 @@ def quote(text):
 
 def event_text(event):
     """The lines of an event."""
+    if event.kind == "begin":
+        return f"begin {event.fuel}\n"
     if event.kind != "done":
         return " ".join([event.kind, *map(str, vars(event).values())]) + "\n"
     items = [" ".join(str(field) for field in item if field is not None) + "\n" for item in event.trace]
@@ -284,7 +312,7 @@ def event_text(event):
 
 def history_text(events):
     """The one text of these events."""
-    return HEADER.decode() + "\n" + "".join(map(event_text, events)) + f"end {len(events)}\n"
+    return f"%%history {events[0].version}\n" + "".join(map(event_text, events)) + f"end {len(events)}\n"
 
 
 def run_text(events):
@@ -326,6 +354,7 @@ class Checker:
         self.worlds = [FIRST_WORLD]  # after so many events
         self.tasks = [1]
         self.starts, self.ends, self.own = {0: 0}, {}, {0: []}
+        self.last_def, self.last_del = None, {}  # the places of the last definition, and of the last deletion of each place
         self.keys, self.fills = [], set()
         self.key_texts = set()
 
@@ -337,7 +366,7 @@ class Checker:
         return None
 
     def note(self, place, event):
-        self.worlds.append(self.worlds[-1] + (event.kind == "def"))
+        self.worlds.append(self.worlds[-1] + (event.kind in CHANGES))
         self.tasks.append(self.tasks[-1] + (event.kind == "spawn"))
         if event.kind == "key":
             self.keys.append(event)
@@ -346,6 +375,10 @@ class Checker:
             self.fills.add((event.key, event.first))
         elif event.kind == "def":
             self.own[event.task].append(("def", event.site, place))
+            self.last_def = place
+        elif event.kind == "del":
+            self.own[event.task].append(("del", event.place, place))
+            self.last_del[event.place] = place
         elif event.kind == "spawn":
             self.own[event.task].append(("spawn", event.child, place))
             self.starts[event.child] = place
@@ -373,7 +406,7 @@ class Checker:
         if len(self.fills) == MOST_FILLS:
             yield "FillKey", "it is one too many"
         if not FIRST_WORLD <= event.first <= self.worlds[place]:
-            yield "FillWorld", f"no definition before has made world {event.first}"
+            yield "FillWorld", f"no definition or deletion before has made world {event.first}"
 
     def not_running(self, task):
         if task not in self.starts:
@@ -384,6 +417,15 @@ class Checker:
         yield from self.not_running(event.task)
         if event.site < FIRST_WORLD:
             yield "Site", f"the sites of a script begin with {FIRST_WORLD}"
+        if self.worlds[place] == MOST_WORLDS:
+            yield "Limit", f"there are {MOST_WORLDS} worlds"
+
+    def check_del(self, place, event):
+        """A deletion takes all methods away that it can, so the same place has something to delete only after another definition."""
+        yield from self.not_running(event.task)
+        last = self.last_del.get(event.place)
+        if self.last_def is None or last is not None and last > self.last_def:
+            yield "NoDefinition", "nothing is defined " + ("before" if last is None else f"since event {last}, which deleted the same")
         if self.worlds[place] == MOST_WORLDS:
             yield "Limit", f"there are {MOST_WORLDS} worlds"
 
@@ -408,18 +450,20 @@ class Checker:
             why = self.false_item(place, event.task, item)
             if why:
                 yield "ItemFalse", line + why
-            least = item.at + (item.kind in ("def", "spawn"))
-        made = [tuple(item) for item in event.trace if item.kind in ("def", "spawn")]
+            least = item.at + (item.kind in OWN)
+        made = [tuple(item) for item in event.trace if item.kind in OWN]
         if made != self.own.get(event.task):
-            yield "EventMissing", f"the `def` and `spawn` events of task {event.task} are not those of its trace"
+            yield "EventMissing", f"the `def`, `del` and `spawn` events of task {event.task} are not those of its trace"
 
     def false_item(self, place, task, item):
         """Why an item is not true of the events before this one, or nothing."""
         at = item.at
         if item.kind == "look":
             return f"the world was {self.worlds[at]}" if self.worlds[at] != item.number else ""
-        if item.kind in ("def", "spawn"):
+        if item.kind in OWN:
             return self.other_event(place, task, item)
+        if item.kind == "absent":
+            return self.present(item)
         if item.kind == "fetch":
             return "" if self.ends.get(item.number, at) < at else f"task {item.number} had not ended"
         if item.kind == "worldfull":
@@ -427,12 +471,22 @@ class Checker:
         return f"there were {self.tasks[at]} tasks" if self.tasks[at] != MOST_TASKS else ""
 
     def other_event(self, place, task, item):
-        """Why the event that a `def` or `spawn` of a trace names is not that of the task."""
+        """Why the event that a `def`, `del` or `spawn` of a trace names is not that of the task."""
         event = self.events[item.at] if item.at < place else None
-        is_that = (
-            event and event.kind == item.kind and event.task == task and item.number == (event.site if item.kind == "def" else event.child)
-        )
+        is_that = event and event.kind == item.kind and event.task == task and item.number == getattr(event, NUMBER_OF_ITEM[item.kind])
         return "" if is_that else f"event {item.at} is not that"
+
+    def present(self, item):
+        """Why there was something to delete, as far as the text tells: an event deletes it with no definition in between."""
+        if self.worlds[item.at] == MOST_WORLDS:
+            return f"the world was {MOST_WORLDS}"
+        for place in range(item.at, len(self.worlds) - 1):
+            event = self.events[place]
+            if event.kind == "def":
+                return ""
+            if event.kind == "del" and event.place == item.number:
+                return f"event {place} deletes it"
+        return ""
 
 
 def first_cause(events):
@@ -447,13 +501,15 @@ def worlds_after(events):
     """The newest world after the first 0, 1, 2, .. events."""
     worlds = [FIRST_WORLD]
     for event in events:
-        worlds.append(worlds[-1] + (event.kind == "def"))
+        worlds.append(worlds[-1] + (event.kind in CHANGES))
     return worlds
 
 
-def is_of_definition(trace, number):
-    """Whether a look is that of a definition: the definition comes directly after it, and nothing else runs in its world."""
-    return number + 1 < len(trace) and trace[number + 1].kind in ("def", "worldfull")
+def is_of_definition(trace, number, deletes=False):
+    """Whether a look is that of a definition: the definition comes directly after it, and nothing else runs in its world. A full world is
+    told of a definition alone where nothing is deleted."""
+    after = trace[number + 1].kind if number + 1 < len(trace) else None
+    return after == "def" or after == "worldfull" and not deletes
 
 
 class Worlds:
@@ -473,6 +529,7 @@ class Worlds:
     def __init__(self, events, script=None):
         self.script = script
         done = {event.task: event for event in events if event.kind == "done"}
+        self.deletes = events[0].version == 2
         self.statements = script.statements(done[0]) if script else None
         self.places = {event.child: event.place for event in events if event.kind == "spawn"}
         self.starts = {event.child: place for place, event in enumerate(events) if event.kind == "spawn"}
@@ -488,7 +545,7 @@ class Worlds:
         for number, item in enumerate(trace):
             if item.kind == "look":
                 seen += 1
-                if not is_of_definition(trace, number):
+                if not is_of_definition(trace, number, self.deletes):
                     looks.append((seen, item.number))
                 base, after = self.base(task, seen)
                 low = base[:1] + tuple(world for look, world in looks[bisect.bisect_left(looks, (after, 0)) :][:1])
@@ -534,6 +591,8 @@ def as_object(place, event, worlds, keys, tasks, places):
         told |= {"function": key.function, "types": key.types} | place_of_site(places, event.site)
     elif event.kind == "def":
         told |= {"world": worlds[place + 1]} | place_of_site(places, event.site)
+    elif event.kind == "del":
+        told |= {"world": worlds[place + 1]} | (places.deletion(event.place) if places else {})
     elif event.kind == "spawn":
         told |= {"worlds": tasks.of[event.child]} | (places.spawn(event.place) if places else {})
     return told

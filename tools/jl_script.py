@@ -1,4 +1,4 @@
-"""What the tools over histories need of a script: its definitions and spawn places, in order, and which code may look at a newer world.
+"""What the tools over histories need of a script: its definitions, spawns and deletions, in order, and which code may look at a newer world.
 
 It is no parser of the language: it reads tokens, brackets and blocks, for a script that `jl` has run. So it knows where each statement and
 each definition begins and ends. What it says of looks is on the safe side: code may look where it has `eval` or `invokelatest` in it, or a
@@ -92,7 +92,7 @@ class Reader:
 
     def __init__(self, text):
         self.tokens = list(tokens_of(text))
-        self.items, self.sites, self.spawns, self.evaluated, self.invoked = [], [], [], [], set()
+        self.items, self.sites, self.spawns, self.deletions, self.evaluated, self.invoked = [], [], [], [], [], set()
         self.stack = []  # the words that close what is open, and whether statements begin in it
         self.region, self.starts = None, True
 
@@ -172,6 +172,8 @@ class Reader:
             self.spawns.append((self.tokens[max(place - 2, 0)], self.region))
         elif token.text == "invokelatest":
             self.invoke(place + 2)
+        elif token.text == "delete_method" and self.at(place - 1) == "." and self.at(place + 2) == "which":
+            self.deletions.append((self.tokens[place - 2], self.at(place + 4)))
         if token.kind in ("name", "operator") and token.text not in RESERVED:
             self.note(SAME_FUNCTION.get(token.text, token.text))
         if token.kind == "string":
@@ -205,7 +207,7 @@ class Reader:
 
 
 class Script:
-    """The definitions, spawn places and statements of a script."""
+    """The definitions, spawns, deletions and statements of a script."""
 
     def __init__(self, data):
         try:
@@ -214,7 +216,7 @@ class Script:
             raise Trouble("the script is not UTF-8", 2) from fault
         reader = Reader(text).read()
         self.lines = text.split("\n")
-        self.sites, self.spawns = reader.sites, reader.spawns
+        self.sites, self.spawns, self.deletions = reader.sites, reader.spawns, reader.deletions
         self.items = [item for item in reader.items if not item.declares]
         for number, item in enumerate(self.items):
             item.number = number
@@ -248,13 +250,23 @@ class Script:
         token = self.spawns[number][0]
         return {"line": token.line, "column": token.column}
 
+    def deletion(self, number):
+        token, function = self.deletions[number]
+        return {"function": function, "line": token.line, "column": token.column}
+
     def must_fit(self, events):
         for place, event in enumerate(events):
-            if event.kind == "def" and event.site - FIRST_WORLD >= len(self.sites):
-                raise Trouble(f"the script is not that of the history: event {place} is of site {event.site}, which it has not", 2)
-            if event.kind == "spawn" and event.place >= len(self.spawns):
-                raise Trouble(f"the script is not that of the history: event {place} is of spawn {event.place}, which it has not", 2)
-
+            lacks = ""
+            if event.kind == "begin" and event.version != (2 if self.deletions else 1):
+                lacks = f"its histories have not the version {event.version}"
+            elif event.kind == "def" and event.site - FIRST_WORLD >= len(self.sites):
+                lacks = f"event {place} is of site {event.site}, which it has not"
+            elif event.kind == "spawn" and event.place >= len(self.spawns):
+                lacks = f"event {place} is of spawn {event.place}, which it has not"
+            elif event.kind == "del" and event.place >= len(self.deletions):
+                lacks = f"event {place} is of deletion {event.place}, which it has not"
+            if lacks:
+                raise Trouble(f"the script is not that of the history: {lacks}", 2)
         root = next((event for event in events if event.kind == "done" and event.task == 0), None)
         if root and not self.statements(root).fits:
             raise Trouble("the script is not that of the history: the root's looks are not those of its statements", 2)
@@ -291,7 +303,8 @@ class Statements:
         self.world = [trace[number].number for number in self.looks]
         count = len(self.looks)
         below = (1 << count) - 1
-        defined = sum(1 << look for look, number in enumerate(self.looks) if is_of_definition(trace, number))
+        deletes = bool(script.deletions)
+        defined = sum(1 << look for look, number in enumerate(self.looks) if is_of_definition(trace, number, deletes))
         sites = self.looks_of_sites(trace)
         allowed = [below & ~defined if item.site is None else sites.get(item.site, sites["full"]) for item in self.items]
         self.wide = [script.may_look(item) for item in self.items]
@@ -346,16 +359,18 @@ def bits(number):
 
 
 class Table:
-    """Names and places from lines `site N FUNCTION LINE COLUMN` and `spawn N LINE COLUMN`; other lines are passed over."""
+    """Names and places from lines `site N FUNCTION LINE COLUMN`, `delete N FUNCTION LINE COLUMN` and `spawn N LINE COLUMN`; other lines
+    are passed over."""
 
     def __init__(self, text):
-        self.sites, self.spawns = {}, {}
+        self.sites, self.spawns, self.deletions = {}, {}, {}
         for number, line in enumerate(text.split("\n"), 1):
             words = line.split(" ")
             try:
-                if words[0] == "site":
-                    _, site, function, at, column = words
-                    self.sites[int(site)] = {"function": function, "line": int(at), "column": int(column)}
+                if words[0] in ("site", "delete"):
+                    word, number_of, function, at, column = words
+                    places = self.sites if word == "site" else self.deletions
+                    places[int(number_of)] = {"function": function, "line": int(at), "column": int(column)}
                 elif words[0] == "spawn":
                     _, place, at, column = words
                     self.spawns[int(place)] = {"line": int(at), "column": int(column)}
@@ -367,3 +382,6 @@ class Table:
 
     def spawn(self, number):
         return self.spawns.get(number, {})
+
+    def deletion(self, number):
+        return self.deletions.get(number, {})

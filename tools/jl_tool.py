@@ -20,7 +20,9 @@ def add_places(parser):
     """The options by which a tool gets names and lines."""
     parser.add_argument("--script", metavar="FILE", help="the script: names, lines, and worlds that the text alone does not tell")
     parser.add_argument(
-        "--sites", metavar="FILE", help="lines `site N FUNCTION LINE COLUMN` and `spawn N LINE COLUMN`, taken before the script's"
+        "--sites",
+        metavar="FILE",
+        help="lines `site N FUNCTION LINE COLUMN`, `delete N FUNCTION LINE COLUMN` and `spawn N LINE COLUMN`, taken before the script's",
     )
 
 
@@ -79,6 +81,11 @@ class Words:
             return f"site {site}"
         return told["function"] + (f"{mark}{told['line']}" if "line" in told else " of the prelude")
 
+    def deletion(self, number, mark=", line "):
+        """A deletion: its function and line, or its number."""
+        told = self.places.deletion(number) if self.places else {}
+        return f"of {told['function']}{mark}{told['line']}" if told else f"at place {number}"
+
     def line_of_spawn(self, place, mark=", line "):
         told = self.places.spawn(place) if self.places else {}
         return f"{mark}{told['line']}" if told else ""
@@ -98,6 +105,8 @@ class Words:
             return f"from world {event.first} on, {self.key(event.key)} runs {self.site(event.site)}"
         if event.kind == "def":
             return f"{self.task(event.task)} defines {self.site(event.site)}: world {self.worlds[place + 1]}"
+        if event.kind == "del":
+            return f"{self.task(event.task)} deletes methods {self.deletion(event.place)}: world {self.worlds[place + 1]}"
         if event.kind == "spawn":
             return f"{self.task(event.task)} starts task {event.child}{self.line_of_spawn(event.place)}"
         calls = "1 call" if event.calls == 1 else f"{event.calls} calls"
@@ -109,6 +118,10 @@ class Words:
             return f"looks at world {item.number}, {seen}"
         if item.kind == "def":
             return f"defines {self.site(item.number)}, event {item.at}"
+        if item.kind == "del":
+            return f"deletes methods {self.deletion(item.number)}, event {item.at}"
+        if item.kind == "absent":
+            return f"finds nothing to delete {self.deletion(item.number)}, {seen}"
         if item.kind == "spawn":
             return f"starts task {item.number}, event {item.at}"
         if item.kind == "fetch":

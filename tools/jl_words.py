@@ -29,6 +29,13 @@ class Hint(NamedTuple):
     example: str
 
 
+DELETION = (
+    "`Base.delete_method(which(f, Tuple{Int64}))` deletes `f(x::Int64)`; `Tuple{Any}` is for a parameter without a type, `Tuple{}` for none, and "
+    "`(Tuple{T, T} where T)` where the definition has a `where`."
+)
+ONE_TUPLE = "Which method is deleted is said by one tuple: the types of its parameters."
+
+
 def deep(depth):
     return "x = " + "(" * depth + "1" + ")" * depth + "\n"
 
@@ -205,6 +212,12 @@ SCRIPTS = [
         "Put some of them in a struct or a tuple.",
         "f(x) = 1\nf(1, 2, 3, 4, 5, 6, 7, 8, 9)\n",
     ),
+    Word(
+        "BadType",
+        ONE_TUPLE,
+        DELETION,
+        "f(x) = 1\nBase.delete_method(which(f, Int64))\n",
+    ),
 ]
 
 RUNS = [
@@ -235,6 +248,13 @@ RUNS = [
         "Test the divisor first.",
         "println(div(1, 0))\n",
         r"DivideError: integer division error",
+    ),
+    Word(
+        "nothing to delete",
+        "No method of this function has this signature in the newest world: none was made so far, or it is deleted already.",
+        "The types as the definition has them, `Any` for a parameter without one; a more general method is not looked for.",
+        "f(x) = 1\nBase.delete_method(which(f, Tuple{Int64}))\n",
+        r"NoSuchMethod: (?P<function>\S+)",
     ),
     Word(
         "type of a field",
@@ -302,8 +322,8 @@ RUNS = [
     ),
     Word(
         "worlds",
-        "A run has at most 65,535 worlds, and each definition makes one.",
-        "Define less often.",
+        "A run has at most 65,535 worlds, and each definition and deletion makes one.",
+        "Define and delete less often.",
         "again(n) = n == 0 ? 0 : begin @eval f() = 1; again(n - 1) end\nagain(65530)\n",
         r"WorldLimit: 65535 worlds",
     ),
@@ -449,6 +469,38 @@ HINTS = [
         "`f(x::Int64) = ..`, or `function f(x::Int64) .. end`.",
         "f(x::Int64) x + 1\n",
     ),
+    Hint(
+        "Syntax",
+        r"\bBase\.delete_method\(\s*(?:\w+\s*)?\Z",
+        r"",
+        "A deletion has the form `Base.delete_method(which(f, Tuple{..}))`.",
+        DELETION,
+        "f(x::Int64) = 1\nBase.delete_method(f)\n",
+    ),
+    Hint(
+        "Syntax",
+        r"\bdelete_method\(\s*which\([^\n;]*\Z",
+        r"[),+\-*÷%<=!]",
+        "A deletion has the form `Base.delete_method(which(f, Tuple{..}))`.",
+        DELETION,
+        "f(x::Int64) = 1\nBase.delete_method(which(f, (Int64,)))\n",
+    ),
+    Hint(
+        "UnknownType",
+        r"\bdelete_method\(\s*which\([^\n;]*\Z",
+        r"[A-Z]\d?\b",
+        "A deletion sees no type variable of the method around it.",
+        "A `where` of its own: `(Tuple{T} where T)`.",
+        "f(x::T) where T = Base.delete_method(which(f, Tuple{T}))\n",
+    ),
+    Hint(
+        "BadType",
+        r"\bdelete_method\(\s*which\(\s*\w+\s*,\s*\Z",
+        r"",
+        ONE_TUPLE,
+        DELETION,
+        "f(x::Int64) = 1\nBase.delete_method(which(f, Int64))\n",
+    ),
     Hint("Syntax", r"invokelatest\(\s*\Z", r"\W|\d", "`Base.invokelatest` takes the name of a function first.", "`Base.invokelatest(f, x)`.", "Base.invokelatest(1)\n"),
     Hint("Syntax", r"\w\s*\Z", r"::", "Only a parameter and a field have a type, not a variable.", "Leave it out; `x isa T` asks for the type of a value.", "f() = begin\n    x::Int = 3\nend\n"),
     Hint("Syntax", r"\.\s*\w+\s*\Z", r"=(?!=)", "A field is never changed.", "A new struct: `P(1, p.y)`.", "f(p) = begin\n    p.x = 1\nend\n"),
@@ -580,6 +632,7 @@ NAMES = {
         "show": ("`show` is not built in.", "Define it without a stream: `show(p::P) = print(p.x)`."),
         "zero one": ("`{0}` is not built in.", "`0`, `1`."),
         "zeros ones fill Vector Dict Set Array": ("There are no arrays, sets and dictionaries.", LIST),
+        "which delete_method": ("`{0}` is built in only as a part of a deletion.", DELETION),
         "new": ("A struct has fields and no constructor of its own.", "A function after it: `make(x) = P(x, 0)`."),
     },
     "UnknownName": {

@@ -183,6 +183,26 @@ class Runs(unittest.TestCase):
         _, told, _ = explain("f(1)\nf(x) = x\n")
         self.assertIn("World 14 has no method of `f`.\nNot made by this run, or not yet:\n  line 2: f(x) = x\n", told)
 
+    def test_a_deletion_that_finds_nothing_is_told_of_the_definitions(self):
+        lines = ["f(x::Int64) = 1", "f(x) = 2", *["Base.delete_method(which(f, Tuple{Int64}))"] * 2]
+        out, told, status = explain("\n".join(lines))
+        self.assertEqual((out, status), ("ERROR: NoSuchMethod: f\n", 1))
+        self.assertIn(f"It is line 4: {lines[3]}\n", told)
+        made = f"Of `f` were made up to world 17:\n  definition 15 is line 1: {lines[0]}\n  definition 16 is line 2: {lines[1]}\n"
+        self.assertIn(f"{made}Of these the methods with the same signature were deleted in\n  world 17: line 3: {lines[2]}\n", told)
+
+    def test_a_call_after_a_deletion_is_told_of_it(self):
+        out, told, _ = explain("f() = 1\nBase.delete_method(which(f, Tuple{}))\n@eval f() = 2\nBase.delete_method(which(f, Tuple{}))\nf()\n")
+        self.assertEqual(out, "ERROR: MethodError: no method matching f() in world 18\n")
+        self.assertIn("  definition 15 is line 1: f() = 1\n  definition 17 is line 3: @eval f() = 2\n", told)
+        self.assertIn("  world 16: line 2: ", told)
+        self.assertIn("  world 18: line 4: ", told)
+
+    def test_only_a_function_of_the_script_is_deleted_from(self):
+        _, told, status = explain("Base.div(x::Bool, y::Bool) = x\nBase.delete_method(which(div, Tuple{Bool, Bool}))\n")
+        self.assertEqual((told.splitlines()[0], status), ("script.jl:2:26: UnknownFunction", 3))
+        self.assertIn("only methods of a script's own functions are deleted", told)
+
     def test_comparing_structs_is_told_of(self):
         _, told, _ = explain("struct P; x end\nP(1) == P(1)\n")
         self.assertIn("`===`", told)
@@ -251,6 +271,13 @@ eval(quote
     f17(x) = x ? Threads.@spawn print(" ", 17) : 2
 end)
 """
+DELETED = """\
+f1(x) = begin @eval f1b() = 1; Base.delete_method(which(f1b, Tuple{})) end
+if true; f1(1); Base . delete_method(
+    which(f1, (Tuple{T} where T))) end
+f4(which, delete_method) = which + delete_method
+Base.delete_method(which(f4, Tuple{Any, Any}))
+"""
 CALLS = "f1(1)\nfetch(t[2])\nf3(1); f4(1); f11(1); f15(1); f17(true); true ÷ true; f3b(1)\n"
 
 
@@ -260,17 +287,16 @@ class Places(unittest.TestCase):
     def table(self, source):
         ran = run(SITES, data=source)
         self.assertEqual(ran.returncode, 0)
-        sites, spawns = [], []
+        found = {"site": {}, "spawn": {}, "delete": {}}
         for line in ran.stdout.decode().splitlines():
             word, number, *fields = line.split(" ")
-            (sites if word == "site" else spawns).append((int(number), *fields))
-        self.assertEqual([it[0] for it in sites], list(range(14, 14 + len(sites))))
-        self.assertEqual([it[0] for it in spawns], list(range(len(spawns))))
-        return {it[0]: it[1:] for it in sites}, {it[0]: it[1:] for it in spawns}
+            self.assertEqual(int(number), len(found[word]) + (14 if word == "site" else 0))
+            found[word][int(number)] = tuple(fields)
+        return tuple(found.values())
 
     def agree(self, source):
         """Whether each method that a history names has the function that the table gives its site."""
-        sites, spawns = self.table(source)
+        sites, spawns, deletions = self.table(source)
         checked = run(PROGRAM, "check", data=source).stdout.decode()
         if checked.startswith("ok: "):
             self.assertEqual(int(checked.split()[3]), len(sites))
@@ -283,13 +309,14 @@ class Places(unittest.TestCase):
         self.assertEqual(found, {site: sites[site][0] for site in found})
         self.assertLessEqual({event.site for event in events if event.kind == "def"}, set(sites))
         self.assertLessEqual({event.place for event in events if event.kind == "spawn"}, set(spawns))
+        self.assertLessEqual({event.place for event in events if event.kind == "del"}, set(deletions))
         return found
 
     def test_the_numbers_of_the_examples(self):
         seen = 0
         for file in sorted(glob.glob(os.path.join(TOP, "examples", "*.jl"))):
             with self.subTest(os.path.basename(file)):
-                source = read_file(file).split(b"%%history 1\n")[0]
+                source = re.split(rb"^%%history [12]\n", read_file(file), flags=re.MULTILINE)[0]
                 if run(PROGRAM, "check", data=source).returncode == 0:
                     seen += len(self.agree(source))
         self.assertGreater(seen, 100)
@@ -297,7 +324,7 @@ class Places(unittest.TestCase):
     def test_definitions_and_spawns_in_one_another(self):
         source = (NESTED + CALLS).encode()
         found = self.agree(source)
-        sites, spawns = self.table(source)
+        sites, spawns, _ = self.table(source)
         self.assertEqual(sorted(found.values()), ["div", "f1", "f11", "f15", "f17", "f3", "f3b", "f4"])
         for name, line, _ in sites.values():
             if name != "div":
@@ -311,8 +338,15 @@ class Places(unittest.TestCase):
             if words:
                 self.assertEqual(spawns[place][0], words[0])
 
+    def test_deletions_in_one_another(self):
+        source = DELETED.encode()
+        self.agree(source)
+        self.assertEqual(self.table(source)[2], {0: ("f1b", "1", "32"), 1: ("f1", "2", "17"), 2: ("f4", "5", "1")})
+        events = jl_history.read(jl_history.part(run(PROGRAM, "trace", data=source).stdout)[1])
+        self.assertEqual([event.place for event in events if event.kind == "del"], [0, 1, 2])
+
     def test_columns_count_characters(self):
-        sites, _ = self.table("#= ü\n日本 =# f(x) = x; é(x) = x\n".encode())
+        sites, _, _ = self.table("#= ü\n日本 =# f(x) = x; é(x) = x\n".encode())
         self.assertEqual(sites, {14: ("f", "2", "7"), 15: ("é", "2", "17")})
 
     def test_what_is_no_script_has_no_table(self):

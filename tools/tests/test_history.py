@@ -97,6 +97,36 @@ end 7
 """
 
 
+# A task deletes what the root has defined, and then the root finds nothing to delete.
+DELETIONS = """%%history 2
+begin 10
+def 0 14
+spawn 0 1 0
+del 1 0
+done 1 0 1
+del 0 3
+output ""
+outcome value nothing
+done 0 0 6
+look 14 1
+def 14 1
+look 15 2
+spawn 1 2
+look 16 4
+absent 1 5
+output ""
+outcome error NoSuchMethod: f
+end 6
+"""
+
+
+# A script that has such a history.
+DELETER = b"""f() = 1
+t = Threads.@spawn Base.delete_method(which(f, Tuple{}))
+Base.delete_method(which(f, Tuple{}))
+"""
+
+
 def plain_bytes(text):
     """A history of crates/history_cases: a bar is a newline, ^ and two digits are a byte, and what is between &N* and & is there N times."""
     text = re.sub(rb"&(\d+)\*([^&]*)&", lambda found: found[2] * int(found[1]), text)
@@ -105,14 +135,14 @@ def plain_bytes(text):
 
 class Reading(unittest.TestCase):
     def test_the_cases_of_the_program(self):
-        """Each case that the proved reader is tried on is read, or refused at the same line."""
+        """Each case that the proved reader is tried on is read, or refused at the same line. One after `@` is of a script with a deletion."""
         cases = [line.split(b" => ") for line in read_file("crates", "history_cases", "stdout").split(b"\n") if b" => " in line]
         self.assertGreater(len(cases), 50)
         for text, answer in cases:
             with self.subTest(text=text):
-                history = plain_bytes(text)
+                history = plain_bytes(text.removeprefix(b"@"))
                 try:
-                    told = jl_history.history_text(jl_history.read(history)).encode()
+                    told = jl_history.history_text(jl_history.read(history, 2 if text.startswith(b"@") else 1)).encode()
                     self.assertEqual(told, history)
                     self.assertFalse(answer.startswith(b"line "), answer)
                 except jl_history.BadText as fault:
@@ -122,8 +152,26 @@ class Reading(unittest.TestCase):
         history = EXAMPLE.encode()
         self.assertEqual(jl_history.part(b"%%history 1\nx\n" + history), (b"%%history 1\nx\n", history))
         self.assertEqual(jl_history.part(b"x\n%%history 1"), (b"x\n", b"%%history 1"))
-        with self.assertRaises(jl_history.NoHistory):
-            jl_history.part(b"x%%history 1\n")
+        self.assertEqual(jl_history.part(history + DELETIONS.encode()), (history, DELETIONS.encode()))
+        for text in (b"x%%history 1\n", b"%%history 3\n", b"%%history 2 \n"):
+            with self.assertRaises(jl_history.NoHistory):
+                jl_history.part(text)
+
+    def test_the_lines_of_version_2(self):
+        self.assertEqual(jl_history.history_text(jl_history.read(DELETIONS.encode())), DELETIONS)
+        for history, version, line in (
+            (DELETIONS.replace("%%history 2", "%%history 1"), None, 5),
+            (DELETIONS.replace("%%history 2", "%%history 1").replace("del 1 0\n", ""), None, 6),
+            (DELETIONS, 1, 1),
+            (EXAMPLE, 2, 1),
+            (DELETIONS.replace("del 1 0", "del 1"), None, 5),
+            (DELETIONS.replace("del 0 3", "del 0 03"), None, 7),
+            (DELETIONS.replace("absent 1 5", "absent 5"), None, 16),
+            (DELETIONS.replace("absent 1 5", "gone 1 5"), None, 16),
+        ):
+            with self.assertRaises(jl_history.BadText) as fault:
+                jl_history.read(history.encode(), version)
+            self.assertEqual(fault.exception.line, line)
 
     def test_the_text_of_the_run(self):
         events = events_of("race-a.history")
@@ -163,8 +211,48 @@ class Checking(unittest.TestCase):
                 broken = jl_history.first_cause(jl_history.read(EXAMPLE.replace(old, new, 1).encode()))
                 self.assertEqual(broken and (broken.event, broken.cause), due)
 
+    # The same of the example with deletions.
+    DELETED = (
+        ("begin 10", "begin 9", None),
+        ("del 1 0", "del 2 0", (3, "NotRunning")),
+        ("del 1 0", "del 0 0", (4, "ItemFalse")),
+        ("del 1 0", "del 1 1", (4, "ItemFalse")),
+        ("def 0 14\nspawn 0 1 0\ndel 1 0", "spawn 0 1 0\ndel 1 0\ndef 0 14", (2, "NoDefinition")),
+        ("del 1 0", "del 1 0\ndel 1 0", (4, "NoDefinition")),
+        ("del 1 0", "del 1 0\ndel 1 1", (5, "EventMissing")),
+        ("done 1 0 1\ndel 0 3", "done 1 0 0", (4, "EventMissing")),
+        ("done 1 0 1\ndel 0 3", "done 1 0 2\ndel 0 3\ndel 0 3", (4, "ItemFalse")),
+        ("done 1 0 1\ndel 0 3", "done 1 0 1\ndel 0 2", (4, "ItemFalse")),
+        ("absent 1 5", "absent 0 5", None),
+        ("look 16 4\nabsent 1 5", "look 15 3\nabsent 1 3", None),
+        ("look 16 4\nabsent 1 5", "look 15 3\nabsent 0 3", (5, "ItemFalse")),
+        ("absent 1 5", "absent 1 3", (5, "ItemFalse")),
+        ("absent 1 5", "absent 1 6", (5, "ItemFalse")),
+        ("absent 1 5", "worldfull 5", (5, "ItemFalse")),
+        ("look 16 4", "look 15 4", (5, "ItemFalse")),
+    )
+
+    def test_the_first_broken_rule_of_deletions(self):
+        for old, new, due in self.DELETED:
+            with self.subTest(old=old, new=new):
+                self.assertIn(old, DELETIONS)
+                *lines, _, _ = DELETIONS.replace(old, new, 1).split("\n")
+                count = self.events(lines) - self.events(self.traces(lines))
+                broken = jl_history.first_cause(jl_history.read("\n".join([*lines, f"end {count}", ""]).encode()))
+                self.assertEqual(broken and (broken.event, broken.cause), due)
+
+    def events(self, lines):
+        """How many lines have the first word of an event."""
+        return sum(line.split(" ")[0] in ("begin", "def", "del", "spawn", "done") for line in lines)
+
+    def traces(self, lines):
+        """The lines of the traces."""
+        for number, line in enumerate(lines):
+            if line.startswith("done "):
+                yield from lines[number + 1 : number + 1 + int(line.split(" ")[3])]
+
     def test_stored_histories_keep_the_rules(self):
-        for name in ("race-a.history", "race-b.history", "redefined.history", "late.history"):
+        for name in ("race-a.history", "race-b.history", "redefined.history", "late.history", "unload.history"):
             self.assertIsNone(jl_history.first_cause(jl_history.read(jl_history.part(stored(name))[1])))
 
 
@@ -173,6 +261,11 @@ class TheWorldsOfTasks(unittest.TestCase):
         events, script = events_of("redefined.history"), jl_script.Script(read_file("examples", "redefined.jl"))
         self.assertEqual(jl_history.Worlds(events).of, {0: (), 1: (16,), 2: (16, 17), 3: (16, 17, 18)})
         self.assertEqual(jl_history.Worlds(events, script).of, {0: (), 1: (16,), 2: (17,), 3: (18,)})
+
+    def test_unload(self):
+        events, script = events_of("unload.history"), jl_script.Script(read_file("examples", "unload.jl"))
+        self.assertEqual(jl_history.run_text(events).encode(), read_file("examples", "unload.out"))
+        self.assertEqual(jl_history.Worlds(events, script).of, {0: (), **dict.fromkeys(range(1, 6), (19,)), 6: (20,)})
 
     def test_the_last_look_is_not_the_world(self):
         events, script = events_of("late.history"), jl_script.Script(stored("late.jl"))
@@ -228,6 +321,22 @@ eval(quote k(x) where T<:Int64 = 1; x = (1,
             jl_script.Table("site 14 f 3")
 
 
+    def test_deletions(self):
+        script = jl_script.Script(b"g() = (Base . delete_method(which(f, Tuple{})), 1)\nf() = x.delete_method\n" + DELETER)
+        self.assertEqual([script.deletion(place)["line"] for place in range(3)], [1, 4, 5])
+        self.assertEqual(script.deletion(1), {"function": "f", "line": 4, "column": 20})
+        self.assertEqual(jl_script.Table("delete 0 f 4 20").deletion(0), script.deletion(1))
+        self.assertEqual([site.function for site in script.sites], ["g", "f", "f"])
+
+    def test_a_script_of_the_other_version(self):
+        script, other = jl_script.Script(DELETER), jl_script.Script(DELETER.split(b"\n")[0])
+        script.must_fit(jl_history.read(DELETIONS.encode()))
+        with self.assertRaisesRegex(jl_history.Trouble, "version 2"):
+            other.must_fit(jl_history.read(DELETIONS.encode()))
+        with self.assertRaisesRegex(jl_history.Trouble, "version 1"):
+            script.must_fit(events_of("late.history"))
+
+
 class JsonLines(unittest.TestCase):
     def test_stored(self):
         out, status, err = run("jl_history.py", "--script", "tools/tests/late.jl", data=stored("late.history"))
@@ -235,11 +344,19 @@ class JsonLines(unittest.TestCase):
 
     def test_nothing_is_lost(self):
         """The history is made of the objects again."""
-        for name in ("race-a.history", "redefined.history"):
-            out, status, _ = run("jl_history.py", data=stored(name))
+        for text in (stored("race-a.history"), stored("redefined.history"), DELETIONS.encode()):
+            out, status, _ = run("jl_history.py", data=text)
             kinds = {
                 kind.kind: kind
-                for kind in (jl_history.Begin, jl_history.Key, jl_history.Fill, jl_history.Def, jl_history.Spawn, jl_history.Done)
+                for kind in (
+                    jl_history.Begin,
+                    jl_history.Key,
+                    jl_history.Fill,
+                    jl_history.Def,
+                    jl_history.Del,
+                    jl_history.Spawn,
+                    jl_history.Done,
+                )
             }
             events = []
             for told in map(json.loads, out.splitlines()):
@@ -250,7 +367,15 @@ class JsonLines(unittest.TestCase):
                         for item in told["trace"]
                     ]
                 events.append(kind(**{field: told[field] for field in kind.__dataclass_fields__}))
-            self.assertEqual((jl_history.history_text(events).encode(), status), (jl_history.part(stored(name))[1], 0))
+            self.assertEqual((jl_history.history_text(events).encode(), status), (jl_history.part(text)[1], 0))
+
+    def test_a_deletion(self):
+        with tempfile.NamedTemporaryFile() as file:
+            file.write(DELETER)
+            file.flush()
+            out, status, _ = run("jl_history.py", "--script", file.name, data=DELETIONS.encode())
+        due = {"event": 3, "kind": "del", "task": 1, "place": 0, "world": 16, "function": "f", "line": 2, "column": 20}
+        self.assertEqual((json.loads(out.splitlines()[3]), status), (due, 0))
 
     def test_the_page_shows_what_is_written(self):
         """The JSON lines and the words of jl-diff in docs/HISTORY.md are those of the tools."""
@@ -284,6 +409,18 @@ class TheTimeline(unittest.TestCase):
         self.assertEqual(status, 0)
         self.assertIn("task 1 runs in world 16", out)
         self.assertNotRegex(out.replace("http://www.w3.org/2000/svg", ""), r"https?:|src=")
+
+    def test_deletions(self):
+        """A deletion is a hollow diamond in the colour of the world that it makes, and has its place in the script."""
+        out, status, _ = run("jl-timeline", data=DELETIONS.encode())
+        self.assertEqual(status, 0)
+        xml.dom.minidom.parseString(out)
+        self.assertIn("6 events, 2 tasks, worlds 14 to 16", out)
+        self.assertIn("event 3: task 1 deletes methods at place 0: world 16", out)
+        self.assertEqual(len(re.findall(r'<polygon [^>]*fill="white"', out)), 1)
+        out, _, _ = run("jl-timeline", "--script", "examples/unload.jl", data=stored("unload.history"))
+        self.assertIn(": task 4 deletes methods of price, line 25: world 20", out)
+        self.assertIn(">20 deletion of price :25<", out)
 
     def test_texts_are_escaped(self):
         history = EXAMPLE.replace("outcome value 3", "outcome error <b>&amp;\x01\x0c").replace("key 0 f", "key 0 <f>")
@@ -320,6 +457,18 @@ class TheDifference(unittest.TestCase):
     def test_stored(self):
         words = ["--script", "tools/tests/race.jl", "tools/tests/race-a.history", "tools/tests/race-b.history"]
         self.assertEqual(run("jl-diff", *words), (stored("race.diff").decode(), 1, ""))
+
+    def test_deletions(self):
+        with tempfile.TemporaryDirectory() as folder:
+            names = [os.path.join(folder, name) for name in "ab"]
+            for name, text in zip(names, (DELETIONS, DELETIONS.replace("look 16 4\nabsent 1 5", "look 15 3\nabsent 1 4"))):
+                with open(name, "w") as file:
+                    file.write(text)
+            out, status, _ = run("jl-diff", *names)
+            self.assertEqual(status, 1)
+            self.assertIn("the 5th step: in A it looks at world 16, after 4 events; in B it looks at world 15, after 3 events", out)
+            _, status, err = run("jl-diff", names[0], "tools/tests/race-a.history")
+            self.assertEqual((status, err), (2, "jl-diff: A has the version 2 and B the version 1: they are not of one script\n"))
 
     def test_the_same(self):
         self.assertEqual(run("jl-diff", *["tools/tests/race-a.history"] * 2), ("The histories are the same.\n", 0, ""))

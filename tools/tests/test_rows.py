@@ -40,6 +40,40 @@ class EachWorldInTheHistory(unittest.TestCase):
         self.assertEqual(definitions, [jl_history.Def(0, 14)] + [jl_history.Def(0, 15)] * 65_520)
 
 
+# Scripts that delete, and what they write on every schedule.
+DELETE = "Base.delete_method(which(f, Tuple{}))"
+DELETED = (
+    (
+        "f(x) = 1\nf(x::Int64) = 2\nprintln(f(0))\n"
+        "Base.delete_method(which(f, Tuple{Int64}))\nprintln(f(0))\nBase.delete_method(which(f, Tuple{Int64}))\n",
+        "2\n1\nERROR: NoSuchMethod: f\n",
+    ),
+    (
+        f"f() = 1\nlate() = f()\nt = Threads.@spawn late()\n{DELETE}\nprintln(fetch(t))\nprintln(f())\n",
+        "1\nERROR: MethodError: no method matching f() in world 17\n",
+    ),
+    (
+        f"f() = 1\nfor_all() = (Threads.@spawn {DELETE}, Threads.@spawn {DELETE}, Threads.@spawn {DELETE})\nfor_all()\nprintln(1)\n",
+        "1\n",
+    ),
+)
+
+
+class Deletions(unittest.TestCase):
+    def test_a_run_a_history_and_its_judgement(self):
+        for script, text in DELETED:
+            for threads in ("1", "4", "64"):
+                with self.subTest(script=script, threads=threads):
+                    ran = subprocess.run([PROGRAM, "trace", "--threads", threads], input=script.encode(), stdout=subprocess.PIPE)
+                    printed, history = jl_history.part(ran.stdout)
+                    self.assertEqual((printed.decode(), ran.returncode), (text, int("ERROR" in text)))
+                    events = jl_history.read(history, 2)
+                    self.assertIsNone(jl_history.first_cause(events))
+                    self.assertEqual(sum(event.kind == "del" for event in events), 1)
+                    judged = subprocess.run([PROGRAM, "replay"], input=script.encode() + history, stdout=subprocess.PIPE)
+                    self.assertEqual(judged.stdout.decode(), f"legal: {len(events)} events\n")
+
+
 class HostileInputs(unittest.TestCase):
     def test_long_lines_and_each_cut_of_a_history(self):
         """Lines of 1,048,576 blanks or parentheses are not written into a file of cases; `reference/hostile.py` makes them."""

@@ -123,10 +123,10 @@ fn read_text(alloc: Global, read: Result<Entries, HistoryFault>) -> Result<Strin
     }
 }
 
-/// What is read of a text.
-pub fn answer(alloc: Global, text: &[u8]) -> Result<String, AllocError> {
+/// What is read of a text, of a program that has a deletion place or has none.
+pub fn answer(alloc: Global, places: bool, text: &[u8]) -> Result<String, AllocError> {
     if text.len() > MOST_HISTORY_BYTES {
         return format!(in alloc; "too long");
     }
-    read_text(alloc, read_history(alloc, text))
+    read_text(alloc, read_history(alloc, places, text))
 }

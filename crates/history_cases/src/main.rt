@@ -1,7 +1,8 @@
 //! What is read of texts of histories, a text a line of standard input.
 //!
 //! A `|` is a newline, and `^` with two hexadecimal digits is the byte of this number. Pieces stand between `&`, and `N*PIECE` is N times a piece. The
-//! answer is the first bad line, or what was read of each event. A line `# TEXT` is a heading.
+//! answer is the first bad line, or what was read of each event. After `@` comes the text for a program that has a deletion place. A line `# TEXT`
+//! is a heading.
 #![tactic(auto)]
 
 mod answers;
@@ -14,8 +15,12 @@ use std::io::{self, BufRead, BufReader};
 
 /// What is read of the text that a line spells.
 fn read(alloc: Global, line: &str) -> Result<String, AllocError> {
-    let text = bytes_of(alloc, line)?;
-    answer(alloc, text.as_slice())
+    let (places, spelled) = match line.strip_prefix('@') {
+        Some(rest) => (true, rest),
+        None => (false, line),
+    };
+    let text = bytes_of(alloc, spelled)?;
+    answer(alloc, places, text.as_slice())
 }
 
 /// Takes a line.

@@ -14,8 +14,8 @@ use Rattle.jl_program.specs.Prelude.{int64}
 use Rattle.jl_calculus.specs.declared.history.Outcome.{Outcome}
 use Rattle.jl_calculus.specs.declared.history.Outcome.TheVariants as O
 use Rattle.jl_calculus.specs.declared.history.TraceItem.{TraceItem}
-use Rattle.jl_calculus.specs.declared.history.TraceItem.TheVariants.{Look, Def, Spawn, Fetch, WorldFull, TaskFull}
-use Rattle.jl_calculus.specs.Run.{Setting, State, Then, Caller, with_env, with_scope, binds, decides, either, runs, runs_stmt, stmts_run, fetched, fetches_value}
+use Rattle.jl_calculus.specs.declared.history.TraceItem.TheVariants.{Look, Def, Del, Spawn, Fetch, WorldFull, TaskFull, Absent}
+use Rattle.jl_calculus.specs.Run.{Setting, State, Then, Caller, with_env, with_scope, binds, decides, either, runs, runs_stmt, stmts_run, deleted_function, fetched, fetches_value}
 use Rattle.jl_calculus.proofs.Forms.{form_is, stmt_form_is, item_form_is}
 
 module _ (g : Setting) (Ends : Outcome → State → Type 0) (called : Caller) (w : ℕ) (back next : Then) where
@@ -110,6 +110,24 @@ module _ (g : Setting) (Ends : Outcome → State → Type 0) (called : Caller) (
   -- a look is no answer to a spawn
   spawn_alone : (place v p : ℕ) (left : List TraceItem) → Rs (E.Spawn place) (bare (Look v p ∷ left)) next → ⊥
   spawn_alone place v p left h = subst (λ (A : Type 0). A) (form_is g Ends called (E.Spawn place) (F.Spawn place) (X.outs-Spawn place) w (bare (Look v p ∷ left)) back next) h
+
+  -- `Base.delete_method(which(f, T))` gives `nothing` where the methods of its place are deleted, and ends the task where there are none,
+  -- and where the world is full
+  deletes_methods : (place p : ℕ) (left : List TraceItem) → Rs (E.Delete place) (bare (Del place p ∷ left)) next ≡ ((◌≡◌ {A = ℕ} place place) × next V.Nothing (bare left))
+  deletes_methods place p left = form_is g Ends called (E.Delete place) (F.Delete place) (X.outs-Delete place) w (bare (Del place p ∷ left)) back next
+
+  deletes_none : (place p : ℕ) (left : List TraceItem)
+      → Rs (E.Delete place) (bare (Absent place p ∷ left)) next ≡ ((◌≡◌ {A = ℕ} place place) × Ends (O.Error (Fa.NoSuchMethod (deleted_function g.program place))) (bare left))
+  deletes_none place p left = form_is g Ends called (E.Delete place) (F.Delete place) (X.outs-Delete place) w (bare (Absent place p ∷ left)) back next
+
+  delete_full : (place p : ℕ) (left : List TraceItem) → Rs (E.Delete place) (bare (WorldFull p ∷ left)) next ≡ Ends (O.Error Fa.WorldLimit) (bare left)
+  delete_full place p left = form_is g Ends called (E.Delete place) (F.Delete place) (X.outs-Delete place) w (bare (WorldFull p ∷ left)) back next
+
+  -- a deletion at another place is no answer
+  other_deletion : (p : ℕ) (left : List TraceItem) → Rs (E.Delete 0) (bare (Del 1 p ∷ left)) next → ⊥
+  other_deletion p left h =
+      let e = (subst (λ (A : Type 0). A) (form_is g Ends called (E.Delete 0) (F.Delete 0) (X.outs-Delete 0) w (bare (Del 1 p ∷ left)) back next) h).0 in
+      absurd (omega (arith, e))
 
   -- `fetch(1)`
   fetch_number : (s : State) → Rs (X.Fetch (E.Int (pos 1))) s next ≡ Ends (O.Error (Fa.NotTask int64)) s

@@ -39,6 +39,7 @@ module _ (P : Expr → Type 1) (PI : Item → Type 1) (PQ : Piece → Type 1) (P
   Below (F.Block xs) = Each PT xs
   Below (F.Eval xs) = Each PI xs
   Below (F.Spawn place) = Unit {1}
+  Below (F.Delete place) = Unit {1}
   Below (F.Fetch a) = P a
   Below (F.Print xs line) = Each PQ xs
 
@@ -67,6 +68,7 @@ module _ (P : Expr → Type 1) (PI : Item → Type 1) (PQ : Piece → Type 1) (P
       all (B.Local x) = step (B.Local x) (subst Below (sym (W.outs-Local x)) tt)
       all (B.Sub t u) = step (B.Sub t u) (subst Below (sym (W.outs-Sub t u)) tt)
       all (B.Spawn x) = step (B.Spawn x) (subst Below (sym (W.outs-Spawn x)) tt)
+      all (B.Delete x) = step (B.Delete x) (subst Below (sym (W.outs-Delete x)) tt)
       all (B.Call' f p k) = step (B.Call' f p k) (subst Below (sym (W.outs-Call' f p k)) (subst (Each P) (sym (B.items_shown-the_row-Expr-0 p k)) (each _ k)))
       all (B.Latest' f p k) = step (B.Latest' f p k) (subst Below (sym (W.outs-Latest' f p k)) (subst (Each P) (sym (B.items_shown-the_row-Expr-0 p k)) (each _ k)))
       all (B.Make' t p k) = step (B.Make' t p k) (subst Below (sym (W.outs-Make' t p k)) (subst (Each P) (sym (B.items_shown-the_row-Expr-0 p k)) (each _ k)))

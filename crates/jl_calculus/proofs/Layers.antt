@@ -54,6 +54,7 @@ module _ (g : Setting) (Ends : Outcome → State → Type 0) (called : Caller) w
     expr_natural (F.Block xs) = λ i. λ w s back next. stmts_natural vt kt xs i V.Nothing w s back (λ v s1. next v (with_env s1 s.env))
     expr_natural (F.Eval xs) = λ i. λ w s back next. items_natural vi (λ y s1. ki y (with_scope s1 [] [])) xs i V.Nothing s back (λ v s1. next v (with_scope s1 s.env s.bindings))
     expr_natural (F.Spawn n) = refl
+    expr_natural (F.Delete n) = refl
     expr_natural (F.Fetch a) = refl
 
     item_natural : (x : Item-F X I Q T) → item_runs g Ends called (λ y. kx (vx y)) (λ y. ki (vi y)) (λ y. kq (vq y)) (λ y. kt (vt y)) x ≡ item_runs g Ends called kx ki kq kt (map-Item X I Q T X' I' Q' T' vx vi vq vt x)

@@ -25,7 +25,7 @@ use Rattle.jl_calculus.specs.Answers.{Answer}
 use Rattle.jl_calculus.specs.Kept.{Places}
 use Rattle.jl_calculus.specs.Operations.{make_written, test_type, test_order, test_same}
 use Rattle.jl_calculus.specs.Led.{spawn_asked, asked_by, spawn_count}
-use Rattle.jl_calculus.specs.Run.{Question, a_look, a_definition, a_spawn, a_fetch, halts, Setting, State, Then, Runs, ItemRuns, PieceRuns, Caller, Body, operation, code, body_of, each_runs, texts_run, stmts_run, items_run, either, with_scope, with_env, with_left, with_calls, with_start, start_at, binds, prints, newline, looks, defines, spawns, fetched, fetches, fetches_value, decides, answers, operation_runs, expr_runs, stmt_runs, item_runs, piece_runs, runs, runs_stmt, runs_item, runs_piece, chosen, performs, calls, open_calls, first_state, task_runs, task_state, IsEnd, Run, Comes}
+use Rattle.jl_calculus.specs.Run.{Question, a_look, a_definition, a_deletion, a_spawn, a_fetch, halts, Setting, State, Then, Runs, ItemRuns, PieceRuns, Caller, Body, operation, code, body_of, each_runs, texts_run, stmts_run, items_run, either, with_scope, with_env, with_left, with_calls, with_start, start_at, binds, prints, newline, looks, defines, deletes, spawns, fetched, fetches, fetches_value, decides, answers, operation_runs, expr_runs, stmt_runs, item_runs, piece_runs, runs, runs_stmt, runs_item, runs_piece, chosen, performs, calls, open_calls, first_state, task_runs, task_state, IsEnd, Run, Comes}
 use Rattle.jl_calculus.specs.World.{site_of}
 use Rattle.jl_calculus.proofs.Layers.{runs_is, stmt_is, item_is, piece_is}
 use Rattle.jl_calculus.proofs.RunStarts as K
@@ -119,6 +119,16 @@ module _ (P : Program) (es : List Event) (places : Option Places) (fuel : ℕ) (
     define_there (Del at_place p) site s n e k = absurd k
     define_there (Absent at_place p) site s n e k = absurd k
 
+    delete_there : (i : TraceItem) (place : ℕ) (s : State) (n : State → Type 0) → asked_by (slice_get spawned total) i ≡ Some q → deletes g Q (i ∷ after) place s n → halts (Some q) (a_deletion place)
+    delete_there (Del made p) place s n e k = let m : made ≡ place = k.0 in cc
+    delete_there (Absent made p) place s n e k = let m : made ≡ place = k.0 in cc
+    delete_there (WorldFull p) place s n e k = let z : None ≡ Some q = e in absurd (cc)
+    delete_there (Look w p) place s n e k = absurd k
+    delete_there (Def made p) place s n e k = absurd k
+    delete_there (Spawn child p) place s n e k = absurd k
+    delete_there (Fetch task o p) place s n e k = absurd k
+    delete_there (TaskFull p) place s n e k = absurd k
+
     spawn_there : (i : TraceItem) (start : Start) (s : State) (n : Then) → Goes n → length s.starts ≡ total → asked_by (slice_get spawned total) i ≡ Some q → spawns g Q (i ∷ after) start s n → halts (Some q) (a_spawn start)
     spawn_there (Spawn child p) start s n gn few e k =
         let r = gn (V.Task child) (with_start (with_left s after) start) k in
@@ -170,6 +180,20 @@ module _ (P : Program) (es : List Event) (places : Option Places) (fuel : ℕ) (
 
     moves_defines : (site : ℕ) (s s' : State) (n n' : State → Type 0) → Longer s s' → ((s1 s1' : State) → Longer s1 s1' → n s1 → n' s1') → defines g Q s.left site s n → defines h Q' s'.left site s' n'
     moves_defines site s s' n n' e m k = defines_in s'.left site s' e.1 n n' m (subst (λ (z : State). defines g Q z.left site z n) e.0 k)
+
+    deletes_in : (left : List TraceItem) (place : ℕ) (s : State) → length s.starts + spawn_count left ≡ total → (n n' : State → Type 0) → ((s1 s1' : State) → Longer s1 s1' → n s1 → n' s1') → deletes g Q (left ++ item ∷ after) place (long s) n → deletes h Q' left place s n'
+    deletes_in [] place s c n n' m k = delete_there item place (long s) n asks k
+    deletes_in (Del made p ∷ rest) place s c n n' m k = (k.0, m _ (with_left s rest) (refl, c) k.1)
+    deletes_in (Absent made p ∷ rest) place s c n n' m k = (k.0, dead _ (with_left s rest) k.1)
+    deletes_in (WorldFull p ∷ rest) place s c n n' m k = dead _ (with_left s rest) k
+    deletes_in (Look w p ∷ rest) place s c n n' m k = absurd k
+    deletes_in (Def made p ∷ rest) place s c n n' m k = absurd k
+    deletes_in (Spawn child p ∷ rest) place s c n n' m k = absurd k
+    deletes_in (Fetch task o p ∷ rest) place s c n n' m k = absurd k
+    deletes_in (TaskFull p ∷ rest) place s c n n' m k = absurd k
+
+    moves_deletes : (place : ℕ) (s s' : State) (n n' : State → Type 0) → Longer s s' → ((s1 s1' : State) → Longer s1 s1' → n s1 → n' s1') → deletes g Q s.left place s n → deletes h Q' s'.left place s' n'
+    moves_deletes place s s' n n' e m k = deletes_in s'.left place s' e.1 n n' m (subst (λ (z : State). deletes g Q z.left place z n) e.0 k)
 
     spawns_in : (left : List TraceItem) (start : Start) (s : State) → length s.starts + spawn_count left ≡ total → (n n' : Then) → Leads n n' → spawns g Q (left ++ item ∷ after) start (long s) n → spawns h Q' left start s n'
     spawns_in [] start s c n n' m k = spawn_there item start (long s) n m.1 (omega (arith, c)) asks k
@@ -355,6 +379,7 @@ module _ (P : Program) (es : List Event) (places : Option Places) (fuel : ℕ) (
             (λ v s1. m.1 v _),
           ) k
       moves_layer (F.Spawn place) t w s s' b b' n n' e mb m k = moves_spawns place w s s' n n' e m k
+      moves_layer (F.Delete place) t w s s' b b' n n' e mb m k = moves_deletes place s s' _ _ e (λ s1 s1' e1. m.0 V.Nothing s1 s1' e1) k
       moves_layer (F.Fetch x) t w s s' b b' n n' e mb m k = t w s s' b b' _ _ e mb ((λ v s1 s1' e1. moves_value v s1 s1' n n' e1 m), (λ v s1. go_value v s1 n m.1)) k
       moves_layer (F.Print xs line) t w s s' b b' n n' e mb m k =
           moves_texts _ _ xs t (K.of_all_pieces P es places fuel Q Begins ends shorter called starts_called xs) [] w s s' b b' _ _ e mb

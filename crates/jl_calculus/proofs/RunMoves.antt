@@ -21,7 +21,7 @@ use Rattle.jl_calculus.specs.declared.history.TraceItem.{TraceItem}
 use Rattle.jl_calculus.specs.declared.history.TraceItem.TheVariants.{Look, Def, Del, Spawn, Fetch, WorldFull, TaskFull, Absent}
 use Rattle.jl_calculus.specs.Answers.{Answer}
 use Rattle.jl_calculus.specs.Kept.{Places, Keeps}
-use Rattle.jl_calculus.specs.Run.{Question, Setting, State, Then, Runs, ItemRuns, PieceRuns, Caller, Body, operation, code, body_of, each_runs, texts_run, stmts_run, items_run, either, with_scope, looks, defines, spawns, fetched, fetches, fetches_value, decides, answers, operation_runs, expr_runs, stmt_runs, item_runs, piece_runs, runs, runs_stmt, runs_item, runs_piece, chosen, performs, calls, open_calls, first_state, task_runs, task_state, IsEnd, Run}
+use Rattle.jl_calculus.specs.Run.{Question, Setting, State, Then, Runs, ItemRuns, PieceRuns, Caller, Body, operation, code, body_of, each_runs, texts_run, stmts_run, items_run, either, with_scope, looks, defines, deletes, spawns, fetched, fetches, fetches_value, decides, answers, operation_runs, expr_runs, stmt_runs, item_runs, piece_runs, runs, runs_stmt, runs_item, runs_piece, chosen, performs, calls, open_calls, first_state, task_runs, task_state, IsEnd, Run}
 use Rattle.jl_calculus.specs.World.{site_of, Selects}
 use Rattle.jl_calculus.proofs.Layers.{runs_is, stmt_is, item_is, piece_is}
 use Rattle.jl_calculus.proofs.Induction.{Each, Below, BelowT, BelowI, BelowQ, all, allI}
@@ -93,6 +93,17 @@ module _ (P : Program) (fuel : ℕ) (until : Option Question) (In : ℕ → Type
   moves_defines (TaskFull p ∷ rest) site s n n' a m k = absurd k
   moves_defines (Del at_place p ∷ rest) site s n n' a m k = absurd k
   moves_defines (Absent at_place p ∷ rest) site s n n' a m k = absurd k
+
+  moves_deletes : (left : List TraceItem) (place : ℕ) (s : State) (n n' : State → Type 0) → LooksIn In left → ((s1 : State) → Fine s1 → n s1 → n' s1) → deletes g Q left place s n → deletes h Q left place s n'
+  moves_deletes [] place s n n' a m k = k
+  moves_deletes (Del made p ∷ rest) place s n n' a m k = (k.0, m _ a k.1)
+  moves_deletes (Absent made p ∷ rest) place s n n' a m k = k
+  moves_deletes (WorldFull p ∷ rest) place s n n' a m k = k
+  moves_deletes (Look w p ∷ rest) place s n n' a m k = absurd k
+  moves_deletes (Def made p ∷ rest) place s n n' a m k = absurd k
+  moves_deletes (Spawn child p ∷ rest) place s n n' a m k = absurd k
+  moves_deletes (Fetch task o p ∷ rest) place s n n' a m k = absurd k
+  moves_deletes (TaskFull p ∷ rest) place s n n' a m k = absurd k
 
   moves_spawns : (left : List TraceItem) (start : Start) (s : State) (n n' : Then) → LooksIn In left → Leads n n' → spawns g Q left start s n → spawns h Q left start s n'
   moves_spawns [] start s n n' a m k = k
@@ -219,6 +230,7 @@ module _ (P : Program) (fuel : ℕ) (until : Option Question) (In : ℕ → Type
     moves_layer (F.Eval xs) t w s b b' n n' i a mb m k =
         moves_items _ _ xs (bare_items (runs_item g Q called) (runs_item h Q called') xs t) V.Nothing s b b' _ _ a mb (λ v s1 a1. m v _ a1) k
     moves_layer (F.Spawn place) t w s b b' n n' i a mb m k = moves_spawns s.left _ s n n' a m k
+    moves_layer (F.Delete place) t w s b b' n n' i a mb m k = moves_deletes s.left place s _ _ a (λ s1 a1. m _ _ a1) k
     moves_layer (F.Fetch x) t w s b b' n n' i a mb m k = t w s b b' _ _ i a mb (λ v s1 a1. moves_value v s1 n n' a1 m) k
     moves_layer (F.Print xs line) t w s b b' n n' i a mb m k = moves_texts _ _ xs t [] w s b b' _ _ i a mb (λ u s1 a1. m _ _ a1) k
 

@@ -22,7 +22,7 @@ use Rattle.jl_calculus.specs.declared.history.TraceItem.{TraceItem}
 use Rattle.jl_calculus.specs.declared.history.TraceItem.TheVariants.{Look, Def, Del, Spawn, Fetch, WorldFull, TaskFull, Absent}
 use Rattle.jl_calculus.specs.Answers.{Answer}
 use Rattle.jl_calculus.specs.Kept.{Places}
-use Rattle.jl_calculus.specs.Run.{Setting, State, Then, Runs, ItemRuns, PieceRuns, Caller, Body, operation, code, body_of, each_runs, texts_run, stmts_run, items_run, either, with_scope, looks, defines, spawns, fetched, fetches, fetches_value, decides, answers, operation_runs, expr_runs, stmt_runs, item_runs, piece_runs, runs, runs_stmt, runs_item, runs_piece, chosen, performs, calls}
+use Rattle.jl_calculus.specs.Run.{Setting, State, Then, Runs, ItemRuns, PieceRuns, Caller, Body, operation, code, body_of, each_runs, texts_run, stmts_run, items_run, either, with_scope, looks, defines, deletes, spawns, fetched, fetches, fetches_value, decides, answers, operation_runs, expr_runs, stmt_runs, item_runs, piece_runs, runs, runs_stmt, runs_item, runs_piece, chosen, performs, calls}
 use Rattle.jl_calculus.specs.World.{site_of}
 use Rattle.jl_calculus.proofs.Layers.{runs_is, stmt_is, item_is, piece_is}
 use Rattle.jl_calculus.proofs.Induction.{Each, Below, BelowT, BelowI, BelowQ, all, allT, allI, allQ}
@@ -65,6 +65,17 @@ module _ (P : Program) (es : List Event) (places : Option Places) (fuel : ℕ) (
   of_defines (TaskFull p ∷ rest) site s n m k = absurd k
   of_defines (Del at_place p ∷ rest) site s n m k = absurd k
   of_defines (Absent at_place p ∷ rest) site s n m k = absurd k
+
+  pub of_deletes : (left : List TraceItem) (place : ℕ) (s : State) (n : State → Type 0) → ((s1 : State) → n s1 → L s1.starts) → deletes g Q left place s n → L s.starts
+  of_deletes [] place s n m k = absurd k
+  of_deletes (Del made p ∷ rest) place s n m k = m _ k.1
+  of_deletes (Absent made p ∷ rest) place s n m k = ends _ _ k.1
+  of_deletes (WorldFull p ∷ rest) place s n m k = ends _ _ k
+  of_deletes (Look w p ∷ rest) place s n m k = absurd k
+  of_deletes (Def made p ∷ rest) place s n m k = absurd k
+  of_deletes (Spawn child p ∷ rest) place s n m k = absurd k
+  of_deletes (Fetch task o p ∷ rest) place s n m k = absurd k
+  of_deletes (TaskFull p ∷ rest) place s n m k = absurd k
 
   pub of_spawns : (left : List TraceItem) (start : Start) (s : State) (n : Then) → Goes n → spawns g Q left start s n → L s.starts
   of_spawns [] start s n m k = absurd k
@@ -184,6 +195,7 @@ module _ (P : Program) (es : List Event) (places : Option Places) (fuel : ℕ) (
     of_layer (F.Block xs) t w s b n mb m k = of_stmts _ xs t V.Nothing w s b _ mb (λ v s1. m v _) k
     of_layer (F.Eval xs) t w s b n mb m k = of_items _ xs (of_bare (runs_item g Q called) xs t) V.Nothing s b _ mb (λ v s1. m v _) k
     of_layer (F.Spawn place) t w s b n mb m k = of_spawns s.left _ s n m k
+    of_layer (F.Delete place) t w s b n mb m k = of_deletes s.left place s _ (λ s1. m _ _) k
     of_layer (F.Fetch x) t w s b n mb m k = t w s b _ mb (λ v s1. of_value v s1 n m) k
     of_layer (F.Print xs line) t w s b n mb m k = of_texts _ xs t [] w s b _ mb (λ u s1. m _ _) k
 

@@ -203,6 +203,7 @@ module _ (P : Program) (views : List View) where
       let parts = both_true (nat_lt place (length views)) (nat_le s.least place && same_view (get_or views place nothing_seen) s.view) h in
       let rest = both_true (nat_le s.least place) (same_view (get_or views place nothing_seen) s.view) parts.1 in
       (refl, grind (arith, rest.0), view_same (get_or views place nothing_seen) s.view rest.1, tt)
+  layer_fine (F.Delete place) s h = tt
   layer_fine (F.Fetch x) s h = x.1 s h
   layer_fine (F.Print ps line) s h = each_fine (is_valid_piece P views) (of_piece own_place) piece_spawns ps s h
 

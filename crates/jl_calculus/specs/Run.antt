@@ -18,7 +18,7 @@ use Rattle.jl_program.specs.declared.choice.Choice.{Choice}
 use Rattle.jl_program.specs.declared.choice.Choice.TheVariants as C
 use Rattle.jl_calculus.specs.declared.history.Outcome.{Outcome}
 use Rattle.jl_calculus.specs.declared.history.Outcome.TheVariants as O
-use Rattle.jl_program.specs.declared.fault.Fault.TheVariants.{NoMethod, Ambiguous, NotBool, NotTask, TaskFailed, FuelSpent, StackLimit, WorldLimit, TaskLimit}
+use Rattle.jl_program.specs.declared.fault.Fault.TheVariants.{NoMethod, Ambiguous, NotBool, NotTask, TaskFailed, NoSuchMethod, FuelSpent, StackLimit, WorldLimit, TaskLimit}
 use Rattle.jl_program.specs.declared.tree.Expr.{Expr}
 use Rattle.jl_program.specs.declared.tree.Stmt.{Stmt}
 use Rattle.jl_program.specs.declared.tree.Item.{Item}
@@ -27,6 +27,7 @@ use Rattle.jl_program.specs.declared.tree.Expr.TheOpen.{Expr-F, Stmt-F, Item-F, 
 use Rattle.jl_program.specs.declared.tree.Expr.TheOpen as F
 use Rattle.jl_program.specs.declared.tree.Expr.TheFolds.{rec-Expr, rec-Stmt, rec-Item, rec-Piece}
 use Rattle.jl_program.specs.declared.tree.Expr.TheVariants as E
+use Rattle.jl_program.specs.declared.tree.Delete.{Delete}
 use Rattle.jl_program.specs.declared.tree.Site.{Site}
 use Rattle.jl_program.specs.declared.tree.Start.{Start}
 use Rattle.jl_program.specs.declared.tree.Program.{Program}
@@ -137,6 +138,15 @@ code_of (Some site) = code site.sig site.body
 abbrev pub body_of : Program → ℕ → Body
 body_of P site = cond (nat_lt site prelude_count) (operation site) (code_of (slice_get P.sites site))
 
+-- the function of a deletion place
+abbrev pub function_of_place : Option Delete → ℕ
+function_of_place None = 0
+function_of_place (Some place) = place.function
+
+-- the function of which a deletion place deletes methods; it is 0 where there is no such place
+abbrev pub deleted_function : Program → ℕ → ℕ
+deleted_function P place = function_of_place (slice_get P.deletes place)
+
 abbrev pub Then : Type 1
 Then = Value → State → Type 0
 
@@ -206,6 +216,18 @@ module _ (g : Setting) (Ends : Outcome → State → Type 0) where
   defines (Del place p ∷ rest) site s next = ⊥
   defines (Absent place p ∷ rest) site s next = ⊥
   defines [] site s next = halts g.until (a_definition site)
+
+  -- takes the Del of a place, or that nothing stands there to delete, or that the world is full
+  abbrev pub deletes : List TraceItem → ℕ → State → (State → Type 0) → Type 0
+  deletes (Del made p ∷ rest) place s next = (made ≡ place) × next (with_left s rest)
+  deletes (Absent made p ∷ rest) place s next = (made ≡ place) × Ends (O.Error (NoSuchMethod (deleted_function g.program place))) (with_left s rest)
+  deletes (WorldFull p ∷ rest) place s next = Ends (O.Error WorldLimit) (with_left s rest)
+  deletes (Look w p ∷ rest) place s next = ⊥
+  deletes (Def made p ∷ rest) place s next = ⊥
+  deletes (Spawn child p ∷ rest) place s next = ⊥
+  deletes (Fetch task outcome p ∷ rest) place s next = ⊥
+  deletes (TaskFull p ∷ rest) place s next = ⊥
+  deletes [] place s next = halts g.until (a_deletion place)
 
   -- takes the Spawn of a task with this start, or that there is no room for a task
   abbrev pub spawns : List TraceItem → Start → State → Then → Type 0
@@ -291,6 +313,7 @@ module _ (g : Setting) (Ends : Outcome → State → Type 0) where
     expr_runs (F.Eval xs) w s back next =
         items_run (λ x s1. run_item x (with_scope s1 [] [])) xs V.Nothing s back (λ v s1. next v (with_scope s1 s.env s.bindings))
     expr_runs (F.Spawn place) w s back next = spawns s.left (start_at place w s) s next
+    expr_runs (F.Delete place) w s back next = deletes s.left place s (λ s1. next V.Nothing s1)
     expr_runs (F.Fetch a) w s back next = run a w s back (λ v s1. fetches_value v s1 next)
     expr_runs (F.Print ps line) w s back next = texts_run run_piece ps [] w s back (λ text s1. next V.Nothing (prints s1 (text ++ newline line)))
 

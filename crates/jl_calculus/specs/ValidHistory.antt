@@ -44,6 +44,7 @@ module _ (P : Program) where
   IsValidFault (F.NotBool t) = IsTypeOf t
   IsValidFault (F.NotTask t) = IsTypeOf t
   IsValidFault (F.TaskFailed task) = Unit {0}
+  IsValidFault (F.NoSuchMethod f) = IsFunctionOf f
   IsValidFault (F.FuelSpent fuel) = Unit {0}
   IsValidFault F.StackLimit = Unit {0}
   IsValidFault F.WorldLimit = Unit {0}

@@ -56,6 +56,7 @@ find_step (F.Or a b) v = a v ++ b v
 find_step (F.Block xs) v = find_in_turn xs v
 find_step (F.Eval xs) v = flat_map (λ x. x.finds nothing_seen) xs
 find_step (F.Spawn place) v = record { place = place; view = v } ∷ []
+find_step (F.Delete place) v = []
 find_step (F.Fetch a) v = a v
 find_step (F.Print ps line) v = find_all ps v
 

@@ -164,6 +164,10 @@ impl Same for Fault {
                 Fault::TaskFailed(t) => task == t,
                 _ => false,
             },
+            Fault::NoSuchMethod(function) => match other {
+                Fault::NoSuchMethod(f) => function == f,
+                _ => false,
+            },
             Fault::FuelSpent(fuel) => match other {
                 Fault::FuelSpent(f) => fuel == f,
                 _ => false,

@@ -84,10 +84,10 @@ pub root_unfinished : (P : Program) (all : List Entry) → StartWell all → has
 root_unfinished P all w no_end =
     let (fuel, rest, is) = first_entry all w in
     cause_at P all 0 [] (E.Begin fuel) C.Unfinished (none_clean P all) (ap (λ xs. slice_get xs 0) is)
-    (first P all [] (E.Begin fuel) C.Unfinished (begin_free P all [] 9 fuel (λ l. absurd (omega (arith, l)))) (λ ends. (let z : true ≡ false = sym ends ∙ no_end in cc)))
+    (first P all [] (E.Begin fuel) C.Unfinished (begin_free P all [] 10 fuel (λ l. absurd (omega (arith, l)))) (λ ends. (let z : true ≡ false = sym ends ∙ no_end in cc)))
 
 pub root_clean : (P : Program) (all : List Entry) → StartWell all → has_end all 0 ≡ true → (fuel : ℕ) × AreClean P all (take 1 all) (Ev.Begin fuel ∷ [])
 root_clean P all w ends =
     let (fuel, rest, is) = first_entry all w in
     let there : slice_get all 0 ≡ Some (E.Begin fuel) = ap (λ xs. slice_get xs 0) is in
-    (fuel, clean_more P all 0 [] (E.Begin fuel) (Ev.Begin fuel) (none_clean P all) refl there (clean P all [] (E.Begin fuel) (begin_free P all [] 13 fuel (λ l. ends))) refl)
+    (fuel, clean_more P all 0 [] (E.Begin fuel) (Ev.Begin fuel) (none_clean P all) refl there (clean P all [] (E.Begin fuel) (begin_free P all [] 14 fuel (λ l. ends))) refl)

@@ -110,17 +110,17 @@ module _ (P : Program) (apart : AreApart P) where
     owned_to (Ev.Done by ended) d (other, is, steps) r = subst (OnDone (HasOwnEvents ds)) (sym is) (own_to P es ds h by ended other steps r)
 
   -- entries that are some of all, of which no cause holds, and a history with these entries
-  module _ (plain : P.deletes ≡ []) (all : List Entry) (well : StartWell all) (xs rest : List Entry) (front : xs ++ rest ≡ all) (es ds : List Event) (c : AreClean P all xs es) (h : AreAlike es ds) where
+  module _ (all : List Entry) (well : StartWell all) (xs rest : List Entry) (front : xs ++ rest ≡ all) (es ds : List Event) (c : AreClean P all xs es) (h : AreAlike es ds) where
     pub stands_to : 0 < length ds → MayStand P ds
     stands_to l =
         let s = same es ds h in
-        let m = stands P plain all well xs es rest front c (omega (arith, s.many, l)) in
+        let m = stands P all well xs es rest front c (omega (arith, s.many, l)) in
         record {
           begun = subst IsSome (sym s.fuel) m.begun;
           come = each_after (MayCome P) [] ds
               (λ n d at.
               let (e, there, k) = alike_back es ds n d h at in
-              comes_to P (take n es) (take n ds) e d (alike_take n es ds h) k (comes_at P plain all well xs es rest front c n e there));
+              comes_to P (take n es) (take n ds) e d (alike_take n es ds h) k (comes_at P all well xs es rest front c n e there));
         }
 
     pub traced_to : TellsFetches ds → IsTraced P ds
@@ -138,22 +138,22 @@ module _ (P : Program) (apart : AreApart P) where
               owned_to (take n es) (take n ds) (alike_take n es ds h) e d k (owned P all (take n es) x e (c.clean n x entry) t));
         }
 
-  pub finished_to : P.deletes ≡ [] → (all : List Entry) → StartWell all → (es ds : List Event) → AreClean P all all es → AreAlike es ds → AreFinished ds
-  finished_to plain all well es ds c h task l =
+  pub finished_to : (all : List Entry) → StartWell all → (es ds : List Event) → AreClean P all all es → AreAlike es ds → AreFinished ds
+  finished_to all well es ds c h task l =
       let s = same es ds h in
-      s.ends task ∙ finished P plain all well es c task (omega (arith, s.tasks, l))
+      s.ends task ∙ finished P all well es c task (omega (arith, s.tasks, l))
 
 some_event : (P : Program) (ds : List Event) → StartWell (entries_of P ds) → 0 < length ds
 some_event P [] w = absurd w
 some_event P (d ∷ ds) w = omega arith
 
 pub no_cause_is_legal : NoCauseIsLegal
-no_cause_is_legal P ds plain apart keys fetches well (es, c) =
+no_cause_is_legal P ds apart keys fetches well (es, c) =
     let all = entries_of P ds in
     let h = alike_all P apart 0 ds es keys c.told in (
-      stands_to P apart plain all well all [] (append-nil all) es ds c h (some_event P ds well),
-      traced_to P apart plain all well all [] (append-nil all) es ds c h fetches,
-      finished_to P apart plain all well es ds c h,
+      stands_to P apart all well all [] (append-nil all) es ds c h (some_event P ds well),
+      traced_to P apart all well all [] (append-nil all) es ds c h fetches,
+      finished_to P apart all well es ds c h,
     )
 
 -- the first entries are clean where all are
@@ -173,11 +173,11 @@ clean_front P all xs rest es front c =
     }
 
 pub no_cause_so_far : NoCauseSoFar
-no_cause_so_far P all rest ds plain apart keys fetches well (es, c) front l =
+no_cause_so_far P all rest ds apart keys fetches well (es, c) front l =
     let xs = entries_of P ds in
     let first = take (length xs) es in
     let cut = clean_front P all xs rest es front c in
     let h = alike_all P apart 0 ds first keys cut.told in (
-      stands_to P apart plain all well xs rest front first ds cut h l,
-      traced_to P apart plain all well xs rest front first ds cut h fetches,
+      stands_to P apart all well xs rest front first ds cut h l,
+      traced_to P apart all well xs rest front first ds cut h fetches,
     )

@@ -16,13 +16,13 @@ use Rattle.jl_calculus.specs.Ranges.{keys_of, MayBegin, SelectsSite}
 use Rattle.jl_world.proofs.Growth.{tasks_some}
 use Rattle.jl_report.specs.declared.entry.Entry.{Entry}
 use Rattle.jl_report.specs.declared.entry.Entry.TheVariants as E
-use Rattle.jl_report.proofs.PlainLemmas.{place_known}
+use Rattle.jl_report.proofs.PlaceLemmas.{place_known}
 use Rattle.jl_report.specs.HistoryText.{steps_of, ending_of, entry_of, keys_with, entries_from, entries_of}
 use Rattle.jl_causes.specs.Sketch.{start_at, record_of, Names, Tells, AllTell}
 use Rattle.jl_causes.specs.Causes.{has_end, IsClean}
 use Rattle.jl_causes.specs.Laws.{AreApart, LegalHasNoCause}
 use Rattle.jl_causes.proofs.SketchLemmas.{tell_take}
-use Rattle.jl_causes.proofs.AlikeLemmas.{IsAlike, AreAlike, Same, alike_take, same, same_back, begin_to, selects_to, running_to, world_to}
+use Rattle.jl_causes.proofs.AlikeLemmas.{IsAlike, AreAlike, Same, alike_take, same, same_back, begin_to, selects_to, finds_to, running_to, world_to}
 use Rattle.jl_causes.proofs.TableLemmas.{clean, begin_free, key_free, fill_free, def_free, del_free, spawn_free, done_free}
 use Rattle.jl_causes.proofs.TraceLemmas.{trace_back, own_back}
 use Rattle.jl_causes.proofs.LawLemmas.{each_at, steps_items}
@@ -129,7 +129,7 @@ module _ (P : Program) (apart : AreApart P) (all : List Entry) (es ds : List Eve
   clean_key k key counted m =
       let named : Names P (function_name P key.function) (type_text P (Tuple key.types)) key = record { proper = m.proper; by_function = refl; by_types = refl } in
       clean P all es (entry_of P k (Ev.Key key))
-      (key_free P all es 13 k (function_name P key.function) (type_text P (Tuple key.types))
+      (key_free P all es 14 k (function_name P key.function) (type_text P (Tuple key.types))
       (λ l.
       record {
         counted = counted ∙ ap length (sym back.keys);
@@ -142,7 +142,7 @@ module _ (P : Program) (apart : AreApart P) (all : List Entry) (es ds : List Eve
   clean_fill k number site begins m =
       let at : slice_get (keys_of es) number ≡ Some m.key = ap (λ ks. slice_get ks number) back.keys ∙ m.named in
       clean P all es (entry_of P k (Ev.Fill number site begins))
-      (fill_free P all es 13 number site begins
+      (fill_free P all es 14 number site begins
       (λ l.
       record {
         known = ap is_some at;
@@ -155,26 +155,26 @@ module _ (P : Program) (apart : AreApart P) (all : List Entry) (es ds : List Eve
   clean_def : (k by site : ℕ) → MayCome P ds (Ev.Def by site) → IsClean P all es (entry_of P k (Ev.Def by site))
   clean_def k by site m =
       clean P all es (entry_of P k (Ev.Def by site))
-      (def_free P all es 13 by site (λ l. running_to P ds es back by m.running) (λ l. m.may) (λ l. omega (arith, world_to P ds es back, m.room)))
+      (def_free P all es 14 by site (λ l. running_to P ds es back by m.running) (λ l. m.may) (λ l. omega (arith, world_to P ds es back, m.room)))
 
   clean_del : (k by place : ℕ) → MayCome P ds (Ev.Del by place) → IsClean P all es (entry_of P k (Ev.Del by place))
   clean_del k by place m =
       clean P all es (entry_of P k (Ev.Del by place))
-      (del_free P all es 13 by place (λ l. running_to P ds es back by m.running) (λ l. place_known P ds place m.may) (λ l. omega (arith, world_to P ds es back, m.room)))
+      (del_free P all es 14 by place (λ l. running_to P ds es back by m.running) (λ l. place_known P ds place m.may) (λ l. finds_to P ds es back place m.may) (λ l. omega (arith, world_to P ds es back, m.room)))
 
   clean_spawn : (k by child : ℕ) (start : Start) → has_end all child ≡ true → MayCome P ds (Ev.Spawn by child start) → IsClean P all es (entry_of P k (Ev.Spawn by child start))
   clean_spawn k by child start ends m =
       clean P all es (entry_of P k (Ev.Spawn by child start))
-      (spawn_free P all es 13 by child start.spawn (λ l. running_to P ds es back by m.running) (λ l. m.of_program) (λ l. omega (arith, m.next, back.tasks)) (λ l. omega (arith, back.tasks, m.room)) (λ l. ends))
+      (spawn_free P all es 14 by child start.spawn (λ l. running_to P ds es back by m.running) (λ l. m.of_program) (λ l. omega (arith, m.next, back.tasks)) (λ l. omega (arith, back.tasks, m.room)) (λ l. ends))
 
   clean_done : (k by : ℕ) (ended : Record) → HasTrueTrace P ds by ended → HasOwnEvents ds by ended → MayCome P ds (Ev.Done by ended) → IsClean P all es (entry_of P k (Ev.Done by ended))
   clean_done k by ended t o m =
       clean P all es (entry_of P k (Ev.Done by ended))
-      (done_free P all es 13 by ended.calls (steps_of ended.trace) ended.output (ending_of P ended.outcome) (λ l. running_to P ds es back by m)
+      (done_free P all es 14 by ended.calls (steps_of ended.trace) ended.output (ending_of P ended.outcome) (λ l. running_to P ds es back by m)
       (λ l. trace_back P es ds h xs told by ended.calls ended.output ended t) (λ l. own_back P es ds h xs told by ended.calls ended.output ended o))
 
   clean_event : (k : ℕ) (d : Event) → k ≡ length (keys_of ds) → EndsAll all d → MayCome P ds d → OnDone (HasTrueTrace P ds) d → OnDone (HasOwnEvents ds) d → IsClean P all es (entry_of P k d)
-  clean_event k (Ev.Begin fuel) counted ends m t o = clean P all es (E.Begin fuel) (begin_free P all es 13 fuel (λ l. ends))
+  clean_event k (Ev.Begin fuel) counted ends m t o = clean P all es (E.Begin fuel) (begin_free P all es 14 fuel (λ l. ends))
   clean_event k (Ev.Key key) counted ends m t o = clean_key k key counted m
   clean_event k (Ev.Fill number site begins) counted ends m t o = clean_fill k number site begins m
   clean_event k (Ev.Def by site) counted ends m t o = clean_def k by site m

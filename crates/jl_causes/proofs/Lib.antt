@@ -12,3 +12,4 @@ pub mod RowLemmas
 pub mod NoteLemmas
 pub mod FirstLemmas
 pub mod JudgeLemmas
+pub mod StoodLemmas

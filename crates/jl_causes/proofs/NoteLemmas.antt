@@ -4,7 +4,7 @@ use Rattle.std.proofs.lemmas.List.{length_push}
 use Rattle.jl_model.specs.declared.ty.Key.{Key}
 use Rattle.jl_program.specs.declared.tree.Program.{Program}
 use Rattle.jl_program.specs.declared.tree.Start.{Start}
-use Rattle.jl_calculus.specs.declared.history.Change.TheVariants as Ch
+use Rattle.jl_calculus.specs.declared.history.Change.{Change}
 use Rattle.jl_calculus.specs.declared.history.Event.{Event}
 use Rattle.jl_calculus.specs.declared.history.Event.TheVariants as Ev
 use Rattle.jl_calculus.specs.Legal.{start_of, first_place, MayCome}
@@ -17,7 +17,6 @@ use Rattle.jl_methods.specs.declared.index.Index.{Index}
 use Rattle.jl_methods.specs.Indexed.{IsIndexOf, AreFilters, noted_in}
 use Rattle.jl_report.specs.declared.entry.Entry.{Entry}
 use Rattle.jl_report.specs.declared.entry.Entry.TheVariants as E
-use Rattle.jl_report.proofs.PlainLemmas.{names_nothing}
 use Rattle.jl_causes.specs.declared.cause.Cause.TheVariants as C
 use Rattle.jl_causes.specs.declared.places.Counts.{Counts}
 use Rattle.jl_causes.specs.declared.tasks.Tasks.{Tasks}
@@ -41,10 +40,11 @@ counts_same es e c none one h = record {
   tasks = omega (arith, h.tasks, tasks_append es (e ∷ []), one);
 }
 
-pub counts_def : (es : List Event) (by site : ℕ) (c d : Counts) → d.world ≡ c.world + 1 → d.tasks ≡ c.tasks → AreCounts es c → AreCounts (es ++ Ev.Def by site ∷ []) d
-counts_def es by site c d w t h = record {
-  world = omega (arith, w, h.world, ap length (changed_append es (Ev.Def by site ∷ [])), length_push (changed es) (Ch.Def site));
-  tasks = omega (arith, t, h.tasks, tasks_append es (Ev.Def by site ∷ []));
+-- an event that makes a change
+pub counts_change : (es : List Event) (e : Event) (change : Change) (c d : Counts) → changed (e ∷ []) ≡ change ∷ [] → tasks_of (e ∷ []) ≡ 1 → d.world ≡ c.world + 1 → d.tasks ≡ c.tasks → AreCounts es c → AreCounts (es ++ e ∷ []) d
+counts_change es e change c d made one w t h = record {
+  world = omega (arith, w, h.world, ap length (changed_append es (e ∷ []) ∙ ap (λ xs. changed es ++ xs) made), length_push (changed es) change);
+  tasks = omega (arith, t, h.tasks, tasks_append es (e ∷ []), one);
 }
 
 pub counts_spawn : (es : List Event) (by child : ℕ) (start : Start) (c d : Counts) → d.world ≡ c.world → d.tasks ≡ c.tasks + 1 → AreCounts es c → AreCounts (es ++ Ev.Spawn by child start ∷ []) d
@@ -96,7 +96,6 @@ rows_aside P es e r sites keys rows h = rows_with_other P es r r h e keys rows (
 pub judge_more : (P : Program) (all : List Entry) (es : List Event) (e : Event) (j k : Judge) → k.finished ≡ j.finished → IsJudgeOf P all es j → AreRows P (es ++ e ∷ []) k.rows → AreTasks (es ++ e ∷ []) k.tasks → ArePlaces (es ++ e ∷ []) k.places
     → IsJudgeOf P all (es ++ e ∷ []) k
 judge_more P all es e j k same h r t p = record {
-  plain = h.plain;
   rows = r;
   tasks = t;
   places = p;
@@ -108,7 +107,7 @@ judge_more P all es e j k same h r t p = record {
 
 module _ (P : Program) (all : List Entry) (es : List Event) (j : Judge) (x : Entry) (key : Option Key) where
   pub note_comes : MayNote P all es j x key → (e : Event) → Tells P x e → MayCome P es e
-  note_comes m e t = comes P all es m.knows.plain x e m.clean t m.later
+  note_comes m e t = comes P all es x e m.clean t m.later
 
   pub key_named : (number : ℕ) (function tuple : List ℕ) (k : Key) → x ≡ E.Key number function tuple → key ≡ Some k → MayNote P all es j x key → Tells P x (Ev.Key k)
   key_named number function tuple k is some m =
@@ -121,8 +120,3 @@ module _ (P : Program) (all : List Entry) (es : List Event) (j : Judge) (x : Ent
       let c : IsClean P all es (E.Key number function tuple) = subst (IsClean P all es) is m.clean in
       let known = c C.KeyUnknown in
       read known.0 known.1
-
-  pub no_deletion_here : (task place : ℕ) → x ≡ E.Del task place → MayNote P all es j x key → ⊥
-  no_deletion_here task place is m =
-      let c : IsClean P all es (E.Del task place) = subst (IsClean P all es) is m.clean in
-      names_nothing P m.knows.plain place (c C.Site)

@@ -11,7 +11,6 @@ use Rattle.jl_calculus.specs.Past.{tasks_of, done_of}
 use Rattle.jl_world.proofs.Growth.{tasks_append, each_grow}
 use Rattle.jl_report.specs.declared.entry.Entry.{Entry}
 use Rattle.jl_report.specs.declared.entry.Entry.TheVariants as E
-use Rattle.jl_report.proofs.PlainLemmas.{names_nothing}
 use Rattle.jl_causes.specs.declared.cause.Cause.TheVariants as C
 use Rattle.jl_causes.specs.Sketch.{Tells, AllTell}
 use Rattle.jl_causes.specs.Causes.{is_begin, StartWell, has_end, IsClean, AreClean}
@@ -25,13 +24,13 @@ some_key None h = absurd (cc h)
 
 module _ (P : Program) (all : List Entry) (es : List Event) where
   -- what a clean entry past the beginning tells may come
-  pub comes : P.deletes ≡ [] → (x : Entry) (e : Event) → IsClean P all es x → Tells P x e → is_begin x ≡ false → MayCome P es e
-  comes plain (E.Begin fuel) e c t b = absurd (cc b)
-  comes plain (E.Key number function tuple) e c t b =
+  pub comes : (x : Entry) (e : Event) → IsClean P all es x → Tells P x e → is_begin x ≡ false → MayCome P es e
+  comes (E.Begin fuel) e c t b = absurd (cc b)
+  comes (E.Key number function tuple) e c t b =
       let (key, named, is) = t in
       subst (MayCome P es) (sym is)
       (record { proper = named.proper; new = λ stands. (c C.KeyOrder).new key stands named; room = (c C.KeyOrder).room })
-  comes plain (E.Fill number site begins) e c t b =
+  comes (E.Fill number site begins) e c t b =
       let (key, at) = some_key _ (c C.FillKey).known in
       subst (MayCome P es) (sym t)
       (record {
@@ -41,12 +40,13 @@ module _ (P : Program) (all : List Entry) (es : List Event) where
         new = (c C.FillKey).new;
         room = (c C.FillKey).room;
       })
-  comes plain (E.Def task site) e c t b =
+  comes (E.Def task site) e c t b =
       subst (MayCome P es) (sym t) (record { running = c C.NotRunning; may = c C.Site; room = c C.Limit })
-  comes plain (E.Del task place) e c t b = absurd (names_nothing P plain place (c C.Site))
-  comes plain (E.Spawn task child place) e c t b =
+  comes (E.Del task place) e c t b =
+      subst (MayCome P es) (sym t) (record { running = c C.NotRunning; may = c C.NoDefinition; room = c C.Limit })
+  comes (E.Spawn task child place) e c t b =
       subst (MayCome P es) (sym t) (record { running = c C.NotRunning; of_program = c C.Site; next = c C.ChildOrder; room = c C.Limit })
-  comes plain (E.Done task calls trace output ending) e c t b = subst (MayCome P es) (sym t) (c C.NotRunning)
+  comes (E.Done task calls trace output ending) e c t b = subst (MayCome P es) (sym t) (c C.NotRunning)
 
   -- the end of a task has a true trace and the task's own events
   pub traced : (x : Entry) (e : Event) → IsClean P all es x → Tells P x e → OnDone (HasTrueTrace P es) e
@@ -141,7 +141,7 @@ get_front [] rest (suc n) x g = absurd (cc g)
 get_front (y ∷ xs) rest zero x g = g
 get_front (y ∷ xs) rest (suc n) x g = get_front xs rest n x g
 
-module _ (P : Program) (plain : P.deletes ≡ []) (all : List Entry) (well : StartWell all) where
+module _ (P : Program) (all : List Entry) (well : StartWell all) where
   -- the first entries are clean, and the events are what they tell
   module _ (xs : List Entry) (es : List Event) (rest : List Entry) (front : xs ++ rest ≡ all) (h : AreClean P all xs es) where
     pub comes_at : (n : ℕ) (e : Event) → slice_get es n ≡ Some e → MayCome P ([] ++ take n es) e
@@ -174,7 +174,7 @@ module _ (P : Program) (plain : P.deletes ≡ []) (all : List Entry) (well : Sta
 
         at_place : (n : ℕ) (x : Entry) → slice_get (xs ++ rest) n ≡ Some x → Tells P x e → IsClean P all (take n es) x → MayCome P (take n es) e
         at_place zero x g t c = begin_at all x well (subst (λ ys. slice_get ys 0 ≡ Some x) front g) t
-        at_place (suc n) x g t c = comes P all (take (suc n) es) plain x e c t (later all n x well (subst (λ ys. slice_get ys (suc n) ≡ Some x) front g))
+        at_place (suc n) x g t c = comes P all (take (suc n) es) x e c t (later all n x well (subst (λ ys. slice_get ys (suc n) ≡ Some x) front g))
 
     begun : 0 < length es → IsSome (fuel_of es)
     begun l = by es l h.told

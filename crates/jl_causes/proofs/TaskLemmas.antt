@@ -80,20 +80,21 @@ own_more own row by t p s es e l r one at h = go (nat_eq by t) refl
 pub begun_more : (es : List Event) (e : Event) → IsSome (fuel_of es) → IsSome (fuel_of (es ++ e ∷ []))
 begun_more es e h = subst IsSome (sym (fuel_append es (e ∷ []) h)) h
 
-pub task_defines : (es : List Event) (t q : Tasks) (by site : ℕ) (row : List Step) → q.firsts.items ≡ t.firsts.items → q.ends.items ≡ t.ends.items → q.own.items ≡ slice_set t.own.items by row
-    → by < length t.own.items → row ≡ get_or t.own.items by [] ++ S.Def site (length es) ∷ [] → AreTasks es t → AreTasks (es ++ Ev.Def by site ∷ []) q
-task_defines es t q by site row firsts ends own l r h =
-    let e = Ev.Def by site in
-    let many : tasks_of (es ++ e ∷ []) ≡ tasks_of es = omega (arith, tasks_append es (e ∷ [])) in
+-- a task makes a definition or a deletion
+pub task_changes : (es : List Event) (t q : Tasks) (by : ℕ) (e : Event) (s : Step) (row : List Step) → tasks_of (e ∷ []) ≡ 1 → ((k : ℕ) → start_of k (e ∷ []) ≡ None) → ((k p : ℕ) → first_place k p (e ∷ []) ≡ 1) → ((k : ℕ) → done_of k (e ∷ []) ≡ None)
+    → ((k : ℕ) → own_events k (length es) (e ∷ []) ≡ if_own by k (item_of s) []) → q.firsts.items ≡ t.firsts.items → q.ends.items ≡ t.ends.items → q.own.items ≡ slice_set t.own.items by row
+    → by < length t.own.items → row ≡ get_or t.own.items by [] ++ s ∷ [] → AreTasks es t → AreTasks (es ++ e ∷ []) q
+task_changes es t q by e s row one starts begins none mine firsts ends own l r h =
+    let many : tasks_of (es ++ e ∷ []) ≡ tasks_of es = omega (arith, tasks_append es (e ∷ []), one) in
     record {
       begun = begun_more es e h.begun;
       many_firsts = ap length firsts ∙ h.many_firsts ∙ sym many;
       many_ends = ap length ends ∙ h.many_ends ∙ sym many;
       many_own = ap length own ∙ length-set t.own.items by row ∙ h.many_own ∙ sym many;
-      unstarted = λ k low. start_later k es (e ∷ []) (h.unstarted k (omega (arith, low, many)));
-      each_first = λ k. ap (λ xs. get_or xs k 1) firsts ∙ h.each_first k ∙ sym (first_kept k 0 es e (λ p. refl));
-      each_end = λ k. subst (λ xs. IsEndOf (es ++ e ∷ []) k (get_or xs k 0)) (sym ends) (end_kept es e k _ refl (h.each_end k));
-      each_own = λ k. ap (λ xs. items_of (get_or xs k [])) own ∙ own_more t.own.items row by k (length es) (S.Def site (length es)) es e l r (λ j. refl) refl (h.each_own k);
+      unstarted = λ k low. start_later k es (e ∷ []) (h.unstarted k (omega (arith, low, many))) ∙ starts k;
+      each_first = λ k. ap (λ xs. get_or xs k 1) firsts ∙ h.each_first k ∙ sym (first_kept k 0 es e (begins k));
+      each_end = λ k. subst (λ xs. IsEndOf (es ++ e ∷ []) k (get_or xs k 0)) (sym ends) (end_kept es e k _ (none k) (h.each_end k));
+      each_own = λ k. ap (λ xs. items_of (get_or xs k [])) own ∙ own_more t.own.items row by k (length es) s es e l r mine refl (h.each_own k);
     }
 
 pub task_ends : (es : List Event) (t q : Tasks) (by : ℕ) (ended : Record) → q.firsts.items ≡ t.firsts.items → q.ends.items ≡ slice_set t.ends.items by (length es + 1) → q.own.items ≡ t.own.items

@@ -1,5 +1,5 @@
 -- Steps that are true of what the first entries tell.
-use Rattle.std.proofs.Common.{◌≡◌, ◌∙◌, ap, sym, subst, refl, ℕ, zero, suc, ◌+◌, ◌<◌, ◌≤◌, arith, Bool, true, false, IsTrue, nat_eq, nat_lt, List, [], ◌∷◌, length, take, drop, get_or, slice_get, Some, IsSome}
+use Rattle.std.proofs.Common.{◌≡◌, ◌∙◌, ap, sym, subst, refl, ℕ, zero, suc, ◌+◌, ◌<◌, ◌≤◌, arith, Bool, true, IsTrue, nat_eq, nat_lt, List, [], ◌∷◌, length, take, drop, get_or, slice_get, Some, IsSome}
 use Rattle.std.specs.Prelude.{◌↔◌}
 use Rattle.std.proofs.Math.Seq.{drop-cons}
 use Rattle.std.proofs.lemmas.List.{at_drop_all}
@@ -10,12 +10,11 @@ use Rattle.jl_calculus.specs.declared.history.Event.{Event}
 use Rattle.jl_calculus.specs.declared.history.Event.TheVariants as Ev
 use Rattle.jl_calculus.specs.declared.history.TraceItem.{TraceItem}
 use Rattle.jl_calculus.specs.declared.history.TraceItem.TheVariants as I
-use Rattle.jl_calculus.specs.Past.{done_of, IsTrueOf, own_items}
+use Rattle.jl_calculus.specs.Past.{done_of, IsAbsent, IsTrueOf, own_items}
 use Rattle.jl_report.specs.declared.entry.Step.{Step}
 use Rattle.jl_report.specs.declared.entry.Step.TheVariants as S
 use Rattle.jl_report.specs.declared.entry.Entry.{Entry}
 use Rattle.jl_report.specs.declared.entry.Entry.TheVariants as E
-use Rattle.jl_report.proofs.PlainLemmas.{names_nothing}
 use Rattle.jl_causes.specs.Sketch.{untold, start_at, item_of, items_of, Tells, AllTell}
 use Rattle.jl_causes.specs.Tables.{IsDefAt, IsDelAt, IsSpawnAt, is_own}
 use Rattle.jl_causes.proofs.SketchLemmas.{tell_take, event_at, entry_at, outcome_untold}
@@ -118,8 +117,8 @@ module _ (P : Program) (es : List Event) where
         (λ at. (let l : p < n = omega (arith, slice_get_within es p (Ev.Del by place) at, many) in absurd (far l))),
       )
 
-  pub absent_goal : P.deletes ≡ [] → (by place p : ℕ) (s : Step) → s ≡ S.Absent place p → IsTrue false ↔ IsTrueOf P es by (item_of s)
-  absent_goal plain by place p s is = subst (λ z. IsTrue false ↔ IsTrueOf P es by (item_of z)) (sym is) ((λ yes. absurd (cc yes)), (λ h. absurd (names_nothing P plain place h.1.known)))
+  pub absent_goal : (by place p : ℕ) (s : Step) (b : Bool) → (IsTrue b ↔ ((p ≤ length es) × IsAbsent P (take p es) place)) → s ≡ S.Absent place p → IsTrue b ↔ IsTrueOf P es by (item_of s)
+  absent_goal by place p s b h is = subst (λ z. IsTrue b ↔ IsTrueOf P es by (item_of z)) (sym is) h
 
   pub spawn_past : (by child p n : ℕ) (s : Step) → (p < n → ⊥) → n ≡ length es → s ≡ S.Spawn child p → IsTrue (nat_lt p n) ↔ IsTrueOf P es by (item_of s)
   spawn_past by child p n s far many is =

@@ -10,7 +10,7 @@ use Rattle.jl_calculus.specs.declared.history.Event.{Event}
 use Rattle.jl_calculus.specs.Legal.{IsRunning, HasTrueTrace, HasOwnEvents}
 use Rattle.jl_calculus.specs.Past.{tasks_of}
 use Rattle.jl_calculus.specs.Ranges.{CacheRow, keys_of, rows_of, MayBegin, SelectsSite}
-use Rattle.jl_calculus.specs.World.{world_of}
+use Rattle.jl_calculus.specs.World.{world_of, FindsMethod}
 use Rattle.jl_report.specs.declared.entry.Entry.{Entry}
 use Rattle.jl_report.specs.declared.entry.Entry.TheVariants as E
 use Rattle.jl_causes.specs.declared.cause.Cause.{Cause}
@@ -75,7 +75,7 @@ pub record IsNextFill (es : List Event) (number first : ℕ) : Type 0 where
   pub new : (row : CacheRow) → Contains (rows_of es) row → row.key ≡ number → row.first ≡ first → ⊥
   pub room : length (rows_of es) < MOST_CACHE_ROWS
 
--- the first world is the last of the prelude, or that of an earlier definition that touches the key
+-- the first world is the last of the prelude, or that of an earlier change that touches the key
 abbrev pub BeginsRight : Program → List Event → ℕ → ℕ → Type 0
 BeginsRight P es number first = (key : Key) → slice_get (keys_of es) number ≡ Some key → MayBegin P es key first
 
@@ -83,8 +83,7 @@ BeginsRight P es number first = (key : Key) → slice_get (keys_of es) number �
 abbrev pub ChoosesRight : Program → List Event → ℕ → ℕ → ℕ → Type 0
 ChoosesRight P es number site first = (key : Key) → slice_get (keys_of es) number ≡ Some key → SelectsSite P es key first site
 
--- On an entry among all, after those of which these events tell. A deletion is judged by its task, its place and room alone: it is enough
--- for programs without a place, of whose texts none stays clean that has a deletion.
+-- on an entry among all, after those of which these events tell
 module _ (P : Program) (all : List Entry) (es : List Event) where
   -- what must hold of an entry, so that this cause does not
   abbrev pub IsFreeOf : Cause → Entry → Type 0
@@ -137,6 +136,13 @@ module _ (P : Program) (all : List Entry) (es : List Event) where
   IsFreeOf C.Site (E.Del task place) = place < length P.deletes
   IsFreeOf C.Site (E.Spawn task child place) = place < length P.spawns
   IsFreeOf C.Site (E.Done task calls trace output ending) = Unit {0}
+  IsFreeOf C.NoDefinition (E.Begin fuel) = Unit {0}
+  IsFreeOf C.NoDefinition (E.Key number function tuple) = Unit {0}
+  IsFreeOf C.NoDefinition (E.Fill key site first) = Unit {0}
+  IsFreeOf C.NoDefinition (E.Def task site) = Unit {0}
+  IsFreeOf C.NoDefinition (E.Del task place) = FindsMethod P es place
+  IsFreeOf C.NoDefinition (E.Spawn task child place) = Unit {0}
+  IsFreeOf C.NoDefinition (E.Done task calls trace output ending) = Unit {0}
   IsFreeOf C.ChildOrder (E.Begin fuel) = Unit {0}
   IsFreeOf C.ChildOrder (E.Key number function tuple) = Unit {0}
   IsFreeOf C.ChildOrder (E.Fill key site first) = Unit {0}
@@ -191,12 +197,13 @@ rank C.FillWorld = 3
 rank C.FillChoice = 4
 rank C.NotRunning = 5
 rank C.Site = 6
-rank C.ChildOrder = 7
-rank C.Limit = 8
-rank C.Unfinished = 9
-rank C.ItemFalse = 10
-rank C.EventMissing = 11
-rank C.RunDiffers = 12
+rank C.NoDefinition = 7
+rank C.ChildOrder = 8
+rank C.Limit = 9
+rank C.Unfinished = 10
+rank C.ItemFalse = 11
+rank C.EventMissing = 12
+rank C.RunDiffers = 13
 
 module _ (P : Program) (all : List Entry) where
   -- no cause holds of an entry after events

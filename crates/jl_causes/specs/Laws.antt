@@ -42,15 +42,15 @@ TellsFetches es = EachAfter (λ past. OnDone (λ task ended. AreFetchesTold past
 abbrev pub LegalHasNoCause : Type 0
 LegalHasNoCause = (P : Program) (es : List Event) → AreApart P → MayStand P es → IsTraced P es → AreFinished es → HasNoCause P (entries_of P es)
 
--- events of whose entries no cause holds are legal but for the runs of the tasks, where the program has no deletion place, their keys
--- are of the program, and their fetches tell what the fetched tasks told
+-- events of whose entries no cause holds are legal but for the runs of the tasks, where their keys are of the program, and their fetches
+-- tell what the fetched tasks told
 abbrev pub NoCauseIsLegal : Type 0
 NoCauseIsLegal =
-    (P : Program) (es : List Event) → P.deletes ≡ [] → AreApart P → All (IsKeyOf P) (keys_of es) → TellsFetches es → StartWell (entries_of P es) → HasNoCause P (entries_of P es)
+    (P : Program) (es : List Event) → AreApart P → All (IsKeyOf P) (keys_of es) → TellsFetches es → StartWell (entries_of P es) → HasNoCause P (entries_of P es)
     → MayStand P es × IsTraced P es × AreFinished es
 
 -- and so are events whose entries are the first of such a text, as far as they go
 abbrev pub NoCauseSoFar : Type 0
 NoCauseSoFar =
-    (P : Program) (all rest : List Entry) (es : List Event) → P.deletes ≡ [] → AreApart P → All (IsKeyOf P) (keys_of es) → TellsFetches es → StartWell all → HasNoCause P all → entries_of P es ++ rest ≡ all → 0 < length es
+    (P : Program) (all rest : List Entry) (es : List Event) → AreApart P → All (IsKeyOf P) (keys_of es) → TellsFetches es → StartWell all → HasNoCause P all → entries_of P es ++ rest ≡ all → 0 < length es
     → MayStand P es × IsTraced P es

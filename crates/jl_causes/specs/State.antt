@@ -1,5 +1,5 @@
 -- What the judge of the first round knows of the events so far.
-use Rattle.std.specs.Prelude.{ℕ, ◌≡◌, ◌<◌, false, List, [], length, map, get_or}
+use Rattle.std.specs.Prelude.{ℕ, ◌≡◌, ◌<◌, false, List, length, map, get_or}
 use Rattle.std.specs.List.{Contains}
 use Rattle.jl_model.specs.declared.limits.TheConstants.{MOST_TASKS}
 use Rattle.jl_program.specs.declared.tree.Program.{Program}
@@ -22,9 +22,8 @@ pub record AreRows (P : Program) (es : List Event) (r : Rows) : Type 0 where
   pub counted : r.keys ≡ length (keys_of es)
   pub beginnings : r.firsts.items ≡ map (λ (row : CacheRow). row.first) (rows_of es)
 
--- all of it, for a program without a deletion place; and which tasks end somewhere in the text
+-- all of it; and which tasks end somewhere in the text
 pub record IsJudgeOf (P : Program) (all : List Entry) (es : List Event) (j : Judge) : Type 0 where
-  pub plain : P.deletes ≡ []
   pub rows : AreRows P es j.rows
   pub tasks : AreTasks es j.tasks
   pub places : ArePlaces es j.places

@@ -29,7 +29,7 @@ pub record IsEndOf (es : List Event) (task ended : ℕ) : Type 0 where
   pub within : ended ≤ length es
   pub exact : (p : ℕ) → p ≤ length es → IsSome (done_of task (take p es)) ↔ ((0 < ended) × (ended ≤ p))
 
--- the least place of the first item of each task, its end, and its definitions and spawns
+-- the least place of the first item of each task, its end, and its definitions, deletions and spawns
 pub record AreTasks (es : List Event) (t : Tasks) : Type 0 where
   pub begun : IsSome (fuel_of es)
   pub many_firsts : length t.firsts.items ≡ tasks_of es

@@ -11,6 +11,7 @@ pub enum Cause {
     FillChoice,
     NotRunning,
     Site,
+    NoDefinition,
     ChildOrder,
     Limit,
     Unfinished,

@@ -1,6 +1,6 @@
 //! The first cause of a text.
 
-ghost use Rattle.std.specs.Prelude.{◌≡◌, ◌<◌, ◌^◌, [], length, IfOk, MatchOption};
+ghost use Rattle.std.specs.Prelude.{◌<◌, ◌^◌, length, IfOk, MatchOption};
 ghost use Rattle.jl_causes.specs.Causes.{StartWell, HasNoCause, IsFirstCause};
 
 use crate::cause::Cause;
@@ -12,14 +12,14 @@ use std::alloc::{AllocError, Global};
 
 /// The first entry of which a cause holds that can be told without a run, and the first such cause in the table; none where there
 /// is no such entry. The cost is in the length of the text, in the number of keys for each key, in the rows of its key for
-/// each fill that begins before the newest of these, and in that of the choices of the fills. The program has no deletion place.
+/// each fill that begins before the newest of these, in that of the choices of the fills, and in the definitions and the deletions of its
+/// function for each deletion and for each step that found none to delete.
 pub fn first_cause<R: ReadKey>(
     alloc: Global,
     ready: &Ready,
     reader: &R,
     entries: &[Entry],
 ) -> Result<Option<(u32, Cause)>, AllocError>
-    requires plain { ready.now.deletes ≡ [] }
     requires begun { StartWell entries.now }
     requires few { length entries.now < 2 ^ 32 }
     ensures { IfOk result (λ found. MatchOption found (HasNoCause ready.now entries.now) (λ (n, cause). IsFirstCause ready.now entries.now n cause)) }

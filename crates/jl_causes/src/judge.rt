@@ -44,7 +44,6 @@ fn is_script_site(ready: &Ready, site: u32) -> bool
 impl Judge {
     /// What is known after the beginning.
     pub(crate) fn new(alloc: Global, ready: &Ready, entries: &[Entry]) -> Result<Judge, AllocError>
-        requires { ready.now.deletes ≡ [] }
         ensures { IfOk result (λ judge. (fuel : ℕ) → IsJudgeOf ready.now entries.now (Begin fuel ∷ []) judge) }
     {
         Ok(Judge {
@@ -127,14 +126,33 @@ impl Judge {
         None
     }
 
-    /// The first cause that holds of a deletion: the program has no place of one.
-    fn judge_del(&self, task: u32) -> Option<Cause>
-        ensures { (P : Program) (all : List Entry) (es : List Event) (place : ℕ) → IsJudgeOf P all es self.now → IsJudged P all es (E.Del task place) result }
+    /// The first cause that holds of a deletion.
+    fn judge_del(
+        &self,
+        alloc: Global,
+        ready: &Ready,
+        task: u32,
+        place: u32,
+    ) -> Result<Option<Cause>, AllocError>
+        requires { (all : List Entry) × (es : List Event) × IsJudgeOf ready.now all es self.now }
+        ensures { IfOk result (λ found. (all : List Entry) (es : List Event) → IsJudgeOf ready.now all es self.now → IsJudged ready.now all es (E.Del task place) found) }
     {
         if !self.tasks.is_running(task) {
-            return Some(Cause::NotRunning);
+            return Ok(Some(Cause::NotRunning));
         }
-        Some(Cause::Site)
+        let count = ready.program().deletes.len();
+        if place as usize >= count {
+            return Ok(Some(Cause::Site));
+        }
+        let has_method = self.rows.has_method(alloc, ready, place)?;
+        if !has_method {
+            return Ok(Some(Cause::NoDefinition));
+        }
+        let world = self.places.newest().world;
+        if world as usize >= MOST_WORLDS {
+            return Ok(Some(Cause::Limit));
+        }
+        Ok(None)
     }
 
     /// The first cause that holds of a spawn.
@@ -163,20 +181,28 @@ impl Judge {
     }
 
     /// The first cause that holds of the end of a task.
-    fn judge_done(&self, entries: &[Entry], task: u32, trace: &[Step]) -> Option<Cause>
-        requires { (P : Program) × (es : List Event) × IsJudgeOf P entries.now es self.now }
-        ensures { (P : Program) (es : List Event) (calls : ℕ) (output : List ℕ) (ending : Ending) → IsJudgeOf P entries.now es self.now → AllTell P (take (length es) entries.now) es → IsJudged P entries.now es (E.Done task calls trace.now output ending) result }
+    fn judge_done(
+        &self,
+        alloc: Global,
+        ready: &Ready,
+        entries: &[Entry],
+        task: u32,
+        trace: &[Step],
+    ) -> Result<Option<Cause>, AllocError>
+        requires { (es : List Event) × IsJudgeOf ready.now entries.now es self.now }
+        ensures { IfOk result (λ found. (es : List Event) (calls : ℕ) (output : List ℕ) (ending : Ending) → IsJudgeOf ready.now entries.now es self.now → AllTell ready.now (take (length es) entries.now) es → IsJudged ready.now entries.now es (E.Done task calls trace.now output ending) found) }
     {
         if !self.tasks.is_running(task) {
-            return Some(Cause::NotRunning);
+            return Ok(Some(Cause::NotRunning));
         }
-        if !has_true_trace(&self.tasks, &self.places, entries, task, trace) {
-            return Some(Cause::ItemFalse);
+        let has_true_trace = has_true_trace(alloc, ready, self, entries, task, trace)?;
+        if !has_true_trace {
+            return Ok(Some(Cause::ItemFalse));
         }
         if !has_own_events(&self.tasks, task, trace) {
-            return Some(Cause::EventMissing);
+            return Ok(Some(Cause::EventMissing));
         }
-        None
+        Ok(None)
     }
 
     /// The first cause that holds of an entry past the beginning; where it is one of a key, this is the key that its texts name.
@@ -199,12 +225,16 @@ impl Judge {
                 Ok(found)
             }
             Entry::Def { task, site } => Ok(self.judge_def(ready, *task, *site)),
-            Entry::Del { task, .. } => Ok(self.judge_del(*task)),
+            Entry::Del { task, place } => {
+                let found = self.judge_del(alloc, ready, *task, *place)?;
+                Ok(found)
+            }
             Entry::Spawn { task, child, place } => {
                 Ok(self.judge_spawn(ready, *task, *child, *place))
             }
             Entry::Done { task, trace, .. } => {
-                Ok(self.judge_done(entries, *task, trace.as_slice()))
+                let found = self.judge_done(alloc, ready, entries, *task, trace.as_slice())?;
+                Ok(found)
             }
         }
     }

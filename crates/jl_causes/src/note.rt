@@ -67,6 +67,27 @@ impl Judge {
         Ok(())
     }
 
+    fn note_del(
+        &mut self,
+        alloc: Global,
+        ready: &Ready,
+        task: u32,
+        place: u32,
+        at: u32,
+    ) -> Result<(), AllocError>
+        requires { (all : List Entry) × (es : List Event) × IsJudgeOf ready.now all es self.old × MayCome ready.now es (Ev.Del task place) }
+        ensures { OnOk result ((all : List Entry) (es : List Event) → IsJudgeOf ready.now all es self.old → MayCome ready.now es (Ev.Del task place) → at ≡ length es → IsJudgeOf ready.now all (es ++ Ev.Del task place ∷ []) self.new) }
+    {
+        self.rows.note_del(alloc, ready, task, place)?;
+        self.tasks.delete(task, place, at)?;
+        let old = self.places.newest();
+        self.places.note(Counts {
+            world: old.world + 1,
+            tasks: old.tasks,
+        })?;
+        Ok(())
+    }
+
     fn note_spawn(
         &mut self,
         alloc: Global,
@@ -99,7 +120,7 @@ impl Judge {
         Ok(())
     }
 
-    /// One more entry, of which no cause holds, so that it is no deletion; where it is one of a key, this is the key that its texts name.
+    /// One more entry, of which no cause holds; where it is one of a key, this is the key that its texts name.
     pub(crate) fn note(
         &mut self,
         alloc: Global,
@@ -128,7 +149,10 @@ impl Judge {
                 self.note_def(alloc, ready, *task, *site, at)?;
                 Ok(())
             }
-            Entry::Del { .. } => Ok(()),
+            Entry::Del { task, place } => {
+                self.note_del(alloc, ready, *task, *place, at)?;
+                Ok(())
+            }
             Entry::Spawn { task, child, .. } => {
                 self.note_spawn(alloc, ready, *task, *child, at)?;
                 Ok(())

@@ -1,6 +1,6 @@
 //! What the events tell after each number of them.
 
-ghost use Rattle.std.specs.Prelude.{◌≡◌, ◌≤◌, ◌<◌, ◌↔◌, ◌++◌, ◌∷◌, [], ℕ, List, IsTrue, IfOk, OnOk, length, take};
+ghost use Rattle.std.specs.Prelude.{◌≡◌, ◌≤◌, ◌<◌, ◌↔◌, ◌++◌, ◌∷◌, [], ℕ, List, IsTrue, IfOk, MatchOption, OnOk, length, take};
 ghost use Rattle.jl_calculus.specs.declared.history.Event.{Event};
 ghost use Rattle.jl_calculus.specs.declared.history.Event.TheVariants.{Begin};
 ghost use Rattle.jl_calculus.specs.Past.{tasks_of};
@@ -55,6 +55,16 @@ impl Places {
         ensures { (es : List Event) → ArePlaces es self.now → AreCounts es result }
     {
         self.newest
+    }
+
+    /// The newest world after so many events, where so many are there.
+    pub(crate) fn world_at(&self, at: u32) -> Option<u32>
+        ensures { (es : List Event) → ArePlaces es self.now → MatchOption result (length es < at) (λ world. (at ≤ length es) × (world_of (take at es) ≡ world)) }
+    {
+        match self.rows.as_slice().get(at as usize) {
+            Some(counts) => Some(counts.world),
+            None => None,
+        }
     }
 
     /// Whether so many events are there, and the newest world after them is this one.

@@ -1,28 +1,32 @@
-//! The keys, the rows and the definitions of the events.
+//! The keys, the rows, the definitions and the deletions of the events.
 
-ghost use Rattle.std.specs.Prelude.{◌≡◌, ◌≤◌, ◌<◌, ◌↔◌, ◌++◌, ◌∷◌, [], ℕ, List, IsTrue, IfOk, OnOk, length, slice_get, Some};
+ghost use Rattle.std.specs.Prelude.{◌≡◌, ◌≤◌, ◌<◌, ◌↔◌, ◌++◌, ◌∷◌, [], ℕ, List, IsTrue, IfOk, OnOk, length, take, slice_get, Some};
 ghost use Rattle.std.specs.Bool.{Decides};
 ghost use Rattle.std.specs.List.{Contains};
 ghost use Rattle.std.specs.List.Sorted.{IsStrictlyIncreasing};
 ghost use Rattle.jl_model.specs.declared.ty.Key.{Key};
 ghost use Rattle.jl_program.specs.declared.tree.Program.{Program};
 ghost use Rattle.jl_calculus.specs.declared.history.Event.{Event};
-ghost use Rattle.jl_calculus.specs.declared.history.Event.TheVariants.{Begin, Key as KeyEvent, Fill as FillEvent, Def as DefEvent};
+ghost use Rattle.jl_calculus.specs.declared.history.Event.TheVariants.{Begin, Key as KeyEvent, Fill as FillEvent, Def as DefEvent, Del as DelEvent};
 ghost use Rattle.jl_calculus.specs.Legal.{MayCome};
 ghost use Rattle.jl_calculus.specs.Ranges.{keys_of, MayBegin, SelectsSite};
-ghost use Rattle.jl_methods.specs.Filters.{ComesWith};
+ghost use Rattle.jl_calculus.specs.World.{world_of, FindsMethod};
+ghost use Rattle.jl_calculus.specs.Definitions.{defs_in};
+ghost use Rattle.jl_program.specs.declared.tree.Delete.{Delete};
+ghost use Rattle.jl_methods.specs.Filters.{defs_of, ComesWith};
 ghost use Rattle.jl_methods.specs.Indexed.{IsIndexOf, MayBeNoted};
 ghost use Rattle.jl_causes.specs.Causes.{IsNextFill};
 ghost use Rattle.jl_causes.specs.State.{AreRows, HasRow};
 
-use jl_calculus::history::{Change, Event};
+use jl_calculus::history::{Change, Def, Event};
 use jl_methods::{Index, count_up_to};
 use jl_model::limits::MOST_CACHE_ROWS;
 use jl_model::ty::Key;
 use jl_program::choice::Choice;
 use jl_program::prelude::FIRST_WORLD;
-use jl_rows::choose_for_key;
+use jl_rows::{choose_for_key, has_method};
 use jl_sig::Ready;
+use jl_subsig::has_standing;
 use jl_types::same::same_all;
 use std::alloc::{AllocError, Global};
 
@@ -50,6 +54,21 @@ fn is_same_key(a: &Key, b: &Key) -> bool
     ensures { IsTrue result ↔ (a.now ≡ b.now) }
 {
     a.function == b.function && same_all(a.types.as_slice(), b.types.as_slice())
+}
+
+/// The function of a deletion place.
+fn function_at(ready: &Ready, place: u32) -> u32
+    requires { place < length ready.now.deletes }
+    ensures { (p : Delete) → slice_get ready.now.deletes place ≡ Some p → result ≡ p.function }
+{
+    ready.program().deletes.as_slice()[place as usize].function
+}
+
+/// Those of the definitions of a function, in order, that were made up to a world. They are found by halves.
+fn up_to(defs: &[Def], world: u32) -> &[Def]
+    ensures { (P : Program) (es : List Event) (f : ℕ) → defs.now ≡ defs_of P es f → result.now ≡ defs_in P es f world }
+{
+    &defs[..defs.partition_point(|def| def.world <= world)]
 }
 
 /// One more event, with what comes along with it.
@@ -178,6 +197,40 @@ impl Rows {
         Ok(self.index.site(method) == site)
     }
 
+    /// Whether a method of the function and the signature of a deletion place stands in the newest world.
+    pub(crate) fn has_method(
+        &self,
+        alloc: Global,
+        ready: &Ready,
+        place: u32,
+    ) -> Result<bool, AllocError>
+        requires place { place < length ready.now.deletes }
+        requires rows { (es : List Event) × AreRows ready.now es self.now }
+        ensures { IfOk result (λ yes. (es : List Event) → AreRows ready.now es self.now → Decides yes (FindsMethod ready.now es place)) }
+    {
+        has_method(alloc, ready, &self.index, place)
+    }
+
+    /// Whether one stood in this world, which was the newest after the first events. The cost is in the definitions and the deletions
+    /// of the function up to the world.
+    pub(crate) fn has_method_in(
+        &self,
+        alloc: Global,
+        ready: &Ready,
+        place: u32,
+        world: u32,
+    ) -> Result<bool, AllocError>
+        requires place { place < length ready.now.deletes }
+        requires rows { (es : List Event) × AreRows ready.now es self.now }
+        ensures { IfOk result (λ yes. (es : List Event) (at : ℕ) → AreRows ready.now es self.now → world_of (take at es) ≡ world → Decides yes (FindsMethod ready.now (take at es) place)) }
+    {
+        let function = function_at(ready, place);
+        let defs = up_to(self.index.defs_of(function), world);
+        let dels = self.index.dels_up_to(function, world);
+        let is_standing = has_standing(alloc, ready, place, defs, dels)?;
+        Ok(is_standing)
+    }
+
     /// One more key.
     pub(crate) fn note_key(
         &mut self,
@@ -229,6 +282,25 @@ impl Rows {
     {
         let touched = self.index.find_touched(alloc, ready, Change::Def(site))?;
         let event = Event::Def { task, site };
+        let noted = note_event(&mut self.index, ready, &event, touched.as_slice());
+        drop(event);
+        noted?;
+        Ok(())
+    }
+
+    /// One more deletion.
+    pub(crate) fn note_del(
+        &mut self,
+        alloc: Global,
+        ready: &Ready,
+        task: u32,
+        place: u32,
+    ) -> Result<(), AllocError>
+        requires { (es : List Event) × AreRows ready.now es self.old × MayCome ready.now es (DelEvent task place) }
+        ensures { OnOk result ((es : List Event) → AreRows ready.now es self.old → MayCome ready.now es (DelEvent task place) → AreRows ready.now (es ++ DelEvent task place ∷ []) self.new) }
+    {
+        let touched = self.index.find_touched(alloc, ready, Change::Del(place))?;
+        let event = Event::Del { task, place };
         let noted = note_event(&mut self.index, ready, &event, touched.as_slice());
         drop(event);
         noted?;

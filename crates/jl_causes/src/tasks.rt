@@ -2,7 +2,7 @@
 
 ghost use Rattle.std.specs.Prelude.{◌≡◌, ◌≤◌, ◌<◌, ◌+◌, ◌↔◌, ◌++◌, ◌∷◌, [], ℕ, List, IsTrue, IsSome, IfOk, OnOk, length, take};
 ghost use Rattle.jl_calculus.specs.declared.history.Event.{Event};
-ghost use Rattle.jl_calculus.specs.declared.history.Event.TheVariants.{Begin, Def as DefEvent, Spawn as SpawnEvent, Done as DoneEvent};
+ghost use Rattle.jl_calculus.specs.declared.history.Event.TheVariants.{Begin, Def as DefEvent, Del as DelEvent, Spawn as SpawnEvent, Done as DoneEvent};
 ghost use Rattle.jl_calculus.specs.declared.history.Record.{Record};
 ghost use Rattle.jl_calculus.specs.Legal.{IsRunning, first_place};
 ghost use Rattle.jl_calculus.specs.Past.{done_of, own_events, tasks_of};
@@ -14,8 +14,8 @@ use jl_model::rows::Row;
 use jl_report::Step;
 use std::alloc::{AllocError, Global};
 
-/// For each task the least place of its first item, the place after its end, which is 0 where it has none, and its definitions and
-/// spawns.
+/// For each task the least place of its first item, the place after its end, which is 0 where it has none, and its definitions,
+/// deletions and spawns.
 #[derive(Drop)]
 pub(crate) struct Tasks {
     firsts: Vec<usize>,
@@ -67,7 +67,7 @@ impl Tasks {
         }
     }
 
-    /// The definitions and spawns of a task, in order.
+    /// The definitions, deletions and spawns of a task, in order.
     pub(crate) fn own(&self, task: u32) -> &[Step]
         ensures { (es : List Event) → AreTasks es self.now → items_of result.now ≡ own_events task 0 es }
     {
@@ -83,6 +83,15 @@ impl Tasks {
         ensures { OnOk result ((es : List Event) → AreTasks es self.old → at ≡ length es → AreTasks (es ++ DefEvent task site ∷ []) self.new) }
     {
         self.own[task as usize].push(Step::Def { site, at })?;
+        Ok(())
+    }
+
+    /// A task has made a deletion at this place of the program, at this place of the events.
+    pub(crate) fn delete(&mut self, task: u32, place: u32, at: u32) -> Result<(), AllocError>
+        requires { (es : List Event) × AreTasks es self.old × (task < tasks_of es) }
+        ensures { OnOk result ((es : List Event) → AreTasks es self.old → at ≡ length es → AreTasks (es ++ DelEvent task place ∷ []) self.new) }
+    {
+        self.own[task as usize].push(Step::Del { place, at })?;
         Ok(())
     }
 

@@ -1,17 +1,20 @@
 //! Whether the trace of a task is true of the events, and has the task's own events.
 
-ghost use Rattle.std.specs.Prelude.{◌≡◌, ◌↔◌, ℕ, List, [], IsTrue, length, take, slice_get, Some};
-ghost use Rattle.jl_program.specs.declared.tree.Program.{Program};
+ghost use Rattle.std.specs.Prelude.{◌≡◌, ◌≤◌, ◌↔◌, ℕ, List, IsTrue, IfOk, length, take, slice_get, Some};
 ghost use Rattle.jl_calculus.specs.declared.history.Event.{Event};
 ghost use Rattle.jl_calculus.specs.Legal.{HasTrueTrace, HasOwnEvents};
-ghost use Rattle.jl_calculus.specs.Past.{IsTrueOf, place, past};
+ghost use Rattle.jl_calculus.specs.Past.{IsAbsent, IsTrueOf, place, past};
 ghost use Rattle.jl_causes.specs.Sketch.{item_of, record_of, AllTell};
-ghost use Rattle.jl_causes.specs.Tables.{ArePlaces, AreTasks, IsDefAt, IsDelAt, IsSpawnAt, is_own};
+ghost use Rattle.jl_causes.specs.State.{IsJudgeOf};
+ghost use Rattle.jl_causes.specs.Tables.{AreTasks, IsDefAt, IsDelAt, IsSpawnAt, is_own};
+ghost use Rattle.jl_report.specs.declared.entry.Entry.{Entry};
 
-use crate::places::Places;
+use crate::judge::Judge;
 use crate::tasks::Tasks;
 use jl_model::limits::{MOST_TASKS, MOST_WORLDS};
 use jl_report::{Entry, Step};
+use jl_sig::Ready;
+use std::alloc::{AllocError, Global};
 
 /// Whether the entry at a place is this definition.
 fn is_def_at(entries: &[Entry], at: u32, by: u32, made: u32) -> bool
@@ -43,24 +46,65 @@ fn is_spawn_at(entries: &[Entry], at: u32, by: u32, made: u32) -> bool
     }
 }
 
-/// Whether a step of a task is true of the events that the first entries tell. None is that there is nothing to delete at a place: the
-/// program has no place.
-fn is_true(tasks: &Tasks, places: &Places, entries: &[Entry], task: u32, step: &Step) -> bool
-    requires { (es : List Event) × ArePlaces es places.now }
-    ensures { (P : Program) (es : List Event) → AreTasks es tasks.now → ArePlaces es places.now → AllTell P (take (length es) entries.now) es → P.deletes ≡ [] → IsTrue result ↔ IsTrueOf P es task (item_of step.now) }
+/// Whether so many events are there, there is a world after them, and no method of a deletion place stands in their newest.
+fn is_absent(
+    alloc: Global,
+    ready: &Ready,
+    judge: &Judge,
+    place: u32,
+    at: u32,
+) -> Result<bool, AllocError>
+    requires { (all : List Entry) × (es : List Event) × IsJudgeOf ready.now all es judge.now }
+    ensures { IfOk result (λ yes. (all : List Entry) (es : List Event) → IsJudgeOf ready.now all es judge.now → IsTrue yes ↔ ((at ≤ length es) × IsAbsent ready.now (take at es) place)) }
 {
+    let count = ready.program().deletes.len();
+    if place as usize >= count {
+        return Ok(false);
+    }
+    let Some(world) = judge.places.world_at(at) else {
+        return Ok(false);
+    };
+    if world as usize >= MOST_WORLDS {
+        return Ok(false);
+    }
+    let is_there = judge.rows.has_method_in(alloc, ready, place, world)?;
+    Ok(!is_there)
+}
+
+/// Whether a step of a task is true of the events that the first entries tell.
+fn is_true(
+    alloc: Global,
+    ready: &Ready,
+    judge: &Judge,
+    entries: &[Entry],
+    task: u32,
+    step: &Step,
+) -> Result<bool, AllocError>
+    requires { (es : List Event) × IsJudgeOf ready.now entries.now es judge.now }
+    ensures { IfOk result (λ yes. (es : List Event) → IsJudgeOf ready.now entries.now es judge.now → AllTell ready.now (take (length es) entries.now) es → IsTrue yes ↔ IsTrueOf ready.now es task (item_of step.now)) }
+{
+    let places = &judge.places;
     let count = places.len();
     match step {
-        Step::Look { world, at } => places.has_world(*world, *at),
-        Step::Def { site, at } => (*at as usize) < count && is_def_at(entries, *at, task, *site),
-        Step::Spawn { child, at } => {
-            (*at as usize) < count && is_spawn_at(entries, *at, task, *child)
+        Step::Look { world, at } => Ok(places.has_world(*world, *at)),
+        Step::Def { site, at } => {
+            Ok((*at as usize) < count && is_def_at(entries, *at, task, *site))
         }
-        Step::Fetch { task, at } => (*at as usize) <= count && tasks.has_ended(*task, *at),
-        Step::WorldFull { at } => places.has_world(MOST_WORLDS as u32, *at),
-        Step::TaskFull { at } => places.has_tasks(MOST_TASKS as u32, *at),
-        Step::Del { place, at } => (*at as usize) < count && is_del_at(entries, *at, task, *place),
-        Step::Absent { .. } => false,
+        Step::Spawn { child, at } => {
+            Ok((*at as usize) < count && is_spawn_at(entries, *at, task, *child))
+        }
+        Step::Fetch { task, at } => {
+            Ok((*at as usize) <= count && judge.tasks.has_ended(*task, *at))
+        }
+        Step::WorldFull { at } => Ok(places.has_world(MOST_WORLDS as u32, *at)),
+        Step::TaskFull { at } => Ok(places.has_tasks(MOST_TASKS as u32, *at)),
+        Step::Del { place, at } => {
+            Ok((*at as usize) < count && is_del_at(entries, *at, task, *place))
+        }
+        Step::Absent { place, at } => {
+            let is_absent = is_absent(alloc, ready, judge, *place, *at)?;
+            Ok(is_absent)
+        }
     }
 }
 
@@ -98,23 +142,28 @@ fn past(step: &Step) -> usize
 
 /// Whether the steps of a task are true of the events that the first entries tell, and in order.
 pub(crate) fn has_true_trace(
-    tasks: &Tasks,
-    places: &Places,
+    alloc: Global,
+    ready: &Ready,
+    judge: &Judge,
     entries: &[Entry],
     task: u32,
     trace: &[Step],
-) -> bool
-    requires { (es : List Event) × ArePlaces es places.now }
-    ensures { (P : Program) (es : List Event) (calls : ℕ) (output : List ℕ) → AreTasks es tasks.now → ArePlaces es places.now → AllTell P (take (length es) entries.now) es → P.deletes ≡ [] → IsTrue result ↔ HasTrueTrace P es task (record_of calls trace.now output) }
+) -> Result<bool, AllocError>
+    requires { (es : List Event) × IsJudgeOf ready.now entries.now es judge.now }
+    ensures { IfOk result (λ yes. (es : List Event) (calls : ℕ) (output : List ℕ) → IsJudgeOf ready.now entries.now es judge.now → AllTell ready.now (take (length es) entries.now) es → IsTrue yes ↔ HasTrueTrace ready.now es task (record_of calls trace.now output)) }
 {
-    let mut low = tasks.first(task);
+    let mut low = judge.tasks.first(task);
     for step in trace {
-        if (place(step) as usize) < low || !is_true(tasks, places, entries, task, step) {
-            return false;
+        if (place(step) as usize) < low {
+            return Ok(false);
+        }
+        if !is_true(alloc, ready, judge, entries, task, step)? {
+            return Ok(false);
         }
         low = past(step);
     }
-    low <= places.len()
+    let count = judge.places.len();
+    Ok(low <= count)
 }
 
 /// Whether a step is a definition, a deletion or a spawn.

@@ -86,6 +86,7 @@ kind_name K.TooManySites = codes "TooManySites"
 kind_name K.StaticParameterUse = codes "StaticParameterUse"
 kind_name K.NameClash = codes "NameClash"
 kind_name K.TooManyArguments = codes "TooManyArguments"
+kind_name K.BadType = codes "BadType"
 
 -- the line that tells why a script is no program
 abbrev pub static_line : List ℕ → StaticFault → List ℕ

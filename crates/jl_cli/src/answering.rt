@@ -3,7 +3,7 @@
 //! What a script was read and resolved to is left where it is, not taken apart: the process ends next, and its memory
 //! with it. To free each node of the trees took up to a fifth of a check.
 
-ghost use Rattle.std.specs.Prelude.{◌≡◌, ◌≤◌, [], None, Some, IfOk, MatchResult, drop, length};
+ghost use Rattle.std.specs.Prelude.{◌≡◌, ◌≤◌, None, Some, IfOk, MatchResult, drop, length};
 ghost use Rattle.jl_program.specs.Prelude.{prelude_count};
 ghost use Rattle.jl_queue.specs.Setups.{IsSetup};
 ghost use Rattle.jl_gen.specs.declared.numbers.TheConstants.{MOST_NUMBER};
@@ -83,8 +83,7 @@ fn run_source<R: Threads + Wait + Sync, G: Gate>(
     gate: &G,
     ops: &HostOps,
 ) -> Result<Due, AllocError>
-    requires setup { IsSetup setup }
-    requires plain { ready.now.deletes ≡ [] }
+    requires { IsSetup setup }
     ensures { IfOk result
         (λ due. IsResult (W.Run setup telling) ready.now due.status due.history due.text) }
 {

@@ -89,6 +89,7 @@ fn kind_name(kind: StaticKind) -> &'static str
         StaticKind::StaticParameterUse => "StaticParameterUse",
         StaticKind::NameClash => "NameClash",
         StaticKind::TooManyArguments => "TooManyArguments",
+        StaticKind::BadType => "BadType",
     }
 }
 

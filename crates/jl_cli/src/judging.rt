@@ -1,6 +1,6 @@
 //! What `replay` owes: a verdict on the history that is the second part of its input.
 
-ghost use Rattle.std.specs.Prelude.{◌≡◌, ◌≤◌, [], None, IfOk, length};
+ghost use Rattle.std.specs.Prelude.{◌≡◌, ◌≤◌, None, IfOk, length};
 ghost use Rattle.jl_history.specs.declared.history.TheConstants.{MOST_HISTORY_BYTES};
 ghost use Rattle.jl_cli.specs.Due.{AreScript, IsVerdictTold, IsJudged, IsReplayed};
 
@@ -17,8 +17,7 @@ use std::alloc::{AllocError, Global};
 
 /// What the judgement of a history over a program comes to.
 fn judged(alloc: Global, ready: &Ready, history: &[u8], ops: &HostOps) -> Result<Due, AllocError>
-    requires short { length history.now ≤ MOST_HISTORY_BYTES }
-    requires plain { ready.now.deletes ≡ [] }
+    requires { length history.now ≤ MOST_HISTORY_BYTES }
     ensures { IfOk result (λ due. IsVerdictTold ready.now history.now due.status due.text
         × (due.history ≡ None)) }
 {

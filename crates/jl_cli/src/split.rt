@@ -1,16 +1,25 @@
 //! Where the script ends and the history begins in the input of `replay`.
 
-ghost use Rattle.std.specs.Prelude.{◌≡◌, length, take, slice_get};
-ghost use Rattle.jl_cli.specs.Split.{separator, ends_line, begins_history, separator_at};
+ghost use Rattle.std.specs.Prelude.{◌≡◌, take, slice_get};
+ghost use Rattle.jl_cli.specs.Split.{first_length, is_separator, ends_line, begins_history, separator_at};
 
-/// The first line of a history.
-const SEPARATOR: &str = "%%history 1";
+use jl_report::first_line;
 
-/// The first bytes, as many as the first line of a history has.
+/// The bytes of a first line of a history: both have as many.
+const FIRST_LENGTH: usize = 11;
+
+/// The first bytes, as many as a first line of a history has.
 fn front(bytes: &[u8]) -> &[u8]
-    ensures { result.now ≡ take (length separator) bytes.now }
+    ensures { result.now ≡ take first_length bytes.now }
 {
-    &bytes[..bytes.len().min(SEPARATOR.len())]
+    &bytes[..bytes.len().min(FIRST_LENGTH)]
+}
+
+/// Whether a line is one of the first lines of histories, whatever the script.
+fn is_separator(line: &[u8]) -> bool
+    ensures { result ≡ is_separator line.now }
+{
+    line == first_line(false).as_bytes() || line == first_line(true).as_bytes()
 }
 
 /// Whether a line ends at a place: there is a newline, or no byte.
@@ -23,14 +32,14 @@ fn ends_line(bytes: &[u8], place: usize) -> bool
     }
 }
 
-/// Whether the line at the front is exactly the first line of a history.
+/// Whether the line at the front is exactly a first line of a history.
 fn begins_history(bytes: &[u8]) -> bool
     ensures { result ≡ begins_history bytes.now }
 {
-    front(bytes) == SEPARATOR.as_bytes() && ends_line(bytes, SEPARATOR.len())
+    is_separator(front(bytes)) && ends_line(bytes, FIRST_LENGTH)
 }
 
-/// The place of the first line that is exactly the first line of a history.
+/// The place of the first line that is exactly a first line of a history.
 pub(crate) fn separator_at(bytes: &[u8]) -> Option<usize>
     ensures { result ≡ separator_at bytes.now }
 {

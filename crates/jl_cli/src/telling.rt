@@ -1,6 +1,6 @@
 //! What is told of a run.
 
-ghost use Rattle.std.specs.Prelude.{◌≡◌, ◌++◌, [], IfOk, OnOk};
+ghost use Rattle.std.specs.Prelude.{◌≡◌, ◌++◌, IfOk, OnOk};
 ghost use Rattle.jl_calculus.specs.Legal.{MayStand, text_of};
 ghost use Rattle.jl_report.specs.HistoryText.{history_text};
 ghost use Rattle.jl_cli.specs.Work.{missing_newline, told};
@@ -35,8 +35,7 @@ fn end_line(out: &mut Row<u8>) -> Result<(), AllocError>
 
 /// The text of a result, as lines, and then the text of the history.
 fn trace(alloc: Global, ready: &Ready, history: &History) -> Result<Bytes, AllocError>
-    requires stand { MayStand ready.now history.now.events }
-    requires plain { ready.now.deletes ≡ [] }
+    requires { MayStand ready.now history.now.events }
     ensures { IfOk result (λ text. text ≡ told Trace ready.now history.now.events) }
 {
     let mut out = Row::new(alloc);
@@ -53,8 +52,7 @@ pub(crate) fn told(
     ready: &Ready,
     history: &History,
 ) -> Result<Bytes, AllocError>
-    requires stand { MayStand ready.now history.now.events }
-    requires plain { ready.now.deletes ≡ [] }
+    requires { MayStand ready.now history.now.events }
     ensures { IfOk result (λ text. text ≡ told telling ready.now history.now.events) }
 {
     match telling {

@@ -101,7 +101,8 @@ fn obey<R: Threads + Wait + Sync, S: Source, K: Sink, G: Gate>(
 /// Does what the words ask for, with what a source gives, and writes the answer to a sink. `run` runs the script and
 /// writes the text of its result. `trace` writes the text of its history too. `check` writes how many types and definitions
 /// the script has. `gen N` runs the generated script of number N, and writes a summary. `replay` reads a script and, from the
-/// first line that is exactly `%%history 1` on, a history, and writes whether the history is a legal one of the script.
+/// first line that is exactly `%%history 1` or `%%history 2` on, a history, and writes whether the history is a legal one of
+/// the script.
 ///
 /// The words are those of the command line after the program's name. A run has as many workers as they say, which start and end
 /// in this call. The gate is told of its tasks. `ops` has the operations of the prelude.

@@ -22,6 +22,7 @@ fn cause_name(cause: Cause) -> &'static str
         Cause::FillChoice => "FillChoice",
         Cause::NotRunning => "NotRunning",
         Cause::Site => "Site",
+        Cause::NoDefinition => "NoDefinition",
         Cause::ChildOrder => "ChildOrder",
         Cause::Limit => "Limit",
         Cause::Unfinished => "Unfinished",

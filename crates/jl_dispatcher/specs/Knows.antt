@@ -4,7 +4,7 @@ use Rattle.jl_program.specs.declared.prelude.TheConstants.{FIRST_WORLD}
 use Rattle.jl_model.specs.declared.ty.Ty.{Ty}
 use Rattle.jl_calculus.specs.declared.history.Event.{Event}
 use Rattle.jl_calculus.specs.declared.history.TraceItem.{TraceItem}
-use Rattle.jl_calculus.specs.declared.history.TraceItem.TheVariants.{Look, Def, Spawn, Fetch, WorldFull, TaskFull}
+use Rattle.jl_calculus.specs.declared.history.TraceItem.TheVariants.{Look, Def, Del, Spawn, Fetch, WorldFull, TaskFull, Absent}
 use Rattle.jl_program.specs.declared.choice.Choice.{Choice}
 use Rattle.jl_program.specs.declared.choice.Choice.TheVariants as C
 use Rattle.jl_program.specs.declared.tree.Program.{Program}
@@ -41,7 +41,7 @@ pub record Knows : Type 1 where
   pub agreed : agrees events
   -- the items that it has learnt
   pub learnt : TraceItem → Type 0
-  -- the definitions and spawns that it made, in order, and the starts of the spawns
+  -- the definitions, deletions and spawns that it made, in order, and the starts of the spawns
   pub own : List TraceItem
   pub starts : List Start
   -- how often it looked
@@ -138,7 +138,24 @@ pub record Defined (before now : Knows) (site : ℕ) : Type 0 where
   pub starts : now.starts ≡ before.starts
   pub follows : (c : Claim) (is : List TraceItem) → before.follows c is → now.follows c (is ++ Def site (now.seen - 1) ∷ [])
 
--- a world that a definition made: the newest one of the events that the task has then seen
+-- a deletion at a place, which is then seen
+pub record Deleted (before now : Knows) (at : ℕ) : Type 0 where
+  pub told : Told now (Del at (now.seen - 1))
+  pub place : before.seen < now.seen
+  pub looks : now.looks ≡ before.looks
+  pub own : now.own ≡ before.own ++ Del at (now.seen - 1) ∷ []
+  pub starts : now.starts ≡ before.starts
+  pub follows : (c : Claim) (is : List TraceItem) → before.follows c is → now.follows c (is ++ Del at (now.seen - 1) ∷ [])
+
+-- there is nothing to delete at a place: no method of its function and its signature stands among the events that were then seen
+pub record IsAbsentNow (before now : Knows) (at : ℕ) : Type 0 where
+  pub told : Told now (Absent at now.seen)
+  pub looks : now.looks ≡ before.looks
+  pub own : now.own ≡ before.own
+  pub starts : now.starts ≡ before.starts
+  pub follows : (c : Claim) (is : List TraceItem) → before.follows c is → now.follows c (is ++ Absent at now.seen ∷ [])
+
+-- a world that a definition or a deletion made: the newest one of the events that the task has then seen
 pub record IsMade (now : Knows) (w : ℕ) : Type 0 where
   pub right : (es : List Event) → now.agrees es → world_of (take now.seen es) ≡ w
   pub world : IsWorld w now.world

@@ -4,15 +4,16 @@ ghost use Rattle.std.specs.Prelude.{◌≡◌, ◌<◌, ◌^◌, ◌≤◌, IfOk
 ghost use Rattle.jl_program.specs.declared.prelude.TheConstants.{PRELUDE_SITES};
 ghost use Rattle.jl_program.specs.TypeOf.{type_of};
 ghost use Rattle.jl_calculus.specs.declared.history.DefineFault.TheVariants as D;
+ghost use Rattle.jl_calculus.specs.declared.history.DeleteFault.TheVariants as X;
 ghost use Rattle.jl_calculus.specs.declared.history.SpawnFault.TheVariants as S;
 ghost use Rattle.jl_calculus.specs.declared.history.FetchFault.TheVariants as F;
 ghost use Rattle.jl_calculus.specs.Legal.{IsKeyOf};
 ghost use Rattle.jl_calculus.specs.ValidStart.{IsValidStart};
 ghost use Rattle.jl_calculus.specs.ValidHistory.{IsValidOutcome};
-ghost use Rattle.jl_dispatcher.specs.Knows.{Knows, Grew, Looked, Asked, Refused, IsRight, IsMethod, Defined, IsMade, WorldsFull, IsFull, Spawned, TasksFull, AreTasksFull, Fetched, IsNotDone};
+ghost use Rattle.jl_dispatcher.specs.Knows.{Knows, Grew, Looked, Asked, Refused, IsRight, IsMethod, Defined, Deleted, IsAbsentNow, IsMade, WorldsFull, IsFull, Spawned, TasksFull, AreTasksFull, Fetched, IsNotDone};
 ghost use Rattle.jl_dispatcher.specs.Worlds.{IsWorld};
 
-use jl_calculus::history::{DefineFault, FetchFault, Outcome, Seen, SpawnFault};
+use jl_calculus::history::{DefineFault, DeleteFault, FetchFault, Outcome, Seen, SpawnFault};
 use jl_model::shared::SharedNode;
 use jl_model::ty::{Key, Ty, Tys};
 use jl_program::choice::Choice;
@@ -20,8 +21,8 @@ use jl_program::tree::Start;
 use jl_program::value::Value;
 use std::alloc::AllocError;
 
-/// What a task asks of the run that it belongs to: the newest world, the choice of a method, a new definition, a new task, and
-/// what became of a task.
+/// What a task asks of the run that it belongs to: the newest world, the choice of a method, a new definition, a deletion, a new
+/// task, and what became of a task.
 ///
 /// Its meaning `knows` says what its answers speak of, what it has learnt, and with which lists of events it agrees:
 /// every answer is right in each list that agrees.
@@ -57,6 +58,19 @@ pub trait Dispatcher {
         ensures refused { OnErr result (Refused (knows self.old) (knows self.new)) }
         ensures full { result ≡ Err D.WorldLimit → WorldsFull (knows self.old) (knows self.new) }
         ensures limit { IsFull (knows self.old) → result ≡ Err D.WorldLimit };
+
+    /// Deletes the methods of a deletion place, and answers the world that this made. Where it answers an error, nothing was deleted.
+    /// `NoSuchMethod` comes only where no such method stands, `WorldLimit` only where the world is full, and wherever the task knows
+    /// that it is.
+    fn delete(&mut self, place: u32) -> Result<u32, DeleteFault>
+        requires { place < length (knows self.old).program.deletes }
+        ensures grew { Grew (knows self.old) (knows self.new) }
+        ensures deleted { IfOk result (λ _. Deleted (knows self.old) (knows self.new) place) }
+        ensures world { IfOk result (λ w. IsMade (knows self.new) w) }
+        ensures refused { OnErr result (Refused (knows self.old) (knows self.new)) }
+        ensures absent { result ≡ Err X.NoSuchMethod → IsAbsentNow (knows self.old) (knows self.new) place }
+        ensures full { result ≡ Err X.WorldLimit → WorldsFull (knows self.old) (knows self.new) }
+        ensures limit { IsFull (knows self.old) → result ≡ Err X.WorldLimit };
 
     /// Spawns a task from a start, and answers its number. Where it answers an error, nothing was made. `TaskLimit` comes only where
     /// there is no room for a task, and wherever the task knows that there is none.

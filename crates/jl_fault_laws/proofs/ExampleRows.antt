@@ -1,11 +1,12 @@
 -- The rows of the small scripts.
-use Rattle.std.proofs.Common.{ℕ, zero, suc, ◌+◌, ◌≤◌, ℤ, pos, codes, List, [], ◌∷◌, ◌++◌, map, ◌≡◌, inl, refl, sym, ap, subst, ◌∙◌, append_assoc}
+use Rattle.std.proofs.Common.{ℕ, zero, suc, ◌+◌, ◌≤◌, ℤ, pos, codes, cond, List, [], ◌∷◌, ◌++◌, map, Some, ◌≡◌, inl, refl, sym, ap, subst, ◌∙◌, append_assoc}
 use Rattle.std.proofs.lemmas.Bool.{le-leb}
 use Rattle.jl_model.specs.declared.limits.TheConstants.{MOST_SITES}
 use Rattle.jl_model.specs.declared.builtin.TheConstants.{BUILTIN_TYPES}
 use Rattle.jl_typeread.specs.declared.tree.ArgText.TheFolds.{fold-roll-TypeText, fold-roll-VarText}
 use Rattle.jl_typeread.specs.declared.tree.ArgText.TheOpen as A
 use Rattle.jl_typeread.specs.declared.tree.ArgText.TheViews as V
+use Rattle.jl_typeread.specs.declared.tree.ArgText.TheViews.{out-TypeText}
 use Rattle.jl_typeread.specs.declared.tree.TypeText.{TypeText}
 use Rattle.jl_typeread.specs.declared.tree.TypeText.TheVariants as TV
 use Rattle.jl_typeread.specs.declared.tree.VarText.{VarText}
@@ -20,15 +21,19 @@ use Rattle.jl_grammar.specs.declared.tree.Expr.TheVariants as X
 use Rattle.jl_grammar.specs.declared.tree.Head.{Head}
 use Rattle.jl_grammar.specs.declared.tree.Item.{Item}
 use Rattle.jl_grammar.specs.declared.tree.Item.TheVariants as N
+use Rattle.jl_grammar.specs.declared.tree.Name.{Name}
 use Rattle.jl_grammar.specs.declared.tree.Param.TheVariants as P
 use Rattle.jl_written.specs.declared.fault.Fault.{Fault}
 use Rattle.jl_written.specs.declared.fault.StaticKind.TheVariants as kind
-use Rattle.jl_fault_laws.specs.Uses.{Names, Visible, Use, Uses, Stated, Brings, ScriptNames, names_told, used, value, plain_type, written, at_top, top_uses, brought, with_vars, type_uses, var_uses, body_uses, uses_of}
+use Rattle.jl_fault_laws.specs.Uses.{Names, Visible, Use, Uses, Stated, Brings, ScriptNames, names_told, used, value, deleted, plain_type, written, deleted_by, bare, if_read, tuple_uses, at_top, top_uses, brought, with_vars, type_uses, var_uses, body_uses, uses_of}
 use Rattle.jl_fault_laws.specs.Uses as U
-use Rattle.jl_resolve_forms.specs.TypesIn.{Tests, start_of}
+use Rattle.jl_written.specs.Signatures.{written_of}
+use Rattle.jl_resolve_forms.specs.declared.known.Known.{Known}
+use Rattle.jl_resolve_forms.specs.Expressions.{is_signature, signature_args, signature_vars}
+use Rattle.jl_resolve_forms.specs.TypesIn.{Tests, start_of, start_of_layer}
 use Rattle.jl_fault_laws.specs.Rows.{HoldsAt, definitions}
-use Rattle.jl_fault_laws.specs.TypeRows.{RefusedAt}
-use Rattle.jl_fault_laws.specs.Examples.{f, g, x, y, S, R, T, name_at, one_at, known, head, with_line, good, with_unknown_name, with_unknown_function, with_many_arguments, with_unknown_type, with_two_variables, with_function_name, with_two_bindings, with_built_in, known_struct, with_inferred, method_at, lines, fault}
+use Rattle.jl_fault_laws.specs.TypeRows.{unless_hidden, unless_misplaced, deleted_at, deleted_refusal, RefusedAt}
+use Rattle.jl_fault_laws.specs.Examples.{f, g, x, y, S, R, T, name_at, one_at, known, head, with_line, good, with_unknown_name, with_unknown_function, with_many_arguments, with_unknown_type, with_two_variables, with_prelude_deletion, with_deletion, with_function_name, with_two_bindings, with_built_in, known_struct, with_inferred, method_at, lines, fault}
 use Rattle.jl_fault_laws.proofs.Firsts.{In}
 use Rattle.jl_fault_laws.proofs.Faults.{all_named}
 use Rattle.jl_fault_laws.proofs.RowLaws.{holds_among, among_holds}
@@ -159,6 +164,46 @@ two_free_uses =
 
 pub variable_row : HoldsAt known with_two_variables (fault 34 kind.Rebound)
 variable_row = one_holds with_two_variables (fault 34 kind.Rebound) (line_faults (E.Isa 13 (one_at 13) two_free_type) (with_type two_free_type two_free) (isa_is two_free_type two_free two_free_uses))
+
+-- with a deletion on the line, by a type that is a plain name
+abbrev deletes_by : Name → TypeText → Uses
+deletes_by n t v = used n.at (deleted n) v ∷ used (start_of t) (deleted_by t) (bare v) ∷ []
+
+deletes_use : (n : Name) (a : ℕ) (name : List ℕ) → expr_uses (X.Delete 13 n (TV.Name a name)) ≡ deletes_by n (TV.Name a name)
+deletes_use n a name =
+    let t = TV.Name a name in
+    let l = out-TypeText t in
+    ap expr_uses (sym (E.rolls-Delete 13 n t))
+    ∙ fold-roll-Expr Uses Uses Uses Uses Stated Uses (U.eval_step told) (U.expr_step told) (U.method_step told) (U.piece_step told) (U.stmt_step told) (U.branch_step told) (F.Delete 13 n t)
+    ∙ (λ i v. used n.at (deleted n) v ∷ used (start_of t) (deleted_by t) (bare v) ∷ if_read (is_signature (V.outs-Name a name i)) (tuple_uses (signature_args l) (signature_vars l) v))
+
+pub deletion_row : HoldsAt known with_prelude_deletion (fault 38 kind.UnknownFunction)
+deletion_row =
+    let n : Name = record { at = 38; bytes = codes "div" } in
+    let t = TV.Name 43 (codes "Int") in
+    one_holds with_prelude_deletion (fault 38 kind.UnknownFunction) (line_faults (X.Delete 13 n t) (deletes_by n t) (deletes_use n 43 (codes "Int")))
+
+no_tuple_refusal : (t : Tests) (k : Known) (a : ℕ) (name : List ℕ) (v : Visible) → deleted_refusal t k (TV.Name a name) v ≡ Some kind.BadType
+unfolding deleted_refusal
+no_tuple_refusal t k a name v =
+    let text = TV.Name a name in
+    let l = out-TypeText text in
+    let ts = (deleted_at k text v.types).types in
+    let o = unless_misplaced ts.after.misplaced (unless_hidden (tuple_uses (signature_args l) (signature_vars l) v) (t.signature (written_of t.below ts))) in
+    λ i. cond (is_signature (V.outs-Name a name i)) o (Some kind.BadType)
+
+pub no_tuple_row : (t : Tests) → RefusedAt t known with_deletion (fault 41 kind.BadType)
+no_tuple_row t =
+    let n = name_at 38 f in
+    let text = TV.Name 41 (codes "Int") in
+    record {
+      before = U.method_step told (F.Short 0 head no_uses) (top []) ++ used 38 (deleted n) (top []) ∷ [];
+      use_ = used (start_of text) (deleted_by text) (bare (top []));
+      behind = top_uses told (name_at 9 y) (top []) ++ [];
+      is = line_uses (X.Delete 13 n text) (deletes_by n text) (deletes_use n 41 (codes "Int")) [];
+      place = ap start_of_layer (V.outs-Name 41 (codes "Int"));
+      row = no_tuple_refusal t known 41 (codes "Int") (bare (top []));
+    }
 
 -- with a binding on the third line
 bound_faults : (name : List ℕ) (at : ℕ) → all_named known 0 (uses_of told (good ++ N.Bind (record { at = 18; bytes = name }) (one_at at) ∷ []))

@@ -24,7 +24,7 @@ use Rattle.jl_written.specs.Meaning.{place_of, var_of, var_or, meaning_of}
 use Rattle.jl_written.specs.Meaning as M
 use Rattle.jl_written.specs.Reads.{Typed, Types, TypeReads, ArgReads, VarReads, note, note_unknown, missing_arguments, fresh_variable, note_place_of, note_place, read_arguments, read_members, rebound, note_builtin, bind, bind_all, bind_where, within, read_plain, read_applied, type_reads, arg_reads, var_reads}
 use Rattle.jl_written.specs.Reads as R
-use Rattle.jl_written.specs.Signatures.{option_reads, all_read, all_bound}
+use Rattle.jl_written.specs.Signatures.{option_reads, all_read, all_bound, parts_read}
 use Rattle.jl_written.specs.TextOrder.{reorder_types, reorder_type}
 use Rattle.jl_resolve_forms.specs.declared.known.Known.{Known}
 use Rattle.jl_resolve_forms.specs.TypesIn.{Tests}
@@ -292,6 +292,12 @@ module _ (tests : Tests) (k : Known) (ds : List Decl) where
   pub bound_clear : (vs : List VarText) (vars : List TypeVar) (v : Visible) (r : Reading) → Knows tests k vars v → type_names ds ≡ v.types
       → Clears (brought (map var_uses vs) v) r (all_bound ds vs vars r).after × Knows tests k (all_bound ds vs vars r).vars (with_vars (map var_uses vs) v)
   bound_clear vs vars v r h e = brought_clear (map var_uses vs) (map (var_reads ds) vs) (each_pairs IsVar var_uses (var_reads ds) vs (each_all (λ x. IsVar (var_uses x) (var_reads ds x)) var_clear vs)) vars v false r h e
+
+  -- the parts of a tuple that is read as a signature
+  pub parts_clear : (xs : List ArgText) (vars : List TypeVar) (v : Visible) (r : Reading) → Knows tests k vars v → type_names ds ≡ v.types
+      → Clears (each (map arg_uses xs) v) r (parts_read ds xs vars r).after
+  parts_clear xs vars v r h e =
+      read_members_clear (map arg_uses xs) (map (arg_reads ds) xs) (each_pairs IsArg arg_uses (arg_reads ds) xs (each_all (λ x. IsArg (arg_uses x) (arg_reads ds x)) arg_clear xs)) vars v false r h e
 
   pub args_clear : (xs : List ArgText) (bs : List Bound) (vars : List TypeVar) (v : Visible) (r : Reading) → Knows tests k vars v → type_names ds ≡ v.types
       → Clears (each (map arg_uses xs) v) r (read_arguments bs (map (arg_reads ds) xs) vars false r).after

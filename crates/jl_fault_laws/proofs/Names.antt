@@ -27,11 +27,11 @@ use Rattle.jl_resolve_forms.specs.declared.state.Scope.{Scope}
 use Rattle.jl_resolve_forms.specs.declared.state.State.{State}
 use Rattle.jl_resolve_forms.specs.Resolver.{Resolution}
 use Rattle.jl_resolve_forms.specs.Scopes.{slot_from, slot_of, note, clashing, with_slot, take_slot, bind}
-use Rattle.jl_resolve_forms.specs.Functions.{function_of_operator, function_of, unless_slot, if_struct, struct_named, struct_of}
+use Rattle.jl_resolve_forms.specs.Functions.{function_of_operator, function_of, own_function, unless_taken, if_struct, struct_named, struct_of}
 use Rattle.jl_resolve_forms.specs.TypesIn.{Tests, declared_at}
 use Rattle.jl_resolve_forms.specs.Expressions.{parameters, make_struct, static_parameter, static_parameters}
 use Rattle.jl_fault_laws.specs.Uses.{Names, Visible, bound, used, with_name, with_names, with_var, params_of, params_uses, type_names, names_told, makes_layer}
-use Rattle.jl_fault_laws.specs.Rows.{is_struct, has_function}
+use Rattle.jl_fault_laws.specs.Rows.{is_struct, has_function, has_own_function}
 use Rattle.jl_fault_laws.specs.TypeRows.{declared_before, struct_at, struct_called, struct_built, is_idle, statics_at}
 use Rattle.jl_fault_laws.proofs.Firsts.{Tells, nothing, two, same, one_fault}
 use Rattle.jl_fault_laws.proofs.Faults.{one, TellsOf, joined}
@@ -276,7 +276,7 @@ place_found i (n ∷ ns) name = by (same_text name n) (place_found (i + 1) ns na
     by true e = refl
     by false e = e
 
-unless_is : (o p : Option ℕ) → is_some (unless_slot o p) ≡ (not (is_some o) && is_some p)
+unless_is : (o p : Option ℕ) → is_some (unless_taken o p) ≡ (not (is_some o) && is_some p)
 unless_is None p = refl
 unless_is (Some i) p = refl
 
@@ -301,7 +301,17 @@ function_is k (C.Plain n) c vs h = unless_is (slot_of c.slots n.bytes) (place_of
 function_is k (C.Base at n) c vs h = place_found 0 prelude_functions n.bytes
 function_is k (C.Operator at o) c vs h = operator_is o
 
-no_slot : (o p : Option ℕ) → unless_slot o p ≡ cond (is_some o) None p
+-- a function of the script
+pub own_is : (k : Known) (n : Name) (c : Scope) (vs : Names) → Agrees c vs → is_some (own_function k n c) ≡ has_own_function k n vs
+unfolding own_function
+own_is k n c vs h =
+    let own = place_of k.functions n.bytes in
+    let first = place_of prelude_functions n.bytes in
+    let past : is_some (unless_taken first own) ≡ (not (is_among n.bytes prelude_functions) && is_among n.bytes k.functions) =
+    unless_is first own ∙ (λ i. not (place_found 0 prelude_functions n.bytes i) && place_found 0 k.functions n.bytes i) in
+    unless_is (slot_of c.slots n.bytes) (unless_taken first own) ∙ (λ i. not (h n.bytes i) && past i)
+
+no_slot : (o p : Option ℕ) → unless_taken o p ≡ cond (is_some o) None p
 no_slot None p = refl
 no_slot (Some i) p = refl
 

@@ -7,14 +7,14 @@ use Rattle.jl_typeread.specs.declared.tree.ArgText.TheViews.{out-TypeText}
 use Rattle.jl_grammar.specs.declared.tree.Head.{Head}
 use Rattle.jl_written.specs.declared.fault.StaticKind.{StaticKind}
 use Rattle.jl_written.specs.declared.fault.StaticKind.TheVariants as kind
-use Rattle.jl_written.specs.Signatures.{adopt_bounds, written_of, signature, body_type, constructor_type}
+use Rattle.jl_written.specs.Signatures.{adopt_bounds, written_of, signature, tuple_signature, body_type, constructor_type}
 use Rattle.jl_resolve_forms.specs.declared.known.Known.{Known}
-use Rattle.jl_resolve_forms.specs.Expressions.{type_of, make_args, inferred_refusal}
+use Rattle.jl_resolve_forms.specs.Expressions.{type_of, make_args, is_signature, signature_args, signature_vars, inferred_refusal}
 use Rattle.jl_resolve_forms.specs.Parameters.{has_usable_parameters_at}
 use Rattle.jl_resolve_forms.specs.TypesIn.{Tests, one_type}
-use Rattle.jl_fault_laws.specs.Uses.{Visible, How, called, built, defined, plain_type, written, Use, each, type_uses, arg_uses, signature_uses}
+use Rattle.jl_fault_laws.specs.Uses.{Visible, How, called, built, defined, plain_type, written, deleted_by, Use, each, type_uses, arg_uses, tuple_uses, signature_uses}
 use Rattle.jl_fault_laws.specs.Rows.{has_row, IsOtherKind, TellTypes}
-use Rattle.jl_fault_laws.specs.TypeRows.{declared_before, struct_called, struct_built, statics_at, is_barred, any_hides, unless_hidden, unless_misplaced, signature_refusal, type_refusal, built_refusal, call_refusal, refused_by}
+use Rattle.jl_fault_laws.specs.TypeRows.{declared_before, struct_called, struct_built, statics_at, is_barred, any_hides, unless_hidden, unless_misplaced, deleted_at, deleted_refusal, signature_refusal, type_refusal, built_refusal, call_refusal, refused_by}
 
 misplaced_other : (b : Bool) (o : Option StaticKind) → IsOtherKind o → IsOtherKind (unless_misplaced b o)
 misplaced_other true o h = refl
@@ -38,6 +38,20 @@ module _ (t : Tests) (k : Known) (q : TellTypes t) where
       let ts = (signature (declared_before k v.types) (map type_of h.params) h.vars).types in
       let w = written_of t.below ts in
       misplaced_other ts.after.misplaced (unless_hidden (signature_uses h v) (t.signature w)) (hidden_other (signature_uses h v) (t.signature w) (q.signature w))
+
+  deleted_other : (text : TypeText) (v : Visible) → IsOtherKind (deleted_refusal t k text v)
+  unfolding deleted_refusal deleted_at
+  deleted_other text v =
+      let l = out-TypeText text in
+      let ts = (tuple_signature (declared_before k v.types) (signature_args l) (signature_vars l)).types in
+      let w = written_of t.below ts in
+      let us = tuple_uses (signature_args l) (signature_vars l) v in
+      by (is_signature l) (unless_misplaced ts.after.misplaced (unless_hidden us (t.signature w)))
+      (misplaced_other ts.after.misplaced (unless_hidden us (t.signature w)) (hidden_other us (t.signature w) (q.signature w)))
+    where
+      by : (b : Bool) (o : Option StaticKind) → IsOtherKind o → IsOtherKind (cond b o (Some kind.BadType))
+      by true o h = h
+      by false o h = refl
 
   type_other : (text : TypeText) (v : Visible) → IsOtherKind (type_refusal t k text v)
   unfolding type_refusal
@@ -87,6 +101,7 @@ module _ (t : Tests) (k : Known) (q : TellTypes t) where
   by_use (defined h) v = signature_other h v
   by_use (plain_type n) v = barred_other (is_barred t k n v)
   by_use (written text) v = type_other text v
+  by_use (deleted_by text) v = deleted_other text v
   by_use _ v = tt
 
   pub refused_other : (h : How) (v : Visible) (x : StaticKind) → refused_by t k h v ≡ Some x → has_row x ≡ false

@@ -10,7 +10,7 @@ use Rattle.jl_grammar.specs.declared.tree.Param.{Param}
 use Rattle.jl_grammar.specs.declared.tree.Param.TheVariants as P
 use Rattle.jl_resolve_forms.specs.Expressions.{type_of}
 use Rattle.jl_type_laws.proofs.TextInduction.{EachText, TextCases, by_type, by_arg, by_var}
-use Rattle.jl_fault_laws.specs.Uses.{Visible, Use, Uses, Brings, used, type_variable, each, if_read, takes_braces, with_name, with_var, with_vars, params_uses, brought, bare, arg_step, type_step, var_step, type_uses, arg_uses, var_uses, option_uses, options_uses, in_head, signature_uses}
+use Rattle.jl_fault_laws.specs.Uses.{Visible, Use, Uses, Brings, used, type_variable, each, if_read, takes_braces, with_name, with_var, with_vars, params_uses, brought, bare, arg_step, type_step, var_step, type_uses, arg_uses, var_uses, option_uses, options_uses, tuple_uses, in_head, signature_uses}
 use Rattle.jl_fault_laws.specs.Rows.{definitions}
 use Rattle.jl_fault_laws.proofs.Faults.{definitions_append}
 
@@ -86,6 +86,9 @@ options_plain (t ∷ ts) v = both_plain (option_uses t v) (options_uses ts v) (o
 
 pub signature_plain : (h : Head) → IsPlain (signature_uses h)
 signature_plain h v = both_plain (brought (map var_uses h.vars) (bare v)) (options_uses (map type_of h.params) (in_head h v)) (vars_plain h.vars (bare v)) (options_plain (map type_of h.params) (in_head h v))
+
+pub tuple_plain : (xs : List ArgText) (vs : List VarText) → IsPlain (tuple_uses xs vs)
+tuple_plain xs vs v = both_plain (brought (map var_uses vs) (bare v)) (each (map arg_uses xs) (with_vars (map var_uses vs) (bare v))) (vars_plain vs (bare v)) (args_plain xs (with_vars (map var_uses vs) (bare v)))
 
 pub params_plain : (ps : List Param) → IsPlain (params_uses ps)
 params_plain [] v = refl

@@ -27,25 +27,25 @@ use Rattle.jl_written.specs.Meaning.{place_of, var_of, var_or, meaning_of}
 use Rattle.jl_written.specs.Meaning as M
 use Rattle.jl_written.specs.Reads.{Typed, Types, TypeReads, ArgReads, VarReads, no_reading, note, note_unknown, missing_arguments, fresh_variable, note_place_of, note_place, read_arguments, read_members, rebound, note_builtin, bind, bind_all, bind_where, within, read_plain, read_applied, type_reads, arg_reads, var_reads}
 use Rattle.jl_written.specs.Reads as R
-use Rattle.jl_written.specs.Signatures.{option_reads, all_read, all_bound, adopt_bounds, written_of, signature, shifted, body_type, constructor_type, width_of}
+use Rattle.jl_written.specs.Signatures.{option_reads, all_read, all_bound, parts_read, adopt_bounds, written_of, signature, tuple_signature, shifted, body_type, constructor_type, width_of}
 use Rattle.jl_written.specs.TextOrder.{reorder_types, reorder_type}
 use Rattle.jl_resolve_forms.specs.declared.known.Known.{Known}
 use Rattle.jl_resolve_forms.specs.declared.state.Scope.{Scope}
 use Rattle.jl_resolve_forms.specs.declared.state.State.{State}
-use Rattle.jl_resolve_forms.specs.Scopes.{note_if, merge_fault}
+use Rattle.jl_resolve_forms.specs.Scopes.{note as note_at, note_if, merge_fault}
 use Rattle.jl_resolve_forms.specs.TypesIn.{Tests, declared_at, refusal, start_of, one_type, make_refusal, type_in_body, make_at}
-use Rattle.jl_resolve_forms.specs.Expressions.{type_of, make_args, judge_signature, method_signature}
+use Rattle.jl_resolve_forms.specs.Expressions.{type_of, make_args, is_signature, signature_args, signature_vars, judge_signature, method_signature, deleted_signature, delete_signed, delete_of}
 use Rattle.jl_type_laws.proofs.TextInduction.{TextCases, by_type, by_arg, by_var}
-use Rattle.jl_fault_laws.specs.Uses.{Visible, Uses, Brings, type_variable, plain_type, braced_type, written, built, used, each, if_read, with_var, with_vars, brought, bare, type_names, type_uses, arg_uses, var_uses, option_uses, options_uses, body_uses, built_uses, in_head, signature_uses}
+use Rattle.jl_fault_laws.specs.Uses.{Visible, Uses, Brings, type_variable, plain_type, braced_type, written, built, deleted_by, used, each, if_read, with_var, with_vars, brought, bare, type_names, type_uses, arg_uses, var_uses, option_uses, options_uses, body_uses, built_uses, tuple_uses, deleted_uses, in_head, signature_uses}
 use Rattle.jl_fault_laws.specs.Uses as U
-use Rattle.jl_fault_laws.specs.TypeRows.{declared_before, struct_built, is_idle, statics_at, signature_at, any_hides, signature_refusal, type_refusal, built_refusal}
+use Rattle.jl_fault_laws.specs.TypeRows.{declared_before, struct_built, is_idle, statics_at, signature_at, deleted_at, any_hides, unless_hidden, unless_misplaced, deleted_refusal, signature_refusal, type_refusal, built_refusal}
 use Rattle.jl_fault_laws.proofs.Firsts.{Tells, nothing, two, same, swapped, one_fault, given, note_if_told}
 use Rattle.jl_fault_laws.proofs.Faults.{one, all_faults, Pairs, TellsOf, joined, then_other}
 use Rattle.jl_fault_laws.proofs.Adds.{Adds, adds_alike, note_if_same, merge_fault_same}
-use Rattle.jl_fault_laws.proofs.Plain.{each_all, type_plain, args_plain}
+use Rattle.jl_fault_laws.proofs.Plain.{each_all, type_plain, args_plain, tuple_plain}
 use Rattle.jl_fault_laws.proofs.Merged.{merge_fault_told}
 use Rattle.jl_fault_laws.proofs.Names.{Knows, Sees, one_more, shifted_knows, declared_is, two_of, place_found}
-use Rattle.jl_fault_laws.proofs.Hiding.{each_pairs, both_clear, ordered_clear, one_ordered_clear, type_clear, options_clear, bound_clear, args_clear}
+use Rattle.jl_fault_laws.proofs.Hiding.{each_pairs, both_clear, ordered_clear, one_ordered_clear, type_clear, options_clear, bound_clear, parts_clear, args_clear}
 use Rattle.jl_fault_laws.proofs.Told.{AreTold, SignedTold}
 
 -- ---- readings
@@ -291,6 +291,12 @@ module _ (tests : Tests) (k : Known) (ds : List Decl) where
       → TellsOf tests k (brought (map var_uses vs) v) r.fault (all_bound ds vs vars r).after.fault × Knows tests k (all_bound ds vs vars r).vars (with_vars (map var_uses vs) v)
   bound_told vs vars v r h e = brought_told (map var_uses vs) (map (var_reads ds) vs) (each_pairs IsVar var_uses (var_reads ds) vs (each_all (λ x. IsVar (var_uses x) (var_reads ds x)) var_told vs)) vars v false r h e
 
+  -- the parts of a tuple that is read as a signature
+  pub parts_told : (xs : List ArgText) (vars : List TypeVar) (v : Visible) (r : Reading) → Knows tests k vars v → type_names ds ≡ v.types
+      → TellsOf tests k (each (map arg_uses xs) v) r.fault (parts_read ds xs vars r).after.fault
+  parts_told xs vars v r h e =
+      read_members_told (map arg_uses xs) (map (arg_reads ds) xs) (each_pairs IsArg arg_uses (arg_reads ds) xs (each_all (λ x. IsArg (arg_uses x) (arg_reads ds x)) arg_told xs)) vars v false r h e
+
   made_told : (xs : List ArgText) (p : ℕ) (bs : List Bound) (statics : List TypeVar) (v : Visible) → Knows tests k statics v → type_names ds ≡ v.types
       → TellsOf tests k (each (map arg_uses xs) v) None (constructor_type ds p bs statics xs).after.fault
   made_told xs p bs statics v h e =
@@ -365,6 +371,63 @@ module _ (t : Tests) (k : Known) where
       (args_clear t k ds xs bs (shifted 0 c.statics) v no_reading (shifted_knows t k 0 c.statics v h.vars) h.types))
       (made_told t k ds xs p bs c.statics v h.vars h.types m))
 
+  -- ---- the type of a deletion
+
+  no_tuple : (text : TypeText) (v : Visible) → is_signature (out-TypeText text) ≡ false → Some kind.BadType ≡ deleted_refusal t k text (bare v)
+  unfolding deleted_refusal
+  no_tuple text v e =
+      let ts = (deleted_at k text v.types).types in
+      let us = tuple_uses (signature_args (out-TypeText text)) (signature_vars (out-TypeText text)) (bare v) in
+      let o = unless_misplaced ts.after.misplaced (unless_hidden us (t.signature (written_of t.below ts))) in
+      ap (λ b. let x : Option StaticKind = cond b o (Some kind.BadType) in x) (sym e)
+
+  deleted_refusal_is : (types : ℕ) (text : TypeText) (v : Visible) → type_names (declared_at k types) ≡ v.types → is_signature (out-TypeText text) ≡ true
+      → (let l = out-TypeText text in
+      (tuple_signature (declared_at k types) (signature_args l) (signature_vars l)).types.after.unclear ≡ any_hides (tuple_uses (signature_args l) (signature_vars l) v))
+      → (deleted_signature t k types text).refusal ≡ deleted_refusal t k text (bare v)
+  unfolding deleted_refusal deleted_at
+  deleted_refusal_is types text v e b c =
+      let xs = signature_args (out-TypeText text) in
+      let ws = signature_vars (out-TypeText text) in
+      let us = tuple_uses xs ws v in
+      let ts : List Decl → Types = λ ds. (tuple_signature ds xs ws).types in
+      let o : Option StaticKind = let q = ts (declared_before k v.types) in cond q.after.misplaced (Some kind.VariablePlace) (cond (any_hides us) None (t.signature (written_of t.below q))) in
+      ap (λ z. let q = ts (declared_at k types) in cond q.after.misplaced (Some kind.VariablePlace) (cond z None (t.signature (written_of t.below q)))) c
+      ∙ ap (λ ds. let q = ts ds in cond q.after.misplaced (Some kind.VariablePlace) (cond (any_hides us) None (t.signature (written_of t.below q)))) (declared_is k types v.types e)
+      ∙ ap (λ z. let x : Option StaticKind = cond z o (Some kind.BadType) in x) (sym b)
+
+  tuple_told : (text : TypeText) (f types : ℕ) (v : Visible) (s : State) (b : Bool) → is_signature (out-TypeText text) ≡ b → type_names (declared_at k types) ≡ v.types
+      → Adds t k (used (start_of text) (deleted_by text) (bare v) ∷ if_read b (tuple_uses (signature_args (out-TypeText text)) (signature_vars (out-TypeText text)) v)) s (delete_of t k b f text types s).after
+  tuple_told text f types v s false b e =
+      let at = start_of text in
+      let bad : Fault = record { at = at; kind = kind.BadType } in
+      let z = note_at at kind.BadType s in
+      adds_alike t k (used at (deleted_by text) (bare v) ∷ []) s z refl refl
+      (λ m. same (bad ∷ []) _ s.fault z.fault (ap (λ o. (given o at ++ []) ++ []) (no_tuple text v b)) (one_fault bad s.fault))
+  tuple_told text f types v s true b e =
+      let at = start_of text in
+      let ds = declared_at k types in
+      let xs = signature_args (out-TypeText text) in
+      let ws = signature_vars (out-TypeText text) in
+      let inside = with_vars (map var_uses ws) (bare v) in
+      let us = brought (map var_uses ws) (bare v) in
+      let vs = each (map arg_uses xs) inside in
+      let r = all_bound ds ws [] no_reading in
+      let ts = parts_read ds xs r.vars r.after in
+      let g = deleted_signature t k types text in
+      let nothing_known : Knows t k [] (bare v) = record { names = λ name. refl; idle = λ name. refl } in
+      let here = bound_told t k ds ws [] (bare v) no_reading nothing_known e in
+      let c = bound_clear t k ds ws [] (bare v) no_reading nothing_known e in
+      let clear = ordered_clear ts.after.swaps ts ∙ both_clear us vs no_reading r.after ts.after c.0 (parts_clear t k ds xs r.vars inside r.after c.1 e) in
+      let z = (delete_signed f at g s).after in
+      adds_alike t k (used at (deleted_by text) (bare v) ∷ tuple_uses xs ws v) s z (tuple_plain xs ws v) (note_if_same at g.refusal (merge_fault g.fault s) ∙ merge_fault_same g.fault s)
+      (λ m. refused_last at g.refusal (deleted_refusal t k text (bare v)) (all_faults t k m (tuple_uses xs ws v)) g.fault s (deleted_refusal_is types text v e b clear)
+      (joined t k us vs None r.after.fault g.fault here.0 (λ n. ordered_told ts.after.swaps ts (all_faults t k n vs) r.after.fault (parts_told t k ds xs r.vars inside r.after here.1 e n)) m))
+
+  deletion_told : (text : TypeText) (f types : ℕ) (v : Visible) (s : State) → type_names (declared_at k types) ≡ v.types
+      → Adds t k (deleted_uses text v) s (delete_of t k (is_signature (out-TypeText text)) f text types s).after
+  deletion_told text f types v s e = tuple_told text f types v s (is_signature (out-TypeText text)) refl e
+
   signature_is : (types : ℕ) (h : Head) (ts : List (List ℕ)) → type_names (declared_at k types) ≡ ts → method_signature t k types h ≡ signature_at t k h ts
   unfolding signature_at
   signature_is types h ts e = ap (λ ds. judge_signature t (signature ds (map type_of h.params) h.vars)) (declared_is k types ts e)
@@ -396,4 +459,4 @@ module _ (t : Tests) (k : Known) where
       }
 
 pub are_told : (t : Tests) (k : Known) → AreTold t k
-are_told t k = record { body = type_in_body_told t k; made_of = make_at_told t k; of_head = signed_told t k }
+are_told t k = record { body = type_in_body_told t k; made_of = make_at_told t k; deletion = deletion_told t k; of_head = signed_told t k }

@@ -13,6 +13,7 @@ use Rattle.jl_typeread.specs.declared.tree.ArgText.TheViews.{out-TypeText}
 use Rattle.jl_grammar.specs.declared.tree.Callee.{Callee}
 use Rattle.jl_grammar.specs.declared.tree.Callee.TheVariants as C
 use Rattle.jl_grammar.specs.declared.tree.Head.{Head}
+use Rattle.jl_grammar.specs.declared.tree.Name.{Name}
 use Rattle.jl_written.specs.declared.fault.Fault.{Fault}
 use Rattle.jl_written.specs.declared.fault.StaticKind.TheVariants as kind
 use Rattle.jl_resolve_forms.specs.declared.known.Known.{Known}
@@ -23,10 +24,10 @@ use Rattle.jl_resolve_forms.specs.declared.state.Signed.{Signed}
 use Rattle.jl_resolve_forms.specs.declared.state.State.{State}
 use Rattle.jl_resolve_forms.specs.Resolver.{Resolution}
 use Rattle.jl_resolve_forms.specs.Scopes.{slot_of, note, note_if, merge_fault, bind}
-use Rattle.jl_resolve_forms.specs.Functions.{place_of_callee, function_of, struct_of, callee_of, callee_from}
+use Rattle.jl_resolve_forms.specs.Functions.{place_of_callee, function_of, own_function, struct_of, callee_of, callee_from}
 use Rattle.jl_resolve_forms.specs.TypesIn.{Tests, declared_at, type_in_body, make_at, start_of}
-use Rattle.jl_resolve_forms.specs.Expressions.{Reads, Defines, Says, binds, returns, does, Evaluates, defines, evaluates, Shows, writes, shows, Tries, all_coded, one_said, all_said, block_of, one_shown, all_shown, bare_scope, one_evaluated, all_evaluated, one_tried, all_tried, local, latest, count_call, spawned, make_struct, make_args, call, made, is_a, is_below, method_signature, open_method, check_name, may_define, if_unknown, too_many, site_limit, names_in, method, reserve_site, close_site, site_of, inferred_refusal, parameters, static_parameters}
-use Rattle.jl_fault_laws.specs.Uses.{Visible, value, Use, used, Uses, Stated, each, with_names, block, bare, params_of, params_uses, type_names, names_told, if_read, makes, body_uses, built_uses, in_head, after_head, in_body, signature_uses, head_uses}
+use Rattle.jl_resolve_forms.specs.Expressions.{Reads, Defines, Says, binds, returns, does, Evaluates, defines, evaluates, Shows, writes, shows, Tries, all_coded, one_said, all_said, block_of, one_shown, all_shown, bare_scope, one_evaluated, all_evaluated, one_tried, all_tried, local, latest, count_call, spawned, make_struct, make_args, call, made, is_a, is_below, method_signature, delete_of, delete, is_signature, defined_function, open_method, check_name, may_define, if_unknown, too_many, site_limit, names_in, method, reserve_site, close_site, site_of, inferred_refusal, parameters, static_parameters}
+use Rattle.jl_fault_laws.specs.Uses.{Visible, value, Use, used, Uses, Stated, each, with_names, block, bare, params_of, params_uses, type_names, names_told, if_read, makes, body_uses, built_uses, deleted_uses, in_head, after_head, in_body, signature_uses, head_uses}
 use Rattle.jl_fault_laws.specs.Uses as U
 use Rattle.jl_fault_laws.specs.Rows.{is_taken, definitions}
 use Rattle.jl_fault_laws.specs.TypeRows.{struct_built, call_refusal, signature_at, signature_refusal, statics_of}
@@ -35,7 +36,7 @@ use Rattle.jl_fault_laws.proofs.Faults.{one, all_faults, faults_append, definiti
 use Rattle.jl_fault_laws.proofs.Adds.{Adds, adds_nothing, adds_joined, adds_alike, adds_same, note_if_same, merge_fault_same}
 use Rattle.jl_fault_laws.proofs.Plain.{both_plain, signature_plain, params_plain}
 use Rattle.jl_fault_laws.proofs.Merged.{merge_fault_told}
-use Rattle.jl_fault_laws.proofs.Names.{Knows, Sees, bind_sees, bind_adds, params_see, params_told, params_sites, statics_know, function_is, struct_is, called_at, makes_is, built_at}
+use Rattle.jl_fault_laws.proofs.Names.{Knows, Sees, bind_sees, bind_adds, params_see, params_told, params_sites, statics_know, function_is, own_is, struct_is, called_at, makes_is, built_at}
 
 -- what is told of the signature of a method
 pub record SignedTold (t : Tests) (k : Known) (types : ℕ) (h : Head) (v : Visible) : Type 0 where
@@ -49,6 +50,8 @@ pub record AreTold (t : Tests) (k : Known) : Type 0 where
   pub body : (text : TypeText) (c : Scope) (v : Visible) (s : State) → Sees t k c v → Adds t k (body_uses text v) s (type_in_body t k text c s).after
   pub made_of : (text : TypeText) (p : ℕ) (c : Scope) (v : Visible) (s : State) → Sees t k c v → struct_built k (out-TypeText text) v.names ≡ Some p
       → Adds t k (built_uses text v) s (make_at t k (start_of text) p (make_args (out-TypeText text)) c s).after
+  pub deletion : (text : TypeText) (f types : ℕ) (v : Visible) (s : State) → type_names (declared_at k types) ≡ v.types
+      → Adds t k (deleted_uses text v) s (delete_of t k (is_signature (out-TypeText text)) f text types s).after
   pub of_head : (types : ℕ) (h : Head) (v : Visible) → type_names (declared_at k types) ≡ v.types → SignedTold t k types h v
 
 module _ (t : Tests) (k : Known) where
@@ -314,6 +317,18 @@ module _ (t : Tests) (k : Known) where
     unknown_told : (at : ℕ) (f : Option ℕ) (s : State) → Tells (one (not (is_some f)) kind.UnknownFunction at ++ []) s.fault (note_if at (if_unknown f) s).fault
     unknown_told at None s = one_fault (record { at = at; kind = kind.UnknownFunction }) s.fault
     unknown_told at (Some f) s = nothing s.fault
+
+    pub delete_told : (n : Name) (ty : TypeText) → IsTold (λ v. used n.at (U.deleted n) v ∷ deleted_uses ty v) (delete t k n ty)
+    unfolding delete
+    delete_told n ty c v s a =
+        let o = own_function k n c in
+        let z = note_if n.at (if_unknown o) s in
+        let own = used n.at (U.deleted n) v ∷ [] in
+        adds_joined t k own (deleted_uses ty v) s z (delete_of t k (is_signature (out-TypeText ty)) (defined_function o) ty c.types z).after
+        (adds_alike t k own s z refl (note_if_same n.at (if_unknown o) s)
+        (λ m. same _ _ s.fault z.fault (λ i. (one (not (own_is k n c v.names a.slots i)) kind.UnknownFunction n.at ++ []) ++ [])
+        (same _ _ s.fault z.fault (sym (append-nil (one (not (is_some o)) kind.UnknownFunction n.at ++ []))) (unknown_told n.at o s))))
+        (types_told.deletion ty (defined_function o) c.types v z a.types)
 
     -- the lists of the notes at the name of a method, in the order of the rows
     in_rows : (rs ms cs us fs : List Fault) → (rs ++ ms) ++ ((cs ++ us) ++ fs) ≡ (rs ++ (ms ++ (cs ++ us))) ++ fs

@@ -171,6 +171,7 @@ module _ (t : Tests) (k : Known) (types_told : AreTold t k) where
         (D.block_told t k (map stmt_uses ss) (map (stmt_reads t k) ss) (stmts_told r ss gs) c v y.after h))
     expr_told _ _ (G.begin_end r a ss fs) = expr_at (F.Begin a ss) (E.Begin a ss) (E.rolls-Begin a ss) (D.block_told t k (map stmt_uses ss) (map (stmt_reads t k) ss) (stmts_told r ss fs))
     expr_told _ _ (G.latest r a c es is fs) = expr_at (F.Latest a c es) (E.Latest a c es) (E.rolls-Latest a c es) (D.latest_told t k c (map expr_uses es) (map (expr_reads t k) es) (exprs_told r es fs))
+    expr_told _ _ (G.delete r a x ty is f) = expr_at (F.Delete a x ty) (XV.Delete a x ty) (E.rolls-Delete a x ty) (D.delete_told t k types_told x ty)
     expr_told _ _ (G.spawn r a e f) = expr_at (F.Spawn a e) (E.Spawn a e) (E.rolls-Spawn a e) (D.spawned_told t k (expr_uses e) (expr_reads t k e) (expr_told false e f))
     expr_told _ _ (G.eval_method r a m f) = expr_at (F.EvalMethod a m) (E.EvalMethod a m) (E.rolls-EvalMethod a m) (λ c v s h. method_told m f c.types v s h.types)
     expr_told _ _ (G.eval_block r a xs fs) = expr_at (F.EvalBlock a xs) (E.EvalBlock a xs) (E.rolls-EvalBlock a xs) (λ c v s h. D.all_evaluated_told t k (map eval_uses xs) (map (eval_reads t k) xs) (evals_told xs fs) c.types v s h.types)

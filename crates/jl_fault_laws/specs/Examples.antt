@@ -84,6 +84,14 @@ with_unknown_type = with_line (E.Isa 13 (one_at 13) (TV.Name 19 (R ∷ [])))
 abbrev pub with_two_variables : List Item
 with_two_variables = with_line (E.Isa 13 (one_at 13) (V.Paren 19 (TV.Name 20 (codes "Int")) (VV.Free 31 (T ∷ []) ∷ VV.Free 34 (T ∷ []) ∷ [])))
 
+-- `y = Base.delete_method(which(div, Int))`
+abbrev pub with_prelude_deletion : List Item
+with_prelude_deletion = with_line (X.Delete 13 (record { at = 38; bytes = codes "div" }) (TV.Name 43 (codes "Int")))
+
+-- `y = Base.delete_method(which(f, Int))`
+abbrev pub with_deletion : List Item
+with_deletion = with_line (X.Delete 13 (name_at 38 f) (TV.Name 41 (codes "Int")))
+
 -- `y = f(1)`, and on a third line `f = 1`
 abbrev pub with_function_name : List Item
 with_function_name = good ++ N.Bind (name_at 18 f) (one_at 22) ∷ []

@@ -7,6 +7,7 @@ use Rattle.jl_program.specs.Prelude.{prelude_functions}
 use Rattle.jl_grammar.specs.declared.tree.Callee.{Callee}
 use Rattle.jl_grammar.specs.declared.tree.Callee.TheVariants as C
 use Rattle.jl_grammar.specs.declared.tree.Item.{Item}
+use Rattle.jl_grammar.specs.declared.tree.Name.{Name}
 use Rattle.jl_grammar.specs.Marks.{is_function}
 use Rattle.jl_written.specs.Answered.{comes_before}
 use Rattle.jl_written.specs.declared.fault.Fault.{Fault}
@@ -15,7 +16,7 @@ use Rattle.jl_written.specs.declared.fault.StaticKind.TheVariants as kind
 use Rattle.jl_resolve_forms.specs.declared.known.Known.{Known}
 use Rattle.jl_resolve_forms.specs.Expressions.{names_in}
 use Rattle.jl_resolve_forms.specs.TypesIn.{Tests}
-use Rattle.jl_fault_laws.specs.Uses.{Names, Visible, How, value, called, made, latest, defined, bound, shared, type_variable, declared_type, plain_type, braced_type, Use, declares, names_told, makes, is_type, takes_braces, uses_of}
+use Rattle.jl_fault_laws.specs.Uses.{Names, Visible, How, value, called, made, latest, deleted, defined, bound, shared, type_variable, declared_type, plain_type, braced_type, Use, declares, names_told, makes, is_type, takes_braces, uses_of}
 
 -- a struct of the script, which no variable hides
 abbrev pub is_struct : Known → Callee → Names → Bool
@@ -35,13 +36,18 @@ abbrev pub unknown_name : How → Visible → Bool
 unknown_name (value n) v = not (is_among n v.names)
 unknown_name _ v = false
 
--- UnknownFunction: a called name is no struct and no function; one before braces is no struct; and one that
--- `Base.invokelatest` calls, or that a method is added to, is no function
+-- a function of the script and none of the prelude, which no variable hides
+abbrev pub has_own_function : Known → Name → Names → Bool
+has_own_function k n vs = not (is_among n.bytes vs) && (not (is_among n.bytes prelude_functions) && is_among n.bytes k.functions)
+
+-- UnknownFunction: a called name is no struct and no function; one before braces is no struct; one that `Base.invokelatest` calls,
+-- or that a method is added to, is no function; and one whose methods are deleted is no function of the script
 abbrev pub unknown_function : Known → How → Visible → Bool
 unknown_function k (called f m) v = not (is_struct k f v.names) && not (has_function k f v.names)
 unknown_function k (made t) v = not (makes (names_told k) t v)
 unknown_function k (latest f m) v = not (has_function k f v.names)
 unknown_function k (defined h) v = not (has_function k h.callee v.names)
+unknown_function k (deleted n) v = not (has_own_function k n v.names)
 unknown_function k _ v = false
 
 -- UnknownType: a name that must be a type is none there: not declared before and no type variable, or `Union` or `Tuple` without

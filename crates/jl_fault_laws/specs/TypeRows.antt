@@ -19,13 +19,13 @@ use Rattle.jl_written.specs.declared.fault.StaticKind.{StaticKind}
 use Rattle.jl_written.specs.declared.fault.StaticKind.TheVariants as kind
 use Rattle.jl_written.specs.declared.reading.TypeVar.{TypeVar}
 use Rattle.jl_written.specs.Meaning.{place_of, var_of}
-use Rattle.jl_written.specs.Signatures.{adopt_bounds, written_of, signature, body_type, constructor_type}
+use Rattle.jl_written.specs.Signatures.{Signature, adopt_bounds, written_of, signature, tuple_signature, body_type, constructor_type}
 use Rattle.jl_resolve_forms.specs.declared.known.Known.{Known}
 use Rattle.jl_resolve_forms.specs.declared.state.Signed.{Signed}
-use Rattle.jl_resolve_forms.specs.Expressions.{type_of, make_args, judge_signature, static_parameters, inferred_refusal}
+use Rattle.jl_resolve_forms.specs.Expressions.{type_of, make_args, is_signature, signature_args, signature_vars, judge_signature, static_parameters, inferred_refusal}
 use Rattle.jl_resolve_forms.specs.Functions.{if_struct}
 use Rattle.jl_resolve_forms.specs.TypesIn.{Tests, one_type}
-use Rattle.jl_fault_laws.specs.Uses.{Names, Visible, How, called, built, defined, plain_type, written, Use, each, names_told, type_names, type_uses, arg_uses, signature_uses, uses_of}
+use Rattle.jl_fault_laws.specs.Uses.{Names, Visible, How, called, built, defined, plain_type, written, deleted_by, Use, each, names_told, type_names, type_uses, arg_uses, tuple_uses, signature_uses, uses_of}
 use Rattle.jl_fault_laws.specs.Rows.{unknown_type, rebound}
 
 -- the first declared types, as many as have a visible name
@@ -69,6 +69,10 @@ unless_hidden us o = if any_hides us then None else o
 -- a variable that is brought where none may be comes first
 abbrev pub unless_misplaced : Bool → Option StaticKind → Option StaticKind
 unless_misplaced misplaced o = if misplaced then Some kind.VariablePlace else o
+
+-- what the type of a deletion means as a signature after these types
+unfoldable pub deleted_at : Known → TypeText → Names → Signature
+deleted_at k text types = tuple_signature (declared_before k types) (signature_args (out-TypeText text)) (signature_vars (out-TypeText text))
 
 module _ (t : Tests) (k : Known) where
   -- what the signature of a method means after these types
@@ -119,6 +123,14 @@ module _ (t : Tests) (k : Known) where
   call_refusal None = None
   call_refusal (Some p) = if nat_eq (length (params_of (slice_get k.decls p))) 0 then None else inferred_refusal t k p
 
+  -- what refuses the type of a deletion: it must be a tuple, and its signature one that is allowed
+  unfoldable pub deleted_refusal : TypeText → Visible → Option StaticKind
+  deleted_refusal text v =
+      let ts = (deleted_at k text v.types).types in
+      if is_signature (out-TypeText text)
+      then unless_misplaced ts.after.misplaced (unless_hidden (tuple_uses (signature_args (out-TypeText text)) (signature_vars (out-TypeText text)) v) (t.signature (written_of t.below ts)))
+      else Some kind.BadType
+
   -- what refuses a use for its types
   abbrev pub refused_by : How → Visible → Option StaticKind
   refused_by (called f n) v = call_refusal (struct_called k f v.names)
@@ -126,6 +138,7 @@ module _ (t : Tests) (k : Known) where
   refused_by (defined h) v = signature_refusal h v
   refused_by (plain_type n) v = if is_barred n v then Some kind.StaticParameterUse else None
   refused_by (written text) v = type_refusal text v
+  refused_by (deleted_by text) v = deleted_refusal text v
   refused_by _ v = None
 
 -- one of these uses is refused for its types, and the fault stands there

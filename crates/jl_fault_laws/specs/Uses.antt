@@ -1,6 +1,6 @@
 -- The uses of names in a script, each with what is visible there (Julia manual, Scope of Variables; Types): where a name is a
--- value, where a function or a constructor is called, where a method is added to a function, where a name stands for a type,
--- and where a variable, a type variable or a type gets its name. Neither faults nor slots nor code are named here.
+-- value, where a function or a constructor is called, where a method is added to a function or deleted, where a name stands for a
+-- type, and where a variable, a type variable or a type gets its name. Neither faults nor slots nor code are named here.
 use Rattle.std.specs.Prelude.{ℕ, ◌+◌, max, Bool, false, ◌&&◌, ◌||◌, not, if◌then◌else◌, codes, List, [], ◌∷◌, ◌++◌, map, take, length, Option, Some, None, is_some}
 use Rattle.jl_model.specs.declared.ty.Decl.{Decl}
 use Rattle.jl_program.specs.Names.{same_text, is_among}
@@ -30,7 +30,7 @@ use Rattle.jl_grammar.specs.declared.tree.Stmt.{Stmt}
 use Rattle.jl_model.specs.declared.builtin.TheConstants.{BUILTIN_TYPES}
 use Rattle.jl_written.specs.Meaning.{place_of}
 use Rattle.jl_resolve_forms.specs.declared.known.Known.{Known}
-use Rattle.jl_resolve_forms.specs.Expressions.{make_args, type_of}
+use Rattle.jl_resolve_forms.specs.Expressions.{make_args, is_signature, signature_args, signature_vars, type_of}
 use Rattle.jl_resolve_forms.specs.Functions.{if_struct, place_of_callee}
 use Rattle.jl_resolve_forms.specs.Top.{first_at}
 use Rattle.jl_resolve_forms.specs.TypesIn.{start_of}
@@ -87,6 +87,8 @@ pub data How : Type 0 where
   built : TypeText → How
   -- called by `Base.invokelatest` with so many arguments
   latest : Callee → ℕ → How
+  -- methods of it are deleted
+  deleted : Name → How
   -- a method with this head is added to it
   defined : Head → How
   -- a variable gets it
@@ -103,6 +105,8 @@ pub data How : Type 0 where
   braced_type : List ℕ → How
   -- as the first of a type that is written in a body
   written : TypeText → How
+  -- as the first of a type that tells which methods are deleted
+  deleted_by : TypeText → How
 
 -- a use of a name: where it stands, and what is visible there
 pub record Use : Type 0 where
@@ -229,6 +233,13 @@ body_uses t v = used (start_of t) (written t) v ∷ type_uses t v
 abbrev pub built_uses : TypeText → Uses
 built_uses t v = used (start_of t) (built t) v ∷ each (map arg_uses (make_args (out-TypeText t))) v
 
+-- the type of a deletion sees no type variable but its own
+abbrev pub tuple_uses : List ArgText → List VarText → Uses
+tuple_uses xs ws v = brought (map var_uses ws) (bare v) ++ each (map arg_uses xs) (with_vars (map var_uses ws) (bare v))
+
+abbrev pub deleted_uses : TypeText → Uses
+deleted_uses t v = used (start_of t) (deleted_by t) (bare v) ∷ if_read (is_signature (out-TypeText t)) (tuple_uses (signature_args (out-TypeText t)) (signature_vars (out-TypeText t)) v)
+
 -- ---- of a method up to its body
 
 -- its types see the variables of its `where`
@@ -281,6 +292,7 @@ module _ (g : ScriptNames) where
   expr_step (F.IfElse at bs ss) v = each bs v ++ block ss v
   expr_step (F.Begin at ss) v = block ss v
   expr_step (F.Latest at f xs) v = each xs v ++ used (place_of_callee f) (latest f (length xs)) v ∷ []
+  expr_step (F.Delete at n ty) v = used n.at (deleted n) v ∷ deleted_uses ty v
   expr_step (F.Spawn at x) v = x v
   expr_step (F.EvalMethod at m) v = m v
   expr_step (F.EvalBlock at xs) v = each xs v

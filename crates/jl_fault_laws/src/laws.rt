@@ -8,8 +8,8 @@ ghost use Rattle.jl_written.specs.declared.fault.Fault.{Fault};
 ghost use Rattle.jl_resolve_forms.specs.declared.known.Known.{Known};
 ghost use Rattle.jl_resolve_forms.specs.Top.{resolve};
 ghost use Rattle.jl_resolve_forms.specs.TypesIn.{Tests};
-ghost use Rattle.jl_written.specs.declared.fault.StaticKind.TheVariants.{UnknownName, UnknownFunction, UnknownType, TooManyArguments, TooManySites, Rebound, NameClash, StaticParameterUse};
-ghost use Rattle.jl_fault_laws.specs.Examples.{known, good, with_unknown_name, with_unknown_function, with_many_arguments, with_unknown_type, with_two_variables, with_function_name, with_two_bindings, with_built_in, known_struct, with_inferred, method_at, lines, fault};
+ghost use Rattle.jl_written.specs.declared.fault.StaticKind.TheVariants.{UnknownName, UnknownFunction, UnknownType, TooManyArguments, TooManySites, Rebound, NameClash, StaticParameterUse, BadType};
+ghost use Rattle.jl_fault_laws.specs.Examples.{known, good, with_unknown_name, with_unknown_function, with_many_arguments, with_unknown_type, with_two_variables, with_prelude_deletion, with_deletion, with_function_name, with_two_bindings, with_built_in, known_struct, with_inferred, method_at, lines, fault};
 ghost use Rattle.jl_fault_laws.specs.Rows.{has_row, HoldsAt, IsReportedBy, TellTypes};
 ghost use Rattle.jl_fault_laws.specs.TypeRows.{RefusedAt};
 
@@ -53,6 +53,8 @@ pub fn law_examples()
     ensures built_in { HoldsAt known with_built_in (fault 18 NameClash) }
     ensures sites { (n at : ℕ) → MOST_SITES ≤ n
         → HoldsAt known (lines n 0 ++ method_at at ∷ []) (fault at TooManySites) }
+    ensures deletion { HoldsAt known with_prelude_deletion (fault 38 UnknownFunction) }
+    ensures no_tuple { (t : Tests) → RefusedAt t known with_deletion (fault 41 BadType) }
     ensures inferred { (t : Tests)
         → RefusedAt t known_struct with_inferred (fault 16 StaticParameterUse) }
 {}

@@ -2,7 +2,7 @@
 use Rattle.std.proofs.Common.{◌≡◌, ◌↔◌, refl, inr, Bool, true, false, ℕ, ◌-◌, ◌<◌, List, [], ◌∷◌, ◌++◌, sym, ap, ◌∙◌, subst, arith, add-zero}
 use Rattle.jl_program.specs.declared.value.Value.{Value}
 use Rattle.jl_program.specs.declared.value.Value.TheVariants as V
-use Rattle.jl_program.specs.declared.fault.Fault.TheVariants.{WorldLimit, TaskLimit, TaskFailed, NotTask}
+use Rattle.jl_program.specs.declared.fault.Fault.TheVariants.{WorldLimit, TaskLimit, TaskFailed, NotTask, NoSuchMethod}
 use Rattle.jl_program.specs.declared.tree.Expr.{Expr, out-Expr}
 use Rattle.jl_program.specs.declared.tree.Item.{Item, out-Item}
 use Rattle.jl_program.specs.declared.tree.Stmt.{Stmt}
@@ -12,10 +12,10 @@ use Rattle.jl_program.specs.declared.tree.Expr.TheOpen as F
 use Rattle.jl_program.specs.declared.tree.Start.{Start}
 use Rattle.jl_program.specs.TypeOf.{type_of}
 use Rattle.jl_calculus.specs.declared.history.TraceItem.{TraceItem}
-use Rattle.jl_calculus.specs.declared.history.TraceItem.TheVariants.{Look, Def, Spawn, Fetch, WorldFull, TaskFull}
+use Rattle.jl_calculus.specs.declared.history.TraceItem.TheVariants.{Look, Def, Del, Spawn, Fetch, WorldFull, TaskFull, Absent}
 use Rattle.jl_calculus.specs.declared.history.Outcome.{Outcome}
 use Rattle.jl_calculus.specs.declared.history.Outcome.TheVariants as O
-use Rattle.jl_calculus.specs.Run.{a_look, a_definition, a_spawn, a_fetch, fetches, fetches_value}
+use Rattle.jl_calculus.specs.Run.{a_look, a_definition, a_deletion, a_spawn, a_fetch, deleted_function, deletes, fetches, fetches_value}
 use Rattle.jl_point.specs.declared.point.Work.{Work}
 use Rattle.jl_point.specs.declared.point.Work.TheVariants.{Give, Acting, Calling, Items, Defining, Ended}
 use Rattle.jl_point.specs.Turns.{Point, scoped, begun_item, looked_item, answered, start_of}
@@ -23,9 +23,9 @@ use Rattle.jl_point.specs.Point.{value_at, gives, state_of}
 use Rattle.jl_point.specs.ValidPoint.{IsGoodPoint}
 use Rattle.jl_point.specs.Weight.{load}
 use Rattle.jl_point.specs.Worlds.{IsBetween, IsCallWorld, IsWithin}
-use Rattle.jl_point.proofs.Asking.{item_looks, item_looked, acts_same, goes_look, goes_definition, goes_spawn, goes_fetch}
+use Rattle.jl_point.proofs.Asking.{item_looks, item_looked, acts_same, goes_look, goes_definition, goes_deletion, goes_spawn, goes_fetch}
 use Rattle.jl_point.proofs.Weighing.{item_layer, item_weighs}
-use Rattle.jl_dispatcher.specs.Knows.{Knows, Grew, Looked, Asked, Defined, WorldsFull, Spawned, TasksFull, Fetched}
+use Rattle.jl_dispatcher.specs.Knows.{Knows, Grew, Looked, Asked, Defined, Deleted, IsAbsentNow, WorldsFull, Spawned, TasksFull, Fetched}
 use Rattle.jl_fit.specs.Asks.{Job, Over, over, Ending, EndsAs, FinishesTo, Asks}
 use Rattle.jl_fit.specs.Fits.{Progress, FitsWith, job_of, Fitting, Steps, Waits, fetched_outcome}
 use Rattle.jl_fit.proofs.Fitting.{both_ways, grown, item_fits, asks_by}
@@ -149,6 +149,81 @@ module _ (k k' : Knows) (t : Progress) (site : ℕ) (fresh : Bool) (xs : List It
             (λ x rest e. subst (λ starts. FinishesTo (job_of k t.fuel) x (Defining site fresh xs, t.now) t.calls k.starts (WorldFull k'.seen ∷ rest) e ↔ FinishesTo (job_of k t.fuel) x (Ended (O.Error WorldLimit), t.now) t.calls starts rest e) (sym d.starts) (λ r. r, λ r. r));
         lighter = omega arith;
         tells = inr (WorldFull k'.seen, a_definition site, refl, tt, d.starts, asks_definition);
+        follows = λ c. d.follows c t.trace;
+      }
+
+-- ---- a deletion
+
+module _ (k k' : Knows) (t : Progress) (e : Expr) (place : ℕ) (vs : List Value) (is : out-Expr e ≡ F.Delete place) (grew : Grew k k') (h : Fitting k (Acting e vs) t) where
+  abbrev of_task : Job
+  of_task = job_of k t.fuel
+
+  -- what the rules do here
+  deletes_here : (x : Over) (o : Ending) (rest : List TraceItem) → FinishesTo of_task x (Acting e vs, t.now) t.calls k.starts rest o ≡ deletes (over of_task x) (EndsAs o) rest place (state_of t.now t.calls k.starts rest) (gives (over of_task x) (EndsAs o) t.now.stack t.now.world t.now.room V.Nothing)
+  deletes_here x o rest = acts_same (over of_task x) (EndsAs o) t.calls k.starts t.now e (F.Delete place) vs rest is
+
+  asks_deletion : Asks of_task k t.trace (a_deletion place)
+  asks_deletion =
+      asks_by of_task k (Acting e vs) t (a_deletion place) h
+      (λ x rest o r. goes_deletion (over of_task x) (EndsAs o) rest place (state_of t.now t.calls k.starts rest) _ ((both_ways _ _ (sym (deletes_here x o rest))).0 r))
+      (λ x o r. (both_ways _ _ (deletes_here x o [])).0 r)
+
+  deletion_within : (work : Work) → IsWithin k'.world (Acting e vs, t.now)
+  deletion_within work = record { world = between_up t.now.world k.world k'.world grew.world h.worlds.world; waiting = worlds_up t.now.stack k.world k'.world grew.world h.worlds.waiting; called = tt }
+
+  deleted_same : (x : Over) (o : Ending) (rest : List TraceItem) (p : ℕ) → FinishesTo of_task x (Give V.Nothing, t.now) t.calls k.starts rest o ↔ deletes (over of_task x) (EndsAs o) (Del place p ∷ rest) place (state_of t.now t.calls k.starts (Del place p ∷ rest)) (gives (over of_task x) (EndsAs o) t.now.stack t.now.world t.now.room V.Nothing)
+  deleted_same x o rest p = (λ r. (refl, r), λ r. r.1)
+
+  absent_same : (x : Over) (o : Ending) (rest : List TraceItem) (p : ℕ)
+      → FinishesTo of_task x (Ended (O.Error (NoSuchMethod (deleted_function k.program place))), t.now) t.calls k.starts rest o ↔ deletes (over of_task x) (EndsAs o) (Absent place p ∷ rest) place (state_of t.now t.calls k.starts (Absent place p ∷ rest)) (gives (over of_task x) (EndsAs o) t.now.stack t.now.world t.now.room V.Nothing)
+  absent_same x o rest p = (λ r. (refl, r), λ r. r.1)
+
+  pub step_deleted : Deleted k k' place → IsGoodPoint k.program h.valid.views (Give V.Nothing, t.now)
+      → Steps k (Acting e vs) t k' (Give V.Nothing) (record t { trace = t.trace ++ Del place (k'.seen - 1) ∷ [] })
+  step_deleted d good =
+      let at = d.place in
+      let ws = deletion_within (Acting e vs) in
+      let i = Del place (k'.seen - 1) in
+      record {
+        fits = item_fits of_task k k' (Acting e vs) t h (Give V.Nothing, t.now) i grew d.told (omega (arith, at)) (omega (arith, at)) (d.looks ∙ sym (add-zero k.looks)) d.own
+            (record { world = ws.world; waiting = ws.waiting; called = tt }) good
+            (λ x rest o. subst (λ starts. FinishesTo of_task x (Acting e vs, t.now) t.calls k.starts (i ∷ rest) o ↔ FinishesTo of_task x (Give V.Nothing, t.now) t.calls starts rest o) (sym d.starts)
+            (let same = both_ways _ _ (sym (deletes_here x o (i ∷ rest))) in let go = deleted_same x o rest (k'.seen - 1) in (λ r. go.1 (same.0 r), λ r. same.1 (go.0 r))));
+        lighter = omega arith;
+        tells = inr (i, a_deletion place, refl, refl, d.starts, asks_deletion);
+        follows = λ c. d.follows c t.trace;
+      }
+
+  pub step_absent : IsAbsentNow k k' place → IsGoodPoint k.program h.valid.views (Ended (O.Error (NoSuchMethod (deleted_function k.program place))), t.now)
+      → Steps k (Acting e vs) t k' (Ended (O.Error (NoSuchMethod (deleted_function k.program place)))) (record t { trace = t.trace ++ Absent place k'.seen ∷ [] })
+  step_absent d good =
+      let s = grew.seen in
+      let ws = deletion_within (Acting e vs) in
+      let i = Absent place k'.seen in
+      let ends : Outcome = O.Error (NoSuchMethod (deleted_function k.program place)) in
+      record {
+        fits = item_fits of_task k k' (Acting e vs) t h (Ended ends, t.now) i grew d.told (omega (arith, s)) (omega arith) (d.looks ∙ sym (add-zero k.looks)) (d.own ∙ sym (append_nil k.own))
+            (record { world = ws.world; waiting = ws.waiting; called = tt }) good
+            (λ x rest o. subst (λ starts. FinishesTo of_task x (Acting e vs, t.now) t.calls k.starts (i ∷ rest) o ↔ FinishesTo of_task x (Ended ends, t.now) t.calls starts rest o) (sym d.starts)
+            (let same = both_ways _ _ (sym (deletes_here x o (i ∷ rest))) in let go = absent_same x o rest k'.seen in (λ r. go.1 (same.0 r), λ r. same.1 (go.0 r))));
+        lighter = omega arith;
+        tells = inr (i, a_deletion place, refl, refl, d.starts, asks_deletion);
+        follows = λ c. d.follows c t.trace;
+      }
+
+  pub step_deletion_full : WorldsFull k k' → IsGoodPoint k.program h.valid.views (Ended (O.Error WorldLimit), t.now)
+      → Steps k (Acting e vs) t k' (Ended (O.Error WorldLimit)) (record t { trace = t.trace ++ WorldFull k'.seen ∷ [] })
+  step_deletion_full d good =
+      let s = grew.seen in
+      let ws = deletion_within (Acting e vs) in
+      let i = WorldFull k'.seen in
+      record {
+        fits = item_fits of_task k k' (Acting e vs) t h (Ended (O.Error WorldLimit), t.now) i grew d.told (omega (arith, s)) (omega arith) (d.looks ∙ sym (add-zero k.looks)) (d.own ∙ sym (append_nil k.own))
+            (record { world = ws.world; waiting = ws.waiting; called = tt }) good
+            (λ x rest o. subst (λ starts. FinishesTo of_task x (Acting e vs, t.now) t.calls k.starts (i ∷ rest) o ↔ FinishesTo of_task x (Ended (O.Error WorldLimit), t.now) t.calls starts rest o) (sym d.starts)
+            (both_ways _ _ (sym (deletes_here x o (i ∷ rest)))));
+        lighter = omega arith;
+        tells = inr (i, a_deletion place, refl, tt, d.starts, asks_deletion);
         follows = λ c. d.follows c t.trace;
       }
 

@@ -286,6 +286,7 @@ module _ (K : ℕ → Type 0) where
     operated_mentions statics (E.Block xs) vs o h a = absurd a
     operated_mentions statics (E.Eval xs) vs o h a = absurd a
     operated_mentions statics (E.Spawn place) vs o h a = absurd a
+    operated_mentions statics (E.Delete place) vs o h a = absurd a
     operated_mentions statics (E.Fetch e) vs o h a = absurd a
     operated_mentions statics (E.Print ps line) vs o h a = absurd a
 
@@ -350,6 +351,7 @@ module _ (K : ℕ → Type 0) where
     leaf_mentions (E.Block xs) = tt
     leaf_mentions (E.Eval xs) = tt
     leaf_mentions (E.Spawn place) = tt
+    leaf_mentions (E.Delete place) = tt
     leaf_mentions (E.Fetch a) = tt
     leaf_mentions (E.Print ps line) = tt
 
@@ -385,6 +387,7 @@ module _ (K : ℕ → Type 0) where
     layer_mentions e (E.Block xs) = record { env = env; stack = (env, stack); work = nothing_mentions }
     layer_mentions e (E.Eval xs) = record { env = tt; stack = (env, stack); work = nothing_mentions }
     layer_mentions e (E.Spawn place) = record { env = env; stack = stack; work = tt }
+    layer_mentions e (E.Delete place) = record { env = env; stack = stack; work = tt }
     layer_mentions e (E.Fetch a) = args_mention e [] (a ∷ []) tt
     layer_mentions e (E.Print ps line) = record { env = env; stack = stack; work = tt }
 
@@ -412,6 +415,7 @@ module _ (K : ℕ → Type 0) where
     branch_mentions (E.Block xs) t = record { env = env; stack = stack; work = tt }
     branch_mentions (E.Eval xs) t = record { env = env; stack = stack; work = tt }
     branch_mentions (E.Spawn place) t = record { env = env; stack = stack; work = tt }
+    branch_mentions (E.Delete place) t = record { env = env; stack = stack; work = tt }
     branch_mentions (E.Fetch a) t = record { env = env; stack = stack; work = tt }
     branch_mentions (E.Print xs line) t = record { env = env; stack = stack; work = tt }
 

@@ -83,6 +83,7 @@ module _ (k : Knows) (t : Progress) where
     leaf_begun e (F.Block xs) v n h = absurd (cc)
     leaf_begun e (F.Eval xs) v n h = absurd (cc)
     leaf_begun e (F.Spawn place) v n h = absurd (cc)
+    leaf_begun e (F.Delete place) v n h = absurd (cc)
     leaf_begun e (F.Fetch a) v n h = absurd (cc)
     leaf_begun e (F.Print ps line) v n h = absurd (cc)
 
@@ -122,6 +123,7 @@ module _ (k : Knows) (t : Progress) where
     skip_layer_far e (F.Block xs) n f = f
     skip_layer_far e (F.Eval xs) n f = f
     skip_layer_far e (F.Spawn place) n f = f
+    skip_layer_far e (F.Delete place) n f = f
     skip_layer_far e (F.Print ps line) n f = f
 
     begun_by : (e : Expr) (n : Now) (o : Option Value) → leaf n.env (out-Expr e) ≡ o → Far k t most (begun e n) → Far k t most (by_leaf o (λ v. (Give v, n)) (skip_layer e (out-Expr e) n))

@@ -45,7 +45,7 @@ pub record Progress : Type 0 where
   pub now : Now
 
 -- A task that has this to do next, and has come so far in this job. What it did and a rest are a run exactly where the rules finish from
--- here with that rest; its items are learnt and in order, and its looks, definitions and spawns are those of the dispatcher.
+-- here with that rest; its items are learnt and in order, and its looks, definitions, deletions and spawns are those of the dispatcher.
 pub record FitsWith (j : Job) (k : Knows) (w : Work) (t : Progress) : Type 0 where
   pub program : k.program ≡ j.program
   pub start : k.start ≡ j.start
@@ -107,7 +107,8 @@ pub record IsFresh (k : Knows) : Type 0 where
   pub begun : k.first ≤ k.seen
 
 -- what a task did is a run, over every list of events that agrees, and the only one that has its trace and more; its items are learnt
--- and in order, its looks and its own definitions and spawns are those of the dispatcher, and it fetched and mentions only tasks that it knows
+-- and in order, its looks and its own definitions, deletions and spawns are those of the dispatcher, and it fetched and mentions only tasks
+-- that it knows
 pub record IsRunOf (j : Job) (k : Knows) (r : Record) : Type 0 where
   pub program : k.program ≡ j.program
   pub start : k.start ≡ j.start

@@ -30,6 +30,7 @@ module _ (q : Bool) where
     freed-expr _ _ (F.if_else r a bs ss fs gs) h = F.if_else q a bs ss (freed-branches r bs fs h) (freed-stmts r ss gs h)
     freed-expr _ _ (F.begin_end r a ss fs) h = F.begin_end q a ss (freed-stmts r ss fs h)
     freed-expr _ _ (F.latest r a c es is fs) h = F.latest q a c es is (freed-exprs r es fs h)
+    freed-expr _ _ (F.delete r a x t is f) h = F.delete q a x t is f
     freed-expr _ _ (F.spawn r a e f) h = F.spawn q a e f
     freed-expr _ _ (F.eval_method r a m f) h = F.eval_method q a m f
     freed-expr _ _ (F.eval_block r a xs fs) h = F.eval_block q a xs fs

@@ -93,6 +93,10 @@ mutual
   formed-atom _ _ _ _ _ (GR.eval_expr r b e p ts is d) s = expr_form r p.at (M.depth_around e.depth) _ (λ l. F.eval_expr r p.at e.tree (formed_expression false e ts d s.1))
   formed-atom _ _ _ _ _ (GR.eval_quote r b n xs p q v j z ts is nt d) s =
       expr_form r p.at (M.depth_around (M.depth_around xs.depth)) _ (λ l. F.eval_quote r p.at xs.trees (formed-eval-block xs ts d (text_split ts (wrd w.End j ∷ opr o.CloseParen z ∷ []) s.1.1.1).0 (block-fits xs.depth l)))
+  formed-atom _ _ _ _ _ (GR.delete r b n m f t p q j v x y z w k l ts is nt d) s =
+      let a = text_split ts (opr o.CloseParen k ∷ opr o.CloseParen l ∷ []) s.1.1.1.1.1.1.1.1 in
+      expr_form r p.at (M.depth_around (type_as_read t).depth) _ (λ h. F.delete r p.at (name_in f z) (type_as_read t).tree s.1.1.1.1.1.1.0
+      (formed_type_as_read t (formed_type t (lexemes ts) d a.0) (depth_around-fits (type_as_read t).depth h)))
   formed-atom _ _ _ _ _ (GR.fetch r b n e p q v ts is nt d) s =
       expr_form r p.at (M.depth_around e.depth) _ (λ l. F.fetch r p.at e.tree (formed_expression r e ts d (text_split ts (opr o.CloseParen v ∷ []) s.1.1).0))
   formed-atom _ _ _ _ _ (GR.print_none r b y n p q v is nt) s = F.print r p.at y [] (F.no_pieces r)

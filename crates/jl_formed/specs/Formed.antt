@@ -127,6 +127,7 @@ mutual
     if_else : (r : Bool) (a : ℕ) (bs : List Branch) (ss : List Stmt) → FormedBranches r bs → FormedStmts r ss → FormedExpr r (E.IfElse a bs ss)
     begin_end : (r : Bool) (a : ℕ) (ss : List Stmt) → FormedStmts r ss → FormedExpr r (E.Begin a ss)
     latest : (r : Bool) (a : ℕ) (f : Callee) (es : List Expr) → FormedCallee f → FormedExprs r es → FormedExpr r (E.Latest a f es)
+    delete : (r : Bool) (a : ℕ) (x : Name) (t : TypeText) → IsName x.bytes → FormedType t → FormedExpr r (X.Delete a x t)
     -- a task has no method to return from
     spawn : (r : Bool) (a : ℕ) (e : Expr) → FormedExpr false e → FormedExpr r (E.Spawn a e)
     eval_method : (r : Bool) (a : ℕ) (m : Method) → FormedMethod m → FormedExpr r (E.EvalMethod a m)

@@ -34,6 +34,7 @@ use Rattle.jl_grammar.specs.declared.state.State.{State}
 use Rattle.jl_grammar.specs.declared.state.TypeForm.{TypeForm}
 use Rattle.jl_grammar.specs.declared.tree.Callee.{Callee}
 use Rattle.jl_grammar.specs.declared.tree.Callee.TheVariants as F
+use Rattle.jl_grammar.specs.declared.tree.Expr.{Expr}
 use Rattle.jl_grammar.specs.declared.tree.Head.{Head}
 use Rattle.jl_grammar.specs.declared.tree.Header.{Header}
 use Rattle.jl_grammar.specs.declared.tree.Item.{Item}
@@ -112,6 +113,7 @@ GoalFits (G.Isa p e) K = Fits p.lead K
 GoalFits (G.Left p a) K = Fits p.lead K
 GoalFits (G.Right p a t) K = Fits p.lead K
 GoalFits (G.Make p a) K = Fits p.lead K
+GoalFits (G.Delete p a n) K = Fits p.lead K
 GoalFits (G.Param h x a) K = PlaceFits h.start.place K
 GoalFits (G.Parent d) K = IsBottom K
 GoalFits (G.Field f n) K = IsBottom K
@@ -138,6 +140,7 @@ sound_goal _ _ _ _ _ (PT.goal_isa p e q K xs d ts us vs l t st s) = sound_led K 
 sound_goal _ _ _ _ _ (PT.goal_left p a K xs d ts us l t) = sound_led K xs p.lead p.outer p.returns d ts l
 sound_goal _ _ _ _ _ (PT.goal_right p s q K xs d ts us vs l t st m i) = sound_led K xs p.lead p.outer p.returns d ts l
 sound_goal _ _ _ _ _ (PT.goal_make p a K xs d ts us l ls) = sound_led K xs p.lead p.outer p.returns d ts l
+sound_goal _ _ _ _ _ (PT.goal_delete p a f q K xs d ts us vs l ls st x) = sound_led K xs p.lead p.outer p.returns d ts l
 sound_goal _ _ _ _ _ (PT.goal_param h n q s K xs ts t) = sound_heading K xs h ts t
 sound_goal _ _ _ _ _ (PT.goal_unnamed h q K xs ts t) = sound_heading K xs h ts t
 sound_goal _ _ _ _ _ (PT.goal_parent x q xs ts t) = (tt, tt)
@@ -222,6 +225,11 @@ header_done : Keeps → (k : Bool) (h : Form Header) (xs : ItemsRead) (ts : Text
 header_done keeps true h xs ts g = made_completes keeps (M.struct_item h M.no_forms) xs ts g
 header_done keeps false h xs ts g = made_completes keeps (M.abstract_item h) xs ts g
 
+-- behind a whole form, before the bracket that ends it
+ending_completes : Keeps → (p : Pending) (e : Form Expr) (K : List Frame) → Fits p.lead K → Sound K → (xs : ItemsRead) (ts : Text) → Has (P.Ending p e) K xs ts → Completes ts
+ending_completes keeps p e K f s xs ts h = by_token keeps (opr o.CloseParen nowhere) refl (P.Ending p e) K xs ts h (λ g.
+    have_completes keeps K (all_end keeps K) s p e xs (ts ++ opr o.CloseParen nowhere ∷ []) f g)
+
 -- behind a whole type
 type_done : Keeps → (g : Goal) (K : List Frame) → GoalFits g K → Sound K → (t : TypeForm) (xs : ItemsRead) (ts : Text) →
     ((l : Marked) → is_end l.lexeme.terminal ≡ false → HasSome (MC.token_after_type l.lexeme.terminal l.lexeme.at g t K xs) (ts ++ l ∷ [])) → Completes ts
@@ -251,6 +259,9 @@ type_done keeps (G.Make p a) K f s t xs ts h = completes_more ts (opr o.OpenPare
     by_token keeps (opr o.CloseParen nowhere) refl (P.First p.returns) (Args p a (C.Type t) M.no_forms ∷ K) xs (ts ++ opr o.OpenParen nowhere ∷ []) (h (opr o.OpenParen nowhere) refl) (λ i.
     have_completes keeps K (all_end keeps K) s p (M.call_expr a (C.Type t) M.no_forms) xs ((ts ++ opr o.OpenParen nowhere ∷ []) ++ opr o.CloseParen nowhere ∷ []) f i)
     )
+type_done keeps (G.Delete p a n) K f s t xs ts h = completes_more ts (opr o.CloseParen nowhere ∷ []) (
+    ending_completes keeps p (M.delete_expr a n t) K f s xs (ts ++ opr o.CloseParen nowhere ∷ []) (h (opr o.CloseParen nowhere) refl)
+    )
 type_done keeps (G.Param k x a) K f s t xs ts h = completes_more ts (opr o.CloseParen nowhere ∷ []) (
     headed_completes keeps (MC.with_param k (M.typed_param x a t) t.depth) K f s xs (ts ++ opr o.CloseParen nowhere ∷ []) (h (opr o.CloseParen nowhere) refl)
     )
@@ -262,6 +273,31 @@ type_done keeps (G.Field d n) [] f s t xs ts h =
 type_done keeps (G.Field d n) (k ∷ K) f s t xs ts h = absurd f
 
 -- ---- the fixed tokens of special forms
+
+deleting_completes : Keeps → (p : Pending) (a : ℕ) (n : Name) (K : List Frame) → Fits p.lead K → Sound K → (xs : ItemsRead) (ts : Text) → Has (P.Deleting p a n) K xs ts → Completes ts
+deleting_completes keeps p a n K f s xs ts h = by_token keeps (opr o.Comma nowhere) refl (P.Deleting p a n) K xs ts h (λ g.
+    let us : Text = ts ++ opr o.Comma nowhere ∷ [] in
+    let vs : Text = us ++ nam [] nowhere ∷ [] in
+    by_token keeps (nam [] nowhere) refl (P.Type (G.Delete p a n) type_start) K xs us g (λ i.
+    by_token keeps (opr o.CloseParen nowhere) refl _ K xs vs i (λ j. ending_completes keeps p (M.delete_expr a n (M.type_form (plain_type 0 []))) K f s xs (vs ++ opr o.CloseParen nowhere ∷ []) j)))
+
+which_name_completes : Keeps → (p : Pending) (a : ℕ) (K : List Frame) → Fits p.lead K → Sound K → (xs : ItemsRead) (ts : Text) → Has (P.Due p a D.WhichName) K xs ts → Completes ts
+which_name_completes keeps p a K f s xs ts h = by_token keeps (nam [] nowhere) refl (P.Due p a D.WhichName) K xs ts h (λ g. deleting_completes keeps p a (name_in [] nowhere) K f s xs (ts ++ nam [] nowhere ∷ []) g)
+
+which_open_completes : Keeps → (p : Pending) (a : ℕ) (K : List Frame) → Fits p.lead K → Sound K → (xs : ItemsRead) (ts : Text) → Has (P.Due p a D.WhichOpen) K xs ts → Completes ts
+which_open_completes keeps p a K f s xs ts h = by_token keeps (opr o.OpenParen nowhere) refl (P.Due p a D.WhichOpen) K xs ts h (λ g. which_name_completes keeps p a K f s xs (ts ++ opr o.OpenParen nowhere ∷ []) g)
+
+which_word_completes : Keeps → (p : Pending) (a : ℕ) (K : List Frame) → Fits p.lead K → Sound K → (xs : ItemsRead) (ts : Text) → Has (P.Due p a D.WhichWord) K xs ts → Completes ts
+which_word_completes keeps p a K f s xs ts h = by_token keeps (nam (codes "which") nowhere) refl (P.Due p a D.WhichWord) K xs ts h (λ g. which_open_completes keeps p a K f s xs (ts ++ nam (codes "which") nowhere ∷ []) g)
+
+delete_open_completes : Keeps → (p : Pending) (a : ℕ) (K : List Frame) → Fits p.lead K → Sound K → (xs : ItemsRead) (ts : Text) → Has (P.Due p a D.DeleteOpen) K xs ts → Completes ts
+delete_open_completes keeps p a K f s xs ts h = by_token keeps (opr o.OpenParen nowhere) refl (P.Due p a D.DeleteOpen) K xs ts h (λ g. which_word_completes keeps p a K f s xs (ts ++ opr o.OpenParen nowhere ∷ []) g)
+
+delete_name_completes : Keeps → (p : Pending) (a : ℕ) (K : List Frame) → Fits p.lead K → Sound K → (xs : ItemsRead) (ts : Text) → Has (P.Due p a D.DeleteName) K xs ts → Completes ts
+delete_name_completes keeps p a K f s xs ts h = by_token keeps (nam [] nowhere) refl (P.Due p a D.DeleteName) K xs ts h (λ g. delete_open_completes keeps p a K f s xs (ts ++ nam [] nowhere ∷ []) g)
+
+delete_dot_completes : Keeps → (p : Pending) (a : ℕ) (K : List Frame) → Fits p.lead K → Sound K → (xs : ItemsRead) (ts : Text) → Has (P.Due p a D.DeleteDot) K xs ts → Completes ts
+delete_dot_completes keeps p a K f s xs ts h = by_token keeps (opr o.Dot nowhere) refl (P.Due p a D.DeleteDot) K xs ts h (λ g. delete_name_completes keeps p a K f s xs (ts ++ opr o.Dot nowhere ∷ []) g)
 
 due_completes : Keeps → (x : Due) (p : Pending) (a : ℕ) (K : List Frame) → Fits p.lead K → Sound K → (xs : ItemsRead) (ts : Text) → Has (P.Due p a x) K xs ts → Completes ts
 due_completes keeps D.SpawnMacro p a K f s xs ts h = by_token keeps (tok (S.Macro []) nowhere) refl (P.Due p a D.SpawnMacro) K xs ts h (λ g.
@@ -280,6 +316,12 @@ due_completes keeps D.LatestDot p a K f s xs ts h = by_token keeps (opr o.Dot no
     by_token keeps (nam [] nowhere) refl (P.Due p a D.LatestName) K xs us g (λ i.
     let vs : Text = us ++ nam [] nowhere ∷ [] in
     by_token keeps (opr o.OpenParen nowhere) refl (P.Due p a D.LatestOpen) K xs vs i (λ j. function_completes keeps (R.Latest p a) K f s xs (vs ++ opr o.OpenParen nowhere ∷ []) j)))
+due_completes keeps D.DeleteDot p a K f s xs ts h = delete_dot_completes keeps p a K f s xs ts h
+due_completes keeps D.DeleteName p a K f s xs ts h = delete_name_completes keeps p a K f s xs ts h
+due_completes keeps D.DeleteOpen p a K f s xs ts h = delete_open_completes keeps p a K f s xs ts h
+due_completes keeps D.WhichWord p a K f s xs ts h = which_word_completes keeps p a K f s xs ts h
+due_completes keeps D.WhichOpen p a K f s xs ts h = which_open_completes keeps p a K f s xs ts h
+due_completes keeps D.WhichName p a K f s xs ts h = which_name_completes keeps p a K f s xs ts h
 due_completes keeps D.FetchOpen p a K f s xs ts h = by_token keeps (opr o.OpenParen nowhere) refl (P.Due p a D.FetchOpen) K xs ts h (λ g.
     want_completes keeps (Fetch p a ∷ K) (all_end keeps (Fetch p a ∷ K)) (f, s) (no_pending p.returns) xs (ts ++ opr o.OpenParen nowhere ∷ []) tt g)
 due_completes keeps (D.PrintOpen l) p a K f s xs ts h = by_token keeps (opr o.OpenParen nowhere) refl (P.Due p a (D.PrintOpen l)) K xs ts h (λ g.
@@ -352,6 +394,11 @@ completes keeps types wheres params _ _ _ _ (PT.has_due p a x K xs d ts us vs l 
 completes keeps types wheres params _ _ _ _ (PT.has_quoted p ys v K xs ts us q t b) =
     let z = sound_eval K xs (E.Quote p q) ts t in
     evals_complete keeps (E.Quote p q) ys K (all_end keeps K) z.1 z.0 xs (ts ++ (us ++ wrd w.End v ∷ [])) (PT.has_quoted p ys v K xs ts us q t b)
+completes keeps types wheres params _ _ _ _ (PT.has_deleting p a f K xs d ts us vs l ls s c) =
+    let z = sound_led K xs p.lead p.outer p.returns d ts l in deleting_completes keeps p a f K z.0 z.1 xs ((ts ++ us) ++ vs) (PT.has_deleting p a f K xs d ts us vs l ls s c)
+completes keeps types wheres params _ _ _ _ (PT.has_deleted p a f t q s K xs d ts us vs ws l ls st c i) =
+    let z = sound_led K xs p.lead p.outer p.returns d ts l in
+    ending_completes keeps p (M.delete_expr a f (type_as_read t)) K z.0 z.1 xs ((ts ++ us) ++ ((vs ++ opr o.Comma q ∷ ws) ++ opr o.CloseParen s ∷ [])) (PT.has_deleted p a f t q s K xs d ts us vs ws l ls st c i)
 completes keeps types wheres params _ _ _ _ (PT.has_after_eval p q K xs d ts us l ls s) =
     let z = sound_led K xs p.lead p.outer p.returns d ts l in
     let ws : Text = (ts ++ us) ++ tok (S.Macro (codes "eval")) q ∷ [] in

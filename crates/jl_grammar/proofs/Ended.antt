@@ -226,7 +226,7 @@ block_completes keeps (B.Body (H.Evaluated p a) m) ss K n s f xs ts h = have_com
 
 pub evals_complete : Keeps → (k : EvalKind) (vs : Forms Eval) (K : List Frame) → Ends K → Sound K → EvalFits k K → (xs : ItemsRead) (ts : Text) → HasSome (TU.end_evals k vs K xs) ts → Completes ts
 evals_complete keeps (E.Begin p a) vs K n s f xs ts h = have_completes keeps K n s p (M.eval_block a vs) xs ts f h
-evals_complete keeps (E.Quote p a) vs K n s f xs ts h = by_token keeps (opr o.CloseParen nowhere) refl (P.Quoted p (M.eval_quote a vs)) K xs ts h (λ g.
+evals_complete keeps (E.Quote p a) vs K n s f xs ts h = by_token keeps (opr o.CloseParen nowhere) refl (P.Ending p (M.eval_quote a vs)) K xs ts h (λ g.
     have_completes keeps K n s p (M.eval_quote a vs) xs (ts ++ opr o.CloseParen nowhere ∷ []) f g)
 
 stmt_completes : Keeps → (k : BlockKind) (ss : Forms Stmt) (K : List Frame) → Ends K → Sound K → KindFits k K → (l : Lead) (e : Form Expr) → FitsIn stmt_form l → (xs : ItemsRead) (ts : Text) →

@@ -15,11 +15,11 @@ use Rattle.jl_grammar.specs.Grammar as Gr
 use Rattle.jl_grammar.specs.Machine as Mc
 use Rattle.jl_grammar.specs.Texts.{Text, Spot, tok, NoEnd, is_end}
 use Rattle.jl_grammar.proofs.Standing.{bottom}
-use Rattle.jl_grammar.proofs.Points.{Has, has_entry, has_bound, has_returned, has_want, has_first_paren, has_first_args, has_first_print, has_again, has_piece, has_texted, has_have, has_dot, has_index, has_indexed, has_due, has_quoted, has_after_eval, has_function, has_named, has_dotted, has_colon, has_known, has_first_param, has_next_param, has_param, has_headed, has_where, has_type, has_abstract, has_decl_name, has_declared, has_params, has_fields, has_field, has_made, has_made_method, HasSome}
+use Rattle.jl_grammar.proofs.Points.{Has, has_entry, has_bound, has_returned, has_want, has_first_paren, has_first_args, has_first_print, has_again, has_piece, has_texted, has_have, has_dot, has_index, has_indexed, has_due, has_quoted, has_deleting, has_deleted, has_after_eval, has_function, has_named, has_dotted, has_colon, has_known, has_first_param, has_next_param, has_param, has_headed, has_where, has_type, has_abstract, has_decl_name, has_declared, has_params, has_fields, has_field, has_made, has_made_method, HasSome}
 use Rattle.jl_grammar.proofs.Closing.{starts_append}
 use Rattle.jl_grammar.proofs.KeptFollows.{kept_token_after_operand}
 use Rattle.jl_grammar.proofs.KeptBegins.{kept_begin_operand}
-use Rattle.jl_grammar.proofs.KeptForms.{kept_first_paren, kept_first_args, kept_first_print, kept_again, kept_piece, kept_texted, kept_dot, kept_index, kept_indexed, kept_quoted, kept_due, kept_known, kept_function, kept_named, kept_dotted, kept_colon_name}
+use Rattle.jl_grammar.proofs.KeptForms.{kept_first_paren, kept_first_args, kept_first_print, kept_again, kept_piece, kept_texted, kept_dot, kept_index, kept_indexed, kept_quoted, kept_deleting, kept_deleted, kept_due, kept_known, kept_function, kept_named, kept_dotted, kept_colon_name}
 use Rattle.jl_grammar.proofs.KeptEntries.{kept_entry, kept_bound, kept_returned, kept_token_after_eval}
 use Rattle.jl_grammar.proofs.KeptHeads.{kept_next_param, kept_first_param, kept_param, kept_at_headed, kept_where}
 use Rattle.jl_grammar.proofs.KeptTypes.{kept_abstract, kept_decl, kept_at_declared, kept_params, kept_fields, kept_field, kept_made, kept_made_method, kept_type}
@@ -43,6 +43,8 @@ kept_by s z _ _ _ _ n (has_index p e q K xs d ts us vs l ls st a) = kept_index s
 kept_by s z _ _ _ _ n (has_indexed p e m q y K xs d ts us vs l ls st a h) = kept_indexed s z p e m q y K xs d ts us vs l ls st a h
 kept_by s z _ _ _ _ n (has_due p a x K xs d ts us vs l ls st c) = kept_due s z p a x K xs d ts us vs l ls st c
 kept_by s z _ _ _ _ n (has_quoted p ys v K xs ts us q o b) = kept_quoted s z p q ys v K xs ts us o b
+kept_by s z _ _ _ _ n (has_deleting p a f K xs d ts us vs l ls st c) = kept_deleting s z p a f K xs d ts us vs l ls st c
+kept_by s z _ _ _ _ n (has_deleted p a f t q y K xs d ts us vs ws l ls st c i) = kept_deleted s z p a f t q y K xs d ts us vs ws l ls st c i
 kept_by s z _ _ _ _ n (has_after_eval p q K xs d ts us l ls st) = kept_token_after_eval s z p q K xs d ts us l ls st
 kept_by s z _ _ _ _ n (has_function g K xs ts t) = kept_function s z g K xs ts t
 kept_by s z _ _ _ _ n (has_named g c m q K xs ts t k) = kept_named s z g c m q K xs ts t k

@@ -35,7 +35,7 @@ use Rattle.jl_grammar.specs.Turns as Tu
 use Rattle.jl_grammar.specs.Turns.{at, is_return_allowed}
 use Rattle.jl_grammar.specs.Texts.{Text, Spot, tok, opr, wrd, nam, lexemes, is_plain, is_left_type, IsPrint}
 use Rattle.jl_grammar.proofs.Standing.{Choice, Starts, PrefixesText, no_prefixes, one_prefix, TermPart, no_term, a_term, SumPart, no_sum, a_sum, ComparisonPart, no_comparison, a_comparison, TopText, LevelsText, levels_text, first_test, choice_in, return_in, Opened, in_paren, in_test, in_block, Led, begin_kind}
-use Rattle.jl_grammar.proofs.Points.{called_name, for_call, left_type, made_type, makes, goal_left, goal_make, spawn_dot, latest_dot, fetch_open, print_open, quote_open, Has, has_entry, has_want, has_first_paren, has_due, has_after_eval, has_named, has_type, HasSome}
+use Rattle.jl_grammar.proofs.Points.{called_name, for_call, left_type, made_type, makes, goal_left, goal_make, spawn_dot, latest_dot, delete_dot, fetch_open, print_open, quote_open, Has, has_entry, has_want, has_first_paren, has_due, has_after_eval, has_named, has_type, HasSome}
 use Rattle.jl_grammar.proofs.Closing.{bare_levels}
 use Rattle.jl_grammar.proofs.KeptBlocks.{has_moved, has_atom, led_fresh, has_no_pending}
 use Rattle.jl_grammar.proofs.KeptCloses.{some_moved}
@@ -105,6 +105,7 @@ kept_begin_opening Op.Make n q p K xs d ts us h b l ls s =
     has_type (Go.Make p q.at) (made_type (is_comparison_start p.levels) q.at d us) (record { point = Yp.Have (Plain q.at n); stack = [] }) K xs (ts ++ us) (nam n q ∷ []) (goal_make p q.at K xs d ts us l ls)
     (makes (is_comparison_start p.levels) n q [] h b, s) (name_type n q)
 kept_begin_opening Op.Latest n q p K xs d ts us h b l ls s = has_due p q.at Du.LatestDot K xs d ts us (nam n q ∷ []) l ls s (latest_dot (is_comparison_start p.levels) n q h b)
+kept_begin_opening Op.Delete n q p K xs d ts us h b l ls s = has_due p q.at Du.DeleteDot K xs d ts us (nam n q ∷ []) l ls s (delete_dot (is_comparison_start p.levels) n q h b)
 kept_begin_opening Op.Spawn n q p K xs d ts us h b l ls s = has_due p q.at Du.SpawnDot K xs d ts us (nam n q ∷ []) l ls s (spawn_dot (is_comparison_start p.levels) n q h b)
 kept_begin_opening Op.Quote n q p K xs d ts us h b l ls s = has_due p q.at Du.QuoteOpen K xs d ts us (nam n q ∷ []) l ls s (quote_open (is_comparison_start p.levels) n q h b)
 kept_begin_opening Op.Fetch n q p K xs d ts us h b l ls s = has_due p q.at Du.FetchOpen K xs d ts us (nam n q ∷ []) l ls s (fetch_open (is_comparison_start p.levels) n q h b)

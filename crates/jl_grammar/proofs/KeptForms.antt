@@ -6,6 +6,7 @@ use Rattle.jl_token.specs.declared.token.Operator.TheVariants as op
 use Rattle.jl_typeread.specs.declared.terminal.Terminal.{Terminal}
 use Rattle.jl_typeread.specs.declared.terminal.Terminal.TheVariants as sg
 use Rattle.jl_typeread.specs.declared.terminal.Word.TheVariants as wd
+use Rattle.jl_typeread.specs.declared.tree.TypeText.{TypeText}
 use Rattle.jl_grammar.specs.declared.mark.Marked.{Marked}
 use Rattle.jl_grammar.specs.declared.mark.Opening.TheVariants as Op
 use Rattle.jl_grammar.specs.declared.state.Called.{Called}
@@ -17,6 +18,7 @@ use Rattle.jl_grammar.specs.declared.state.Form.{Form}
 use Rattle.jl_grammar.specs.declared.state.Forms.{Forms}
 use Rattle.jl_grammar.specs.declared.state.Frame.{Frame}
 use Rattle.jl_grammar.specs.declared.state.Frame.TheVariants as Fr
+use Rattle.jl_grammar.specs.declared.state.Goal.TheVariants as Go
 use Rattle.jl_grammar.specs.declared.state.ItemsRead.{ItemsRead}
 use Rattle.jl_grammar.specs.declared.state.Lead.{Lead}
 use Rattle.jl_grammar.specs.declared.state.Levels.{Levels}
@@ -30,6 +32,7 @@ use Rattle.jl_grammar.specs.declared.tree.Callee.{Callee}
 use Rattle.jl_grammar.specs.declared.tree.Callee.TheVariants as Cl
 use Rattle.jl_grammar.specs.declared.tree.Eval.{Eval}
 use Rattle.jl_grammar.specs.declared.tree.Expr.{Expr}
+use Rattle.jl_grammar.specs.declared.tree.Name.{Name}
 use Rattle.jl_grammar.specs.declared.tree.Piece.{Piece}
 use Rattle.jl_grammar.specs.Forms as M
 use Rattle.jl_grammar.specs.Grammar.{PrefixOperator, ComparisonOperator, SumOperator, TermOperator, CalleeText, ParamText, ParamsText, ParensText, WhereText, HeadText, place, Atom, Brackets, Arguments, PieceText, Pieces, Post, Unary, Term, Sum, Comparison, Conjunction, Disjunction, Expression, Branches, Statement, Block, StmtsBefore, StmtsAfter, LongMethod, ShortMethod, Evaluated, EvalBlock, EvalsBefore, EvalsAfter, ParentText, TypeParamsText, HeaderText, FieldText, FieldsBefore, FieldsAfter, FieldsText, ItemText, ItemsBefore, ItemsAfter, ScriptText}
@@ -40,11 +43,13 @@ use Rattle.jl_grammar.specs.Turns as Tu
 use Rattle.jl_grammar.specs.Turns.{at, is_return_allowed}
 use Rattle.jl_grammar.specs.Texts.{Text, Spot, tok, opr, wrd, nam, name_in, is_left_type}
 use Rattle.jl_grammar.proofs.Standing.{Choice, any_form, item_form, stmt_form, eval_form, evaluated_form, Starts, LevelsText, in_spawn, CalledText, called_function, called_latest, no_arguments_yet, no_pieces_yet, some_pieces_yet, PrintText, print_text, Opened, in_paren, in_tuple, in_args, in_fetch, in_print, in_evals, Led, led_text, EvalText, quote_begin}
-use Rattle.jl_grammar.proofs.Points.{Naming, free_name, called_name, method_name, Names, PurposeText, for_call, for_latest, for_head, DueText, spawn_dot, spawn_macro, latest_dot, latest_name, latest_open, fetch_open, print_open, quote_open, quote_word, Has, has_entry, has_want, has_first_args, has_first_print, has_piece, has_texted, has_have, has_indexed, has_due, has_function, has_named, has_dotted, has_colon, has_known, has_first_param, HasSome}
+use Rattle.jl_grammar.proofs.Points.{Naming, free_name, called_name, method_name, Names, PurposeText, for_call, for_latest, for_head, DeletingText, deleting_text, goal_delete, DueText, spawn_dot, spawn_macro, latest_dot, latest_name, latest_open, delete_dot, delete_name, delete_open, which_word, which_open, which_name, fetch_open, print_open, quote_open, quote_word, Has, has_entry, has_want, has_first_args, has_first_print, has_piece, has_texted, has_have, has_indexed, has_due, has_deleting, has_function, has_named, has_dotted, has_colon, has_known, has_first_param, HasSome}
 use Rattle.jl_grammar.proofs.Closing.{starts_more, bare_levels}
 use Rattle.jl_grammar.proofs.KeptBlocks.{has_moved, has_atom, has_no_pending}
 use Rattle.jl_grammar.proofs.KeptCloses.{some_moved, call_expr_empty, pieces_text, print_expr_text, print_expr_empty}
 use Rattle.jl_grammar.proofs.KeptBegins.{kept_no_pending}
+use Rattle.jl_grammar.proofs.KeptHeads.{type_begins}
+use Rattle.jl_grammar.specs.Types.{type_as_read, IsType}
 use Rattle.std.proofs.lemmas.Slice.Eq.{bytes_eq-Decides}
 use Rattle.jl_grammar.specs.Marks.{is_function}
 
@@ -164,12 +169,42 @@ kept_indexed (sg.Operator op.CloseBracket) z p e n q y K xs d ts us vs l ls st a
 kept_indexed _ z p e n q y K xs d ts us vs l ls st a h = tt
 
 pub kept_quoted : (s : Terminal) (z : Spot) (p : Pending) (a : ℕ) (ys : Forms Eval) (v : Spot) (K : List Frame) (xs : ItemsRead) (ts us : Text) → EvalText K xs (Ev.Quote p a) ts → EvalBlock ys us →
-    HasSome (Tu.at_quoted s p (M.eval_quote a ys) K xs) ((ts ++ (us ++ wrd wd.End v ∷ [])) ++ tok s z ∷ [])
+    HasSome (Tu.at_ending s p (M.eval_quote a ys) K xs) ((ts ++ (us ++ wrd wd.End v ∷ [])) ++ tok s z ∷ [])
 kept_quoted (sg.Operator op.CloseParen) z _ _ ys v _ _ _ us (quote_begin p n q w y K xs d ts vs l ls st mk le) b =
     has_moved (has_atom p (M.eval_quote q.at ys) K xs d ts vs ((nam n q ∷ opr op.OpenParen w ∷ wrd wd.Quote y ∷ us) ++ wrd wd.End v ∷ opr op.CloseParen z ∷ []) l ls
     (starts_same d vs (nam n q) [] ((opr op.OpenParen w ∷ wrd wd.Quote y ∷ us) ++ wrd wd.End v ∷ opr op.CloseParen z ∷ []) st)
     (Gr.eval_quote p.returns (is_comparison_start p.levels) n ys q w y v z us mk le b)) (simp append_assoc refl)
 kept_quoted _ z p a ys v K xs ts us o b = tt
+
+-- ---- deletions
+
+pub kept_deleting : (s : Terminal) (z : Spot) (p : Pending) (a : ℕ) (f : Name) (K : List Frame) (xs : ItemsRead) (d : Choice) (ts us vs : Text) → Led K xs p.lead p.outer p.returns d ts →
+    LevelsText p.returns p.levels us → Starts d (us ++ vs) → DeletingText (is_comparison_start p.levels) a f vs → HasSome (Mc.at_deleting s p a f K xs) (((ts ++ us) ++ vs) ++ tok s z ∷ [])
+kept_deleting (sg.Operator op.Comma) z p a f K xs d ts us vs l ls st c =
+    has_moved (type_begins (Go.Delete p a f) K xs ((ts ++ us) ++ (vs ++ opr op.Comma z ∷ [])) (goal_delete p a f z K xs d ts us vs l ls st c)) (sym (append_assoc (ts ++ us) vs (opr op.Comma z ∷ [])))
+kept_deleting _ z p a f K xs d ts us vs l ls st c = tt
+
+pub kept_deleted : (s : Terminal) (z : Spot) (p : Pending) (a : ℕ) (f : Name) (t : TypeText) (q y : Spot) (K : List Frame) (xs : ItemsRead) (d : Choice) (ts us vs ws : Text) → Led K xs p.lead p.outer p.returns d ts →
+    LevelsText p.returns p.levels us → Starts d (us ++ vs) → DeletingText (is_comparison_start p.levels) a f vs → IsType t ws →
+    HasSome (Tu.at_ending s p (M.delete_expr a f (type_as_read t)) K xs) (((ts ++ us) ++ ((vs ++ opr op.Comma q ∷ ws) ++ opr op.CloseParen y ∷ [])) ++ tok s z ∷ [])
+kept_deleted (sg.Operator op.CloseParen) z p _ _ t k y K xs d ts us _ ws l ls st (deleting_text b n m f q w v x i j h mk le) c =
+    has_moved (has_atom p (M.delete_expr q.at (name_in f h) (type_as_read t)) K xs d ts us
+    ((nam n q ∷ opr op.Dot w ∷ nam m v ∷ opr op.OpenParen x ∷ nam (codes "which") i ∷ opr op.OpenParen j ∷ nam f h ∷ opr op.Comma k ∷ ws) ++ opr op.CloseParen y ∷ opr op.CloseParen z ∷ []) l ls
+    (starts_same d us (nam n q) (opr op.Dot w ∷ nam m v ∷ opr op.OpenParen x ∷ nam (codes "which") i ∷ opr op.OpenParen j ∷ nam f h ∷ [])
+    ((opr op.Dot w ∷ nam m v ∷ opr op.OpenParen x ∷ nam (codes "which") i ∷ opr op.OpenParen j ∷ nam f h ∷ opr op.Comma k ∷ ws) ++ opr op.CloseParen y ∷ opr op.CloseParen z ∷ []) st)
+    (Gr.delete p.returns (is_comparison_start p.levels) n m f t q w v x i j h k y z ws mk le c)) (simp append_assoc refl)
+kept_deleted _ z p a f t q y K xs d ts us vs ws l ls st x c = tt
+
+kept_due_which : (c : Bool) (g n m : List ℕ) (z q w v y : Spot) (p : Pending) (K : List Frame) (xs : ItemsRead) (d : Choice) (ts us : Text) → bytes_eq g (codes "which") ≡ c →
+    Led K xs p.lead p.outer p.returns d ts → LevelsText p.returns p.levels us → Starts d (us ++ (nam n q ∷ opr op.Dot w ∷ nam m v ∷ opr op.OpenParen y ∷ [])) →
+    q.marks.opening ≡ Op.Delete → is_left_type (is_comparison_start p.levels) q.marks.ahead ≡ false →
+    HasSome (Mc.due_which c p q.at K xs) (((ts ++ us) ++ (nam n q ∷ opr op.Dot w ∷ nam m v ∷ opr op.OpenParen y ∷ [])) ++ nam g z ∷ [])
+kept_due_which false g n m z q w v y p K xs d ts us h l ls st mk le = tt
+kept_due_which true g n m z q w v y p K xs d ts us h l ls st mk le = let same = (bytes_eq-Decides g (codes "which")).0 h in
+    subst (λ i. Has (Po.Due p q.at Du.WhichOpen) K xs (((ts ++ us) ++ (nam n q ∷ opr op.Dot w ∷ nam m v ∷ opr op.OpenParen y ∷ [])) ++ nam i z ∷ [])) (sym same)
+    (has_moved (has_due p q.at Du.WhichOpen K xs d ts us (nam n q ∷ opr op.Dot w ∷ nam m v ∷ opr op.OpenParen y ∷ nam (codes "which") z ∷ []) l ls
+    (starts_same d us (nam n q) (opr op.Dot w ∷ nam m v ∷ opr op.OpenParen y ∷ []) (opr op.Dot w ∷ nam m v ∷ opr op.OpenParen y ∷ nam (codes "which") z ∷ []) st)
+    (which_open (is_comparison_start p.levels) n m q w v y z mk le)) (simp append_assoc refl))
 
 -- ---- the fixed tokens of special forms
 
@@ -182,7 +217,7 @@ led_spawn _ _ _ _ _ _ _ ls us n m p q s (led_text K xs l os y r c d ts ws vs o l
     (in_spawn c d y r os ls n m p q s vs us ot lv st mk le))
 
 pub kept_due : (s : Terminal) (z : Spot) (p : Pending) (a : ℕ) (x : Due) (K : List Frame) (xs : ItemsRead) (d : Choice) (ts us vs : Text) → Led K xs p.lead p.outer p.returns d ts →
-    LevelsText p.returns p.levels us → Starts d (us ++ vs) → DueText (is_comparison_start p.levels) a x vs → HasSome (Mc.at_due s p a x K xs) (((ts ++ us) ++ vs) ++ tok s z ∷ [])
+    LevelsText p.returns p.levels us → Starts d (us ++ vs) → DueText (is_comparison_start p.levels) a x vs → HasSome (Mc.at_due s z.at p a x K xs) (((ts ++ us) ++ vs) ++ tok s z ∷ [])
 kept_due (sg.Operator op.Dot) z p _ _ K xs d ts us _ l ls st (spawn_dot b n q mk le) =
     has_moved (has_due p q.at Du.SpawnMacro K xs d ts us (nam n q ∷ opr op.Dot z ∷ []) l ls (starts_same d us (nam n q) [] (opr op.Dot z ∷ []) st) (spawn_macro b n q z mk le)) (simp append_assoc refl)
 kept_due (sg.Operator op.Dot) z p _ _ K xs d ts us _ l ls st (latest_dot b n q mk le) =
@@ -190,6 +225,14 @@ kept_due (sg.Operator op.Dot) z p _ _ K xs d ts us _ l ls st (latest_dot b n q m
 kept_due (sg.Operator op.Dot) z p _ _ K xs d ts us _ l ls st (spawn_macro b n q w mk le) = tt
 kept_due (sg.Operator op.Dot) z p _ _ K xs d ts us _ l ls st (latest_name b n q w mk le) = tt
 kept_due (sg.Operator op.Dot) z p _ _ K xs d ts us _ l ls st (latest_open b n m q w v mk le) = tt
+kept_due (sg.Operator op.Dot) z p _ _ K xs d ts us _ l ls st (delete_dot b n q mk le) =
+    has_moved (has_due p q.at Du.DeleteName K xs d ts us (nam n q ∷ opr op.Dot z ∷ []) l ls (starts_same d us (nam n q) [] (opr op.Dot z ∷ []) st) (delete_name b n q z mk le))
+    (simp append_assoc refl)
+kept_due (sg.Operator op.Dot) z p _ _ K xs d ts us _ l ls st (delete_name b n q w mk le) = tt
+kept_due (sg.Operator op.Dot) z p _ _ K xs d ts us _ l ls st (delete_open b n m q w v mk le) = tt
+kept_due (sg.Operator op.Dot) z p _ _ K xs d ts us _ l ls st (which_word b n m q w v y mk le) = tt
+kept_due (sg.Operator op.Dot) z p _ _ K xs d ts us _ l ls st (which_open b n m q w v y i mk le) = tt
+kept_due (sg.Operator op.Dot) z p _ _ K xs d ts us _ l ls st (which_name b n m q w v y i j mk le) = tt
 kept_due (sg.Operator op.Dot) z p _ _ K xs d ts us _ l ls st (fetch_open b n q mk le) = tt
 kept_due (sg.Operator op.Dot) z p _ _ K xs d ts us _ l ls st (print_open b f n q mk le) = tt
 kept_due (sg.Operator op.Dot) z p _ _ K xs d ts us _ l ls st (quote_open b n q mk le) = tt
@@ -197,6 +240,16 @@ kept_due (sg.Operator op.Dot) z p _ _ K xs d ts us _ l ls st (quote_word b n q w
 kept_due (sg.Operator op.OpenParen) z p _ _ K xs d ts us _ l ls st (latest_open b n m q w v mk le) =
     has_moved (has_function (Pu.Latest p q.at) K xs ((ts ++ us) ++ (nam n q ∷ opr op.Dot w ∷ nam m v ∷ opr op.OpenParen z ∷ []))
     (for_latest p n m q w v z K xs d ts us l ls (starts_same d us (nam n q) (opr op.Dot w ∷ nam m v ∷ []) [] st) mk le)) (simp append_assoc refl)
+kept_due (sg.Operator op.OpenParen) z p _ _ K xs d ts us _ l ls st (delete_dot b n q mk le) = tt
+kept_due (sg.Operator op.OpenParen) z p _ _ K xs d ts us _ l ls st (delete_name b n q w mk le) = tt
+kept_due (sg.Operator op.OpenParen) z p _ _ K xs d ts us _ l ls st (delete_open b n m q w v mk le) =
+    has_moved (has_due p q.at Du.WhichWord K xs d ts us (nam n q ∷ opr op.Dot w ∷ nam m v ∷ opr op.OpenParen z ∷ []) l ls (starts_same d us (nam n q) (opr op.Dot w ∷ nam m v ∷ []) (opr op.Dot w ∷ nam m v ∷ opr op.OpenParen z ∷ []) st) (which_word b n m q w v z mk le))
+    (simp append_assoc refl)
+kept_due (sg.Operator op.OpenParen) z p _ _ K xs d ts us _ l ls st (which_word b n m q w v y mk le) = tt
+kept_due (sg.Operator op.OpenParen) z p _ _ K xs d ts us _ l ls st (which_open b n m q w v y i mk le) =
+    has_moved (has_due p q.at Du.WhichName K xs d ts us (nam n q ∷ opr op.Dot w ∷ nam m v ∷ opr op.OpenParen y ∷ nam (codes "which") i ∷ opr op.OpenParen z ∷ []) l ls (starts_same d us (nam n q) (opr op.Dot w ∷ nam m v ∷ opr op.OpenParen y ∷ nam (codes "which") i ∷ []) (opr op.Dot w ∷ nam m v ∷ opr op.OpenParen y ∷ nam (codes "which") i ∷ opr op.OpenParen z ∷ []) st) (which_name b n m q w v y i z mk le))
+    (simp append_assoc refl)
+kept_due (sg.Operator op.OpenParen) z p _ _ K xs d ts us _ l ls st (which_name b n m q w v y i j mk le) = tt
 kept_due (sg.Operator op.OpenParen) z p _ _ K xs d ts us _ l ls st (fetch_open b n q mk le) =
     has_moved (has_no_pending (Fr.Fetch p q.at ∷ K) xs ((ts ++ us) ++ (nam n q ∷ opr op.OpenParen z ∷ [])) tt (in_fetch p n q z K xs d ts us l ls st mk le)) (simp append_assoc refl)
 kept_due (sg.Operator op.OpenParen) z p _ _ K xs d ts us _ l ls st (print_open b f n q mk le) =
@@ -215,6 +268,18 @@ kept_due (sg.Name m) z p _ _ K xs d ts us _ l ls st (spawn_dot b n q mk le) = tt
 kept_due (sg.Name m) z p _ _ K xs d ts us _ l ls st (spawn_macro b n q w mk le) = tt
 kept_due (sg.Name m) z p _ _ K xs d ts us _ l ls st (latest_dot b n q mk le) = tt
 kept_due (sg.Name m) z p _ _ K xs d ts us _ l ls st (latest_open b n v q w y mk le) = tt
+kept_due (sg.Name m) z p _ _ K xs d ts us _ l ls st (delete_dot b n q mk le) = tt
+kept_due (sg.Name m) z p _ _ K xs d ts us _ l ls st (delete_name b n q w mk le) =
+    has_moved (has_due p q.at Du.DeleteOpen K xs d ts us (nam n q ∷ opr op.Dot w ∷ nam m z ∷ []) l ls (starts_same d us (nam n q) (opr op.Dot w ∷ []) (opr op.Dot w ∷ nam m z ∷ []) st) (delete_open b n m q w z mk le))
+    (simp append_assoc refl)
+kept_due (sg.Name m) z p _ _ K xs d ts us _ l ls st (delete_open b n e q w v mk le) = tt
+kept_due (sg.Name g) z p _ _ K xs d ts us _ l ls st (which_word b n m q w v y mk le) =
+    kept_due_which (bytes_eq g (codes "which")) g n m z q w v y p K xs d ts us refl l ls st mk le
+kept_due (sg.Name m) z p _ _ K xs d ts us _ l ls st (which_open b n e q w v y i mk le) = tt
+kept_due (sg.Name g) z p _ _ K xs d ts us _ l ls st (which_name b n m q w v y i j mk le) =
+    has_moved (has_deleting p q.at (name_in g z) K xs d ts us (nam n q ∷ opr op.Dot w ∷ nam m v ∷ opr op.OpenParen y ∷ nam (codes "which") i ∷ opr op.OpenParen j ∷ nam g z ∷ []) l ls
+    (starts_same d us (nam n q) (opr op.Dot w ∷ nam m v ∷ opr op.OpenParen y ∷ nam (codes "which") i ∷ opr op.OpenParen j ∷ []) (opr op.Dot w ∷ nam m v ∷ opr op.OpenParen y ∷ nam (codes "which") i ∷ opr op.OpenParen j ∷ nam g z ∷ []) st)
+    (deleting_text (is_comparison_start p.levels) n m g q w v y i j z mk le)) (simp append_assoc refl)
 kept_due (sg.Name m) z p _ _ K xs d ts us _ l ls st (fetch_open b n q mk le) = tt
 kept_due (sg.Name m) z p _ _ K xs d ts us _ l ls st (print_open b f n q mk le) = tt
 kept_due (sg.Name m) z p _ _ K xs d ts us _ l ls st (quote_open b n q mk le) = tt
@@ -226,6 +291,12 @@ kept_due (sg.Macro m) z p _ _ K xs d ts us _ l ls st (spawn_dot b n q mk le) = t
 kept_due (sg.Macro m) z p _ _ K xs d ts us _ l ls st (latest_dot b n q mk le) = tt
 kept_due (sg.Macro m) z p _ _ K xs d ts us _ l ls st (latest_name b n q w mk le) = tt
 kept_due (sg.Macro m) z p _ _ K xs d ts us _ l ls st (latest_open b n v q w y mk le) = tt
+kept_due (sg.Macro m) z p _ _ K xs d ts us _ l ls st (delete_dot b n q mk le) = tt
+kept_due (sg.Macro m) z p _ _ K xs d ts us _ l ls st (delete_name b n q w mk le) = tt
+kept_due (sg.Macro m) z p _ _ K xs d ts us _ l ls st (delete_open b n e q w v mk le) = tt
+kept_due (sg.Macro m) z p _ _ K xs d ts us _ l ls st (which_word b n e q w v y mk le) = tt
+kept_due (sg.Macro m) z p _ _ K xs d ts us _ l ls st (which_open b n e q w v y i mk le) = tt
+kept_due (sg.Macro m) z p _ _ K xs d ts us _ l ls st (which_name b n e q w v y i j mk le) = tt
 kept_due (sg.Macro m) z p _ _ K xs d ts us _ l ls st (fetch_open b n q mk le) = tt
 kept_due (sg.Macro m) z p _ _ K xs d ts us _ l ls st (print_open b f n q mk le) = tt
 kept_due (sg.Macro m) z p _ _ K xs d ts us _ l ls st (quote_open b n q mk le) = tt
@@ -239,6 +310,12 @@ kept_due (sg.Word wd.Quote) z p _ _ K xs d ts us _ l ls st (spawn_macro b n q w 
 kept_due (sg.Word wd.Quote) z p _ _ K xs d ts us _ l ls st (latest_dot b n q mk le) = tt
 kept_due (sg.Word wd.Quote) z p _ _ K xs d ts us _ l ls st (latest_name b n q w mk le) = tt
 kept_due (sg.Word wd.Quote) z p _ _ K xs d ts us _ l ls st (latest_open b n v q w y mk le) = tt
+kept_due (sg.Word wd.Quote) z p _ _ K xs d ts us _ l ls st (delete_dot b n q mk le) = tt
+kept_due (sg.Word wd.Quote) z p _ _ K xs d ts us _ l ls st (delete_name b n q w mk le) = tt
+kept_due (sg.Word wd.Quote) z p _ _ K xs d ts us _ l ls st (delete_open b n m q w v mk le) = tt
+kept_due (sg.Word wd.Quote) z p _ _ K xs d ts us _ l ls st (which_word b n m q w v y mk le) = tt
+kept_due (sg.Word wd.Quote) z p _ _ K xs d ts us _ l ls st (which_open b n m q w v y i mk le) = tt
+kept_due (sg.Word wd.Quote) z p _ _ K xs d ts us _ l ls st (which_name b n m q w v y i j mk le) = tt
 kept_due (sg.Word wd.Quote) z p _ _ K xs d ts us _ l ls st (fetch_open b n q mk le) = tt
 kept_due (sg.Word wd.Quote) z p _ _ K xs d ts us _ l ls st (print_open b f n q mk le) = tt
 kept_due (sg.Word wd.Quote) z p _ _ K xs d ts us _ l ls st (quote_open b n q mk le) = tt

@@ -40,7 +40,7 @@ use Rattle.jl_grammar.specs.Texts as Tx
 use Rattle.jl_grammar.specs.Texts.{Text, Spot, tok, opr, wrd, nam, name_in, Sep, lexemes, is_method, is_sub, is_binding, is_plain, is_left_type, is_item_name, is_item_terminal, is_item_start, is_stmt_name, is_stmt_terminal, is_stmt_start, is_eval_name, is_eval_terminal, is_eval_start, is_evaluated_terminal, is_evaluated_start, OpensAs, IsMethodStart, IsSubStart, IsPrint, IsBindingName, is_end}
 use Rattle.jl_grammar.specs.Types.{type_as_read, vars_as_read, IsType}
 use Rattle.jl_grammar.proofs.Standing.{Choice, Starts, TopText, LevelsText, called_type, Methods, Opened, bottom, in_paren, in_tuple, in_args, in_fetch, in_print, in_then, in_test, in_block, in_evals, Led}
-use Rattle.jl_grammar.proofs.Points.{DeclText, abstract_decl, struct_decl, DeclaredText, declared_text, FieldingText, fielding_text, FieldedText, fielded_text, Typing, free_type, left_type, made_type, Makes, makes, Fits, GoalText, goal_isa, goal_left, goal_right, goal_make, goal_param, goal_unnamed, goal_parent, goal_field, Has, has_entry, has_first_args, has_type, has_decl_name, has_declared, has_params, has_fields, has_field, has_made, HasSome}
+use Rattle.jl_grammar.proofs.Points.{DeclText, abstract_decl, struct_decl, DeclaredText, declared_text, FieldingText, fielding_text, FieldedText, fielded_text, Typing, free_type, left_type, made_type, Makes, makes, Fits, DeletingText, GoalText, goal_isa, goal_left, goal_right, goal_make, goal_delete, goal_param, goal_unnamed, goal_parent, goal_field, Has, has_entry, has_first_args, has_deleted, has_type, has_decl_name, has_declared, has_params, has_fields, has_field, has_made, HasSome}
 use Rattle.jl_grammar.proofs.Closing.{starts_more, compared_text}
 use Rattle.jl_grammar.proofs.KeptBlocks.{has_moved, kept_end_evals}
 use Rattle.jl_grammar.proofs.KeptCloses.{some_moved}
@@ -264,6 +264,12 @@ kept_make (sg.Operator op.OpenParen) z p _ t K xs d ts us _ l ls (makes b n q vs
     (called_type (is_comparison_start p.levels) n t q z vs mk le i)) (simp append_assoc refl)
 kept_make _ z p a t K xs d ts us vs l ls m st i = tt
 
+kept_close_which : (s : Terminal) (z : Spot) (p : Pending) (a : ℕ) (f : Name) (t : TypeText) (q : Spot) (K : List Frame) (xs : ItemsRead) (d : Choice) (ts hs vs us : Text) → Led K xs p.lead p.outer p.returns d ts →
+    LevelsText p.returns p.levels hs → Starts d (hs ++ vs) → DeletingText (is_comparison_start p.levels) a f vs → IsType t us →
+    HasSome (Mc.close_which s p a f (type_as_read t) K xs) ((((ts ++ hs) ++ (vs ++ opr op.Comma q ∷ [])) ++ us) ++ tok s z ∷ [])
+kept_close_which (sg.Operator op.CloseParen) z p a f t q K xs d ts hs vs us l ls st x i = has_moved (has_deleted p a f t q z K xs d ts hs vs us l ls st x i) (simp append_assoc refl)
+kept_close_which _ z p a f t q K xs d ts hs vs us l ls st x i = tt
+
 pub kept_token_after_type : (s : Terminal) (z : Spot) (g : Goal) (c : Typing) (t : TypeText) (K : List Frame) (xs : ItemsRead) (ts us : Text) → is_end s ≡ false → GoalText K xs g c ts → Fits c us → IsType t us →
     HasSome (Mc.token_after_type s z.at g (type_as_read t) K xs) ((ts ++ us) ++ tok s z ∷ [])
 kept_token_after_type s z _ _ t _ _ _ us n (goal_isa p e q K xs d ts hs vs l ls st a) f i =
@@ -277,6 +283,7 @@ kept_token_after_type s z _ _ t _ _ _ us n (goal_right p v q K xs d ts hs vs l l
     (kept_token_after_comparison s z p (M.sub_expr (place vs) (type_as_read v) (type_as_read t)) K xs (ts ++ (hs ++ (vs ++ opr op.Subtype q ∷ us))) n
     (compared_text p (M.sub_expr (place vs) (type_as_read v) (type_as_read t)) K xs d ts hs (vs ++ opr op.Subtype q ∷ us) l ls (Gr.sub p.returns v t q vs us sub j i) (starts_more d hs vs (opr op.Subtype q ∷ us) st))) (simp append_assoc refl)
 kept_token_after_type s z _ _ t _ _ _ us n (goal_make p a K xs d ts hs l ls) f i = kept_make s z p a t K xs d ts hs us l ls f.0 f.1 i
+kept_token_after_type s z _ _ t _ _ _ us n (goal_delete p a m q K xs d ts hs vs l ls st x) f i = kept_close_which s z p a m t q K xs d ts hs vs us l ls st x i
 kept_token_after_type s z _ _ t _ _ _ us n (goal_param h m q v K xs ts x) f i =
     some_moved (Mc.token_after_param s (Mc.with_param h (Pa.Typed (name_in m q) (type_as_read t).tree) (type_as_read t).depth) K xs) ((ts ++ (nam m q ∷ opr op.HasType v ∷ us)) ++ tok s z ∷ [])
     (((ts ++ (nam m q ∷ opr op.HasType v ∷ [])) ++ us) ++ tok s z ∷ [])

@@ -164,6 +164,17 @@ latest_read r b n m f es p q s v x z ts us is nt c i y h ld K xs =
     )
     ∙ (i.0 y p.at (C.Latest f) K xs (at (P.Want (no_pending y.returns)) (Args y p.at (C.Latest f) M.no_forms ∷ K) xs) h (covers_itself (at (P.Want (no_pending y.returns)) (Args y p.at (C.Latest f) M.no_forms ∷ K) xs))).1 z
 
+pub delete_read : (r b : Bool) (n m f : List ℕ) (t : TypeText) (p q s v x y z i k l : Spot) (ts : Text) → p.marks.opening ≡ O.Delete → is_left_type b p.marks.ahead ≡ false → IsType t ts →
+    AtomRead r false b (M.delete_expr p.at (name_in f z) (type_as_read t))
+    ((nam n p ∷ opr o.Dot q ∷ nam m s ∷ opr o.OpenParen v ∷ nam (codes "which") x ∷ opr o.OpenParen y ∷ nam f z ∷ opr o.Comma i ∷ ts) ++ opr o.CloseParen k ∷ opr o.CloseParen l ∷ [])
+delete_read r b n m f t p q s v x y z i k l ts is nt d c h ld K xs =
+    let us : Text = opr o.Dot q ∷ nam m s ∷ opr o.OpenParen v ∷ nam (codes "which") x ∷ opr o.OpenParen y ∷ nam f z ∷ opr o.Comma i ∷ ts in
+    step_all_then (nam n p ∷ us) (opr o.CloseParen k) (opr o.CloseParen l ∷ []) (at (P.Want c) K xs)
+    ∙ ap (step (opr o.CloseParen l)) (
+    ap (step_all (us ++ opr o.CloseParen k ∷ [])) (begin_opening_name O.Delete n p c b ld nt is K xs)
+    ∙ read_type t ts d (G.Delete c p.at (name_in f z)) K xs (opr o.CloseParen k) refl
+    )
+
 pub spawn_read : (r b : Bool) (n m : List ℕ) (e : Form Expr) (p q s : Spot) (ts : Text) → p.marks.opening ≡ O.Spawn → is_left_type b p.marks.ahead ≡ false → ExpressionRead false e ts →
     AtomRead r true b (M.spawn_expr p.at e) (nam n p ∷ opr o.Dot q ∷ tok (S.Macro m) s ∷ ts)
 spawn_read r b n m e p q s ts is nt i z h ld K xs t c =

@@ -39,6 +39,7 @@ use Rattle.jl_grammar.specs.declared.tree.Field.{Field}
 use Rattle.jl_grammar.specs.declared.tree.Header.{Header}
 use Rattle.jl_grammar.specs.declared.tree.Item.{Item}
 use Rattle.jl_grammar.specs.declared.tree.Method.{Method}
+use Rattle.jl_grammar.specs.declared.tree.Name.{Name}
 use Rattle.jl_grammar.specs.declared.tree.Param.{Param}
 use Rattle.jl_grammar.specs.declared.tree.Piece.{Piece}
 use Rattle.jl_grammar.specs.declared.tree.Stmt.{Stmt}
@@ -146,6 +147,11 @@ Fits free_type ts = Unit {0}
 Fits (left_type a d us) ts = IsSubStart ts × (place ts ≡ a) × Starts d (us ++ ts)
 Fits (made_type b a d us) ts = Makes b a ts × Starts d (us ++ ts)
 
+-- `Base.delete_method(which(` and the name
+pub data DeletingText : Bool → ℕ → Name → Text → Type 0 where
+  deleting_text : (b : Bool) (n m f : List ℕ) (p q s v x y z : Spot) → p.marks.opening ≡ Op.Delete → is_left_type b p.marks.ahead ≡ false →
+      DeletingText b p.at (name_in f z) (nam n p ∷ opr op.Dot q ∷ nam m s ∷ opr op.OpenParen v ∷ nam (codes "which") x ∷ opr op.OpenParen y ∷ nam f z ∷ [])
+
 -- the text before a type
 pub data GoalText : List Frame → ItemsRead → Goal → Typing → Text → Type 0 where
   goal_isa : (p : Pending) (e : Form Expr) (q : Spot) (K : List Frame) (xs : ItemsRead) (d : Choice) (ts us vs : Text) → Led K xs p.lead p.outer p.returns d ts → TopText p.returns p.levels us →
@@ -156,6 +162,8 @@ pub data GoalText : List Frame → ItemsRead → Goal → Typing → Text → Ty
       Starts d (us ++ vs) → IsSubStart vs → IsType s vs → GoalText K xs (Go.Right p (place vs) (type_as_read s)) free_type ((ts ++ us) ++ (vs ++ opr op.Subtype q ∷ []))
   goal_make : (p : Pending) (a : ℕ) (K : List Frame) (xs : ItemsRead) (d : Choice) (ts us : Text) → Led K xs p.lead p.outer p.returns d ts → LevelsText p.returns p.levels us →
       GoalText K xs (Go.Make p a) (made_type (is_comparison_start p.levels) a d us) (ts ++ us)
+  goal_delete : (p : Pending) (a : ℕ) (f : Name) (q : Spot) (K : List Frame) (xs : ItemsRead) (d : Choice) (ts us vs : Text) → Led K xs p.lead p.outer p.returns d ts → LevelsText p.returns p.levels us →
+      Starts d (us ++ vs) → DeletingText (is_comparison_start p.levels) a f vs → GoalText K xs (Go.Delete p a f) free_type ((ts ++ us) ++ (vs ++ opr op.Comma q ∷ []))
   goal_param : (h : Heading) (n : List ℕ) (q s : Spot) (K : List Frame) (xs : ItemsRead) (ts : Text) → HeadingText K xs h ts →
       GoalText K xs (Go.Param h (Some (name_in n q)) s.at) free_type (ts ++ (nam n q ∷ opr op.HasType s ∷ []))
   goal_unnamed : (h : Heading) (q : Spot) (K : List Frame) (xs : ItemsRead) (ts : Text) → HeadingText K xs h ts →
@@ -173,6 +181,16 @@ pub data DueText : Bool → ℕ → Due → Text → Type 0 where
   latest_name : (b : Bool) (n : List ℕ) (p q : Spot) → p.marks.opening ≡ Op.Latest → is_left_type b p.marks.ahead ≡ false → DueText b p.at Du.LatestName (nam n p ∷ opr op.Dot q ∷ [])
   latest_open : (b : Bool) (n m : List ℕ) (p q s : Spot) → p.marks.opening ≡ Op.Latest → is_left_type b p.marks.ahead ≡ false →
       DueText b p.at Du.LatestOpen (nam n p ∷ opr op.Dot q ∷ nam m s ∷ [])
+  delete_dot : (b : Bool) (n : List ℕ) (p : Spot) → p.marks.opening ≡ Op.Delete → is_left_type b p.marks.ahead ≡ false → DueText b p.at Du.DeleteDot (nam n p ∷ [])
+  delete_name : (b : Bool) (n : List ℕ) (p q : Spot) → p.marks.opening ≡ Op.Delete → is_left_type b p.marks.ahead ≡ false → DueText b p.at Du.DeleteName (nam n p ∷ opr op.Dot q ∷ [])
+  delete_open : (b : Bool) (n m : List ℕ) (p q s : Spot) → p.marks.opening ≡ Op.Delete → is_left_type b p.marks.ahead ≡ false →
+      DueText b p.at Du.DeleteOpen (nam n p ∷ opr op.Dot q ∷ nam m s ∷ [])
+  which_word : (b : Bool) (n m : List ℕ) (p q s v : Spot) → p.marks.opening ≡ Op.Delete → is_left_type b p.marks.ahead ≡ false →
+      DueText b p.at Du.WhichWord (nam n p ∷ opr op.Dot q ∷ nam m s ∷ opr op.OpenParen v ∷ [])
+  which_open : (b : Bool) (n m : List ℕ) (p q s v x : Spot) → p.marks.opening ≡ Op.Delete → is_left_type b p.marks.ahead ≡ false →
+      DueText b p.at Du.WhichOpen (nam n p ∷ opr op.Dot q ∷ nam m s ∷ opr op.OpenParen v ∷ nam (codes "which") x ∷ [])
+  which_name : (b : Bool) (n m : List ℕ) (p q s v x y : Spot) → p.marks.opening ≡ Op.Delete → is_left_type b p.marks.ahead ≡ false →
+      DueText b p.at Du.WhichName (nam n p ∷ opr op.Dot q ∷ nam m s ∷ opr op.OpenParen v ∷ nam (codes "which") x ∷ opr op.OpenParen y ∷ [])
   fetch_open : (b : Bool) (n : List ℕ) (p : Spot) → p.marks.opening ≡ Op.Fetch → is_left_type b p.marks.ahead ≡ false → DueText b p.at Du.FetchOpen (nam n p ∷ [])
   print_open : (b l : Bool) (n : List ℕ) (p : Spot) → IsPrint p.marks.opening l → is_left_type b p.marks.ahead ≡ false → DueText b p.at (Du.PrintOpen l) (nam n p ∷ [])
   quote_open : (b : Bool) (n : List ℕ) (p : Spot) → p.marks.opening ≡ Op.Quote → is_left_type b p.marks.ahead ≡ false → DueText b p.at Du.QuoteOpen (nam n p ∷ [])
@@ -213,7 +231,12 @@ pub data Has : Point → List Frame → ItemsRead → Text → Type 0 where
   has_due : (p : Pending) (a : ℕ) (x : Due) (K : List Frame) (xs : ItemsRead) (d : Choice) (ts us vs : Text) → Led K xs p.lead p.outer p.returns d ts → LevelsText p.returns p.levels us →
       Starts d (us ++ vs) → DueText (is_comparison_start p.levels) a x vs → Has (Po.Due p a x) K xs ((ts ++ us) ++ vs)
   has_quoted : (p : Pending) (ys : Forms Eval) (v : Spot) (K : List Frame) (xs : ItemsRead) (ts us : Text) (q : ℕ) → EvalText K xs (Ev.Quote p q) ts → EvalBlock ys us →
-      Has (Po.Quoted p (M.eval_quote q ys)) K xs (ts ++ (us ++ wrd wd.End v ∷ []))
+      Has (Po.Ending p (M.eval_quote q ys)) K xs (ts ++ (us ++ wrd wd.End v ∷ []))
+  has_deleting : (p : Pending) (a : ℕ) (f : Name) (K : List Frame) (xs : ItemsRead) (d : Choice) (ts us vs : Text) → Led K xs p.lead p.outer p.returns d ts → LevelsText p.returns p.levels us →
+      Starts d (us ++ vs) → DeletingText (is_comparison_start p.levels) a f vs → Has (Po.Deleting p a f) K xs ((ts ++ us) ++ vs)
+  has_deleted : (p : Pending) (a : ℕ) (f : Name) (t : TypeText) (q s : Spot) (K : List Frame) (xs : ItemsRead) (d : Choice) (ts us vs ws : Text) → Led K xs p.lead p.outer p.returns d ts →
+      LevelsText p.returns p.levels us → Starts d (us ++ vs) → DeletingText (is_comparison_start p.levels) a f vs → IsType t ws →
+      Has (Po.Ending p (M.delete_expr a f (type_as_read t))) K xs ((ts ++ us) ++ ((vs ++ opr op.Comma q ∷ ws) ++ opr op.CloseParen s ∷ []))
   has_after_eval : (p : Pending) (q : Spot) (K : List Frame) (xs : ItemsRead) (d : Choice) (ts us : Text) → Led K xs p.lead p.outer p.returns d ts → LevelsText p.returns p.levels us →
       Starts d (us ++ tok (sg.Macro (codes "eval")) q ∷ []) → Has (Po.AfterEval p q.at) K xs ((ts ++ us) ++ tok (sg.Macro (codes "eval")) q ∷ [])
   has_function : (g : Purpose) (K : List Frame) (xs : ItemsRead) (ts : Text) → PurposeText K xs g free_name ts → Has (Po.Function g) K xs ts

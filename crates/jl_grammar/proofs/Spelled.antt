@@ -35,6 +35,7 @@ mutual
   read_atom _ _ _ _ _ (GR.begin_end r b p q ss ts d) = A1.begin_read r b p q ss ts (read_block r ss ts d)
   read_atom _ _ _ _ _ (GR.latest_none r b n m f p q s v z ts is nt c) = A1.latest_none_read r b n m f p q s v z ts is nt c
   read_atom _ _ _ _ _ (GR.latest r b n m f es p q s v y z ts us is nt c d) = A1.latest_read r b n m f es p q s v y z ts us is nt c (read_arguments r es us d)
+  read_atom _ _ _ _ _ (GR.delete r b n m f t p q s v x y z w k l ts is nt d) = A1.delete_read r b n m f t p q s v x y z w k l ts is nt d
   read_atom _ _ _ _ _ (GR.spawn r b n m e p q s ts is nt d) = A1.spawn_read r b n m e p q s ts is nt (read_expression false e ts d)
   read_atom _ _ _ _ _ (GR.eval_long r b m p ts d) = A1.eval_long_read r b m p ts (read_long m ts d)
   read_atom _ _ _ _ _ (GR.eval_short r b m p ts d) = A1.eval_short_read r b m p ts (read_short m ts d)

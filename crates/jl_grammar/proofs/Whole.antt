@@ -124,6 +124,7 @@ type_finishes (G.Isa p e) a t K xs = expression_source_end_after_expr p.lead (LV
 type_finishes (G.Left p b) a t K xs = never None
 type_finishes (G.Right p b s) a t K xs = expression_source_end_after_expr p.lead (LV.expression p (M.sub_expr b s t)) K xs
 type_finishes (G.Make p b) a t K xs = never None
+type_finishes (G.Delete p b n) a t K xs = never None
 type_finishes (G.Param h x b) a t K xs = never None
 type_finishes (G.Parent d) a t K xs = header_finishes d.is_struct (M.header d.at d.name d.params (Some t)) K xs
 type_finishes (G.Field f n) a t K xs = never (MC.token_after_type S.Newline a (G.Field f n) t K xs)

@@ -136,6 +136,9 @@ eval_quote at xs = expr_form at (depth_around (depth_around xs.depth)) (E.EvalQu
 abbrev pub fetch_expr : ℕ → Form Expr → Form Expr
 fetch_expr at e = expr_form at (depth_around e.depth) (E.Fetch at e.tree)
 
+abbrev pub delete_expr : ℕ → Name → TypeForm → Form Expr
+delete_expr at n t = expr_form at (depth_around t.depth) (W.Delete at n t.tree)
+
 abbrev pub print_expr : ℕ → Bool → Forms Piece → Form Expr
 print_expr at line ps = expr_form at (depth_around ps.depth) (E.Print at line ps.trees)
 

@@ -157,6 +157,10 @@ mutual
     latest : (r b : Bool) (n m : List ℕ) (f : Callee) (es : Forms Expr) (p q s v y z : Spot) (ts us : Text) →
         p.marks.opening ≡ O.Latest → is_left_type b p.marks.ahead ≡ false → CalleeText f ts → Arguments r es us →
         Atom r false b (M.call_expr p.at (C.Latest f) es) (((nam n p ∷ opr o.Dot q ∷ nam m s ∷ opr o.OpenParen v ∷ ts) ++ opr o.Comma y ∷ us) ++ opr o.CloseParen z ∷ [])
+    -- "Base" "." "delete_method" "(" "which" "(" name "," type ")" ")"
+    delete : (r b : Bool) (n m f : List ℕ) (t : TypeText) (p q s v x y z w k l : Spot) (ts : Text) → p.marks.opening ≡ O.Delete → is_left_type b p.marks.ahead ≡ false →
+        IsType t ts → Atom r false b (M.delete_expr p.at (name_in f z) (type_as_read t))
+        ((nam n p ∷ opr o.Dot q ∷ nam m s ∷ opr o.OpenParen v ∷ nam (codes "which") x ∷ opr o.OpenParen y ∷ nam f z ∷ opr o.Comma w ∷ ts) ++ opr o.CloseParen k ∷ opr o.CloseParen l ∷ [])
     -- "Threads" "." "@spawn" expr
     spawn : (r b : Bool) (n m : List ℕ) (e : Form Expr) (p q s : Spot) (ts : Text) → p.marks.opening ≡ O.Spawn → is_left_type b p.marks.ahead ≡ false →
         Expression false e ts → Atom r true b (M.spawn_expr p.at e) (nam n p ∷ opr o.Dot q ∷ tok (S.Macro m) s ∷ ts)

@@ -74,7 +74,7 @@ use Rattle.jl_grammar.specs.Levels.{no_levels, pending_after, no_pending, push_o
 use Rattle.jl_grammar.specs.Marks.{is_function}
 use Rattle.jl_grammar.specs.Texts.{is_method, is_binding, is_left_type}
 use Rattle.jl_typeread.specs.declared.tree.TypeText.{TypeText}
-use Rattle.jl_grammar.specs.Turns.{at, name_at, is_return_allowed, is_return_allowed_in, with_stmt, with_method, with_eval, item_of, end_block, block_elseif, block_else, block_word, end_evals, evals_word, token_after_comparison, token_after_operand, type_start, type_turn, begin_operand, begin_word, begin_operator, at_first, at_again, at_piece, at_texted, at_dot, at_index, at_indexed, at_quoted}
+use Rattle.jl_grammar.specs.Turns.{at, name_at, is_return_allowed, is_return_allowed_in, with_stmt, with_method, with_eval, item_of, end_block, block_elseif, block_else, block_word, end_evals, evals_word, token_after_comparison, token_after_operand, type_start, type_turn, begin_operand, begin_word, begin_operator, at_first, at_again, at_piece, at_texted, at_dot, at_index, at_indexed, at_ending}
 
 -- ---- entries of a script and of blocks
 
@@ -202,18 +202,29 @@ token_after_eval s m b p a K xs = begin_operand s m b (pending_of_eval p a) K xs
 abbrev pub due_dot : Due → Pending → ℕ → List Frame → ItemsRead → Option State
 due_dot D.SpawnDot p a K xs = at (P.Due p a D.SpawnMacro) K xs
 due_dot D.LatestDot p a K xs = at (P.Due p a D.LatestName) K xs
+due_dot D.DeleteDot p a K xs = at (P.Due p a D.DeleteName) K xs
 due_dot d p a K xs = None
 
 abbrev pub due_open : Due → Pending → ℕ → List Frame → ItemsRead → Option State
 due_open D.LatestOpen p a K xs = at (P.Function (R.Latest p a)) K xs
+due_open D.DeleteOpen p a K xs = at (P.Due p a D.WhichWord) K xs
+due_open D.WhichOpen p a K xs = at (P.Due p a D.WhichName) K xs
 due_open D.FetchOpen p a K xs = at (P.Want (no_pending p.returns)) (Fetch p a ∷ K) xs
 due_open (D.PrintOpen l) p a K xs = at (P.First p.returns) (Print p a l M.no_forms ∷ K) xs
 due_open D.QuoteOpen p a K xs = at (P.Due p a D.QuoteWord) K xs
 due_open d p a K xs = None
 
-abbrev pub due_name : Due → Pending → ℕ → List Frame → ItemsRead → Option State
-due_name D.LatestName p a K xs = at (P.Due p a D.LatestOpen) K xs
-due_name d p a K xs = None
+-- the word `which`
+abbrev pub due_which : Bool → Pending → ℕ → List Frame → ItemsRead → Option State
+due_which true p a K xs = at (P.Due p a D.WhichOpen) K xs
+due_which false p a K xs = None
+
+abbrev pub due_name : Due → List ℕ → ℕ → Pending → ℕ → List Frame → ItemsRead → Option State
+due_name D.LatestName n b p a K xs = at (P.Due p a D.LatestOpen) K xs
+due_name D.DeleteName n b p a K xs = at (P.Due p a D.DeleteOpen) K xs
+due_name D.WhichWord n b p a K xs = due_which (bytes_eq n (codes "which")) p a K xs
+due_name D.WhichName n b p a K xs = at (P.Deleting p a (name_at b n)) K xs
+due_name d n b p a K xs = None
 
 abbrev pub due_macro : Due → Pending → ℕ → List Frame → ItemsRead → Option State
 due_macro D.SpawnMacro p a K xs = at (P.Want (push_outer (X.Spawn p.levels a) false p)) K xs
@@ -223,13 +234,18 @@ abbrev pub due_quote : Due → Pending → ℕ → List Frame → ItemsRead → 
 due_quote D.QuoteWord p a K xs = at P.Entry (Evals (E.Quote p a) M.no_forms ∷ K) xs
 due_quote d p a K xs = None
 
-abbrev pub at_due : Terminal → Pending → ℕ → Due → List Frame → ItemsRead → Option State
-at_due (S.Operator o.Dot) p a d K xs = due_dot d p a K xs
-at_due (S.Operator o.OpenParen) p a d K xs = due_open d p a K xs
-at_due (S.Name n) p a d K xs = due_name d p a K xs
-at_due (S.Macro n) p a d K xs = due_macro d p a K xs
-at_due (S.Word w.Quote) p a d K xs = due_quote d p a K xs
-at_due s p a d K xs = None
+abbrev pub at_due : Terminal → ℕ → Pending → ℕ → Due → List Frame → ItemsRead → Option State
+at_due (S.Operator o.Dot) b p a d K xs = due_dot d p a K xs
+at_due (S.Operator o.OpenParen) b p a d K xs = due_open d p a K xs
+at_due (S.Name n) b p a d K xs = due_name d n b p a K xs
+at_due (S.Macro n) b p a d K xs = due_macro d p a K xs
+at_due (S.Word w.Quote) b p a d K xs = due_quote d p a K xs
+at_due s b p a d K xs = None
+
+-- behind the name in `Base.delete_method(which(f`
+abbrev pub at_deleting : Terminal → Pending → ℕ → Name → List Frame → ItemsRead → Option State
+at_deleting (S.Operator o.Comma) p a n K xs = at (P.Type (G.Delete p a n) type_start) K xs
+at_deleting s p a n K xs = None
 
 -- ---- names of functions
 
@@ -443,12 +459,18 @@ abbrev pub open_make : Terminal → Pending → ℕ → TypeForm → List Frame 
 open_make (S.Operator o.OpenParen) p a t K xs = at (P.First p.returns) (Args p a (C.Type t) M.no_forms ∷ K) xs
 open_make s p a t K xs = None
 
+-- `)` behind the type of a deletion
+abbrev pub close_which : Terminal → Pending → ℕ → Name → TypeForm → List Frame → ItemsRead → Option State
+close_which (S.Operator o.CloseParen) p a n t K xs = at (P.Ending p (M.delete_expr a n t)) K xs
+close_which s p a n t K xs = None
+
 -- a token behind a type
 abbrev pub token_after_type : Terminal → ℕ → Goal → TypeForm → List Frame → ItemsRead → Option State
 token_after_type s b (G.Isa p e) t K xs = token_after_comparison s b p (M.isa_expr e t) K xs
 token_after_type s b (G.Left p a) t K xs = token_after_left s p a t K xs
 token_after_type s b (G.Right p a l) t K xs = token_after_comparison s b p (M.sub_expr a l t) K xs
 token_after_type s b (G.Make p a) t K xs = open_make s p a t K xs
+token_after_type s b (G.Delete p a n) t K xs = close_which s p a n t K xs
 token_after_type s b (G.Param h x a) t K xs = token_after_param s (with_param h (M.typed_param x a t) t.depth) K xs
 token_after_type s b (G.Parent d) t K xs = end_header s d (Some t) K xs
 token_after_type s b (G.Field f n) t K xs = token_after_field s (with_field f n (Some t.tree) t.depth) K xs
@@ -473,8 +495,9 @@ step_by s m a (P.Have p e) K xs = token_after_operand s a p e K xs
 step_by s m a (P.Dot p e) K xs = at_dot s a p e K xs
 step_by s m a (P.Index p e) K xs = at_index s p e K xs
 step_by s m a (P.Indexed p e n) K xs = at_indexed s p e n K xs
-step_by s m a (P.Due p b d) K xs = at_due s p b d K xs
-step_by s m a (P.Quoted p e) K xs = at_quoted s p e K xs
+step_by s m a (P.Due p b d) K xs = at_due s a p b d K xs
+step_by s m a (P.Deleting p b n) K xs = at_deleting s p b n K xs
+step_by s m a (P.Ending p e) K xs = at_ending s p e K xs
 step_by s m a (P.AfterEval p b) K xs = token_after_eval s m a p b K xs
 step_by s m a (P.Function g) K xs = at_function s a g K xs
 step_by s m a (P.Named g n) K xs = at_named s g n K xs

@@ -183,7 +183,10 @@ is_call _ = false
 
 -- behind `Base.` and a name
 abbrev pub base_call : Bool → List ℕ → Opening
-base_call true n = if bytes_eq n (codes "invokelatest") then O.Latest else O.Call
+base_call true n =
+    if bytes_eq n (codes "invokelatest") then O.Latest
+    else if bytes_eq n (codes "delete_method") then O.Delete
+    else O.Call
 base_call false n = O.Plain
 
 abbrev pub base_operator : Operator → Opening

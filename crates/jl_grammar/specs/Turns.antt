@@ -140,7 +140,7 @@ block_word _ b k ss K xs = None
 
 abbrev pub end_evals : EvalKind → Forms Eval → List Frame → ItemsRead → Option State
 end_evals (E.Begin p a) vs K xs = at (P.Have p (M.eval_block a vs)) K xs
-end_evals (E.Quote p a) vs K xs = at (P.Quoted p (M.eval_quote a vs)) K xs
+end_evals (E.Quote p a) vs K xs = at (P.Ending p (M.eval_quote a vs)) K xs
 
 abbrev pub evals_word : Word → EvalKind → Forms Eval → List Frame → ItemsRead → Option State
 evals_word w.End k vs K xs = end_evals k vs K xs
@@ -302,6 +302,7 @@ begin_opening O.Binding n a p K xs = at (P.Have p (M.name a n)) K xs
 begin_opening O.Call n a p K xs = at (P.Named (R.Call p a) (name_at a n)) K xs
 begin_opening O.Make n a p K xs = first_of_type (S.Name n) a (G.Make p a) K xs
 begin_opening O.Latest n a p K xs = at (P.Due p a D.LatestDot) K xs
+begin_opening O.Delete n a p K xs = at (P.Due p a D.DeleteDot) K xs
 begin_opening O.Spawn n a p K xs = at (P.Due p a D.SpawnDot) K xs
 begin_opening O.Quote n a p K xs = at (P.Due p a D.QuoteOpen) K xs
 begin_opening O.Fetch n a p K xs = at (P.Due p a D.FetchOpen) K xs
@@ -408,6 +409,6 @@ abbrev pub at_indexed : Terminal → Pending → Form Expr → ℤ → List Fram
 at_indexed (S.Operator o.CloseBracket) p e n K xs = at (P.Have p (M.part e n)) K xs
 at_indexed s p e n K xs = None
 
-abbrev pub at_quoted : Terminal → Pending → Form Expr → List Frame → ItemsRead → Option State
-at_quoted (S.Operator o.CloseParen) p e K xs = at (P.Have p e) K xs
-at_quoted s p e K xs = None
+abbrev pub at_ending : Terminal → Pending → Form Expr → List Frame → ItemsRead → Option State
+at_ending (S.Operator o.CloseParen) p e K xs = at (P.Have p e) K xs
+at_ending s p e K xs = None

@@ -14,6 +14,8 @@ pub enum Opening {
     Make,
     /// `Base.invokelatest(`
     Latest,
+    /// `Base.delete_method(`
+    Delete,
     /// `Threads.@spawn`
     Spawn,
     /// `eval(`

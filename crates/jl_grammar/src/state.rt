@@ -228,6 +228,8 @@ pub enum Goal {
     Right(Owned<Pending>, u32, TypeForm),
     /// a name with braces, before `(`
     Make(Owned<Pending>, u32),
+    /// behind `Base.delete_method(which(f,`
+    Delete(Owned<Pending>, u32, Name),
     Param(Owned<Heading>, Option<Name>, u32),
     Parent(Owned<Declaring>),
     Field(Owned<Fielding>, Name),
@@ -241,6 +243,12 @@ pub enum Due {
     LatestDot,
     LatestName,
     LatestOpen,
+    DeleteDot,
+    DeleteName,
+    DeleteOpen,
+    WhichWord,
+    WhichOpen,
+    WhichName,
     FetchOpen,
     PrintOpen(bool),
     QuoteOpen,
@@ -272,8 +280,10 @@ pub enum Point {
     Index(Owned<Pending>, Form<Expr>),
     Indexed(Owned<Pending>, Form<Expr>, i64),
     Due(Owned<Pending>, u32, Due),
-    /// before the bracket that ends `eval(quote .. end`
-    Quoted(Owned<Pending>, Form<Expr>),
+    /// directly behind the name in `Base.delete_method(which(f`
+    Deleting(Owned<Pending>, u32, Name),
+    /// before the bracket that ends `eval(quote .. end` or `Base.delete_method(which(f, T)`
+    Ending(Owned<Pending>, Form<Expr>),
     AfterEval(Owned<Pending>, u32),
     /// the name of a function must stand here
     Function(Purpose),

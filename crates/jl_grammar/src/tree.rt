@@ -217,6 +217,8 @@ pub enum Expr {
     Begin(u32, Stmts),
     /// `Base.invokelatest(f, e, e)`
     Latest(u32, Callee, Exprs),
+    /// `Base.delete_method(which(f, T))`, by the place of `Base`
+    Delete(u32, Name, TypeText),
     /// `Threads.@spawn e`
     Spawn(u32, SharedNode<Expr>),
     /// `@eval` and a method

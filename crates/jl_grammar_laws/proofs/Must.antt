@@ -55,7 +55,7 @@ use Rattle.jl_grammar.specs.Texts.{Text, Spot, tok, opr, nam, lexemes, NoEnd, is
 use Rattle.jl_grammar.specs.Turns.{at}
 use Rattle.jl_grammar.specs.Types.{IsType}
 use Rattle.jl_grammar.proofs.Ended.{nowhere}
-use Rattle.jl_grammar.proofs.Points.{Has, HasSome, has_entry, has_bound, has_returned, has_want, has_first_paren, has_first_args, has_first_print, has_again, has_piece, has_texted, has_have, has_dot, has_index, has_indexed, has_due, has_quoted, has_after_eval, has_function, has_named, has_dotted, has_colon, has_known, has_first_param, has_next_param, has_param, has_headed, has_where, has_type, has_abstract, has_decl_name, has_declared, has_params, has_fields, has_field, has_made, has_made_method}
+use Rattle.jl_grammar.proofs.Points.{Has, HasSome, has_entry, has_bound, has_returned, has_want, has_first_paren, has_first_args, has_first_print, has_again, has_piece, has_texted, has_have, has_dot, has_index, has_indexed, has_due, has_quoted, has_deleting, has_deleted, has_after_eval, has_function, has_named, has_dotted, has_colon, has_known, has_first_param, has_next_param, has_param, has_headed, has_where, has_type, has_abstract, has_decl_name, has_declared, has_params, has_fields, has_field, has_made, has_made_method}
 use Rattle.jl_grammar.proofs.Kept.{has_all}
 use Rattle.jl_grammar.proofs.Reading.{step_all_append, none_is_some}
 use Rattle.jl_grammar.proofs.Completed.{read_begins, none_begins}
@@ -273,6 +273,7 @@ type_stops _ (a_name n) b (G.Isa p e) t K xs = refl
 type_stops _ (a_name n) b (G.Left p a) t K xs = refl
 type_stops _ (a_name n) b (G.Right p a l) t K xs = refl
 type_stops _ (a_name n) b (G.Make p a) t K xs = refl
+type_stops _ (a_name n) b (G.Delete p a m) t K xs = refl
 type_stops _ (a_name n) b (G.Param h x a) t K xs = refl
 type_stops _ (a_name n) b (G.Parent d) t K xs = header_stops d.is_struct (S.Name n) (a_name n) _ K xs
 type_stops _ (a_name n) b (G.Field f m) t K xs = refl
@@ -280,6 +281,7 @@ type_stops _ a_bound b (G.Isa p e) t K xs = refl
 type_stops _ a_bound b (G.Left p a) t K xs = refl
 type_stops _ a_bound b (G.Right p a l) t K xs = refl
 type_stops _ a_bound b (G.Make p a) t K xs = refl
+type_stops _ a_bound b (G.Delete p a m) t K xs = refl
 type_stops _ a_bound b (G.Param h x a) t K xs = refl
 type_stops _ a_bound b (G.Parent d) t K xs = header_stops d.is_struct (S.Operator o.Supertype) a_bound _ K xs
 type_stops _ a_bound b (G.Field f m) t K xs = refl
@@ -449,6 +451,8 @@ has_variable _ _ _ _ (has_index p e q K xs d ts us vs l ls st a) = tt
 has_variable _ _ _ _ (has_indexed p e m q y K xs d ts us vs l ls st a h) = tt
 has_variable _ _ _ _ (has_due p a x K xs d ts us vs l ls st c) = tt
 has_variable _ _ _ _ (has_quoted p ys v K xs ts us q o b) = tt
+has_variable _ _ _ _ (has_deleting p a f K xs d ts us vs l ls st c) = tt
+has_variable _ _ _ _ (has_deleted p a f t q y K xs d ts us vs ws l ls st c i) = tt
 has_variable _ _ _ _ (has_after_eval p q K xs d ts us l ls st) = tt
 has_variable _ _ _ _ (has_function g K xs ts t) = tt
 has_variable _ _ _ _ (has_named g c m q K xs ts t k) = tt
@@ -546,10 +550,16 @@ headed_differs h K xs = body_or_none h.start.long nowhere.marks 0 h.start.place 
 
 due_differs : (p : Pending) (b : ℕ) (d : Due) (K : List Frame) (xs : ItemsRead) → Differs (at (P.Due p b d) K xs)
 due_differs p b D.LatestName K xs = no_brackets _ refl
+due_differs p b D.DeleteName K xs = no_brackets _ refl
+due_differs p b D.WhichName K xs = no_brackets _ refl
 due_differs p b D.SpawnDot K xs = no_name _ refl
 due_differs p b D.SpawnMacro K xs = no_name _ refl
 due_differs p b D.LatestDot K xs = no_name _ refl
 due_differs p b D.LatestOpen K xs = no_name _ refl
+due_differs p b D.DeleteDot K xs = no_name _ refl
+due_differs p b D.DeleteOpen K xs = no_name _ refl
+due_differs p b D.WhichWord K xs = no_name _ refl
+due_differs p b D.WhichOpen K xs = no_name _ refl
 due_differs p b D.FetchOpen K xs = no_name _ refl
 due_differs p b (D.PrintOpen l) K xs = no_name _ refl
 due_differs p b D.QuoteOpen K xs = no_name _ refl
@@ -572,7 +582,8 @@ differs (P.Dot p e) K xs v w = no_brackets _ refl
 differs (P.Index p e) K xs v w = no_name _ refl
 differs (P.Indexed p e n) K xs v w = no_name _ refl
 differs (P.Due p b d) K xs v w = due_differs p b d K xs
-differs (P.Quoted p e) K xs v w = no_name _ refl
+differs (P.Deleting p b n) K xs v w = no_name _ refl
+differs (P.Ending p e) K xs v w = no_name _ refl
 differs (P.AfterEval p b) K xs v w = number_step_all _ tt
 differs (P.Function g) K xs v w = no_brackets _ refl
 differs (P.Named g n) K xs v w = no_name _ refl

@@ -247,6 +247,7 @@ settled_begin_opening O.Binding n a p K xs = tt
 settled_begin_opening O.Call n a p K xs = tt
 settled_begin_opening O.Make n a p K xs = settled_first_of_type (S.Name n) a (G.Make p a) K xs
 settled_begin_opening O.Latest n a p K xs = tt
+settled_begin_opening O.Delete n a p K xs = tt
 settled_begin_opening O.Spawn n a p K xs = tt
 settled_begin_opening O.Quote n a p K xs = tt
 settled_begin_opening O.Fetch n a p K xs = tt
@@ -346,9 +347,9 @@ settled_at_indexed : (x0 : Terminal) (x1 : Pending) (x2 : Form Expr) (x3 : ℤ) 
 settled_at_indexed (S.Operator o.CloseBracket) p e n K xs = tt
 settled_at_indexed s p e n K xs = tt
 
-settled_at_quoted : (x0 : Terminal) (x1 : Pending) (x2 : Form Expr) (x3 : List Frame) (x4 : ItemsRead) → Settled (TU.at_quoted x0 x1 x2 x3 x4)
-settled_at_quoted (S.Operator o.CloseParen) p e K xs = tt
-settled_at_quoted s p e K xs = tt
+settled_at_ending : (x0 : Terminal) (x1 : Pending) (x2 : Form Expr) (x3 : List Frame) (x4 : ItemsRead) → Settled (TU.at_ending x0 x1 x2 x3 x4)
+settled_at_ending (S.Operator o.CloseParen) p e K xs = tt
+settled_at_ending s p e K xs = tt
 
 settled_begin_item : (x0 : Bool) (x1 : Bool) (x2 : Marks) (x3 : List ℕ) (x4 : ℕ) (x5 : List Frame) (x6 : ItemsRead) → Settled (MC.begin_item x0 x1 x2 x3 x4 x5 x6)
 settled_begin_item true b m n a K xs = tt
@@ -461,18 +462,28 @@ settled_token_after_eval s m b p a K xs = settled_begin_operand s m b (pending_o
 settled_due_dot : (x0 : Due) (x1 : Pending) (x2 : ℕ) (x3 : List Frame) (x4 : ItemsRead) → Settled (MC.due_dot x0 x1 x2 x3 x4)
 settled_due_dot D.SpawnDot p a K xs = tt
 settled_due_dot D.LatestDot p a K xs = tt
+settled_due_dot D.DeleteDot p a K xs = tt
 settled_due_dot d p a K xs = tt
 
 settled_due_open : (x0 : Due) (x1 : Pending) (x2 : ℕ) (x3 : List Frame) (x4 : ItemsRead) → Settled (MC.due_open x0 x1 x2 x3 x4)
 settled_due_open D.LatestOpen p a K xs = tt
+settled_due_open D.DeleteOpen p a K xs = tt
+settled_due_open D.WhichOpen p a K xs = tt
 settled_due_open D.FetchOpen p a K xs = tt
 settled_due_open (D.PrintOpen l) p a K xs = tt
 settled_due_open D.QuoteOpen p a K xs = tt
 settled_due_open d p a K xs = tt
 
-settled_due_name : (x0 : Due) (x1 : Pending) (x2 : ℕ) (x3 : List Frame) (x4 : ItemsRead) → Settled (MC.due_name x0 x1 x2 x3 x4)
-settled_due_name D.LatestName p a K xs = tt
-settled_due_name d p a K xs = tt
+settled_due_which : (x0 : Bool) (x1 : Pending) (x2 : ℕ) (x3 : List Frame) (x4 : ItemsRead) → Settled (MC.due_which x0 x1 x2 x3 x4)
+settled_due_which true p a K xs = tt
+settled_due_which false p a K xs = tt
+
+settled_due_name : (x0 : Due) (x1 : List ℕ) (x2 : ℕ) (x3 : Pending) (x4 : ℕ) (x5 : List Frame) (x6 : ItemsRead) → Settled (MC.due_name x0 x1 x2 x3 x4 x5 x6)
+settled_due_name D.LatestName n b p a K xs = tt
+settled_due_name D.DeleteName n b p a K xs = tt
+settled_due_name D.WhichWord n b p a K xs = settled_due_which (bytes_eq n (codes "which")) p a K xs
+settled_due_name D.WhichName n b p a K xs = tt
+settled_due_name d n b p a K xs = tt
 
 settled_due_macro : (x0 : Due) (x1 : Pending) (x2 : ℕ) (x3 : List Frame) (x4 : ItemsRead) → Settled (MC.due_macro x0 x1 x2 x3 x4)
 settled_due_macro D.SpawnMacro p a K xs = tt
@@ -482,13 +493,17 @@ settled_due_quote : (x0 : Due) (x1 : Pending) (x2 : ℕ) (x3 : List Frame) (x4 :
 settled_due_quote D.QuoteWord p a K xs = tt
 settled_due_quote d p a K xs = tt
 
-settled_at_due : (x0 : Terminal) (x1 : Pending) (x2 : ℕ) (x3 : Due) (x4 : List Frame) (x5 : ItemsRead) → Settled (MC.at_due x0 x1 x2 x3 x4 x5)
-settled_at_due (S.Operator o.Dot) p a d K xs = settled_due_dot d p a K xs
-settled_at_due (S.Operator o.OpenParen) p a d K xs = settled_due_open d p a K xs
-settled_at_due (S.Name n) p a d K xs = settled_due_name d p a K xs
-settled_at_due (S.Macro n) p a d K xs = settled_due_macro d p a K xs
-settled_at_due (S.Word w.Quote) p a d K xs = settled_due_quote d p a K xs
-settled_at_due s p a d K xs = tt
+settled_at_due : (x0 : Terminal) (x1 : ℕ) (x2 : Pending) (x3 : ℕ) (x4 : Due) (x5 : List Frame) (x6 : ItemsRead) → Settled (MC.at_due x0 x1 x2 x3 x4 x5 x6)
+settled_at_due (S.Operator o.Dot) b p a d K xs = settled_due_dot d p a K xs
+settled_at_due (S.Operator o.OpenParen) b p a d K xs = settled_due_open d p a K xs
+settled_at_due (S.Name n) b p a d K xs = settled_due_name d n b p a K xs
+settled_at_due (S.Macro n) b p a d K xs = settled_due_macro d p a K xs
+settled_at_due (S.Word w.Quote) b p a d K xs = settled_due_quote d p a K xs
+settled_at_due s b p a d K xs = tt
+
+settled_at_deleting : (x0 : Terminal) (x1 : Pending) (x2 : ℕ) (x3 : Name) (x4 : List Frame) (x5 : ItemsRead) → Settled (MC.at_deleting x0 x1 x2 x3 x4 x5)
+settled_at_deleting (S.Operator o.Comma) p a n K xs = tt
+settled_at_deleting s p a n K xs = tt
 
 settled_at_function : (x0 : Terminal) (x1 : ℕ) (x2 : Purpose) (x3 : List Frame) (x4 : ItemsRead) → Settled (MC.at_function x0 x1 x2 x3 x4)
 settled_at_function (S.Name n) a g K xs = tt
@@ -670,11 +685,16 @@ settled_open_make : (x0 : Terminal) (x1 : Pending) (x2 : ℕ) (x3 : TypeForm) (x
 settled_open_make (S.Operator o.OpenParen) p a t K xs = tt
 settled_open_make s p a t K xs = tt
 
+settled_close_which : (x0 : Terminal) (x1 : Pending) (x2 : ℕ) (x3 : Name) (x4 : TypeForm) (x5 : List Frame) (x6 : ItemsRead) → Settled (MC.close_which x0 x1 x2 x3 x4 x5 x6)
+settled_close_which (S.Operator o.CloseParen) p a n t K xs = tt
+settled_close_which s p a n t K xs = tt
+
 settled_token_after_type : (x0 : Terminal) (x1 : ℕ) (x2 : Goal) (x3 : TypeForm) (x4 : List Frame) (x5 : ItemsRead) → Settled (MC.token_after_type x0 x1 x2 x3 x4 x5)
 settled_token_after_type s b (G.Isa p e) t K xs = settled_token_after_comparison s b p (M.isa_expr e t) K xs
 settled_token_after_type s b (G.Left p a) t K xs = settled_token_after_left s p a t K xs
 settled_token_after_type s b (G.Right p a l) t K xs = settled_token_after_comparison s b p (M.sub_expr a l t) K xs
 settled_token_after_type s b (G.Make p a) t K xs = settled_open_make s p a t K xs
+settled_token_after_type s b (G.Delete p a n) t K xs = settled_close_which s p a n t K xs
 settled_token_after_type s b (G.Param h x a) t K xs = settled_token_after_param s (with_param h (M.typed_param x a t) t.depth) K xs
 settled_token_after_type s b (G.Parent d) t K xs = settled_end_header s d (Some t) K xs
 settled_token_after_type s b (G.Field f n) t K xs = settled_token_after_field s (with_field f n (Some t.tree) t.depth) K xs
@@ -697,8 +717,9 @@ settled_step_by s m a (P.Have p e) K xs = settled_token_after_operand s a p e K 
 settled_step_by s m a (P.Dot p e) K xs = settled_at_dot s a p e K xs
 settled_step_by s m a (P.Index p e) K xs = settled_at_index s p e K xs
 settled_step_by s m a (P.Indexed p e n) K xs = settled_at_indexed s p e n K xs
-settled_step_by s m a (P.Due p b d) K xs = settled_at_due s p b d K xs
-settled_step_by s m a (P.Quoted p e) K xs = settled_at_quoted s p e K xs
+settled_step_by s m a (P.Due p b d) K xs = settled_at_due s a p b d K xs
+settled_step_by s m a (P.Deleting p b n) K xs = settled_at_deleting s p b n K xs
+settled_step_by s m a (P.Ending p e) K xs = settled_at_ending s p e K xs
 settled_step_by s m a (P.AfterEval p b) K xs = settled_token_after_eval s m a p b K xs
 settled_step_by s m a (P.Function g) K xs = settled_at_function s a g K xs
 settled_step_by s m a (P.Named g n) K xs = settled_at_named s g n K xs

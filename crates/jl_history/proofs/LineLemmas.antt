@@ -1,5 +1,5 @@
 -- Lines, without their newline.
-use Rattle.std.proofs.Common.{◌≡◌, ◌∙◌, sym, refl, ap, subst, ℕ, ◌<◌, ◌≤◌, ◌^◌, arith, true, ◌&&◌, cond, nat_lt, codes, decimal, List, [], ◌∷◌, ◌++◌, length, bytes_eq, Option, None, Some, IfSome, append_assoc, append-nil}
+use Rattle.std.proofs.Common.{◌≡◌, ◌∙◌, sym, refl, ap, subst, ℕ, ◌<◌, ◌≤◌, ◌^◌, arith, Bool, true, false, ◌&&◌, cond, nat_lt, codes, decimal, List, [], ◌∷◌, ◌++◌, length, bytes_eq, Option, None, Some, IfSome, append_assoc, append-nil}
 use Rattle.std.specs.Str.{is_utf8}
 use Rattle.std.proofs.lemmas.Str.{IsUtf8-from_is_utf8, is_utf8-from_IsUtf8}
 use Rattle.jl_report.specs.declared.entry.Step.{Step}
@@ -9,7 +9,7 @@ use Rattle.jl_report.specs.declared.entry.Ending.TheVariants as N
 use Rattle.jl_report.specs.HistoryText.{newline, spaced, number_line, step_line, ending_line}
 use Rattle.jl_history.specs.declared.fields.TheConstants.{MOST_NUMBER}
 use Rattle.jl_history.specs.Form.{lacks, IsText, IsKey, IsStep, IsEnding}
-use Rattle.jl_history.specs.Fields.{◌>>=◌, space, cut, by_word, number_in, two_in, is_text, key_in, two_step, step_by, step_in, ending_by, outcome_by, ending_in}
+use Rattle.jl_history.specs.Fields.{◌>>=◌, space, cut, by_word, number_in, two_in, is_text, key_in, place_step, two_step, step_by, step_in, ending_by, outcome_by, ending_in}
 use Rattle.jl_history.proofs.OptionLemmas.{bind_holds, cond_holds, and_true, same_bytes}
 use Rattle.jl_history.proofs.CutLemmas.{IsCut, cut_holds, cut_again, lacks_append, lacks_parts}
 use Rattle.jl_history.proofs.NumberLemmas.{IsNumberIn, number_holds, number_again, AreTwo, two_holds, two_again, decimal_lacks, small_one}
@@ -85,68 +85,84 @@ step_line_is (S.Absent place at) = number_line_is (codes "absent") (place ∷ at
 pub two_small : (a b : ℕ) → a ≤ MOST_NUMBER → b ≤ MOST_NUMBER → AreSmall (a ∷ b ∷ [])
 two_small a b l m = (small_one a l, (small_one b m, tt))
 
-pub step_lacks : (s : Step) → IsStep s → lacks newline (step_words s) ≡ true
-step_lacks (S.Look world at) (l, m) = words_lack (codes "look") (world ∷ at ∷ []) refl (two_small world at l m)
-step_lacks (S.Def site at) (l, m) = words_lack (codes "def") (site ∷ at ∷ []) refl (two_small site at l m)
-step_lacks (S.Spawn child at) (l, m) = words_lack (codes "spawn") (child ∷ at ∷ []) refl (two_small child at l m)
-step_lacks (S.Fetch task at) (l, m) = words_lack (codes "fetch") (task ∷ at ∷ []) refl (two_small task at l m)
-step_lacks (S.WorldFull at) l = words_lack (codes "worldfull") (at ∷ []) refl (small_one at l, tt)
-step_lacks (S.TaskFull at) l = words_lack (codes "taskfull") (at ∷ []) refl (small_one at l, tt)
-step_lacks (S.Del place at) l = absurd l
-step_lacks (S.Absent place at) l = absurd l
+pub step_lacks : (places : Bool) (s : Step) → IsStep places s → lacks newline (step_words s) ≡ true
+step_lacks places (S.Look world at) (l, m) = words_lack (codes "look") (world ∷ at ∷ []) refl (two_small world at l m)
+step_lacks places (S.Def site at) (l, m) = words_lack (codes "def") (site ∷ at ∷ []) refl (two_small site at l m)
+step_lacks places (S.Spawn child at) (l, m) = words_lack (codes "spawn") (child ∷ at ∷ []) refl (two_small child at l m)
+step_lacks places (S.Fetch task at) (l, m) = words_lack (codes "fetch") (task ∷ at ∷ []) refl (two_small task at l m)
+step_lacks places (S.WorldFull at) l = words_lack (codes "worldfull") (at ∷ []) refl (small_one at l, tt)
+step_lacks places (S.TaskFull at) l = words_lack (codes "taskfull") (at ∷ []) refl (small_one at l, tt)
+step_lacks places (S.Del place at) (told, l, m) = words_lack (codes "del") (place ∷ at ∷ []) refl (two_small place at l m)
+step_lacks places (S.Absent place at) (told, l, m) = words_lack (codes "absent") (place ∷ at ∷ []) refl (two_small place at l m)
 
-pub record IsStepOf (line : List ℕ) (s : Step) : Type 0 where
-  pub fits : IsStep s
+pub record IsStepOf (places : Bool) (line : List ℕ) (s : Step) : Type 0 where
+  pub fits : IsStep places s
   pub is : line ≡ step_words s
 
-two_step_holds : (word fields : List ℕ) → IfSome (two_step word fields) (IsStepOf (word ++ space ∷ fields))
-two_step_holds word fields =
-    bind_holds (two_in fields) _ (AreTwo fields) (IsStepOf (word ++ space ∷ fields)) (two_holds fields) (λ p k.
-    cond_holds (bytes_eq word (codes "look")) _ _ (IsStepOf (word ++ space ∷ fields)) (λ h. record { fits = (k.first, k.second); is = two_line (codes "look") word fields p.0 p.1 (same_bytes word (codes "look") h) k.is }) (λ h.
-    cond_holds (bytes_eq word (codes "def")) _ _ (IsStepOf (word ++ space ∷ fields)) (λ h. record { fits = (k.first, k.second); is = two_line (codes "def") word fields p.0 p.1 (same_bytes word (codes "def") h) k.is }) (λ h.
-    cond_holds (bytes_eq word (codes "spawn")) _ _ (IsStepOf (word ++ space ∷ fields)) (λ h. record { fits = (k.first, k.second); is = two_line (codes "spawn") word fields p.0 p.1 (same_bytes word (codes "spawn") h) k.is }) (λ h.
-    cond_holds (bytes_eq word (codes "fetch")) _ None (IsStepOf (word ++ space ∷ fields)) (λ h. record { fits = (k.first, k.second); is = two_line (codes "fetch") word fields p.0 p.1 (same_bytes word (codes "fetch") h) k.is }) (λ h. tt)))))
+place_step_holds : (places : Bool) (word fields : List ℕ) (place at : ℕ) → AreTwo fields (place, at) → IfSome (place_step places word place at) (IsStepOf places (word ++ space ∷ fields))
+place_step_holds places word fields place at k =
+    cond_holds (bytes_eq word (codes "del") && places) _ _ (IsStepOf places (word ++ space ∷ fields)) (λ h.
+    let two = and_true (bytes_eq word (codes "del")) places h in
+    record { fits = (two.1, k.first, k.second); is = two_line (codes "del") word fields place at (same_bytes word (codes "del") two.0) k.is }) (λ h.
+    cond_holds (bytes_eq word (codes "absent") && places) _ None (IsStepOf places (word ++ space ∷ fields)) (λ h.
+    let two = and_true (bytes_eq word (codes "absent")) places h in
+    record { fits = (two.1, k.first, k.second); is = two_line (codes "absent") word fields place at (same_bytes word (codes "absent") two.0) k.is }) (λ h. tt))
 
-full_holds : (name word fields : List ℕ) (make : ℕ → Step) → word ≡ name → ((at : ℕ) → at ≤ MOST_NUMBER → IsStep (make at)) → ((at : ℕ) → step_words (make at) ≡ name ++ spaced (at ∷ []))
-    → IfSome (number_in MOST_NUMBER fields >>= λ at. Some (make at)) (IsStepOf (word ++ space ∷ fields))
-full_holds name word fields make e f g =
-    bind_holds (number_in MOST_NUMBER fields) (λ at. Some (make at)) (IsNumberIn MOST_NUMBER fields) (IsStepOf (word ++ space ∷ fields)) (number_holds MOST_NUMBER fields) (λ at k.
+two_step_holds : (places : Bool) (word fields : List ℕ) → IfSome (two_step places word fields) (IsStepOf places (word ++ space ∷ fields))
+two_step_holds places word fields =
+    bind_holds (two_in fields) _ (AreTwo fields) (IsStepOf places (word ++ space ∷ fields)) (two_holds fields) (λ p k.
+    cond_holds (bytes_eq word (codes "look")) _ _ (IsStepOf places (word ++ space ∷ fields)) (λ h. record { fits = (k.first, k.second); is = two_line (codes "look") word fields p.0 p.1 (same_bytes word (codes "look") h) k.is }) (λ h.
+    cond_holds (bytes_eq word (codes "def")) _ _ (IsStepOf places (word ++ space ∷ fields)) (λ h. record { fits = (k.first, k.second); is = two_line (codes "def") word fields p.0 p.1 (same_bytes word (codes "def") h) k.is }) (λ h.
+    cond_holds (bytes_eq word (codes "spawn")) _ _ (IsStepOf places (word ++ space ∷ fields)) (λ h. record { fits = (k.first, k.second); is = two_line (codes "spawn") word fields p.0 p.1 (same_bytes word (codes "spawn") h) k.is }) (λ h.
+    cond_holds (bytes_eq word (codes "fetch")) _ _ (IsStepOf places (word ++ space ∷ fields)) (λ h. record { fits = (k.first, k.second); is = two_line (codes "fetch") word fields p.0 p.1 (same_bytes word (codes "fetch") h) k.is }) (λ h.
+    place_step_holds places word fields p.0 p.1 k)))))
+
+full_holds : (places : Bool) (name word fields : List ℕ) (make : ℕ → Step) → word ≡ name → ((at : ℕ) → at ≤ MOST_NUMBER → IsStep places (make at)) → ((at : ℕ) → step_words (make at) ≡ name ++ spaced (at ∷ []))
+    → IfSome (number_in MOST_NUMBER fields >>= λ at. Some (make at)) (IsStepOf places (word ++ space ∷ fields))
+full_holds places name word fields make e f g =
+    bind_holds (number_in MOST_NUMBER fields) (λ at. Some (make at)) (IsNumberIn MOST_NUMBER fields) (IsStepOf places (word ++ space ∷ fields)) (number_holds MOST_NUMBER fields) (λ at k.
     record { fits = f at k.small; is = one_line name word fields at e k.is ∙ sym (g at) })
 
-pub step_holds : (line : List ℕ) → IfSome (step_in line) (IsStepOf line)
-step_holds line = by_word_holds step_by line (IsStepOf line) (λ word fields free e.
-    subst (λ z. IfSome (step_by word fields) (IsStepOf z)) (sym e) (
-    cond_holds (bytes_eq word (codes "worldfull")) _ _ (IsStepOf (word ++ space ∷ fields)) (λ h. full_holds (codes "worldfull") word fields (λ at. S.WorldFull at) (same_bytes word (codes "worldfull") h) (λ at l. l) (λ at. refl)) (λ h.
-    cond_holds (bytes_eq word (codes "taskfull")) _ _ (IsStepOf (word ++ space ∷ fields)) (λ h. full_holds (codes "taskfull") word fields (λ at. S.TaskFull at) (same_bytes word (codes "taskfull") h) (λ at l. l) (λ at. refl)) (λ h.
-    two_step_holds word fields))))
+pub step_holds : (places : Bool) (line : List ℕ) → IfSome (step_in places line) (IsStepOf places line)
+step_holds places line = by_word_holds (step_by places) line (IsStepOf places line) (λ word fields free e.
+    subst (λ z. IfSome (step_by places word fields) (IsStepOf places z)) (sym e) (
+    cond_holds (bytes_eq word (codes "worldfull")) _ _ (IsStepOf places (word ++ space ∷ fields)) (λ h. full_holds places (codes "worldfull") word fields (λ at. S.WorldFull at) (same_bytes word (codes "worldfull") h) (λ at l. l) (λ at. refl)) (λ h.
+    cond_holds (bytes_eq word (codes "taskfull")) _ _ (IsStepOf places (word ++ space ∷ fields)) (λ h. full_holds places (codes "taskfull") word fields (λ at. S.TaskFull at) (same_bytes word (codes "taskfull") h) (λ at l. l) (λ at. refl)) (λ h.
+    two_step_holds places word fields))))
 
-two_step_again : (name : List ℕ) (make : ℕ → ℕ → Step) (a b : ℕ) → lacks space name ≡ true → a ≤ MOST_NUMBER → b ≤ MOST_NUMBER
-    → ((fields : List ℕ) → step_by name fields ≡ (two_in fields >>= λ p. Some (make p.0 p.1)))
-    → step_in (name ++ spaced (a ∷ b ∷ [])) ≡ Some (make a b)
-two_step_again name make a b h l m f =
-    ap (λ z. step_in (name ++ z)) (two_spaced a b)
-    ∙ by_word_again step_by name (decimal a ++ space ∷ decimal b) h
+two_step_again : (places : Bool) (name : List ℕ) (make : ℕ → ℕ → Step) (a b : ℕ) → lacks space name ≡ true → a ≤ MOST_NUMBER → b ≤ MOST_NUMBER
+    → ((fields : List ℕ) → step_by places name fields ≡ (two_in fields >>= λ p. Some (make p.0 p.1)))
+    → step_in places (name ++ spaced (a ∷ b ∷ [])) ≡ Some (make a b)
+two_step_again places name make a b h l m f =
+    ap (λ z. step_in places (name ++ z)) (two_spaced a b)
+    ∙ by_word_again (step_by places) name (decimal a ++ space ∷ decimal b) h
     ∙ f (decimal a ++ space ∷ decimal b)
     ∙ ap (λ o. o >>= λ p. Some (make p.0 p.1)) (two_again a b l m)
 
-full_again : (name : List ℕ) (make : ℕ → Step) (a : ℕ) → lacks space name ≡ true → a ≤ MOST_NUMBER
-    → ((fields : List ℕ) → step_by name fields ≡ (number_in MOST_NUMBER fields >>= λ at. Some (make at)))
-    → step_in (name ++ spaced (a ∷ [])) ≡ Some (make a)
-full_again name make a h l f =
-    ap (λ z. step_in (name ++ z)) (one_spaced a)
-    ∙ by_word_again step_by name (decimal a) h
+full_again : (places : Bool) (name : List ℕ) (make : ℕ → Step) (a : ℕ) → lacks space name ≡ true → a ≤ MOST_NUMBER
+    → ((fields : List ℕ) → step_by places name fields ≡ (number_in MOST_NUMBER fields >>= λ at. Some (make at)))
+    → step_in places (name ++ spaced (a ∷ [])) ≡ Some (make a)
+full_again places name make a h l f =
+    ap (λ z. step_in places (name ++ z)) (one_spaced a)
+    ∙ by_word_again (step_by places) name (decimal a) h
     ∙ f (decimal a)
     ∙ ap (λ o. o >>= λ at. Some (make at)) (number_again MOST_NUMBER a l (omega arith))
 
-pub step_again : (s : Step) → IsStep s → step_in (step_words s) ≡ Some s
-step_again (S.Look world at) (l, m) = two_step_again (codes "look") (λ a b. S.Look a b) world at refl l m (λ fields. refl)
-step_again (S.Def site at) (l, m) = two_step_again (codes "def") (λ a b. S.Def a b) site at refl l m (λ fields. refl)
-step_again (S.Spawn child at) (l, m) = two_step_again (codes "spawn") (λ a b. S.Spawn a b) child at refl l m (λ fields. refl)
-step_again (S.Fetch task at) (l, m) = two_step_again (codes "fetch") (λ a b. S.Fetch a b) task at refl l m (λ fields. refl)
-step_again (S.WorldFull at) l = full_again (codes "worldfull") (λ a. S.WorldFull a) at refl l (λ fields. refl)
-step_again (S.TaskFull at) l = full_again (codes "taskfull") (λ a. S.TaskFull a) at refl l (λ fields. refl)
-step_again (S.Del place at) l = absurd l
-step_again (S.Absent place at) l = absurd l
+-- no deletion is told where there is no place of one
+pub not_told : false ≡ true → ⊥
+not_told e = cc
+
+pub step_again : (places : Bool) (s : Step) → IsStep places s → step_in places (step_words s) ≡ Some s
+step_again places (S.Look world at) (l, m) = two_step_again places (codes "look") (λ a b. S.Look a b) world at refl l m (λ fields. refl)
+step_again places (S.Def site at) (l, m) = two_step_again places (codes "def") (λ a b. S.Def a b) site at refl l m (λ fields. refl)
+step_again places (S.Spawn child at) (l, m) = two_step_again places (codes "spawn") (λ a b. S.Spawn a b) child at refl l m (λ fields. refl)
+step_again places (S.Fetch task at) (l, m) = two_step_again places (codes "fetch") (λ a b. S.Fetch a b) task at refl l m (λ fields. refl)
+step_again places (S.WorldFull at) l = full_again places (codes "worldfull") (λ a. S.WorldFull a) at refl l (λ fields. refl)
+step_again places (S.TaskFull at) l = full_again places (codes "taskfull") (λ a. S.TaskFull a) at refl l (λ fields. refl)
+step_again true (S.Del place at) (told, l, m) = two_step_again true (codes "del") (λ a b. S.Del a b) place at refl l m (λ fields. refl)
+step_again false (S.Del place at) (told, l, m) = absurd (not_told told)
+step_again true (S.Absent place at) (told, l, m) = two_step_again true (codes "absent") (λ a b. S.Absent a b) place at refl l m (λ fields. refl)
+step_again false (S.Absent place at) (told, l, m) = absurd (not_told told)
 
 -- ---- texts
 

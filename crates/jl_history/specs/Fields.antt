@@ -111,23 +111,28 @@ output_in text = after_quote text >>= λ rest. unquoted rest >>= λ out. text_of
 
 -- ---- lines
 
+-- an item of a deletion place, where it may be told
+abbrev pub place_step : Bool → List ℕ → ℕ → ℕ → Option Step
+place_step places word place at =
+    cond (bytes_eq word (codes "del") && places) (Some (S.Del place at)) (cond (bytes_eq word (codes "absent") && places) (Some (S.Absent place at)) None)
+
 -- an item of two numbers
-abbrev pub two_step : List ℕ → List ℕ → Option Step
-two_step word fields = two_in fields >>= λ p.
+abbrev pub two_step : Bool → List ℕ → List ℕ → Option Step
+two_step places word fields = two_in fields >>= λ p.
     cond (bytes_eq word (codes "look")) (Some (S.Look p.0 p.1))
     (cond (bytes_eq word (codes "def")) (Some (S.Def p.0 p.1))
     (cond (bytes_eq word (codes "spawn")) (Some (S.Spawn p.0 p.1))
-    (cond (bytes_eq word (codes "fetch")) (Some (S.Fetch p.0 p.1)) None)))
+    (cond (bytes_eq word (codes "fetch")) (Some (S.Fetch p.0 p.1)) (place_step places word p.0 p.1))))
 
 -- the item of a trace that a word and what follows it tell
-abbrev pub step_by : List ℕ → List ℕ → Option Step
-step_by word fields =
+abbrev pub step_by : Bool → List ℕ → List ℕ → Option Step
+step_by places word fields =
     cond (bytes_eq word (codes "worldfull")) (number_in MOST_NUMBER fields >>= λ at. Some (S.WorldFull at))
-    (cond (bytes_eq word (codes "taskfull")) (number_in MOST_NUMBER fields >>= λ at. Some (S.TaskFull at)) (two_step word fields))
+    (cond (bytes_eq word (codes "taskfull")) (number_in MOST_NUMBER fields >>= λ at. Some (S.TaskFull at)) (two_step places word fields))
 
 -- the item of a trace that a line tells
-abbrev pub step_in : List ℕ → Option Step
-step_in line = by_word step_by line
+abbrev pub step_in : Bool → List ℕ → Option Step
+step_in places line = by_word (step_by places) line
 
 -- how a task ended, by a word and a text
 abbrev pub ending_by : List ℕ → List ℕ → Option Ending

@@ -1,4 +1,6 @@
 -- Which texts are those of histories, and which line of another text is the first that is not of this form.
+--
+-- `places` is whether the program has a deletion place. Where it has none, no deletion is told, and the first line is another.
 use Rattle.std.specs.Prelude.{◌≡◌, ◌≤◌, ◌<◌, ◌&&◌, ◌+◌, ℕ, Bool, true, not, nat_eq, List, [], ◌∷◌, ◌++◌, length, Result, Ok, Err}
 use Rattle.std.specs.Str.{IsUtf8}
 use Rattle.jl_model.specs.declared.limits.TheConstants.{MOST_FUEL}
@@ -33,21 +35,21 @@ pub record IsKey (number : ℕ) (function tuple : List ℕ) : Type 0 where
   pub one_word : lacks 32 function ≡ true
   pub types : IsText tuple
 
--- What may be told of an item of a trace. A deletion is never told: this is the form for programs that have no place of one.
-abbrev pub IsStep : Step → Type 0
-IsStep (S.Look world at) = (world ≤ MOST_NUMBER) × (at ≤ MOST_NUMBER)
-IsStep (S.Def site at) = (site ≤ MOST_NUMBER) × (at ≤ MOST_NUMBER)
-IsStep (S.Spawn child at) = (child ≤ MOST_NUMBER) × (at ≤ MOST_NUMBER)
-IsStep (S.Fetch task at) = (task ≤ MOST_NUMBER) × (at ≤ MOST_NUMBER)
-IsStep (S.WorldFull at) = at ≤ MOST_NUMBER
-IsStep (S.TaskFull at) = at ≤ MOST_NUMBER
-IsStep (S.Del place at) = ⊥
-IsStep (S.Absent place at) = ⊥
+-- what may be told of an item of a trace
+abbrev pub IsStep : Bool → Step → Type 0
+IsStep places (S.Look world at) = (world ≤ MOST_NUMBER) × (at ≤ MOST_NUMBER)
+IsStep places (S.Def site at) = (site ≤ MOST_NUMBER) × (at ≤ MOST_NUMBER)
+IsStep places (S.Spawn child at) = (child ≤ MOST_NUMBER) × (at ≤ MOST_NUMBER)
+IsStep places (S.Fetch task at) = (task ≤ MOST_NUMBER) × (at ≤ MOST_NUMBER)
+IsStep places (S.WorldFull at) = at ≤ MOST_NUMBER
+IsStep places (S.TaskFull at) = at ≤ MOST_NUMBER
+IsStep places (S.Del place at) = (places ≡ true) × (place ≤ MOST_NUMBER) × (at ≤ MOST_NUMBER)
+IsStep places (S.Absent place at) = (places ≡ true) × (place ≤ MOST_NUMBER) × (at ≤ MOST_NUMBER)
 
 -- what may be told of a trace
-abbrev pub AreSteps : List Step → Type 0
-AreSteps [] = Unit {0}
-AreSteps (s ∷ ss) = IsStep s × AreSteps ss
+abbrev pub AreSteps : Bool → List Step → Type 0
+AreSteps places [] = Unit {0}
+AreSteps places (s ∷ ss) = IsStep places s × AreSteps places ss
 
 -- what may be told of how a task ended
 abbrev pub IsEnding : Ending → Type 0
@@ -55,28 +57,28 @@ IsEnding (N.Value text) = IsText text
 IsEnding (N.Error text) = IsText text
 
 -- what may be told of a task that ended
-pub record IsDone (task calls : ℕ) (trace : List Step) (output : List ℕ) (ending : Ending) : Type 0 where
+pub record IsDone (places : Bool) (task calls : ℕ) (trace : List Step) (output : List ℕ) (ending : Ending) : Type 0 where
   pub task_small : task ≤ MOST_NUMBER
   pub calls_small : calls ≤ MOST_NUMBER
   pub items : length trace ≤ MOST_ITEMS
-  pub steps : AreSteps trace
+  pub steps : AreSteps places trace
   pub utf8 : IsUtf8 output
   pub ends : IsEnding ending
 
 -- what may be told of an event after the first
-abbrev pub IsEntry : Entry → Type 0
-IsEntry (E.Begin fuel) = ⊥
-IsEntry (E.Key number function tuple) = IsKey number function tuple
-IsEntry (E.Fill key site first) = (key ≤ MOST_NUMBER) × (site ≤ MOST_NUMBER) × (first ≤ MOST_NUMBER)
-IsEntry (E.Def task site) = (task ≤ MOST_NUMBER) × (site ≤ MOST_NUMBER)
-IsEntry (E.Del task place) = ⊥
-IsEntry (E.Spawn task child place) = (task ≤ MOST_NUMBER) × (child ≤ MOST_NUMBER) × (place ≤ MOST_NUMBER)
-IsEntry (E.Done task calls trace output ending) = IsDone task calls trace output ending
+abbrev pub IsEntry : Bool → Entry → Type 0
+IsEntry places (E.Begin fuel) = ⊥
+IsEntry places (E.Key number function tuple) = IsKey number function tuple
+IsEntry places (E.Fill key site first) = (key ≤ MOST_NUMBER) × (site ≤ MOST_NUMBER) × (first ≤ MOST_NUMBER)
+IsEntry places (E.Def task site) = (task ≤ MOST_NUMBER) × (site ≤ MOST_NUMBER)
+IsEntry places (E.Del task place) = (places ≡ true) × (task ≤ MOST_NUMBER) × (place ≤ MOST_NUMBER)
+IsEntry places (E.Spawn task child place) = (task ≤ MOST_NUMBER) × (child ≤ MOST_NUMBER) × (place ≤ MOST_NUMBER)
+IsEntry places (E.Done task calls trace output ending) = IsDone places task calls trace output ending
 
 -- what may be told of the events after the first
-abbrev pub AreLater : List Entry → Type 0
-AreLater [] = Unit {0}
-AreLater (e ∷ es) = IsEntry e × AreLater es
+abbrev pub AreLater : Bool → List Entry → Type 0
+AreLater places [] = Unit {0}
+AreLater places (e ∷ es) = IsEntry places e × AreLater places es
 
 -- what may be told of the first event
 abbrev pub IsBegin : Entry → Type 0
@@ -89,13 +91,13 @@ IsBegin (E.Spawn task child place) = ⊥
 IsBegin (E.Done task calls trace output ending) = ⊥
 
 -- what may be told of the first events of a history
-abbrev pub AreFirst : List Entry → Type 0
-AreFirst [] = ⊥
-AreFirst (e ∷ es) = IsBegin e × AreLater es
+abbrev pub AreFirst : Bool → List Entry → Type 0
+AreFirst places [] = ⊥
+AreFirst places (e ∷ es) = IsBegin e × AreLater places es
 
 -- what may be told of the events of a history, whose number is that of a line too
-abbrev pub AreEntries : List Entry → Type 0
-AreEntries es = AreFirst es × (length es ≤ MOST_NUMBER)
+abbrev pub AreEntries : Bool → List Entry → Type 0
+AreEntries places es = AreFirst places es × (length es ≤ MOST_NUMBER)
 
 -- ---- the first line that is not of the form
 
@@ -110,31 +112,31 @@ AreLines [] = Unit {0}
 AreLines (l ∷ ls) = (lacks newline l ≡ true) × AreLines ls
 
 -- the text of some history begins so
-pub record IsBegun (front : List ℕ) : Type 0 where
+pub record IsBegun (places : Bool) (front : List ℕ) : Type 0 where
   pub entries : List Entry
   pub more : List ℕ
-  pub told : AreEntries entries
-  pub goes_on : entries_text entries ≡ front ++ more
+  pub told : AreEntries places entries
+  pub goes_on : entries_text places entries ≡ front ++ more
 
 -- Line n of a text is the first that is not of the form: it is no text of a history, that of some history begins with the lines
 -- before line n, and none begins with them and line n, where that is a whole line and neither cut nor missing.
-pub record IsFirstBad (n : ℕ) (text : List ℕ) : Type 0 where
+pub record IsFirstBad (places : Bool) (n : ℕ) (text : List ℕ) : Type 0 where
   pub before : List (List ℕ)
   pub rest : List ℕ
   pub number : n ≡ length before + 1
   pub lines : AreLines before
   pub parts : text ≡ joined before ++ rest
-  pub good : IsBegun (joined before)
-  pub bad : (line more : List ℕ) → lacks newline line ≡ true → rest ≡ line ++ newline ∷ more → IsBegun (joined (before ++ line ∷ [])) → ⊥
-  pub other : (es : List Entry) → AreEntries es → text ≡ entries_text es → ⊥
+  pub good : IsBegun places (joined before)
+  pub bad : (line more : List ℕ) → lacks newline line ≡ true → rest ≡ line ++ newline ∷ more → IsBegun places (joined (before ++ line ∷ [])) → ⊥
+  pub other : (es : List Entry) → AreEntries places es → text ≡ entries_text places es → ⊥
 
 -- ---- what reading tells
 
 -- the entries that a text is that of, or its first line that is not of the form
-abbrev pub Tells : List ℕ → Result (List Entry) HistoryFault → Type 0
-Tells text (Ok es) = AreEntries es × (text ≡ entries_text es)
-Tells text (Err (BadText n)) = IsFirstBad n text
-Tells text (Err Memory) = Unit {0}
+abbrev pub Tells : Bool → List ℕ → Result (List Entry) HistoryFault → Type 0
+Tells places text (Ok es) = AreEntries places es × (text ≡ entries_text places es)
+Tells places text (Err (BadText n)) = IsFirstBad places n text
+Tells places text (Err Memory) = Unit {0}
 
 -- the answer is this one, unless memory ran out
 abbrev pub UnlessMemory : Result (List Entry) HistoryFault → Result (List Entry) HistoryFault → Type 0

@@ -17,11 +17,11 @@ use std::alloc::Global;
 pub const MOST_HISTORY_BYTES: usize = 67_108_864;
 
 /// What a text tells, line by line.
-fn read_lines(alloc: Global, text: &[u8]) -> Result<Entries, HistoryFault>
+fn read_lines(alloc: Global, places: bool, text: &[u8]) -> Result<Entries, HistoryFault>
     requires { length text.now ≤ MOST_HISTORY_BYTES }
-    ensures { Tells text.now result }
+    ensures { Tells places text.now result }
 {
-    let mut reader = Reader::new(alloc);
+    let mut reader = Reader::new(alloc, places);
     let mut rest = text;
     let mut number: u32 = 1;
     while let Some((line, after)) = cut(b'\n', rest) {
@@ -39,16 +39,17 @@ fn read_lines(alloc: Global, text: &[u8]) -> Result<Entries, HistoryFault>
     Ok(reader.into_entries(alloc)?)
 }
 
-/// The entries of a history of at most 67,108,864 bytes.
+/// The entries of a history of at most 67,108,864 bytes, of a program that has a deletion place or has none: deletions are told
+/// only where it has one.
 ///
 /// # Errors
 ///
 /// `BadText` with the first line that is not of the form, is cut or is missing; the first line is 1. Besides, `Memory`.
-pub fn read_history(alloc: Global, text: &[u8]) -> Result<Entries, HistoryFault>
+pub fn read_history(alloc: Global, places: bool, text: &[u8]) -> Result<Entries, HistoryFault>
     requires short { length text.now ≤ MOST_HISTORY_BYTES }
-    ensures tells { Tells text.now result }
-    ensures reads { (es : List Entry) → AreEntries es → text.now ≡ entries_text es → UnlessMemory result (Ok es) }
-    ensures refuses { (n : ℕ) → IsFirstBad n text.now → UnlessMemory result (Err (BadText n)) }
+    ensures tells { Tells places text.now result }
+    ensures reads { (es : List Entry) → AreEntries places es → text.now ≡ entries_text places es → UnlessMemory result (Ok es) }
+    ensures refuses { (n : ℕ) → IsFirstBad places n text.now → UnlessMemory result (Err (BadText n)) }
 {
-    read_lines(alloc, text)
+    read_lines(alloc, places, text)
 }

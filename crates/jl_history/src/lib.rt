@@ -13,4 +13,4 @@ mod texts;
 pub use fault::HistoryFault;
 pub use fields::{MOST_ITEMS, MOST_NUMBER};
 pub use history::{MOST_HISTORY_BYTES, read_history};
-pub use laws::{law_one_line, law_one_text};
+pub use laws::{law_one_line, law_one_text, law_other_version};

@@ -1,16 +1,29 @@
 //! The lines of a trace, and that of how a task ended.
 
 ghost use Rattle.std.specs.Prelude.{◌≡◌, IfOk};
-ghost use Rattle.jl_history.specs.Fields.{two_step, step_in, ending_by, ending_in};
+ghost use Rattle.jl_history.specs.Fields.{place_step, two_step, step_in, ending_by, ending_in};
 
 use crate::fields::{cut, small, two};
 use crate::texts::{is_text, share};
 use jl_report::{Ending, Step};
 use std::alloc::{AllocError, Global};
 
+/// An item of a deletion place, where it may be told.
+fn place_step(places: bool, word: &[u8], place: u32, at: u32) -> Option<Step>
+    ensures { result ≡ place_step places word.now place at }
+{
+    if word == b"del".as_slice() && places {
+        Some(Step::Del { place, at })
+    } else if word == b"absent".as_slice() && places {
+        Some(Step::Absent { place, at })
+    } else {
+        None
+    }
+}
+
 /// An item of two numbers.
-fn two_step(word: &[u8], fields: &[u8]) -> Option<Step>
-    ensures { result ≡ two_step word.now fields.now }
+fn two_step(places: bool, word: &[u8], fields: &[u8]) -> Option<Step>
+    ensures { result ≡ two_step places word.now fields.now }
 {
     let (first, at) = two(fields)?;
     if word == b"look".as_slice() {
@@ -22,13 +35,13 @@ fn two_step(word: &[u8], fields: &[u8]) -> Option<Step>
     } else if word == b"fetch".as_slice() {
         Some(Step::Fetch { task: first, at })
     } else {
-        None
+        place_step(places, word, first, at)
     }
 }
 
-/// The item of a trace that a line tells.
-pub(crate) fn step(line: &[u8]) -> Option<Step>
-    ensures { result ≡ step_in line.now }
+/// The item of a trace that a line tells, where items of deletion places may be told or not.
+pub(crate) fn step(places: bool, line: &[u8]) -> Option<Step>
+    ensures { result ≡ step_in places line.now }
 {
     let (word, fields) = cut(b' ', line)?;
     if word == b"worldfull".as_slice() {
@@ -38,7 +51,7 @@ pub(crate) fn step(line: &[u8]) -> Option<Step>
         let at = small(fields)?;
         Some(Step::TaskFull { at })
     } else {
-        two_step(word, fields)
+        two_step(places, word, fields)
     }
 }
 

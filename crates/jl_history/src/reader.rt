@@ -1,7 +1,7 @@
 //! What is read of a history line by line.
 
 ghost use Rattle.std.specs.Prelude.{◌≡◌, IfOk, OnOk};
-ghost use Rattle.jl_history.specs.Reading.{fresh, next, Moves, with_entry, after_header, after_begin, after_key, after_fill, after_def, after_spawn, after_done, after_end, after_fields, after_entry, after_step, after_output, after_traced, after_outcome, has_last, is_finished};
+ghost use Rattle.jl_history.specs.Reading.{fresh, next, Moves, with_entry, after_header, after_begin, after_key, after_fill, after_def, after_del, after_spawn, after_done, after_end, after_fields, after_entry, after_step, after_output, after_traced, after_outcome, has_last, is_finished};
 
 use crate::fields::{MOST_ITEMS, cut, number, small, three, three_small, two};
 use crate::lines::{ending, step};
@@ -9,7 +9,7 @@ use crate::texts::{key, output, share};
 use jl_model::limits::MOST_FUEL;
 use jl_model::rows::Row;
 use jl_model::ty::Bytes;
-use jl_report::{Entries, Entry, Step};
+use jl_report::{Entries, Entry, Step, first_line};
 use std::alloc::{AllocError, Global};
 use std::mem;
 
@@ -33,6 +33,8 @@ pub(crate) enum Stage {
 /// What was read of a history.
 #[derive(Drop)]
 pub(crate) struct Reader {
+    /// Whether the program has a deletion place, so that deletions may be told.
+    pub(crate) places: bool,
     pub(crate) stage: Stage,
     pub(crate) entries: Row<Entry>,
     /// The items of the trace that is being read.
@@ -42,11 +44,12 @@ pub(crate) struct Reader {
 }
 
 impl Reader {
-    /// A reader of which nothing is known yet.
-    pub(crate) fn new(alloc: Global) -> Reader
-        ensures { result ≡ fresh }
+    /// A reader that has read nothing yet, of a history of a program that has a deletion place or has none.
+    pub(crate) fn new(alloc: Global, places: bool) -> Reader
+        ensures { result ≡ fresh places }
     {
         Reader {
+            places,
             stage: Stage::Header,
             entries: Row::new(alloc),
             trace: Row::new(alloc),
@@ -67,7 +70,7 @@ impl Reader {
     fn take_header(&mut self, line: &[u8]) -> bool
         ensures { Moves result self.new (after_header line.now self.old) }
     {
-        if line != b"%%history 1".as_slice() {
+        if line != first_line(self.places).as_bytes() {
             return false;
         }
         self.stage = Stage::Begin;
@@ -131,6 +134,17 @@ impl Reader {
         Ok(true)
     }
 
+    /// The fields of a deletion.
+    fn take_del(&mut self, fields: &[u8]) -> Result<bool, AllocError>
+        ensures { IfOk result (λ b. Moves b self.new (after_del fields.now self.old)) }
+    {
+        let Some((task, place)) = two(fields) else {
+            return Ok(false);
+        };
+        self.enter(Entry::Del { task, place })?;
+        Ok(true)
+    }
+
     /// The fields of a spawn.
     fn take_spawn(&mut self, fields: &[u8]) -> Result<bool, AllocError>
         ensures { IfOk result (λ b. Moves b self.new (after_spawn fields.now self.old)) }
@@ -177,6 +191,8 @@ impl Reader {
             self.take_fill(fields)
         } else if word == b"def".as_slice() {
             self.take_def(fields)
+        } else if word == b"del".as_slice() && self.places {
+            self.take_del(fields)
         } else if word == b"spawn".as_slice() {
             self.take_spawn(fields)
         } else if word == b"done".as_slice() {
@@ -208,7 +224,7 @@ impl Reader {
     ) -> Result<bool, AllocError>
         ensures { IfOk result (λ b. Moves b self.new (after_step task calls left line.now self.old)) }
     {
-        let Some(step) = step(line) else {
+        let Some(step) = step(self.places, line) else {
             return Ok(false);
         };
         self.trace.push(step)?;

@@ -1,5 +1,5 @@
 -- The answers of a dispatcher that leads a task, by what the code found next in the trace.
-use Rattle.std.proofs.Common.{◌≡◌, ◌∙◌, ap, sym, subst, refl, ℕ, zero, suc, ◌+◌, ◌-◌, ◌<◌, ◌≤◌, arith, Bool, true, false, nat_eq, cond, List, [], ◌∷◌, ◌++◌, append_assoc, append-nil, length-append, drop, take, length, slice_get, Some, None}
+use Rattle.std.proofs.Common.{◌≡◌, ◌∙◌, ap, sym, subst, refl, ℕ, zero, suc, ◌+◌, ◌-◌, ◌<◌, ◌≤◌, ◌⊎◌, inl, inr, arith, Bool, true, false, nat_eq, cond, List, [], ◌∷◌, ◌++◌, append_assoc, append-nil, length-append, drop, take, length, slice_get, Some, None}
 use Rattle.jl_model.specs.declared.ty.Ty.{Ty}
 use Rattle.jl_program.specs.declared.choice.Choice.{Choice}
 use Rattle.jl_program.specs.declared.choice.Choice.TheVariants as C
@@ -11,17 +11,17 @@ use Rattle.jl_calculus.specs.declared.history.Outcome.{Outcome}
 use Rattle.jl_calculus.specs.declared.history.Record.{Record}
 use Rattle.jl_calculus.specs.declared.history.Seen.{Seen}
 use Rattle.jl_calculus.specs.declared.history.TraceItem.{TraceItem}
-use Rattle.jl_calculus.specs.declared.history.TraceItem.TheVariants.{Look, Def, Spawn, Fetch, WorldFull, TaskFull}
+use Rattle.jl_calculus.specs.declared.history.TraceItem.TheVariants.{Look, Def, Del, Spawn, Fetch, WorldFull, TaskFull, Absent}
 use Rattle.jl_calculus.specs.Legal.{start_of, first_place}
 use Rattle.jl_calculus.specs.Past.{IsTrueOf, EndedSo, done_of, tasks_of, own_events, own_starts}
 use Rattle.jl_calculus.specs.World.{Selects, site_of, world_of}
 use Rattle.jl_calculus.proofs.GrowthLemmas.{world_more, first_at_most, selects_on, site_more}
-use Rattle.jl_dispatcher.specs.Knows.{Knows, Claim, Grew, Told, Looked, Asked, Refused, IsOfWorld, SelectsBySite, IsRight, Defined, IsMade, WorldsFull, IsFull, Spawned, TasksFull, AreTasksFull, Fetched}
-use Rattle.jl_lead.specs.Items.{Begins, next_item, look_of, world_full_of, task_full_of, IsNoFetch}
+use Rattle.jl_dispatcher.specs.Knows.{Knows, Claim, Grew, Told, Looked, Asked, Refused, IsOfWorld, SelectsBySite, IsRight, Defined, Deleted, IsAbsentNow, IsMade, WorldsFull, IsFull, Spawned, TasksFull, AreTasksFull, Fetched}
+use Rattle.jl_lead.specs.Items.{Begins, next_item, look_of, world_full_of, task_full_of, absent_of, is_absence, IsNoFetch}
 use Rattle.jl_lead.specs.Leads.{GoesOn, HasMade, IsMadeBy, IsOn, led_knows}
 use Rattle.jl_lead.specs.Stretch.{IsStretch, IsLeft}
 use Rattle.jl_lead.proofs.EventFacts.{self_eq, other_eq, goes_self, goes_less, true_goes, done_later, start_before, first_before, own_later, starts_append}
-use Rattle.jl_lead.proofs.ItemFacts.{next_is, next_on, is_look, is_world_full, is_task_full, no_look, no_def, no_world_full, no_spawn, no_task_full, no_fetch, one_more, departs_at}
+use Rattle.jl_lead.proofs.ItemFacts.{next_is, next_on, is_look, is_world_full, is_task_full, is_absent, some_absence, no_look, no_def, no_del, no_world_full, stretch_few, no_spawn, no_task_full, no_fetch, one_more, departs_at}
 
 -- what a task that goes on alone has made, where it makes nothing now
 made_none : (alone : Bool) (task : ℕ) (base es : List Event) → HasMade alone task base es → HasMade true task base es
@@ -56,18 +56,14 @@ module _ (P : Program) (es : List Event) (task : ℕ) (items : List TraceItem) (
   true_item : (p n : ℕ) (i : TraceItem) → IsTrueOf P es task i → Told (on p n) i
   true_item p n i h = record { learnt = λ xs g. true_goes P es xs task i h g; right = λ xs g. true_goes P es xs task i h g }
 
-  stretch_here : (x : TraceItem) → next_item alone items told ≡ Some x → IsLeft alone es seen left → IsStretch es seen (x ∷ drop (told + 1) items)
+  stretch_here : (x : TraceItem) → next_item alone items told ≡ Some x → IsLeft P alone es seen left → IsStretch P es seen (x ∷ drop (told + 1) items)
   stretch_here x h s =
       let e = next_on alone items told x h in
-      subst (IsStretch es seen) (next_is items told x e.1) (subst (λ b. IsLeft b es seen left) e.0 s)
+      subst (IsStretch P es seen) (next_is items told x e.1) (subst (λ b. IsLeft P b es seen left) e.0 s)
 
   -- what is left after the next item
-  left_on : (p : ℕ) → IsStretch es p (drop (told + 1) items) → IsLeft alone es p (drop (told + 1) items)
-  left_on p s = at alone
-    where
-      at : (b : Bool) → IsLeft b es p (drop (told + 1) items)
-      at true = tt
-      at false = s
+  left_on : (x : TraceItem) → next_item alone items told ≡ Some x → (p : ℕ) → IsStretch P es p (drop (told + 1) items) → IsLeft P alone es p (drop (told + 1) items)
+  left_on x h p s = let e = next_on alone items told x h in subst (λ b. IsLeft P b es p (drop (told + 1) items)) (sym e.0) s
 
   follows_on : (x : TraceItem) → next_item alone items told ≡ Some x → (c : Claim) (trace : List TraceItem) → (task ≡ c.task) × HasMade alone task c.events es × IsOn alone left c.trace trace
       → (task ≡ c.task) × HasMade alone task c.events es × IsOn alone (drop (told + 1) items) c.trace (trace ++ x ∷ [])
@@ -77,7 +73,7 @@ module _ (P : Program) (es : List Event) (task : ℕ) (items : List TraceItem) (
       at true e g o = absurd cc
       at false e g o = one_more trace c.trace items told x g o
 
-  pub looked_on : (s : Seen) → look_of (next_item alone items told) ≡ Some s → IsLeft alone es seen left → Looked here (on s.length (looks + 1)) s.world s.length
+  pub looked_on : (s : Seen) → look_of (next_item alone items told) ≡ Some s → IsLeft P alone es seen left → Looked here (on s.length (looks + 1)) s.world s.length
   looked_on s h l =
       let x : TraceItem = Look s.world s.length in
       let n = is_look (next_item alone items told) s h in
@@ -93,11 +89,13 @@ module _ (P : Program) (es : List Event) (task : ℕ) (items : List TraceItem) (
         follows = follows_on x n;
       }
 
-  pub left_look : (s : Seen) → look_of (next_item alone items told) ≡ Some s → IsLeft alone es seen left → IsLeft alone es s.length (drop (told + 1) items)
-  left_look s h l = let t = stretch_here (Look s.world s.length) (is_look (next_item alone items told) s h) l in left_on s.length t.3
+  pub left_look : (s : Seen) → look_of (next_item alone items told) ≡ Some s → IsLeft P alone es seen left → IsLeft P alone es s.length (drop (told + 1) items)
+  left_look s h l =
+      let n = is_look (next_item alone items told) s h in
+      let t = stretch_here (Look s.world s.length) n l in left_on (Look s.world s.length) n s.length t.3
 
-  module _ (p : ℕ) (h : world_full_of (next_item alone items told) ≡ Some p) (l : IsLeft alone es seen left) where
-    full_here : IsStretch es seen (WorldFull p ∷ drop (told + 1) items)
+  module _ (p : ℕ) (h : world_full_of (next_item alone items told) ≡ Some p) (l : IsLeft P alone es seen left) where
+    full_here : IsStretch P es seen (WorldFull p ∷ drop (told + 1) items)
     full_here = stretch_here (WorldFull p) (is_world_full (next_item alone items told) p h) l
 
     pub world_full_grew : Grew here (on p looks)
@@ -109,14 +107,36 @@ module _ (P : Program) (es : List Event) (task : ℕ) (items : List TraceItem) (
     pub world_full_refused : Refused here (on p looks)
     world_full_refused = record { grew = grew_on p looks full_here.0; looks = refl; own = refl; starts = refl }
 
-    pub left_world_full : IsLeft alone es p (drop (told + 1) items)
-    left_world_full = left_on p full_here.3
+    pub left_world_full : IsLeft P alone es p (drop (told + 1) items)
+    left_world_full = left_on (WorldFull p) (is_world_full (next_item alone items told) p h) p full_here.3
 
     pub seen_world_full : p ≤ length es
     seen_world_full = full_here.1
 
-  module _ (p : ℕ) (h : task_full_of (next_item alone items told) ≡ Some p) (l : IsLeft alone es seen left) where
-    tasks_here : IsStretch es seen (TaskFull p ∷ drop (told + 1) items)
+  module _ (place p : ℕ) (h : absent_of place (next_item alone items told) ≡ Some p) (l : IsLeft P alone es seen left) where
+    next_absent : next_item alone items told ≡ Some (Absent place p)
+    next_absent = is_absent (next_item alone items told) place p h
+
+    absent_here : IsStretch P es seen (Absent place p ∷ drop (told + 1) items)
+    absent_here = stretch_here (Absent place p) next_absent l
+
+    pub absent_grew : Grew here (on p looks)
+    absent_grew = grew_on p looks absent_here.0
+
+    pub absent_told : IsAbsentNow here (on p looks) place
+    absent_told = record { told = true_item p looks (Absent place p) (absent_here.1, absent_here.2); looks = refl; own = refl; starts = refl; follows = follows_on (Absent place p) next_absent }
+
+    pub absent_refused : Refused here (on p looks)
+    absent_refused = record { grew = grew_on p looks absent_here.0; looks = refl; own = refl; starts = refl }
+
+    pub left_absent : IsLeft P alone es p (drop (told + 1) items)
+    left_absent = left_on (Absent place p) next_absent p absent_here.3
+
+    pub seen_absent : p ≤ length es
+    seen_absent = absent_here.1
+
+  module _ (p : ℕ) (h : task_full_of (next_item alone items told) ≡ Some p) (l : IsLeft P alone es seen left) where
+    tasks_here : IsStretch P es seen (TaskFull p ∷ drop (told + 1) items)
     tasks_here = stretch_here (TaskFull p) (is_task_full (next_item alone items told) p h) l
 
     pub task_full_grew : Grew here (on p looks)
@@ -128,17 +148,17 @@ module _ (P : Program) (es : List Event) (task : ℕ) (items : List TraceItem) (
     pub task_full_refused : Refused here (on p looks)
     task_full_refused = record { grew = grew_on p looks tasks_here.0; looks = refl; own = refl; starts = refl }
 
-    pub left_task_full : IsLeft alone es p (drop (told + 1) items)
-    left_task_full = left_on p tasks_here.3
+    pub left_task_full : IsLeft P alone es p (drop (told + 1) items)
+    left_task_full = left_on (TaskFull p) (is_task_full (next_item alone items told) p h) p tasks_here.3
 
     pub seen_task_full : p ≤ length es
     seen_task_full = tasks_here.1
 
-  pub seen_look : (s : Seen) → look_of (next_item alone items told) ≡ Some s → IsLeft alone es seen left → s.length ≤ length es
+  pub seen_look : (s : Seen) → look_of (next_item alone items told) ≡ Some s → IsLeft P alone es seen left → s.length ≤ length es
   seen_look s h l = let t = stretch_here (Look s.world s.length) (is_look (next_item alone items told) s h) l in t.1
 
-  module _ (of : ℕ) (outcome : Outcome) (p : ℕ) (h : next_item alone items told ≡ Some (Fetch of outcome p)) (l : IsLeft alone es seen left) where
-    fetch_here : IsStretch es seen (Fetch of outcome p ∷ drop (told + 1) items)
+  module _ (of : ℕ) (outcome : Outcome) (p : ℕ) (h : next_item alone items told ≡ Some (Fetch of outcome p)) (l : IsLeft P alone es seen left) where
+    fetch_here : IsStretch P es seen (Fetch of outcome p ∷ drop (told + 1) items)
     fetch_here = stretch_here (Fetch of outcome p) h l
 
     pub fetch_grew : Grew here (on p looks)
@@ -147,8 +167,8 @@ module _ (P : Program) (es : List Event) (task : ℕ) (items : List TraceItem) (
     pub fetch_told : Fetched here (on p looks) of outcome
     fetch_told = record { told = true_item p looks (Fetch of outcome p) (fetch_here.1, fetch_here.2); looks = refl; own = refl; starts = refl; follows = follows_on (Fetch of outcome p) h }
 
-    pub left_fetch : IsLeft alone es p (drop (told + 1) items)
-    left_fetch = left_on p fetch_here.3
+    pub left_fetch : IsLeft P alone es p (drop (told + 1) items)
+    left_fetch = left_on (Fetch of outcome p) h p fetch_here.3
 
     pub seen_fetch : p ≤ length es
     seen_fetch = fetch_here.1
@@ -162,9 +182,9 @@ module _ (P : Program) (es : List Event) (task : ℕ) (items : List TraceItem) (
   grew_off n m le = record { program = refl; places = refl; task = refl; start = refl; first = refl; world = omega arith; seen = le; agrees = λ xs g. g; learnt = λ i h. h }
 
   -- it is told something else than what stands next
-  follows_off : (x : TraceItem) → (alone ≡ false → Begins x left → ⊥) → (c : Claim) (trace : List TraceItem) → (task ≡ c.task) × HasMade alone task c.events es × IsOn alone left c.trace trace
+  follows_off : (x : TraceItem) → is_absence (Some x) ≡ false → (alone ≡ false → Begins x left → ⊥) → (c : Claim) (trace : List TraceItem) → (task ≡ c.task) × HasMade alone task c.events es × IsOn alone left c.trace trace
       → (task ≡ c.task) × HasMade true task c.events es × IsOn true left c.trace (trace ++ x ∷ [])
-  follows_off x apart c trace f = (f.0, made_none alone task c.events es f.1, departs_at alone left c.trace trace x apart f.2)
+  follows_off x kind apart c trace f = (f.0, made_none alone task c.events es f.1, departs_at alone left c.trace trace x kind apart f.2)
 
   -- how the items of the whole list of events look
   whole : (n : ℕ) → n ≡ length es → take n es ≡ es
@@ -195,11 +215,11 @@ module _ (P : Program) (es : List Event) (task : ℕ) (items : List TraceItem) (
         looks = refl;
         own = refl;
         starts = refl;
-        follows = follows_off x (λ e. no_look items told w n (subst (λ b. look_of (next_item b items told) ≡ None) e h));
+        follows = follows_off x refl (λ e. no_look items told w n (subst (λ b. look_of (next_item b items told) ≡ None) e h));
       }
 
   -- the world is full
-  module _ (n : ℕ) (h : world_full_of (next_item alone items told) ≡ None) (l : IsLeft alone es seen left) (le : seen ≤ length es) (len : n ≡ length es) (last : world_of es ≡ 65535) where
+  module _ (n : ℕ) (h : world_full_of (next_item alone items told) ≡ None) (k : is_absence (next_item alone items told) ≡ false) (l : IsLeft P alone es seen left) (le : seen ≤ length es) (len : n ≡ length es) (last : world_of es ≡ 65535) where
     pub world_off_grew : Grew here (off n looks)
     world_off_grew = grew_off n looks (omega (arith, le, len))
 
@@ -211,14 +231,14 @@ module _ (P : Program) (es : List Event) (task : ℕ) (items : List TraceItem) (
           looks = refl;
           own = refl;
           starts = refl;
-          follows = follows_off x (λ e. no_world_full es seen items told n (subst (λ b. world_full_of (next_item b items told) ≡ None) e h) (subst (λ b. IsLeft b es seen left) e l));
+          follows = follows_off x refl (λ e. no_world_full P es seen items told n (subst (λ b. world_full_of (next_item b items told) ≡ None) e h) (subst (λ b. is_absence (next_item b items told) ≡ false) e k) (subst (λ b. IsLeft P b es seen left) e l));
         }
 
     pub world_off_refused : Refused here (off n looks)
     world_off_refused = record { grew = world_off_grew; looks = refl; own = refl; starts = refl }
 
   -- there is no room for a task
-  module _ (n : ℕ) (h : task_full_of (next_item alone items told) ≡ None) (l : IsLeft alone es seen left) (le : seen ≤ length es) (len : n ≡ length es) (last : tasks_of es ≡ 4096) where
+  module _ (n : ℕ) (h : task_full_of (next_item alone items told) ≡ None) (l : IsLeft P alone es seen left) (le : seen ≤ length es) (len : n ≡ length es) (last : tasks_of es ≡ 4096) where
     pub tasks_off_grew : Grew here (off n looks)
     tasks_off_grew = grew_off n looks (omega (arith, le, len))
 
@@ -230,7 +250,7 @@ module _ (P : Program) (es : List Event) (task : ℕ) (items : List TraceItem) (
           looks = refl;
           own = refl;
           starts = refl;
-          follows = follows_off x (λ e. no_task_full es seen items told n (subst (λ b. task_full_of (next_item b items told) ≡ None) e h) (subst (λ b. IsLeft b es seen left) e l));
+          follows = follows_off x refl (λ e. no_task_full P es seen items told n (subst (λ b. task_full_of (next_item b items told) ≡ None) e h) (subst (λ b. IsLeft P b es seen left) e l));
         }
 
     pub tasks_off_refused : Refused here (off n looks)
@@ -249,7 +269,7 @@ module _ (P : Program) (es : List Event) (task : ℕ) (items : List TraceItem) (
           looks = refl;
           own = refl;
           starts = refl;
-          follows = follows_off x (λ e. no_fetch items told of outcome n (subst (λ b. IsNoFetch (next_item b items told) of) e h));
+          follows = follows_off x refl (λ e. no_fetch items told of outcome n (subst (λ b. IsNoFetch (next_item b items told) of) e h));
         }
 
   -- ---- an event is made
@@ -274,9 +294,9 @@ module _ (P : Program) (es : List Event) (task : ℕ) (items : List TraceItem) (
       learnt = λ i h xs g. h xs (goes_less es (e ∷ []) xs g);
     }
 
-    follows_made : (x : TraceItem) → alone ≡ false → IsMadeBy task es e → (Begins x left → ⊥) → (c : Claim) (trace : List TraceItem) → (task ≡ c.task) × HasMade alone task c.events es × IsOn alone left c.trace trace
+    follows_made : (x : TraceItem) → is_absence (Some x) ≡ false → alone ≡ false → IsMadeBy task es e → (Begins x left → ⊥) → (c : Claim) (trace : List TraceItem) → (task ≡ c.task) × HasMade alone task c.events es × IsOn alone left c.trace trace
         → (task ≡ c.task) × HasMade true task c.events (es ++ e ∷ []) × IsOn true left c.trace (trace ++ x ∷ [])
-    follows_made x off by far c trace f = (f.0, made_one alone task c.events es e off by f.1, departs_at alone left c.trace trace x (λ z. far) f.2)
+    follows_made x kind off by far c trace f = (f.0, made_one alone task c.events es e off by f.1, departs_at alone left c.trace trace x kind (λ z. far) f.2)
 
     -- it is there
     made_there : (xs : List Event) → GoesOn (es ++ e ∷ []) xs → slice_get xs (length es) ≡ Some e
@@ -289,8 +309,35 @@ module _ (P : Program) (es : List Event) (task : ℕ) (items : List TraceItem) (
   place_is : (e : Event) → length (es ++ e ∷ []) - 1 ≡ length es
   place_is e = let n = length-append es (e ∷ []) in omega (arith, n)
 
+  -- a definition or a deletion: what is told of it, whose it is, and that the task departs with it
+  change_made : (e : Event) (x : ℕ → TraceItem) (apart : start_of task (e ∷ []) ≡ None) (firsts : (p : ℕ) → first_place task p (e ∷ []) ≡ 1) → ((xs : List Event) (p : ℕ) → slice_get xs p ≡ Some e → IsTrueOf P xs task (x p))
+      → own_events task (length es) (e ∷ []) ≡ x (length es) ∷ [] → ((p : ℕ) → is_absence (Some (x p)) ≡ false) → alone ≡ false → IsMadeBy task es e → ((p : ℕ) → Begins (x p) left → ⊥)
+      → Told (more e apart firsts) (x (length (es ++ e ∷ []) - 1)) × (own_events task 0 (es ++ e ∷ []) ≡ own_events task 0 es ++ x (length (es ++ e ∷ []) - 1) ∷ [])
+      × ((c : Claim) (trace : List TraceItem) → here.follows c trace → (more e apart firsts).follows c (trace ++ x (length (es ++ e ∷ []) - 1) ∷ []))
+  change_made e x apart firsts true_there own_there kind off_now by far =
+      let p : length (es ++ e ∷ []) - 1 ≡ length es = place_is e in
+      let there : (xs : List Event) → GoesOn (es ++ e ∷ []) xs → IsTrueOf P xs task (x (length (es ++ e ∷ []) - 1)) = λ xs g. subst (λ n. IsTrueOf P xs task (x n)) (sym p) (true_there xs (length es) (made_there e apart firsts xs g)) in (
+        record { learnt = there; right = there },
+        own_later task es (e ∷ []) ∙ ap (λ xs. own_events task 0 es ++ xs) own_there ∙ ap (λ n. own_events task 0 es ++ x n ∷ []) (sym p),
+        follows_made e apart firsts (x (length (es ++ e ∷ []) - 1)) (kind (length (es ++ e ∷ []) - 1)) off_now by (far (length (es ++ e ∷ []) - 1)),
+      )
+
+  -- the world of all events
+  change_world : (e : Event) (apart : start_of task (e ∷ []) ≡ None) (firsts : (p : ℕ) → first_place task p (e ∷ []) ≡ 1) (w : ℕ) → w ≡ world_of (es ++ e ∷ []) → IsMade (more e apart firsts) w
+  change_world e apart firsts w is = record {
+    right = λ xs g. ap world_of (first_ones (es ++ e ∷ []) xs g) ∙ sym is;
+    world = (omega (arith, is), omega (arith, is));
+  }
+    where
+      first_ones : (ys xs : List Event) → GoesOn ys xs → take (length ys) xs ≡ ys
+      first_ones ys xs (rest, q) = ap (take (length ys)) q ∙ at ys
+        where
+          at : (zs : List Event) → take (length zs) (zs ++ rest) ≡ zs
+          at [] = refl
+          at (z ∷ zs) = ap (λ us. z ∷ us) (at zs)
+
   -- a definition
-  module _ (site : ℕ) (off_now : alone ≡ false) (h : world_full_of (next_item alone items told) ≡ None) (l : IsLeft alone es seen left) (le : seen ≤ length es) where
+  module _ (site : ℕ) (off_now : alone ≡ false) (h : world_full_of (next_item alone items told) ≡ None) (l : IsLeft P alone es seen left) (le : seen ≤ length es) where
     abbrev def : Event
     def = Ev.Def task site
 
@@ -300,37 +347,54 @@ module _ (P : Program) (es : List Event) (task : ℕ) (items : List TraceItem) (
     pub define_grew : Grew here after_def
     define_grew = grew_made def refl (λ p. refl) le
 
-    own_def : own_events task (length es) (def ∷ []) ≡ Def site (length es) ∷ []
-    own_def = ap (λ b. cond b (Def site (length es) ∷ []) []) (self_eq task)
-
     pub define_made : Defined here after_def site
     define_made =
-        let p : length (es ++ def ∷ []) - 1 ≡ length es = place_is def in
-        let there : (xs : List Event) → GoesOn (es ++ def ∷ []) xs → IsTrueOf P xs task (Def site (length (es ++ def ∷ []) - 1)) = λ xs g. subst (λ n. slice_get xs n ≡ Some def) (sym p) (made_there def refl (λ q. refl) xs g) in record {
-          told = record { learnt = there; right = there };
+        let m = change_made def (λ p. Def site p) refl (λ p. refl) (λ xs p at. at) (ap (λ b. cond b (Def site (length es) ∷ []) []) (self_eq task)) (λ p. refl) off_now refl
+        (λ p. no_def P es seen items told site p (subst (λ b. world_full_of (next_item b items told) ≡ None) off_now h) (subst (λ b. IsLeft P b es seen left) off_now l))
+        in
+        record {
+          told = m.0;
           place = omega (arith, le, longer def refl (λ q. refl));
           looks = refl;
-          own = own_later task es (def ∷ []) ∙ ap (λ xs. own_events task 0 es ++ xs) own_def ∙ ap (λ n. own_events task 0 es ++ Def site n ∷ []) (sym p);
+          own = m.1;
           starts = starts_append task es (def ∷ []) ∙ append-nil (own_starts task es);
-          follows = follows_made def refl (λ q. refl) (Def site (length (es ++ def ∷ []) - 1)) off_now refl
-              (no_def es seen items told site (length (es ++ def ∷ []) - 1) (subst (λ b. world_full_of (next_item b items told) ≡ None) off_now h) (subst (λ b. IsLeft b es seen left) off_now l));
+          follows = m.2;
         }
 
     pub define_world : (w : ℕ) → w ≡ world_of (es ++ def ∷ []) → IsMade after_def w
-    define_world w e = record {
-      right = λ xs g. ap world_of (first_ones (es ++ def ∷ []) xs g) ∙ sym e;
-      world = (omega (arith, e), omega (arith, e));
-    }
-      where
-        first_ones : (ys xs : List Event) → GoesOn ys xs → take (length ys) xs ≡ ys
-        first_ones ys xs (rest, q) = ap (take (length ys)) q ∙ at ys
-          where
-            at : (zs : List Event) → take (length zs) (zs ++ rest) ≡ zs
-            at [] = refl
-            at (z ∷ zs) = ap (λ us. z ∷ us) (at zs)
+    define_world w e = change_world def refl (λ p. refl) w e
+
+  -- a deletion
+  module _ (place : ℕ) (off_now : alone ≡ false) (h : world_full_of (next_item alone items told) ≡ None) (k : absent_of place (next_item alone items told) ≡ None) (l : IsLeft P alone es seen left) (le : seen ≤ length es) where
+    abbrev del : Event
+    del = Ev.Del task place
+
+    abbrev after_del : Knows
+    after_del = more del refl (λ p. refl)
+
+    pub delete_grew : Grew here after_del
+    delete_grew = grew_made del refl (λ p. refl) le
+
+    pub delete_made : Deleted here after_del place
+    delete_made =
+        let m = change_made del (λ p. Del place p) refl (λ p. refl) (λ xs p at. at) (ap (λ b. cond b (Del place (length es) ∷ []) []) (self_eq task)) (λ p. refl) off_now refl
+        (λ p.
+        no_del P es seen items told place p (subst (λ b. world_full_of (next_item b items told) ≡ None) off_now h) (subst (λ b. absent_of place (next_item b items told) ≡ None) off_now k) (subst (λ b. IsLeft P b es seen left) off_now l))
+        in
+        record {
+          told = m.0;
+          place = omega (arith, le, longer del refl (λ q. refl));
+          looks = refl;
+          own = m.1;
+          starts = starts_append task es (del ∷ []) ∙ append-nil (own_starts task es);
+          follows = m.2;
+        }
+
+    pub delete_world : (w : ℕ) → w ≡ world_of (es ++ del ∷ []) → IsMade after_del w
+    delete_world w e = change_world del refl (λ p. refl) w e
 
   -- a spawn
-  module _ (start : Start) (started : task < tasks_of es) (off_now : alone ≡ false) (h : task_full_of (next_item alone items told) ≡ None) (l : IsLeft alone es seen left) (le : seen ≤ length es) where
+  module _ (start : Start) (started : task < tasks_of es) (off_now : alone ≡ false) (h : task_full_of (next_item alone items told) ≡ None) (l : IsLeft P alone es seen left) (le : seen ≤ length es) where
     abbrev spawn : Event
     spawn = Ev.Spawn task (tasks_of es) start
 
@@ -361,8 +425,8 @@ module _ (P : Program) (es : List Event) (task : ℕ) (items : List TraceItem) (
           looks = refl;
           own = own_later task es (spawn ∷ []) ∙ ap (λ xs. own_events task 0 es ++ xs) own_spawn ∙ ap (λ n. own_events task 0 es ++ Spawn (tasks_of es) n ∷ []) (sym p);
           starts = starts_append task es (spawn ∷ []) ∙ ap (λ b. own_starts task es ++ cond b (start ∷ []) []) (self_eq task);
-          follows = follows_made spawn apart_here firsts_here (Spawn (tasks_of es) (length (es ++ spawn ∷ []) - 1)) off_now (refl, refl)
-              (no_spawn es seen items told (tasks_of es) (length (es ++ spawn ∷ []) - 1) (subst (λ b. task_full_of (next_item b items told) ≡ None) off_now h) (subst (λ b. IsLeft b es seen left) off_now l));
+          follows = follows_made spawn apart_here firsts_here (Spawn (tasks_of es) (length (es ++ spawn ∷ []) - 1)) refl off_now (refl, refl)
+              (no_spawn P es seen items told (tasks_of es) (length (es ++ spawn ∷ []) - 1) (subst (λ b. task_full_of (next_item b items told) ≡ None) off_now h) (subst (λ b. IsLeft P b es seen left) off_now l));
         }
 
   -- the end of a task that was fetched
@@ -393,13 +457,57 @@ module _ (P : Program) (es : List Event) (task : ℕ) (items : List TraceItem) (
           looks = refl;
           own = own_later task es (done ∷ []) ∙ append-nil (own_events task 0 es);
           starts = starts_append task es (done ∷ []) ∙ append-nil (own_starts task es);
-          follows = follows_made done refl (λ q. refl) x off_now tt (no_fetch items told of ended.outcome (length (es ++ done ∷ [])) (subst (λ b. IsNoFetch (next_item b items told) of) off_now h));
+          follows = follows_made done refl (λ q. refl) x refl off_now tt (no_fetch items told of ended.outcome (length (es ++ done ∷ [])) (subst (λ b. IsNoFetch (next_item b items told) of) off_now h));
         }
 
   -- ---- what the task does not know
 
-  pub not_full : world_of es < 65535 → IsFull here → ⊥
-  not_full l full = let w = (full es (goes_self es)).1 in let most = first_at_most es seen in absurd (omega (arith, l, w, most))
+  -- the world of fewer events is no newer
+  first_less : (n m : ℕ) → n ≤ m → world_of (take n es) ≤ world_of (take m es)
+  first_less n m le = subst (λ xs. world_of xs ≤ world_of (take m es)) (shorter n m es le) (first_at_most (take m es) n)
+    where
+      shorter : (n m : ℕ) (xs : List Event) → n ≤ m → take n (take m xs) ≡ take n xs
+      shorter zero m xs le = refl
+      shorter (suc n) zero xs le = absurd (omega (arith, le))
+      shorter (suc n) (suc m) [] le = refl
+      shorter (suc n) (suc m) (x ∷ xs) le = ap (λ ys. x ∷ ys) (shorter n m xs (omega (arith, le)))
+
+  -- that the world is full: it is not, or it stands next that there is nothing to delete, before which it was not
+  pub not_full : IsLeft P alone es seen left → (world_of es ≡ 65535 → is_absence (next_item alone items told) ≡ true) → IsFull here → ⊥
+  not_full l room full = by (sizes (world_of es))
+    where
+      full_then : world_of (take seen es) ≡ 65535
+      full_then = (full es (goes_self es)).1
+
+      sizes : (n : ℕ) → (n < 65535) ⊎ ((n ≡ 65535) ⊎ (65535 < n))
+      sizes n = grind arith
+
+      at_last : (place : ℕ) × (p : ℕ) × (next_item alone items told ≡ Some (Absent place p)) → ⊥
+      at_last (place, p, e) =
+          let t = stretch_here (Absent place p) e l in
+          let less = first_less seen p t.0 in
+          let open_then = t.2.room in
+          omega (arith, full_then, less, open_then)
+
+      too_many : (b : Bool) → alone ≡ b → 65535 < world_of es → ⊥
+      too_many false off m = let few = stretch_few P es seen left (subst (λ b. IsLeft P b es seen left) off l) in omega (arith, few, m)
+      too_many true off m =
+          let all : seen ≡ length es = (subst (λ b. IsLeft P b es seen left) off l) m in
+          let same = ap world_of (whole seen all) in
+          omega (arith, full_then, same, m)
+
+      by : (world_of es < 65535) ⊎ ((world_of es ≡ 65535) ⊎ (65535 < world_of es)) → ⊥
+      by (inl m) = let most = first_at_most es seen in omega (arith, m, full_then, most)
+      by (inr (inl m)) = at_last (some_absence (next_item alone items told) (room m))
+      by (inr (inr m)) = too_many alone refl m
+
+  -- the task stands before an absence
+  pub not_full_there : (place p : ℕ) → absent_of place (next_item alone items told) ≡ Some p → IsLeft P alone es seen left → IsFull here → ⊥
+  not_full_there place p h l full =
+      let t = absent_here place p h l in
+      let less = first_less seen p t.0 in
+      let open_then = t.2.room in
+      omega (arith, (full es (goes_self es)).1, less, open_then)
 
   pub tasks_not_full : tasks_of es < 4096 → AreTasksFull here → ⊥
   tasks_not_full l full = let w = (full es (goes_self es)).1 in let most = tasks_first es seen in absurd (omega (arith, l, w, most))

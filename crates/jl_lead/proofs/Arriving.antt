@@ -28,10 +28,10 @@ use Rattle.jl_machine.specs.Lent.{work_of}
 use Rattle.jl_machine.specs.Steps.{IsAt, IsEnded, HasEnded, job_with, fuel_of, progress_of}
 use Rattle.jl_machine.proofs.Whole.{ended_law}
 use Rattle.jl_lead.specs.declared.led.Led.{Led}
-use Rattle.jl_lead.specs.Items.{IsSameQuestion, Begins}
+use Rattle.jl_lead.specs.Items.{is_absence, IsSameQuestion, Begins}
 use Rattle.jl_lead.specs.Leads.{GoesOn, AreMadeBy}
 use Rattle.jl_lead.specs.Led.{knows_of}
-use Rattle.jl_lead.specs.Coming.{ComesTo, TellsDefinition, TellsSpawn, RunsSo, IsNoRun, IsTheRun, left_of, whole_trace, IsThere, IsAway, HasDefined, HasSpawned, IsDefAt, IsSpawnAt}
+use Rattle.jl_lead.specs.Coming.{ComesTo, TellsDefinition, TellsDeletion, TellsSpawn, RunsSo, IsNoRun, IsTheRun, left_of, whole_trace, IsThere, IsAway, HasDefined, HasDeleted, HasSpawned, IsDefAt, IsDelAt, IsSpawnAt}
 use Rattle.jl_lead.proofs.EventFacts.{self_eq, goes_self, tasks_append, own_later, starts_append}
 use Rattle.jl_lead.proofs.Leading.{machine_at}
 
@@ -40,6 +40,9 @@ use Rattle.jl_lead.proofs.Leading.{machine_at}
 -- an event that a task made is its own
 own_made_def : (task n site : ℕ) → own_events task n (Ev.Def task site ∷ []) ≡ Def site n ∷ []
 own_made_def task n site = ap (λ b. cond b (Def site n ∷ []) []) (self_eq task)
+
+own_made_del : (task n place : ℕ) → own_events task n (Ev.Del task place ∷ []) ≡ Del place n ∷ []
+own_made_del task n place = ap (λ b. cond b (Del place n ∷ []) []) (self_eq task)
 
 own_made_spawn : (task n child : ℕ) (start : Start) → own_events task n (Ev.Spawn task child start ∷ []) ≡ Spawn child n ∷ []
 own_made_spawn task n child start = ap (λ b. cond b (Spawn child n ∷ []) []) (self_eq task)
@@ -54,11 +57,29 @@ made_def task n site p es (Ev.Def t z ∷ []) by e =
 made_def task n site p es (Ev.Spawn t child start ∷ []) by e =
     let same : Def site p ∷ [] ≡ Spawn child n ∷ [] = e ∙ subst (λ u. own_events task n (Ev.Spawn u child start ∷ []) ≡ Spawn child n ∷ []) (sym by.0) (own_made_spawn task n child start) in absurd (cc (same))
 made_def task n site p es (Ev.Done t ended ∷ []) by e = absurd (cc (e))
-made_def task n site p es (Ev.Del t at ∷ []) by e = absurd by
+made_def task n site p es (Ev.Del t z ∷ []) by e =
+    let same : Def site p ∷ [] ≡ Del z n ∷ [] = e ∙ subst (λ u. own_events task n (Ev.Del u z ∷ []) ≡ Del z n ∷ []) (sym by) (own_made_del task n z) in absurd (cc (same))
 made_def task n site p es (Ev.Begin fuel ∷ []) by e = absurd by
 made_def task n site p es (Ev.Key key ∷ []) by e = absurd by
 made_def task n site p es (Ev.Fill key z first ∷ []) by e = absurd by
 made_def task n site p es (x ∷ y ∷ made) by e = absurd by
+
+-- a deletion likewise
+pub made_del : (task n place p : ℕ) (es made : List Event) → AreMadeBy task es made → Del place p ∷ [] ≡ own_events task n made → (made ≡ Ev.Del task place ∷ []) × (p ≡ n)
+made_del task n place p es [] by e = absurd (cc (e))
+made_del task n place p es (Ev.Del t z ∷ []) by e =
+    let same : Del place p ∷ [] ≡ Del z n ∷ [] = e ∙ subst (λ u. own_events task n (Ev.Del u z ∷ []) ≡ Del z n ∷ []) (sym by) (own_made_del task n z) in
+    let s : place ≡ z = cc (same) in
+    ((λ i. Ev.Del (by i) (sym s i) ∷ []), cc (same))
+made_del task n place p es (Ev.Def t z ∷ []) by e =
+    let same : Del place p ∷ [] ≡ Def z n ∷ [] = e ∙ subst (λ u. own_events task n (Ev.Def u z ∷ []) ≡ Def z n ∷ []) (sym by) (own_made_def task n z) in absurd (cc (same))
+made_del task n place p es (Ev.Spawn t child start ∷ []) by e =
+    let same : Del place p ∷ [] ≡ Spawn child n ∷ [] = e ∙ subst (λ u. own_events task n (Ev.Spawn u child start ∷ []) ≡ Spawn child n ∷ []) (sym by.0) (own_made_spawn task n child start) in absurd (cc (same))
+made_del task n place p es (Ev.Done t ended ∷ []) by e = absurd (cc (e))
+made_del task n place p es (Ev.Begin fuel ∷ []) by e = absurd by
+made_del task n place p es (Ev.Key key ∷ []) by e = absurd by
+made_del task n place p es (Ev.Fill key z first ∷ []) by e = absurd by
+made_del task n place p es (x ∷ y ∷ made) by e = absurd by
 
 -- and a spawn, of the next task
 pub made_spawn : (task n child p : ℕ) (es made : List Event) → AreMadeBy task es made → Spawn child p ∷ [] ≡ own_events task n made
@@ -71,7 +92,8 @@ made_spawn task n child p es (Ev.Spawn t c start ∷ []) by e =
 made_spawn task n child p es (Ev.Def t z ∷ []) by e =
     let same : Spawn child p ∷ [] ≡ Def z n ∷ [] = e ∙ subst (λ u. own_events task n (Ev.Def u z ∷ []) ≡ Def z n ∷ []) (sym by) (own_made_def task n z) in absurd (cc (same))
 made_spawn task n child p es (Ev.Done t ended ∷ []) by e = absurd (cc (e))
-made_spawn task n child p es (Ev.Del t at ∷ []) by e = absurd by
+made_spawn task n child p es (Ev.Del t z ∷ []) by e =
+    let same : Spawn child p ∷ [] ≡ Del z n ∷ [] = e ∙ subst (λ u. own_events task n (Ev.Del u z ∷ []) ≡ Del z n ∷ []) (sym by) (own_made_del task n z) in absurd (cc (same))
 made_spawn task n child p es (Ev.Begin fuel ∷ []) by e = absurd by
 made_spawn task n child p es (Ev.Key key ∷ []) by e = absurd by
 made_spawn task n child p es (Ev.Fill key z first ∷ []) by e = absurd by
@@ -85,7 +107,8 @@ made_none task n es (Ev.Def t z ∷ []) by e =
     let same : [] ≡ Def z n ∷ [] = e ∙ subst (λ u. own_events task n (Ev.Def u z ∷ []) ≡ Def z n ∷ []) (sym by) (own_made_def task n z) in absurd (cc (same))
 made_none task n es (Ev.Spawn t c start ∷ []) by e =
     let same : [] ≡ Spawn c n ∷ [] = e ∙ subst (λ u. own_events task n (Ev.Spawn u c start ∷ []) ≡ Spawn c n ∷ []) (sym by.0) (own_made_spawn task n c start) in absurd (cc (same))
-made_none task n es (Ev.Del t at ∷ []) by e = absurd by
+made_none task n es (Ev.Del t z ∷ []) by e =
+    let same : [] ≡ Del z n ∷ [] = e ∙ subst (λ u. own_events task n (Ev.Del u z ∷ []) ≡ Del z n ∷ []) (sym by) (own_made_del task n z) in absurd (cc (same))
 made_none task n es (Ev.Begin fuel ∷ []) by e = absurd by
 made_none task n es (Ev.Key key ∷ []) by e = absurd by
 made_none task n es (Ev.Fill key z first ∷ []) by e = absurd by
@@ -106,6 +129,17 @@ is_def site task es (Ev.Begin fuel ∷ []) by h = absurd h
 is_def site task es (Ev.Key key ∷ []) by h = absurd h
 is_def site task es (Ev.Fill key z first ∷ []) by h = absurd h
 is_def site task es (x ∷ y ∷ made) by h = absurd by
+
+is_del : (place task : ℕ) (es made : List Event) → AreMadeBy task es made → IsDelAt place (slice_get made 0) → made ≡ Ev.Del task place ∷ []
+is_del place task es [] by h = absurd h
+is_del place task es (Ev.Del t z ∷ []) by h = λ i. Ev.Del (by i) (h i) ∷ []
+is_del place task es (Ev.Def t z ∷ []) by h = absurd h
+is_del place task es (Ev.Spawn t c start ∷ []) by h = absurd h
+is_del place task es (Ev.Done t ended ∷ []) by h = absurd h
+is_del place task es (Ev.Begin fuel ∷ []) by h = absurd h
+is_del place task es (Ev.Key key ∷ []) by h = absurd h
+is_del place task es (Ev.Fill key z first ∷ []) by h = absurd h
+is_del place task es (x ∷ y ∷ made) by h = absurd by
 
 is_spawn : (place task : ℕ) (es made : List Event) → AreMadeBy task es made → IsSpawnAt place (slice_get made 0) → (start : Start) × (made ≡ Ev.Spawn task (tasks_of es) start ∷ []) × (start.spawn ≡ place)
 is_spawn place task es [] by h = absurd h
@@ -339,21 +373,25 @@ module _ (P : Program) (m0 : Machine) (d0 : Led) (m : Machine) (d : Led) (a : Is
       at (a_deletion z) h = absurd h
       at (a_fetch t) h = absurd h
 
+  -- where nothing was made and the world was not the last, it is not
+  world_open : world_of es < 65535 → [] ≡ own_events task (length es) made → (p : ℕ) → (knows_of d).learnt (WorldFull p) → ⊥
+  world_open room e p l =
+      let none = (made_none task (length es) es made by e).0 in
+      let full = (l d.past.1 (goes_self d.past.1)).1 in
+      let most = first_at_most d.past.1 p in
+      let same_world = ap world_of a.made.2 in
+      let more = ap length (changed_append es made) in
+      let len = length-append (changed es) (changed made) in
+      let zero_more : length (changed made) ≡ 0 = ap length none in
+      omega (arith, room, full, most, same_world, more, len, zero_more)
+
   -- what it asked was this definition, so it was made, where the world is not the last
   def_made : (site : ℕ) → world_of es < 65535 → a_definition site ≡ a.question → made ≡ Ev.Def task site ∷ []
   def_made site room same = at a.item (subst (λ q. IsAnswerTo q a.item) (sym same) a.answers) own_item (learnt_last (knows_of d) a.before a.item (subst (AllLearnt (knows_of d)) a.trace fitted.fits.learnt))
     where
       at : (i : TraceItem) → IsAnswerTo (a_definition site) i → own_items (i ∷ []) ≡ own_events task (length es) made → (knows_of d).learnt i → made ≡ Ev.Def task site ∷ []
       at (Def s p) h e l = (made_def task (length es) site p es made by (ap (λ z. Def z p ∷ []) (sym h) ∙ e)).0
-      at (WorldFull p) h e l =
-          let none = (made_none task (length es) es made by e).0 in
-          let full = (l d.past.1 (goes_self d.past.1)).1 in
-          let most = first_at_most d.past.1 p in
-          let same_world = ap world_of a.made.2 in
-          let more = ap length (changed_append es made) in
-          let len = length-append (changed es) (changed made) in
-          let zero_more : length (changed made) ≡ 0 = ap length none in
-          absurd (omega (arith, room, full, most, same_world, more, len, zero_more))
+      at (WorldFull p) h e l = absurd (world_open room e p l)
       at (Look w p) h e l = absurd h
       at (Spawn c p) h e l = absurd h
       at (Fetch t o p) h e l = absurd h
@@ -379,6 +417,65 @@ module _ (P : Program) (m0 : Machine) (d0 : Led) (m : Machine) (d : Led) (a : Is
         stays = a.stays;
         events = a.made.2 ∙ ap (λ ms. es ++ ms) e;
         trace = a.trace ∙ (λ i. all_told none i ++ def_item site e i ∷ []);
+      }
+
+  -- ---- to a deletion
+
+  del_item : (place : ℕ) → made ≡ Ev.Del task place ∷ [] → a.item ≡ Del place (length es)
+  del_item place e = at a.item (own_item ∙ ap (own_events task (length es)) e ∙ own_made_del task (length es) place)
+    where
+      at : (i : TraceItem) → own_items (i ∷ []) ≡ Del place (length es) ∷ [] → i ≡ Del place (length es)
+      at (Del s p) h = cc (h)
+      at (Look w p) h = absurd (cc (h))
+      at (Spawn c p) h = absurd (cc (h))
+      at (Fetch t o p) h = absurd (cc (h))
+      at (WorldFull p) h = absurd (cc (h))
+      at (TaskFull p) h = absurd (cc (h))
+      at (Def z p) h = absurd (cc (h))
+      at (Absent z p) h = absurd (cc (h))
+
+  del_question : (place : ℕ) → made ≡ Ev.Del task place ∷ [] → a.question ≡ a_deletion place
+  del_question place e = at a.question (subst (IsAnswerTo a.question) (del_item place e) a.answers)
+    where
+      at : (q : Question) → IsAnswerTo q (Del place (length es)) → q ≡ a_deletion place
+      at a_look h = absurd h
+      at (a_deletion s) h = ap a_deletion (sym h)
+      at (a_spawn s) h = absurd h
+      at (a_definition z) h = absurd h
+      at (a_fetch t) h = absurd h
+
+  -- what it asked was this deletion, so it was made, where the world is not the last
+  del_made : (place : ℕ) → world_of es < 65535 → a_deletion place ≡ a.question → made ≡ Ev.Del task place ∷ []
+  del_made place room same = at a.item (subst (λ q. IsAnswerTo q a.item) (sym same) a.answers) a.told own_item (learnt_last (knows_of d) a.before a.item (subst (AllLearnt (knows_of d)) a.trace fitted.fits.learnt))
+    where
+      at : (i : TraceItem) → IsAnswerTo (a_deletion place) i → is_absence (Some i) ≡ false → own_items (i ∷ []) ≡ own_events task (length es) made → (knows_of d).learnt i → made ≡ Ev.Del task place ∷ []
+      at (Del s p) h t e l = (made_del task (length es) place p es made by (ap (λ z. Del z p ∷ []) (sym h) ∙ e)).0
+      at (WorldFull p) h t e l = absurd (world_open room e p l)
+      at (Absent z p) h t e l = absurd (cc (t))
+      at (Look w p) h t e l = absurd h
+      at (Spawn c p) h t e l = absurd h
+      at (Fetch u o p) h t e l = absurd h
+      at (TaskFull p) h t e l = absurd h
+      at (Def z p) h t e l = absurd h
+
+  pub away_deletion : (place : ℕ) (answer : Bool) → world_of es < 65535 → left_of d ≡ [] → IsTrue answer ↔ IsDelAt place (slice_get d.past.1 (length es)) → TellsDeletion P es task (fuel_of m0) (whole_trace m0 d0) place answer
+  away_deletion place answer room none told xs g = (
+    λ y. comes_there none xs g (a_deletion place) (del_question place (del_there place (told.0 y))),
+    λ comes. told.1 (del_at place (del_made place room (comes_only xs g (a_deletion place) comes).1)),
+  )
+    where
+      del_there : (s : ℕ) → IsDelAt s (slice_get d.past.1 (length es)) → made ≡ Ev.Del task s ∷ []
+      del_there s h = is_del s task es made by (subst (IsDelAt s) (ap (λ ys. slice_get ys (length es)) a.made.2 ∙ after_es es made) h)
+
+      del_at : (s : ℕ) → made ≡ Ev.Del task s ∷ [] → IsDelAt s (slice_get d.past.1 (length es))
+      del_at s e = subst (IsDelAt s) (sym (ap (λ ys. slice_get ys (length es)) a.made.2 ∙ after_es es made ∙ ap (λ ys. slice_get ys 0) e)) refl
+
+  pub away_deleted : (place : ℕ) → left_of d ≡ [] → IsDelAt place (slice_get d.past.1 (length es)) → HasDeleted P m0 d0 place m d
+  away_deleted place none h =
+      let e = is_del place task es made by (subst (IsDelAt place) (ap (λ ys. slice_get ys (length es)) a.made.2 ∙ after_es es made) h) in record {
+        stays = a.stays;
+        events = a.made.2 ∙ ap (λ ms. es ++ ms) e;
+        trace = a.trace ∙ (λ i. all_told none i ++ del_item place e i ∷ []);
       }
 
   -- ---- to a spawn
@@ -488,6 +585,9 @@ module _ (P : Program) (m0 : Machine) (d0 : Led) (m : Machine) (d : Led) (a : Is
   pub away_no_definition : (site : ℕ) → (left_of d ≡ [] → ⊥) → TellsDefinition P es task (fuel_of m0) (whole_trace m0 d0) site false
   away_no_definition site some xs g = (λ y. absurd (cc (y)), λ comes. absurd (away_before some xs g (a_definition site) comes))
 
+  pub away_no_deletion : (place : ℕ) → (left_of d ≡ [] → ⊥) → TellsDeletion P es task (fuel_of m0) (whole_trace m0 d0) place false
+  away_no_deletion place some xs g = (λ y. absurd (cc (y)), λ comes. absurd (away_before some xs g (a_deletion place) comes))
+
   pub away_no_spawn : (place : ℕ) → (left_of d ≡ [] → ⊥) → TellsSpawn P es task (fuel_of m0) (whole_trace m0 d0) place false
   away_no_spawn place some xs g = (λ y. absurd (cc (y)), λ (s, at_place, comes). absurd (away_before some xs g (a_spawn s) comes))
 
@@ -505,6 +605,12 @@ module _ (P : Program) (m0 : Machine) (d0 : Led) (m : Machine) (d : Led) (a : Is
 
     pub looked_defined : (site : ℕ) (answer : Bool) → IsTrue answer ↔ IsDefAt site (slice_get events place) → IsTrue answer → HasDefined P m0 d0 site m d
     looked_defined site answer told y = away_defined site none (at_place (IsDefAt site) (told.0 y))
+
+    pub looked_deletion : (made_at : ℕ) (answer : Bool) → world_of es < 65535 → IsTrue answer ↔ IsDelAt made_at (slice_get events place) → TellsDeletion P es task (fuel_of m0) (whole_trace m0 d0) made_at answer
+    looked_deletion made_at answer room told = away_deletion made_at answer room none (λ y. at_place (IsDelAt made_at) (told.0 y), λ h. told.1 (from_place (IsDelAt made_at) h))
+
+    pub looked_deleted : (made_at : ℕ) (answer : Bool) → IsTrue answer ↔ IsDelAt made_at (slice_get events place) → IsTrue answer → HasDeleted P m0 d0 made_at m d
+    looked_deleted made_at answer told y = away_deleted made_at none (at_place (IsDelAt made_at) (told.0 y))
 
     pub looked_spawn : (spawn : ℕ) (answer : Bool) → tasks_of es < 4096 → IsTrue answer ↔ IsSpawnAt spawn (slice_get events place) → TellsSpawn P es task (fuel_of m0) (whole_trace m0 d0) spawn answer
     looked_spawn spawn answer room told = away_spawn spawn answer room none (λ y. at_place (IsSpawnAt spawn) (told.0 y), λ h. told.1 (from_place (IsSpawnAt spawn) h))
@@ -543,6 +649,9 @@ module _ (P : Program) (m0 : Machine) (d0 : Led) (m : Machine) (d : Led) (t : Is
 
   pub ended_definition : (site : ℕ) → TellsDefinition P over_es d0.task (fuel_of m0) (whole_trace m0 d0) site false
   ended_definition site xs g = (λ y. absurd (cc (y)), λ comes. absurd (ended_before xs g (a_definition site) comes))
+
+  pub ended_deletion : (place : ℕ) → TellsDeletion P over_es d0.task (fuel_of m0) (whole_trace m0 d0) place false
+  ended_deletion place xs g = (λ y. absurd (cc (y)), λ comes. absurd (ended_before xs g (a_deletion place) comes))
 
   pub ended_spawn : (place : ℕ) → TellsSpawn P over_es d0.task (fuel_of m0) (whole_trace m0 d0) place false
   ended_spawn place xs g = (λ y. absurd (cc (y)), λ (s, at_place, comes). absurd (ended_before xs g (a_spawn s) comes))

@@ -1,12 +1,14 @@
 -- What stands next in a trace, and a trace that departs.
-use Rattle.std.proofs.Common.{◌≡◌, ◌∙◌, ◌⊎◌, inl, inr, ap, sym, subst, refl, ℕ, zero, suc, ◌+◌, arith, Bool, true, false, List, [], ◌∷◌, ◌++◌, append_assoc, length-append, drop, length, slice_get, Option, Some, None}
+use Rattle.std.proofs.Common.{◌≡◌, ◌∙◌, ◌⊎◌, inl, inr, ap, sym, subst, refl, ℕ, zero, suc, ◌+◌, ◌≤◌, arith, Bool, true, false, cond, nat_eq, List, [], ◌∷◌, ◌++◌, append_assoc, length-append, drop, length, slice_get, Option, Some, None}
 use Rattle.std.proofs.lemmas.Option.{same_Some, none-some}
 use Rattle.jl_calculus.specs.declared.history.Event.{Event}
 use Rattle.jl_calculus.specs.declared.history.Outcome.{Outcome}
 use Rattle.jl_calculus.specs.declared.history.Seen.{Seen}
 use Rattle.jl_calculus.specs.declared.history.TraceItem.{TraceItem}
 use Rattle.jl_calculus.specs.declared.history.TraceItem.TheVariants.{Look, Def, Del, Spawn, Fetch, WorldFull, TaskFull, Absent}
-use Rattle.jl_lead.specs.Items.{IsSameQuestion, Begins, Departs, next_item, look_of, world_full_of, task_full_of, IsNoFetch}
+use Rattle.jl_program.specs.declared.tree.Program.{Program}
+use Rattle.jl_calculus.specs.World.{world_of}
+use Rattle.jl_lead.specs.Items.{IsSameQuestion, Begins, Departs, next_item, look_of, world_full_of, task_full_of, absent_of, is_absence, IsNoFetch}
 use Rattle.jl_lead.specs.Leads.{IsOn}
 use Rattle.jl_lead.specs.Stretch.{IsStretch}
 
@@ -58,6 +60,34 @@ is_task_full (Some (WorldFull q)) p h = absurd (none-some _ h)
 is_task_full (Some (Del place q)) p h = absurd (none-some _ h)
 is_task_full (Some (Absent place q)) p h = absurd (none-some _ h)
 
+pub is_absent : (o : Option TraceItem) (place p : ℕ) → absent_of place o ≡ Some p → o ≡ Some (Absent place p)
+is_absent None place p h = absurd (none-some _ h)
+is_absent (Some (Absent z q)) place p h = by (nat_eq z place) refl h
+  where
+    by : (b : Bool) → nat_eq z place ≡ b → cond b (Some q) None ≡ Some p → Some (Absent z q) ≡ Some (Absent place p)
+    by true e k =
+        let at : z ≡ place = grind (arith, e) in
+        ap (λ u. Some (Absent u q)) at ∙ ap (λ r. Some (Absent place r)) (same_Some _ _ k)
+    by false e k = absurd (none-some _ k)
+is_absent (Some (Look w q)) place p h = absurd (none-some _ h)
+is_absent (Some (Def site q)) place p h = absurd (none-some _ h)
+is_absent (Some (Spawn c q)) place p h = absurd (none-some _ h)
+is_absent (Some (Fetch t o q)) place p h = absurd (none-some _ h)
+is_absent (Some (WorldFull q)) place p h = absurd (none-some _ h)
+is_absent (Some (TaskFull q)) place p h = absurd (none-some _ h)
+is_absent (Some (Del z q)) place p h = absurd (none-some _ h)
+
+pub some_absence : (o : Option TraceItem) → is_absence o ≡ true → (place : ℕ) × (p : ℕ) × (o ≡ Some (Absent place p))
+some_absence None h = absurd (cc h)
+some_absence (Some (Absent z q)) h = (z, q, refl)
+some_absence (Some (Look w q)) h = absurd (cc h)
+some_absence (Some (Def site q)) h = absurd (cc h)
+some_absence (Some (Spawn c q)) h = absurd (cc h)
+some_absence (Some (Fetch t o q)) h = absurd (cc h)
+some_absence (Some (WorldFull q)) h = absurd (cc h)
+some_absence (Some (TaskFull q)) h = absurd (cc h)
+some_absence (Some (Del z q)) h = absurd (cc h)
+
 -- ---- what does not stand next
 
 pub no_look : (is : List TraceItem) (n w p : ℕ) → look_of (slice_get is n) ≡ None → Begins (Look w p) (drop n is) → ⊥
@@ -73,8 +103,8 @@ no_look (Del place q ∷ is) zero w p h b = b
 no_look (Absent place q ∷ is) zero w p h b = b
 no_look (y ∷ is) (suc n) w p h b = no_look is n w p h b
 
-module _ (es : List Event) (low : ℕ) where
-  pub no_def : (is : List TraceItem) (n site p : ℕ) → world_full_of (slice_get is n) ≡ None → IsStretch es low (drop n is) → Begins (Def site p) (drop n is) → ⊥
+module _ (P : Program) (es : List Event) (low : ℕ) where
+  pub no_def : (is : List TraceItem) (n site p : ℕ) → world_full_of (slice_get is n) ≡ None → IsStretch P es low (drop n is) → Begins (Def site p) (drop n is) → ⊥
   no_def [] zero site p h s b = b
   no_def [] (suc n) site p h s b = b
   no_def (Look v q ∷ is) zero site p h s b = b
@@ -84,23 +114,38 @@ module _ (es : List Event) (low : ℕ) where
   no_def (WorldFull q ∷ is) zero site p h s b = none-some _ (sym h)
   no_def (TaskFull q ∷ is) zero site p h s b = b
   no_def (Del place q ∷ is) zero site p h s b = s
-  no_def (Absent place q ∷ is) zero site p h s b = s
+  no_def (Absent place q ∷ is) zero site p h s b = b
   no_def (y ∷ is) (suc n) site p h s b = no_def is n site p h s b
 
-  pub no_world_full : (is : List TraceItem) (n p : ℕ) → world_full_of (slice_get is n) ≡ None → IsStretch es low (drop n is) → Begins (WorldFull p) (drop n is) → ⊥
-  no_world_full [] zero p h s b = b
-  no_world_full [] (suc n) p h s b = b
-  no_world_full (Look v q ∷ is) zero p h s b = b
-  no_world_full (Def z q ∷ is) zero p h s b = s
-  no_world_full (Spawn c q ∷ is) zero p h s b = b
-  no_world_full (Fetch t o q ∷ is) zero p h s b = b
-  no_world_full (WorldFull q ∷ is) zero p h s b = none-some _ (sym h)
-  no_world_full (TaskFull q ∷ is) zero p h s b = b
-  no_world_full (Del place q ∷ is) zero p h s b = s
-  no_world_full (Absent place q ∷ is) zero p h s b = s
-  no_world_full (y ∷ is) (suc n) p h s b = no_world_full is n p h s b
+  pub no_del : (is : List TraceItem) (n place p : ℕ) → world_full_of (slice_get is n) ≡ None → absent_of place (slice_get is n) ≡ None → IsStretch P es low (drop n is) → Begins (Del place p) (drop n is) → ⊥
+  no_del [] zero place p h k s b = b
+  no_del [] (suc n) place p h k s b = b
+  no_del (Look v q ∷ is) zero place p h k s b = b
+  no_del (Def z q ∷ is) zero place p h k s b = b
+  no_del (Spawn c q ∷ is) zero place p h k s b = b
+  no_del (Fetch t o q ∷ is) zero place p h k s b = b
+  no_del (WorldFull q ∷ is) zero place p h k s b = none-some _ (sym h)
+  no_del (TaskFull q ∷ is) zero place p h k s b = b
+  no_del (Del z q ∷ is) zero place p h k s b = s
+  no_del (Absent z q ∷ is) zero place p h k s b =
+      let here : nat_eq z place ≡ true = grind (arith, b) in
+      none-some _ (sym (sym (ap (λ (c : Bool). cond c (Some q) None) here) ∙ k))
+  no_del (y ∷ is) (suc n) place p h k s b = no_del is n place p h k s b
 
-  pub no_spawn : (is : List TraceItem) (n child p : ℕ) → task_full_of (slice_get is n) ≡ None → IsStretch es low (drop n is) → Begins (Spawn child p) (drop n is) → ⊥
+  pub no_world_full : (is : List TraceItem) (n p : ℕ) → world_full_of (slice_get is n) ≡ None → is_absence (slice_get is n) ≡ false → IsStretch P es low (drop n is) → Begins (WorldFull p) (drop n is) → ⊥
+  no_world_full [] zero p h k s b = b
+  no_world_full [] (suc n) p h k s b = b
+  no_world_full (Look v q ∷ is) zero p h k s b = b
+  no_world_full (Def z q ∷ is) zero p h k s b = s
+  no_world_full (Spawn c q ∷ is) zero p h k s b = b
+  no_world_full (Fetch t o q ∷ is) zero p h k s b = b
+  no_world_full (WorldFull q ∷ is) zero p h k s b = none-some _ (sym h)
+  no_world_full (TaskFull q ∷ is) zero p h k s b = b
+  no_world_full (Del place q ∷ is) zero p h k s b = s
+  no_world_full (Absent place q ∷ is) zero p h k s b = cc k
+  no_world_full (y ∷ is) (suc n) p h k s b = no_world_full is n p h k s b
+
+  pub no_spawn : (is : List TraceItem) (n child p : ℕ) → task_full_of (slice_get is n) ≡ None → IsStretch P es low (drop n is) → Begins (Spawn child p) (drop n is) → ⊥
   no_spawn [] zero child p h s b = b
   no_spawn [] (suc n) child p h s b = b
   no_spawn (Look v q ∷ is) zero child p h s b = b
@@ -110,10 +155,10 @@ module _ (es : List Event) (low : ℕ) where
   no_spawn (WorldFull q ∷ is) zero child p h s b = b
   no_spawn (TaskFull q ∷ is) zero child p h s b = none-some _ (sym h)
   no_spawn (Del place q ∷ is) zero child p h s b = s
-  no_spawn (Absent place q ∷ is) zero child p h s b = s
+  no_spawn (Absent place q ∷ is) zero child p h s b = b
   no_spawn (y ∷ is) (suc n) child p h s b = no_spawn is n child p h s b
 
-  pub no_task_full : (is : List TraceItem) (n p : ℕ) → task_full_of (slice_get is n) ≡ None → IsStretch es low (drop n is) → Begins (TaskFull p) (drop n is) → ⊥
+  pub no_task_full : (is : List TraceItem) (n p : ℕ) → task_full_of (slice_get is n) ≡ None → IsStretch P es low (drop n is) → Begins (TaskFull p) (drop n is) → ⊥
   no_task_full [] zero p h s b = b
   no_task_full [] (suc n) p h s b = b
   no_task_full (Look v q ∷ is) zero p h s b = b
@@ -123,8 +168,23 @@ module _ (es : List Event) (low : ℕ) where
   no_task_full (WorldFull q ∷ is) zero p h s b = b
   no_task_full (TaskFull q ∷ is) zero p h s b = none-some _ (sym h)
   no_task_full (Del place q ∷ is) zero p h s b = s
-  no_task_full (Absent place q ∷ is) zero p h s b = s
+  no_task_full (Absent place q ∷ is) zero p h s b = b
   no_task_full (y ∷ is) (suc n) p h s b = no_task_full is n p h s b
+
+  -- the events of a stretch have no more worlds than a run may have
+  pub stretch_few : (is : List TraceItem) → IsStretch P es low is → world_of es ≤ 65535
+  stretch_few is s = few low is s
+    where
+      few : (at : ℕ) (is : List TraceItem) → IsStretch P es at is → world_of es ≤ 65535
+      few at [] s = s.1
+      few at (Look v q ∷ is) s = few q is s.3
+      few at (Def z q ∷ is) s = absurd s
+      few at (Spawn c q ∷ is) s = absurd s
+      few at (Fetch t o q ∷ is) s = few q is s.3
+      few at (WorldFull q ∷ is) s = few q is s.3
+      few at (TaskFull q ∷ is) s = few q is s.3
+      few at (Del place q ∷ is) s = absurd s
+      few at (Absent place q ∷ is) s = few q is s.3
 
 pub no_fetch : (is : List TraceItem) (n of : ℕ) (outcome : Outcome) (p : ℕ) → IsNoFetch (slice_get is n) of → Begins (Fetch of outcome p) (drop n is) → ⊥
 no_fetch [] zero of outcome p h b = b
@@ -156,15 +216,16 @@ pub one_more : (trace whole is : List TraceItem) (n : ℕ) (x : TraceItem) → s
 one_more trace whole is n x h e = append_assoc trace (x ∷ []) (drop (n + 1) is) ∙ ap (λ xs. trace ++ xs) (sym (next_is is n x h)) ∙ e
 
 -- a task departs from its trace, or has departed before
-pub departs_at : (alone : Bool) (left whole trace : List TraceItem) (i : TraceItem) → (alone ≡ false → Begins i left → ⊥) → IsOn alone left whole trace → Departs left whole (trace ++ i ∷ [])
-departs_at false left whole trace i apart on = record { before = trace; item = i; after = []; there = refl; followed = on; apart = apart refl }
-departs_at true left whole trace i apart on = record {
+pub departs_at : (alone : Bool) (left whole trace : List TraceItem) (i : TraceItem) → is_absence (Some i) ≡ false → (alone ≡ false → Begins i left → ⊥) → IsOn alone left whole trace → Departs left whole (trace ++ i ∷ [])
+departs_at false left whole trace i told apart on = record { before = trace; item = i; after = []; there = refl; followed = on; apart = apart refl; told = told }
+departs_at true left whole trace i told apart on = record {
   before = on.before;
   item = on.item;
   after = on.after ++ i ∷ [];
   there = ap (λ xs. xs ++ i ∷ []) on.there ∙ append_assoc on.before (on.item ∷ on.after) (i ∷ []);
   followed = on.followed;
   apart = on.apart;
+  told = on.told;
 }
 
 cancel : (xs ys zs : List TraceItem) → xs ++ ys ≡ xs ++ zs → ys ≡ zs
@@ -196,11 +257,11 @@ pub not_departed : (left left' whole old : List TraceItem) → old ++ left ≡ w
 not_departed left left' whole old on d = never_before old d.before left left' d.after d.item d.there (d.followed ∙ sym on) d.apart
 
 -- one that departs with one more item departs there
-pub departed : (left left' whole old : List TraceItem) (x : TraceItem) → old ++ left ≡ whole → Departs left' whole (old ++ x ∷ []) → (left' ≡ left) × (Begins x left → ⊥)
+pub departed : (left left' whole old : List TraceItem) (x : TraceItem) → old ++ left ≡ whole → Departs left' whole (old ++ x ∷ []) → (left' ≡ left) × (Begins x left → ⊥) × (is_absence (Some x) ≡ false)
 departed left left' whole old x on d = cases (last_or_before old d.before d.after x d.item d.there)
   where
-    cases : ((d.before ≡ old) × (d.item ≡ x)) ⊎ ((mid : List TraceItem) × (old ≡ d.before ++ d.item ∷ mid)) → (left' ≡ left) × (Begins x left → ⊥)
+    cases : ((d.before ≡ old) × (d.item ≡ x)) ⊎ ((mid : List TraceItem) × (old ≡ d.before ++ d.item ∷ mid)) → (left' ≡ left) × (Begins x left → ⊥) × (is_absence (Some x) ≡ false)
     cases (inl (p, q)) =
         let e : left' ≡ left = cancel old left' left (ap (λ xs. xs ++ left') (sym p) ∙ d.followed ∙ sym on) in
-        (e, subst (λ (z : TraceItem × List TraceItem). Begins z.0 z.1 → ⊥) (λ k. (q k, e k)) d.apart)
+        (e, subst (λ (z : TraceItem × List TraceItem). Begins z.0 z.1 → ⊥) (λ k. (q k, e k)) d.apart, subst (λ z. is_absence (Some z) ≡ false) q d.told)
     cases (inr (mid, p)) = absurd (never_before old d.before left left' mid d.item p (d.followed ∙ sym on) d.apart)

@@ -1,28 +1,27 @@
 -- What is kept of the events, and one more event.
 use Rattle.std.proofs.Common.{◌≡◌, ◌∙◌, ap, sym, subst, refl, ℕ, zero, suc, ◌⊎◌, inl, inr, get_or, slice_get, ◌+◌, ◌-◌, ◌<◌, ◌≤◌, ◌^◌, arith, Bool, true, false, cond, nat_eq, List, [], ◌∷◌, ◌++◌, map, length, take, drop, take-append-drop, append-nil, length-append, Option, Some, None, Result, Ok, Err, IfOk}
 use Rattle.std.proofs.lemmas.Option.{same_Some, none-some, slice_get-get_or}
-use Rattle.std.specs.List.{take-map}
-use Rattle.std.proofs.lemmas.List.{length-map, map-append}
 use Rattle.jl_model.specs.declared.ty.Ty.{Ty}
-use Rattle.jl_model.specs.declared.ty.Written.{Written}
 use Rattle.jl_program.specs.declared.choice.Choice.{Choice}
 use Rattle.jl_program.specs.declared.tree.Program.{Program}
 use Rattle.jl_program.specs.declared.tree.Start.{Start}
 use Rattle.jl_program.specs.Prelude.{prelude_numbers}
+use Rattle.jl_calculus.specs.declared.history.Change.{Change}
 use Rattle.jl_calculus.specs.declared.history.Change.TheVariants as Ch
 use Rattle.jl_calculus.specs.declared.history.Def.{Def}
+use Rattle.jl_calculus.specs.declared.history.Del.{Del}
 use Rattle.jl_calculus.specs.declared.history.Event.{Event}
 use Rattle.jl_calculus.specs.declared.history.Event.TheVariants as Ev
 use Rattle.jl_calculus.specs.declared.history.Outcome.{Outcome}
 use Rattle.jl_calculus.specs.declared.history.Record.{Record}
-use Rattle.jl_calculus.specs.Definitions.{sig_of, defs_from, defs_in}
+use Rattle.jl_calculus.specs.Definitions.{defs_from, defs_in, dels_from}
 use Rattle.jl_calculus.specs.Past.{EndedSo, done_of, tasks_of}
 use Rattle.jl_calculus.specs.ValidHistory.{IsValidOutcome}
-use Rattle.jl_calculus.specs.World.{changed, changes, change_at, site_in, site_of, world_of, Deletes, Selects}
+use Rattle.jl_calculus.specs.World.{changed, changes, change_event, site_in, site_of, world_of, Selects}
 use Rattle.jl_calculus.proofs.GrowthLemmas.{changed_append, changes_append, changes_length, world_more}
 use Rattle.jl_subsig.specs.Standing.{HaveLatest, ChoosesLeft}
-use Rattle.jl_subsig.proofs.StandingChoice.{left_selects}
-use Rattle.jl_lead.specs.ByFunction.{defs_of, AreLatest}
+use Rattle.jl_lead.specs.ByFunction.{AreLatest, AreLatestDels}
+use Rattle.jl_lead.proofs.LeftLemmas.{chosen_left}
 use Rattle.jl_lead.proofs.PickLemmas.{latest_for}
 use Rattle.jl_lead.specs.Known.{IsNoted, IsStartAmong, AreSound, IsKnownSo, IsPlain, IsSpawnOf}
 use Rattle.jl_lead.proofs.EndLemmas.{ends_none, ends_same, ends_kept, ends_done}
@@ -53,9 +52,9 @@ sound_more P es e h outcomes starts = record {
     by_start p task child s (inl q) = start_more P es (e ∷ []) s (h.starts p task child s q)
     by_start p task child s (inr q) = start_more P es (e ∷ []) s (starts task child s q)
 
-pub known_new : (P : Program) → IsKnownSo P prelude_numbers [] 1 []
+pub known_new : (P : Program) → IsKnownSo P (map Ch.Def prelude_numbers) [] 1 []
 known_new P = record {
-  sites_are = append-nil (map Ch.Def prelude_numbers);
+  changes_are = append-nil (map Ch.Def prelude_numbers);
   worlds = omega arith;
   tasks_are = refl;
   few = omega arith;
@@ -64,27 +63,32 @@ known_new P = record {
   sound = record { outcomes = λ task r q. absurd (none-some _ q); starts = λ p task child s q. absurd (none-some _ q) };
 }
 
-pub new_known : (P : Program) (v : Program × List ℕ) (es : List Event) (ends : List (Option ℕ)) → v ≡ (P, prelude_numbers) → es ≡ [] → ends ≡ [] → IsKnownSo v.0 v.1 es 1 ends
-new_known P v es ends e n m = subst (λ xs. IsKnownSo v.0 v.1 es 1 xs) (sym m) (subst (λ (z : (Program × List ℕ) × List Event). IsKnownSo z.0.0 z.0.1 z.1 1 []) (λ i. (sym e i, sym n i)) (known_new P))
+pub new_known : (P : Program) (v : Program × List Change) (es : List Event) (ends : List (Option ℕ)) → v ≡ (P, map Ch.Def prelude_numbers) → es ≡ [] → ends ≡ [] → IsKnownSo v.0 v.1 es 1 ends
+new_known P v es ends e n m = subst (λ xs. IsKnownSo v.0 v.1 es 1 xs) (sym m) (subst (λ (z : (Program × List Change) × List Event). IsKnownSo z.0.0 z.0.1 z.1 1 []) (λ i. (sym e i, sym n i)) (known_new P))
 
-module _ (P : Program) (sites : List ℕ) (es : List Event) (tasks : ℕ) (ends : List (Option ℕ)) (h : IsKnownSo P sites es tasks ends) (short : length es < 4294967294) where
+module _ (P : Program) (cs : List Change) (es : List Event) (tasks : ℕ) (ends : List (Option ℕ)) (h : IsKnownSo P cs es tasks ends) (short : length es < 4294967294) where
   one_longer : (e : Event) → length (es ++ e ∷ []) < 2 ^ 32 - 1
   one_longer e = let n = length-append es (e ∷ []) in omega (arith, n, short)
 
-  pub known_def : (task site : ℕ) → world_of es < 65535 → IsKnownSo P (sites ++ site ∷ []) (es ++ Ev.Def task site ∷ []) tasks ends
-  known_def task site room = record {
-    sites_are = changes_append es (Ev.Def task site ∷ []) ∙ ap (λ cs. cs ++ Ch.Def site ∷ []) h.sites_are ∙ sym (map-append Ch.Def sites (site ∷ []));
-    worlds = let n = ap length (changed_append es (Ev.Def task site ∷ [])) in let m = length-append (changed es) (Ch.Def site ∷ []) in omega (arith, n, m, room);
-    tasks_are = let n = tasks_append es (Ev.Def task site ∷ []) in let t = h.tasks_are in omega (arith, n, t);
-    few = let n = tasks_append es (Ev.Def task site ∷ []) in let f = h.few in omega (arith, n, f);
-    short = one_longer (Ev.Def task site);
-    ends_are = ends_kept es (Ev.Def task site) ends (λ t. refl) h.ends_are;
-    sound = sound_more P es (Ev.Def task site) h.sound (λ t r q. absurd (none-some _ q)) (λ t c s q. absurd (cc (q)));
+  known_change : (e : Event) (change : Change) → changed (e ∷ []) ≡ change ∷ [] → tasks_of (e ∷ []) ≡ 1 → ((t : ℕ) → done_of t (e ∷ []) ≡ None) → ((t c : ℕ) (s : Start) → e ≡ Ev.Spawn t c s → ⊥) → world_of es ≤ 65535
+      → IsKnownSo P (cs ++ change ∷ []) (es ++ e ∷ []) tasks ends
+  known_change e change made no_task no_done no_start room = record {
+    changes_are = changes_append es (e ∷ []) ∙ ap (λ xs. changes es ++ xs) made ∙ ap (λ xs. xs ++ change ∷ []) h.changes_are;
+    worlds = let n = ap length (changed_append es (e ∷ []) ∙ ap (λ xs. changed es ++ xs) made) in let m = length-append (changed es) (change ∷ []) in omega (arith, n, m, room);
+    tasks_are = let n = tasks_append es (e ∷ []) in let t = h.tasks_are in omega (arith, n, t, no_task);
+    few = let n = tasks_append es (e ∷ []) in let f = h.few in omega (arith, n, f, no_task);
+    short = one_longer e;
+    ends_are = ends_kept es e ends no_done h.ends_are;
+    sound = sound_more P es e h.sound (λ t r q. absurd (none-some _ (sym (no_done t) ∙ q))) (λ t c s q. absurd (no_start t c s q));
   }
 
-  pub known_spawn : (task : ℕ) (start : Start) → IsStartAmong P es start → tasks_of es < 4096 → IsKnownSo P sites (es ++ Ev.Spawn task (tasks_of es) start ∷ []) (tasks + 1) ends
+  pub known_made : (task : ℕ) (change : Change) → world_of es ≤ 65535 → IsKnownSo P (cs ++ change ∷ []) (es ++ change_event task change ∷ []) tasks ends
+  known_made task (Ch.Def site) room = known_change (Ev.Def task site) (Ch.Def site) refl refl (λ t. refl) (λ t c s q. cc (q)) room
+  known_made task (Ch.Del place) room = known_change (Ev.Del task place) (Ch.Del place) refl refl (λ t. refl) (λ t c s q. cc (q)) room
+
+  pub known_spawn : (task : ℕ) (start : Start) → IsStartAmong P es start → tasks_of es < 4096 → IsKnownSo P cs (es ++ Ev.Spawn task (tasks_of es) start ∷ []) (tasks + 1) ends
   known_spawn task start among room = record {
-    sites_are = changes_append es (Ev.Spawn task (tasks_of es) start ∷ []) ∙ append-nil (changes es) ∙ h.sites_are;
+    changes_are = changes_append es (Ev.Spawn task (tasks_of es) start ∷ []) ∙ append-nil (changes es) ∙ h.changes_are;
     worlds = let n = ap length (changed_append es (Ev.Spawn task (tasks_of es) start ∷ [])) in let m = length-append (changed es) [] in let w = h.worlds in omega (arith, n, m, w);
     tasks_are = let n = tasks_append es (Ev.Spawn task (tasks_of es) start ∷ []) in let t = h.tasks_are in omega (arith, n, t);
     few = let n = tasks_append es (Ev.Spawn task (tasks_of es) start ∷ []) in omega (arith, n, room);
@@ -93,9 +97,9 @@ module _ (P : Program) (sites : List ℕ) (es : List Event) (tasks : ℕ) (ends 
     sound = sound_more P es (Ev.Spawn task (tasks_of es) start) h.sound (λ t r q. absurd (none-some _ q)) (λ t c s q. (let same : start ≡ s = cc (q) in subst (IsStartAmong P es) same among));
   }
 
-  pub known_done : (task : ℕ) (ended : Record) (new : List (Option ℕ)) → IsNoted task (length es) ends new → IsValidOutcome P ended.outcome → IsKnownSo P sites (es ++ Ev.Done task ended ∷ []) tasks new
+  pub known_done : (task : ℕ) (ended : Record) (new : List (Option ℕ)) → IsNoted task (length es) ends new → IsValidOutcome P ended.outcome → IsKnownSo P cs (es ++ Ev.Done task ended ∷ []) tasks new
   known_done task ended new noted valid = record {
-    sites_are = changes_append es (Ev.Done task ended ∷ []) ∙ append-nil (changes es) ∙ h.sites_are;
+    changes_are = changes_append es (Ev.Done task ended ∷ []) ∙ append-nil (changes es) ∙ h.changes_are;
     worlds = let n = ap length (changed_append es (Ev.Done task ended ∷ [])) in let m = length-append (changed es) [] in let w = h.worlds in omega (arith, n, m, w);
     tasks_are = let n = tasks_append es (Ev.Done task ended ∷ []) in let t = h.tasks_are in omega (arith, n, t);
     few = let n = tasks_append es (Ev.Done task ended ∷ []) in let f = h.few in omega (arith, n, f);
@@ -108,12 +112,12 @@ module _ (P : Program) (sites : List ℕ) (es : List Event) (tasks : ℕ) (ends 
       same t r true q = subst (λ (z : Record). IsValidOutcome P z.outcome) (same_Some _ _ q) valid
       same t r false q = absurd (none-some _ q)
 
-  pub known_plain : (e : Event) → IsPlain e → IsKnownSo P sites (es ++ e ∷ []) tasks ends
+  pub known_plain : (e : Event) → IsPlain e → IsKnownSo P cs (es ++ e ∷ []) tasks ends
   known_plain e plain = at e plain
     where
-      more : (x : Event) → changed (x ∷ []) ≡ [] → tasks_of (x ∷ []) ≡ 1 → ((t : ℕ) → done_of t (x ∷ []) ≡ None) → ((t c : ℕ) (s : Start) → x ≡ Ev.Spawn t c s → ⊥) → IsKnownSo P sites (es ++ x ∷ []) tasks ends
+      more : (x : Event) → changed (x ∷ []) ≡ [] → tasks_of (x ∷ []) ≡ 1 → ((t : ℕ) → done_of t (x ∷ []) ≡ None) → ((t c : ℕ) (s : Start) → x ≡ Ev.Spawn t c s → ⊥) → IsKnownSo P cs (es ++ x ∷ []) tasks ends
       more x no_def no_task no_done no_start = record {
-        sites_are = changes_append es (x ∷ []) ∙ ap (λ cs. changes es ++ cs) no_def ∙ append-nil (changes es) ∙ h.sites_are;
+        changes_are = changes_append es (x ∷ []) ∙ ap (λ cs. changes es ++ cs) no_def ∙ append-nil (changes es) ∙ h.changes_are;
         worlds = let n = ap length (changed_append es (x ∷ [])) in let m = length-append (changed es) (changed (x ∷ [])) in let z = ap length no_def in let w = h.worlds in omega (arith, n, m, z, w);
         tasks_are = let n = tasks_append es (x ∷ []) in let t = h.tasks_are in omega (arith, n, t, no_task);
         few = let n = tasks_append es (x ∷ []) in let f = h.few in omega (arith, n, f, no_task);
@@ -122,7 +126,7 @@ module _ (P : Program) (sites : List ℕ) (es : List Event) (tasks : ℕ) (ends 
         sound = sound_more P es x h.sound (λ t r q. absurd (none-some _ (sym (no_done t) ∙ q))) (λ t c s q. absurd (no_start t c s q));
       }
 
-      at : (x : Event) → IsPlain x → IsKnownSo P sites (es ++ x ∷ []) tasks ends
+      at : (x : Event) → IsPlain x → IsKnownSo P cs (es ++ x ∷ []) tasks ends
       at (Ev.Begin fuel) p = more (Ev.Begin fuel) refl refl (λ t. refl) (λ t c s q. cc (q))
       at (Ev.Key key) p = more (Ev.Key key) refl refl (λ t. refl) (λ t c s q. cc (q))
       at (Ev.Fill key site first) p = more (Ev.Fill key site first) refl refl (λ t. refl) (λ t c s q. cc (q))
@@ -133,21 +137,21 @@ module _ (P : Program) (sites : List ℕ) (es : List Event) (tasks : ℕ) (ends 
 
   -- ---- the same, by what the code has then
 
-  pub spawn_to : (task : ℕ) (start : Start) (new : List Event) → IsStartAmong P es start → tasks_of es < 4096 → new ≡ es ++ Ev.Spawn task tasks start ∷ [] → IsKnownSo P sites new (tasks + 1) ends
+  pub spawn_to : (task : ℕ) (start : Start) (new : List Event) → IsStartAmong P es start → tasks_of es < 4096 → new ≡ es ++ Ev.Spawn task tasks start ∷ [] → IsKnownSo P cs new (tasks + 1) ends
   spawn_to task start new among room e =
-      subst (λ xs. IsKnownSo P sites xs (tasks + 1) ends) (sym (e ∙ ap (λ n. es ++ Ev.Spawn task n start ∷ []) h.tasks_are)) (known_spawn task start among room)
+      subst (λ xs. IsKnownSo P cs xs (tasks + 1) ends) (sym (e ∙ ap (λ n. es ++ Ev.Spawn task n start ∷ []) h.tasks_are)) (known_spawn task start among room)
 
-  pub def_to : (task site : ℕ) (v : Program × List ℕ) (new : List Event) → world_of es < 65535 → v ≡ (P, sites ++ site ∷ []) → new ≡ es ++ Ev.Def task site ∷ [] → IsKnownSo v.0 v.1 new tasks ends
-  def_to task site v new room e n = subst (λ (z : (Program × List ℕ) × List Event). IsKnownSo z.0.0 z.0.1 z.1 tasks ends) (λ i. (sym e i, sym n i)) (known_def task site room)
+  pub made_to : (task : ℕ) (change : Change) (v : Program × List Change) (new : List Event) → world_of es ≤ 65535 → v ≡ (P, cs ++ change ∷ []) → new ≡ es ++ change_event task change ∷ [] → IsKnownSo v.0 v.1 new tasks ends
+  made_to task change v new room e n = subst (λ (z : (Program × List Change) × List Event). IsKnownSo z.0.0 z.0.1 z.1 tasks ends) (λ i. (sym e i, sym n i)) (known_made task change room)
 
   pub done_to : (task place : ℕ) (ended : Record) (new : List Event) (places : List (Option ℕ)) → IsValidOutcome P ended.outcome → new ≡ es ++ Ev.Done task ended ∷ [] → place ≡ length es → IsNoted task place ends places
-      → IsKnownSo P sites new tasks places
-  done_to task place ended new places valid e at noted = subst (λ xs. IsKnownSo P sites xs tasks places) (sym e) (known_done task ended places (subst (λ (p : ℕ). IsNoted task p ends places) at noted) valid)
+      → IsKnownSo P cs new tasks places
+  done_to task place ended new places valid e at noted = subst (λ xs. IsKnownSo P cs xs tasks places) (sym e) (known_done task ended places (subst (λ (p : ℕ). IsNoted task p ends places) at noted) valid)
 
   -- an end that was not added
-  pub done_back : (new : List Event) (places : List (Option ℕ)) → new ≡ es → ((t : ℕ) → get_or places t None ≡ get_or ends t None) → IsKnownSo P sites new tasks places
-  done_back new places e same = subst (λ xs. IsKnownSo P sites xs tasks places) (sym e) (record {
-    sites_are = h.sites_are;
+  pub done_back : (new : List Event) (places : List (Option ℕ)) → new ≡ es → ((t : ℕ) → get_or places t None ≡ get_or ends t None) → IsKnownSo P cs new tasks places
+  done_back new places e same = subst (λ xs. IsKnownSo P cs xs tasks places) (sym e) (record {
+    changes_are = h.changes_are;
     worlds = h.worlds;
     tasks_are = h.tasks_are;
     few = h.few;
@@ -156,8 +160,8 @@ module _ (P : Program) (sites : List ℕ) (es : List Event) (tasks : ℕ) (ends 
     sound = h.sound;
   })
 
-  pub plain_to : (event : Event) (new : List Event) → IsPlain event → new ≡ es ++ event ∷ [] → IsKnownSo P sites new tasks ends
-  plain_to event new plain e = subst (λ xs. IsKnownSo P sites xs tasks ends) (sym e) (known_plain event plain)
+  pub plain_to : (event : Event) (new : List Event) → IsPlain event → new ≡ es ++ event ∷ [] → IsKnownSo P cs new tasks ends
+  plain_to event new plain e = subst (λ xs. IsKnownSo P cs xs tasks ends) (sym e) (known_plain event plain)
 
 -- what is seen of one more event
 pub event_added : (u w v : Program × List Event) (E : Program × List Event → Event) → w.0 ≡ u.0 → u ≡ v → w.1 ≡ u.1 ++ E u ∷ [] → w ≡ (v.0, v.1 ++ E v ∷ [])
@@ -195,36 +199,31 @@ ended_valid P es h of p outcome e = at (done_of of (take p es)) refl e
 
 -- ---- choices
 
-pub sites_length : (P : Program) (sites : List ℕ) (es : List Event) (tasks : ℕ) (ends : List (Option ℕ)) → IsKnownSo P sites es tasks ends → length sites ≡ world_of es
-sites_length P sites es tasks ends h = sym (length-map sites Ch.Def) ∙ ap length (sym h.sites_are) ∙ changes_length es
+pub changes_count : (P : Program) (cs : List Change) (es : List Event) (tasks : ℕ) (ends : List (Option ℕ)) → IsKnownSo P cs es tasks ends → length cs ≡ world_of es
+changes_count P cs es tasks ends h = ap length (sym h.changes_are) ∙ changes_length es
 
--- the site of a definition, by its place
-pub site_is : (P : Program) (sites : List ℕ) (es : List Event) (tasks : ℕ) (ends : List (Option ℕ)) → IsKnownSo P sites es tasks ends → (d : ℕ) → 1 ≤ d → get_or sites (d - 1) 0 ≡ site_of es d
-site_is P sites es tasks ends h zero l = absurd (omega (arith, l))
-site_is P sites es tasks ends h (suc d) l = (let at : suc d - 1 ≡ d = omega arith in ap (λ k. get_or sites k 0) at ∙ got_site sites d ∙ ap (λ cs. site_in (slice_get cs d)) (sym h.sites_are))
-  where
-    got_site : (xs : List ℕ) (k : ℕ) → get_or xs k 0 ≡ site_in (slice_get (map Ch.Def xs) k)
-    got_site [] k = refl
-    got_site (x ∷ xs) zero = refl
-    got_site (x ∷ xs) (suc k) = got_site xs k
+-- the site of a definition, by the change that made its world
+pub site_is : (P : Program) (cs : List Change) (es : List Event) (tasks : ℕ) (ends : List (Option ℕ)) → IsKnownSo P cs es tasks ends → (d : ℕ) (c : Change) → 1 ≤ d → slice_get cs (d - 1) ≡ Some c → site_in (Some c) ≡ site_of es d
+site_is P cs es tasks ends h zero c l e = absurd (omega (arith, l))
+site_is P cs es tasks ends h (suc d) c l e =
+    let at : suc d - 1 ≡ d = omega arith in
+    ap site_in (sym (ap (λ k. slice_get cs k) (sym at) ∙ e)) ∙ ap (λ xs. site_in (slice_get xs d)) (sym h.changes_are)
 
--- where all changes are definitions, none deletes
-none_deletes : (P : Program) (sites : List ℕ) (es : List Event) → changes es ≡ map Ch.Def sites → (f e : ℕ) (sig : Written) → Deletes P (change_at es e) f sig → ⊥
-none_deletes P sites es q f zero sig k = k
-none_deletes P sites es q f (suc e) sig k = at sites e (subst (λ cs. Deletes P (slice_get cs e) f sig) q k)
-  where
-    at : (xs : List ℕ) (n : ℕ) → Deletes P (slice_get (map Ch.Def xs) n) f sig → ⊥
-    at [] n j = j
-    at (x ∷ xs) zero j = j
-    at (x ∷ xs) (suc n) j = at xs n j
+-- the same of a change that was found, whatever stands for one that is none
+pub site_here : (P : Program) (cs : List Change) (es : List Event) (tasks : ℕ) (ends : List (Option ℕ)) → IsKnownSo P cs es tasks ends → (d : ℕ) → 1 ≤ d → d ≤ world_of es → (all : List Change) → all ≡ cs → (c none : Change) → get_or all (d - 1) none ≡ c → site_in (Some c) ≡ site_of es d
+site_here P cs es tasks ends h d low up all same c none is =
+    let many : length cs ≡ world_of es = ap (λ xs. length xs) (sym h.changes_are) ∙ changes_length es in
+    let inside : d - 1 < length cs = omega (arith, low, up, many) in
+    let at : get_or cs (d - 1) none ≡ c = subst (λ xs. get_or xs (d - 1) none ≡ c) same is in
+    site_is P cs es tasks ends h d c low (slice_get-get_or cs (d - 1) none inside ∙ ap (λ z. Some z) at)
 
--- the choice among the latest definitions of their sites is the choice of the rules
-pub chosen : {E : Type 0} (P : Program) (sites : List ℕ) (es : List Event) (tasks : ℕ) (ends : List (Option ℕ)) (h : IsKnownSo P sites es tasks ends) (Q : Program) (f w : ℕ) (ts types : List Ty) (defs : List Def) → Q ≡ P
-    → AreLatest (defs_of P f 1 (take w sites)) defs → types ≡ ts → (r : Result Choice E) → IfOk r (λ c. (all : List Def) → HaveLatest Q types all defs → ChoosesLeft Q [] types all c) → IfOk r (λ c. Selects P es f ts w c)
-chosen P sites es tasks ends h Q f w ts types defs p e q (Ok c) k =
-    let all : List Def = defs_of P f 1 (take w sites) in
-    let among : ChoosesLeft P [] ts all c = subst (λ xs. ChoosesLeft P [] xs all c) q (subst (λ R. ChoosesLeft R [] types all c) p (k all (latest_for Q types all defs e))) in
-    let made : all ≡ defs_in P es f w = ap (defs_from P f 1) (sym (take-map Ch.Def w sites) ∙ ap (take w) (sym h.sites_are)) in
-    left_selects P es f w [] ts (λ d i a left n low high x. none_deletes P sites es h.sites_are f n (sig_of (slice_get P.sites d.site)) x) (λ d i a kept e (k, l, q) takes. absurd (omega (arith, l))) c
-    (subst (λ ds. ChoosesLeft P [] ts ds c) made among)
-chosen P sites es tasks ends h Q f w ts types defs p e q (Err x) k = tt
+-- the choice among the latest definitions of their sites that the latest deletions of their places leave is the choice of the rules
+pub chosen : {E : Type 0} (P : Program) (cs : List Change) (es : List Event) (tasks : ℕ) (ends : List (Option ℕ)) (h : IsKnownSo P cs es tasks ends) (Q : Program) (f w : ℕ) (ts types : List Ty) (defs : List Def) (dels : List Del) → Q ≡ P
+    → AreLatest (defs_from P f 1 (take w cs)) defs → AreLatestDels (dels_from P f 1 (take w cs)) dels → types ≡ ts → (r : Result Choice E)
+    → IfOk r (λ c. (all : List Def) → HaveLatest Q types all defs → ChoosesLeft Q dels types all c) → IfOk r (λ c. Selects P es f ts w c)
+chosen P cs es tasks ends h Q f w ts types defs dels p e g q (Ok c) k =
+    let all : List Def = defs_from P f 1 (take w cs) in
+    let among : ChoosesLeft P dels ts all c = subst (λ xs. ChoosesLeft P dels xs all c) q (subst (λ R. ChoosesLeft R dels types all c) p (k all (latest_for Q types all defs e))) in
+    let made : all ≡ defs_in P es f w = ap (λ xs. defs_from P f 1 (take w xs)) (sym h.changes_are) in
+    chosen_left P es f w dels (subst (λ xs. AreLatestDels (dels_from P f 1 (take w xs)) dels) (sym h.changes_are) g) ts c (subst (λ ds. ChoosesLeft P dels ts ds c) made among)
+chosen P cs es tasks ends h Q f w ts types defs dels p e g q (Err x) k = tt

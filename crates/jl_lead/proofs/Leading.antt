@@ -98,6 +98,7 @@ module _ (P : Program) (m0 : Machine) (d0 : Led) (m : Machine) (d : Led) (t : Is
             followed = ap (λ xs. trace_of m ++ xs) e.0 ∙ t.followed;
             answers = answer;
             apart = subst (λ xs. Begins item xs → ⊥) (sym e.0) e.1;
+            told = e.2;
             own_before = a.fits.own ∙ (λ i. own_events (t.stays.task i) 0 (t.events i));
             joins = subst (λ (z : ℕ × List Event). StartsJoin q item (own_starts z.0 z.1) (own_starts d'.task d'.past.1)) (λ i. (t.stays.task i, t.events i)) joins;
             asks = asks_moved _ _ (knows_of d) (knows_of d0) (trace_of m) q job_is (λ xs g. subst (λ es. GoesOn es xs) (sym t.events) g) asks;

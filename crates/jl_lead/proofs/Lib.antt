@@ -13,3 +13,4 @@ pub mod Chosen
 pub mod Leading
 pub mod Arriving
 pub mod Carrying
+pub mod LeftLemmas

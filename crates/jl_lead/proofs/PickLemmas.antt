@@ -11,12 +11,16 @@ use Rattle.jl_model.specs.Signature.{Applicable}
 use Rattle.jl_program.specs.declared.tree.Program.{Program}
 use Rattle.jl_program.specs.Scope.{types_of, all_types}
 use Rattle.jl_calculus.specs.declared.history.Def.{Def}
-use Rattle.jl_calculus.specs.Definitions.{sig_of, worlds, HasSite, AppliesTo}
+use Rattle.jl_calculus.specs.declared.history.Change.{Change}
+use Rattle.jl_calculus.specs.declared.history.Del.{Del}
+use Rattle.jl_calculus.specs.Definitions.{sig_of, worlds, defs_from, dels_from, HasSite, AppliesTo}
+use Rattle.jl_methods.proofs.ChangeLemmas.{def_of, del_of}
+use Rattle.jl_methods.proofs.PutLemmas.{get_known}
 use Rattle.jl_sig.specs.Readied.{sigs_of}
 use Rattle.jl_subsig.specs.Side.{Every}
-use Rattle.jl_subsig.specs.Standing.{HasLaterAtSite, HaveLatest}
+use Rattle.jl_subsig.specs.Standing.{HasPlace, HasLaterAtSite, HaveLatest}
 use Rattle.jl_subsig.proofs.DefinitionLemmas.{sig_at}
-use Rattle.jl_lead.specs.ByFunction.{Rising, AreLatest}
+use Rattle.jl_lead.specs.ByFunction.{Rising, AreLatest, AreLatestDels}
 use Rattle.jl_lead.specs.Picked.{Picked, picked_end, picked_more, not_applied}
 use Rattle.jl_lead.proofs.LatestLemmas.{rise_lower, at_later}
 
@@ -86,24 +90,24 @@ module _ (P : Program) (ts : List Ty) where
           let applied : AppliesTo P ts l.by = subst (λ s. Applicable (types_of P) (sig_of (slice_get P.sites s)) ts) (sym l.site_is) a in
           record { by = l.by; stays = picked_stay ds es p l.by l.stays applied; site_is = l.site_is; later = l.later }
 
--- ---- the latest of each site
+-- ---- the latest of each site and of each place
+
+every_of : {X : Type 0} (Is : X → Type 0) (xs : List X) → ((x : X) → Contains xs x → Is x) → Every Is xs
+every_of Is [] h = tt
+every_of Is (x ∷ xs) h = (h x (0, omega arith, refl), every_of Is xs (λ y (k, l, e). h y (suc k, omega (arith, l), e)))
 
 module _ (P : Program) where
-  every_at : (ds : List Def) (d : Def) → Every (HasSite P) ds → Contains ds d → HasSite P d
-  every_at [] d h (k, l, e) = absurd (omega arith)
-  every_at (x ∷ ds) d h (zero, l, e) = subst (HasSite P) e h.0
-  every_at (x ∷ ds) d h (suc k, l, e) = every_at ds d h.1 (k, omega arith, e)
-
   -- the latest of each site are latest for the types of a call
   pub latest_for : (ts : List Ty) (all some : List Def) → AreLatest all some → HaveLatest P ts all some
   latest_for ts all some h = record { there = h.there; covered = λ d c a. h.covered d c }
 
-  each_site : (ds : List Def) → ((d : Def) → Contains ds d → HasSite P d) → Every (HasSite P) ds
-  each_site [] h = tt
-  each_site (d ∷ ds) h = (h d (0, omega arith, refl), each_site ds (λ e c. h e (at_later d ds e c)))
+  -- they are of sites of the program
+  pub latest_sites : (f : ℕ) (cs : List Change) (some : List Def) → AreLatest (defs_from P f 1 cs) some → Every (HasSite P) some
+  latest_sites f cs some h = every_of (HasSite P) some (λ d c. (let i = def_of P f 1 cs d (h.there d c) in get_known P.sites d.site i.site i.stands))
 
-  pub latest_sites : (all some : List Def) → Every (HasSite P) all → AreLatest all some → Every (HasSite P) some
-  latest_sites all some sites h = each_site some (λ d c. every_at all d sites (h.there d c))
+  -- and the latest deletions are at places of it
+  pub latest_places : (f : ℕ) (cs : List Change) (some : List Del) → AreLatestDels (dels_from P f 1 cs) some → Every (HasPlace P) some
+  latest_places f cs some h = every_of (HasPlace P) some (λ d c. (let i = del_of P f 1 cs d (h.there d c) in get_known P.deletes d.place i.row i.stands))
 
 -- ---- whether a definition applies
 

@@ -4,6 +4,7 @@ use Rattle.jl_program.specs.declared.tree.Program.{Program}
 use Rattle.jl_program.specs.declared.tree.Start.{Start}
 use Rattle.jl_program.specs.declared.value.Value.TheVariants as V
 use Rattle.jl_calculus.specs.declared.history.DefineFault.TheVariants as D
+use Rattle.jl_calculus.specs.declared.history.DeleteFault.TheVariants as X
 use Rattle.jl_calculus.specs.declared.history.Event.{Event}
 use Rattle.jl_calculus.specs.declared.history.Event.TheVariants as Ev
 use Rattle.jl_calculus.specs.declared.history.FetchFault.TheVariants as F
@@ -18,8 +19,8 @@ use Rattle.jl_calculus.specs.ValidHistory.{IsValidOutcome}
 use Rattle.jl_calculus.specs.World.{world_of}
 use Rattle.jl_point.proofs.ValueTypes.{nothing_valid}
 use Rattle.jl_dispatcher.specs.Knows.{Knows}
-use Rattle.jl_lead.specs.Answers.{AnswersDefinition, AnswersSpawn, AnswersFetch}
-use Rattle.jl_lead.specs.Items.{next_item, world_full_of, task_full_of, IsNoFetch}
+use Rattle.jl_lead.specs.Answers.{AnswersDefinition, AnswersDeletion, AnswersSpawn, AnswersFetch}
+use Rattle.jl_lead.specs.Items.{next_item, world_full_of, task_full_of, absent_of, is_absence, IsNoFetch}
 use Rattle.jl_lead.specs.Known.{AreSound}
 use Rattle.jl_lead.specs.Leads.{led_knows, IsPlaced}
 use Rattle.jl_lead.specs.Stretch.{IsLeft}
@@ -35,8 +36,8 @@ placed_on es task seen p h le = record { started = h.started; seen_some = le }
 pub placed_same : (v u : Program × List Event) (task seen : ℕ) → v ≡ u → IsPlaced u.1 task seen → IsPlaced v.1 task seen
 placed_same v u task seen e h = subst (λ (z : Program × List Event). IsPlaced z.1 task seen) (sym e) h
 
-pub left_same : (v u : Program × List Event) (alone : Bool) (seen : ℕ) (is : List TraceItem) → v ≡ u → IsLeft alone u.1 seen is → IsLeft alone v.1 seen is
-left_same v u alone seen is e h = subst (λ (z : Program × List Event). IsLeft alone z.1 seen is) (sym e) h
+pub left_same : (v u : Program × List Event) (alone : Bool) (seen : ℕ) (is : List TraceItem) → v ≡ u → IsLeft u.0 alone u.1 seen is → IsLeft v.0 alone v.1 seen is
+left_same v u alone seen is e h = subst (λ (z : Program × List Event). IsLeft z.0 alone z.1 seen is) (sym e) h
 
 pub some_tasks : (es : List Event) → 1 ≤ tasks_of es
 some_tasks [] = omega arith
@@ -84,7 +85,7 @@ module _ (P : Program) (es : List Event) (task : ℕ) (items : List TraceItem) (
 
   -- ---- a definition
 
-  pub definition_told : (site p : ℕ) → world_full_of (next_item alone items told) ≡ Some p → IsLeft alone es seen left → AnswersDefinition here (led_knows P es task items (told + 1) p looks alone) site (Err D.WorldLimit)
+  pub definition_told : (site p : ℕ) → world_full_of (next_item alone items told) ≡ Some p → IsLeft P alone es seen left → AnswersDefinition here (led_knows P es task items (told + 1) p looks alone) site (Err D.WorldLimit)
   definition_told site p h l = record {
     grew = A.world_full_grew P es task items told seen looks alone p h l;
     defined = tt;
@@ -94,28 +95,28 @@ module _ (P : Program) (es : List Event) (task : ℕ) (items : List TraceItem) (
     limit = λ f. refl;
   }
 
-  pub definition_full : (site n : ℕ) → world_full_of (next_item alone items told) ≡ None → IsLeft alone es seen left → seen ≤ length es → n ≡ length es → world_of es ≡ 65535
+  pub definition_full : (site n : ℕ) → world_full_of (next_item alone items told) ≡ None → is_absence (next_item alone items told) ≡ false → IsLeft P alone es seen left → seen ≤ length es → n ≡ length es → world_of es ≡ 65535
       → AnswersDefinition here (led_knows P es task items told n looks true) site (Err D.WorldLimit)
-  definition_full site n h l le len last = record {
-    grew = A.world_off_grew P es task items told seen looks alone n h l le len last;
+  definition_full site n h k l le len last = record {
+    grew = A.world_off_grew P es task items told seen looks alone n h k l le len last;
     defined = tt;
     world = tt;
-    refused = A.world_off_refused P es task items told seen looks alone n h l le len last;
-    full = λ e. A.world_off_told P es task items told seen looks alone n h l le len last;
+    refused = A.world_off_refused P es task items told seen looks alone n h k l le len last;
+    full = λ e. A.world_off_told P es task items told seen looks alone n h k l le len last;
     limit = λ f. refl;
   }
 
-  pub definition_lost : (site : ℕ) (v : Program × List Event) → v ≡ (P, es) → world_of es < 65535 → AnswersDefinition here (led_knows v.0 v.1 task items told seen looks alone) site (Err D.Memory)
-  definition_lost site v e room = subst (λ (z : Program × List Event). AnswersDefinition here (led_knows z.0 z.1 task items told seen looks alone) site (Err D.Memory)) (sym e) (record {
+  pub definition_lost : (site : ℕ) (v : Program × List Event) → v ≡ (P, es) → IsLeft P alone es seen left → (world_of es ≡ 65535 → is_absence (next_item alone items told) ≡ true) → AnswersDefinition here (led_knows v.0 v.1 task items told seen looks alone) site (Err D.Memory)
+  definition_lost site v e l room = subst (λ (z : Program × List Event). AnswersDefinition here (led_knows z.0 z.1 task items told seen looks alone) site (Err D.Memory)) (sym e) (record {
     grew = A.same_grew P es task items told seen looks alone;
     defined = tt;
     world = tt;
     refused = A.same_refused P es task items told seen looks alone;
     full = λ q. absurd (cc (q));
-    limit = λ f. absurd (A.not_full P es task items told seen looks alone room f);
+    limit = λ f. absurd (A.not_full P es task items told seen looks alone l room f);
   })
 
-  pub definition_made : (site w n : ℕ) (v : Program × List Event) → alone ≡ false → world_full_of (next_item alone items told) ≡ None → IsLeft alone es seen left → seen ≤ length es → world_of es < 65535
+  pub definition_made : (site w n : ℕ) (v : Program × List Event) → alone ≡ false → world_full_of (next_item alone items told) ≡ None → IsLeft P alone es seen left → seen ≤ length es → (world_of es ≡ 65535 → is_absence (next_item alone items told) ≡ true)
       → v ≡ (P, es ++ Ev.Def task site ∷ []) → n ≡ length v.1 → w ≡ world_of v.1 → AnswersDefinition here (led_knows v.0 v.1 task items told n looks true) site (Ok w)
   definition_made site w n v off h l le room e len world =
       moved_to (λ k. AnswersDefinition here k site (Ok w)) (es ++ Ev.Def task site ∷ []) v n e len (record {
@@ -124,12 +125,72 @@ module _ (P : Program) (es : List Event) (task : ℕ) (items : List TraceItem) (
         world = A.define_world P es task items told seen looks alone site off h l le w (world ∙ ap (λ (u : Program × List Event). world_of u.1) e);
         refused = tt;
         full = λ q. absurd (cc (q));
-        limit = λ f. absurd (A.not_full P es task items told seen looks alone room f);
+        limit = λ f. absurd (A.not_full P es task items told seen looks alone l room f);
+      })
+
+  -- ---- a deletion
+
+  pub deletion_told : (place p : ℕ) → world_full_of (next_item alone items told) ≡ Some p → IsLeft P alone es seen left → AnswersDeletion here (led_knows P es task items (told + 1) p looks alone) place (Err X.WorldLimit)
+  deletion_told place p h l = record {
+    grew = A.world_full_grew P es task items told seen looks alone p h l;
+    deleted = tt;
+    world = tt;
+    refused = A.world_full_refused P es task items told seen looks alone p h l;
+    absent = λ q. absurd (cc (q));
+    full = λ e. A.world_full_told P es task items told seen looks alone p h l;
+    limit = λ f. refl;
+  }
+
+  pub deletion_full : (place n : ℕ) → world_full_of (next_item alone items told) ≡ None → is_absence (next_item alone items told) ≡ false → IsLeft P alone es seen left → seen ≤ length es → n ≡ length es → world_of es ≡ 65535
+      → AnswersDeletion here (led_knows P es task items told n looks true) place (Err X.WorldLimit)
+  deletion_full place n h k l le len last = record {
+    grew = A.world_off_grew P es task items told seen looks alone n h k l le len last;
+    deleted = tt;
+    world = tt;
+    refused = A.world_off_refused P es task items told seen looks alone n h k l le len last;
+    absent = λ q. absurd (cc (q));
+    full = λ e. A.world_off_told P es task items told seen looks alone n h k l le len last;
+    limit = λ f. refl;
+  }
+
+  pub deletion_lost : (place : ℕ) (v : Program × List Event) → v ≡ (P, es) → IsLeft P alone es seen left → (world_of es ≡ 65535 → is_absence (next_item alone items told) ≡ true) → AnswersDeletion here (led_knows v.0 v.1 task items told seen looks alone) place (Err X.Memory)
+  deletion_lost place v e l room = subst (λ (z : Program × List Event). AnswersDeletion here (led_knows z.0 z.1 task items told seen looks alone) place (Err X.Memory)) (sym e) (record {
+    grew = A.same_grew P es task items told seen looks alone;
+    deleted = tt;
+    world = tt;
+    refused = A.same_refused P es task items told seen looks alone;
+    absent = λ q. absurd (cc (q));
+    full = λ q. absurd (cc (q));
+    limit = λ f. absurd (A.not_full P es task items told seen looks alone l room f);
+  })
+
+  pub deletion_absent : (place p : ℕ) → absent_of place (next_item alone items told) ≡ Some p → IsLeft P alone es seen left → AnswersDeletion here (led_knows P es task items (told + 1) p looks alone) place (Err X.NoSuchMethod)
+  deletion_absent place p h l = record {
+    grew = A.absent_grew P es task items told seen looks alone place p h l;
+    deleted = tt;
+    world = tt;
+    refused = A.absent_refused P es task items told seen looks alone place p h l;
+    absent = λ e. A.absent_told P es task items told seen looks alone place p h l;
+    full = λ q. absurd (cc (q));
+    limit = λ f. absurd (A.not_full_there P es task items told seen looks alone place p h l f);
+  }
+
+  pub deletion_made : (place w n : ℕ) (v : Program × List Event) → alone ≡ false → world_full_of (next_item alone items told) ≡ None → absent_of place (next_item alone items told) ≡ None → IsLeft P alone es seen left → seen ≤ length es
+      → (world_of es ≡ 65535 → is_absence (next_item alone items told) ≡ true) → v ≡ (P, es ++ Ev.Del task place ∷ []) → n ≡ length v.1 → w ≡ world_of v.1 → AnswersDeletion here (led_knows v.0 v.1 task items told n looks true) place (Ok w)
+  deletion_made place w n v off h k l le room e len world =
+      moved_to (λ k. AnswersDeletion here k place (Ok w)) (es ++ Ev.Del task place ∷ []) v n e len (record {
+        grew = A.delete_grew P es task items told seen looks alone place off h k l le;
+        deleted = A.delete_made P es task items told seen looks alone place off h k l le;
+        world = A.delete_world P es task items told seen looks alone place off h k l le w (world ∙ ap (λ (u : Program × List Event). world_of u.1) e);
+        refused = tt;
+        absent = λ q. absurd (cc (q));
+        full = λ q. absurd (cc (q));
+        limit = λ f. absurd (A.not_full P es task items told seen looks alone l room f);
       })
 
   -- ---- a spawn
 
-  pub spawn_told : (start : Start) (p : ℕ) → task_full_of (next_item alone items told) ≡ Some p → IsLeft alone es seen left → AnswersSpawn here (led_knows P es task items (told + 1) p looks alone) start (Err S.TaskLimit)
+  pub spawn_told : (start : Start) (p : ℕ) → task_full_of (next_item alone items told) ≡ Some p → IsLeft P alone es seen left → AnswersSpawn here (led_knows P es task items (told + 1) p looks alone) start (Err S.TaskLimit)
   spawn_told start p h l = record {
     grew = A.task_full_grew P es task items told seen looks alone p h l;
     spawned = tt;
@@ -138,7 +199,7 @@ module _ (P : Program) (es : List Event) (task : ℕ) (items : List TraceItem) (
     limit = λ f. refl;
   }
 
-  pub spawn_full : (start : Start) (n : ℕ) → task_full_of (next_item alone items told) ≡ None → IsLeft alone es seen left → seen ≤ length es → n ≡ length es → tasks_of es ≡ 4096
+  pub spawn_full : (start : Start) (n : ℕ) → task_full_of (next_item alone items told) ≡ None → IsLeft P alone es seen left → seen ≤ length es → n ≡ length es → tasks_of es ≡ 4096
       → AnswersSpawn here (led_knows P es task items told n looks true) start (Err S.TaskLimit)
   spawn_full start n h l le len last = record {
     grew = A.tasks_off_grew P es task items told seen looks alone n h l le len last;
@@ -157,7 +218,7 @@ module _ (P : Program) (es : List Event) (task : ℕ) (items : List TraceItem) (
     limit = λ f. absurd (A.tasks_not_full P es task items told seen looks alone room f);
   })
 
-  pub spawn_made : (start : Start) (child n : ℕ) (v : Program × List Event) → task < tasks_of es → alone ≡ false → task_full_of (next_item alone items told) ≡ None → IsLeft alone es seen left → seen ≤ length es
+  pub spawn_made : (start : Start) (child n : ℕ) (v : Program × List Event) → task < tasks_of es → alone ≡ false → task_full_of (next_item alone items told) ≡ None → IsLeft P alone es seen left → seen ≤ length es
       → tasks_of es < 4096 → v ≡ (P, es ++ Ev.Spawn task (tasks_of es) start ∷ []) → n ≡ length v.1 → child ≡ tasks_of es → AnswersSpawn here (led_knows v.0 v.1 task items told n looks true) start (Ok child)
   spawn_made start child n v started off h l le room e len number =
       moved_to (λ k. AnswersSpawn here k start (Ok child)) (es ++ Ev.Spawn task (tasks_of es) start ∷ []) v n e len
@@ -171,7 +232,7 @@ module _ (P : Program) (es : List Event) (task : ℕ) (items : List TraceItem) (
 
   -- ---- a fetch
 
-  pub fetch_told : (of : ℕ) (outcome : Outcome) (p : ℕ) → next_item alone items told ≡ Some (Fetch of outcome p) → IsLeft alone es seen left → AreSound P es
+  pub fetch_told : (of : ℕ) (outcome : Outcome) (p : ℕ) → next_item alone items told ≡ Some (Fetch of outcome p) → IsLeft P alone es seen left → AreSound P es
       → AnswersFetch here (led_knows P es task items (told + 1) p looks alone) of (Ok outcome)
   fetch_told of outcome p h l sound = record {
     grew = A.fetch_grew P es task items told seen looks alone of outcome p h l;

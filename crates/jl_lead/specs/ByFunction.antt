@@ -1,11 +1,12 @@
--- Definitions by their functions.
-use Rattle.std.specs.Prelude.{ℕ, ◌+◌, ◌≡◌, ◌<◌, ◌≤◌, ◌⊎◌, cond, nat_le, List, [], ◌∷◌, ◌++◌, map, length, get_or, set}
+-- Definitions and deletions by their functions.
+use Rattle.std.specs.Prelude.{ℕ, ◌+◌, ◌≡◌, ◌<◌, ◌≤◌, ◌⊎◌, cond, nat_le, List, [], ◌∷◌, length, get_or}
 use Rattle.std.specs.List.{Contains}
-use Rattle.jl_calculus.specs.declared.history.Change.TheVariants as Ch
+use Rattle.jl_calculus.specs.declared.history.Change.{Change}
 use Rattle.jl_calculus.specs.declared.history.Def.{Def}
+use Rattle.jl_calculus.specs.declared.history.Del.{Del}
 use Rattle.jl_program.specs.declared.tree.Program.{Program}
-use Rattle.jl_calculus.specs.Definitions.{defs_from}
-use Rattle.jl_subsig.specs.Standing.{HasLaterAtSite}
+use Rattle.jl_calculus.specs.Definitions.{defs_from, dels_from}
+use Rattle.jl_subsig.specs.Standing.{HasLaterAtSite, IsRepeated}
 
 -- those of a list of definitions, in order, that a world has
 abbrev pub in_world : ℕ → List Def → List Def
@@ -39,15 +40,23 @@ pub record IsRenewed (def : Def) (old new : List Def) : Type 0 where
   pub stay : (d : Def) → Contains old d → (d.site ≡ def.site) ⊎ Contains new d
   pub rising : Rising 0 old → AreBefore def.world old → Rising 0 new
 
--- one more definition of a function
-abbrev pub with_def : ℕ → Def → List (List Def) → List (List Def)
-with_def f d rows = set rows f (get_or rows f [] ++ d ∷ [])
-
--- the definitions of a function that these sites make, which make worlds from here on
-abbrev pub defs_of : Program → ℕ → ℕ → List ℕ → List Def
-defs_of P f world sites = defs_from P f world (map Ch.Def sites)
-
--- each row has the definitions of one function of the program among those of these sites
-pub record AreByFunction (P : Program) (sites : List ℕ) (rows : List (List Def)) : Type 0 where
+-- each row has the definitions of one function of the program among those of these changes
+pub record AreByFunction (P : Program) (cs : List Change) (rows : List (List Def)) : Type 0 where
   pub count : length rows ≡ length P.functions
-  pub each : (f : ℕ) → get_or rows f [] ≡ defs_of P f 1 sites
+  pub each : (f : ℕ) → get_or rows f [] ≡ defs_from P f 1 cs
+
+-- ---- deletions
+
+-- their worlds are below another
+abbrev pub AreDelsBefore : ℕ → List Del → Type 0
+AreDelsBefore w ds = (d : Del) → Contains ds d → d.world < w
+
+-- some of these deletions, with the latest one of each place
+pub record AreLatestDels (all some : List Del) : Type 0 where
+  pub there : (d : Del) → Contains some d → Contains all d
+  pub covered : (d : Del) → Contains all d → IsRepeated d some
+
+-- each row has the deletions of one function of the program among those of these changes
+pub record AreDelsByFunction (P : Program) (cs : List Change) (rows : List (List Del)) : Type 0 where
+  pub count : length rows ≡ length P.functions
+  pub each : (f : ℕ) → get_or rows f [] ≡ dels_from P f 1 cs

@@ -7,16 +7,16 @@ use Rattle.jl_calculus.specs.declared.history.Event.TheVariants as Ev
 use Rattle.jl_calculus.specs.declared.history.Outcome.{Outcome}
 use Rattle.jl_calculus.specs.declared.history.Record.{Record}
 use Rattle.jl_calculus.specs.declared.history.TraceItem.{TraceItem}
-use Rattle.jl_calculus.specs.declared.history.TraceItem.TheVariants.{Def, Spawn}
+use Rattle.jl_calculus.specs.declared.history.TraceItem.TheVariants.{Def, Del, Spawn}
 use Rattle.jl_calculus.specs.Legal.{start_of}
 use Rattle.jl_calculus.specs.Past.{own_items, own_events, own_starts, tasks_of}
-use Rattle.jl_calculus.specs.Run.{Question, a_definition, a_spawn, setting_of, Run, Comes}
+use Rattle.jl_calculus.specs.Run.{Question, a_definition, a_deletion, a_spawn, setting_of, Run, Comes}
 use Rattle.jl_point.specs.Questions.{IsAnswerTo}
 use Rattle.jl_fit.specs.Asks.{Asks, StartsJoin}
 use Rattle.jl_machine.specs.declared.task.Machine.{Machine}
 use Rattle.jl_machine.specs.Steps.{MachineFits, IsLost, IsEnded, job_with, fuel_of, trace_of}
 use Rattle.jl_lead.specs.declared.led.Led.{Led}
-use Rattle.jl_lead.specs.Items.{Begins}
+use Rattle.jl_lead.specs.Items.{is_absence, Begins}
 use Rattle.jl_lead.specs.Leads.{GoesOn, HasMade}
 use Rattle.jl_lead.specs.Led.{knows_of}
 
@@ -29,6 +29,10 @@ ComesTo P es task xs fuel trace q = Comes P xs None fuel (start_of task es) trac
 -- over every list that begins with the known events, the run that a trace leads comes to a definition of this site exactly where that is told
 abbrev pub TellsDefinition : Program → List Event → ℕ → ℕ → List TraceItem → ℕ → Bool → Type 0
 TellsDefinition P es task fuel trace site answer = (xs : List Event) → GoesOn es xs → IsTrue answer ↔ ComesTo P es task xs fuel trace (a_definition site)
+
+-- to the deletion at this place
+abbrev pub TellsDeletion : Program → List Event → ℕ → ℕ → List TraceItem → ℕ → Bool → Type 0
+TellsDeletion P es task fuel trace place answer = (xs : List Event) → GoesOn es xs → IsTrue answer ↔ ComesTo P es task xs fuel trace (a_deletion place)
 
 -- and to a spawn at this place
 abbrev pub TellsSpawn : Program → List Event → ℕ → ℕ → List TraceItem → ℕ → Bool → Type 0
@@ -84,6 +88,7 @@ pub record IsAway (P : Program) (m0 : Machine) (d0 : Led) (m : Machine) (d : Led
   pub followed : before ++ left_of d ≡ whole_trace m0 d0
   pub answers : IsAnswerTo question item
   pub apart : Begins item (left_of d) → ⊥
+  pub told : is_absence (Some item) ≡ false
   pub own_before : own_items before ≡ own_events d0.task 0 d0.past.1
   pub joins : StartsJoin question item (own_starts d0.task d0.past.1) (own_starts d.task d.past.1)
   pub asks : Asks (job_with P (fuel_of m0) (knows_of d0)) (knows_of d0) before question
@@ -102,6 +107,12 @@ pub record HasDefined (P : Program) (m0 : Machine) (d0 : Led) (site : ℕ) (m : 
   pub events : d.past.1 ≡ d0.past.1 ++ Ev.Def d0.task site ∷ []
   pub trace : trace_of m ≡ whole_trace m0 d0 ++ Def site (length d0.past.1) ∷ []
 
+-- the deletion that it came to has been made
+pub record HasDeleted (P : Program) (m0 : Machine) (d0 : Led) (place : ℕ) (m : Machine) (d : Led) : Type 0 where
+  pub stays : Stays P m0 d0 m d
+  pub events : d.past.1 ≡ d0.past.1 ++ Ev.Del d0.task place ∷ []
+  pub trace : trace_of m ≡ whole_trace m0 d0 ++ Del place (length d0.past.1) ∷ []
+
 -- the task that it came to spawn has been started, from the start that each run has there
 pub record HasSpawned (P : Program) (m0 : Machine) (d0 : Led) (place : ℕ) (m : Machine) (d : Led) : Type 0 where
   pub stays : Stays P m0 d0 m d
@@ -117,6 +128,11 @@ pub record HasSpawned (P : Program) (m0 : Machine) (d0 : Led) (place : ℕ) (m :
 abbrev pub IsDefAt : ℕ → Option Event → Type 0
 IsDefAt site (Some (Ev.Def task made)) = made ≡ site
 IsDefAt site _ = ⊥
+
+-- an event is the deletion at this place of the program
+abbrev pub IsDelAt : ℕ → Option Event → Type 0
+IsDelAt place (Some (Ev.Del task made)) = made ≡ place
+IsDelAt place _ = ⊥
 
 -- an event is a spawn at this place of the program
 abbrev pub IsSpawnAt : ℕ → Option Event → Type 0

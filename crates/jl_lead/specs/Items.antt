@@ -1,5 +1,5 @@
 -- Items that answer the same question, and a trace that departs from what it was led along.
-use Rattle.std.specs.Prelude.{◌≡◌, List, [], ◌∷◌, ◌++◌, Option, None, Some, ℕ, slice_get, Bool, true, false}
+use Rattle.std.specs.Prelude.{◌≡◌, List, [], ◌∷◌, ◌++◌, Option, None, Some, ℕ, slice_get, cond, nat_eq, Bool, true, false}
 use Rattle.jl_calculus.specs.declared.history.Seen.{Seen}
 use Rattle.jl_calculus.specs.declared.history.TraceItem.{TraceItem}
 use Rattle.jl_calculus.specs.declared.history.TraceItem.TheVariants.{Look, Def, Del, Spawn, Fetch, WorldFull, TaskFull, Absent}
@@ -31,8 +31,13 @@ abbrev pub Begins : TraceItem → List TraceItem → Type 0
 Begins i [] = ⊥
 Begins i (j ∷ js) = IsSameQuestion i j
 
+-- it is told that there is nothing to delete
+abbrev pub is_absence : Option TraceItem → Bool
+is_absence (Some (Absent place p)) = true
+is_absence _ = false
+
 -- a trace departs from the one that it was led along, before what was left of that one: its next item answers another question than
--- the one that stands next
+-- the one that stands next, and does not tell that there is nothing to delete
 pub record Departs (left whole trace : List TraceItem) : Type 0 where
   pub before : List TraceItem
   pub item : TraceItem
@@ -40,6 +45,7 @@ pub record Departs (left whole trace : List TraceItem) : Type 0 where
   pub there : trace ≡ before ++ item ∷ after
   pub followed : before ++ left ≡ whole
   pub apart : Begins item left → ⊥
+  pub told : is_absence (Some item) ≡ false
 
 -- the item that stands next; none where the task goes on alone
 abbrev pub next_item : Bool → List TraceItem → ℕ → Option TraceItem
@@ -60,6 +66,11 @@ world_full_of _ = None
 abbrev pub task_full_of : Option TraceItem → Option ℕ
 task_full_of (Some (TaskFull p)) = Some p
 task_full_of _ = None
+
+-- the place at which there is nothing to delete at this place of the program, where that stands next
+abbrev pub absent_of : ℕ → Option TraceItem → Option ℕ
+absent_of of (Some (Absent place p)) = cond (nat_eq place of) (Some p) None
+absent_of of _ = None
 
 -- a fetch of this task does not stand next
 abbrev pub IsNoFetch : Option TraceItem → ℕ → Type 0

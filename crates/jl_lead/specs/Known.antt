@@ -1,9 +1,9 @@
 -- What is kept of the events of a run so far.
-use Rattle.std.specs.Prelude.{◌≡◌, ℕ, ◌<◌, ◌≤◌, ◌-◌, ◌^◌, Bool, true, false, nat_eq, List, map, length, slice_get, get_or, Option, None, Some}
+use Rattle.std.specs.Prelude.{◌≡◌, ℕ, ◌<◌, ◌≤◌, ◌+◌, ◌-◌, ◌^◌, Bool, true, false, nat_eq, List, length, slice_get, get_or, Option, None, Some}
 use Rattle.jl_model.specs.declared.limits.TheConstants.{MOST_WORLDS, MOST_TASKS}
 use Rattle.jl_program.specs.declared.tree.Program.{Program}
 use Rattle.jl_program.specs.declared.tree.Start.{Start}
-use Rattle.jl_calculus.specs.declared.history.Change.TheVariants as Ch
+use Rattle.jl_calculus.specs.declared.history.Change.{Change}
 use Rattle.jl_calculus.specs.declared.history.Event.{Event}
 use Rattle.jl_calculus.specs.declared.history.Event.TheVariants as Ev
 use Rattle.jl_calculus.specs.declared.history.Record.{Record}
@@ -42,11 +42,10 @@ first_end false place end = end
 abbrev pub IsNoted : ℕ → ℕ → List (Option ℕ) → List (Option ℕ) → Type 0
 IsNoted task place old new = (t : ℕ) → get_or new t None ≡ first_end (nat_eq task t) place (get_or old t None)
 
--- there are not too many, all changes are definitions, and their sites, the number of the tasks and the places of their ends are kept
--- beside the events
-pub record IsKnownSo (P : Program) (sites : List ℕ) (es : List Event) (tasks : ℕ) (ends : List (Option ℕ)) : Type 0 where
-  pub sites_are : changes es ≡ map Ch.Def sites
-  pub worlds : world_of es ≤ MOST_WORLDS
+-- there are not too many, and the changes, the number of the tasks and the places of their ends are kept beside the events
+pub record IsKnownSo (P : Program) (cs : List Change) (es : List Event) (tasks : ℕ) (ends : List (Option ℕ)) : Type 0 where
+  pub changes_are : changes es ≡ cs
+  pub worlds : world_of es ≤ MOST_WORLDS + 1
   pub tasks_are : tasks ≡ tasks_of es
   pub few : tasks_of es ≤ MOST_TASKS
   pub short : length es < 2 ^ 32 - 1

@@ -20,7 +20,7 @@ abbrev pub IsMadeBy : ℕ → List Event → Event → Type 0
 IsMadeBy task es (Ev.Def by site) = by ≡ task
 IsMadeBy task es (Ev.Spawn by child start) = (by ≡ task) × (child ≡ tasks_of es)
 IsMadeBy task es (Ev.Done by ended) = Unit {0}
-IsMadeBy task es (Ev.Del by place) = ⊥
+IsMadeBy task es (Ev.Del by place) = by ≡ task
 IsMadeBy task es (Ev.Begin fuel) = ⊥
 IsMadeBy task es (Ev.Key key) = ⊥
 IsMadeBy task es (Ev.Fill key site first) = ⊥

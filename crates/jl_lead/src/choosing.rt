@@ -1,16 +1,16 @@
 //! The choice among the definitions of a function.
 
-ghost use Rattle.std.specs.Prelude.{◌≡◌, IsTrue, IfOk, List, [], false};
+ghost use Rattle.std.specs.Prelude.{◌≡◌, IsTrue, IfOk, List, false};
 ghost use Rattle.jl_program.specs.Scope.{all_types};
 ghost use Rattle.jl_calculus.specs.declared.history.Def.{Def as D};
 ghost use Rattle.jl_calculus.specs.Definitions.{HasSite, AppliesTo};
 ghost use Rattle.jl_match.specs.KeptRow.{AreConcrete};
 ghost use Rattle.jl_subsig.specs.Side.{Every};
-ghost use Rattle.jl_subsig.specs.Standing.{HaveLatest, ChoosesLeft};
+ghost use Rattle.jl_subsig.specs.Standing.{HasPlace, HaveLatest, ChoosesLeft};
 ghost use Rattle.jl_lead.specs.ByFunction.{Rising};
 ghost use Rattle.jl_lead.specs.Picked.{Picked};
 
-use jl_calculus::history::Def;
+use jl_calculus::history::{Def, Del};
 use jl_match::applies;
 use jl_model::ty::Ty;
 use jl_program::choice::Choice;
@@ -50,20 +50,23 @@ fn pick(alloc: Global, ready: &Ready, defs: &[Def], types: &[Ty]) -> Result<Vec<
     Ok(those)
 }
 
-/// The choice among all definitions of a function for arguments of these types, which are concrete and normal forms. The list has,
-/// in their order, the latest of each site at least. No deletion takes one away. Signatures that are written alike are compared once.
+/// The choice among all definitions of a function for arguments of these types, which are concrete and normal forms, when deletions take
+/// some away. The list has, in their order, the latest of each site at least. Which apply is asked first, and signatures are compared
+/// only among these; those that are written alike are compared once.
 pub(crate) fn choose_for(
     alloc: Global,
     ready: &Ready,
     defs: &[Def],
+    dels: &[Del],
     types: &[Ty],
 ) -> Result<Choice, AllocError>
     requires sites { Every (HasSite ready.now) defs.now }
+    requires places { Every (HasPlace ready.now) dels.now }
     requires ordered { Rising 0 defs.now }
     requires types { AreConcrete (all_types ready.now) types.now }
-    ensures { IfOk result (λ c. (all : List D) → HaveLatest ready.now types.now all defs.now → ChoosesLeft ready.now [] types.now all c) }
+    ensures { IfOk result (λ c. (all : List D) → HaveLatest ready.now types.now all defs.now → ChoosesLeft ready.now dels.now types.now all c) }
 {
     let those = pick(alloc, ready, defs, types)?;
-    let choice = choose_standing(alloc, ready, those.as_slice(), &[])?;
+    let choice = choose_standing(alloc, ready, those.as_slice(), dels)?;
     Ok(choice)
 }

@@ -7,7 +7,7 @@ ghost use Rattle.jl_calculus.specs.ValidHistory.{IsValidOutcome};
 ghost use Rattle.jl_calculus.specs.World.{world_of};
 ghost use Rattle.jl_machine.specs.Steps.{MachineFits, fuel_of, IsLost};
 ghost use Rattle.jl_lead.specs.Led.{knows_of};
-ghost use Rattle.jl_lead.specs.Coming.{HasCome, HasDefined, HasSpawned, IsDefAt, IsNoRun, IsSpawnAt, IsTheRun, TellsDefinition, TellsSpawn, whole_trace};
+ghost use Rattle.jl_lead.specs.Coming.{HasCome, HasDefined, HasDeleted, HasSpawned, IsDefAt, IsDelAt, IsNoRun, IsSpawnAt, IsTheRun, TellsDefinition, TellsDeletion, TellsSpawn, whole_trace};
 
 use crate::led::Led;
 use jl_calculus::history::{Event, Record};
@@ -51,6 +51,16 @@ fn is_definition(events: &[Event], place: u32, site: u32) -> bool
     }
 }
 
+/// Whether the deletion at a place of the program stands at a place.
+fn is_deletion(events: &[Event], place: u32, deletion: u32) -> bool
+    ensures { IsTrue result ↔ IsDelAt deletion (slice_get events.now place) }
+{
+    match events.get(place as usize) {
+        Some(Event::Del { place: made, .. }) => *made == deletion,
+        _ => false,
+    }
+}
+
 /// Whether a spawn at a place of the program stands at a place.
 fn is_spawn(events: &[Event], place: u32, spawn: u32) -> bool
     ensures { IsTrue result ↔ IsSpawnAt spawn (slice_get events.now place) }
@@ -87,6 +97,35 @@ pub fn lead_to_definition<'p>(
         return Ok(false);
     }
     let made = is_definition(led.past.events(), place, site);
+    Ok(made)
+}
+
+/// Leads a task up to the deletion at a place of the program: whether its run comes to it, led by what it was told before and the items
+/// that stand next. Where it does, the deletion is made.
+pub fn lead_to_deletion<'p>(
+    ready: &'p Ready,
+    ops: &HostOps,
+    machine: &mut Machine<'p>,
+    led: &mut Led<'p>,
+    deletion: u32,
+) -> Result<bool, AllocError>
+    requires fits { MachineFits ready.now (fuel_of machine.old) (knows_of led.old) machine.old }
+    requires going { IsLost machine.old → ⊥ }
+    requires here { led.old.alone ≡ false }
+    requires room { world_of led.old.past.1 < MOST_WORLDS }
+    ensures exact { IfOk result (λ answer. TellsDeletion ready.now led.old.past.1 led.old.task (fuel_of machine.old) (whole_trace machine.old led.old) deletion answer) }
+    ensures made { IfOk result (λ answer. IsTrue answer → HasDeleted ready.now machine.old led.old deletion machine.new led.new) }
+{
+    let place = led.past.len();
+    let ended = lead(ready, ops, machine, led)?;
+    if ended {
+        return Ok(false);
+    }
+    let more = led.has_items();
+    if more {
+        return Ok(false);
+    }
+    let made = is_deletion(led.past.events(), place, deletion);
     Ok(made)
 }
 

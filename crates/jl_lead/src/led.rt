@@ -1,19 +1,25 @@
 //! A dispatcher that leads a task along a trace.
 
-ghost use Rattle.std.specs.Prelude.{◌≡◌, ◌<◌, ◌↔◌, ◌++◌, [], ◌∷◌, IsTrue, OnOk, OnErr, None, drop, length, true, false};
+ghost use Rattle.std.specs.Prelude.{◌≡◌, ◌<◌, ◌≤◌, ◌↔◌, ◌++◌, [], ◌∷◌, IsTrue, OnOk, OnErr, None, drop, length, true, false};
+ghost use Rattle.jl_model.specs.declared.limits.TheConstants.{MOST_WORLDS};
 ghost use Rattle.jl_program.specs.declared.value.Value.TheVariants.{Nothing};
 ghost use Rattle.jl_calculus.specs.declared.history.Outcome.TheVariants as O;
 ghost use Rattle.jl_calculus.specs.Past.{done_of};
 ghost use Rattle.jl_calculus.specs.ValidHistory.{IsValidOutcome};
-ghost use Rattle.jl_lead.specs.Items.{next_item, world_full_of, task_full_of, IsNoFetch};
+ghost use Rattle.jl_calculus.specs.World.{world_of};
+ghost use Rattle.jl_lead.specs.Items.{next_item, world_full_of, task_full_of, absent_of, is_absence, IsNoFetch};
 ghost use Rattle.jl_lead.specs.Known.{IsPlain, IsStartAmong};
 ghost use Rattle.jl_lead.specs.Leads.{IsPlaced};
 ghost use Rattle.jl_lead.specs.Stretch.{IsLeft, IsLeft-prop, IsStretch};
 
-use crate::next::{Fetched, next_fetch, next_look, next_task_full, next_world_full, nothing_done};
+use crate::next::{
+    Fetched, is_absence_next, next_absent, next_fetch, next_look, next_task_full, next_world_full,
+    nothing_done,
+};
 use crate::past::Past;
 use jl_calculus::history::{
-    DefineFault, Event, FetchFault, Outcome, Record, Seen, SpawnFault, TraceItem,
+    Change, DefineFault, DeleteFault, Event, FetchFault, Outcome, Record, Seen, SpawnFault,
+    TraceItem,
 };
 use jl_dispatcher::{Dispatcher, Recall, Recalled};
 use jl_model::limits::{MOST_TASKS, MOST_WORLDS};
@@ -36,7 +42,7 @@ pub struct Led<'p> {
     pub looks: u64,
     pub alone: bool,
     ghost placed: { IsPlaced past.1 task seen },
-    ghost left: { IsLeft alone past.1 seen (drop told items.items) } by { IsLeft-prop alone past.1 seen (drop told items.items) },
+    ghost left: { IsLeft past.0 alone past.1 seen (drop told items.items) } by { IsLeft-prop past.0 alone past.1 seen (drop told items.items) },
 }
 
 impl<'p> Led<'p> {
@@ -45,12 +51,13 @@ impl<'p> Led<'p> {
         ensures past { result.past ≡ past.entry }
         ensures alone { result.alone ≡ true }
     {
+        let seen = past.len();
         Led {
             past,
             task: 0,
             items: Vec::new(alloc),
             told: 0,
-            seen: 0,
+            seen,
             looks: 0,
             alone: true,
         }
@@ -59,7 +66,7 @@ impl<'p> Led<'p> {
     /// Leads a task on that has seen so many events and looked so often: these items stand next.
     pub fn turn_to(&mut self, task: u32, seen: u32, looks: u64, items: Vec<TraceItem>)
         requires placed { IsPlaced self.old.past.1 task seen }
-        requires stretch { IsStretch self.old.past.1 seen items.items }
+        requires stretch { IsStretch self.old.past.0 self.old.past.1 seen items.items }
         ensures past { self.new.past ≡ self.old.past }
         ensures task { self.new.task ≡ task }
         ensures seen { self.new.seen ≡ seen }
@@ -90,7 +97,9 @@ impl<'p> Led<'p> {
         ensures refused { OnErr result (self.new.past ≡ self.old.past) }
     {
         self.alone = true;
-        self.past.note(event)
+        let noted = self.past.note(event);
+        self.seen = self.past.len();
+        noted
     }
 
     /// The end of a task. Nobody is led after it.
@@ -100,13 +109,30 @@ impl<'p> Led<'p> {
         ensures refused { OnErr result (self.new.past ≡ self.old.past) }
     {
         self.alone = true;
-        self.past.end(task, ended)
+        let noted = self.past.end(task, ended);
+        self.seen = self.past.len();
+        noted
     }
 }
 
 impl Led<'_> {
     ghost use Rattle.jl_lead.specs.Led.{knows_of};
-    ghost use Rattle.jl_lead.specs.Answers.{AnswersDefinition, AnswersSpawn, AnswersFetch};
+    ghost use Rattle.jl_lead.specs.Answers.{AnswersDefinition, AnswersDeletion, AnswersSpawn, AnswersFetch};
+
+    /// Whether a definition or a deletion that does not stand next is refused, since the world is full. It is made, as one too many, where it
+    /// stands next that there is nothing to delete: a full world could be told there in the place of that, and so it would not be seen
+    /// what was asked.
+    fn is_full(&self) -> bool
+        ensures full { IsTrue result → (world_of self.now.past.1 ≡ MOST_WORLDS) × (is_absence (next_item self.now.alone self.now.items.items self.now.told) ≡ false) }
+        ensures room { result ≡ false → world_of self.now.past.1 ≡ MOST_WORLDS → is_absence (next_item self.now.alone self.now.items.items self.now.told) ≡ true }
+    {
+        let world = self.past.world();
+        if world as usize != MOST_WORLDS {
+            return false;
+        }
+        let is_absence = is_absence_next(self.alone, self.items.as_slice(), self.told);
+        !is_absence
+    }
 
     /// A definition that does not stand next as one that is refused: it is made, unless the world is full or another event was made.
     fn make_definition(&mut self, site: u32) -> Result<u32, DefineFault>
@@ -114,8 +140,7 @@ impl Led<'_> {
         requires next { world_full_of (next_item self.old.alone self.old.items.items self.old.told) ≡ None }
         ensures { AnswersDefinition (knows_of self.old) (knows_of self.new) site result }
     {
-        let world = self.past.world();
-        if world as usize >= MOST_WORLDS {
+        if self.is_full() {
             self.alone = true;
             self.seen = self.past.len();
             return Err(DefineFault::WorldLimit);
@@ -123,7 +148,7 @@ impl Led<'_> {
         if self.alone {
             return Err(DefineFault::Memory);
         }
-        match self.past.define(self.task, site) {
+        match self.past.make(self.task, Change::Def(site)) {
             Ok(()) => {
                 self.alone = true;
                 self.seen = self.past.len();
@@ -145,6 +170,63 @@ impl Led<'_> {
                 Err(DefineFault::WorldLimit)
             }
             None => self.make_definition(site),
+        }
+    }
+
+    /// A deletion that does not stand next as one that is refused or finds nothing: it is made, unless the world is full or another event
+    /// was made. Whether there is something to delete is not asked: a task that is answered so has departed from its trace.
+    fn make_deletion(&mut self, place: u32) -> Result<u32, DeleteFault>
+        requires place { place < length self.old.past.0.deletes }
+        requires next { world_full_of (next_item self.old.alone self.old.items.items self.old.told) ≡ None }
+        requires there { absent_of place (next_item self.old.alone self.old.items.items self.old.told) ≡ None }
+        ensures { AnswersDeletion (knows_of self.old) (knows_of self.new) place result }
+    {
+        if self.is_full() {
+            self.alone = true;
+            self.seen = self.past.len();
+            return Err(DeleteFault::WorldLimit);
+        }
+        if self.alone {
+            return Err(DeleteFault::Memory);
+        }
+        match self.past.make(self.task, Change::Del(place)) {
+            Ok(()) => {
+                self.alone = true;
+                self.seen = self.past.len();
+                Ok(self.past.world())
+            }
+            Err(_) => Err(DeleteFault::Memory),
+        }
+    }
+
+    /// A deletion that does not stand next as one that is refused: it stands next as one that finds nothing, or is made.
+    fn find_deletion(&mut self, place: u32) -> Result<u32, DeleteFault>
+        requires place { place < length self.old.past.0.deletes }
+        requires next { world_full_of (next_item self.old.alone self.old.items.items self.old.told) ≡ None }
+        ensures { AnswersDeletion (knows_of self.old) (knows_of self.new) place result }
+    {
+        match next_absent(self.alone, self.items.as_slice(), self.told, place) {
+            Some(at) => {
+                self.told += 1;
+                self.seen = at;
+                Err(DeleteFault::NoSuchMethod)
+            }
+            None => self.make_deletion(place),
+        }
+    }
+
+    /// A deletion: it stands next as one that is refused, or not.
+    fn answer_deletion(&mut self, place: u32) -> Result<u32, DeleteFault>
+        requires { place < length self.old.past.0.deletes }
+        ensures { AnswersDeletion (knows_of self.old) (knows_of self.new) place result }
+    {
+        match next_world_full(self.alone, self.items.as_slice(), self.told) {
+            Some(at) => {
+                self.told += 1;
+                self.seen = at;
+                Err(DeleteFault::WorldLimit)
+            }
+            None => self.find_deletion(place),
         }
     }
 
@@ -301,6 +383,10 @@ impl Dispatcher for Led<'_> {
 
     fn define(&mut self, site: u32) -> Result<u32, DefineFault> {
         self.answer_definition(site)
+    }
+
+    fn delete(&mut self, place: u32) -> Result<u32, DeleteFault> {
+        self.answer_deletion(place)
     }
 
     fn spawn(&mut self, start: Start) -> Result<u32, SpawnFault> {

@@ -2,8 +2,8 @@
 //! is compared.
 #![tactic(auto)]
 
+mod changes;
 mod choosing;
-mod definitions;
 pub mod laws;
 pub mod lead;
 pub mod led;

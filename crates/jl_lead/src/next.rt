@@ -4,7 +4,7 @@ ghost use Rattle.std.specs.Prelude.{◌≡◌, ◌+◌, ◌<◌, ◌^◌, IfOk, 
 ghost use Rattle.jl_program.specs.declared.value.Value.TheVariants.{Nothing};
 ghost use Rattle.jl_calculus.specs.declared.history.Outcome.TheVariants as O;
 ghost use Rattle.jl_calculus.specs.declared.history.TraceItem.TheVariants.{Fetch};
-ghost use Rattle.jl_lead.specs.Items.{next_item, look_of, world_full_of, task_full_of, IsNoFetch};
+ghost use Rattle.jl_lead.specs.Items.{next_item, look_of, world_full_of, task_full_of, absent_of, is_absence, IsNoFetch};
 
 use jl_calculus::history::{Outcome, Record, Seen, TraceItem};
 use jl_model::shared::{SharedList, SharedNode};
@@ -53,6 +53,38 @@ pub(crate) fn next_task_full(alone: bool, items: &[TraceItem], told: usize) -> O
     match items.get(told) {
         Some(TraceItem::TaskFull { at }) => Some(*at),
         _ => None,
+    }
+}
+
+/// The place at which there is nothing to delete at a place of the program, where that stands next.
+pub(crate) fn next_absent(alone: bool, items: &[TraceItem], told: usize, of: u32) -> Option<u32>
+    ensures exact { result ≡ absent_of of (next_item alone items.now told) }
+    ensures room { MatchOption result (Unit {0}) (λ _. told + 1 < 2 ^ 64) }
+{
+    if alone {
+        return None;
+    }
+    match items.get(told) {
+        Some(TraceItem::Absent { place, at }) => {
+            if *place != of {
+                return None;
+            }
+            Some(*at)
+        }
+        _ => None,
+    }
+}
+
+/// Whether it stands next that there is nothing to delete, at whichever place.
+pub(crate) fn is_absence_next(alone: bool, items: &[TraceItem], told: usize) -> bool
+    ensures { result ≡ is_absence (next_item alone items.now told) }
+{
+    if alone {
+        return false;
+    }
+    match items.get(told) {
+        Some(TraceItem::Absent { .. }) => true,
+        _ => false,
     }
 }
 

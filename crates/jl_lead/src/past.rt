@@ -1,16 +1,17 @@
 //! The events of a run so far, and what a task asks of them.
 
-ghost use Rattle.std.specs.Prelude.{ℕ, ◌≡◌, ◌<◌, ◌≤◌, ◌++◌, [], ◌∷◌, IfOk, OnOk, OnErr, MatchOption, None, get_or, length, slice_get};
+ghost use Rattle.std.specs.Prelude.{ℕ, ◌≡◌, ◌+◌, ◌<◌, ◌≤◌, ◌++◌, [], ◌∷◌, IfOk, OnOk, OnErr, MatchOption, None, get_or, length, slice_get};
 ghost use Rattle.jl_model.specs.declared.limits.TheConstants.{MOST_WORLDS, MOST_TASKS};
 ghost use Rattle.jl_calculus.specs.Legal.{IsKeyOf};
 ghost use Rattle.jl_calculus.specs.Past.{EndedSo, done_of, tasks_of};
 ghost use Rattle.jl_calculus.specs.ValidHistory.{IsValidOutcome};
-ghost use Rattle.jl_calculus.specs.World.{Selects, site_of, world_of};
+ghost use Rattle.jl_calculus.specs.World.{Selects, change_event, site_of, world_of};
+ghost use Rattle.jl_methods.specs.Filters.{IsOfProgram};
 ghost use Rattle.jl_lead.specs.Known.{AreEnds, AreSound, IsNoted, IsStartAmong, IsPlain, IsSpawnOf, IsNoSpawn};
 
+use crate::changes::{Changes, prelude_changes};
 use crate::choosing::choose_for;
-use crate::definitions::{Definitions, prelude_definitions};
-use jl_calculus::history::{Event, Outcome, Record};
+use jl_calculus::history::{Change, Event, Outcome, Record};
 use jl_model::shared::SharedNode;
 use jl_model::ty::Key;
 use jl_program::choice::Choice;
@@ -22,12 +23,14 @@ use std::marker::Model;
 /// No list of so many events is kept.
 const MOST_EVENTS: usize = 4_294_967_294;
 
-/// The events of a run so far, with the definitions found by their functions and the ends by their tasks, so that neither a choice
-/// nor a fetch walks over the events. Contracts see the program and the events.
+/// The events of a run so far, with the definitions and the deletions found by their functions and the ends by their tasks, so that
+/// neither a choice nor a fetch walks over the events. Contracts see the program and the events.
+///
+/// There is room for one world more than a run may have: a task that departs from the trace that leads it may make it.
 #[derive(Drop)]
 pub struct Past<'p> {
     alloc: Global,
-    definitions: Definitions<'p>,
+    changes: Changes<'p>,
     events: Vec<Event>,
     tasks: u32,
     ends: Vec<Option<u32>>,
@@ -46,9 +49,9 @@ impl<'p> Model for Past<'p> {
 
     ghost coded = { coded× p.the_row.coded (coded_list e.the_row.coded) };
 
-    ghost view = { λ d. (d.definitions.0, d.events.items) };
+    ghost view = { λ d. (d.changes.0, d.events.items) };
 
-    ghost invariant = { λ d. IsKnownSo d.definitions.0 d.definitions.1 d.events.items d.tasks d.ends.items };
+    ghost invariant = { λ d. IsKnownSo d.changes.0 d.changes.1 d.events.items d.tasks d.ends.items };
 }
 
 /// Keeps a place for the end of a task.
@@ -102,10 +105,10 @@ impl<'p> Past<'p> {
     pub fn new(alloc: Global, ready: &'p Ready) -> Result<Past<'p>, AllocError>
         ensures { IfOk result (λ past. past ≡ (ready.now, [])) }
     {
-        let definitions = prelude_definitions(alloc, ready)?;
+        let changes = prelude_changes(alloc, ready)?;
         Ok(Past {
             alloc,
-            definitions,
+            changes,
             events: Vec::new(alloc),
             tasks: 1,
             ends: Vec::new(alloc),
@@ -127,9 +130,9 @@ impl<'p> Past<'p> {
     /// The newest world.
     pub fn world(&self) -> u32
         ensures exact { result ≡ world_of self.now.1 }
-        ensures most { result ≤ MOST_WORLDS }
+        ensures most { result ≤ MOST_WORLDS + 1 }
     {
-        self.definitions.sites().len() as u32
+        self.changes.all().len() as u32
     }
 
     /// How many tasks were started, the root among them.
@@ -165,23 +168,28 @@ impl<'p> Past<'p> {
         }
     }
 
-    /// The site of a definition.
+    /// The site of a definition, and 0 for a deletion.
     pub fn site(&self, definition: u32) -> u32
         requires { (1 ≤ definition) × (definition ≤ world_of self.now.1) }
         ensures { result ≡ site_of self.now.1 definition }
     {
-        self.definitions.sites()[definition as usize - 1]
+        match self.changes.all()[definition as usize - 1] {
+            Change::Def(site) => site,
+            Change::Del(_) => 0,
+        }
     }
 
-    /// The choice for a call in a world.
+    /// The choice for a call in a world. In the newest the cost is in the sites of the function, and for those that apply in its deletion
+    /// places, however often they were reached.
     pub fn choose(&self, key: &Key, world: u32) -> Result<Choice, AllocError>
         requires key { IsKeyOf self.now.0 key.now }
         requires world { world ≤ world_of self.now.1 }
         ensures { IfOk result (λ c. Selects self.now.0 self.now.1 key.now.function key.now.types world c) }
     {
-        let ready = self.definitions.ready();
-        let defs = self.definitions.of(key.function, world);
-        choose_for(self.alloc, ready, defs, key.types.as_slice())
+        let ready = self.changes.ready();
+        let defs = self.changes.defs_of(key.function, world);
+        let dels = self.changes.dels_of(key.function, world);
+        choose_for(self.alloc, ready, defs, dels, key.types.as_slice())
     }
 
     /// How a task ended, if it has.
@@ -200,19 +208,19 @@ impl<'p> Past<'p> {
         }
     }
 
-    /// A definition of a site, by a task.
-    pub fn define(&mut self, task: u32, site: u32) -> Result<(), AllocError>
-        requires site { site < length self.old.0.sites }
-        requires room { world_of self.old.1 < MOST_WORLDS }
-        ensures added { OnOk result (self.new ≡ (self.old.0, self.old.1 ++ Event.Def task site ∷ [])) }
+    /// A definition or a deletion, by a task.
+    pub fn make(&mut self, task: u32, change: Change) -> Result<(), AllocError>
+        requires change { IsOfProgram self.old.0 change }
+        requires room { world_of self.old.1 ≤ MOST_WORLDS }
+        ensures added { OnOk result (self.new ≡ (self.old.0, self.old.1 ++ change_event task change ∷ [])) }
         ensures refused { OnErr result (self.new ≡ self.old) }
     {
         if self.events.len() >= MOST_EVENTS {
             return Err(AllocError);
         }
         self.events.reserve(1)?;
-        self.definitions.push(site)?;
-        self.events.push_reserved(Event::Def { task, site });
+        self.changes.push(change)?;
+        self.events.push_reserved(change.event(task));
         Ok(())
     }
 

@@ -37,7 +37,7 @@ use Rattle.jl_calculus.specs.declared.history.TraceItem.{TraceItem}
 use Rattle.jl_calculus.specs.declared.history.TraceItem.TheVariants.{Look, Def, Del, Spawn, Fetch, WorldFull, TaskFull, Absent}
 use Rattle.jl_calculus.specs.Answers.{Answer}
 use Rattle.jl_calculus.specs.Kept.{Places}
-use Rattle.jl_calculus.specs.Run.{Setting, State, Then, Runs, ItemRuns, PieceRuns, Caller, Body, operation, code, code_of, body_of, each_runs, texts_run, stmts_run, items_run, either, newline, with_scope, looks, defines, spawns, fetched, fetches, fetches_value, decides, answers, operation_runs, expr_runs, stmt_runs, item_runs, piece_runs, runs, runs_stmt, runs_item, runs_piece, chosen, performs, calls, open_calls, first_state, task_state, task_runs, setting_of, IsEnd, Run}
+use Rattle.jl_calculus.specs.Run.{Setting, State, Then, Runs, ItemRuns, PieceRuns, Caller, Body, operation, code, code_of, body_of, each_runs, texts_run, stmts_run, items_run, either, newline, with_scope, looks, defines, deletes, spawns, fetched, fetches, fetches_value, decides, answers, operation_runs, expr_runs, stmt_runs, item_runs, piece_runs, runs, runs_stmt, runs_item, runs_piece, chosen, performs, calls, open_calls, first_state, task_state, task_runs, setting_of, IsEnd, Run}
 use Rattle.jl_calculus.specs.Views.{view_at}
 use Rattle.jl_calculus.specs.World.{site_of}
 use Rattle.jl_calculus.proofs.Layers.{runs_is, stmt_is, item_is, piece_is}
@@ -98,6 +98,17 @@ module _ (P : Program) (v : IsValid P) (es : List Event) (places : Option Places
   of_defines (TaskFull p ∷ rest) site s n m k a = absurd k
   of_defines (Del place p ∷ rest) site s n m k a = absurd k
   of_defines (Absent place p ∷ rest) site s n m k a = absurd k
+
+  of_deletes : (left : List TraceItem) (place : ℕ) (s : State) (n : State → Type 0) → ((s1 : State) → n s1 → Kept s1 → R) → deletes g Q left place s n → Kept s → R
+  of_deletes [] place s n m k a = absurd k
+  of_deletes (Del made p ∷ rest) place s n m k a = m _ k.1 a
+  of_deletes (Absent made p ∷ rest) place s n m k a = ends _ _ k.1 a tt
+  of_deletes (WorldFull p ∷ rest) place s n m k a = ends _ _ k a tt
+  of_deletes (Look w p ∷ rest) place s n m k a = absurd k
+  of_deletes (Def made p ∷ rest) place s n m k a = absurd k
+  of_deletes (Spawn child p ∷ rest) place s n m k a = absurd k
+  of_deletes (Fetch task o p ∷ rest) place s n m k a = absurd k
+  of_deletes (TaskFull p ∷ rest) place s n m k a = absurd k
 
   of_spawns : (left : List TraceItem) (start : Start) (s : State) (n : Then) → Goes n → spawns g Q left start s n → Kept s → R
   of_spawns [] start s n m k a = absurd k
@@ -307,6 +318,7 @@ module _ (P : Program) (v : IsValid P) (es : List Event) (places : Option Places
     of_layer (F.Block xs) t c h w s b n mb m k a = of_stmts _ xs (stmts xs t c h) V.Nothing w s b _ mb (λ y s1. m y _) k a
     of_layer (F.Eval xs) t c h w s b n mb m k a = of_items _ xs (of_bare (runs_item g Q called) xs (items xs t (evaluated c) h)) V.Nothing s b _ mb (λ y s1. m y _) k a
     of_layer (F.Spawn place) t c h w s b n mb m k a = of_spawns s.left _ s n m k a
+    of_layer (F.Delete place) t c h w s b n mb m k a = of_deletes s.left place s _ (λ s1. m _ _) k a
     of_layer (F.Fetch x) t c h w s b n mb m k a = t c h w s b _ mb (λ y s1. of_value y s1 n m) k a
     of_layer (F.Print xs line) t c h w s b n mb m k a =
         of_texts _ xs (pieces xs t c h) [] IsUtf8-nil w s b _ mb

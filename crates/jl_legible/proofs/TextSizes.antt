@@ -1,5 +1,5 @@
 -- A text has more bytes than there are entries, and than there are items in a trace of it.
-use Rattle.std.proofs.Common.{ℕ, ◌≤◌, ◌<◌, arith, codes, List, [], ◌∷◌, ◌++◌, length, length-append}
+use Rattle.std.proofs.Common.{ℕ, ◌≤◌, ◌<◌, arith, Bool, codes, List, [], ◌∷◌, ◌++◌, length, length-append}
 use Rattle.jl_report.specs.declared.entry.Step.{Step}
 use Rattle.jl_report.specs.declared.entry.Step.TheVariants as S
 use Rattle.jl_report.specs.declared.entry.Ending.{Ending}
@@ -62,7 +62,7 @@ entries_few [] = omega arith
 entries_few (e ∷ es) = omega (arith, entry_some e, entries_few es, length-append (entry_lines e) (all_lines es))
 
 -- the lines of the entries are a part of the text
-pub lines_few : (es : List Entry) → length (all_lines es) ≤ length (entries_text es)
-lines_few es =
+pub lines_few : (places : Bool) (es : List Entry) → length (all_lines es) ≤ length (entries_text places es)
+lines_few places es =
     let last = number_line (codes "end") (length es ∷ []) in
-    omega (arith, length-append header (all_lines es ++ last), length-append (all_lines es) last)
+    omega (arith, length-append (header places) (all_lines es ++ last), length-append (all_lines es) last)

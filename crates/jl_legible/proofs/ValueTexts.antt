@@ -60,6 +60,7 @@ IsNamed (F.NoIndex t n) = Unit {0}
 IsNamed (F.NotBool t) = Unit {0}
 IsNamed (F.NotTask t) = Unit {0}
 IsNamed (F.TaskFailed n) = Unit {0}
+IsNamed (F.NoSuchMethod f) = Unit {0}
 IsNamed (F.FuelSpent n) = Unit {0}
 IsNamed F.StackLimit = Unit {0}
 IsNamed F.WorldLimit = Unit {0}
@@ -166,6 +167,7 @@ module _ (P : Program) (v : IsValid P) where
       then_line (codes "TypeError: non-boolean (") _ (plain_line _ refl) (then_line (type_text P t) _ (type_line t) (plain_line (codes ") used in boolean context") refl))
   fault_line (F.NotTask t) h = then_line (codes "NotTask: ") _ (plain_line _ refl) (type_line t)
   fault_line (F.TaskFailed n) h = then_line (codes "TaskFailedException: task ") _ (plain_line _ refl) (decimal_line n)
+  fault_line (F.NoSuchMethod f) h = then_line (codes "NoSuchMethod: ") _ (plain_line _ refl) (function_line f)
   fault_line (F.FuelSpent n) h = then_line (codes "FuelSpent: ") _ (plain_line _ refl) (then_line (decimal n) _ (decimal_line n) (plain_line (codes " calls") refl))
   fault_line F.StackLimit h =
       then_line (codes "StackOverflowError: ") _ (plain_line _ refl) (then_line (decimal MOST_OPEN_CALLS) _ (decimal_line MOST_OPEN_CALLS) (plain_line (codes " open calls") refl))
@@ -220,6 +222,7 @@ module _ (P : Program) (v : IsValid P) where
   fault_some (F.NotBool t) = then_some (codes "TypeError: non-boolean (") _ (omega arith)
   fault_some (F.NotTask t) = then_some (codes "NotTask: ") _ (omega arith)
   fault_some (F.TaskFailed n) = then_some (codes "TaskFailedException: task ") _ (omega arith)
+  fault_some (F.NoSuchMethod f) = then_some (codes "NoSuchMethod: ") _ (omega arith)
   fault_some (F.FuelSpent n) = then_some (codes "FuelSpent: ") _ (omega arith)
   fault_some F.StackLimit = then_some (codes "StackOverflowError: ") _ (omega arith)
   fault_some F.WorldLimit = then_some (codes "WorldLimit: ") _ (omega arith)

@@ -122,6 +122,7 @@ operation_once ds d statics (F.Or a b) vs h = absurd h
 operation_once ds d statics (F.Block xs) vs h = absurd h
 operation_once ds d statics (F.Eval xs) vs h = absurd h
 operation_once ds d statics (F.Spawn place) vs h = absurd h
+operation_once ds d statics (F.Delete place) vs h = absurd h
 operation_once ds d statics (F.Fetch a) vs h = absurd h
 operation_once ds d statics (F.Print ps line) vs h = absurd h
 

@@ -2,7 +2,8 @@
 use Rattle.std.proofs.Common.{◌≡◌, refl, sym, ap, ◌∙◌, subst, ℕ, ◌-◌, ◌<◌, ◌≤◌, Bool, true, false, List, [], ◌∷◌, ◌++◌, map, length, take, drop, get_or, None, Some, Result, Ok, IfOk, arith, append-nil}
 use Rattle.std.proofs.lemmas.List.{take_rest}
 use Rattle.std.specs.declared.alloc.AllocError.{AllocError}
-use Rattle.jl_program.specs.declared.fault.Fault.TheVariants.{WorldLimit, TaskLimit, NotTask}
+use Rattle.jl_program.specs.declared.fault.Fault.{Fault}
+use Rattle.jl_program.specs.declared.fault.Fault.TheVariants.{WorldLimit, TaskLimit, NotTask, NoSuchMethod}
 use Rattle.jl_program.specs.declared.tree.Expr.{Expr, out-Expr}
 use Rattle.jl_program.specs.declared.tree.Expr.TheOpen.{Item-F}
 use Rattle.jl_program.specs.declared.tree.Expr.TheOpen as F
@@ -31,16 +32,17 @@ use Rattle.jl_point.specs.declared.point.Now.{Now}
 use Rattle.jl_point.specs.Point.{value_at}
 use Rattle.jl_point.specs.Turns.{Point, answered, looked_item, start_of}
 use Rattle.jl_point.specs.ValidPoint.{Every, IsGoodPoint, AreValidValues}
-use Rattle.jl_calculus.specs.Core.{in_outcome}
-use Rattle.jl_point.proofs.AskedLemmas.{task_failed_valid, world_limit_valid, task_limit_valid, not_task_valid, ended_good, acted_good, acting_values, latest_good}
+use Rattle.jl_calculus.specs.Core.{in_fault, in_outcome}
+use Rattle.jl_calculus.specs.Run.{deleted_function}
+use Rattle.jl_point.proofs.AskedLemmas.{task_failed_valid, world_limit_valid, task_limit_valid, not_task_valid, no_such_method_valid, delete_there, ended_good, acted_good, acting_values, latest_good}
 use Rattle.jl_point.proofs.ValueTypes.{task_valid, nothing_valid}
 use Rattle.jl_point.proofs.ItemsKept.{item_bind_good, item_do_good, item_define_good, items_end, define_good}
-use Rattle.jl_dispatcher.specs.Knows.{Knows, Grew, Asked, Defined, WorldsFull, Spawned, TasksFull, Fetched, IsNotDone}
+use Rattle.jl_dispatcher.specs.Knows.{Knows, Grew, Asked, Defined, Deleted, IsAbsentNow, WorldsFull, Spawned, TasksFull, Fetched, IsNotDone}
 use Rattle.jl_fit.specs.Fits.{Fitting, IsKnowing, Steps, fetched_outcome}
 use Rattle.jl_fit.specs.Known.{IsKnown, IsFetchOf, known_tasks, Mentions, AllMention, StackMentions, PointMentions}
 use Rattle.jl_fit.proofs.KnowingSteps.{knows_on, knows_item, spawned_mentions}
 use Rattle.jl_fit.proofs.KnownLemmas.{nothing_mentions, task_mentions, task_is, looked_mentions, ended_mentions}
-use Rattle.jl_fit.proofs.Asking.{step_item, step_latest, step_made, step_worlds_full, step_spawned, step_tasks_full, step_fetched, step_refused, waits, IsNoTask}
+use Rattle.jl_fit.proofs.Asking.{step_item, step_latest, step_made, step_worlds_full, step_deleted, step_absent, step_deletion_full, step_spawned, step_tasks_full, step_fetched, step_refused, waits, IsNoTask}
 use Rattle.jl_fit.proofs.Turning.{step_end}
 use Rattle.jl_machine.specs.declared.now.LentNow.{LentNow}
 use Rattle.jl_machine.specs.declared.now.LentWork.{LentWork}
@@ -98,6 +100,15 @@ knows_plain k k' w t i p plain grew starts keeps =
     fetch_of (TaskFull p) h = tt
     fetch_of (Spawn child p) h = tt
     fetch_of (Fetch task o p) h = absurd h
+
+-- a step that ends the task with a fault which such an item tells, and which names no task
+lent_ends : (k k' : Knows) (w : Work) (t : Task) (i : TraceItem) (x : Fault) → IsPlain i → ((K : ℕ → Type 0) → Every K (in_fault x)) → Grew k k' → k'.starts ≡ k.starts → (work : LentWork) (trace : List TraceItem) (n : LentNow) → trace ≡ t.trace ++ i ∷ []
+    → Reaches work n (W.Ended (O.Error x), now_of t.now) → Steps k w (progress_of t) k' (W.Ended (O.Error x)) (record (progress_of t) { trace = t.trace ++ i ∷ [] }) → LentSteps k w t k' work (record t { trace = trace; now = n })
+lent_ends k k' w t i x plain named grew starts work trace n at r steps =
+    let S : List TraceItem → Type 0 = λ is. Steps k w (progress_of t) k' (W.Ended (O.Error x)) (record (progress_of t) { trace = is }) in
+    lent_is work k k' w t (record t { trace = trace }) n (W.Ended (O.Error x), now_of t.now) r (subst S (sym at) steps)
+    (subst (λ is. KnowsAt k w t k' (W.Ended (O.Error x), now_of t.now) (record t { trace = is })) (sym at)
+    (knows_plain k k' w t i (W.Ended (O.Error x), now_of t.now) plain grew starts (λ K m. ended_mentions K (now_of t.now) m.env m.stack (O.Error x) (named K))))
 
 -- the statements are done
 pub lent_end : (k : Knows) (t : Task) (fresh : Bool) (xs : List Item) → length xs < 1 → IsGiven t.now.frames → Fitting k (W.Items fresh xs (given_value t.now)) (progress_of t) → LentSteps k (W.Items fresh xs (given_value t.now)) t k L.Give t
@@ -157,12 +168,49 @@ module _ (k k' : Knows) (t : Task) (site : ℕ) (fresh : Bool) (xs : List Item) 
   pub lent_worlds_full : (work : LentWork) (trace : List TraceItem) (n : LentNow) → trace ≡ t.trace ++ WorldFull k'.seen ∷ [] → WorldsFull k k' → Reaches work n (W.Ended (O.Error WorldLimit), now_of t.now)
       → LentSteps k (W.Defining site fresh xs) t k' work (record t { trace = trace; now = n })
   lent_worlds_full work trace n at d r =
-      let S : List TraceItem → Type 0 = λ is. Steps k (W.Defining site fresh xs) (progress_of t) k' (W.Ended (O.Error WorldLimit)) (record (progress_of t) { trace = is }) in
-      lent_is work k k' (W.Defining site fresh xs) t (record t { trace = trace }) n (W.Ended (O.Error WorldLimit), now_of t.now) r
-      (subst S (sym at) (step_worlds_full k k' (progress_of t) site fresh xs grew h d
-      (ended_good k.program h.valid.views (W.Defining site fresh xs) (now_of t.now) (O.Error WorldLimit) h.good (world_limit_valid k.program))))
-      (subst (λ is. KnowsAt k (W.Defining site fresh xs) t k' (W.Ended (O.Error WorldLimit), now_of t.now) (record t { trace = is })) (sym at)
-      (knows_plain k k' (W.Defining site fresh xs) t (WorldFull k'.seen) (W.Ended (O.Error WorldLimit), now_of t.now) tt grew d.starts (λ K m. ended_mentions K (now_of t.now) m.env m.stack (O.Error WorldLimit) tt)))
+      lent_ends k k' (W.Defining site fresh xs) t (WorldFull k'.seen) WorldLimit tt (λ K. tt) grew d.starts work trace n at r
+      (step_worlds_full k k' (progress_of t) site fresh xs grew h d
+      (ended_good k.program h.valid.views (W.Defining site fresh xs) (now_of t.now) (O.Error WorldLimit) h.good (world_limit_valid k.program)))
+
+-- ---- deletions
+
+-- a deletion place is one of the program
+pub place_there : (k : Knows) (t : Task) (e : Expr) (place : ℕ) → out-Expr e ≡ F.Delete place → Fitting k (W.Acting e t.now.frames.open_values) (progress_of t) → place < length k.program.deletes
+place_there k t e place is h = delete_there k.program h.valid.views e place t.now.frames.open_values (now_of t.now) is h.good
+
+module _ (k k' : Knows) (t : Task) (e : Expr) (place : ℕ) (is : out-Expr e ≡ F.Delete place) (h : Fitting k (W.Acting e t.now.frames.open_values) (progress_of t)) where
+  abbrev us : List Value
+  us = t.now.frames.open_values
+
+  pub lent_deleted : (trace : List TraceItem) (frames : Held) → trace ≡ t.trace ++ Del place (k'.seen - 1) ∷ [] → frames ≡ with_open t.now.frames (V.Nothing ∷ []) → Grew k k' → Deleted k k' place
+      → Steps k (W.Acting e us) (progress_of t) k' (W.Give (first_value frames.open_values)) (progress_of (record t { trace = trace; now = record t.now { frames = frames } }))
+  lent_deleted trace frames at held grew d =
+      let S : List TraceItem × Held → Type 0 = λ q. Steps k (W.Acting e us) (progress_of t) k' (W.Give (first_value q.1.open_values)) (progress_of (record t { trace = q.0; now = record t.now { frames = q.1 } })) in
+      subst S (λ i. (sym at i, sym held i))
+      (step_deleted k k' (progress_of t) e place us is grew h d (acted_good k.program h.valid.views e us (now_of t.now) (O.Value V.Nothing) h.good (nothing_valid k.program)))
+
+  pub knows_deleted : (trace : List TraceItem) (frames : Held) → trace ≡ t.trace ++ Del place (k'.seen - 1) ∷ [] → frames ≡ with_open t.now.frames (V.Nothing ∷ []) → Grew k k' → Deleted k k' place
+      → KnowsOn k (W.Acting e us) t k' (W.Give (first_value frames.open_values)) (record t { trace = trace; now = record t.now { frames = frames } })
+  knows_deleted trace frames at held grew d =
+      let S : List TraceItem × Held → Type 0 = λ q. KnowsOn k (W.Acting e us) t k' (W.Give (first_value q.1.open_values)) (record t { trace = q.0; now = record t.now { frames = q.1 } }) in
+      subst S (λ i. (sym at i, sym held i))
+      (knows_plain k k' (W.Acting e us) t (Del place (k'.seen - 1)) (W.Give V.Nothing, now_of t.now) tt grew d.starts (λ K m. record { env = m.env; stack = m.stack; work = nothing_mentions K }))
+
+  pub lent_absent : (P : Program) (f : ℕ) (work : LentWork) (trace : List TraceItem) (n : LentNow) → P ≡ k.program → f ≡ deleted_function P place → trace ≡ t.trace ++ Absent place k'.seen ∷ [] → Grew k k' → IsAbsentNow k k' place
+      → Reaches work n (W.Ended (O.Error (NoSuchMethod f)), now_of t.now) → LentSteps k (W.Acting e us) t k' work (record t { trace = trace; now = n })
+  lent_absent P f work trace n eP eF at grew d r =
+      let x : Fault = NoSuchMethod (deleted_function k.program place) in
+      let named : f ≡ deleted_function k.program place = eF ∙ ap (λ Q. deleted_function Q place) eP in
+      lent_ends k k' (W.Acting e us) t (Absent place k'.seen) x tt (λ K. tt) grew d.starts work trace n at (subst (λ m. Reaches work n (W.Ended (O.Error (NoSuchMethod m)), now_of t.now)) named r)
+      (step_absent k k' (progress_of t) e place us is grew h d
+      (ended_good k.program h.valid.views (W.Acting e us) (now_of t.now) (O.Error x) h.good (no_such_method_valid k.program place h.valid (place_there k t e place is h))))
+
+  pub lent_deletion_full : (work : LentWork) (trace : List TraceItem) (n : LentNow) → trace ≡ t.trace ++ WorldFull k'.seen ∷ [] → Grew k k' → WorldsFull k k' → Reaches work n (W.Ended (O.Error WorldLimit), now_of t.now)
+      → LentSteps k (W.Acting e us) t k' work (record t { trace = trace; now = n })
+  lent_deletion_full work trace n at grew d r =
+      lent_ends k k' (W.Acting e us) t (WorldFull k'.seen) WorldLimit tt (λ K. tt) grew d.starts work trace n at r
+      (step_deletion_full k k' (progress_of t) e place us is grew h d
+      (ended_good k.program h.valid.views (W.Acting e us) (now_of t.now) (O.Error WorldLimit) h.good (world_limit_valid k.program)))
 
 -- ---- spawns
 
@@ -190,12 +238,9 @@ module _ (k k' : Knows) (t : Task) (e : Expr) (place : ℕ) (is : out-Expr e ≡
   pub lent_tasks_full : (work : LentWork) (trace : List TraceItem) (n : LentNow) → trace ≡ t.trace ++ TaskFull k'.seen ∷ [] → TasksFull k k' → Reaches work n (W.Ended (O.Error TaskLimit), now_of t.now)
       → LentSteps k (W.Acting e vs) t k' work (record t { trace = trace; now = n })
   lent_tasks_full work trace n at d r =
-      let S : List TraceItem → Type 0 = λ items. Steps k (W.Acting e vs) (progress_of t) k' (W.Ended (O.Error TaskLimit)) (record (progress_of t) { trace = items }) in
-      lent_is work k k' (W.Acting e vs) t (record t { trace = trace }) n (W.Ended (O.Error TaskLimit), now_of t.now) r
-      (subst S (sym at) (step_tasks_full k k' (progress_of t) e place vs is grew h d
-      (ended_good k.program h.valid.views (W.Acting e vs) (now_of t.now) (O.Error TaskLimit) h.good (task_limit_valid k.program))))
-      (subst (λ items. KnowsAt k (W.Acting e vs) t k' (W.Ended (O.Error TaskLimit), now_of t.now) (record t { trace = items })) (sym at)
-      (knows_plain k k' (W.Acting e vs) t (TaskFull k'.seen) (W.Ended (O.Error TaskLimit), now_of t.now) tt grew d.starts (λ K m. ended_mentions K (now_of t.now) m.env m.stack (O.Error TaskLimit) tt)))
+      lent_ends k k' (W.Acting e vs) t (TaskFull k'.seen) TaskLimit tt (λ K. tt) grew d.starts work trace n at r
+      (step_tasks_full k k' (progress_of t) e place vs is grew h d
+      (ended_good k.program h.valid.views (W.Acting e vs) (now_of t.now) (O.Error TaskLimit) h.good (task_limit_valid k.program)))
 
 -- the start that the code makes is that of a task that is spawned here
 start_is : (t : Task) (place : ℕ) (start : Start) (env : List Value) (types : List Ty) → env ≡ t.now.frames.env → types ≡ t.now.frames.bindings → start ≡ record { spawn = place; env = map datum env; bindings = types; world = t.now.world }

@@ -65,6 +65,7 @@ module _ (k : Knows) (w : Work) (t : Progress) where
   gets_layer e (F.Or a b) n g = g
   gets_layer e (F.Eval xs) n g = g
   gets_layer e (F.Spawn place) n g = g
+  gets_layer e (F.Delete place) n g = g
   gets_layer e (F.Fetch a) n g = g
   gets_layer e (F.Print ps line) n g = g
 

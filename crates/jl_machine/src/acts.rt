@@ -60,7 +60,8 @@ pub(crate) fn operate(
         ),
         Expr::Sub(left, right) => memo.test_order(alloc, ready, frames.bindings(), left, right),
         Expr::Int(_) | Expr::Bool(_) | Expr::Nothing | Expr::Local(_) => unreachable!(),
-        Expr::Call(_, _) | Expr::Latest(_, _) | Expr::Spawn(_) | Expr::Fetch(_) => unreachable!(),
+        Expr::Call(_, _) | Expr::Latest(_, _) => unreachable!(),
+        Expr::Spawn(_) | Expr::Delete(_) | Expr::Fetch(_) => unreachable!(),
         Expr::If(_, _, _) | Expr::And(_, _) | Expr::Or(_, _) => unreachable!(),
         Expr::Block(_) | Expr::Eval(_) | Expr::Print(_, _) => unreachable!(),
     }

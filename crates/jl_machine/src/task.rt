@@ -10,6 +10,7 @@ ghost use Rattle.jl_match.specs.KeptRow.{AreConcrete};
 ghost use Rattle.jl_program.specs.Meaning.{datum};
 ghost use Rattle.jl_program.specs.TypeOf.{type_of};
 ghost use Rattle.jl_frames.specs.Held.{IsOne, first_value};
+ghost use Rattle.jl_calculus.specs.Run.{deleted_function};
 ghost use Rattle.jl_point.specs.declared.point.Work.TheVariants as W;
 ghost use Rattle.jl_fit.specs.Fits.{looks_of, Fitting};
 ghost use Rattle.jl_machine.specs.Lent.{now_of, work_of, given_value, IsClosed, IsGiven, IsSettled, Reaches, after_answer};
@@ -20,7 +21,7 @@ ghost use Rattle.jl_machine.specs.Steps.{progress_of, LentSteps, Goes, HasLooked
 
 use crate::now::{LentNow, LentWork};
 use crate::{acts, turns};
-use jl_calculus::history::{DefineFault, FetchFault, Outcome, SpawnFault, TraceItem};
+use jl_calculus::history::{DefineFault, DeleteFault, FetchFault, Outcome, SpawnFault, TraceItem};
 use jl_dispatcher::{Dispatcher, Recall};
 use jl_host::HostOps;
 use jl_match::applies;
@@ -124,6 +125,14 @@ fn start_at(
         bindings,
         world,
     })
+}
+
+/// The function of which a deletion place deletes methods.
+fn deleted_function(ready: &Ready, place: u32) -> u32
+    requires { place < length ready.now.deletes }
+    ensures { result ≡ deleted_function ready.now place }
+{
+    ready.program().deletes.as_slice()[place as usize].function
 }
 
 /// The task that the first of these values is.
@@ -314,6 +323,43 @@ impl<'p> Task<'p> {
         }
     }
 
+    /// A deletion at a place is made, or it finds no method to delete.
+    #[inline(always)]
+    fn delete<D: Dispatcher>(
+        &mut self,
+        ready: &Ready,
+        with: &mut D,
+        expr: &'p Expr,
+        place: u32,
+    ) -> Result<LentWork<'p>, AllocError>
+        requires fits { Fitting (D.knows with.old) (W.Acting expr.now self.old.now.frames.open_values) (progress_of self.old) }
+        requires program { ready.now ≡ (D.knows with.old).program }
+        requires form { out-Expr expr.now ≡ F.Delete place }
+        requires settled { IsClosed self.old.now.frames }
+        ensures { IfOk result (λ work. LentSteps (D.knows with.old) (W.Acting expr.now self.old.now.frames.open_values) self.old (D.knows with.new) work self.new) }
+    {
+        match with.delete(place) {
+            Ok(_) => {
+                let at = with.seen() - 1;
+                self.trace.push(TraceItem::Del { place, at })?;
+                self.now.frames.push(Value::Nothing)?;
+                Ok(LentWork::Give)
+            }
+            Err(DeleteFault::NoSuchMethod) => {
+                let at = with.seen();
+                self.trace.push(TraceItem::Absent { place, at })?;
+                let function = deleted_function(ready, place);
+                Ok(turns::end(&mut self.now, Outcome::Error(Fault::NoSuchMethod(function))))
+            }
+            Err(DeleteFault::WorldLimit) => {
+                let at = with.seen();
+                self.trace.push(TraceItem::WorldFull { at })?;
+                Ok(turns::end(&mut self.now, Outcome::Error(Fault::WorldLimit)))
+            }
+            Err(DeleteFault::Memory) => Err(AllocError),
+        }
+    }
+
     /// A task is spawned at a place.
     #[inline(always)]
     fn spawn<D: Dispatcher>(
@@ -441,6 +487,7 @@ impl<'p> Task<'p> {
                 let world = self.look(with)?;
                 Ok(Next::Go(LentWork::Calling(*function, world)))
             }
+            Expr::Delete(place) => Ok(Next::Go(self.delete(ready, with, expr, *place)?)),
             Expr::Spawn(place) => Ok(Next::Go(self.spawn(with, expr, *place)?)),
             Expr::Fetch(_) => self.fetch(ready, with, expr),
             Expr::Make(_, _) | Expr::Infer(_, _) | Expr::Parts(_) | Expr::Field(_, _) => {

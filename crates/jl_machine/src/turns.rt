@@ -241,7 +241,7 @@ pub(crate) fn begin<'p>(now: &mut LentNow<'p>, expr: &'p Expr) -> Result<LentWor
             now.frames.wait_test(expr)?;
             Ok(LentWork::Eval(test.get()))
         }
-        Expr::Sub(_, _) | Expr::Spawn(_) => Ok(LentWork::Acting(expr)),
+        Expr::Sub(_, _) | Expr::Spawn(_) | Expr::Delete(_) => Ok(LentWork::Acting(expr)),
         Expr::Block(stmts) => {
             now.frames.wait_block()?;
             begin_stmts(now, stmts.as_slice())

@@ -288,6 +288,9 @@ fn base_call(is_call: bool, name: &[u8]) -> Opening
     if name == b"invokelatest".as_slice() {
         return Opening::Latest;
     }
+    if name == b"delete_method".as_slice() {
+        return Opening::Delete;
+    }
     Opening::Call
 }
 

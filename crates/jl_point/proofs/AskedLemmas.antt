@@ -1,5 +1,5 @@
 -- What holds at a point that asks: of the parts of a form that acts, of a call, and of the faults that end a task there.
-use Rattle.std.proofs.Common.{◌≡◌, ◌∙◌, refl, sym, subst, ℕ, ℤ, zero, suc, ◌<◌, ◌≤◌, arith, Bool, true, false, cond, IsTrue, List, [], ◌∷◌, map, length, get_or, Option, None, Some}
+use Rattle.std.proofs.Common.{◌≡◌, ◌∙◌, refl, sym, subst, ℕ, ℤ, zero, suc, ◌<◌, ◌≤◌, arith, Bool, true, false, cond, IsTrue, List, [], ◌∷◌, map, length, get_or, slice_get, Option, None, Some}
 use Rattle.std.specs.Prelude.{pos, int_div, int_rem}
 use Rattle.std.specs.Ordering.{int_eq}
 use Rattle.jl_model.specs.declared.limits.TheConstants.{MOST_ARGUMENTS}
@@ -18,19 +18,20 @@ use Rattle.jl_program.specs.declared.tree.Piece.{Piece}
 use Rattle.jl_program.specs.declared.tree.Stmt.{Stmt, out-Stmt}
 use Rattle.jl_program.specs.declared.tree.Expr.TheOpen.{Expr-F}
 use Rattle.jl_program.specs.declared.tree.Expr.TheOpen as F
+use Rattle.jl_program.specs.declared.tree.Delete.{Delete}
 use Rattle.jl_program.specs.declared.tree.Program.{Program}
 use Rattle.jl_program.specs.BodyTypes.{is_seen, is_made, is_inferable, IsAllowedType}
 use Rattle.jl_program.specs.Meaning.{datum}
 use Rattle.jl_program.specs.Prelude.{operation_of}
 use Rattle.jl_program.specs.Scope.{View, Scope, all_types}
 use Rattle.jl_program.specs.TypeOf.{type_of}
-use Rattle.jl_program.specs.Valid.{IsValid}
+use Rattle.jl_program.specs.Valid.{IsValidDelete, IsValid}
 use Rattle.jl_program.specs.ValidValue.{AllValid}
 use Rattle.jl_calculus.specs.declared.history.Outcome.{Outcome}
 use Rattle.jl_calculus.specs.declared.history.Outcome.TheVariants as R
 use Rattle.jl_calculus.specs.Host.{overflows, meaning, meaning_if}
 use Rattle.jl_calculus.specs.Legal.{IsKeyOf}
-use Rattle.jl_calculus.specs.Run.{number_of, operates}
+use Rattle.jl_calculus.specs.Run.{function_of_place, deleted_function, number_of, operates}
 use Rattle.jl_calculus.specs.ValidHistory.{IsValidFault, IsValidValue, IsValidOutcome}
 use Rattle.jl_calculus.specs.ValidStart.{IsStaticType, AreStatics}
 use Rattle.jl_point.specs.declared.point.Work.{Work}
@@ -39,8 +40,9 @@ use Rattle.jl_point.specs.declared.point.Frame.{Frame}
 use Rattle.jl_point.specs.declared.point.Frame.TheVariants.{AfterStmt, AfterItem}
 use Rattle.jl_point.specs.declared.point.Now.{Now}
 use Rattle.jl_point.specs.Turns.{Point, answered}
-use Rattle.jl_point.specs.ValidPoint.{parts_of, AreMany, IsInferred, HasScope, AreValidValues, Says, IsGoodAfterStmt, IsGoodAfterItem, AreGoodFrames, IsGoodPoint}
+use Rattle.jl_point.specs.ValidPoint.{Every, parts_of, AreMany, IsInferred, HasScope, AreValidValues, Says, IsGoodAfterStmt, IsGoodAfterItem, AreGoodFrames, IsGoodPoint}
 use Rattle.jl_point.proofs.GoodLayers.{says_of}
+use Rattle.jl_point.proofs.ProgramLemmas.{all_every}
 use Rattle.jl_point.proofs.TurnsKept.{answered_good}
 use Rattle.jl_point.proofs.ValueTypes.{int_valid, bool_valid, values_valid, type_is_known, types_are_known, key_of_call}
 
@@ -57,6 +59,11 @@ static_at ds (true ∷ usable) (t ∷ ts) zero h e = h.0
 static_at ds (false ∷ usable) (t ∷ ts) zero h e = cc
 static_at ds (true ∷ usable) (t ∷ ts) (suc i) h e = static_at ds usable ts i h.1 e
 static_at ds (false ∷ usable) (t ∷ ts) (suc i) h e = static_at ds usable ts i h e
+
+place_function : (P : Program) (ds : List Delete) (place : ℕ) → Every (IsValidDelete P) ds → place < length ds → function_of_place (slice_get ds place) < length P.functions
+place_function P [] place h l = absurd (omega (arith, l))
+place_function P (d ∷ ds) zero h l = h.0.function
+place_function P (d ∷ ds) (suc place) h l = place_function P ds place h.1 (omega (arith, l))
 
 module _ (P : Program) where
   -- ---- the faults of a task
@@ -88,6 +95,10 @@ module _ (P : Program) where
 
   pub task_limit_valid : IsValidFault P E.TaskLimit
   task_limit_valid = tt
+
+  -- the function of a deletion place is one of the program
+  pub no_such_method_valid : (place : ℕ) → IsValid P → place < length P.deletes → IsValidFault P (E.NoSuchMethod (deleted_function P place))
+  no_such_method_valid place v l = place_function P P.deletes place (all_every (IsValidDelete P) P.deletes v.deletes) l
 
   -- ---- the operations of the prelude
 
@@ -157,6 +168,10 @@ module _ (P : Program) (views : List View) where
   -- what a form that acted answers is given on
   pub acted_good : (e : Expr) (vs : List Value) (n : Now) (o : Outcome) → Good (Acting e vs, n) → IsValidOutcome P o → Good (answered o, n)
   acted_good e vs n o (s, a) h = answered_good P views o n s a.scope h a.waits
+
+  -- a deletion is at a place of the program
+  pub delete_there : (e : Expr) (place : ℕ) (vs : List Value) (n : Now) → out-Expr e ≡ F.Delete place → Good (Acting e vs, n) → place < length P.deletes
+  delete_there e place vs n h (s, a) = says_of P views e (F.Delete place) s h a.work.0
 
   -- ---- calls
 

@@ -16,7 +16,7 @@ use Rattle.jl_program.specs.Scope.{all_types}
 use Rattle.jl_point.specs.declared.point.Work.TheVariants.{Acting, Items, Defining}
 use Rattle.jl_point.specs.declared.point.Now.{Now}
 use Rattle.jl_calculus.specs.Answers.{Answer, IsSingle}
-use Rattle.jl_calculus.specs.Run.{a_look, a_definition, a_spawn, a_fetch, Setting, State, with_scope, with_left, binds, Then, Caller, answers, operation_runs, looks, defines, spawns, fetches, runs, runs_item, runs_piece, runs_stmt, item_runs, calls}
+use Rattle.jl_calculus.specs.Run.{a_look, a_definition, a_deletion, a_spawn, a_fetch, Setting, State, with_scope, with_left, binds, Then, Caller, answers, operation_runs, looks, defines, deletes, spawns, fetches, runs, runs_item, runs_piece, runs_stmt, item_runs, calls}
 use Rattle.jl_point.specs.Turns.{scoped, begun_item, looked_item, answered}
 use Rattle.jl_point.specs.Point.{acts_layer, items_left, after_item_runs, gives, leaves, state_of, Finishes}
 use Rattle.jl_point.specs.Operated.{operation_of}
@@ -121,6 +121,7 @@ module _ (g : Setting) (Ends : Outcome → State → Type 0) (made : ℕ) (start
   operated_layer (F.Block xs) vs o rest single is = absurd is
   operated_layer (F.Eval xs) vs o rest single is = absurd is
   operated_layer (F.Spawn place) vs o rest single is = absurd is
+  operated_layer (F.Delete place) vs o rest single is = absurd is
   operated_layer (F.Fetch a) vs o rest single is = absurd is
   operated_layer (F.Print ps line) vs o rest single is = absurd is
 
@@ -141,7 +142,7 @@ module _ (g : Setting) (Ends : Outcome → State → Type 0) where
   goes_look (Del at_place q ∷ left) s after h = absurd h
   goes_look (Absent at_place q ∷ left) s after h = absurd h
 
-  -- likewise a definition, a spawn and a fetch
+  -- likewise a definition, a deletion, a spawn and a fetch
   pub goes_definition : (left : List TraceItem) (site : ℕ) (s : State) (after : State → Type 0) → defines g Ends left site s after → GoesOnFrom g.until (a_definition site) left
   goes_definition [] site s after h = h
   goes_definition (Def made q ∷ left) site s after h = h.0
@@ -152,6 +153,17 @@ module _ (g : Setting) (Ends : Outcome → State → Type 0) where
   goes_definition (TaskFull q ∷ left) site s after h = absurd h
   goes_definition (Del at_place q ∷ left) site s after h = absurd h
   goes_definition (Absent at_place q ∷ left) site s after h = absurd h
+
+  pub goes_deletion : (left : List TraceItem) (place : ℕ) (s : State) (after : State → Type 0) → deletes g Ends left place s after → GoesOnFrom g.until (a_deletion place) left
+  goes_deletion [] place s after h = h
+  goes_deletion (Del made q ∷ left) place s after h = h.0
+  goes_deletion (Absent made q ∷ left) place s after h = h.0
+  goes_deletion (WorldFull q ∷ left) place s after h = tt
+  goes_deletion (Look v q ∷ left) place s after h = absurd h
+  goes_deletion (Def made q ∷ left) place s after h = absurd h
+  goes_deletion (Spawn c q ∷ left) place s after h = absurd h
+  goes_deletion (Fetch c o q ∷ left) place s after h = absurd h
+  goes_deletion (TaskFull q ∷ left) place s after h = absurd h
 
   pub goes_spawn : (left : List TraceItem) (start : Start) (s : State) (after : Then) → spawns g Ends left start s after → GoesOnFrom g.until (a_spawn start) left
   goes_spawn [] start s after h = h

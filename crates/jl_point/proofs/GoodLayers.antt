@@ -221,6 +221,7 @@ module _ (P : Program) (views : List View) where
       let w = both_true (nat_le s.least place) (same_view (get_or views place nothing_seen) s.view) v.1 in
       let near : place < length views = grind (arith, v.0) in
       (near, view_same (get_or views place nothing_seen) s.view w.1)
+  layer_says (F.Delete place) s h c = grind (arith, h)
   layer_says (F.Fetch x) s h c = record { valid = h; clean = c }
   layer_says (F.Print ps line) s h c = pieces_are_good ps s h c
 

@@ -57,6 +57,7 @@ module _ (most : ℕ) where
   begins e (F.Block xs) n h = record { worlds = λ w ws. record { world = w; waiting = ws; called = tt }; light = omega arith }
   begins e (F.Eval xs) n h = record { worlds = λ w ws. record { world = w; waiting = ws; called = tt }; light = omega arith }
   begins e (F.Spawn place) n h = record { worlds = λ w ws. record { world = w; waiting = ws; called = tt }; light = omega arith }
+  begins e (F.Delete place) n h = record { worlds = λ w ws. record { world = w; waiting = ws; called = tt }; light = omega arith }
   begins e (F.Fetch a) n h = record { worlds = λ w ws. record { world = w; waiting = ws; called = tt }; light = omega arith }
   begins e (F.Print ps line) n h = record { worlds = λ w ws. record { world = w; waiting = ws; called = tt }; light = omega arith }
 
@@ -106,6 +107,7 @@ module _ (most : ℕ) where
   branch_lighter (F.Block xs) t n = record { worlds = λ w ws. record { world = w; waiting = ws; called = tt }; light = omega arith }
   branch_lighter (F.Eval xs) t n = record { worlds = λ w ws. record { world = w; waiting = ws; called = tt }; light = omega arith }
   branch_lighter (F.Spawn place) t n = record { worlds = λ w ws. record { world = w; waiting = ws; called = tt }; light = omega arith }
+  branch_lighter (F.Delete place) t n = record { worlds = λ w ws. record { world = w; waiting = ws; called = tt }; light = omega arith }
   branch_lighter (F.Fetch a) t n = record { worlds = λ w ws. record { world = w; waiting = ws; called = tt }; light = omega arith }
   branch_lighter (F.Print xs line) t n = record { worlds = λ w ws. record { world = w; waiting = ws; called = tt }; light = omega arith }
 

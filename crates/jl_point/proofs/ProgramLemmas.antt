@@ -19,7 +19,7 @@ use Rattle.jl_point.proofs.GoodLayers.{both_true, clean_split, turns_are_good}
 
 -- ---- each of a list
 
-all_every : {X : Type 0} (A : X → Type 0) (xs : List X) → All A xs → Every A xs
+pub all_every : {X : Type 0} (A : X → Type 0) (xs : List X) → All A xs → Every A xs
 all_every A [] h = tt
 all_every A (x ∷ xs) h = (All-head A x xs h, all_every A xs (All-tail A x xs h))
 

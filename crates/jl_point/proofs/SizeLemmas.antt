@@ -136,6 +136,7 @@ expr_layer_few (F.Or a b) = two_parts _ _ _ _ a.1 b.1
 expr_layer_few (F.Block xs) = four _ _ (each_few stmt_weight stmt_size xs)
 expr_layer_few (F.Eval xs) = four _ _ (each_few item_weight item_size xs)
 expr_layer_few (F.Spawn place) = omega arith
+expr_layer_few (F.Delete place) = omega arith
 expr_layer_few (F.Fetch x) = four _ _ x.1
 expr_layer_few (F.Print ps line) = three _ _ (each_few piece_weight piece_size ps)
 

@@ -90,6 +90,7 @@ module _ (g : Setting) (Ends : Outcome → State → Type 0) (made : ℕ) (start
     layer_same e (F.Block xs) h = refl
     layer_same e (F.Eval xs) h = eval_same e xs
     layer_same e (F.Spawn place) h = ap (λ y. acting y [] s) h
+    layer_same e (F.Delete place) h = ap (λ y. acting y [] s) h
     layer_same e (F.Fetch a) h = ap (λ y. runs g Ends called a n.world s back (λ v s1. acting y (v ∷ []) s1)) h
     layer_same e (F.Print xs line) h = refl
 
@@ -140,6 +141,7 @@ module _ (g : Setting) (Ends : Outcome → State → Type 0) (made : ℕ) (start
     branch_same (F.Block xs) t = refl
     branch_same (F.Eval xs) t = refl
     branch_same (F.Spawn place) t = refl
+    branch_same (F.Delete place) t = refl
     branch_same (F.Fetch a) t = refl
     branch_same (F.Print xs line) t = refl
 

@@ -90,6 +90,7 @@ module _ (P : Program) (views : List View) where
   layer_begun e (F.Eval xs) n s h g y c k =
       (evaluated s, record { scope = record { slots = refl; values = none; statics = tt }; work = (y, nothing_valid P); waits = λ t. (s, c, k) })
   layer_begun e (F.Spawn place) n s h g y c k = (s, record { scope = c; work = (g, tt, acts_on e (F.Spawn place) 0 h refl); waits = k })
+  layer_begun e (F.Delete place) n s h g y c k = (s, record { scope = c; work = (g, tt, acts_on e (F.Delete place) 0 h refl); waits = k })
   layer_begun e (F.Fetch a) n s h g y c k = first_part e a [] n s c g y tt (acts_on e (F.Fetch a) 1 h refl) k
   layer_begun e (F.Print ps line) n s h g y c k = (s, record { scope = c; work = y; waits = k })
 
@@ -173,6 +174,7 @@ module _ (P : Program) (views : List View) where
     branch_good (F.Block xs) t n s c g k = absurd g
     branch_good (F.Eval xs) t n s c g k = absurd g
     branch_good (F.Spawn place) t n s c g k = absurd g
+    branch_good (F.Delete place) t n s c g k = absurd g
     branch_good (F.Fetch a) t n s c g k = absurd g
     branch_good (F.Print xs line) t n s c g k = absurd g
 

@@ -20,7 +20,7 @@ use Rattle.jl_point.specs.declared.point.Now.{Now}
 use Rattle.jl_program.specs.Scope.{all_types}
 use Rattle.jl_program.specs.Text.{value_text}
 use Rattle.jl_calculus.specs.Operations.{field_of, part_of, make_tuple, make_written, make_inferred, test_type, test_order, test_same}
-use Rattle.jl_calculus.specs.Run.{Setting, State, with_scope, with_env, binds, start_at, prints, newline, Then, ItemRuns, PieceRuns, either, decides, answers, operation_runs, spawns, fetches_value, looks, each_runs, stmts_run, texts_run, items_run, defines, runs, runs_stmt, runs_item, runs_piece, calls}
+use Rattle.jl_calculus.specs.Run.{Setting, State, with_scope, with_env, binds, start_at, prints, newline, Then, ItemRuns, PieceRuns, either, decides, answers, operation_runs, spawns, fetches_value, looks, each_runs, stmts_run, texts_run, items_run, defines, deletes, runs, runs_stmt, runs_item, runs_piece, calls}
 use Rattle.jl_point.specs.Turns.{Point}
 
 -- a part that is there
@@ -55,6 +55,7 @@ module _ (g : Setting) (Ends : Outcome → State → Type 0) where
   acts_layer (F.Isa a t) vs w k s next = operation_runs g Ends (test_type (all_types g.program) s.bindings (value_at vs 0) t) s next
   acts_layer (F.Sub t u) vs w k s next = operation_runs g Ends (test_order (all_types g.program) s.bindings t u) s next
   acts_layer (F.Spawn place) vs w k s next = spawns g Ends s.left (start_at place w s) s next
+  acts_layer (F.Delete place) vs w k s next = deletes g Ends s.left place s (λ s1. next V.Nothing s1)
   acts_layer (F.Fetch a) vs w k s next = fetches_value g Ends (value_at vs 0) s next
   acts_layer (F.Int n) vs w k s next = ⊥
   acts_layer (F.Bool b) vs w k s next = ⊥

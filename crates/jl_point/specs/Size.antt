@@ -31,6 +31,7 @@ parts_size (F.Or a b) = a + b
 parts_size (F.Block xs) = total xs
 parts_size (F.Eval xs) = total xs
 parts_size (F.Spawn place) = 0
+parts_size (F.Delete place) = 0
 parts_size (F.Fetch x) = x
 parts_size (F.Print ps line) = total ps
 

@@ -79,6 +79,7 @@ begun_layer e (F.Or a b) n = pushes a (Testing e) n
 begun_layer e (F.Block xs) n = (Stmts xs V.Nothing, record n { stack = Block n.env ∷ n.stack })
 begun_layer e (F.Eval xs) n = (Items true xs V.Nothing, record n { env = []; bindings = []; stack = Evaluated n.env n.bindings ∷ n.stack })
 begun_layer e (F.Spawn place) n = (Acting e [], n)
+begun_layer e (F.Delete place) n = (Acting e [], n)
 begun_layer e (F.Fetch a) n = pushes a (Args e [] []) n
 begun_layer e (F.Print ps line) n = (Pieces [] ps line, n)
 

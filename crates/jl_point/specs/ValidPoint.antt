@@ -47,6 +47,7 @@ parts_of (F.Egal a b negated) = Some (a ∷ b ∷ [])
 parts_of (F.Isa a t) = Some (a ∷ [])
 parts_of (F.Sub t u) = Some []
 parts_of (F.Spawn place) = Some []
+parts_of (F.Delete place) = Some []
 parts_of (F.Fetch a) = Some (a ∷ [])
 parts_of (F.Int n) = None
 parts_of (F.Bool b) = None
@@ -160,6 +161,7 @@ module _ (P : Program) (views : List View) where
   Says (F.Block xs) s = AreGoodStmts xs s
   Says (F.Eval xs) s = AreGoodItems true xs s
   Says (F.Spawn place) s = (place < length views) × (get_or views place nothing_seen ≡ s.view)
+  Says (F.Delete place) s = place < length P.deletes
   Says (F.Fetch a) s = IsGood a s
   Says (F.Print ps line) s = AreGoodPieces ps s
 

@@ -38,6 +38,7 @@ expr_weight_step (F.Or a b) = 2 + (a + b)
 expr_weight_step (F.Block xs) = 4 + total xs
 expr_weight_step (F.Eval xs) = 4 + total xs
 expr_weight_step (F.Spawn place) = 4
+expr_weight_step (F.Delete place) = 4
 expr_weight_step (F.Fetch a) = 4 + a
 expr_weight_step (F.Print ps line) = 3 + total ps
 

@@ -1,16 +1,18 @@
 -- Special forms, statements and methods, printed anew.
-use Rattle.std.proofs.Common.{◌≡◌, ℕ, ◌≤◌, Bool, true, false, codes, List, [], ◌∷◌, ◌++◌, map, refl, sym, ap, ◌∙◌, subst, arith}
+use Rattle.std.proofs.Common.{◌≡◌, ℕ, ◌≤◌, Bool, true, false, codes, List, [], ◌∷◌, ◌++◌, map, refl, sym, ap, ◌∙◌, subst, append_assoc, arith}
 use Rattle.std.proofs.lemmas.List.{append-nil}
 use Rattle.jl_token.specs.declared.token.Operator.TheVariants as o
 use Rattle.jl_typeread.specs.declared.terminal.Terminal.{Terminal}
 use Rattle.jl_typeread.specs.declared.terminal.Terminal.TheVariants as S
 use Rattle.jl_typeread.specs.declared.terminal.Word.TheVariants as w
+use Rattle.jl_typeread.specs.declared.tree.TypeText.{TypeText}
 use Rattle.jl_grammar.specs.declared.mark.Opening.TheVariants as O
 use Rattle.jl_grammar.specs.declared.state.Called.TheVariants as C
 use Rattle.jl_grammar.specs.declared.state.Form.{Form}
 use Rattle.jl_grammar.specs.declared.state.Forms.{Forms}
 use Rattle.jl_grammar.specs.declared.tree.Callee.{Callee}
 use Rattle.jl_grammar.specs.declared.tree.Expr.{Expr}
+use Rattle.jl_grammar.specs.declared.tree.Expr.TheVariants as XV
 use Rattle.jl_grammar.specs.declared.tree.Piece.{Piece}
 use Rattle.jl_grammar.specs.declared.tree.Stmt.{Stmt}
 use Rattle.jl_grammar.specs.declared.tree.Stmt.TheVariants as SV
@@ -19,14 +21,15 @@ use Rattle.jl_grammar.specs.Forms as M
 use Rattle.jl_grammar.specs.Grammar as GR
 use Rattle.jl_grammar.specs.Grammar.{place}
 use Rattle.jl_grammar.specs.Texts.{Text, Spot, tok, opr, wrd, nam, name_in, is_left_type, is_stmt_start, is_stmt_terminal, IsPrint}
-use Rattle.jl_print.specs.Printed.{join, join_more, print_name, expr_terminals, piece_terminals, stmt_terminals, callee_terminals}
+use Rattle.jl_grammar.specs.Types.{type_as_read, IsType}
+use Rattle.jl_print.specs.Printed.{join, join_more, print_name, which_terminals, type_terminals, expr_terminals, piece_terminals, stmt_terminals, callee_terminals}
 use Rattle.jl_print.specs.Placeless.{same_expr, same_piece, same_stmt, same_callee}
 use Rattle.jl_print.proofs.AgainAtoms.{ExprsReplay, same_type_mark, same_opening, same_IsPrint}
 use Rattle.jl_print.proofs.AgainChains.{ExprReplay}
-use Rattle.jl_print.proofs.AgainFree.{free_replay}
+use Rattle.jl_print.proofs.AgainFree.{free_replay, type_free}
 use Rattle.jl_print.proofs.AgainHeads.{LikeCallee, callee_free}
-use Rattle.jl_print.proofs.AgainLikes.{LikeExpr, LikeForms, expr_form_like, made_terminals}
-use Rattle.jl_print.proofs.Laid.{Headed, Replay, replay_two, replay_infix, replay_cons, replay_within, replay_as, replay_one, replay_empty, replay_printed, replay_tokens}
+use Rattle.jl_print.proofs.AgainLikes.{LikeExpr, LikeForms, LikeType, expr_form_like, made_terminals, depth_around_fits, type_as_read_depth, type_as_read_tree, type_as_read_same}
+use Rattle.jl_print.proofs.Laid.{Headed, Replay, replay_two, replay_infix, replay_cons, replay_within, replay_as, replay_one, replay_empty, replay_printed, replay_text, replay_tokens}
 use Rattle.jl_print.proofs.ListTerminals.{HasSome}
 use Rattle.jl_print.proofs.TreeTerminals as T
 use Rattle.jl_print.proofs.Wholes.{round}
@@ -107,6 +110,54 @@ latest_again {h} r b f es p q s v y z ts us is nt c fits some g =
       like = expr_form_like _ _ _ _ _ _ fits (ap M.depth_around m.1.1)
           (T.expr_latest_same a.0.at y.0 y.1.trees ∙ ap (λ x. E.Latest 0 x (map same_expr y.1.trees)) m.0 ∙ ap (E.Latest 0 (same_callee f)) m.1.0 ∙ sym (T.expr_latest_same p.at f es.trees));
     }))
+
+-- ---- `Base.delete_method`
+
+-- a function and a type behind a comma
+abbrev Named : List ℕ → Spot × TypeText → Text → Type 0
+Named f z l = (q : Spot) × (ps : Text) × (l ≡ nam f z.0 ∷ opr o.Comma q ∷ ps) × IsType z.1 ps
+
+-- the same in the parentheses of `which`
+abbrev Which : List ℕ → Spot × TypeText → Text → Type 0
+Which f z l = (j : Spot) × (i : Spot) × (q : Spot) × (k : Spot) × (ps : Text) × (l ≡ nam (codes "which") j ∷ opr o.OpenParen i ∷ (nam f z.0 ∷ opr o.Comma q ∷ ps) ++ opr o.CloseParen k ∷ []) × IsType z.1 ps
+
+abbrev LikeNamed : Spot × TypeText → Spot × TypeText → Type 0
+LikeNamed y z = LikeType y.1 z.1
+
+which_again : {h : ℕ → ℕ} (f : List ℕ) (t : TypeText) (x y z w k : Spot) (ts : Text) → IsType t ts
+    → Replay (Which f) LikeNamed h (z, t) (nam (codes "which") x ∷ opr o.OpenParen y ∷ (nam f z ∷ opr o.Comma w ∷ ts) ++ opr o.CloseParen k ∷ []) (which_terminals f (type_terminals t))
+which_again {h} f t x y z w k ts d =
+    replay_cons {P = Held (Named f)} {R = LikeNamed} {Q = Which f} {RQ = LikeNamed} (S.Name (codes "which")) x (z, t) refl
+    (held {P = Named f} {R = LikeNamed} y k (replay_two {Q = Named f} {RQ = LikeNamed} (z, t) (replay_tokens h (S.Name f) (S.Operator o.Comma ∷ []) (refl, (refl, tt)) (z, (w, tt))) (free_replay (type_free h t ts d))
+    (λ a b ps qs e g l m u v. record { tree = (a.0, b); derives = (a.1.0, qs, ap (λ i. i ++ qs) e, g); like = m })))
+    (λ j a ps same e l g. record {
+      tree = a;
+      derives = (j, e.0, e.4.0, e.1, e.4.1, ap (λ i. nam (codes "which") j ∷ i) (e.3 ∙ ap (λ i. opr o.OpenParen e.0 ∷ i ++ opr o.CloseParen e.1 ∷ []) e.4.2), e.4.3);
+      like = l;
+    })
+
+pub delete_again : {h : ℕ → ℕ} (r b : Bool) (f : List ℕ) (t : TypeText) (p q s v x y z w k l : Spot) (ts : Text) → p.marks.opening ≡ O.Delete → is_left_type b p.marks.ahead ≡ false → IsType t ts
+    → (M.delete_expr p.at (name_in f z) (type_as_read t)).depth ≤ 500
+    → ExprReplay (GR.Atom r false b) h (M.delete_expr p.at (name_in f z) (type_as_read t))
+    ((nam (codes "Base") p ∷ opr o.Dot q ∷ nam (codes "delete_method") s ∷ opr o.OpenParen v ∷ nam (codes "which") x ∷ opr o.OpenParen y ∷ nam f z ∷ opr o.Comma w ∷ ts) ++ opr o.CloseParen k ∷ opr o.CloseParen l ∷ [])
+delete_again {h} r b f t p q s v x y z w k l ts is nt c fits =
+    let deep : (type_as_read t).depth ≤ 500 = depth_around_fits (type_as_read t).depth fits in
+    replay_text _ _ (ap (λ u. nam (codes "Base") p ∷ opr o.Dot q ∷ nam (codes "delete_method") s ∷ opr o.OpenParen v ∷ nam (codes "which") x ∷ opr o.OpenParen y ∷ nam f z ∷ opr o.Comma w ∷ u)
+    (append_assoc ts (opr o.CloseParen k ∷ []) (opr o.CloseParen l ∷ [])))
+    (replay_printed _ _ (made_terminals p.at (M.depth_around (type_as_read t).depth) (XV.Delete p.at (name_in f z) (type_as_read t).tree) _ fits
+    (T.expr_delete_terminals p.at (name_in f z) (type_as_read t).tree
+    ∙ ap (λ u. S.Name (codes "Base") ∷ S.Operator o.Dot ∷ S.Name (codes "delete_method") ∷ S.Operator o.OpenParen ∷ (which_terminals f (type_terminals u) ++ S.Operator o.CloseParen ∷ [])) (type_as_read_tree t deep)))
+    (replay_two (M.delete_expr p.at (name_in f z) (type_as_read t)) (replay_tokens h (S.Name (codes "Base")) (S.Operator o.Dot ∷ S.Name (codes "delete_method") ∷ []) (refl, (refl, (refl, tt))) (p, (q, (s, tt))))
+    (held {P = Which f} {R = LikeNamed} v l (which_again f t x y z w k ts c))
+    (λ a i ps qs d e g m u n. record {
+      tree = M.delete_expr a.0.at (name_in f i.0) (type_as_read i.1);
+      derives = subst (λ j. GR.Atom r false b (M.delete_expr a.0.at (name_in f i.0) (type_as_read i.1)) j)
+          (sym (ap (λ j. j ++ qs) d ∙ ap (λ j. nam (codes "Base") a.0 ∷ opr o.Dot a.1.0 ∷ nam (codes "delete_method") a.1.1.0 ∷ j) (e.3 ∙ ap (λ j. opr o.OpenParen e.0 ∷ j ++ opr o.CloseParen e.1 ∷ []) e.4.5
+          ∙ ap (λ j. opr o.OpenParen e.0 ∷ nam (codes "which") e.4.0 ∷ opr o.OpenParen e.4.1 ∷ nam f i.0 ∷ opr o.Comma e.4.2 ∷ j) (append_assoc e.4.4 (opr o.CloseParen e.4.3 ∷ []) (opr o.CloseParen e.1 ∷ [])))))
+          (GR.delete r b (codes "Base") (codes "delete_method") f i.1 a.0 a.1.0 a.1.1.0 e.0 e.4.0 e.4.1 i.0 e.4.2 e.4.3 e.1 e.4.4 (same_opening O.Delete a.0 p g.0 is) (same_type_mark b a.0 p g.0 nt) e.4.6);
+      like = expr_form_like _ _ _ _ _ _ fits (ap M.depth_around (type_as_read_depth i.1 t m.depth))
+          (T.expr_delete_same a.0.at (name_in f i.0) (type_as_read i.1).tree ∙ ap (XV.Delete 0 (record { at = 0; bytes = f })) (type_as_read_same i.1 t m deep) ∙ sym (T.expr_delete_same p.at (name_in f z) (type_as_read t).tree));
+    })))
 
 -- ---- pieces and `print`
 

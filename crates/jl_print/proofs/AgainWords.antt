@@ -25,6 +25,10 @@ abbrev is_latest : Opening → Bool
 is_latest O.Latest = true
 is_latest x = false
 
+abbrev is_delete : Opening → Bool
+is_delete O.Delete = true
+is_delete x = false
+
 abbrev is_spawn : Opening → Bool
 is_spawn O.Spawn = true
 is_spawn x = false
@@ -82,16 +86,32 @@ print-by x n l e p = absurd p
 pub print_word : (n : List ℕ) (l : Bool) → IsPrint (named_call n) l → n ≡ print_name l
 print_word n l p = print-by (named_call n) n l refl p
 
-latest-first : (a b c : Bool) → is_latest (cond a (cond b O.Latest O.Call) (cond c O.Plain O.Plain)) ≡ true → (a ≡ true) × (b ≡ true)
-latest-first true true c e = (refl, refl)
-latest-first true false c e = absurd cc
-latest-first false b true e = absurd cc
-latest-first false b false e = absurd cc
+abbrev dotted_by : Bool → Bool → Bool → Bool → Opening
+dotted_by a b c d = cond a (cond b O.Latest (cond c O.Delete O.Call)) (cond d O.Plain O.Plain)
+
+latest-first : (a b c d : Bool) → is_latest (dotted_by a b c d) ≡ true → (a ≡ true) × (b ≡ true)
+latest-first true true c d e = (refl, refl)
+latest-first true false true d e = absurd cc
+latest-first true false false d e = absurd cc
+latest-first false b c true e = absurd cc
+latest-first false b c false e = absurd cc
+
+delete-first : (a b c d : Bool) → is_delete (dotted_by a b c d) ≡ true → (a ≡ true) × (c ≡ true)
+delete-first true true c d e = absurd cc
+delete-first true false true d e = (refl, refl)
+delete-first true false false d e = absurd cc
+delete-first false b c true e = absurd cc
+delete-first false b c false e = absurd cc
 
 pub latest_words : (n m : List ℕ) (ss : List Terminal) → opening (S.Name n ∷ S.Operator o.Dot ∷ S.Name m ∷ S.Operator o.OpenParen ∷ ss) ≡ O.Latest → (n ≡ codes "Base") × (m ≡ codes "invokelatest")
 latest_words n m ss e =
-    let both = latest-first (is_base n) (bytes_eq m (codes "invokelatest")) (bytes_eq n (codes "Threads")) (ap is_latest e) in
+    let both = latest-first (is_base n) (bytes_eq m (codes "invokelatest")) (bytes_eq m (codes "delete_method")) (bytes_eq n (codes "Threads")) (ap is_latest e) in
     (same_bytes n (codes "Base") both.0, same_bytes m (codes "invokelatest") both.1)
+
+pub delete_words : (n m : List ℕ) (ss : List Terminal) → opening (S.Name n ∷ S.Operator o.Dot ∷ S.Name m ∷ S.Operator o.OpenParen ∷ ss) ≡ O.Delete → (n ≡ codes "Base") × (m ≡ codes "delete_method")
+delete_words n m ss e =
+    let both = delete-first (is_base n) (bytes_eq m (codes "invokelatest")) (bytes_eq m (codes "delete_method")) (bytes_eq n (codes "Threads")) (ap is_delete e) in
+    (same_bytes n (codes "Base") both.0, same_bytes m (codes "delete_method") both.1)
 
 spawn-first : (a b c : Bool) → is_spawn (cond a O.Plain (cond b (cond c O.Spawn O.Plain) O.Plain)) ≡ true → (b ≡ true) × (c ≡ true)
 spawn-first true b c e = absurd cc

@@ -24,7 +24,7 @@ use Rattle.jl_grammar.specs.Forms as M
 use Rattle.jl_grammar.specs.Grammar as GR
 use Rattle.jl_grammar.specs.Grammar.{place}
 use Rattle.jl_grammar.specs.Marks.{mate_of, opening, marks_of}
-use Rattle.jl_grammar.specs.Texts.{Text, Spot, tok, opr, wrd, nam, lexemes, IsPrint}
+use Rattle.jl_grammar.specs.Texts.{Text, Spot, tok, opr, wrd, nam, lexemes, IsPrint, name_in}
 use Rattle.jl_grammar.specs.Types.{type_as_read}
 use Rattle.jl_print.specs.Printed.{infix_terminal, prefix_terminal, expr_terminals, eval_terminals, stmt_terminals, in_parens}
 use Rattle.jl_print.specs.Placeless.{same_eval, same_stmt, same_expr}
@@ -42,7 +42,7 @@ use Rattle.jl_print.proofs.AgainMethods as A5
 use Rattle.jl_print.proofs.AgainMethods.{MethodReplay, EvalReplay, EvalsAgain, PieceAgain}
 use Rattle.jl_print.proofs.AgainRows as A6
 use Rattle.jl_print.proofs.AgainRows.{BeforeAgain, AfterAgain}
-use Rattle.jl_print.proofs.AgainWords.{quote_word, fetch_word, print_word, latest_words, spawn_words}
+use Rattle.jl_print.proofs.AgainWords.{quote_word, fetch_word, print_word, latest_words, delete_words, spawn_words}
 use Rattle.jl_print.proofs.Laid.{seen, Right, right-append, Replay}
 use Rattle.jl_print.proofs.ListTerminals.{HasSome, some_one, some_more, some_map}
 use Rattle.jl_print.proofs.WholeTexts.{Opened, whole_branches, whole_block, whole_eval_block, whole_head}
@@ -170,6 +170,13 @@ module _ (h : ℕ → ℕ) where
         subst (λ i. ExprReplay (GR.Atom r false b) h (M.call_expr p.at (C.Latest f) es) (((nam i p ∷ opr o.Dot q ∷ nam k s ∷ opr o.OpenParen v ∷ ts) ++ opr o.Comma j ∷ us) ++ opr o.CloseParen z ∷ [])) (sym y.0)
         (subst (λ i. ExprReplay (GR.Atom r false b) h (M.call_expr p.at (C.Latest f) es) (((nam (codes "Base") p ∷ opr o.Dot q ∷ nam i s ∷ opr o.OpenParen v ∷ ts) ++ opr o.Comma j ∷ us) ++ opr o.CloseParen z ∷ [])) (sym y.1)
         (A4.latest_again r b f es p q s v j z ts us is nt c l (some_map expr_terminals es.trees (arguments-some r es us d)) (again_arguments r es us d _ x.1.1 (depth_around_fits es.depth l))))
+    again_atom _ _ _ _ _ (GR.delete r b n k f t p q s v x y z w i j ts is nt d) rest m l =
+        let g = delete_words n k (S.Name (codes "which") ∷ S.Operator o.OpenParen ∷ S.Name f ∷ S.Operator o.Comma ∷ seen (ts ++ opr o.CloseParen i ∷ opr o.CloseParen j ∷ []) ++ rest) (marked-as O.Delete p.marks (S.Name n ∷ S.Operator o.Dot ∷ S.Name k ∷ S.Operator o.OpenParen
+        ∷ S.Name (codes "which") ∷ S.Operator o.OpenParen ∷ S.Name f ∷ S.Operator o.Comma ∷ seen (ts ++ opr o.CloseParen i ∷ opr o.CloseParen j ∷ []) ++ rest) m.0 is) in
+        let us : Text = opr o.OpenParen v ∷ nam (codes "which") x ∷ opr o.OpenParen y ∷ nam f z ∷ opr o.Comma w ∷ ts in
+        subst (λ u. ExprReplay (GR.Atom r false b) h (M.delete_expr p.at (name_in f z) (type_as_read t)) ((nam u p ∷ opr o.Dot q ∷ nam k s ∷ us) ++ opr o.CloseParen i ∷ opr o.CloseParen j ∷ [])) (sym g.0)
+        (subst (λ u. ExprReplay (GR.Atom r false b) h (M.delete_expr p.at (name_in f z) (type_as_read t)) ((nam (codes "Base") p ∷ opr o.Dot q ∷ nam u s ∷ us) ++ opr o.CloseParen i ∷ opr o.CloseParen j ∷ [])) (sym g.1)
+        (A4.delete_again r b f t p q s v x y z w i j ts is nt d l))
     again_atom _ _ _ _ _ (GR.spawn r b n k e p q s ts is nt d) rest m l =
         let y = spawn_words n k (seen ts ++ rest) (marked-as O.Spawn p.marks (S.Name n ∷ S.Operator o.Dot ∷ S.Macro k ∷ seen ts ++ rest) m.0 is) in
         subst (λ i. ExprReplay (GR.Atom r true b) h (M.spawn_expr p.at e) (nam i p ∷ opr o.Dot q ∷ tok (S.Macro k) s ∷ ts)) (sym y.0)

@@ -23,3 +23,10 @@ pub after-one : (r : Result (Unit {0}) AllocError) (old new mid a x : List Termi
 after-one r old new mid a x e h =
     let regrouped : mid ++ x ≡ old ++ (a ++ x) = ap (λ z. z ++ x) e ∙ append_assoc old a x in
     rw (← regrouped) h
+
+-- a last piece after three
+pub after-three : (r : Result (Unit {0}) AllocError) (old new first second third a b c x : List Terminal) → first ≡ old ++ a → second ≡ first ++ b → third ≡ second ++ c → OnOk r (new ≡ third ++ x) → OnOk r (new ≡ old ++ (((a ++ b) ++ c) ++ x))
+after-three r old new first second third a b c x e f g h =
+    let two : second ≡ old ++ (a ++ b) = f ∙ ap (λ z. z ++ b) e ∙ append_assoc old a b in
+    let three : third ≡ old ++ ((a ++ b) ++ c) = g ∙ ap (λ z. z ++ c) two ∙ append_assoc old (a ++ b) c in
+    after-one r old new third ((a ++ b) ++ c) x three h

@@ -32,7 +32,7 @@ use Rattle.jl_grammar.specs.declared.tree.Eval.TheVariants as EV
 use Rattle.jl_grammar.specs.declared.tree.Piece.TheVariants as PV
 use Rattle.jl_grammar.specs.declared.tree.Eval.TheViews as E
 use Rattle.jl_print.specs.Printed as R
-use Rattle.jl_print.specs.Printed.{in_parens, in_braces, lines, join, where_step, tuple_step, block_step, branches_step, print_name, prefix_terminal, infix_terminal, truth_terminal, callee_terminals, head_terminals, type_terminals, argument_terminals, variable_terminals, where_terminals, expr_terminals, method_terminals, stmt_terminals, eval_terminals, branch_terminals, piece_terminals}
+use Rattle.jl_print.specs.Printed.{in_parens, in_braces, lines, join, where_step, tuple_step, block_step, branches_step, print_name, which_terminals, prefix_terminal, infix_terminal, truth_terminal, callee_terminals, head_terminals, type_terminals, argument_terminals, variable_terminals, where_terminals, expr_terminals, method_terminals, stmt_terminals, eval_terminals, branch_terminals, piece_terminals}
 use Rattle.jl_print.specs.Placeless as L
 use Rattle.jl_print.specs.Placeless.{same_type, same_argument, same_variable, same_name, same_callee, same_head, same_expr, same_method, same_stmt, same_eval, same_branch, same_piece}
 
@@ -213,6 +213,13 @@ expr_latest_terminals a f es = ap expr_terminals (sym (E.rolls-Latest a f es)) �
 
 pub expr_latest_same : (a : ℕ) (f : Callee) (es : List Expr) → same_expr (E.Latest a f es) ≡ E.Latest 0 (same_callee f) (map same_expr es)
 expr_latest_same a f es = ap same_expr (sym (E.rolls-Latest a f es)) ∙ fold-roll-Expr Eval Expr Method Piece Stmt Branch L.eval_step L.expr_step L.method_step L.piece_step L.stmt_step L.branch_step (F.Latest a f es)
+
+pub expr_delete_terminals : (a : ℕ) (n : Name) (t : TypeText) → expr_terminals (XV.Delete a n t)
+    ≡ S.Name (codes "Base") ∷ S.Operator o.Dot ∷ S.Name (codes "delete_method") ∷ S.Operator o.OpenParen ∷ (which_terminals n.bytes (type_terminals t) ++ S.Operator o.CloseParen ∷ [])
+expr_delete_terminals a n t = ap expr_terminals (sym (E.rolls-Delete a n t)) ∙ fold-roll-Expr (List Terminal) (List Terminal) (List Terminal) (List Terminal) (List Terminal) (List Terminal) R.eval_step R.expr_step R.method_step R.piece_step R.stmt_step R.branch_step (F.Delete a n t)
+
+pub expr_delete_same : (a : ℕ) (n : Name) (t : TypeText) → same_expr (XV.Delete a n t) ≡ XV.Delete 0 (same_name n) (same_type t)
+expr_delete_same a n t = ap same_expr (sym (E.rolls-Delete a n t)) ∙ fold-roll-Expr Eval Expr Method Piece Stmt Branch L.eval_step L.expr_step L.method_step L.piece_step L.stmt_step L.branch_step (F.Delete a n t)
 
 pub expr_spawn_terminals : (a : ℕ) (e : Expr) → expr_terminals (E.Spawn a e) ≡ S.Name (codes "Threads") ∷ S.Operator o.Dot ∷ S.Macro (codes "spawn") ∷ expr_terminals e
 expr_spawn_terminals a e = ap expr_terminals (sym (E.rolls-Spawn a e)) ∙ fold-roll-Expr (List Terminal) (List Terminal) (List Terminal) (List Terminal) (List Terminal) (List Terminal) R.eval_step R.expr_step R.method_step R.piece_step R.stmt_step R.branch_step (F.Spawn a e)

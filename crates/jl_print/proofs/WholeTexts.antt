@@ -154,6 +154,11 @@ mutual
   whole_atom _ _ _ _ _ (GR.latest r b n m f es p q s v y z ts us is nt c d) =
       cons (nam n p) _ refl (cons (opr o.Dot q) _ refl (cons (nam m s) _ refl (text-within (opr o.OpenParen v) (opr o.CloseParen z) (ts ++ opr o.Comma y ∷ us) round
       (text-two ts (opr o.Comma y ∷ us) (whole_callee f ts c) (whole (opr o.Comma y) _ refl (whole_arguments r es us d).0)))))
+  whole_atom _ _ _ _ _ (GR.delete r b n m f t p q s v x y z w k l ts is nt d) =
+      cons (nam n p) _ refl (cons (opr o.Dot q) _ refl (cons (nam m s) _ refl
+      (text-moved _ _ (ap (λ u. opr o.OpenParen v ∷ nam (codes "which") x ∷ opr o.OpenParen y ∷ nam f z ∷ opr o.Comma w ∷ u) (append_assoc ts (opr o.CloseParen k ∷ []) (opr o.CloseParen l ∷ [])))
+      (text-within (opr o.OpenParen v) (opr o.CloseParen l) (nam (codes "which") x ∷ opr o.OpenParen y ∷ (nam f z ∷ opr o.Comma w ∷ ts) ++ opr o.CloseParen k ∷ []) round
+      (whole (nam (codes "which") x) _ refl (text-within (opr o.OpenParen y) (opr o.CloseParen k) (nam f z ∷ opr o.Comma w ∷ ts) round (whole (nam f z) _ refl (whole (opr o.Comma w) _ refl (whole_type t _ d).0))).0)))))
   whole_atom _ _ _ _ _ (GR.spawn r b n m e p q s ts is nt d) =
       cons (nam n p) _ refl (cons (opr o.Dot q) _ refl (cons (tok (S.Macro m) s) _ refl (whole_expression false e ts d)))
   whole_atom _ _ _ _ _ (GR.eval_long r b m p ts d) = cons (tok (S.Macro (codes "eval")) p) _ refl (whole_long m ts d)

@@ -107,6 +107,7 @@ expr_step (F.If at bs) = E.If 0 bs
 expr_step (F.IfElse at bs ss) = E.IfElse 0 bs ss
 expr_step (F.Begin at ss) = E.Begin 0 ss
 expr_step (F.Latest at f es) = E.Latest 0 (same_callee f) es
+expr_step (F.Delete at n t) = XV.Delete 0 (same_name n) (same_type t)
 expr_step (F.Spawn at e) = E.Spawn 0 e
 expr_step (F.EvalMethod at m) = E.EvalMethod 0 m
 expr_step (F.EvalBlock at xs) = E.EvalBlock 0 xs

@@ -168,6 +168,10 @@ print_name false = codes "print"
 abbrev pub block_step : List (List Terminal) → List Terminal
 block_step xs = S.Newline ∷ (lines xs ++ S.Word w.End ∷ [])
 
+-- `which` with a function and a type in parentheses
+abbrev pub which_terminals : List ℕ → List Terminal → List Terminal
+which_terminals n t = S.Name (codes "which") ∷ S.Operator o.OpenParen ∷ S.Name n ∷ S.Operator o.Comma ∷ (t ++ S.Operator o.CloseParen ∷ [])
+
 abbrev pub Made : Type 0
 Made = List Terminal
 
@@ -192,6 +196,9 @@ expr_step (F.IfElse at bs ss) = branches_step bs ++ S.Word w.Else ∷ block_step
 expr_step (F.Begin at ss) = S.Word w.Begin ∷ block_step ss
 expr_step (F.Latest at f es) =
     S.Name (codes "Base") ∷ S.Operator o.Dot ∷ S.Name (codes "invokelatest") ∷ in_parens (callee_terminals f ∷ es)
+expr_step (F.Delete at n t) =
+    S.Name (codes "Base") ∷ S.Operator o.Dot ∷ S.Name (codes "delete_method") ∷ S.Operator o.OpenParen
+    ∷ (which_terminals n.bytes (type_terminals t) ++ S.Operator o.CloseParen ∷ [])
 expr_step (F.Spawn at e) = S.Name (codes "Threads") ∷ S.Operator o.Dot ∷ S.Macro (codes "spawn") ∷ e
 expr_step (F.EvalMethod at m) = S.Macro (codes "eval") ∷ m
 expr_step (F.EvalBlock at xs) = S.Macro (codes "eval") ∷ S.Word w.Begin ∷ block_step xs

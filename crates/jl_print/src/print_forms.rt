@@ -4,7 +4,7 @@ ghost use Rattle.std.specs.Prelude.{◌≡◌, ◌++◌, ◌∷◌, [], map, cod
 ghost use Rattle.jl_typeread.specs.declared.terminal.Terminal.TheVariants as S;
 ghost use Rattle.jl_typeread.specs.declared.terminal.Word.TheVariants as w;
 ghost use Rattle.jl_token.specs.declared.token.Operator.TheVariants as o;
-ghost use Rattle.jl_print.specs.Printed.{join, join_more, lines, in_parens, tuple_step, block_step, branches_step, branches_more, branch_word, print_name, prefix_terminal, infix_terminal, truth_terminal, callee_terminals, type_terminals, expr_terminals, method_terminals, stmt_terminals, eval_terminals, branch_terminals, piece_terminals};
+ghost use Rattle.jl_print.specs.Printed.{join, join_more, lines, in_parens, tuple_step, block_step, branches_step, branches_more, branch_word, print_name, which_terminals, prefix_terminal, infix_terminal, truth_terminal, callee_terminals, type_terminals, expr_terminals, method_terminals, stmt_terminals, eval_terminals, branch_terminals, piece_terminals};
 
 use crate::print_heads::{put_callee, put_head, put_text};
 use crate::print_types::{put_mark, put_name, put_type, put_word};
@@ -125,6 +125,44 @@ fn put_sub(out: &mut Row<Terminal>, low: &TypeText, high: &TypeText) -> Result<(
     put_type(out, low)?;
     put_mark(out, Operator::Subtype)?;
     put_type(out, high)
+}
+
+/// `which` with a function and a type in parentheses.
+fn put_which(
+    out: &mut Row<Terminal>,
+    alloc: Global,
+    function: &Name,
+    ty: &TypeText,
+) -> Result<(), AllocError>
+    ensures { OnOk result (out.new
+        ≡ out.old ++ which_terminals function.now.bytes (type_terminals ty.now)) }
+{
+    put_text(out, alloc, b"which")?;
+    put_mark(out, Operator::OpenParen)?;
+    put_name(out, &function.bytes)?;
+    put_mark(out, Operator::Comma)?;
+    put_type(out, ty)?;
+    put_mark(out, Operator::CloseParen)
+}
+
+/// `Base.delete_method` with what `which` is given in it.
+fn put_delete(
+    out: &mut Row<Terminal>,
+    alloc: Global,
+    function: &Name,
+    ty: &TypeText,
+) -> Result<(), AllocError>
+    ensures { OnOk result (out.new
+        ≡ out.old
+        ++ S.Name (codes "Base") ∷ S.Operator o.Dot ∷ S.Name (codes "delete_method")
+        ∷ S.Operator o.OpenParen
+        ∷ (which_terminals function.now.bytes (type_terminals ty.now)
+        ++ S.Operator o.CloseParen ∷ [])) }
+{
+    put_dotted(out, alloc, b"Base", b"delete_method")?;
+    put_mark(out, Operator::OpenParen)?;
+    put_which(out, alloc, function, ty)?;
+    put_mark(out, Operator::CloseParen)
 }
 
 /// Expressions with `,` between them.
@@ -509,6 +547,7 @@ pub(crate) fn put_expr(
         Expr::Latest(_, callee, arguments) => {
             put_latest_call(out, alloc, callee, arguments.as_slice())
         }
+        Expr::Delete(_, function, ty) => put_delete(out, alloc, function, ty),
         Expr::Spawn(_, task) => {
             put_spawn(out, alloc)?;
             put_expr(out, alloc, task.get())

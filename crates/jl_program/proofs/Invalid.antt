@@ -28,7 +28,7 @@ use Rattle.jl_program.specs.BodyTypes.{is_seen, IsAllowedType}
 use Rattle.jl_program.specs.Scope.{View, all_types, in_body, in_task, at_top, is_valid_expr, are_valid_items, are_valid_tasks}
 use Rattle.jl_program.specs.Valid.{IsValid}
 use Rattle.jl_program.proofs.Computing.{names}
-use Rattle.jl_program.proofs.ValidLayers.{valid-int, valid-local, valid-call, valid-make, valid-infer, valid-field, valid-part, valid-isa, valid-block, valid-eval, valid-spawn, valid-print, valid-text, valid-define, valid-top-bind, valid-top-do, valid-bind, valid-return, in-nothing, in-int, in-spawn, in-top-do}
+use Rattle.jl_program.proofs.ValidLayers.{valid-int, valid-local, valid-call, valid-make, valid-infer, valid-field, valid-part, valid-isa, valid-block, valid-eval, valid-spawn, valid-delete, valid-print, valid-text, valid-define, valid-top-bind, valid-top-do, valid-bind, valid-return, in-nothing, in-int, in-spawn, in-top-do}
 
 -- the function f, these sites, expressions of spawn places and statements
 abbrev program : List Site → List Expr → List Item → Program
@@ -95,6 +95,13 @@ return_in_eval =
 -- a spawn place in its own expression
 own_spawn : IsValid (program [] (E.Spawn 0 ∷ []) (I.Do (E.Spawn 0) ∷ [])) → ⊥
 own_spawn = bad_task (E.Spawn 0) [] (I.Do (E.Spawn 0) ∷ []) (λ P vs seen. rw (valid-spawn P vs 0) (and_false (nat_lt 0 (length vs))))
+
+-- a deletion place that is not there
+no_deletion_place : IsValid (program [] [] (I.Do (E.Delete 0) ∷ [])) → ⊥
+no_deletion_place v = true≢false (sym v.top ∙ not_there)
+  where
+    not_there : are_valid_items (program [] [] (I.Do (E.Delete 0) ∷ [])) v.views (I.Do (E.Delete 0) ∷ []) at_top ≡ false
+    not_there = rw (valid-top-do (program [] [] (I.Do (E.Delete 0) ∷ [])) v.views (E.Delete 0), valid-delete (program [] [] (I.Do (E.Delete 0) ∷ [])) v.views 0) refl
 
 -- nine arguments
 abbrev nine : List Expr

@@ -149,6 +149,9 @@ module _ (P : Program) (views : List View) where
   pub valid-spawn : (place : ℕ) → valid (E.Spawn place) ≡ expr_step P views (F.Spawn place)
   valid-spawn place = of_layer (F.Spawn place) (E.Spawn place) (X.rolls-Spawn place)
 
+  pub valid-delete : (place : ℕ) → valid (E.Delete place) ≡ expr_step P views (F.Delete place)
+  valid-delete place = of_layer (F.Delete place) (E.Delete place) (X.rolls-Delete place)
+
   pub valid-fetch : (x : Expr) → valid (X.Fetch x) ≡ expr_step P views (F.Fetch (valid x))
   valid-fetch x = of_layer (F.Fetch x) (X.Fetch x) (X.rolls-Fetch x)
 
@@ -219,6 +222,9 @@ module _ {A : Type 0} (own : Layer A → List A) where
 
   pub in-spawn : (place : ℕ) → of_expr own (E.Spawn place) ≡ own (F.Spawn place) ++ []
   in-spawn place = in-layer (F.Spawn place) (E.Spawn place) (X.rolls-Spawn place)
+
+  pub in-delete : (place : ℕ) → of_expr own (E.Delete place) ≡ own (F.Delete place) ++ []
+  in-delete place = in-layer (F.Delete place) (E.Delete place) (X.rolls-Delete place)
 
   pub in-text : (bytes : List ℕ) → of_piece own (Pi.Text bytes) ≡ []
   in-text bytes = ap (of_piece own) (sym (text_rolls bytes)) ∙ fold-roll-Piece (List A) (List A) (List A) (List A) (gathers own) in_item in_piece in_stmt (F.Text bytes)

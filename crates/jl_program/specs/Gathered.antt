@@ -39,6 +39,7 @@ module _ {X : Type 0} where
   in_parts (F.Block xs) = flat_map (λ x. x) xs
   in_parts (F.Eval xs) = flat_map (λ x. x) xs
   in_parts (F.Spawn place) = []
+  in_parts (F.Delete place) = []
   in_parts (F.Fetch x) = x
   in_parts (F.Print ps line) = flat_map (λ p. p) ps
 

@@ -121,6 +121,7 @@ module _ (P : Program) (views : List View) where
   expr_step (F.Block xs) s = in_turn xs s
   expr_step (F.Eval xs) s = list_all (λ x. x.valid (evaluated s)) xs
   expr_step (F.Spawn place) s = is_place place s
+  expr_step (F.Delete place) s = nat_lt place (length P.deletes)
   expr_step (F.Fetch x) s = x s
   expr_step (F.Print ps line) s = all_in ps s
 

@@ -101,6 +101,7 @@ fault_text P (F.NoIndex t n) = codes "BoundsError: " ++ (type_text P t ++ (codes
 fault_text P (F.NotBool t) = codes "TypeError: non-boolean (" ++ (type_text P t ++ codes ") used in boolean context")
 fault_text P (F.NotTask t) = codes "NotTask: " ++ type_text P t
 fault_text P (F.TaskFailed n) = codes "TaskFailedException: task " ++ decimal n
+fault_text P (F.NoSuchMethod f) = codes "NoSuchMethod: " ++ function_name P f
 fault_text P (F.FuelSpent n) = codes "FuelSpent: " ++ (decimal n ++ codes " calls")
 fault_text P F.StackLimit = codes "StackOverflowError: " ++ (decimal MOST_OPEN_CALLS ++ codes " open calls")
 fault_text P F.WorldLimit = codes "WorldLimit: " ++ (decimal MOST_WORLDS ++ codes " worlds")

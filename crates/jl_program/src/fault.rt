@@ -21,6 +21,8 @@ pub enum Fault {
     NotBool(Ty),
     NotTask(Ty),
     TaskFailed(u32),
+    /// The function of which no method with the signature of a deletion place stands.
+    NoSuchMethod(u32),
     FuelSpent(u64),
     StackLimit,
     WorldLimit,
@@ -59,6 +61,7 @@ impl Fault {
             Fault::NotBool(ty) => Ok(Fault::NotBool(ty.copy()?)),
             Fault::NotTask(ty) => Ok(Fault::NotTask(ty.copy()?)),
             Fault::TaskFailed(task) => Ok(Fault::TaskFailed(*task)),
+            Fault::NoSuchMethod(function) => Ok(Fault::NoSuchMethod(*function)),
             Fault::FuelSpent(fuel) => Ok(Fault::FuelSpent(*fuel)),
             Fault::StackLimit => Ok(Fault::StackLimit),
             Fault::WorldLimit => Ok(Fault::WorldLimit),

@@ -23,7 +23,8 @@ pub type Sites = SharedList<Site>;
 /// Deletion places.
 pub type Deletes = SharedList<Delete>;
 
-/// An expression. A function, a site, a struct and a spawn place stand by their numbers, a local name by its slot.
+/// An expression. A function, a site, a struct, a spawn place and a deletion place stand by their numbers, a local name by
+/// its slot.
 #[derive(Drop)]
 #[cycle(tree)]
 pub enum Expr {
@@ -54,6 +55,8 @@ pub enum Expr {
     Eval(Items),
     /// A task, whose expression stands at this spawn place.
     Spawn(u32),
+    /// Deletes the methods of the function and the signature at this deletion place.
+    Delete(u32),
     Fetch(SharedNode<Expr>),
     /// Writes its pieces, and a newline where the flag is true.
     Print(Pieces, bool),
@@ -117,6 +120,7 @@ impl Share for Expr {
             Expr::Block(statements) => Ok(Expr::Block(statements.copy()?)),
             Expr::Eval(items) => Ok(Expr::Eval(items.copy()?)),
             Expr::Spawn(place) => Ok(Expr::Spawn(*place)),
+            Expr::Delete(place) => Ok(Expr::Delete(*place)),
             Expr::Fetch(of) => Ok(Expr::Fetch(of.copy()?)),
             Expr::Print(pieces, newline) => Ok(Expr::Print(pieces.copy()?, *newline)),
         }

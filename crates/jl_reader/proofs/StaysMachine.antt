@@ -192,18 +192,28 @@ token_after_eval s m b p a K xs = ST.begin_operand s m b (pending_of_eval p a) K
 due_dot : (d : Due) (p : Pending) (a : ℕ) (K : List Frame) (xs : ItemsRead) → Stays xs (MC.due_dot d p a K xs)
 due_dot D.SpawnDot p a K xs = stays xs
 due_dot D.LatestDot p a K xs = stays xs
+due_dot D.DeleteDot p a K xs = stays xs
 due_dot d p a K xs = tt
 
 due_open : (d : Due) (p : Pending) (a : ℕ) (K : List Frame) (xs : ItemsRead) → Stays xs (MC.due_open d p a K xs)
 due_open D.LatestOpen p a K xs = stays xs
+due_open D.DeleteOpen p a K xs = stays xs
+due_open D.WhichOpen p a K xs = stays xs
 due_open D.FetchOpen p a K xs = stays xs
 due_open (D.PrintOpen l) p a K xs = stays xs
 due_open D.QuoteOpen p a K xs = stays xs
 due_open d p a K xs = tt
 
-due_name : (d : Due) (p : Pending) (a : ℕ) (K : List Frame) (xs : ItemsRead) → Stays xs (MC.due_name d p a K xs)
-due_name D.LatestName p a K xs = stays xs
-due_name d p a K xs = tt
+due_which : (b : Bool) (p : Pending) (a : ℕ) (K : List Frame) (xs : ItemsRead) → Stays xs (MC.due_which b p a K xs)
+due_which true p a K xs = stays xs
+due_which false p a K xs = tt
+
+due_name : (d : Due) (n : List ℕ) (a : ℕ) (p : Pending) (a1 : ℕ) (K : List Frame) (xs : ItemsRead) → Stays xs (MC.due_name d n a p a1 K xs)
+due_name D.LatestName n b p a K xs = stays xs
+due_name D.DeleteName n b p a K xs = stays xs
+due_name D.WhichWord n b p a K xs = due_which (bytes_eq n (codes "which")) p a K xs
+due_name D.WhichName n b p a K xs = stays xs
+due_name d n b p a K xs = tt
 
 due_macro : (d : Due) (p : Pending) (a : ℕ) (K : List Frame) (xs : ItemsRead) → Stays xs (MC.due_macro d p a K xs)
 due_macro D.SpawnMacro p a K xs = stays xs
@@ -213,13 +223,17 @@ due_quote : (d : Due) (p : Pending) (a : ℕ) (K : List Frame) (xs : ItemsRead) 
 due_quote D.QuoteWord p a K xs = stays xs
 due_quote d p a K xs = tt
 
-at_due : (s : Terminal) (p : Pending) (a : ℕ) (d : Due) (K : List Frame) (xs : ItemsRead) → Stays xs (MC.at_due s p a d K xs)
-at_due (S.Operator o.Dot) p a d K xs = due_dot d p a K xs
-at_due (S.Operator o.OpenParen) p a d K xs = due_open d p a K xs
-at_due (S.Name n) p a d K xs = due_name d p a K xs
-at_due (S.Macro n) p a d K xs = due_macro d p a K xs
-at_due (S.Word w.Quote) p a d K xs = due_quote d p a K xs
-at_due s p a d K xs = tt
+at_due : (s : Terminal) (a : ℕ) (p : Pending) (a1 : ℕ) (d : Due) (K : List Frame) (xs : ItemsRead) → Stays xs (MC.at_due s a p a1 d K xs)
+at_due (S.Operator o.Dot) b p a d K xs = due_dot d p a K xs
+at_due (S.Operator o.OpenParen) b p a d K xs = due_open d p a K xs
+at_due (S.Name n) b p a d K xs = due_name d n b p a K xs
+at_due (S.Macro n) b p a d K xs = due_macro d p a K xs
+at_due (S.Word w.Quote) b p a d K xs = due_quote d p a K xs
+at_due s b p a d K xs = tt
+
+at_deleting : (s : Terminal) (p : Pending) (a : ℕ) (n : Name) (K : List Frame) (xs : ItemsRead) → Stays xs (MC.at_deleting s p a n K xs)
+at_deleting (S.Operator o.Comma) p a n K xs = stays xs
+at_deleting s p a n K xs = tt
 
 at_function : (s : Terminal) (a : ℕ) (g : Purpose) (K : List Frame) (xs : ItemsRead) → Stays xs (MC.at_function s a g K xs)
 at_function (S.Name n) a g K xs = stays xs
@@ -401,11 +415,16 @@ open_make : (s : Terminal) (p : Pending) (a : ℕ) (t : TypeForm) (K : List Fram
 open_make (S.Operator o.OpenParen) p a t K xs = stays xs
 open_make s p a t K xs = tt
 
+close_which : (s : Terminal) (p : Pending) (a : ℕ) (n : Name) (t : TypeForm) (K : List Frame) (xs : ItemsRead) → Stays xs (MC.close_which s p a n t K xs)
+close_which (S.Operator o.CloseParen) p a n t K xs = stays xs
+close_which s p a n t K xs = tt
+
 token_after_type : (s : Terminal) (a : ℕ) (g : Goal) (t : TypeForm) (K : List Frame) (xs : ItemsRead) → Stays xs (MC.token_after_type s a g t K xs)
 token_after_type s b (G.Isa p e) t K xs = ST.token_after_comparison s b p (M.isa_expr e t) K xs
 token_after_type s b (G.Left p a) t K xs = token_after_left s p a t K xs
 token_after_type s b (G.Right p a l) t K xs = ST.token_after_comparison s b p (M.sub_expr a l t) K xs
 token_after_type s b (G.Make p a) t K xs = open_make s p a t K xs
+token_after_type s b (G.Delete p a n) t K xs = close_which s p a n t K xs
 token_after_type s b (G.Param h x a) t K xs = token_after_param s (with_param h (M.typed_param x a t) t.depth) K xs
 token_after_type s b (G.Parent d) t K xs = end_header s d (Some t) K xs
 token_after_type s b (G.Field f n) t K xs = token_after_field s (with_field f n (Some t.tree) t.depth) K xs
@@ -428,8 +447,9 @@ step_by s m a (P.Have p e) K xs = ST.token_after_operand s a p e K xs
 step_by s m a (P.Dot p e) K xs = ST.at_dot s a p e K xs
 step_by s m a (P.Index p e) K xs = ST.at_index s p e K xs
 step_by s m a (P.Indexed p e n) K xs = ST.at_indexed s p e n K xs
-step_by s m a (P.Due p b d) K xs = at_due s p b d K xs
-step_by s m a (P.Quoted p e) K xs = ST.at_quoted s p e K xs
+step_by s m a (P.Due p b d) K xs = at_due s a p b d K xs
+step_by s m a (P.Deleting p b n) K xs = at_deleting s p b n K xs
+step_by s m a (P.Ending p e) K xs = ST.at_ending s p e K xs
 step_by s m a (P.AfterEval p b) K xs = token_after_eval s m a p b K xs
 step_by s m a (P.Function g) K xs = at_function s a g K xs
 step_by s m a (P.Named g n) K xs = at_named s g n K xs

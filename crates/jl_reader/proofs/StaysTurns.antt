@@ -252,6 +252,7 @@ begin_opening O.Binding n a p K xs = stays xs
 begin_opening O.Call n a p K xs = stays xs
 begin_opening O.Make n a p K xs = first_of_type (S.Name n) a (G.Make p a) K xs
 begin_opening O.Latest n a p K xs = stays xs
+begin_opening O.Delete n a p K xs = stays xs
 begin_opening O.Spawn n a p K xs = stays xs
 begin_opening O.Quote n a p K xs = stays xs
 begin_opening O.Fetch n a p K xs = stays xs
@@ -351,6 +352,6 @@ pub at_indexed : (s : Terminal) (p : Pending) (e : Form Expr) (n : ℤ) (K : Lis
 at_indexed (S.Operator o.CloseBracket) p e n K xs = stays xs
 at_indexed s p e n K xs = tt
 
-pub at_quoted : (s : Terminal) (p : Pending) (e : Form Expr) (K : List Frame) (xs : ItemsRead) → Stays xs (TU.at_quoted s p e K xs)
-at_quoted (S.Operator o.CloseParen) p e K xs = stays xs
-at_quoted s p e K xs = tt
+pub at_ending : (s : Terminal) (p : Pending) (e : Form Expr) (K : List Frame) (xs : ItemsRead) → Stays xs (TU.at_ending s p e K xs)
+at_ending (S.Operator o.CloseParen) p e K xs = stays xs
+at_ending s p e K xs = tt

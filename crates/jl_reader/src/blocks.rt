@@ -278,7 +278,7 @@ pub(crate) fn end_evals(
         }
         EvalKind::Quote(pending, place) => {
             let e = eval_quote(alloc, place, evals)?;
-            Ok(Some(Point::Quoted(pending, e)))
+            Ok(Some(Point::Ending(pending, e)))
         }
     }
 }

@@ -3,7 +3,7 @@
 ghost use Rattle.std.specs.Prelude.{◌≡◌, IfOk};
 ghost use Rattle.jl_grammar.specs.Goes.{state_at};
 ghost use Rattle.jl_grammar.specs.Levels.{no_pending};
-ghost use Rattle.jl_grammar.specs.Turns.{begin_operand, close_first, push_string, at_first, close_again, at_again, at_piece, close_text, text_comma, at_texted, at_dot, at_index, at_indexed, at_quoted};
+ghost use Rattle.jl_grammar.specs.Turns.{begin_operand, close_first, push_string, at_first, close_again, at_again, at_piece, close_text, text_comma, at_texted, at_dot, at_index, at_indexed, at_ending};
 
 use crate::blocks::{name_at, push_frame};
 use crate::forms::{call_expr, field, no_forms, part, print_expr, tuple, with_text};
@@ -274,15 +274,15 @@ pub(crate) fn at_indexed(
     }
 }
 
-/// The token that ends `eval(quote .. end`.
-pub(crate) fn at_quoted(
+/// The bracket that ends a form which is whole otherwise.
+pub(crate) fn at_ending(
     terminal: &Terminal,
     pending: Owned<Pending>,
     e: Form<Expr>,
     reading: &mut Reading,
 ) -> Option<Point>
     ensures { state_at result reading.new
-        ≡ at_quoted terminal.now pending e reading.old.stack reading.old.script }
+        ≡ at_ending terminal.now pending e reading.old.stack reading.old.script }
 {
     match terminal {
         Terminal::Operator(Operator::CloseParen) => Some(Point::Have(pending, e)),

@@ -1,7 +1,7 @@
 //! The forms of a script with their depth, as they are made. The tree of an expression that is too deep is not kept.
 
 ghost use Rattle.std.specs.Prelude.{◌≡◌, IfOk, OnOk};
-ghost use Rattle.jl_grammar.specs.Forms.{depth_around, expr_form, no_forms, with_form, type_form, vars_form, no_vars, number, truth, nothing, name, paren, tuple, call_expr, field, part, prefix_expr, infix_expr, isa_expr, sub_expr, choose_expr, begin_expr, spawn_expr, eval_method, eval_block, eval_expr, eval_quote, fetch_expr, print_expr, depth_below, no_branches, with_branch, if_expr, if_else_expr, with_show, with_text, with_expr};
+ghost use Rattle.jl_grammar.specs.Forms.{depth_around, expr_form, no_forms, with_form, type_form, vars_form, no_vars, number, truth, nothing, name, paren, tuple, call_expr, field, part, prefix_expr, infix_expr, isa_expr, sub_expr, choose_expr, begin_expr, spawn_expr, eval_method, eval_block, eval_expr, eval_quote, fetch_expr, delete_expr, print_expr, depth_below, no_branches, with_branch, if_expr, if_else_expr, with_show, with_text, with_expr};
 
 use jl_grammar::owned::Owned;
 use jl_grammar::state::{Branched, Called, Form, Forms, PrefixAt, TypeForm, VarsForm};
@@ -405,6 +405,19 @@ pub(crate) fn fetch_expr(alloc: Global, at: u32, e: Form<Expr>) -> Result<Form<E
 {
     let tree = SharedNode::new(alloc, e.tree.take())?;
     expr_form(alloc, at, depth_around(e.depth), Expr::Fetch(at, tree))
+}
+
+/// `Base.delete_method(which(f, T))`
+pub(crate) fn delete_expr(
+    alloc: Global,
+    at: u32,
+    function: Name,
+    ty: TypeForm,
+) -> Result<Form<Expr>, AllocError>
+    ensures { IfOk result (λ r. r ≡ delete_expr at function ty) }
+{
+    let depth = depth_around(ty.depth);
+    expr_form(alloc, at, depth, Expr::Delete(at, function, ty.tree.take()))
 }
 
 /// `print` and its pieces, or `println`.

@@ -120,6 +120,7 @@ fn begin_opening(
             first_of_type(alloc, Terminal::Name(bytes), place, goal, reading)
         }
         Opening::Latest => push_due(pending, place, Due::LatestDot, reading),
+        Opening::Delete => push_due(pending, place, Due::DeleteDot, reading),
         Opening::Spawn => push_due(pending, place, Due::SpawnDot, reading),
         Opening::Quote => push_due(pending, place, Due::QuoteOpen, reading),
         Opening::Fetch => push_due(pending, place, Due::FetchOpen, reading),

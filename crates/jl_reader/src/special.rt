@@ -3,8 +3,9 @@
 ghost use Rattle.std.specs.Prelude.{◌≡◌, IfOk, OnOk, false};
 ghost use Rattle.jl_grammar.specs.Goes.{state_at};
 ghost use Rattle.jl_grammar.specs.Levels.{push_outer};
-ghost use Rattle.jl_grammar.specs.Machine.{pending_of_eval, name_after_eval, word_after_eval, token_after_eval, due_dot, due_open, due_name, due_macro, due_quote, at_due};
+ghost use Rattle.jl_grammar.specs.Machine.{pending_of_eval, name_after_eval, word_after_eval, token_after_eval, due_dot, due_open, due_which, due_name, due_macro, due_quote, at_due, at_deleting};
 
+use crate::after_operand::want_type;
 use crate::blocks::{name_at, push_frame};
 use crate::entries::{begin_long, is_method};
 use crate::forms::no_forms;
@@ -13,8 +14,9 @@ use crate::operands::{begin_name, begin_operand, begin_word};
 use jl_grammar::mark::Marks;
 use jl_grammar::owned::Owned;
 use jl_grammar::state::{
-    Due, EvalKind, Frame, Outer, Pending, Place, Point, Purpose, Reading, Start,
+    Due, EvalKind, Frame, Goal, Outer, Pending, Place, Point, Purpose, Reading, Start,
 };
+use jl_grammar::tree::Name;
 use jl_model::ty::Bytes;
 use jl_token::token::Operator;
 use jl_typeread::terminal::{Terminal, Word};
@@ -134,6 +136,7 @@ fn due_dot(
     match due {
         Due::SpawnDot => Ok(Some(Point::Due(pending, place, Due::SpawnMacro))),
         Due::LatestDot => Ok(Some(Point::Due(pending, place, Due::LatestName))),
+        Due::DeleteDot => Ok(Some(Point::Due(pending, place, Due::DeleteName))),
         _ => Ok(None),
     }
 }
@@ -151,6 +154,8 @@ fn due_open(
 {
     match due {
         Due::LatestOpen => Ok(Some(Point::Function(Purpose::Latest(pending, place)))),
+        Due::DeleteOpen => Ok(Some(Point::Due(pending, place, Due::WhichWord))),
+        Due::WhichOpen => Ok(Some(Point::Due(pending, place, Due::WhichName))),
         Due::FetchOpen => {
             let point = Point::Want(no_pending(alloc, pending.get().returns)?);
             push_frame(point, Frame::Fetch(pending, place), reading)
@@ -165,18 +170,46 @@ fn due_open(
     }
 }
 
-/// A name as a fixed token.
-fn due_name(
-    due: Due,
+/// `which` as a fixed token.
+fn due_which(
+    is_which: bool,
     pending: Owned<Pending>,
     place: u32,
     reading: &mut Reading,
 ) -> Result<Option<Point>, AllocError>
     ensures { IfOk result (λ p. state_at p reading.new
-        ≡ due_name due pending place reading.old.stack reading.old.script) }
+        ≡ due_which is_which pending place reading.old.stack reading.old.script) }
+{
+    if is_which {
+        return Ok(Some(Point::Due(pending, place, Due::WhichOpen)));
+    }
+    drop(pending);
+    Ok(None)
+}
+
+/// A name where a fixed token, or the function of a deletion, must stand; the first place is its own.
+fn due_name(
+    due: Due,
+    name: &Bytes,
+    next: u32,
+    pending: Owned<Pending>,
+    place: u32,
+    reading: &mut Reading,
+) -> Result<Option<Point>, AllocError>
+    ensures { IfOk result (λ p. state_at p reading.new
+        ≡ due_name due name.now next pending place reading.old.stack reading.old.script) }
 {
     match due {
         Due::LatestName => Ok(Some(Point::Due(pending, place, Due::LatestOpen))),
+        Due::DeleteName => Ok(Some(Point::Due(pending, place, Due::DeleteOpen))),
+        Due::WhichWord => {
+            let is_which = name.as_slice() == b"which".as_slice();
+            due_which(is_which, pending, place, reading)
+        }
+        Due::WhichName => {
+            let function = name_at(next, name.copy()?);
+            Ok(Some(Point::Deleting(pending, place, function)))
+        }
         _ => Ok(None),
     }
 }
@@ -222,24 +255,45 @@ fn due_quote(
     }
 }
 
-/// A token where a fixed token must stand.
+/// A token, which stands at the first place, where a fixed token must stand.
 pub(crate) fn at_due(
     alloc: Global,
     terminal: &Terminal,
+    next: u32,
     pending: Owned<Pending>,
     place: u32,
     due: Due,
     reading: &mut Reading,
 ) -> Result<Option<Point>, AllocError>
     ensures { IfOk result (λ p. state_at p reading.new
-        ≡ at_due terminal.now pending place due reading.old.stack reading.old.script) }
+        ≡ at_due terminal.now next pending place due reading.old.stack reading.old.script) }
 {
     match terminal {
         Terminal::Operator(Operator::Dot) => due_dot(due, pending, place, reading),
         Terminal::Operator(Operator::OpenParen) => { due_open(alloc, due, pending, place, reading) }
-        Terminal::Name(_) => due_name(due, pending, place, reading),
+        Terminal::Name(name) => due_name(due, name, next, pending, place, reading),
         Terminal::Macro(_) => due_macro(alloc, due, pending, place, reading),
         Terminal::Word(Word::Quote) => due_quote(alloc, due, pending, place, reading),
+        _ => Ok(None),
+    }
+}
+
+/// A token behind the name in `Base.delete_method(which(f`.
+pub(crate) fn at_deleting(
+    alloc: Global,
+    terminal: &Terminal,
+    pending: Owned<Pending>,
+    place: u32,
+    function: Name,
+    reading: &mut Reading,
+) -> Result<Option<Point>, AllocError>
+    ensures { IfOk result (λ p. state_at p reading.new
+        ≡ at_deleting terminal.now pending place function reading.old.stack reading.old.script) }
+{
+    match terminal {
+        Terminal::Operator(Operator::Comma) => {
+            Ok(Some(want_type(alloc, Goal::Delete(pending, place, function))?))
+        }
         _ => Ok(None),
     }
 }

@@ -9,7 +9,7 @@ ghost use Rattle.jl_grammar.specs.Machine.{start, step, is_type_wanted};
 
 use crate::after_operand::token_after_operand;
 use crate::brackets::{
-    at_again, at_dot, at_first, at_index, at_indexed, at_piece, at_quoted, at_texted,
+    at_again, at_dot, at_ending, at_first, at_index, at_indexed, at_piece, at_texted,
 };
 use crate::declarations::{
     at_abstract, at_decl, at_declared, at_field, at_fields, at_made, at_made_method, params_turn,
@@ -20,7 +20,7 @@ use crate::heads::{
     next_param, where_turn,
 };
 use crate::operands::begin_operand;
-use crate::special::{at_due, token_after_eval};
+use crate::special::{at_deleting, at_due, token_after_eval};
 use crate::types::type_step;
 use jl_grammar::mark::Marked;
 use jl_grammar::owned::Owned;
@@ -155,8 +155,13 @@ pub(crate) fn step_anywhere(
         Point::Dot(pending, e) => at_dot(alloc, terminal, at, pending, e, reading),
         Point::Index(pending, e) => Ok(at_index(terminal, pending, e, reading)),
         Point::Indexed(pending, e, n) => at_indexed(alloc, terminal, pending, e, n, reading),
-        Point::Due(pending, place, due) => at_due(alloc, terminal, pending, place, due, reading),
-        Point::Quoted(pending, e) => Ok(at_quoted(terminal, pending, e, reading)),
+        Point::Due(pending, place, due) => {
+            at_due(alloc, terminal, at, pending, place, due, reading)
+        }
+        Point::Deleting(pending, place, name) => {
+            at_deleting(alloc, terminal, pending, place, name, reading)
+        }
+        Point::Ending(pending, e) => Ok(at_ending(terminal, pending, e, reading)),
         Point::AfterEval(pending, place) => {
             token_after_eval(alloc, terminal, m, at, pending, place, reading)
         }

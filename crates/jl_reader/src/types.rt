@@ -4,11 +4,11 @@ ghost use Rattle.std.specs.Prelude.{◌≡◌, IfOk, Some};
 ghost use Rattle.jl_grammar.specs.Goes.{state_at};
 ghost use Rattle.jl_grammar.specs.Forms.{typed_param};
 ghost use Rattle.jl_typeread.specs.Machine.{turn_of};
-ghost use Rattle.jl_grammar.specs.Machine.{token_after_left, open_make, token_after_type, type_step, token_after_param, with_param, token_after_field, with_field};
+ghost use Rattle.jl_grammar.specs.Machine.{token_after_left, open_make, close_which, token_after_type, type_step, token_after_param, with_param, token_after_field, with_field};
 
 use crate::after_operand::{token_after_comparison, want_type};
 use crate::declarations::{add_field, end_header, token_after_field};
-use crate::forms::{isa_expr, sub_expr, type_form};
+use crate::forms::{delete_expr, isa_expr, sub_expr, type_form};
 use crate::heads::{add_param, open_call, token_after_param};
 use crate::items::typed_param;
 use jl_grammar::owned::Owned;
@@ -54,6 +54,29 @@ fn open_make(
     match terminal {
         Terminal::Operator(Operator::OpenParen) => {
             open_call(alloc, pending, place, Called::Type(ty), reading)
+        }
+        _ => Ok(None),
+    }
+}
+
+/// A token behind the type of a deletion.
+fn close_which(
+    alloc: Global,
+    terminal: &Terminal,
+    pending: Owned<Pending>,
+    place: u32,
+    function: Name,
+    ty: TypeForm,
+    reading: &mut Reading,
+) -> Result<Option<Point>, AllocError>
+    ensures { IfOk result (λ p. state_at p reading.new
+        ≡ close_which terminal.now pending place function ty
+        reading.old.stack reading.old.script) }
+{
+    match terminal {
+        Terminal::Operator(Operator::CloseParen) => {
+            let e = delete_expr(alloc, place, function, ty)?;
+            Ok(Some(Point::Ending(pending, e)))
         }
         _ => Ok(None),
     }
@@ -122,6 +145,9 @@ fn token_after_type(
             token_after_comparison(alloc, terminal, next, pending, e, reading)
         }
         Goal::Make(pending, place) => open_make(alloc, terminal, pending, place, ty, reading),
+        Goal::Delete(pending, place, function) => close_which(
+            alloc, terminal, pending, place, function, ty, reading,
+        ),
         Goal::Param(heading, name, place) => {
             end_typed_param(terminal, heading, name, place, ty, reading)
         }

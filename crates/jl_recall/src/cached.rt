@@ -3,7 +3,7 @@
 ghost use Rattle.std.specs.Prelude.{◌≡◌, IfOk};
 
 use crate::table::{FIRST_PLACES, Kept, empty_table, find_by_values, keep};
-use jl_calculus::history::{DefineFault, FetchFault, Outcome, Seen, SpawnFault};
+use jl_calculus::history::{DefineFault, DeleteFault, FetchFault, Outcome, Seen, SpawnFault};
 use jl_dispatcher::{Dispatcher, Recall, Recalled};
 use jl_model::shared::SharedNode;
 use jl_model::ty::{Key, Tys};
@@ -82,6 +82,10 @@ impl<D: Dispatcher + Drop> Dispatcher for Cached<D> {
 
     fn define(&mut self, site: u32) -> Result<u32, DefineFault> {
         self.inner.define(site)
+    }
+
+    fn delete(&mut self, place: u32) -> Result<u32, DeleteFault> {
+        self.inner.delete(place)
     }
 
     fn spawn(&mut self, start: Start) -> Result<u32, SpawnFault> {

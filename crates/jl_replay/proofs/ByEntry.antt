@@ -72,6 +72,18 @@ module _ (P : Program) (k : ℕ) where
   def_with (Ev.Spawn by child start) task site h = absurd (cc h)
   def_with (Ev.Done by ended) task site h = absurd (cc h)
 
+  pub del_with : (e : Event) (task place : ℕ) → entry_of P k e ≡ E.Del task place → e ≡ Ev.Del task place
+  del_with (Ev.Begin fuel) task place h = absurd (cc h)
+  del_with (Ev.Key q) task place h = absurd (cc h)
+  del_with (Ev.Fill n s f) task place h = absurd (cc h)
+  del_with (Ev.Def by s) task place h = absurd (cc h)
+  del_with (Ev.Del by s) task place h =
+      let a : by ≡ task = cc h in
+      let b : s ≡ place = cc h in
+      λ i. Ev.Del (a i) (b i)
+  del_with (Ev.Spawn by child start) task place h = absurd (cc h)
+  del_with (Ev.Done by ended) task place h = absurd (cc h)
+
   pub spawn_with : (e : Event) (task child place : ℕ) → entry_of P k e ≡ E.Spawn task child place → IsSpawnWith e task child place
   spawn_with (Ev.Begin fuel) task child place h = absurd (cc h)
   spawn_with (Ev.Key q) task child place h = absurd (cc h)

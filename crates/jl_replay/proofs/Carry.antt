@@ -138,27 +138,24 @@ module _ (P : Program) (all : List Entry) (es : List Event) where
               (r, at, way_on e task r (others task e (none task)) way);
         }
 
-    -- a definition
-    pub definition_on : (task site : ℕ) (r : Running) → task < tasks_of es → IsOnItsWay P all (es ++ Ev.Def task site ∷ []) task r
-        → AreOnTheirWay P all (es ++ Ev.Def task site ∷ []) (set tasks task (Some r))
-    definition_on task site r started way =
-        let e = Ev.Def task site in
-        let same = same_tasks e refl in
+    -- a definition or a deletion
+    pub change_on : (e : Event) (task : ℕ) (r : Running) → tasks_of (e ∷ []) ≡ 1 → ((t : ℕ) → IsOf t e → task ≡ t) → task < tasks_of es → IsOnItsWay P all (es ++ e ∷ []) task r → AreOnTheirWay P all (es ++ e ∷ []) (set tasks task (Some r))
+    change_on e task r one of started way =
+        let same = same_tasks e one in
         record {
           many = set_length tasks task (Some r) ∙ h.many ∙ sym same;
           each = λ t l running. go t (subst (λ n. t < n) same l) running (nat_eq t task) refl;
         }
       where
-        go : (t : ℕ) → t < tasks_of es → done_of t (es ++ Ev.Def task site ∷ []) ≡ None → (b : Bool) → nat_eq t task ≡ b
-            → (q : Running) × (slice_get (set tasks task (Some r)) t ≡ Some (Some q)) × IsOnItsWay P all (es ++ Ev.Def task site ∷ []) t q
+        go : (t : ℕ) → t < tasks_of es → done_of t (es ++ e ∷ []) ≡ None → (b : Bool) → nat_eq t task ≡ b → (q : Running) × (slice_get (set tasks task (Some r)) t ≡ Some (Some q)) × IsOnItsWay P all (es ++ e ∷ []) t q
         go t l running true q =
             let is : task ≡ t = grind (arith, q) in
-            subst (λ (n : ℕ). (x : Running) × (slice_get (set tasks task (Some r)) n ≡ Some (Some x)) × IsOnItsWay P all (es ++ Ev.Def task site ∷ []) n x) is
+            subst (λ (n : ℕ). (x : Running) × (slice_get (set tasks task (Some r)) n ≡ Some (Some x)) × IsOnItsWay P all (es ++ e ∷ []) n x) is
             (r, set_here tasks task (Some r) (omega (arith, started, h.many)), way)
         go t l running false q =
             let other : t ≡ task → ⊥ = grind (arith, q) in
-            let (x, at, w) = h.each t l (none_before t es (Ev.Def task site ∷ []) running) in
-            (x, set_there tasks task t (Some r) other ∙ at, way_on (Ev.Def task site) t x (others t (Ev.Def task site) (λ k. other (sym k))) w)
+            let (x, at, w) = h.each t l (none_before t es (e ∷ []) running) in
+            (x, set_there tasks task t (Some r) other ∙ at, way_on e t x (others t e (λ k. other (sym (of t k)))) w)
 
     -- the end of a task
     pub end_on : (task : ℕ) (ended : Record) → AreOnTheirWay P all (es ++ Ev.Done task ended ∷ []) (set tasks task None)

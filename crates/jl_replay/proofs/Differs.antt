@@ -9,9 +9,9 @@ use Rattle.jl_calculus.specs.declared.history.TraceItem.{TraceItem}
 use Rattle.jl_calculus.specs.Legal.{fuel_of, HasRun, IsLegal}
 use Rattle.jl_calculus.specs.Past.{own_starts}
 use Rattle.jl_calculus.specs.Ranges.{keys_of}
-use Rattle.jl_calculus.specs.Run.{a_definition, a_spawn}
+use Rattle.jl_calculus.specs.Run.{a_definition, a_deletion, a_spawn}
 use Rattle.jl_calculus.proofs.GrowthLemmas.{get_more}
-use Rattle.jl_lead.specs.Coming.{ComesTo, TellsDefinition, TellsSpawn, RunsSo, IsNoRun, IsTheRun}
+use Rattle.jl_lead.specs.Coming.{ComesTo, TellsDefinition, TellsDeletion, TellsSpawn, RunsSo, IsNoRun, IsTheRun}
 use Rattle.jl_lead.proofs.EventFacts.{goes_self}
 use Rattle.jl_report.specs.declared.entry.Step.{Step}
 use Rattle.jl_report.specs.declared.entry.Step.TheVariants as S
@@ -26,8 +26,8 @@ use Rattle.jl_replay.specs.Differs.{IsMadeByRun}
 use Rattle.jl_replay.specs.Following.{AreReplayed, AreJudged, IsDifference, IsToldBy}
 use Rattle.jl_replay.proofs.Next.{IsNextStep, IsLastStep}
 use Rattle.jl_replay.proofs.Lists.{each_in, entry_next}
-use Rattle.jl_replay.proofs.ByEntry.{def_with, spawn_with, end_with}
-use Rattle.jl_replay.proofs.Replayed.{one_run, legal_next, legal_definition, legal_spawn, legal_end}
+use Rattle.jl_replay.proofs.ByEntry.{def_with, del_with, spawn_with, end_with}
+use Rattle.jl_replay.proofs.Replayed.{one_run, legal_next, legal_definition, legal_deletion, legal_spawn, legal_end}
 
 nothing : IsTrue false → ⊥
 nothing h = absurd (cc h)
@@ -68,6 +68,17 @@ module _ (P : Program) (all : List Entry) (j : AreJudged P all) where
         (λ xs l t e at is.
         let (ys, goes, comes) = legal_definition P all j es h xs l t task site (at ∙ ap Some (def_with P (length (keys_of es)) e task site is)) in
         nothing ((tells ys goes).1 (subst (λ ss. ComesTo P es task ys fuel (items_told es ss) (a_definition site)) next.before (comes fuel f))))
+
+    pub deletion_differs : (task place : ℕ) → slice_get all (length es) ≡ Some (E.Del task place) → (r : Running) → IsNextStep P all es task r (S.Del place (length es)) → (fuel : ℕ)
+        → TellsDeletion P es task fuel (told_so_far es (trace_told task all) r.told) place false → fuel_of es ≡ Some fuel → IsDifference P all (length es)
+    deletion_differs task place there r next fuel tells f =
+        differs_at (E.Del task place) there
+        (λ e is made.
+        let made_so : IsMadeByRun P all es (Ev.Del task place) = subst (IsMadeByRun P all es) (del_with P (length (keys_of es)) e task place is) made in
+        nothing ((tells es (goes_self es)).1 (subst (λ ss. ComesTo P es task es fuel (items_told es ss) (a_deletion place)) next.before (made_so fuel f))))
+        (λ xs l t e at is.
+        let (ys, goes, comes) = legal_deletion P all j es h xs l t task place (at ∙ ap Some (del_with P (length (keys_of es)) e task place is)) in
+        nothing ((tells ys goes).1 (subst (λ ss. ComesTo P es task ys fuel (items_told es ss) (a_deletion place)) next.before (comes fuel f))))
 
     pub spawn_differs : (task child place : ℕ) → slice_get all (length es) ≡ Some (E.Spawn task child place) → (r : Running) → IsNextStep P all es task r (S.Spawn child (length es)) → (fuel : ℕ)
         → TellsSpawn P es task fuel (told_so_far es (trace_told task all) r.told) place false → fuel_of es ≡ Some fuel → IsDifference P all (length es)

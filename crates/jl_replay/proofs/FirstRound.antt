@@ -147,7 +147,7 @@ module _ (P : Program) (all : List Entry) (j : AreJudged P all) where
   fetches_are es made = fetches_made P all [] es made
 
   pub stands : (es : List Event) → AreReplayed P all es → 0 < length es → MayStand P es × IsTraced P es
-  stands es h l = no_cause_so_far P all h.rest es j.plain j.apart (keys_are es h.made) (fetches_are es h.made) j.well j.clean h.told l
+  stands es h l = no_cause_so_far P all h.rest es j.apart (keys_are es h.made) (fetches_are es h.made) j.well j.clean h.told l
 
   pub front : (es : List Event) → AreReplayed P all es → Front P all es
   front es h =
@@ -168,4 +168,4 @@ module _ (P : Program) (all : List Entry) (j : AreJudged P all) where
       let f = front es h in
       let (d, there, tells) = event_at P all f.ds (length es) x f.clean.told at in
       comes_to P (take (length es) f.ds) es d e f.alike (alike_one P j.apart k e d proper (subst (λ y. Tells P y d) (sym is) tells))
-      (comes_at P j.plain all j.well all f.ds [] (append-nil all) f.clean (length es) d there)
+      (comes_at P all j.well all f.ds [] (append-nil all) f.clean (length es) d there)

@@ -22,7 +22,6 @@ use Rattle.jl_report.specs.declared.entry.Entry.{Entry}
 use Rattle.jl_report.specs.declared.entry.Entry.TheVariants as E
 use Rattle.jl_report.specs.declared.entry.Step.{Step}
 use Rattle.jl_report.specs.declared.entry.Step.TheVariants as S
-use Rattle.jl_report.proofs.PlainLemmas.{names_nothing}
 use Rattle.jl_report.specs.HistoryText.{entry_of, entries_of}
 use Rattle.jl_causes.specs.declared.cause.Cause.TheVariants as C
 use Rattle.jl_causes.specs.Sketch.{Names, items_of}
@@ -30,17 +29,17 @@ use Rattle.jl_causes.proofs.AlikeLemmas.{same, running_to}
 use Rattle.jl_replay.specs.declared.running.Running.{Running}
 use Rattle.jl_replay.specs.declared.runs.Runs.{Runs}
 use Rattle.jl_replay.specs.Told.{trace_told, end_told, stretch}
-use Rattle.jl_replay.specs.Moves.{told_so_far, FollowsDefinition, FollowsSpawn, HasMoved, IsLastSpawn, IsNewOn, MayGoOn}
+use Rattle.jl_replay.specs.Moves.{told_so_far, FollowsDefinition, FollowsDeletion, FollowsSpawn, HasMoved, IsLastSpawn, IsNewOn, MayGoOn}
 use Rattle.jl_replay.specs.Following.{IsOnItsWay, AreOnTheirWay, AreReplayed, AreJudged, AreFollowed, IsDifference, HasFollowed, IsToldBy, IsKeyAt, HasStarted, HasComeToSpawn}
 use Rattle.jl_replay.proofs.Beginning.{root_way}
-use Rattle.jl_replay.proofs.Carry.{moved_on, plain_on, definition_on, end_on, spawn_on, new_on}
+use Rattle.jl_replay.proofs.Carry.{moved_on, plain_on, change_on, end_on, spawn_on, new_on}
 use Rattle.jl_replay.proofs.Cuts.{cut_after, set_length}
-use Rattle.jl_replay.proofs.Differs.{definition_differs, spawn_differs, end_differs, text_differs}
+use Rattle.jl_replay.proofs.Differs.{definition_differs, deletion_differs, spawn_differs, end_differs, text_differs}
 use Rattle.jl_replay.proofs.FirstRound.{front, stands, may_come}
 use Rattle.jl_replay.proofs.Lists.{fuel_stays}
 use Rattle.jl_replay.proofs.Next.{IsNextStep, IsLastStep}
-use Rattle.jl_replay.proofs.Replayed.{key_more, fill_more, definition_more, spawn_more, end_more, child_number}
-use Rattle.jl_replay.proofs.Traces.{definition_next, spawn_next, end_next, root_ordered, child_ordered}
+use Rattle.jl_replay.proofs.Replayed.{key_more, fill_more, definition_more, deletion_more, spawn_more, end_more, child_number}
+use Rattle.jl_replay.proofs.Traces.{definition_next, deletion_next, spawn_next, end_next, root_ordered, child_ordered}
 
 -- ---- small facts
 
@@ -175,9 +174,49 @@ module _ (P : Program) (all : List Entry) (j : AreJudged P all) (runs : Runs) (h
             followed runs' (Ev.Def task site) made.program made.events fuel
             (definition_more P all j es h.replayed task site (entry_here (E.Def task site) at) r definition_step (fuel_in r.machine) tells definition_way.fuel)
             (subst (AreOnTheirWay P all (es ++ Ev.Def task site ∷ [])) (sym (tasks ∙ set_again runs.tasks.items task None (Some r')))
-            (definition_on P all es runs.tasks.items h.on_way task site r' definition_here.started way))
+            (change_on P all es runs.tasks.items h.on_way (Ev.Def task site) task r' refl (λ t o. o) definition_here.started way))
         definition_followed false r' runs' tells fuel tasks =
             differs_here (definition_differs P all j es h.replayed task site (entry_here (E.Def task site) at) r definition_step (fuel_in r.machine) tells definition_way.fuel)
+
+    -- ---- a deletion
+
+    module _ (task place : ℕ) (at : slice_get all n ≡ Some (E.Del task place)) where
+      may_delete : IsChange P es task (Ch.Del place)
+      may_delete = may_come P all j es h.replayed (E.Del task place) (entry_here (E.Del task place) at) (Ev.Del task place) 0 refl tt
+
+      pub deletion_here : IsRunningHere task
+      deletion_here = here_by task may_delete.running
+
+      pub deletion_room : world_of es < MOST_WORLDS
+      deletion_room = may_delete.room
+
+      module _ (r : Running) (is : slice_get runs.tasks.items task ≡ Some (Some r)) where
+        deletion_way : IsOnItsWay P all es task r
+        deletion_way = subst (IsOnItsWay P all es task) (inner_same deletion_here.running r (some_same (slice_get runs.tasks.items task) (Some deletion_here.running) (Some r) deletion_here.among is)) deletion_here.way
+
+        deletion_step : IsNextStep P all es task r (S.Del place (length es))
+        deletion_step = deletion_next P all j es h.replayed task place (entry_here (E.Del task place) at) r deletion_way
+
+        pub deletion_going : MayGoOn P es task (trace_told task all) r
+        deletion_going = deletion_step.going
+
+        pub deletion_inside : r.told + length (stretch (drop r.told (trace_told task all))) < length (trace_told task all)
+        deletion_inside =
+            omega (arith, (cut_after r.told (trace_told task all) (stretch (drop r.told (trace_told task all))) (S.Del place (length es)) deletion_step.more deletion_way.few deletion_step.rest).2)
+
+        pub deletion_followed : (came : Bool) (r' : Running) (runs' : Runs) → FollowsDeletion P es task (trace_told task all) r place came runs'.led.past r' → runs'.fuel ≡ runs.fuel
+            → runs'.tasks.items ≡ set (set runs.tasks.items task None) task (Some r') → HasFollowed P all n came runs'
+        deletion_followed true r' runs' (tells, made) fuel tasks =
+            let trace = trace_told task all in
+            let moved : HasMoved P es (es ++ Ev.Del task place ∷ []) task trace r r' (I.Del place (length es)) = subst (λ xs. HasMoved P es xs task trace r r' (I.Del place (length es))) made.events made.moved in
+            let way = moved_on P all es (Ev.Del task place) task r r' (S.Del place (length es)) (I.Del place (length es)) deletion_way deletion_step refl
+            (omega (arith, deletion_here.started, tasks_append es (Ev.Del task place ∷ []))) moved in
+            followed runs' (Ev.Del task place) made.program made.events fuel
+            (deletion_more P all j es h.replayed task place (entry_here (E.Del task place) at) r deletion_step (fuel_in r.machine) tells deletion_way.fuel)
+            (subst (AreOnTheirWay P all (es ++ Ev.Del task place ∷ [])) (sym (tasks ∙ set_again runs.tasks.items task None (Some r')))
+            (change_on P all es runs.tasks.items h.on_way (Ev.Del task place) task r' refl (λ t o. o) deletion_here.started way))
+        deletion_followed false r' runs' tells fuel tasks =
+            differs_here (deletion_differs P all j es h.replayed task place (entry_here (E.Del task place) at) r deletion_step (fuel_in r.machine) tells deletion_way.fuel)
 
     -- ---- a spawn
 
@@ -376,10 +415,6 @@ key_there P all j n function tuple at none = by_entry (slice_get all n) refl at
     by_entry (Some (E.Del task place)) q k = k
     by_entry (Some (E.Spawn task child place)) q k = k
     by_entry (Some (E.Done task calls trace output ending)) q k = k
-
--- no entry is a deletion
-pub no_deletion : (P : Program) (all : List Entry) (j : AreJudged P all) (n task place : ℕ) → slice_get all n ≡ Some (E.Del task place) → ⊥
-no_deletion P all j n task place at = names_nothing P j.plain place (j.clean.1.clean n (E.Del task place) at C.Site)
 
 pub inside_after : (tasks gone : List (Option Running)) (task : ℕ) → gone ≡ set tasks task None → task < length tasks → task < length gone
 inside_after tasks gone task is l = omega (arith, l, ap length is, set_length tasks task None)

@@ -113,14 +113,14 @@ pub true_before : (P : Program) (es : List Event) (t : ℕ) (before after : List
 true_before P es t [] after h = tt
 true_before P es t (j ∷ js) after h = (h.0, true_before P es t js after h.1)
 
--- ---- a trace, split at its definition or spawn at a place
+-- ---- a trace, split at its definition, deletion or spawn at a place
 
 -- all are at earlier places
 abbrev pub AreBefore : ℕ → List TraceItem → Type 0
 AreBefore n [] = Unit {0}
 AreBefore n (i ∷ is) = (place i < n) × AreBefore n is
 
--- what comes before, of which these are the definitions and spawns
+-- what comes before, of which these are the definitions, deletions and spawns
 pub record IsSplit (n : ℕ) (is own : List TraceItem) (x : TraceItem) : Type 0 where
   pub after : List TraceItem
   pub whole : is ≡ items_before n is ++ x ∷ after
@@ -182,6 +182,9 @@ module _ (n : ℕ) (x : TraceItem) (stops : (js : List TraceItem) → items_befo
 pub def_stops : (site n : ℕ) (js : List TraceItem) → items_before n (I.Def site n ∷ js) ≡ []
 def_stops site n js = ap (λ t. cond t [] (I.Def site n ∷ items_before n js)) (self_eq n)
 
+pub del_stops : (place n : ℕ) (js : List TraceItem) → items_before n (I.Del place n ∷ js) ≡ []
+del_stops place n js = ap (λ t. cond t [] (I.Del place n ∷ items_before n js)) (self_eq n)
+
 pub spawn_stops : (child n : ℕ) (js : List TraceItem) → items_before n (I.Spawn child n ∷ js) ≡ []
 spawn_stops child n js = ap (λ t. cond t [] (I.Spawn child n ∷ items_before n js)) (self_eq n)
 
@@ -218,7 +221,7 @@ own_places t n p (Ev.Key key ∷ es) l = own_places t n (p + 1) es (omega (arith
 own_places t n p (Ev.Fill key site first ∷ es) l = own_places t n (p + 1) es (omega (arith, l))
 own_places t n p (Ev.Done task ended ∷ es) l = own_places t n (p + 1) es (omega (arith, l))
 
--- the spawns of a trace are those of its definitions and spawns
+-- the spawns of a trace are those of its definitions, deletions and spawns
 pub spawns_own : (is : List TraceItem) → spawn_count (own_items is) ≡ spawn_count is
 spawns_own [] = refl
 spawns_own (I.Look w p ∷ is) = spawns_own is

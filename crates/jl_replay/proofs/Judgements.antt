@@ -1,5 +1,5 @@
 -- From what is judged of entries to what is judged of a text.
-use Rattle.std.proofs.Common.{◌≡◌, ◌∙◌, ap, sym, subst, refl, ℕ, ◌≤◌, arith, false, List, [], ◌∷◌, length, take, inl, inr, Ok, Err}
+use Rattle.std.proofs.Common.{◌≡◌, ◌∙◌, ap, sym, subst, refl, ℕ, ◌≤◌, arith, Bool, false, List, [], ◌∷◌, length, take, inl, inr, Ok, Err}
 use Rattle.std.specs.List.{list_any}
 use Rattle.jl_program.specs.declared.tree.Program.{Program}
 use Rattle.jl_program.specs.Valid.{IsValid}
@@ -8,7 +8,7 @@ use Rattle.jl_calculus.specs.declared.history.Event.TheVariants as Ev
 use Rattle.jl_calculus.specs.Legal.{IsLegal}
 use Rattle.jl_report.specs.declared.entry.Entry.{Entry}
 use Rattle.jl_report.specs.declared.entry.Entry.TheVariants as E
-use Rattle.jl_report.specs.HistoryText.{entries_of, entries_text}
+use Rattle.jl_report.specs.HistoryText.{entries_of, entries_text, has_places}
 use Rattle.jl_history.specs.declared.fault.HistoryFault.TheVariants.{BadText}
 use Rattle.jl_history.specs.declared.history.TheConstants.{MOST_HISTORY_BYTES}
 use Rattle.jl_history.specs.Form.{AreLater, AreFirst, AreEntries, IsFirstBad, UnlessMemory}
@@ -35,25 +35,26 @@ apart_of law P valid function tuple a b x y = law P valid a b x.proper y.proper 
 
 -- ---- entries of the form begin well
 
-later_begin : (xs : List Entry) → AreLater xs → list_any is_begin xs ≡ false
-later_begin [] h = refl
-later_begin (E.Begin fuel ∷ xs) h = absurd h.0
-later_begin (E.Key number function tuple ∷ xs) h = later_begin xs h.1
-later_begin (E.Fill key site first ∷ xs) h = later_begin xs h.1
-later_begin (E.Def task site ∷ xs) h = later_begin xs h.1
-later_begin (E.Del task place ∷ xs) h = absurd h.0
-later_begin (E.Spawn task child place ∷ xs) h = later_begin xs h.1
-later_begin (E.Done task calls trace output ending ∷ xs) h = later_begin xs h.1
+module _ (places : Bool) where
+  later_begin : (xs : List Entry) → AreLater places xs → list_any is_begin xs ≡ false
+  later_begin [] h = refl
+  later_begin (E.Begin fuel ∷ xs) h = absurd h.0
+  later_begin (E.Key number function tuple ∷ xs) h = later_begin xs h.1
+  later_begin (E.Fill key site first ∷ xs) h = later_begin xs h.1
+  later_begin (E.Def task site ∷ xs) h = later_begin xs h.1
+  later_begin (E.Del task place ∷ xs) h = later_begin xs h.1
+  later_begin (E.Spawn task child place ∷ xs) h = later_begin xs h.1
+  later_begin (E.Done task calls trace output ending ∷ xs) h = later_begin xs h.1
 
-pub well_of : (xs : List Entry) → AreFirst xs → StartWell xs
-well_of [] h = absurd h
-well_of (E.Begin fuel ∷ xs) h = (h.0, later_begin xs h.1)
-well_of (E.Key number function tuple ∷ xs) h = absurd h.0
-well_of (E.Fill key site first ∷ xs) h = absurd h.0
-well_of (E.Def task site ∷ xs) h = absurd h.0
-well_of (E.Del task place ∷ xs) h = absurd h.0
-well_of (E.Spawn task child place ∷ xs) h = absurd h.0
-well_of (E.Done task calls trace output ending ∷ xs) h = absurd h.0
+  pub well_of : (xs : List Entry) → AreFirst places xs → StartWell xs
+  well_of [] h = absurd h
+  well_of (E.Begin fuel ∷ xs) h = (h.0, later_begin xs h.1)
+  well_of (E.Key number function tuple ∷ xs) h = absurd h.0
+  well_of (E.Fill key site first ∷ xs) h = absurd h.0
+  well_of (E.Def task site ∷ xs) h = absurd h.0
+  well_of (E.Del task place ∷ xs) h = absurd h.0
+  well_of (E.Spawn task child place ∷ xs) h = absurd h.0
+  well_of (E.Done task calls trace output ending ∷ xs) h = absurd h.0
 
 pub some_entry : (xs : List Entry) → StartWell xs → 1 ≤ length xs
 some_entry [] h = absurd h
@@ -94,17 +95,17 @@ module _ (P : Program) (apart : AreApart P) where
 pub judged_difference : (P : Program) (all : List Entry) (n : ℕ) → HasNoCause P all → IsDifference P all n → AreJudgedSo P all (V.Illegal n RunDiffers)
 judged_difference P all n clean d = (inr (refl, clean, d.first), d.illegal)
 
-pub are_read : (P : Program) (text : List ℕ) → IsValid P → IsNumbered P → P.deletes ≡ [] → length text ≤ MOST_HISTORY_BYTES → AreRead P text
-are_read P text v n plain short es legal is = legal_entries P v n plain es legal (subst (λ t. length t ≤ MOST_HISTORY_BYTES) is short)
+pub are_read : (P : Program) (text : List ℕ) → IsValid P → IsNumbered P → length text ≤ MOST_HISTORY_BYTES → AreRead P text
+are_read P text v n short es legal is = legal_entries P v n es legal (subst (λ t. length t ≤ MOST_HISTORY_BYTES) is short)
 
-pub bad_is : (P : Program) (text : List ℕ) (line other : ℕ) → line ≡ other → AreRead P text → IsFirstBad line text → IsBadText P text other
+pub bad_is : (P : Program) (text : List ℕ) (line other : ℕ) → line ≡ other → AreRead P text → IsFirstBad (has_places P) line text → IsBadText P text other
 bad_is P text line other same read first =
     subst (IsBadText P text) same (record { first = first; illegal = λ n l. first.other (entries_of P l.events) (read l.events l.legal l.is_text) l.is_text })
 
-module _ (P : Program) (text : List ℕ) (all : List Entry) (form : AreEntries all) (is_text : text ≡ entries_text all) (read : AreRead P text) where
+module _ (P : Program) (text : List ℕ) (all : List Entry) (form : AreEntries (has_places P) all) (is_text : text ≡ entries_text (has_places P) all) (read : AreRead P text) where
   pub verdict_is : (verdict : Verdict) → AreJudgedSo P all verdict → IsVerdict P text verdict
   verdict_is (V.Legal n) ((es, legal, told), many) =
-      record { events = es; legal = legal; is_text = is_text ∙ ap entries_text (sym told); many = sym (entries_length P 0 es) ∙ ap length told ∙ many }
+      record { events = es; legal = legal; is_text = is_text ∙ ap (entries_text (has_places P)) (sym told); many = sym (entries_length P 0 es) ∙ ap length told ∙ many }
   verdict_is (V.BadText line) h = absurd h
   verdict_is (V.Illegal n cause) h =
       record {
@@ -112,7 +113,7 @@ module _ (P : Program) (text : List ℕ) (all : List Entry) (form : AreEntries a
         form = form;
         is_text = is_text;
         holds = h.0;
-        illegal = λ m l. h.1 (l.events, l.legal, one_text (entries_of P l.events) all (read l.events l.legal l.is_text) form (sym l.is_text ∙ is_text));
+        illegal = λ m l. h.1 (l.events, l.legal, one_text (has_places P) (entries_of P l.events) all (read l.events l.legal l.is_text) form (sym l.is_text ∙ is_text));
       }
 
 -- what was read is what it is the text of

@@ -11,7 +11,7 @@ use Rattle.jl_calculus.specs.declared.history.TraceItem.TheVariants as I
 use Rattle.jl_calculus.specs.Led.{spawn_asked, asked_by, spawn_count, items_before}
 use Rattle.jl_calculus.specs.Legal.{fuel_of, start_of, first_place, IsRunning, MayCome, AreTrueOf, HasTrueTrace, HasOwnEvents, HasRun, OnDone, EachAfter, IsLegal}
 use Rattle.jl_calculus.specs.Past.{done_of, IsInOrder, place, own_items, own_events, own_starts}
-use Rattle.jl_calculus.specs.Run.{Question, a_definition, a_spawn, setting_of, Run, Comes}
+use Rattle.jl_calculus.specs.Run.{Question, a_definition, a_deletion, a_spawn, setting_of, Run, Comes}
 use Rattle.jl_calculus.proofs.RunComes.{run_comes}
 use Rattle.jl_lead.specs.Leads.{GoesOn}
 use Rattle.jl_lead.proofs.EventFacts.{self_eq, tasks_append, done_later, start_before, own_later, starts_append}
@@ -19,7 +19,7 @@ use Rattle.jl_report.specs.declared.entry.Entry.{Entry}
 use Rattle.jl_report.specs.HistoryText.{entries_of}
 use Rattle.jl_replay.specs.Told.{trace_told, steps_before, items_told}
 use Rattle.jl_replay.specs.Differs.{IsMadeByRun}
-use Rattle.jl_replay.proofs.Items.{items_true, all_cut, order_before, true_before, IsSplit, split, def_stops, spawn_stops, steps_before_are, own_places, spawns_own, starts_counted}
+use Rattle.jl_replay.proofs.Items.{items_true, all_cut, order_before, true_before, IsSplit, split, def_stops, del_stops, spawn_stops, steps_before_are, own_places, spawns_own, starts_counted}
 use Rattle.jl_replay.proofs.Lists.{get_at, each_front, each_rest, each_in, fuel_stays, not_again, tasks_some, EndsIn, ends_in, trace_is}
 
 some_record : (o : Option Record) → IsSome o → (r : Record) × (o ≡ Some r)
@@ -113,6 +113,11 @@ module _ (P : Program) (all : List Entry) (es more : List Event) where
   led_definition task site legal told =
       led_so P all es more (Ev.Def task site) legal told task (may_come P all es more (Ev.Def task site) legal told).running refl (I.Def site (length es)) refl (def_stops site (length es))
       (λ mid. ap (λ b. cond b (I.Def site (length es) ∷ own_events task (length es + 1) mid) (own_events task (length es + 1) mid)) (self_eq task)) (a_definition site) (λ mid. refl)
+
+  pub led_deletion : (task place : ℕ) → IsLegal P (es ++ Ev.Del task place ∷ more) → entries_of P (es ++ Ev.Del task place ∷ more) ≡ all → IsLedSo P all es task (a_deletion place)
+  led_deletion task place legal told =
+      led_so P all es more (Ev.Del task place) legal told task (may_come P all es more (Ev.Del task place) legal told).running refl (I.Del place (length es)) refl (del_stops place (length es))
+      (λ mid. ap (λ b. cond b (I.Del place (length es) ∷ own_events task (length es + 1) mid) (own_events task (length es + 1) mid)) (self_eq task)) (a_deletion place) (λ mid. refl)
 
   spawned : (task child : ℕ) (start : Start) (mid : List Event) → slice_get (own_starts task (es ++ Ev.Spawn task child start ∷ mid)) (length (own_starts task es)) ≡ Some start
   spawned task child start mid =

@@ -12,14 +12,14 @@ use Rattle.jl_calculus.specs.Run.{a_spawn}
 use Rattle.jl_machine.specs.Steps.{MachineFits, fuel_of, trace_of}
 use Rattle.jl_lead.specs.declared.led.Led.{Led}
 use Rattle.jl_lead.specs.Carried.{AreOthers}
-use Rattle.jl_lead.specs.Coming.{ComesTo, TellsDefinition, TellsSpawn, IsNoRun, IsTheRun, Stays, HasDefined, HasSpawned, left_of, whole_trace}
+use Rattle.jl_lead.specs.Coming.{ComesTo, TellsDefinition, TellsDeletion, TellsSpawn, IsNoRun, IsTheRun, Stays, HasDefined, HasDeleted, HasSpawned, left_of, whole_trace}
 use Rattle.jl_lead.specs.Leads.{GoesOn, led_knows}
 use Rattle.jl_lead.specs.Led.{knows_of}
 use Rattle.jl_lead.proofs.Carrying.{machine_stays}
 use Rattle.jl_report.specs.declared.entry.Step.{Step}
 use Rattle.jl_replay.specs.declared.running.Running.{Running}
 use Rattle.jl_replay.specs.Told.{stretch, items_told}
-use Rattle.jl_replay.specs.Moves.{told_so_far, IsFitting, HasMoved, HasMadeDefinition, HasMadeTask, FollowsDefinition, FollowsSpawn}
+use Rattle.jl_replay.specs.Moves.{told_so_far, IsFitting, HasMoved, HasMadeDefinition, HasMadeDeletion, HasMadeTask, FollowsDefinition, FollowsDeletion, FollowsSpawn}
 use Rattle.jl_replay.proofs.Cuts.{told_length}
 use Rattle.jl_replay.proofs.Items.{items_append}
 
@@ -61,6 +61,9 @@ module _ (P : Program) (task fuel : ℕ) (whole : List TraceItem) (d0 d : Led) (
 
   pub tells_definition : (trace : List TraceItem) (site : ℕ) (came : Bool) → trace ≡ whole → TellsDefinition P d.past.1 d.task fuel trace site came → TellsDefinition P d0.past.1 task fuel whole site came
   tells_definition trace site came is h = along (λ es t is. TellsDefinition P es t fuel is site came) trace is h
+
+  pub tells_deletion : (trace : List TraceItem) (place : ℕ) (came : Bool) → trace ≡ whole → TellsDeletion P d.past.1 d.task fuel trace place came → TellsDeletion P d0.past.1 task fuel whole place came
+  tells_deletion trace place came is h = along (λ es t is. TellsDeletion P es t fuel is place came) trace is h
 
   pub tells_spawn : (trace : List TraceItem) (place : ℕ) (came : Bool) → trace ≡ whole → TellsSpawn P d.past.1 d.task fuel trace place came → TellsSpawn P d0.past.1 task fuel whole place came
   tells_spawn trace place came is h = along (λ es t is. TellsSpawn P es t fuel is place came) trace is h
@@ -112,6 +115,14 @@ module _ (P : Program) (task : ℕ) (trace : List Step) (r r' : Running) (d0 d d
         moved = moved (I.Def site (length d0.past.1)) (h.trace ∙ ap (λ (v : Program × List Event). whole_trace r.machine d ++ I.Def site (length v.1) ∷ []) past);
       }
 
+  pub made_deletion : (place : ℕ) → HasDeleted P r.machine d place r'.machine d' → HasMadeDeletion P d0.past.1 task trace r place d'.past r'
+  made_deletion place h =
+      record {
+        program = stays.program;
+        events = h.events ∙ ap (λ (v : Program × List Event). v.1 ++ Ev.Del d.task place ∷ []) past ∙ ap (λ t. d0.past.1 ++ Ev.Del t place ∷ []) of;
+        moved = moved (I.Del place (length d0.past.1)) (h.trace ∙ ap (λ (v : Program × List Event). whole_trace r.machine d ++ I.Del place (length v.1) ∷ []) past);
+      }
+
   pub made_task : (place : ℕ) → HasSpawned P r.machine d place r'.machine d' → HasMadeTask P d0.past.1 task trace r place d'.past r'
   made_task place h =
       record {
@@ -130,6 +141,11 @@ pub definition_said : (P : Program) (es : List Event) (task : ℕ) (trace : List
     → TellsDefinition P es task (fuel_of r.machine) (told_so_far es trace r.told) site came → (came ≡ true → HasMadeDefinition P es task trace r site past r') → FollowsDefinition P es task trace r site came past r'
 definition_said P es task trace r site true past r' t m = (t, m refl)
 definition_said P es task trace r site false past r' t m = t
+
+pub deletion_said : (P : Program) (es : List Event) (task : ℕ) (trace : List Step) (r : Running) (place : ℕ) (came : Bool) (past : Program × List Event) (r' : Running)
+    → TellsDeletion P es task (fuel_of r.machine) (told_so_far es trace r.told) place came → (came ≡ true → HasMadeDeletion P es task trace r place past r') → FollowsDeletion P es task trace r place came past r'
+deletion_said P es task trace r place true past r' t m = (t, m refl)
+deletion_said P es task trace r place false past r' t m = t
 
 pub spawn_said : (P : Program) (es : List Event) (task : ℕ) (trace : List Step) (r : Running) (place : ℕ) (came : Bool) (past : Program × List Event) (r' : Running)
     → TellsSpawn P es task (fuel_of r.machine) (told_so_far es trace r.told) place came → (came ≡ true → HasMadeTask P es task trace r place past r') → FollowsSpawn P es task trace r place came past r'

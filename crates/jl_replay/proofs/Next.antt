@@ -10,7 +10,7 @@ use Rattle.jl_replay.specs.declared.running.Running.{Running}
 use Rattle.jl_replay.specs.Told.{trace_told, end_told, steps_before, stretch}
 use Rattle.jl_replay.specs.Moves.{MayGoOn}
 
--- a task may go on, and what it is told to do next that others see is this definition or spawn, which the next entry tells
+-- a task may go on, and what it is told to do next that others see is this definition, deletion or spawn, which the next entry tells
 pub record IsNextStep (P : Program) (all : List Entry) (es : List Event) (task : ℕ) (r : Running) (step : Step) : Type 0 where
   pub going : MayGoOn P es task (trace_told task all) r
   pub more : List Step

@@ -10,8 +10,8 @@ use Rattle.jl_calculus.specs.declared.history.TraceItem.{TraceItem}
 use Rattle.jl_calculus.specs.Legal.{fuel_of, HasRun, IsLegal}
 use Rattle.jl_calculus.specs.Past.{tasks_of, own_starts}
 use Rattle.jl_calculus.specs.Ranges.{keys_of}
-use Rattle.jl_calculus.specs.Run.{a_definition, a_spawn}
-use Rattle.jl_lead.specs.Coming.{ComesTo, TellsDefinition, TellsSpawn, RunsSo, IsTheRun}
+use Rattle.jl_calculus.specs.Run.{a_definition, a_deletion, a_spawn}
+use Rattle.jl_lead.specs.Coming.{ComesTo, TellsDefinition, TellsDeletion, TellsSpawn, RunsSo, IsTheRun}
 use Rattle.jl_lead.specs.Leads.{GoesOn}
 use Rattle.jl_lead.proofs.EventFacts.{goes_self}
 use Rattle.jl_report.specs.declared.entry.Step.{Step}
@@ -32,8 +32,8 @@ use Rattle.jl_replay.specs.Following.{AreReplayed, AreJudged, IsToldBy, IsKeyAt}
 use Rattle.jl_replay.proofs.Next.{IsNextStep, IsLastStep}
 use Rattle.jl_replay.proofs.Items.{steps_told}
 use Rattle.jl_replay.proofs.Lists.{cut_at, get_front, take_front, take_next, each_push, entries_length, entries_more, entry_there, keys_told, tasks_told}
-use Rattle.jl_replay.proofs.ByEntry.{key_with, fill_with, def_with, spawn_with, end_with, key_entry}
-use Rattle.jl_replay.proofs.LegalLed.{IsLedSo, may_come, led_definition, led_spawn, led_end}
+use Rattle.jl_replay.proofs.ByEntry.{key_with, fill_with, def_with, del_with, spawn_with, end_with, key_entry}
+use Rattle.jl_replay.proofs.LegalLed.{IsLedSo, may_come, led_definition, led_deletion, led_spawn, led_end}
 
 -- ---- the one run of a trace
 
@@ -123,6 +123,11 @@ module _ (P : Program) (all : List Entry) (j : AreJudged P all) where
         let (more, legal, told) = ahead xs l t (Ev.Def task site) at in
         led_definition P all es more task site legal told
 
+    pub legal_deletion : (xs : List Event) → IsLegal P xs → entries_of P xs ≡ all → (task place : ℕ) → slice_get xs (length es) ≡ Some (Ev.Del task place) → IsLedSo P all es task (a_deletion place)
+    legal_deletion xs l t task place at =
+        let (more, legal, told) = ahead xs l t (Ev.Del task place) at in
+        led_deletion P all es more task place legal told
+
     pub legal_spawn : (xs : List Event) → IsLegal P xs → entries_of P xs ≡ all → (task child : ℕ) (start : Start) → slice_get xs (length es) ≡ Some (Ev.Spawn task child start) → IsLedSo P all es task (a_spawn start)
     legal_spawn xs l t task child start at =
         let (more, legal, told) = ahead xs l t (Ev.Spawn task child start) at in
@@ -184,6 +189,18 @@ module _ (P : Program) (all : List Entry) (j : AreJudged P all) where
         (λ xs l t front.
         let (e, at, is) = legal_next (E.Def task site) there xs l t in
         at ∙ ap Some (def_with P (length (keys_of es)) e task site is))
+
+    pub deletion_more : (task place : ℕ) → slice_get all (length es) ≡ Some (E.Del task place) → (r : Running) → IsNextStep P all es task r (S.Del place (length es)) → (fuel : ℕ)
+        → TellsDeletion P es task fuel (told_so_far es (trace_told task all) r.told) place true → fuel_of es ≡ Some fuel → AreReplayed P all (es ++ Ev.Del task place ∷ [])
+    deletion_more task place there r next fuel tells f =
+        replayed_more (E.Del task place) there (Ev.Del task place) refl
+        (λ other g.
+        let same : fuel ≡ other = (let z : Some fuel ≡ Some other = sym f ∙ g in cc) in
+        subst (λ ss. ComesTo P es task es other (items_told es ss) (a_deletion place)) (sym next.before)
+        (subst (λ m. ComesTo P es task es m (told_so_far es (trace_told task all) r.told) (a_deletion place)) same ((tells es (goes_self es)).0 refl)))
+        (λ xs l t front.
+        let (e, at, is) = legal_next (E.Del task place) there xs l t in
+        at ∙ ap Some (del_with P (length (keys_of es)) e task place is))
 
     pub spawn_more : (task child place : ℕ) → slice_get all (length es) ≡ Some (E.Spawn task child place) → (r : Running) → IsNextStep P all es task r (S.Spawn child (length es)) → (fuel : ℕ)
         → TellsSpawn P es task fuel (told_so_far es (trace_told task all) r.told) place true → fuel_of es ≡ Some fuel → (start : Start) → start.spawn ≡ place

@@ -5,14 +5,15 @@ use Rattle.jl_calculus.specs.declared.history.Event.{Event}
 use Rattle.jl_calculus.specs.declared.history.TraceItem.{TraceItem}
 use Rattle.jl_calculus.specs.declared.history.TraceItem.TheVariants as I
 use Rattle.jl_calculus.specs.Legal.{AreTrueOf}
+use Rattle.jl_model.specs.declared.limits.TheConstants.{MOST_WORLDS}
+use Rattle.jl_calculus.specs.World.{world_of}
 use Rattle.jl_calculus.specs.Past.{done_of, EndedSo, IsInOrder, place, past, own_items}
 use Rattle.jl_lead.specs.Stretch.{IsStretch}
 use Rattle.jl_report.specs.declared.entry.Step.{Step}
 use Rattle.jl_report.specs.declared.entry.Step.TheVariants as S
-use Rattle.jl_report.proofs.PlainLemmas.{names_nothing}
 use Rattle.jl_report.specs.HistoryText.{step_of}
 use Rattle.jl_causes.specs.Sketch.{untold, item_of, items_of}
-use Rattle.jl_causes.proofs.AlikeLemmas.{AreAlike, Same, alike_take, same, world_to}
+use Rattle.jl_causes.proofs.AlikeLemmas.{AreAlike, Same, alike_take, same, world_to, absent_to}
 use Rattle.jl_causes.proofs.TraceLemmas.{ended_is, is_ended}
 use Rattle.jl_replay.specs.Told.{steps_before, stretch, outcome_or_nothing, items_told, is_own}
 use Rattle.jl_replay.proofs.FirstRound.{done_whole}
@@ -126,19 +127,20 @@ true_stretch P es task (S.Absent at p ∷ ss) h = (h.0, true_stretch P es task s
 told_ended : (es : List Event) (of p : ℕ) → IsSome (done_of of (take p es)) → EndedSo (done_of of (take p es)) (outcome_or_nothing (done_of of es))
 told_ended es of p h = ended_is (done_of of (take p es)) (outcome_or_nothing (done_of of es)) h (λ ended q. sym (ap outcome_or_nothing (done_whole of p es ended q)))
 
--- steps that are true of what the entries tell, none of them past these events; where there is no deletion place, none tells of one
-module _ (P : Program) (plain : P.deletes ≡ []) (es ds : List Event) (alike : AreAlike (take (length es) ds) es) (n : ℕ) (far : length es ≤ n) where
+-- steps that are true of what the entries tell, none of them past these events
+module _ (P : Program) (es ds : List Event) (room : world_of es ≤ MOST_WORLDS) (alike : AreAlike (take (length es) ds) es) (n : ℕ) (far : length es ≤ n) where
   same_first : (p : ℕ) → p ≤ length es → Same (take p (take n ds)) (take p es)
   same_first p l =
       let q : take p (take (length es) ds) ≡ take p (take n ds) = take-take p (length es) ds l ∙ sym (take-take p n ds (omega (arith, l, far))) in
       same (take p (take n ds)) (take p es) (subst (λ xs. AreAlike xs (take p es)) q (alike_take p (take (length es) ds) es alike))
 
-  pub stretch_true : (task low : ℕ) (ss : List Step) → IsInOrder low (items_of (stretch ss)) (length es) → AreTrueOf P (take n ds) task (items_of (stretch ss)) → IsStretch es low (items_told es (stretch ss))
-  stretch_true task low [] h t = h
-  stretch_true task low (S.Def site p ∷ ss) h t = h
-  stretch_true task low (S.Spawn child p ∷ ss) h t = h
-  stretch_true task low (S.Del at p ∷ ss) h t = h
-  stretch_true task low (S.Absent at p ∷ ss) h t = absurd (names_nothing P plain at t.0.1.known)
+  pub stretch_true : (task low : ℕ) (ss : List Step) → IsInOrder low (items_of (stretch ss)) (length es) → AreTrueOf P (take n ds) task (items_of (stretch ss)) → IsStretch P es low (items_told es (stretch ss))
+  stretch_true task low [] h t = (h, room)
+  stretch_true task low (S.Def site p ∷ ss) h t = (h, room)
+  stretch_true task low (S.Spawn child p ∷ ss) h t = (h, room)
+  stretch_true task low (S.Del at p ∷ ss) h t = (h, room)
+  stretch_true task low (S.Absent at p ∷ ss) h t =
+      let l = order_high p (items_of (stretch ss)) (length es) h.1 in (h.0, l, absent_to P (take p (take n ds)) (take p es) (same_first p l) at t.0.1, stretch_true task p ss h.1 t.1)
   stretch_true task low (S.Look w p ∷ ss) h t =
       let l = order_high p (items_of (stretch ss)) (length es) h.1 in (h.0, l, world_to P (take p (take n ds)) (take p es) (same_first p l) ∙ t.0.1, stretch_true task p ss h.1 t.1)
   stretch_true task low (S.Fetch of p ∷ ss) h t =

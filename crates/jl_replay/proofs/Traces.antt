@@ -4,6 +4,9 @@ use Rattle.std.specs.Option.{is_some}
 use Rattle.std.proofs.lemmas.Option.{same_Some, slice_get_within}
 use Rattle.jl_program.specs.declared.tree.Program.{Program}
 use Rattle.jl_program.specs.declared.tree.Start.{Start}
+use Rattle.jl_model.specs.declared.limits.TheConstants.{MOST_WORLDS}
+use Rattle.jl_calculus.specs.World.{world_of}
+use Rattle.jl_world.proofs.Bounds.{few_worlds}
 use Rattle.jl_calculus.specs.declared.history.Event.{Event}
 use Rattle.jl_calculus.specs.declared.history.Event.TheVariants as Ev
 use Rattle.jl_calculus.specs.declared.history.Record.{Record}
@@ -33,7 +36,7 @@ use Rattle.jl_replay.specs.declared.running.Running.{Running}
 use Rattle.jl_replay.specs.Told.{trace_told, end_told, steps_before, stretch, items_told, is_own}
 use Rattle.jl_replay.specs.Moves.{IsFitting, MayGoOn}
 use Rattle.jl_replay.specs.Following.{IsOnItsWay, AreReplayed, AreJudged}
-use Rattle.jl_replay.proofs.FirstRound.{Front, front}
+use Rattle.jl_replay.proofs.FirstRound.{Front, front, stands}
 use Rattle.jl_replay.proofs.Items.{items_true}
 use Rattle.jl_replay.proofs.Lists.{tasks_some}
 use Rattle.jl_replay.proofs.Next.{IsNextStep, IsLastStep}
@@ -59,11 +62,11 @@ module _ (P : Program) (es : List Event) (task : ℕ) where
 
 -- ---- where a task ends that runs at the next entry
 
-module _ (P : Program) (plain : P.deletes ≡ []) (all : List Entry) (well : StartWell all) (ds : List Event) (c : AreClean P all all ds) where
+module _ (P : Program) (all : List Entry) (well : StartWell all) (ds : List Event) (c : AreClean P all all ds) where
   ends_so : (task n : ℕ) → IsRunning (take n ds) task → IsFirstEnd task all
   ends_so task n h =
       let few : task < tasks_of ds = omega (arith, h.started, tasks_first n ds) in
-      first_end task all (ends_same P all ds task c.told ∙ finished P plain all well ds c task few)
+      first_end task all (ends_same P all ds task c.told ∙ finished P all well ds c task few)
 
   ends_past : (task n : ℕ) → IsRunning (take n ds) task → (e : IsFirstEnd task all) → n ≤ e.at
   ends_past task n h e =
@@ -131,10 +134,10 @@ tasks_more m n by child start es l g =
     in
     omega (arith, whole, tasks_append (take m es) (Ev.Spawn by child start ∷ rest), tasks_some rest)
 
-module _ (P : Program) (plain : P.deletes ≡ []) (all : List Entry) (well : StartWell all) (ds : List Event) (c : AreClean P all all ds) where
+module _ (P : Program) (all : List Entry) (well : StartWell all) (ds : List Event) (c : AreClean P all all ds) where
   spawn_comes : (m by child : ℕ) (start : Start) → slice_get ds m ≡ Some (Ev.Spawn by child start) → child ≡ tasks_of (take m ds)
   spawn_comes m by child start at =
-      let h : MayCome P (take m ds) (Ev.Spawn by child start) = comes_at P plain all well all ds [] (append-nil all) c m (Ev.Spawn by child start) at in
+      let h : MayCome P (take m ds) (Ev.Spawn by child start) = comes_at P all well all ds [] (append-nil all) c m (Ev.Spawn by child start) at in
       h.next
 
   -- no event starts the root
@@ -155,7 +158,7 @@ module _ (P : Program) (plain : P.deletes ≡ []) (all : List Entry) (well : Sta
       let T : List Step = trace_told task all in
       let few : e.at < length ds = omega (arith, slice_get_within all e.at (E.Done task e.calls T e.output e.ending) e.there, tell_length P all ds c.told) in
       let high : length (take e.at ds) ≡ end_told task 0 all = omega (arith, length-take-le e.at ds (omega (arith, few)), e.counted 0) in
-      subst (λ k. IsInOrder low (items_of T) k) high (subst (λ k. IsInOrder k (items_of T) (length (take e.at ds))) is (true_trace P plain all well ds c task e).in_order)
+      subst (λ k. IsInOrder low (items_of T) k) high (subst (λ k. IsInOrder k (items_of T) (length (take e.at ds))) is (true_trace P all well ds c task e).in_order)
 
 -- ---- the next step
 
@@ -176,7 +179,7 @@ module _ (P : Program) (all : List Entry) (es : List Event) (task : ℕ) (r : Ru
       ∙ ap (λ ss. own_items (items_of ss)) (take-append-drop r.told T)
       ∙ h)
 
-  pub goes_on : IsStretch es r.seen (items_told es (stretch (drop r.told (trace_told task all)))) → MayGoOn P es task (trace_told task all) r
+  pub goes_on : IsStretch P es r.seen (items_told es (stretch (drop r.told (trace_told task all)))) → MayGoOn P es task (trace_told task all) r
   goes_on h = record {
     fitting = way.fitting;
     placed = way.placed;
@@ -184,7 +187,7 @@ module _ (P : Program) (all : List Entry) (es : List Event) (task : ℕ) (r : Ru
     stretch_is = h;
   }
 
-  module _ (plain : P.deletes ≡ []) (ds : List Event) (alike : AreAlike (take (length es) ds) es) (n : ℕ) (far : length es ≤ n) (ended : Record) (trace_is : ended.trace ≡ items_of (trace_told task all)) (h : HasTrueTrace P (take n ds) task ended) where
+  module _ (room : world_of es ≤ MOST_WORLDS) (ds : List Event) (alike : AreAlike (take (length es) ds) es) (n : ℕ) (far : length es ≤ n) (ended : Record) (trace_is : ended.trace ≡ items_of (trace_told task all)) (h : HasTrueTrace P (take n ds) task ended) where
     true_rest : AreTrueOf P (take n ds) task (items_of (stretch (drop r.told (trace_told task all))))
     true_rest =
         let T : List Step = trace_told task all in
@@ -208,7 +211,7 @@ module _ (P : Program) (all : List Entry) (es : List Event) (task : ℕ) (r : Ru
         in
         record {
           going = goes_on
-              (stretch_true P plain es ds alike n far task r.seen ss (subst (IsInOrder r.seen (items_of (stretch ss))) at (order_front r.seen high (stretch ss) s more rest_order)) true_rest);
+              (stretch_true P es ds room alike n far task r.seen ss (subst (IsInOrder r.seen (items_of (stretch ss))) at (order_front r.seen high (stretch ss) s more rest_order)) true_rest);
           more = more;
           rest = split;
           before = ap (steps_before (length es)) whole
@@ -226,7 +229,7 @@ module _ (P : Program) (all : List Entry) (es : List Event) (task : ℕ) (r : Ru
         subst (λ k. IsInOrder r.seen (items_of (stretch ss)) k) end (subst (λ zs. IsInOrder r.seen (items_of zs) (end_told task 0 all)) (sym none) way.ordered)
         in
         record {
-          going = goes_on (stretch_true P plain es ds alike n far task r.seen ss order true_rest);
+          going = goes_on (stretch_true P es ds room alike n far task r.seen ss order true_rest);
           told = told;
           whole = sym (take-append-drop r.told T) ∙ ap (λ zs. take r.told T ++ zs) (sym none);
         }
@@ -234,37 +237,49 @@ module _ (P : Program) (all : List Entry) (es : List Event) (task : ℕ) (r : Ru
 -- ---- what the next entry tells
 
 module _ (P : Program) (all : List Entry) (j : AreJudged P all) where
-  -- a definition or a spawn that the next entry tells is the next own step
-  step_next : (es : List Event) (f : Front P all es) (task : ℕ) (x : Entry) → slice_get all (length es) ≡ Some x → is_end_of task x ≡ false → IsRunning (take (length es) f.ds) task
+  -- the entries so far make no more worlds than a run may have
+  few_here : (es : List Event) → AreReplayed P all es → world_of es ≤ MOST_WORLDS
+  few_here [] h = omega arith
+  few_here (e ∷ es) h = few_worlds P (e ∷ es) (stands P all j (e ∷ es) h (omega arith)).0
+
+  -- a definition, a deletion or a spawn that the next entry tells is the next own step
+  step_next : (es : List Event) (h : AreReplayed P all es) (f : Front P all es) (task : ℕ) (x : Entry) → slice_get all (length es) ≡ Some x → is_end_of task x ≡ false → IsRunning (take (length es) f.ds) task
       → (s : Step) → is_own s ≡ true → place (item_of s) ≡ length es → past (item_of s) ≡ length es + 1
       → ((d : Event) (rest : List Event) → Tells P x d → own_events task (length es) (d ∷ rest) ≡ item_of s ∷ own_events task (length es + 1) rest)
       → (r : Running) → IsOnItsWay P all es task r → IsNextStep P all es task r s
-  step_next es f task x at other running s own here after made r way =
+  step_next es h f task x at other running s own here after made r way =
       let n : ℕ = length es in
-      let e = ends_so P j.plain all j.well f.ds f.clean task n running in
-      let low = ends_past P j.plain all j.well f.ds f.clean task n running e in
+      let e = ends_so P all j.well f.ds f.clean task n running in
+      let low = ends_past P all j.well f.ds f.clean task n running e in
       let apart : e.at ≡ n → ⊥ =
       λ q. not_end task n e.calls (trace_told task all) e.output e.ending x all other at (subst (λ k. slice_get all k ≡ Some (E.Done task e.calls (trace_told task all) e.output e.ending)) q e.there)
       in
       let (d, there, tells) = event_at P all f.ds n x f.clean.told at in
       let (rest, cut) = cut_between n e.at f.ds d (omega (arith, low, apart)) there in
       let first : own_events task n (drop n (take e.at f.ds)) ≡ item_of s ∷ own_events task (n + 1) rest = ap (own_events task n) cut ∙ made d rest tells in
-      next_step P all es task r way j.plain f.ds f.alike e.at low (record_of e.calls (trace_told task all) e.output) refl (true_trace P j.plain all j.well f.ds f.clean task e) s (own_events task (n + 1) rest) own here after
-      (own_here P j.plain all j.well f.ds f.clean es f.alike task e low ∙ ap (λ is. own_events task 0 es ++ is) first)
+      next_step P all es task r way (few_here es h) f.ds f.alike e.at low (record_of e.calls (trace_told task all) e.output) refl (true_trace P all j.well f.ds f.clean task e) s (own_events task (n + 1) rest) own here after
+      (own_here P all j.well f.ds f.clean es f.alike task e low ∙ ap (λ is. own_events task 0 es ++ is) first)
 
   pub definition_next : (es : List Event) → AreReplayed P all es → (task site : ℕ) → slice_get all (length es) ≡ Some (E.Def task site) → (r : Running) → IsOnItsWay P all es task r → IsNextStep P all es task r (S.Def site (length es))
   definition_next es h task site at r way =
       let f = front P all j es h in
       let n : ℕ = length es in
-      step_next es f task (E.Def task site) at refl (f.clean.clean n (E.Def task site) at C.NotRunning) (S.Def site n) refl refl refl
+      step_next es h f task (E.Def task site) at refl (f.clean.clean n (E.Def task site) at C.NotRunning) (S.Def site n) refl refl refl
       (λ d rest tells. ap (λ x. own_events task n (x ∷ rest)) tells ∙ ap (λ b. cond b (I.Def site n ∷ own_events task (n + 1) rest) (own_events task (n + 1) rest)) (self_eq task)) r way
+
+  pub deletion_next : (es : List Event) → AreReplayed P all es → (task place : ℕ) → slice_get all (length es) ≡ Some (E.Del task place) → (r : Running) → IsOnItsWay P all es task r → IsNextStep P all es task r (S.Del place (length es))
+  deletion_next es h task place at r way =
+      let f = front P all j es h in
+      let n : ℕ = length es in
+      step_next es h f task (E.Del task place) at refl (f.clean.clean n (E.Del task place) at C.NotRunning) (S.Del place n) refl refl refl
+      (λ d rest tells. ap (λ x. own_events task n (x ∷ rest)) tells ∙ ap (λ b. cond b (I.Del place n ∷ own_events task (n + 1) rest) (own_events task (n + 1) rest)) (self_eq task)) r way
 
   pub spawn_next : (es : List Event) → AreReplayed P all es → (task child at_place : ℕ) → slice_get all (length es) ≡ Some (E.Spawn task child at_place) → (r : Running) → IsOnItsWay P all es task r
       → IsNextStep P all es task r (S.Spawn child (length es))
   spawn_next es h task child at_place at r way =
       let f = front P all j es h in
       let n : ℕ = length es in
-      step_next es f task (E.Spawn task child at_place) at refl (f.clean.clean n (E.Spawn task child at_place) at C.NotRunning) (S.Spawn child n) refl refl refl
+      step_next es h f task (E.Spawn task child at_place) at refl (f.clean.clean n (E.Spawn task child at_place) at C.NotRunning) (S.Spawn child n) refl refl refl
       (λ d rest tells. ap (λ x. own_events task n (x ∷ rest)) tells ∙ ap (λ b. cond b (I.Spawn child n ∷ own_events task (n + 1) rest) (own_events task (n + 1) rest)) (self_eq task)) r way
 
   pub end_next : (es : List Event) → AreReplayed P all es → (task calls : ℕ) (trace : List Step) (output : List ℕ) (ending : Ending) → slice_get all (length es) ≡ Some (E.Done task calls trace output ending) → (r : Running)
@@ -273,22 +288,22 @@ module _ (P : Program) (all : List Entry) (j : AreJudged P all) where
       let f = front P all j es h in
       let n : ℕ = length es in
       let running : IsRunning (take n f.ds) task = f.clean.clean n (E.Done task calls trace output ending) at C.NotRunning in
-      let e = ends_so P j.plain all j.well f.ds f.clean task n running in
-      let low = ends_past P j.plain all j.well f.ds f.clean task n running e in
+      let e = ends_so P all j.well f.ds f.clean task n running in
+      let low = ends_past P all j.well f.ds f.clean task n running e in
       let here : e.at ≡ n = omega (arith, low, end_past task e.at n calls trace output ending all e.before at) in
       let there : slice_get all n ≡ Some (E.Done task e.calls (trace_told task all) e.output e.ending) = subst (λ k. slice_get all k ≡ Some (E.Done task e.calls (trace_told task all) e.output e.ending)) here e.there in
       let told : trace_told task all ≡ trace = cc (at, there) in
       let s = same (take n f.ds) es f.alike in
       let end : end_told task 0 all ≡ n = omega (arith, e.counted 0, here) in
-      last_step P all es task r way j.plain f.ds f.alike e.at low (record_of e.calls (trace_told task all) e.output) refl (true_trace P j.plain all j.well f.ds f.clean task e)
-      (own_told P j.plain all j.well f.ds f.clean task e ∙ ap (λ k. own_events task 0 (take k f.ds)) here ∙ sym (s.own task 0)) end trace told
+      last_step P all es task r way (few_here es h) f.ds f.alike e.at low (record_of e.calls (trace_told task all) e.output) refl (true_trace P all j.well f.ds f.clean task e)
+      (own_told P all j.well f.ds f.clean task e ∙ ap (λ k. own_events task 0 (take k f.ds)) here ∙ sym (s.own task 0)) end trace told
 
   pub root_ordered : IsInOrder 1 (items_of (trace_told 0 all)) (end_told 0 0 all)
   root_ordered =
       let ds : List Event = j.clean.0 in
       let c : AreClean P all all ds = j.clean.1 in
-      let e = first_end 0 all (ends_same P all ds 0 c.told ∙ finished P j.plain all j.well ds c 0 (tasks_some ds)) in
-      ordered_from P j.plain all j.well ds c 0 1 e (first_none 0 0 (take e.at ds) (root_unspawned P j.plain all j.well ds c e.at))
+      let e = first_end 0 all (ends_same P all ds 0 c.told ∙ finished P all j.well ds c 0 (tasks_some ds)) in
+      ordered_from P all j.well ds c 0 1 e (first_none 0 0 (take e.at ds) (root_unspawned P all j.well ds c e.at))
 
   pub child_ordered : (es : List Event) → AreReplayed P all es → (task child at_place : ℕ) → slice_get all (length es) ≡ Some (E.Spawn task child at_place)
       → IsInOrder (length es + 1) (items_of (trace_told child all)) (end_told child 0 all)
@@ -303,7 +318,7 @@ module _ (P : Program) (all : List Entry) (j : AreJudged P all) where
       let made : slice_get ds n ≡ Some (Ev.Spawn task child (start_at at_place)) = there ∙ ap (λ x. Some x) tells in
       let later : n < e.at = ends_after ds n e.at (omega (arith, next, running.started)) in
       let none : NoSpawn child (take n (take e.at ds)) =
-      subst (λ k. NoSpawn k (take n (take e.at ds))) (sym next) (subst (NoSpawn (tasks_of (take n ds))) (sym (take-take n e.at ds (omega (arith, later)))) (child_unspawned P j.plain all j.well ds c n))
+      subst (λ k. NoSpawn k (take n (take e.at ds))) (sym next) (subst (NoSpawn (tasks_of (take n ds))) (sym (take-take n e.at ds (omega (arith, later)))) (child_unspawned P all j.well ds c n))
       in
       let low : 0 + n + 1 ≡ n + 1 = omega arith in
-      ordered_from P j.plain all j.well ds c child (n + 1) e (first_spawned child 0 n task (start_at at_place) (take e.at ds) (get_first e.at n ds later ∙ made) none ∙ low)
+      ordered_from P all j.well ds c child (n + 1) e (first_spawned child 0 n task (start_at at_place) (take e.at ds) (get_first e.at n ds later ∙ made) none ∙ low)

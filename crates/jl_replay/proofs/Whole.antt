@@ -35,6 +35,6 @@ module _ (P : Program) (all : List Entry) (j : AreJudged P all) where
   all_legal es h many =
       let told = whole_told es h many in
       let (stand, traced, finished) =
-      no_cause_is_legal P es j.plain j.apart (keys_are P all j es h.made) (fetches_are P all j es h.made) (subst StartWell (sym told) j.well) (subst (HasNoCause P) (sym told) j.clean)
+      no_cause_is_legal P es j.apart (keys_are P all j es h.made) (fetches_are P all j es h.made) (subst StartWell (sym told) j.well) (subst (HasNoCause P) (sym told) j.clean)
       in
       (es, record { so_far = record { stand = stand; traced = traced; runs = runs_are es h }; finished = finished }, told)

@@ -49,9 +49,8 @@ pub record AreReplayed (P : Program) (all : List Entry) (es : List Event) : Type
   pub made : EachAfter (IsMadeByRun P all) [] es
   pub legal : (xs : List Event) → IsLegal P xs → entries_of P xs ≡ all → take (length es) xs ≡ es
 
--- entries of which no cause holds that needs no run, for a program without a deletion place
+-- entries of which no cause holds that needs no run
 pub record AreJudged (P : Program) (all : List Entry) : Type 0 where
-  pub plain : P.deletes ≡ []
   pub apart : AreApart P
   pub well : StartWell all
   pub clean : HasNoCause P all

@@ -10,14 +10,14 @@ use Rattle.jl_calculus.specs.Legal.{MayStand}
 use Rattle.jl_calculus.specs.Past.{tasks_of}
 use Rattle.jl_calculus.specs.Run.{a_spawn}
 use Rattle.jl_machine.specs.Steps.{MachineFits, IsLost, fuel_of, trace_of}
-use Rattle.jl_lead.specs.Coming.{ComesTo, TellsDefinition, TellsSpawn}
+use Rattle.jl_lead.specs.Coming.{ComesTo, TellsDefinition, TellsDeletion, TellsSpawn}
 use Rattle.jl_lead.specs.Leads.{GoesOn, IsPlaced, led_knows}
 use Rattle.jl_lead.specs.Stretch.{IsStretch}
 use Rattle.jl_report.specs.declared.entry.Step.{Step}
 use Rattle.jl_replay.specs.declared.running.Running.{Running}
 use Rattle.jl_replay.specs.Told.{stretch, items_told}
 
--- what the trace tells up to the next definition or spawn, where so many steps were followed
+-- what the trace tells up to the next definition, deletion or spawn, where so many steps were followed
 abbrev pub told_so_far : List Event → List Step → ℕ → List TraceItem
 told_so_far es trace told = items_told es (take told trace ++ stretch (drop told trace))
 
@@ -26,14 +26,14 @@ pub record IsFitting (P : Program) (es : List Event) (task : ℕ) (r : Running) 
   pub fits : (items : List TraceItem) (told : ℕ) (alone : Bool) → MachineFits P (fuel_of r.machine) (led_knows P es task items told r.seen r.looks alone) r.machine
   pub going : IsLost r.machine → ⊥
 
--- a task may be led along what its trace tells up to the next definition or spawn
+-- a task may be led along what its trace tells up to the next definition, deletion or spawn
 pub record MayGoOn (P : Program) (es : List Event) (task : ℕ) (trace : List Step) (r : Running) : Type 0 where
   pub fitting : IsFitting P es task r
   pub placed : IsPlaced es task r.seen
   pub followed : trace_of r.machine ≡ items_told es (take r.told trace)
-  pub stretch_is : IsStretch es r.seen (items_told es (stretch (drop r.told trace)))
+  pub stretch_is : IsStretch P es r.seen (items_told es (stretch (drop r.told trace)))
 
--- it was led over that, and over a definition or a spawn that it made then
+-- it was led over that, and over a definition, a deletion or a spawn that it made then
 pub record HasMoved (P : Program) (es now : List Event) (task : ℕ) (trace : List Step) (r r' : Running) (item : TraceItem) : Type 0 where
   pub fitting : IsFitting P now task r'
   pub fuel : fuel_of r'.machine ≡ fuel_of r.machine
@@ -52,6 +52,18 @@ abbrev pub FollowsDefinition : Program → List Event → ℕ → List Step → 
 FollowsDefinition P es task trace r site true past r' =
     TellsDefinition P es task (fuel_of r.machine) (told_so_far es trace r.told) site true × HasMadeDefinition P es task trace r site past r'
 FollowsDefinition P es task trace r site false past r' = TellsDefinition P es task (fuel_of r.machine) (told_so_far es trace r.told) site false
+
+-- it has made the deletion at this place
+pub record HasMadeDeletion (P : Program) (es : List Event) (task : ℕ) (trace : List Step) (r : Running) (place : ℕ) (past : Program × List Event) (r' : Running) : Type 0 where
+  pub program : past.0 ≡ P
+  pub events : past.1 ≡ es ++ Ev.Del task place ∷ []
+  pub moved : HasMoved P es past.1 task trace r r' (I.Del place (length es))
+
+-- what is told of a deletion: whether the run of its task comes to it, which has made it then
+abbrev pub FollowsDeletion : Program → List Event → ℕ → List Step → Running → ℕ → Bool → Program × List Event → Running → Type 0
+FollowsDeletion P es task trace r place true past r' =
+    TellsDeletion P es task (fuel_of r.machine) (told_so_far es trace r.told) place true × HasMadeDeletion P es task trace r place past r'
+FollowsDeletion P es task trace r place false past r' = TellsDeletion P es task (fuel_of r.machine) (told_so_far es trace r.told) place false
 
 -- it has started the next task, from the start that each run has there
 pub record HasMadeTask (P : Program) (es : List Event) (task : ℕ) (trace : List Step) (r : Running) (place : ℕ) (past : Program × List Event) (r' : Running) : Type 0 where

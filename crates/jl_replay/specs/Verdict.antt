@@ -4,7 +4,7 @@ use Rattle.jl_program.specs.declared.tree.Program.{Program}
 use Rattle.jl_calculus.specs.declared.history.Event.{Event}
 use Rattle.jl_calculus.specs.Legal.{IsLegal}
 use Rattle.jl_report.specs.declared.entry.Entry.{Entry}
-use Rattle.jl_report.specs.HistoryText.{entries_of, entries_text, history_text}
+use Rattle.jl_report.specs.HistoryText.{entries_of, entries_text, has_places, history_text}
 use Rattle.jl_history.specs.Form.{AreEntries, IsFirstBad}
 use Rattle.jl_causes.specs.declared.cause.Cause.{Cause}
 use Rattle.jl_causes.specs.declared.cause.Cause.TheVariants.{RunDiffers}
@@ -31,14 +31,14 @@ IsCause P all n cause = IsFirstCause P all n cause ⊎ ((cause ≡ RunDiffers) �
 
 -- the text is not of this form, and that of no legal history: the first line that is not
 pub record IsBadText (P : Program) (text : List ℕ) (line : ℕ) : Type 0 where
-  pub first : IsFirstBad line text
+  pub first : IsFirstBad (has_places P) line text
   pub illegal : IsNoLegalText P text
 
 -- the text is of this form, and that of no legal history: the first event that has a cause, and the first of its causes
 pub record IsIllegalText (P : Program) (text : List ℕ) (n : ℕ) (cause : Cause) : Type 0 where
   pub all : List Entry
-  pub form : AreEntries all
-  pub is_text : text ≡ entries_text all
+  pub form : AreEntries (has_places P) all
+  pub is_text : text ≡ entries_text (has_places P) all
   pub holds : IsCause P all n cause
   pub illegal : IsNoLegalText P text
 
@@ -56,4 +56,4 @@ AreJudgedSo P all (V.Illegal n cause) = IsCause P all n cause × (AreLegalEntrie
 
 -- the entries of each legal history with this text may stand in a text
 abbrev pub AreRead : Program → List ℕ → Type 0
-AreRead P text = (es : List Event) → IsLegal P es → text ≡ history_text P es → AreEntries (entries_of P es)
+AreRead P text = (es : List Event) → IsLegal P es → text ≡ history_text P es → AreEntries (has_places P) (entries_of P es)

@@ -1,6 +1,6 @@
 //! The second round of a judgement: the first entry that a run differs from.
 
-ghost use Rattle.std.specs.Prelude.{◌≡◌, ◌<◌, ◌^◌, [], length, slice_get, Some, IfOk, MatchOption};
+ghost use Rattle.std.specs.Prelude.{◌≡◌, ◌<◌, ◌^◌, length, slice_get, Some, IfOk, MatchOption};
 ghost use Rattle.jl_report.specs.declared.entry.Entry.TheVariants as E;
 ghost use Rattle.jl_causes.specs.Causes.{StartWell, HasNoCause};
 ghost use Rattle.jl_replay.specs.Differs.{AreLegalEntries};
@@ -26,14 +26,13 @@ fn fuel_of(entries: &[Entry]) -> u64
 }
 
 /// The first entry that the run of its task differs from, led by what the entries tell; none where the entries are those of a legal
-/// history. No cause holds of the entries that needs no run, and the program has no deletion place.
+/// history. No cause holds of the entries that needs no run.
 pub(crate) fn first_difference(
     alloc: Global,
     ready: &Ready,
     ops: &HostOps,
     entries: &[Entry],
 ) -> Result<Option<u32>, AllocError>
-    requires plain { ready.now.deletes ≡ [] }
     requires begun { StartWell entries.now }
     requires few { length entries.now < 2 ^ 32 }
     requires clean { HasNoCause ready.now entries.now }

@@ -8,12 +8,12 @@ ghost use Rattle.jl_calculus.specs.World.{world_of};
 ghost use Rattle.jl_machine.specs.Steps.{fuel_of};
 ghost use Rattle.jl_lead.specs.Coming.{IsNoRun, IsTheRun};
 ghost use Rattle.jl_replay.specs.Told.{stretch};
-ghost use Rattle.jl_replay.specs.Moves.{told_so_far, MayGoOn, FollowsDefinition, FollowsSpawn};
+ghost use Rattle.jl_replay.specs.Moves.{told_so_far, MayGoOn, FollowsDefinition, FollowsDeletion, FollowsSpawn};
 
 use crate::steps::read_stretch;
 use jl_calculus::history::Record;
 use jl_host::HostOps;
-use jl_lead::lead::{lead_to_definition, lead_to_end, lead_to_spawn};
+use jl_lead::lead::{lead_to_definition, lead_to_deletion, lead_to_end, lead_to_spawn};
 use jl_lead::led::Led;
 use jl_machine::Machine;
 use jl_report::Step;
@@ -51,6 +51,35 @@ pub(crate) fn follow_definition<'p>(
     let count = items.len();
     led.turn_to(task, running.seen, running.looks, items);
     let came = lead_to_definition(ready, ops, &mut running.machine, led, site)?;
+    if came {
+        running.told += count + 1;
+        running.seen = led.past.len();
+        running.looks = led.looks;
+    }
+    Ok(came)
+}
+
+/// Leads a task up to the deletion at a place of the program: whether its run comes to it. Where it does, the deletion is made.
+pub(crate) fn follow_deletion<'p>(
+    alloc: Global,
+    ready: &'p Ready,
+    ops: &HostOps,
+    led: &mut Led<'p>,
+    running: &mut Running<'p>,
+    trace: &[Step],
+    task: u32,
+    place: u32,
+) -> Result<bool, AllocError>
+    requires program { led.old.past.0 ≡ ready.now }
+    requires going { MayGoOn ready.now led.old.past.1 task trace.now running.old }
+    requires next { running.old.told + length (stretch (drop running.old.told trace.now)) < length trace.now }
+    requires room { world_of led.old.past.1 < MOST_WORLDS }
+    ensures { IfOk result (λ came. FollowsDeletion ready.now led.old.past.1 task trace.now running.old place came led.new.past running.new) }
+{
+    let items = read_stretch(alloc, &led.past, trace, running.told)?;
+    let count = items.len();
+    led.turn_to(task, running.seen, running.looks, items);
+    let came = lead_to_deletion(ready, ops, &mut running.machine, led, place)?;
     if came {
         running.told += count + 1;
         running.seen = led.past.len();

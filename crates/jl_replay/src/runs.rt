@@ -6,7 +6,7 @@ ghost use Rattle.jl_replay.specs.Following.{AreEnds, AreFollowed, AreJudged, Has
 ghost use Rattle.jl_replay.specs.Moves.{IsLastSpawn, IsNewOn};
 
 use crate::ends::trace_of;
-use crate::running::{Running, follow_definition, follow_end, follow_spawn};
+use crate::running::{Running, follow_definition, follow_deletion, follow_end, follow_spawn};
 use crate::told::is_told;
 use jl_calculus::history::Event;
 use jl_host::HostOps;
@@ -194,6 +194,48 @@ impl<'p> Runs<'p> {
         }
     }
 
+    /// A deletion.
+    fn follow_deletion(
+        &mut self,
+        alloc: Global,
+        ready: &'p Ready,
+        ops: &HostOps,
+        entries: &[Entry],
+        ends: &[u32],
+        n: u32,
+        task: u32,
+        place: u32,
+    ) -> Result<bool, AllocError>
+        requires judged { AreJudged ready.now entries.now }
+        requires ends { AreEnds entries.now ends.now }
+        requires here { length self.old.led.past.1 ≡ n }
+        requires entry { slice_get entries.now n ≡ Some (E.Del task place) }
+        requires followed { AreFollowed ready.now entries.now self.old }
+        ensures { IfOk result (λ same. HasFollowed ready.now entries.now n same self.new) }
+    {
+        let trace = trace_of(entries, ends, task);
+        let mut running = take_task(&mut self.tasks, task);
+        match follow_deletion(
+            alloc,
+            ready,
+            ops,
+            &mut self.led,
+            &mut running,
+            trace,
+            task,
+            place,
+        ) {
+            Ok(came) => {
+                put_task(&mut self.tasks, task, running);
+                Ok(came)
+            }
+            Err(error) => {
+                drop(running);
+                Err(error)
+            }
+        }
+    }
+
     /// Whether the run of a task comes to a spawn. Where it does, the next task is started, and not among the tasks yet.
     fn come_to_spawn(
         &mut self,
@@ -346,7 +388,9 @@ impl<'p> Runs<'p> {
             Entry::Def { task, site } => {
                 self.follow_definition(alloc, ready, ops, entries, ends, n, *task, *site)
             }
-            Entry::Del { .. } => unreachable!(),
+            Entry::Del { task, place } => {
+                self.follow_deletion(alloc, ready, ops, entries, ends, n, *task, *place)
+            }
             Entry::Spawn { task, child, place } => {
                 self.follow_spawn(alloc, ready, ops, entries, ends, n, *task, *child, *place)
             }

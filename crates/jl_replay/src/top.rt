@@ -1,9 +1,9 @@
 //! The judgement of a text.
 
-ghost use Rattle.std.specs.Prelude.{◌≡◌, ◌≤◌, ◌↔◌, ℕ, List, [], length, IfOk, IsTrue};
+ghost use Rattle.std.specs.Prelude.{◌≡◌, ◌≤◌, ◌↔◌, ℕ, List, length, IfOk, IsTrue};
 ghost use Rattle.jl_calculus.specs.declared.history.Event.{Event};
 ghost use Rattle.jl_calculus.specs.Legal.{IsLegal};
-ghost use Rattle.jl_report.specs.HistoryText.{history_text};
+ghost use Rattle.jl_report.specs.HistoryText.{has_places, history_text};
 ghost use Rattle.jl_history.specs.declared.fields.TheConstants.{MOST_NUMBER};
 ghost use Rattle.jl_history.specs.declared.history.TheConstants.{MOST_HISTORY_BYTES};
 ghost use Rattle.jl_history.specs.Form.{AreEntries};
@@ -17,7 +17,7 @@ use jl_history::{HistoryFault, MOST_NUMBER, read_history};
 use jl_host::HostOps;
 use jl_keys::{KeyReader, law_keys_apart};
 use jl_program::tree::Program;
-use jl_report::Entry;
+use jl_report::{Entry, has_places};
 use jl_sig::Ready;
 use std::alloc::{AllocError, Global};
 
@@ -28,8 +28,7 @@ fn judge(
     ops: &HostOps,
     entries: &[Entry],
 ) -> Result<Verdict, AllocError>
-    requires plain { ready.now.deletes ≡ [] }
-    requires form { AreEntries entries.now }
+    requires form { AreEntries (has_places ready.now) entries.now }
     ensures { IfOk result (λ verdict. AreJudgedSo ready.now entries.now verdict) }
 {
     law_keys_apart();
@@ -43,13 +42,14 @@ fn judge(
     }
 }
 
-/// Whether each definition site and each spawn place of a program has a number that may stand in a text.
+/// Whether each definition site, each spawn place and each deletion place of a program has a number that may stand in a text.
 fn is_numbered(program: &Program) -> bool
-    ensures { IsTrue result ↔ ((length program.now.sites ≤ MOST_NUMBER) × (length program.now.spawns ≤ MOST_NUMBER)) }
+    ensures { IsTrue result ↔ ((length program.now.sites ≤ MOST_NUMBER) × (length program.now.spawns ≤ MOST_NUMBER) × (length program.now.deletes ≤ MOST_NUMBER)) }
 {
     let sites = program.sites.len() as u64;
     let spawns = program.spawns.len() as u64;
-    sites <= MOST_NUMBER && spawns <= MOST_NUMBER
+    let deletes = program.deletes.len() as u64;
+    sites <= MOST_NUMBER && spawns <= MOST_NUMBER && deletes <= MOST_NUMBER
 }
 
 /// The verdict on a text.
@@ -59,13 +59,13 @@ fn judge_text(
     text: &[u8],
     ops: &HostOps,
 ) -> Result<Verdict, AllocError>
-    requires plain { ready.now.deletes ≡ [] }
     requires short { length text.now ≤ MOST_HISTORY_BYTES }
     requires read { AreRead ready.now text.now }
     ensures verdict { IfOk result (λ verdict. IsVerdict ready.now text.now verdict) }
     ensures legal { (es : List Event) → IsLegal ready.now es → text.now ≡ history_text ready.now es → IfOk result (λ verdict. verdict ≡ Legal (length es)) }
 {
-    match read_history(alloc, text) {
+    let places = has_places(ready.program());
+    match read_history(alloc, places, text) {
         Ok(entries) => {
             let verdict = judge(alloc, ready, ops, entries.as_slice());
             drop(entries);
@@ -80,18 +80,17 @@ fn judge_text(
 /// Judges the text of a history of a program, of at most 67,108,864 bytes: whether it is that of a legal history, and else why not.
 /// `BadText` has the first line that is not of the form. `Illegal` has the least event with a cause, and the first of its causes; the
 /// runs of the tasks are asked only where no other cause holds anywhere. The only error is want of memory. `ops` has the
-/// operations of the prelude. The program has no deletion place, so a text that tells of a deletion is not of the form.
+/// operations of the prelude. A text tells of deletions where the program has a deletion place, and its first line says so.
 ///
-/// The numbers of a text have 32 bits. A program with more definition sites or spawn places than that would need a hundred times
-/// the memory of a machine, and is answered as if memory ran out. No script is such a program: it has at most 4,110 sites, and
-/// fewer spawn places than bytes.
+/// The numbers of a text have 32 bits. A program with more definition sites, spawn places or deletion places than that would need a
+/// hundred times the memory of a machine, and is answered as if memory ran out. No script is such a program: it has at most 4,110
+/// sites, and fewer spawn and deletion places than bytes.
 pub fn replay(
     alloc: Global,
     ready: &Ready,
     text: &[u8],
     ops: &HostOps,
 ) -> Result<Verdict, AllocError>
-    requires plain { ready.now.deletes ≡ [] }
     requires short { length text.now ≤ MOST_HISTORY_BYTES }
     ensures verdict { IfOk result (λ verdict. IsVerdict ready.now text.now verdict) }
     ensures legal { (es : List Event) → IsLegal ready.now es → text.now ≡ history_text ready.now es → IfOk result (λ verdict. verdict ≡ Legal (length es)) }

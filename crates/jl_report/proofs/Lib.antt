@@ -1,4 +1,4 @@
 pub mod EntryLemmas
 pub mod PieceLemmas
 pub mod FamilyLemmas
-pub mod PlainLemmas
+pub mod PlaceLemmas

@@ -3,7 +3,10 @@
 -- It is made in two steps. An entry is what the text tells of an event: its numbers, and the texts of its function, types and
 -- outcome. The lines of the entries, between a first line and a last one, are the text. The second step can be undone: each
 -- line begins with a word of its own, and no name and no text in it has a newline, nor has a function's name a space.
-use Rattle.std.specs.Prelude.{ℕ, ◌+◌, cond, nat_eq, codes, decimal, List, [], ◌∷◌, ◌++◌, length}
+--
+-- There are two versions, which differ in the first line. The second, which may tell of deletions, is that of the programs that
+-- have a deletion place.
+use Rattle.std.specs.Prelude.{ℕ, ◌+◌, Bool, true, false, cond, nat_eq, nat_lt, codes, decimal, List, [], ◌∷◌, ◌++◌, length}
 use Rattle.jl_model.specs.declared.ty.Ty.TheVariants.{Tuple}
 use Rattle.jl_program.specs.declared.tree.Program.{Program}
 use Rattle.jl_program.specs.Text.{function_name, type_text, value_text, fault_text}
@@ -151,13 +154,18 @@ abbrev pub all_lines : List Entry → List ℕ
 all_lines [] = []
 all_lines (e ∷ es) = entry_lines e ++ all_lines es
 
+-- the first line without its newline, where the program has a deletion place or has none
+abbrev pub first_line : Bool → List ℕ
+first_line false = codes "%%history 1"
+first_line true = codes "%%history 2"
+
 -- the first line
-abbrev pub header : List ℕ
-header = codes "%%history 1\n"
+abbrev pub header : Bool → List ℕ
+header places = first_line places ++ codes "\n"
 
 -- the text of entries: a first line, the lines of the entries, and a line that tells how many entries there are
-abbrev pub entries_text : List Entry → List ℕ
-entries_text es = header ++ (all_lines es ++ number_line (codes "end") (length es ∷ []))
+abbrev pub entries_text : Bool → List Entry → List ℕ
+entries_text places es = header places ++ (all_lines es ++ number_line (codes "end") (length es ∷ []))
 
 -- ---- the text of a history
 
@@ -165,6 +173,10 @@ entries_text es = header ++ (all_lines es ++ number_line (codes "end") (length e
 abbrev pub entries_of : Program → List Event → List Entry
 entries_of P es = entries_from P 0 es
 
+-- whether the program has a deletion place
+abbrev pub has_places : Program → Bool
+has_places P = nat_lt 0 (length P.deletes)
+
 -- the text of a history of the program
 abbrev pub history_text : Program → List Event → List ℕ
-history_text P es = entries_text (entries_of P es)
+history_text P es = entries_text (has_places P) (entries_of P es)

@@ -4,7 +4,7 @@ ghost use Rattle.std.specs.Prelude.{◌≡◌, ◌≤◌, ◌<◌, ◌^◌, ◌+
 ghost use Rattle.jl_model.specs.declared.ty.Ty.TheVariants.{Tuple};
 ghost use Rattle.jl_program.specs.Text.{function_name, type_text, value_text, fault_text};
 ghost use Rattle.jl_calculus.specs.declared.history.Event.TheVariants.{Key as KeyEvent, Done as DoneEvent};
-ghost use Rattle.jl_report.specs.HistoryText.{number_line, text_line, steps_of, ending_of, ending_line, entry_of, entry_lines, all_lines, entries_of, keys_with, history_text};
+ghost use Rattle.jl_report.specs.HistoryText.{number_line, text_line, steps_of, ending_of, ending_line, entry_of, entry_lines, all_lines, entries_of, keys_with, first_line, header, has_places, history_text};
 
 use crate::lines::{append_numbers, append_quoted_line, append_spaced};
 use crate::steps::append_steps;
@@ -168,20 +168,41 @@ fn append_end(out: &mut Row<u8>, program: &Program, events: &[Event]) -> Result<
     append_numbers(out, b"end", &[events.len() as u64])
 }
 
+/// Whether a program has a deletion place. The texts of its histories are then of the second version, which can tell of deletions.
+pub fn has_places(program: &Program) -> bool
+    ensures { result ≡ has_places program.now }
+{
+    program.deletes.len() > 0
+}
+
+/// The first line of the text of a history, without its newline, of a program that has a deletion place or has none.
+pub fn first_line(places: bool) -> &'static str
+    ensures { result.now ≡ first_line places }
+{
+    if places { "%%history 2" } else { "%%history 1" }
+}
+
+/// The first line of the history of a program.
+fn append_header(out: &mut Row<u8>, program: &Program) -> Result<(), AllocError>
+    ensures { OnOk result (out.new ≡ out.old ++ header (has_places program.now)) }
+{
+    out.append(first_line(has_places(program)).as_bytes())?;
+    out.append(b"\n")
+}
+
 /// The lines of a history, the first and the last among them.
 fn append_events(out: &mut Row<u8>, program: &Program, events: &[Event]) -> Result<(), AllocError>
     ensures { OnOk result (out.new ≡ out.old ++ history_text program.now events.now) }
 {
-    out.append(b"%%history 1\n")?;
+    append_header(out, program)?;
     append_entries(out, program, events)?;
     append_end(out, program, events)
 }
 
 /// Appends the text of a history of the program, as tools read it: a first line, one line for each event in order, with the
 /// trace, the output and the outcome of each task after the line of its end, and a last line with the number of events.
-/// The program has no deletion place: the first line is that of such a program. The one error is want of memory.
+/// The first line is `%%history 2` where the program has a deletion place, else `%%history 1`. The one error is want of memory.
 pub fn append_history(out: &mut Row<u8>, ready: &Ready, history: &History) -> Result<(), AllocError>
-    requires plain { ready.now.deletes ≡ [] }
     ensures text { OnOk result (out.new ≡ out.old ++ history_text ready.now history.now.events) }
 {
     append_events(out, ready.program(), history.events.as_slice())
@@ -189,7 +210,6 @@ pub fn append_history(out: &mut Row<u8>, ready: &Ready, history: &History) -> Re
 
 /// The text of a history, as [`append_history`] writes it. The one error is want of memory.
 pub fn history_text(alloc: Global, ready: &Ready, history: &History) -> Result<Bytes, AllocError>
-    requires plain { ready.now.deletes ≡ [] }
     ensures text { IfOk result (λ text. text ≡ history_text ready.now history.now.events) }
 {
     let mut out = Row::new(alloc);

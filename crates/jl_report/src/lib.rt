@@ -9,7 +9,7 @@ mod result;
 mod steps;
 mod summed;
 
-pub use entries::{append_history, history_text};
+pub use entries::{append_history, first_line, has_places, history_text};
 pub use entry::{Ending, Entries, Entry, Step, Steps};
 pub use result::{append_result, render, status};
 pub use summed::{append_summary, summary};

@@ -3,7 +3,7 @@
 //! A table or a list of names is dropped by a call before the `?` that follows: with two ways out, the check would
 //! unroll its drop on both.
 
-ghost use Rattle.std.specs.Prelude.{◌≡◌, [], MatchResult, IfOk, None};
+ghost use Rattle.std.specs.Prelude.{◌≡◌, MatchResult, IfOk, None};
 ghost use Rattle.jl_program.specs.Valid.{IsValid};
 ghost use Rattle.jl_formed.specs.Formed.{FormedScript};
 ghost use Rattle.jl_judge.specs.Right.{IsRight};
@@ -76,7 +76,6 @@ pub fn check_script(alloc: Global, script: &Script) -> Result<Program, StaticFau
     ensures means { MatchResult result (λ program. IsProgramOf script.now program)
         (λ fault. IsRefused fault script.now) }
     ensures valid { IfOk result IsValid }
-    ensures plain { IfOk result (λ program. program.deletes ≡ []) }
 {
     let Resolved { program, fault } = come_to(alloc, script)?;
     match fault {
@@ -90,7 +89,6 @@ pub fn program(alloc: Global, script: &Script) -> Result<Ready, StaticFault>
     requires { FormedScript script.now }
     ensures means { MatchResult result (λ ready. IsProgramOf script.now ready)
         (λ fault. IsRefused fault script.now) }
-    ensures plain { IfOk result (λ ready. ready.deletes ≡ []) }
 {
     match check_script(alloc, script) {
         Ok(program) => Ok(Ready::make(alloc, program)?),

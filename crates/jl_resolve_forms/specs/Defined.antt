@@ -50,6 +50,7 @@ expr_step (F.If at bs) = join_names bs
 expr_step (F.IfElse at bs ss) = join_names bs ++ join_names ss
 expr_step (F.Begin at ss) = join_names ss
 expr_step (F.Latest at f xs) = join_names xs
+expr_step (F.Delete at n ty) = []
 expr_step (F.Spawn at x) = x
 expr_step (F.EvalMethod at m) = m
 expr_step (F.EvalBlock at xs) = join_names xs

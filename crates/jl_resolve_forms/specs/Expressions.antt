@@ -1,7 +1,7 @@
 -- What an expression, a statement, a method and an evaluated block become, and what they add (Julia manual, Functions, Control
--- Flow, Metaprogramming, Tasks). A part is read where some slots, static parameters and types are visible; sites and spawn
--- places have their numbers in text order, each before those in its body.
-use Rattle.std.specs.Prelude.{ℕ, true, false, if◌then◌else◌, nat_lt, nat_le, List, [], ◌∷◌, ◌++◌, ◌+◌, map, length, Option, Some, None, slice_get, slice_set, ℤ, pos, negsuc}
+-- Flow, Metaprogramming, Tasks). A part is read where some slots, static parameters and types are visible; sites, spawn
+-- places and deletion places have their numbers in text order, a site and a spawn place before those in its body.
+use Rattle.std.specs.Prelude.{ℕ, Bool, true, false, if◌then◌else◌, nat_lt, nat_le, codes, List, [], ◌∷◌, ◌++◌, ◌+◌, map, length, Option, Some, None, slice_get, slice_set, ℤ, pos, negsuc}
 use Rattle.jl_model.specs.declared.limits.TheConstants.{MOST_ARGUMENTS, MOST_SITES}
 use Rattle.jl_program.specs.declared.prelude.TheConstants.{PLUS, MINUS, TIMES, DIV, REM, EQUAL, NOT_EQUAL, LESS, LESS_EQUAL, GREATER, GREATER_EQUAL, NOT, PRELUDE_SITES}
 use Rattle.jl_model.specs.declared.ty.Written.{Written}
@@ -17,7 +17,7 @@ use Rattle.jl_program.specs.declared.tree.Piece.TheVariants as P
 use Rattle.jl_program.specs.declared.tree.Site.{Site}
 use Rattle.jl_program.specs.declared.tree.Stmt.{Stmt}
 use Rattle.jl_program.specs.declared.tree.Stmt.TheVariants as S
-use Rattle.jl_program.specs.Names.{is_among, builtin_names}
+use Rattle.jl_program.specs.Names.{same_text, is_among, builtin_names}
 use Rattle.jl_typeread.specs.declared.tree.ArgText.{ArgText}
 use Rattle.jl_typeread.specs.declared.tree.TypeText.{TypeText}
 use Rattle.jl_typeread.specs.declared.tree.VarText.{VarText}
@@ -46,7 +46,7 @@ use Rattle.jl_grammar.specs.declared.tree.Prefix.TheVariants as R
 use Rattle.jl_written.specs.declared.fault.StaticKind.{StaticKind}
 use Rattle.jl_written.specs.declared.fault.StaticKind.TheVariants as kind
 use Rattle.jl_written.specs.declared.reading.TypeVar.{TypeVar}
-use Rattle.jl_written.specs.Signatures.{Signature, signature, written_of}
+use Rattle.jl_written.specs.Signatures.{Signature, signature, tuple_signature, written_of}
 use Rattle.jl_resolve_forms.specs.declared.known.Arm.{Arm}
 use Rattle.jl_resolve_forms.specs.declared.known.Known.{Known}
 use Rattle.jl_resolve_forms.specs.declared.known.Called.{Called}
@@ -58,7 +58,7 @@ use Rattle.jl_resolve_forms.specs.declared.state.Signed.{Signed}
 use Rattle.jl_resolve_forms.specs.declared.state.State.{State}
 use Rattle.jl_resolve_forms.specs.Resolver.{Resolver, resolution, pure, modify, traverse, ◌>>=◌, ◌>>◌}
 use Rattle.jl_resolve_forms.specs.Scopes.{slot_of, note, note_if, merge_fault, with_slot, bind}
-use Rattle.jl_resolve_forms.specs.Functions.{place_of_callee, function_of, struct_named, callee_of}
+use Rattle.jl_resolve_forms.specs.Functions.{place_of_callee, function_of, own_function, struct_named, callee_of}
 use Rattle.jl_resolve_forms.specs.Parameters.{has_usable_parameters_at}
 use Rattle.jl_resolve_forms.specs.TypesIn.{Tests, declared_at, refusal, start_of, one_type, type_in_body, make_at}
 
@@ -252,6 +252,30 @@ make_args (T.Name at name) = []
 make_args (T.Applied at name args) = args
 make_args (T.Paren at ty vs) = []
 
+-- the name `Tuple` with its arguments in braces
+abbrev pub is_tuple : TypeText-F ArgText TypeText VarText → Bool
+is_tuple (T.Name at name) = false
+is_tuple (T.Applied at name args) = same_text name (codes "Tuple")
+is_tuple (T.Paren at ty vs) = false
+
+-- a type that is read as a signature: a tuple, or one with a `where` in parentheses
+abbrev pub is_signature : TypeText-F ArgText TypeText VarText → Bool
+is_signature (T.Name at name) = false
+is_signature (T.Applied at name args) = same_text name (codes "Tuple")
+is_signature (T.Paren at ty []) = false
+is_signature (T.Paren at ty (v ∷ vs)) = is_tuple (out-TypeText ty)
+
+-- the arguments of its tuple, and the variables of its `where`
+abbrev pub signature_args : TypeText-F ArgText TypeText VarText → List ArgText
+signature_args (T.Name at name) = []
+signature_args (T.Applied at name args) = args
+signature_args (T.Paren at ty vs) = make_args (out-TypeText ty)
+
+abbrev pub signature_vars : TypeText-F ArgText TypeText VarText → List VarText
+signature_vars (T.Name at name) = []
+signature_vars (T.Applied at name args) = []
+signature_vars (T.Paren at ty vs) = vs
+
 -- ---- methods
 
 abbrev pub type_of : Param → Option TypeText
@@ -342,6 +366,17 @@ check_name k at callee f g s =
     let s2 = note_if at g.refusal (merge_fault g.fault s1) in
     note_if at (too_many s2) s2
 
+-- the next deletion place
+abbrev pub next_delete : ℕ → Written → Resolver Code
+next_delete f w s = resolution (W.Delete (length s.deletes)) (record s { deletes = s.deletes ++ record { function = f; sig = w } ∷ [] })
+
+-- a deletion of the methods of a function with this signature, which begins here
+abbrev pub delete_signed : ℕ → ℕ → Signed → Resolver Code
+delete_signed f at g = do
+  modify (merge_fault g.fault)
+  modify (note_if at g.refusal)
+  next_delete f g.sig
+
 module _ (t : Tests) (k : Known) where
   -- a call of a function or a constructor
   abbrev pub inferred_refusal : ℕ → Option StaticKind
@@ -408,6 +443,24 @@ module _ (t : Tests) (k : Known) where
     modify (close_site n o y)
     pure n
 
+  -- the signature of a deletion: no type variable is visible in it but its own
+  abbrev pub deleted_signature : ℕ → TypeText → Signed
+  deleted_signature types ty = judge_signature t (tuple_signature (declared_at k types) (signature_args (out-TypeText ty)) (signature_vars (out-TypeText ty)))
+
+  -- a deletion of methods of this function, by a type that is read as a signature or not
+  abbrev pub delete_of : Bool → ℕ → TypeText → ℕ → Resolver Code
+  delete_of false f ty types = do
+    modify (note (start_of ty) kind.BadType)
+    pure W.Nothing
+  delete_of true f ty types = delete_signed f (start_of ty) (deleted_signature types ty)
+
+  -- a deletion: its function is one of the script
+  unfoldable pub delete : Name → TypeText → Reads
+  delete n ty c = do
+    let f = own_function k n c
+    modify (note_if n.at (if_unknown f))
+    delete_of (is_signature (out-TypeText ty)) (defined_function f) ty c.types
+
   abbrev pub expr_step : Expr-F Evaluates Reads Defines Shows Says Tries → Reads
   expr_step (F.Number at n) c = pure (W.Int n)
   expr_step (F.Bool at b) c = pure (W.Bool b)
@@ -452,6 +505,7 @@ module _ (t : Tests) (k : Known) where
   expr_step (F.Latest at f xs) c = do
     ys ← all_coded xs c
     latest (place_of_callee f) (function_of k f c) ys
+  expr_step (F.Delete at n ty) c = delete n ty c
   expr_step (F.Spawn at x) c = spawned x c
   expr_step (F.EvalMethod at m) c = evaluated (defines m ∷ []) c
   expr_step (F.EvalBlock at xs) c = evaluated xs c

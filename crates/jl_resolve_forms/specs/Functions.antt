@@ -10,6 +10,7 @@ use Rattle.jl_token.specs.declared.token.Operator.{Operator}
 use Rattle.jl_token.specs.declared.token.Operator.TheVariants as O
 use Rattle.jl_grammar.specs.declared.tree.Callee.{Callee}
 use Rattle.jl_grammar.specs.declared.tree.Callee.TheVariants as C
+use Rattle.jl_grammar.specs.declared.tree.Name.{Name}
 use Rattle.jl_written.specs.Meaning.{place_of}
 use Rattle.jl_resolve_forms.specs.declared.known.Known.{Known}
 use Rattle.jl_resolve_forms.specs.declared.known.Called.{Called}
@@ -39,16 +40,20 @@ place_of_callee (C.Plain n) = n.at
 place_of_callee (C.Base at n) = n.at
 place_of_callee (C.Operator at o) = at
 
--- a visible variable is no function
-abbrev pub unless_slot : Option ℕ → Option ℕ → Option ℕ
-unless_slot None o = o
-unless_slot (Some _) o = None
+-- a name that means something else here is no function
+abbrev pub unless_taken : Option ℕ → Option ℕ → Option ℕ
+unless_taken None o = o
+unless_taken (Some _) o = None
 
 -- the function of a name: one of the script or of the prelude, behind `Base` one of the prelude
 unfoldable pub function_of : Known → Callee → Scope → Option ℕ
-function_of k (C.Plain n) c = unless_slot (slot_of c.slots n.bytes) (place_of k.functions n.bytes)
+function_of k (C.Plain n) c = unless_taken (slot_of c.slots n.bytes) (place_of k.functions n.bytes)
 function_of k (C.Base at n) c = place_of prelude_functions n.bytes
 function_of k (C.Operator at o) c = function_of_operator o
+
+-- the function of the script of a name: none of the prelude, and no visible variable
+unfoldable pub own_function : Known → Name → Scope → Option ℕ
+own_function k n c = unless_taken (slot_of c.slots n.bytes) (unless_taken (place_of prelude_functions n.bytes) (place_of k.functions n.bytes))
 
 -- the declared struct of a name: a built-in type has no constructor
 abbrev pub if_struct : List Decl → Option ℕ → Option ℕ
@@ -56,7 +61,7 @@ if_struct ds None = None
 if_struct ds (Some p) = if nat_le BUILTIN_TYPES p && is_struct_kind (slice_get ds p) then Some p else None
 
 unfoldable pub struct_named : Known → List ℕ → Scope → Option ℕ
-struct_named k name c = unless_slot (slot_of c.slots name) (if_struct k.decls (place_of (map (λ (d : Decl). d.name) k.decls) name))
+struct_named k name c = unless_taken (slot_of c.slots name) (if_struct k.decls (place_of (map (λ (d : Decl). d.name) k.decls) name))
 
 abbrev pub struct_of : Known → Callee → Scope → Option ℕ
 struct_of k (C.Plain n) c = struct_named k n.bytes c

@@ -70,7 +70,7 @@ module _ (t : Tests) (k : Known) where
 
 -- at the beginning only the eight built-in types are declared, and the sites are the prelude's
 abbrev pub beginning : Option Fault → State
-beginning f = record { sites = prelude_sites; spawns = []; fault = f }
+beginning f = record { sites = prelude_sites; spawns = []; deletes = []; fault = f }
 
 -- a program, and the first fault of its text
 pub record Resolved : Type 0 where
@@ -79,7 +79,7 @@ pub record Resolved : Type 0 where
 
 abbrev pub program_as : Known → List Code → State → Resolved
 program_as k top s = record {
-  program = record { decls = drop BUILTIN_TYPES k.decls; functions = k.functions; sites = s.sites; spawns = s.spawns; deletes = []; top = top };
+  program = record { decls = drop BUILTIN_TYPES k.decls; functions = k.functions; sites = s.sites; spawns = s.spawns; deletes = s.deletes; top = top };
   fault = s.fault;
 }
 

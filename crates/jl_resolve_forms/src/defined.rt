@@ -176,6 +176,7 @@ fn put_expr(out: &mut MarkedNames, text: &Expr) -> Result<(), AllocError>
         }
         Expr::Begin(_, texts) => put_stmts(out, texts.as_slice()),
         Expr::Latest(_, _, texts) => put_exprs(out, texts.as_slice()),
+        Expr::Delete(_, _, _) => Ok(()),
         Expr::Spawn(_, inner) => put_expr(out, inner.get()),
         Expr::EvalMethod(_, method) => put_method(out, method.get()),
         Expr::EvalBlock(_, texts) => put_evals(out, texts.as_slice()),

@@ -4,12 +4,12 @@ ghost use Rattle.std.specs.Prelude.{◌≡◌, map, List, ℕ};
 ghost use Rattle.jl_model.specs.declared.ty.Decl.{Decl};
 ghost use Rattle.jl_program.specs.Prelude.{prelude_functions};
 ghost use Rattle.jl_written.specs.Meaning.{place_of};
-ghost use Rattle.jl_resolve_forms.specs.Functions.{function_of_operator, place_of_callee, function_of, if_struct, struct_named, struct_of, constructor, callee_of};
+ghost use Rattle.jl_resolve_forms.specs.Functions.{function_of_operator, place_of_callee, unless_taken, function_of, own_function, if_struct, struct_named, struct_of, constructor, callee_of};
 
 use crate::known::{Called, Known};
 use crate::scopes::slot_of;
 use crate::state::Scope;
-use jl_grammar::tree::Callee;
+use jl_grammar::tree::{Callee, Name};
 use jl_model::builtin::BUILTIN_TYPES;
 use jl_model::ty::{Decl, DeclKind};
 use jl_names::decls::DeclList;
@@ -94,6 +94,28 @@ pub fn function_of(known: &Known, callee: &Callee, scope: &Scope) -> Option<u32>
         },
         Callee::Base(_, name) => prelude_function(name.bytes.as_slice()),
         Callee::Operator(_, operator) => function_of_operator(*operator),
+    }
+}
+
+/// The function of a name that is none of the prelude.
+fn past_prelude(known: &Known, name: &[u8]) -> Option<u32>
+    ensures { result
+        ≡ unless_taken (place_of prelude_functions name.now) (place_of known.now.functions name.now) }
+{
+    match prelude_function(name) {
+        None => place_of(&known.functions, name),
+        Some(_) => None,
+    }
+}
+
+/// The function of the script of a name: none of the prelude, and no visible variable.
+#[tactic(auto, unfolding(crate::specs::Functions::own_function))]
+pub fn own_function(known: &Known, name: &Name, scope: &Scope) -> Option<u32>
+    ensures { result ≡ own_function known.now name.now scope.now }
+{
+    match slot_of(&scope.slots, name.bytes.as_slice()) {
+        None => past_prelude(known, name.bytes.as_slice()),
+        Some(_) => None,
     }
 }
 

@@ -3,6 +3,7 @@
 
 pub mod cells;
 pub mod defined;
+pub mod deletes;
 pub mod forms;
 pub mod functions;
 pub mod judge;

@@ -75,7 +75,7 @@ fn may_define(known: &Known, callee: &Callee) -> Option<StaticKind>
 }
 
 /// A function behind `Base.` is one of the prelude.
-fn if_unknown(function: Option<u32>) -> Option<StaticKind>
+pub(crate) fn if_unknown(function: Option<u32>) -> Option<StaticKind>
     ensures { result ≡ if_unknown function }
 {
     match function {
@@ -85,7 +85,7 @@ fn if_unknown(function: Option<u32>) -> Option<StaticKind>
 }
 
 /// The function of a method. Where it is none there is a fault, so no program has the number that stands for it.
-fn defined_function(function: Option<u32>) -> u32
+pub(crate) fn defined_function(function: Option<u32>) -> u32
     ensures { result ≡ defined_function function }
 {
     match function {
@@ -258,7 +258,7 @@ fn method_signature<J: Judge>(
     Ok(signed)
 }
 
-fn judge_signature<J: Judge>(
+pub(crate) fn judge_signature<J: Judge>(
     alloc: Global,
     judge: &J,
     read: SignatureRead,

@@ -6,7 +6,7 @@
 use crate::cells::Cells;
 use jl_model::ty::{Tys, Written};
 use jl_names::slots::Slots;
-use jl_program::tree::{Expr, Site};
+use jl_program::tree::{Delete, Expr, Site};
 use jl_written::fault::{Fault, StaticKind};
 use jl_written::reading::Reading;
 use jl_written::vars::TypeVars;
@@ -20,11 +20,12 @@ pub struct Scope {
     pub types: u32,
 }
 
-/// The sites and the expressions of the spawn places so far, by their numbers, and the first fault.
+/// The sites, the expressions of the spawn places and the deletion places so far, by their numbers, and the first fault.
 #[derive(Drop)]
 pub struct State {
     pub sites: Cells<Site>,
     pub spawns: Cells<Expr>,
+    pub deletes: Cells<Delete>,
     pub fault: Option<Fault>,
 }
 

@@ -30,7 +30,7 @@ use Rattle.jl_resolve_forms.specs.Resolver.{Resolution, resolution}
 use Rattle.jl_resolve_forms.specs.Scopes.{slot_of}
 use Rattle.jl_resolve_forms.specs.Functions.{place_of_callee, function_of, callee_of}
 use Rattle.jl_resolve_forms.specs.TypesIn.{Tests, start_of}
-use Rattle.jl_resolve_forms.specs.Expressions.{Reads, awaited, spawned_at, all_coded, all_shown, all_evaluated, all_tried, block_of, chain_arms, local, prefix_code, infix_code, latest, spawned, part_number, make_struct, make_args, bare_scope, call, made, is_below, expr_step, expr_reads, method_reads, stmt_reads, eval_reads, piece_reads, branch_reads}
+use Rattle.jl_resolve_forms.specs.Expressions.{Reads, awaited, spawned_at, all_coded, all_shown, all_evaluated, all_tried, block_of, chain_arms, local, prefix_code, infix_code, latest, spawned, part_number, make_struct, make_args, bare_scope, call, made, is_below, delete, expr_step, expr_reads, method_reads, stmt_reads, eval_reads, piece_reads, branch_reads}
 use Rattle.jl_resolve_walk.specs.Steps.{begin_make_at, begin_make, end_make, test_type}
 use Rattle.jl_resolve_walk.proofs.Layers as L
 
@@ -177,6 +177,10 @@ module _ (t : Tests) (k : Known) where
       ∙ ap (λ a. latest (place_of_callee f) (function_of k f a) ys s1) h
       ∙ ap (λ (a : Resolution (List Code)). latest (place_of_callee f) (function_of k f c) a.value a.after) (m ∙ ap (λ a. all_coded (map R a) c s) g)
       ∙ back text (E.Latest at f xs) (expr_step t k (F.Latest at f (map R xs))) c s is (L.expr-Latest t k at f xs)
+
+  pub form-Delete : (text : Expr) (at : ℕ) (n : Name) (ty : TypeText) (c : Scope) (s s1 : State) (z : Code)
+      → text ≡ V.Delete at n ty → resolution z s1 ≡ delete t k n ty c s → resolution z s1 ≡ R text c s
+  form-Delete text at n ty c s s1 z is m = m ∙ back text (V.Delete at n ty) (expr_step t k (F.Delete at n ty)) c s is (L.expr-Delete t k at n ty)
 
   spawned_is : (x : Reads) (c : Scope) (s : State) → spawned_at (length s.spawns) (x c (awaited s).after).value (x c (awaited s).after).after ≡ spawned x c s
   unfolding spawned

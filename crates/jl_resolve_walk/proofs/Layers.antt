@@ -82,6 +82,9 @@ module _ (t : Tests) (k : Known) where
   pub expr-Latest : (at : ℕ) (f : Callee) (xs : List Expr) → expr_reads t k (E.Latest at f xs) ≡ M.expr_step t k (F.Latest at f (map (expr_reads t k) xs))
   expr-Latest at f xs = ap (expr_reads t k) (sym (E.rolls-Latest at f xs)) ∙ fold-roll-Expr Evaluates Reads Defines Shows Says Tries (M.eval_step t k) (M.expr_step t k) (M.method_step t k) (M.piece_step t k) (M.stmt_step t k) (M.branch_step t k) (F.Latest at f xs)
 
+  pub expr-Delete : (at : ℕ) (n : Name) (ty : TypeText) → expr_reads t k (XV.Delete at n ty) ≡ M.expr_step t k (F.Delete at n ty)
+  expr-Delete at n ty = ap (expr_reads t k) (sym (E.rolls-Delete at n ty)) ∙ fold-roll-Expr Evaluates Reads Defines Shows Says Tries (M.eval_step t k) (M.expr_step t k) (M.method_step t k) (M.piece_step t k) (M.stmt_step t k) (M.branch_step t k) (F.Delete at n ty)
+
   pub expr-Spawn : (at : ℕ) (x : Expr) → expr_reads t k (E.Spawn at x) ≡ M.expr_step t k (F.Spawn at (expr_reads t k x))
   expr-Spawn at x = ap (expr_reads t k) (sym (E.rolls-Spawn at x)) ∙ fold-roll-Expr Evaluates Reads Defines Shows Says Tries (M.eval_step t k) (M.expr_step t k) (M.method_step t k) (M.piece_step t k) (M.stmt_step t k) (M.branch_step t k) (F.Spawn at x)
 

@@ -74,6 +74,7 @@ pub(crate) fn beginning(alloc: Global, fault: Option<Fault>) -> Result<State, Al
     Ok(State {
         sites,
         spawns: Cells::new(alloc),
+        deletes: Cells::new(alloc),
         fault,
     })
 }

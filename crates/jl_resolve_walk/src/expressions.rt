@@ -10,6 +10,7 @@ use jl_model::rows::Row;
 use jl_program::tree::{
     Expr as Code, Exprs as Codes, Item, Items, Piece as Shown, Pieces as Showns, Stmt as Statement,
 };
+use jl_resolve_forms::deletes::delete;
 use jl_resolve_forms::judge::Judge;
 use jl_resolve_forms::known::{Arm, Known};
 use jl_resolve_forms::methods::bare_scope;
@@ -347,6 +348,7 @@ pub fn expr<J: Judge>(
             let arguments = exprs(alloc, judge, known, scope, state, texts.as_slice())?;
             Ok(assembly::latest(known, scope, state, callee, arguments))
         }
+        Expr::Delete(_, name, ty) => delete(alloc, judge, known, scope, state, name, ty),
         Expr::Spawn(_, inner) => {
             let place = assembly::reserve_spawn(state)?;
             let code = expr(alloc, judge, known, scope, state, inner.get());

@@ -13,7 +13,7 @@ use jl_model::builtin::BUILTIN_TYPES;
 use jl_model::rows::Row;
 use jl_model::ty::{Decl, Decls};
 use jl_names::decls::copy_decl;
-use jl_program::tree::{Deletes, Expr as Code, Item as Statement, Items, Program};
+use jl_program::tree::{Expr as Code, Item as Statement, Items, Program};
 use jl_resolve_forms::judge::Judge;
 use jl_resolve_forms::known::Known;
 use jl_resolve_forms::methods::bare_scope;
@@ -154,6 +154,7 @@ fn program_as(
     let State {
         sites,
         spawns,
+        deletes,
         fault,
     } = state;
     let program = Program {
@@ -161,7 +162,7 @@ fn program_as(
         functions: known.functions.to_shared(alloc)?,
         sites: sites.into_shared(alloc)?,
         spawns: spawns.into_shared(alloc)?,
-        deletes: Deletes::empty(),
+        deletes: deletes.into_shared(alloc)?,
         top,
     };
     Ok(Resolved { program, fault })

@@ -1,9 +1,10 @@
 -- What the book's answers leave of what a task knows.
-use Rattle.std.proofs.Common.{◌≡◌, ◌∙◌, ap, sym, subst, refl, ℕ, ◌+◌, ◌≤◌, ◌⊎◌, arith, inl, inr, List, [], ◌∷◌, ◌++◌, length, Some, Result, Ok, Err, IfOk, OnErr}
+use Rattle.std.proofs.Common.{◌≡◌, ◌∙◌, ap, sym, subst, refl, ℕ, ◌+◌, ◌≤◌, ◌<◌, ◌⊎◌, arith, inl, inr, List, [], ◌∷◌, ◌++◌, length, Some, Result, Ok, Err, IfOk, OnErr}
 use Rattle.std.specs.declared.alloc.AllocError.{AllocError}
 use Rattle.jl_model.specs.declared.ty.Key.{Key}
 use Rattle.jl_program.specs.declared.tree.Start.{Start}
 use Rattle.jl_calculus.specs.declared.history.DefineFault.{DefineFault}
+use Rattle.jl_calculus.specs.declared.history.DeleteFault.{DeleteFault}
 use Rattle.jl_calculus.specs.declared.history.Event.{Event}
 use Rattle.jl_calculus.specs.declared.history.Event.TheVariants as Ev
 use Rattle.jl_calculus.specs.declared.history.FetchFault.{FetchFault}
@@ -12,9 +13,9 @@ use Rattle.jl_calculus.specs.declared.history.SpawnFault.{SpawnFault}
 use Rattle.jl_calculus.specs.declared.history.TraceItem.TheVariants.{Fetch}
 use Rattle.jl_calculus.specs.Learnt.{IsNamed}
 use Rattle.jl_calculus.specs.Legal.{MayStand}
-use Rattle.jl_calculus.specs.Past.{IsTrueOf, tasks_of}
+use Rattle.jl_calculus.specs.Past.{IsTrueOf, IsAbsent, tasks_of}
 use Rattle.jl_calculus.specs.ValidStart.{IsValidStart}
-use Rattle.jl_calculus.specs.World.{world_of}
+use Rattle.jl_calculus.specs.World.{world_of, FindsMethod}
 use Rattle.jl_dispatcher.specs.Worlds.{IsWorld}
 use Rattle.jl_runner.proofs.FirstLemmas.{spawned_new}
 use Rattle.jl_world.specs.declared.about.About.{About}
@@ -22,7 +23,7 @@ use Rattle.jl_world.specs.declared.view.TaskView.{TaskView}
 use Rattle.jl_world.specs.Views.{Begins, begun, met, noted}
 use Rattle.jl_world.proofs.Bounds.{few_worlds}
 use Rattle.jl_world.proofs.Growth.{begins_self, worlds_grow, tasks_append, tasks_some}
-use Rattle.jl_dispatcher.specs.Knows.{Grew, Refused, Defined, Fetched, Spawned, IsFull, AreTasksFull}
+use Rattle.jl_dispatcher.specs.Knows.{Grew, Refused, Defined, Deleted, IsAbsentNow, Fetched, Spawned, IsFull, AreTasksFull}
 use Rattle.jl_rows.specs.declared.plan.RowPlan.{RowPlan}
 use Rattle.jl_rows.specs.declared.plan.RowPlan.TheVariants.{NoMethod, Covered, RowsFull, Link}
 use Rattle.jl_rows.specs.Plans.{with_row}
@@ -34,7 +35,7 @@ use Rattle.jl_runner.specs.declared.known.Knowing.{Knowing}
 use Rattle.jl_runner.specs.Knowing.{knows_of, IsKnowing, IsNew}
 use Rattle.jl_runner.proofs.KeyLemmas.{named_kept}
 use Rattle.jl_runner.proofs.AskLemmas.{seen_as, knowing_more, knowing_met, refused_known, grew_known}
-use Rattle.jl_runner.proofs.KnowingLemmas.{grew_own, seen_own, task_own, start_own, defined_so, spawned_so, fetched_so, known_full, known_tasks}
+use Rattle.jl_runner.proofs.KnowingLemmas.{grew_own, seen_own, task_own, start_own, defined_so, deleted_so, absent_so, spawned_so, fetched_so, known_full, known_tasks}
 
 -- ---- the history grows
 
@@ -83,7 +84,7 @@ pub fetched_known : (r : Result Outcome FetchFault) (about : About) (k : Knowing
 fetched_known (Ok o) about k v w f s is es same of h = subst (λ u. Fetched (knows_of about u) (knows_of about (seen_as w f s)) of o) is (fetched_so about v w f s es same of o h)
 fetched_known (Err x) about k v w f s is es same of h = tt
 
--- ---- definitions
+-- ---- definitions, deletions and spawns
 
 module _ (about : About) (k : Knowing) (v w : TaskView) (f s : ℕ) (is : seen_as v f s ≡ k) (old new : List Event) (b : Begins v.seen old) (of : v.task ≡ Some (task_in v)) where
   own_knowing : (e : Event) → new ≡ old ++ e ∷ [] → w ≡ met new (noted (length old) e v) → (keys : List (Key × ℕ)) → IsKnowing v keys f → IsKnowing w keys f
@@ -96,75 +97,54 @@ module _ (about : About) (k : Knowing) (v w : TaskView) (f s : ℕ) (is : seen_a
   met_begins : new ≡ old → Begins v.seen new
   met_begins e = subst (Begins v.seen) (sym e) b
 
-  module _ (site : ℕ) where
-    pub define_knowing : (r : Result ℕ DefineFault) → IfOk r (λ n. new ≡ old ++ Ev.Def (task_in v) site ∷ []) → IfOk r (λ n. w ≡ met new (noted (length old) (Ev.Def (task_in v) site) v))
-        → OnErr r ((new ≡ old) × (w ≡ met new v)) → (keys : List (Key × ℕ)) → IsKnowing v keys f → IsKnowing w keys f
-    define_knowing (Ok n) added now refused keys h = own_knowing (Ev.Def (task_in v) site) added now keys h
-    define_knowing (Err x) added now refused keys h = knowing_met v w keys f new refused.1 (met_begins refused.0) h
+  -- an event of its own was added, or nothing
+  pub made_knowing : {T E : Type 0} (e : T → Event) (r : Result T E) → IfOk r (λ n. new ≡ old ++ e n ∷ []) → IfOk r (λ n. w ≡ met new (noted (length old) (e n) v)) → OnErr r ((new ≡ old) × (w ≡ met new v))
+      → (keys : List (Key × ℕ)) → IsKnowing v keys f → IsKnowing w keys f
+  made_knowing e (Ok n) added now refused keys h = own_knowing (e n) added now keys h
+  made_knowing e (Err x) added now refused keys h = knowing_met v w keys f new refused.1 (met_begins refused.0) h
 
-    pub define_grew : (r : Result ℕ DefineFault) → IfOk r (λ n. new ≡ old ++ Ev.Def (task_in v) site ∷ []) → IfOk r (λ n. w ≡ met new (noted (length old) (Ev.Def (task_in v) site) v))
-        → OnErr r ((new ≡ old) × (w ≡ met new v)) → Grew (knows_of about k) (knows_of about (seen_as w f s))
-    define_grew (Ok n) added now refused = own_grew (Ev.Def (task_in v) site) added now
-    define_grew (Err x) added now refused = grew_known about k v w f s is s new refused.1 (met_begins refused.0)
+  pub made_grew : {T E : Type 0} (e : T → Event) (r : Result T E) → IfOk r (λ n. new ≡ old ++ e n ∷ []) → IfOk r (λ n. w ≡ met new (noted (length old) (e n) v)) → OnErr r ((new ≡ old) × (w ≡ met new v))
+      → Grew (knows_of about k) (knows_of about (seen_as w f s))
+  made_grew e (Ok n) added now refused = own_grew (e n) added now
+  made_grew e (Err x) added now refused = grew_known about k v w f s is s new refused.1 (met_begins refused.0)
 
-    pub define_defined : (r : Result ℕ DefineFault) → IfOk r (λ n. new ≡ old ++ Ev.Def (task_in v) site ∷ []) → IfOk r (λ n. w ≡ met new (noted (length old) (Ev.Def (task_in v) site) v))
-        → IfOk r (λ n. Defined (knows_of about k) (knows_of about (seen_as w f s)) site)
-    define_defined (Ok n) added now = subst (λ u. Defined (knows_of about u) (knows_of about (seen_as w f s)) site) is (defined_so about v f s old new b of w site added now)
-    define_defined (Err x) added now = tt
+  pub made_refused : {T E : Type 0} (r : Result T E) → OnErr r ((new ≡ old) × (w ≡ met new v)) → OnErr r (Refused (knows_of about k) (knows_of about (seen_as w f s)))
+  made_refused (Ok n) refused = tt
+  made_refused (Err x) refused = refused_known about k v w f s is s new refused.1 (met_begins refused.0)
 
-    pub define_refused : (r : Result ℕ DefineFault) → OnErr r ((new ≡ old) × (w ≡ met new v)) → OnErr r (Refused (knows_of about k) (knows_of about (seen_as w f s)))
-    define_refused (Ok n) refused = tt
-    define_refused (Err x) refused = refused_known about k v w f s is s new refused.1 (met_begins refused.0)
+  pub made_defined : (site : ℕ) (r : Result ℕ DefineFault) → IfOk r (λ n. new ≡ old ++ Ev.Def (task_in v) site ∷ []) → IfOk r (λ n. w ≡ met new (noted (length old) (Ev.Def (task_in v) site) v))
+      → IfOk r (λ n. Defined (knows_of about k) (knows_of about (seen_as w f s)) site)
+  made_defined site (Ok n) added now = subst (λ u. Defined (knows_of about u) (knows_of about (seen_as w f s)) site) is (defined_so about v f s old new b of w site added now)
+  made_defined site (Err x) added now = tt
+
+  pub made_deleted : (place : ℕ) (r : Result ℕ DeleteFault) → IfOk r (λ n. new ≡ old ++ Ev.Del (task_in v) place ∷ []) → IfOk r (λ n. w ≡ met new (noted (length old) (Ev.Del (task_in v) place) v))
+      → IfOk r (λ n. Deleted (knows_of about k) (knows_of about (seen_as w f s)) place)
+  made_deleted place (Ok n) added now = subst (λ u. Deleted (knows_of about u) (knows_of about (seen_as w f s)) place) is (deleted_so about v f s old new b of w place added now)
+  made_deleted place (Err x) added now = tt
+
+  -- there was nothing to delete
+  pub made_absent : (place : ℕ) → place < length about.program.value.deletes → (r : Result ℕ DeleteFault) (x : DeleteFault) → OnErr r ((new ≡ old) × (w ≡ met new v))
+      → (r ≡ Err x → (world_of old < 65535) × (FindsMethod about.program.value old place → ⊥)) → r ≡ Err x → IsAbsentNow (knows_of about k) (knows_of about (seen_as w f s)) place
+  made_absent place there (Ok n) x refused absent e = absurd (cc)
+  made_absent place there (Err y) x refused absent e =
+      let a = absent e in
+      subst (λ u. IsAbsentNow (knows_of about u) (knows_of about (seen_as w f s)) place) is
+      (absent_so about v w f s new refused.1 place (subst (λ es. IsAbsent about.program.value es place) (sym refused.0) (record { known = there; room = a.0; absent = a.1 })))
+
+  pub made_spawned : (start : Start) (r : Result (ℕ × TaskView) SpawnFault) → IfOk r (λ made. new ≡ old ++ Ev.Spawn (task_in v) made.0 start ∷ [])
+      → IfOk r (λ made. w ≡ met new (noted (length old) (Ev.Spawn (task_in v) made.0 start) v)) → IfOk r (λ made. Spawned (knows_of about k) (knows_of about (seen_as w f s)) made.0 start)
+  made_spawned start (Ok made) added now = subst (λ u. Spawned (knows_of about u) (knows_of about (seen_as w f s)) made.0 start) is (spawned_so about v f s old new b of w made.0 start added now)
+  made_spawned start (Err x) added now = tt
 
   -- where the task knows that the world is the last one, it is
-  pub define_limit : (X : Type 0) → MayStand about.program.value old → (world_of old ≡ 65535 → X) → IsFull (knows_of about k) → X
-  define_limit X m to full =
+  pub world_limit : (X : Type 0) → MayStand about.program.value old → (world_of old ≡ 65535 → X) → IsFull (knows_of about k) → X
+  world_limit X m to full =
       let last : world_of v.seen ≡ 65535 = known_full about v f s (subst (λ u. IsFull (knows_of about u)) (sym is) full) in
       to (omega (arith, last, worlds_grow v.seen old b, few_worlds about.program.value old m))
 
-  -- ---- spawns
-
-  module _ (start : Start) (r : Result (ℕ × TaskView) SpawnFault) (added : IfOk r (λ made. new ≡ old ++ Ev.Spawn (task_in v) made.0 start ∷ []))
-      (now : IfOk r (λ made. w ≡ met new (noted (length old) (Ev.Spawn (task_in v) made.0 start) v))) (refused : OnErr r ((new ≡ old) × (w ≡ met new v))) where
-    abbrev Added : Result (ℕ × TaskView) SpawnFault → Type 0
-    Added r = IfOk r (λ made. new ≡ old ++ Ev.Spawn (task_in v) made.0 start ∷ [])
-
-    abbrev Now : Result (ℕ × TaskView) SpawnFault → Type 0
-    Now r = IfOk r (λ made. w ≡ met new (noted (length old) (Ev.Spawn (task_in v) made.0 start) v))
-
-    abbrev Same : Result (ℕ × TaskView) SpawnFault → Type 0
-    Same r = OnErr r ((new ≡ old) × (w ≡ met new v))
-
-    knowing_by : (r : Result (ℕ × TaskView) SpawnFault) → Added r → Now r → Same r → (keys : List (Key × ℕ)) → IsKnowing v keys f → IsKnowing w keys f
-    knowing_by (Ok made) a n e keys h = own_knowing (Ev.Spawn (task_in v) made.0 start) a n keys h
-    knowing_by (Err x) a n e keys h = knowing_met v w keys f new e.1 (met_begins e.0) h
-
-    grew_by : (r : Result (ℕ × TaskView) SpawnFault) → Added r → Now r → Same r → Grew (knows_of about k) (knows_of about (seen_as w f s))
-    grew_by (Ok made) a n e = own_grew (Ev.Spawn (task_in v) made.0 start) a n
-    grew_by (Err x) a n e = grew_known about k v w f s is s new e.1 (met_begins e.0)
-
-    spawned_by : (r : Result (ℕ × TaskView) SpawnFault) → Added r → Now r → IfOk r (λ made. Spawned (knows_of about k) (knows_of about (seen_as w f s)) made.0 start)
-    spawned_by (Ok made) a n = subst (λ u. Spawned (knows_of about u) (knows_of about (seen_as w f s)) made.0 start) is (spawned_so about v f s old new b of w made.0 start a n)
-    spawned_by (Err x) a n = tt
-
-    refused_by : (r : Result (ℕ × TaskView) SpawnFault) → Same r → OnErr r (Refused (knows_of about k) (knows_of about (seen_as w f s)))
-    refused_by (Ok made) e = tt
-    refused_by (Err x) e = refused_known about k v w f s is s new e.1 (met_begins e.0)
-
-    pub spawn_knowing : (keys : List (Key × ℕ)) → IsKnowing v keys f → IsKnowing w keys f
-    spawn_knowing keys h = knowing_by r added now refused keys h
-
-    pub spawn_grew : Grew (knows_of about k) (knows_of about (seen_as w f s))
-    spawn_grew = grew_by r added now refused
-
-    pub spawn_spawned : IfOk r (λ made. Spawned (knows_of about k) (knows_of about (seen_as w f s)) made.0 start)
-    spawn_spawned = spawned_by r added now
-
-    pub spawn_refused : OnErr r (Refused (knows_of about k) (knows_of about (seen_as w f s)))
-    spawn_refused = refused_by r refused
-
-  pub spawn_limit : (X : Type 0) → tasks_of old ≤ 4096 → (tasks_of old ≡ 4096 → X) → AreTasksFull (knows_of about k) → X
-  spawn_limit X few to full =
+  -- where it knows that there is no room for a task, there is none
+  pub task_limit : (X : Type 0) → tasks_of old ≤ 4096 → (tasks_of old ≡ 4096 → X) → AreTasksFull (knows_of about k) → X
+  task_limit X few to full =
       let last : tasks_of v.seen ≡ 4096 = known_tasks about v f s (subst (λ u. AreTasksFull (knows_of about u)) (sym is) full) in
       let grown : tasks_of old + 1 ≡ tasks_of v.seen + tasks_of b.0 = ap (λ xs. tasks_of xs + 1) b.1 ∙ tasks_append v.seen b.0 in
       to (omega (arith, last, grown, few, tasks_some b.0))

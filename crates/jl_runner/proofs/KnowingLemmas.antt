@@ -1,5 +1,5 @@
 -- What the answers to a task tell it.
-use Rattle.std.proofs.Common.{◌≡◌, ◌∙◌, ap, sym, subst, refl, ℕ, ◌-◌, ◌<◌, ◌≤◌, arith, inr, cond, List, [], ◌∷◌, ◌++◌, length, length-append, append-nil, take, None, Some, slice_get}
+use Rattle.std.proofs.Common.{◌≡◌, ◌∙◌, ap, sym, subst, refl, ℕ, ◌-◌, ◌<◌, ◌≤◌, arith, inr, cond, nat_eq, List, [], ◌∷◌, ◌++◌, length, length-append, append-nil, take, None, Some, slice_get}
 use Rattle.std.proofs.lemmas.List.{take-append-le}
 use Rattle.jl_model.specs.declared.ty.Key.{Key}
 use Rattle.jl_model.specs.declared.ty.Ty.{Ty}
@@ -10,10 +10,10 @@ use Rattle.jl_calculus.specs.declared.history.Event.{Event}
 use Rattle.jl_calculus.specs.declared.history.Event.TheVariants as Ev
 use Rattle.jl_calculus.specs.declared.history.Outcome.{Outcome}
 use Rattle.jl_calculus.specs.declared.history.TraceItem.{TraceItem}
-use Rattle.jl_calculus.specs.declared.history.TraceItem.TheVariants.{Look, Def, Spawn, Fetch, WorldFull, TaskFull}
+use Rattle.jl_calculus.specs.declared.history.TraceItem.TheVariants.{Look, Def, Del, Spawn, Fetch, WorldFull, TaskFull, Absent}
 use Rattle.jl_calculus.specs.Kept.{IsKeptFor}
 use Rattle.jl_calculus.specs.Learnt.{IsNamed, IsChosen, traced}
-use Rattle.jl_calculus.specs.Past.{IsTrueOf, done_of, tasks_of}
+use Rattle.jl_calculus.specs.Past.{IsTrueOf, IsAbsent, done_of, tasks_of}
 use Rattle.jl_calculus.specs.Ranges.{IsCovered}
 use Rattle.jl_calculus.specs.World.{world_of, site_of, Selects}
 use Rattle.jl_calculus.proofs.GrowthLemmas.{selects_on, site_more, kept_on}
@@ -24,7 +24,7 @@ use Rattle.jl_world.specs.Views.{Begins, met, looked, noted, own_of, starts_of}
 use Rattle.jl_world.proofs.Growth.{agreed, begins_self, begins_trans, begins_length, still_true, worlds_grow}
 use Rattle.jl_world.proofs.Lists.{take_whole, one_there, get_push}
 use Rattle.jl_world.proofs.Rights.{named_more}
-use Rattle.jl_dispatcher.specs.Knows.{Knows, Grew, Told, Looked, Asked, Refused, IsRight, IsOfWorld, SelectsBySite, Defined, IsMade, WorldsFull, IsFull, Spawned, TasksFull, AreTasksFull, Fetched, IsNotDone}
+use Rattle.jl_dispatcher.specs.Knows.{Knows, Grew, Told, Looked, Asked, Refused, IsRight, IsOfWorld, SelectsBySite, Defined, Deleted, IsAbsentNow, IsMade, WorldsFull, IsFull, Spawned, TasksFull, AreTasksFull, Fetched, IsNotDone}
 use Rattle.jl_fit.specs.Fits.{IsFresh}
 use Rattle.jl_book.specs.Passes.{task_in}
 use Rattle.jl_rows.specs.Plans.{places_of}
@@ -201,22 +201,14 @@ module _ (about : About) (v : TaskView) (f s : ℕ) (old new : List Event) (b : 
   abbrev after : Event → TaskView
   after e = met new (noted (length old) e v)
 
-  -- its own definition or spawn stands among its own, and so does the start of the spawn
-  own_def : (site : ℕ) → new ≡ old ++ Ev.Def (task_in v) site ∷ [] → own_of v.task (length old) (Ev.Def (task_in v) site ∷ []) ≡ Def site (length new - 1) ∷ []
-  own_def site added =
-      ap (λ t. own_of t (length old) (Ev.Def (task_in v) site ∷ [])) is
-      ∙ ap (λ q. cond q (Def site (length old) ∷ []) []) (agreed (task_in v) (task_in v) refl)
-      ∙ ap (λ p. Def site p ∷ []) (place_is (Ev.Def (task_in v) site) added)
+  -- its own event stands among its own, and so does the start of a spawn
+  own_at : (e : Event) (item : ℕ → TraceItem) → own_of (Some (task_in v)) (length old) (e ∷ []) ≡ cond (nat_eq (task_in v) (task_in v)) (item (length old) ∷ []) [] → new ≡ old ++ e ∷ []
+      → own_of v.task (length old) (e ∷ []) ≡ item (length new - 1) ∷ []
+  own_at e item here added =
+      ap (λ t. own_of t (length old) (e ∷ [])) is ∙ here ∙ ap (λ q. cond q (item (length old) ∷ []) []) (agreed (task_in v) (task_in v) refl) ∙ ap (λ p. item p ∷ []) (place_is e added)
 
-  starts_def : (site : ℕ) → starts_of v.task (Ev.Def (task_in v) site ∷ []) ≡ []
-  starts_def site = ap (λ t. starts_of t (Ev.Def (task_in v) site ∷ [])) is
-
-  own_spawn : (child : ℕ) (start : Start) → new ≡ old ++ Ev.Spawn (task_in v) child start ∷ []
-      → own_of v.task (length old) (Ev.Spawn (task_in v) child start ∷ []) ≡ Spawn child (length new - 1) ∷ []
-  own_spawn child start added =
-      ap (λ t. own_of t (length old) (Ev.Spawn (task_in v) child start ∷ [])) is
-      ∙ ap (λ q. cond q (Spawn child (length old) ∷ []) []) (agreed (task_in v) (task_in v) refl)
-      ∙ ap (λ p. Spawn child p ∷ []) (place_is (Ev.Spawn (task_in v) child start) added)
+  starts_none : (e : Event) → starts_of (Some (task_in v)) (e ∷ []) ≡ [] → starts_of v.task (e ∷ []) ≡ []
+  starts_none e here = ap (λ t. starts_of t (e ∷ [])) is ∙ here
 
   starts_spawn : (child : ℕ) (start : Start) → starts_of v.task (Ev.Spawn (task_in v) child start ∷ []) ≡ start ∷ []
   starts_spawn child start =
@@ -241,8 +233,18 @@ module _ (about : About) (v : TaskView) (f s : ℕ) (old new : List Event) (b : 
     told = told about (after (Ev.Def (task_in v) site)) f s (Def site (length new - 1)) (there (Ev.Def (task_in v) site) added);
     place = longer (Ev.Def (task_in v) site) added;
     looks = refl;
-    own = ap (λ xs. v.own ++ xs) (own_def site added);
-    starts = ap (λ xs. v.starts ++ xs) (starts_def site) ∙ append-nil v.starts;
+    own = ap (λ xs. v.own ++ xs) (own_at (Ev.Def (task_in v) site) (λ p. Def site p) refl added);
+    starts = ap (λ xs. v.starts ++ xs) (starts_none (Ev.Def (task_in v) site) refl) ∙ append-nil v.starts;
+    follows = λ c is h. tt;
+  }
+
+  deleted_after : (place : ℕ) → new ≡ old ++ Ev.Del (task_in v) place ∷ [] → Deleted (knows_at about v f s) (knows_at about (after (Ev.Del (task_in v) place)) f s) place
+  deleted_after place added = record {
+    told = told about (after (Ev.Del (task_in v) place)) f s (Del place (length new - 1)) (there (Ev.Del (task_in v) place) added);
+    place = longer (Ev.Del (task_in v) place) added;
+    looks = refl;
+    own = ap (λ xs. v.own ++ xs) (own_at (Ev.Del (task_in v) place) (λ p. Del place p) refl added);
+    starts = ap (λ xs. v.starts ++ xs) (starts_none (Ev.Del (task_in v) place) refl) ∙ append-nil v.starts;
     follows = λ c is h. tt;
   }
 
@@ -252,7 +254,7 @@ module _ (about : About) (v : TaskView) (f s : ℕ) (old new : List Event) (b : 
     told = told about (after (Ev.Spawn (task_in v) child start)) f s (Spawn child (length new - 1)) (start, there (Ev.Spawn (task_in v) child start) added);
     place = longer (Ev.Spawn (task_in v) child start) added;
     looks = refl;
-    own = ap (λ xs. v.own ++ xs) (own_spawn child start added);
+    own = ap (λ xs. v.own ++ xs) (own_at (Ev.Spawn (task_in v) child start) (λ p. Spawn child p) refl added);
     starts = ap (λ xs. v.starts ++ xs) (starts_spawn child start);
     follows = λ c is h. tt;
   }
@@ -277,6 +279,9 @@ module _ (about : About) (v : TaskView) (f s : ℕ) (old new : List Event) (b : 
   pub defined_so : (w : TaskView) (site : ℕ) → new ≡ old ++ Ev.Def (task_in v) site ∷ [] → w ≡ met new (noted (length old) (Ev.Def (task_in v) site) v) → Defined (knows_at about v f s) (knows_at about w f s) site
   defined_so w site added now = subst (λ u. Defined (knows_at about v f s) (knows_at about u f s) site) (sym now) (defined_after site added)
 
+  pub deleted_so : (w : TaskView) (place : ℕ) → new ≡ old ++ Ev.Del (task_in v) place ∷ [] → w ≡ met new (noted (length old) (Ev.Del (task_in v) place) v) → Deleted (knows_at about v f s) (knows_at about w f s) place
+  deleted_so w place added now = subst (λ u. Deleted (knows_at about v f s) (knows_at about u f s) place) (sym now) (deleted_after place added)
+
   pub spawned_so : (w : TaskView) (child : ℕ) (start : Start) → new ≡ old ++ Ev.Spawn (task_in v) child start ∷ [] → w ≡ met new (noted (length old) (Ev.Spawn (task_in v) child start) v)
       → Spawned (knows_at about v f s) (knows_at about w f s) child start
   spawned_so w child start added now = subst (λ u. Spawned (knows_at about v f s) (knows_at about u f s) child start) (sym now) (spawned_after child start added)
@@ -294,6 +299,15 @@ module _ (about : About) (v w : TaskView) (f s : ℕ) (es : List Event) (now : w
     own = refl;
     starts = refl;
     follows = λ c is h. tt;
+  })
+
+  pub absent_so : (place : ℕ) → IsAbsent about.program.value es place → IsAbsentNow (knows_at about v f s) (knows_at about w f s) place
+  absent_so place h = subst (λ u. IsAbsentNow (knows_at about v f s) (knows_at about u f s) place) (sym now) (record {
+    told = told about (met es v) f s (Absent place (length es)) (omega arith, subst (λ xs. IsAbsent about.program.value xs place) (sym (take_whole es)) h);
+    looks = refl;
+    own = refl;
+    starts = refl;
+    follows = λ c is g. tt;
   })
 
   pub tasks_full : tasks_of es ≡ 4096 → TasksFull (knows_at about v f s) (knows_at about w f s)
@@ -319,7 +333,7 @@ module _ (about : About) (v w : TaskView) (f s : ℕ) (es : List Event) (now : w
   pub not_done_so : (of : ℕ) → done_of of es ≡ None → IsNotDone (knows_at about w f s) of
   not_done_so of h = subst (λ (u : TaskView). IsNotDone (knows_at about u f s) of) (sym now) (λ xs a. ap (done_of of) (first_seen es xs a) ∙ h)
 
--- the world that a definition made
+-- the world that a definition or a deletion made
 pub made_so : (about : About) (v : TaskView) (f s w : ℕ) → w ≡ world_of v.seen → IsMade (knows_at about v f s) w
 made_so about v f s w e = record {
   right = λ xs b. ap world_of (first_seen v.seen xs b) ∙ sym e;

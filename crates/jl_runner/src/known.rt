@@ -4,6 +4,7 @@ ghost use Rattle.std.specs.Prelude.{◌≡◌, [], Some, IfOk, OnErr, MatchOptio
 ghost use Rattle.jl_program.specs.declared.choice.Choice.TheVariants as C;
 ghost use Rattle.jl_program.specs.declared.prelude.TheConstants.{PRELUDE_SITES};
 ghost use Rattle.jl_calculus.specs.declared.history.DefineFault.TheVariants as D;
+ghost use Rattle.jl_calculus.specs.declared.history.DeleteFault.TheVariants as L;
 ghost use Rattle.jl_calculus.specs.declared.history.SpawnFault.TheVariants as S;
 ghost use Rattle.jl_calculus.specs.declared.history.FetchFault.TheVariants as F;
 ghost use Rattle.jl_calculus.specs.Learnt.{IsNamed};
@@ -12,14 +13,14 @@ ghost use Rattle.jl_calculus.specs.Ranges.{keys_of};
 ghost use Rattle.jl_calculus.specs.ValidHistory.{IsValidOutcome};
 ghost use Rattle.jl_calculus.specs.ValidStart.{IsValidStart};
 ghost use Rattle.jl_calculus.specs.World.{world_of};
-ghost use Rattle.jl_dispatcher.specs.Knows.{Looked, Grew, Asked, Refused, IsRight, Defined, IsMade, WorldsFull, IsFull, Spawned, TasksFull, AreTasksFull, Fetched, IsNotDone};
+ghost use Rattle.jl_dispatcher.specs.Knows.{Looked, Grew, Asked, Refused, IsRight, Defined, Deleted, IsMade, IsAbsentNow, WorldsFull, IsFull, Spawned, TasksFull, AreTasksFull, Fetched, IsNotDone};
 ghost use Rattle.jl_dispatcher.specs.Worlds.{IsWorld};
 ghost use Rattle.jl_runner.specs.Knowing.{knows_of, IsNew, IsBegun, IsOfDefinition, IsSiteOf, IsNumberOf};
 
 use crate::keys::KeyNumbers;
 use jl_book::{Book, KeyFault, Pass};
 use jl_cache::{Cache, Found, Miss};
-use jl_calculus::history::{DefineFault, FetchFault, Outcome, Seen, SpawnFault};
+use jl_calculus::history::{DefineFault, DeleteFault, FetchFault, Outcome, Seen, SpawnFault};
 use jl_model::shared::SharedNode;
 use jl_model::ty::Key;
 use jl_program::choice::Choice;
@@ -236,6 +237,30 @@ impl<N: Naming> Known<N> {
         book.facts();
         self.pass.facts();
         book.define(alloc, ready, cache, &mut self.pass, site)
+    }
+
+    /// Makes a deletion at a place.
+    pub(crate) fn delete(
+        &mut self,
+        alloc: Global,
+        ready: &Ready,
+        cache: &Cache<N>,
+        book: &mut Book<N>,
+        place: u32,
+    ) -> Result<u32, DeleteFault>
+        requires program { ready.now ≡ N.about.program.value }
+        requires place { place < length N.about.program.value.deletes }
+        ensures grew { Grew (knows_of N.about self.old) (knows_of N.about self.new) }
+        ensures deleted { IfOk result (λ _. Deleted (knows_of N.about self.old) (knows_of N.about self.new) place) }
+        ensures world { IfOk result (λ w. IsMade (knows_of N.about self.new) w) }
+        ensures refused { OnErr result (Refused (knows_of N.about self.old) (knows_of N.about self.new)) }
+        ensures full { result ≡ Err L.WorldLimit → WorldsFull (knows_of N.about self.old) (knows_of N.about self.new) }
+        ensures limit { IsFull (knows_of N.about self.old) → result ≡ Err L.WorldLimit }
+        ensures absent { result ≡ Err L.NoSuchMethod → IsAbsentNow (knows_of N.about self.old) (knows_of N.about self.new) place }
+    {
+        book.facts();
+        self.pass.facts();
+        book.delete(alloc, ready, cache, &mut self.pass, place)
     }
 
     /// Spawns a task from a start, and answers its number and its pass.

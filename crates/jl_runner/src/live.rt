@@ -12,7 +12,7 @@ ghost use Rattle.jl_runner.specs.Knowing.{knows_of, IsNumberOf};
 use crate::job::{Job, New};
 use crate::known::Known;
 use crate::shared::Shared;
-use jl_calculus::history::{DefineFault, FetchFault, Outcome, Seen, SpawnFault};
+use jl_calculus::history::{DefineFault, DeleteFault, FetchFault, Outcome, Seen, SpawnFault};
 use jl_dispatcher::Dispatcher;
 use jl_model::shared::SharedNode;
 use jl_model::ty::Key;
@@ -136,6 +136,12 @@ impl<'s, 'p, 'r, N: Naming, R: Wait> Dispatcher for Live<'s, 'p, 'r, N, R> {
         let mut book = shared.book.lock(self.rt);
         self.known
             .define(shared.alloc, shared.ready, &shared.cache, &mut book, site)
+    }
+
+    fn delete(&mut self, place: u32) -> Result<u32, DeleteFault> {
+        let shared = self.shared;
+        let mut book = shared.book.lock(self.rt);
+        self.known.delete(shared.alloc, shared.ready, &shared.cache, &mut book, place)
     }
 
     fn spawn(&mut self, start: Start) -> Result<u32, SpawnFault> {

@@ -93,6 +93,9 @@ structs-eval xs = in-layer own_struct (F.Eval xs) (X.Eval xs) (X.rolls-Eval xs) 
 pub structs-spawn : (place : ℕ) → of (E.Spawn place) ≡ []
 structs-spawn place = in-layer own_struct (F.Spawn place) (E.Spawn place) (X.rolls-Spawn place)
 
+pub structs-delete : (place : ℕ) → of (E.Delete place) ≡ []
+structs-delete place = in-layer own_struct (F.Delete place) (E.Delete place) (X.rolls-Delete place)
+
 pub structs-fetch : (x : Expr) → of (X.Fetch x) ≡ of x
 structs-fetch x = in-layer own_struct (F.Fetch x) (X.Fetch x) (X.rolls-Fetch x)
 
@@ -149,4 +152,4 @@ bodies-suc [] i x h e = absurd (omega arith)
 bodies-suc (y ∷ ys) zero x h e = ap (λ (z : Site). of z.body ++ in_bodies ys) (sym e)
 bodies-suc (y ∷ ys) (suc i) x h e = rw add-one (rw add-one at (bodies-suc ys i x (omega arith) e))
 
-pub ruleset structs = (structs-int, structs-truth, structs-nothing, structs-local, structs-call, structs-latest, structs-make, structs-infer, structs-parts, structs-field, structs-part, structs-egal, structs-isa, structs-sub, structs-if, structs-and, structs-or, structs-block, structs-eval, structs-spawn, structs-fetch, structs-print, structs-bind, structs-do, structs-return, structs-define, structs-top-bind, structs-top-do, structs-text, structs-show, exprs-suc, stmts-suc, items-suc, pieces-suc, bodies-suc, append_assoc, append-nil)
+pub ruleset structs = (structs-int, structs-truth, structs-nothing, structs-local, structs-call, structs-latest, structs-make, structs-infer, structs-parts, structs-field, structs-part, structs-egal, structs-isa, structs-sub, structs-if, structs-and, structs-or, structs-block, structs-eval, structs-spawn, structs-delete, structs-fetch, structs-print, structs-bind, structs-do, structs-return, structs-define, structs-top-bind, structs-top-do, structs-text, structs-show, exprs-suc, stmts-suc, items-suc, pieces-suc, bodies-suc, append_assoc, append-nil)

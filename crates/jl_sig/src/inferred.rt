@@ -136,7 +136,7 @@ fn add_expr(found: &mut Vec<u32>, expr: &Expr) -> Result<(), AllocError>
         }
         Expr::Block(statements) => add_stmts(found, statements.as_slice()),
         Expr::Eval(items) => add_items(found, items.as_slice()),
-        Expr::Spawn(_) => Ok(()),
+        Expr::Spawn(_) | Expr::Delete(_) => Ok(()),
         Expr::Fetch(of) => add_expr(found, of.get()),
         Expr::Print(pieces, _) => add_pieces(found, pieces.as_slice()),
     }

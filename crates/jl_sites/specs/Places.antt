@@ -1,4 +1,4 @@
--- The definition sites and spawns of a script, in the order of its text: each before those inside it.
+-- The definition sites, spawns and deletions of a script, in the order of its text: each before those inside it.
 use Rattle.std.specs.Prelude.{ℕ, codes, List, [], ◌∷◌, ◌++◌, map}
 use Rattle.jl_token.specs.declared.token.Operator.{Operator}
 use Rattle.jl_token.specs.declared.token.Operator.TheVariants as o
@@ -11,6 +11,7 @@ use Rattle.jl_grammar.specs.declared.tree.Head.{Head}
 use Rattle.jl_grammar.specs.declared.tree.Item.{Item}
 use Rattle.jl_grammar.specs.declared.tree.Item.TheVariants as N
 use Rattle.jl_grammar.specs.declared.tree.Method.{Method}
+use Rattle.jl_grammar.specs.declared.tree.Name.{Name}
 use Rattle.jl_grammar.specs.declared.tree.Piece.{Piece}
 use Rattle.jl_grammar.specs.declared.tree.Script.{Script}
 use Rattle.jl_grammar.specs.declared.tree.Stmt.{Stmt}
@@ -37,6 +38,10 @@ function_of (C.Operator at x) = W.Operator x
 
 abbrev pub site : Head → Place
 site h = P.Site (place_of h.callee) (function_of h.callee)
+
+-- the deletion place of this function's methods
+abbrev pub deletion : ℕ → Name → Place
+deletion at n = P.Delete at (W.Named n.bytes)
 
 -- the name of a function that is written as an operator, as histories have it
 abbrev pub operator_name : Operator → List ℕ
@@ -87,6 +92,7 @@ expr_step (F.If at bs) = joined bs
 expr_step (F.IfElse at bs ss) = joined bs ++ joined ss
 expr_step (F.Begin at ss) = joined ss
 expr_step (F.Latest at f es) = joined es
+expr_step (F.Delete at n t) = deletion at n ∷ []
 expr_step (F.Spawn at e) = P.Spawn at ∷ e
 expr_step (F.EvalMethod at m) = m
 expr_step (F.EvalBlock at xs) = joined xs

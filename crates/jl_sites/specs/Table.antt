@@ -1,4 +1,4 @@
--- The table of a script's sites and spawns.
+-- The table of a script's sites, spawns and deletions.
 use Rattle.std.specs.Prelude.{ℕ, ◌+◌, codes, decimal, List, [], ◌∷◌, ◌++◌, ◌≡◌, Option, Some, None, Result, Ok, Err}
 use Rattle.jl_token.specs.declared.token.Token.{Token}
 use Rattle.jl_token.specs.declared.token.TokenFault.{TokenFault}
@@ -14,21 +14,23 @@ use Rattle.jl_sites.specs.declared.table.TheConstants.{FIRST_SITE}
 use Rattle.jl_sites.specs.Places.{function_name, script_places}
 use Rattle.jl_sites.specs.Spots.{spot_at, spot_text}
 
-abbrev pub site_line : ℕ → Function → Spot → List ℕ
-site_line n f s = codes "site " ++ (decimal n ++ (codes " " ++ (function_name f ++ spot_text s)))
+-- the line of a site or of a deletion, with its first word
+abbrev pub named_line : List ℕ → ℕ → Function → Spot → List ℕ
+named_line word n f s = word ++ (decimal n ++ (codes " " ++ (function_name f ++ spot_text s)))
 
 abbrev pub spawn_line : ℕ → Spot → List ℕ
 spawn_line n s = codes "spawn " ++ (decimal n ++ spot_text s)
 
--- a line for each place of a source, where the next site and the next spawn have these numbers
-abbrev pub table : List ℕ → ℕ → ℕ → List Place → List ℕ
-table bytes site spawn [] = []
-table bytes site spawn (P.Site at f ∷ ps) = site_line site f (spot_at bytes at) ++ table bytes (site + 1) spawn ps
-table bytes site spawn (P.Spawn at ∷ ps) = spawn_line spawn (spot_at bytes at) ++ table bytes site (spawn + 1) ps
+-- a line for each place of a source, where the next site, the next spawn and the next deletion have these numbers
+abbrev pub table : List ℕ → ℕ → ℕ → ℕ → List Place → List ℕ
+table bytes site spawn delete [] = []
+table bytes site spawn delete (P.Site at f ∷ ps) = named_line (codes "site ") site f (spot_at bytes at) ++ table bytes (site + 1) spawn delete ps
+table bytes site spawn delete (P.Spawn at ∷ ps) = spawn_line spawn (spot_at bytes at) ++ table bytes site (spawn + 1) delete ps
+table bytes site spawn delete (P.Delete at f ∷ ps) = named_line (codes "delete ") delete f (spot_at bytes at) ++ table bytes site spawn (delete + 1) ps
 
 -- the table of the script that bytes are
 abbrev pub script_table : List ℕ → Script → List ℕ
-script_table bytes s = table bytes FIRST_SITE 0 (script_places s)
+script_table bytes s = table bytes FIRST_SITE 0 0 (script_places s)
 
 -- the bytes are this script
 abbrev pub AreScript : List ℕ → Script → Type 0

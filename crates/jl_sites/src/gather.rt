@@ -1,10 +1,10 @@
-//! The definition sites and spawns of a script, in the order in which programs number them: that of the text, where each comes
+//! The definition sites, spawns and deletions of a script, in the order in which programs number them: that of the text, where each comes
 //! before those inside it. The depth of calls is that of the tree.
 
 ghost use Rattle.std.specs.Prelude.{◌≡◌, ◌++◌, map, OnOk};
 ghost use Rattle.jl_sites.specs.Places.{joined, expr_places, method_places, stmt_places, eval_places, branch_places, piece_places, item_places, script_places};
 
-use crate::place::{Place, site};
+use crate::place::{Place, deletion, site};
 use jl_grammar::tree::{Branch, Eval, Expr, Item, Method, Piece, Script, Stmt};
 use jl_model::rows::Row;
 use std::alloc::AllocError;
@@ -160,6 +160,7 @@ fn put_expr(out: &mut Row<Place>, expr: &Expr) -> Result<(), AllocError>
         }
         Expr::Begin(_, stmts) => put_stmts(out, stmts.as_slice()),
         Expr::Latest(_, _, arguments) => put_exprs(out, arguments.as_slice()),
+        Expr::Delete(at, function, _) => out.push(deletion(*at, function)?),
         Expr::Spawn(at, task) => {
             out.push(Place::Spawn(*at))?;
             put_expr(out, task.get())

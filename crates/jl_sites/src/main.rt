@@ -1,7 +1,7 @@
-//! The definition sites and spawn places of the script on standard input, each with its number and its place.
+//! The definition sites, spawn places and deletion places of the script on standard input, each with its number and its place.
 //!
-//! `site NUMBER FUNCTION LINE COLUMN` and `spawn NUMBER LINE COLUMN`, in the order of the text and with the numbers that programs and
-//! histories give them. A text that is no script gives nothing, and status 3. Besides, status 4: the input failed, 5: the output
+//! `site NUMBER FUNCTION LINE COLUMN`, `spawn NUMBER LINE COLUMN` and `delete NUMBER FUNCTION LINE COLUMN`, in the order of the text and
+//! with the numbers that programs and histories give them. A text that is no script gives nothing, and status 3. Besides, status 4: the input failed, 5: the output
 //! failed, 6: out of memory.
 #![tactic(auto)]
 

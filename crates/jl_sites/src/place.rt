@@ -1,9 +1,9 @@
-//! The places that programs and histories number: definition sites and spawns.
+//! The places that programs and histories number: definition sites, spawns and deletions.
 
 ghost use Rattle.std.specs.Prelude.{◌≡◌, IfOk};
-ghost use Rattle.jl_sites.specs.Places.{place_of, function_of, operator_name, function_name, site};
+ghost use Rattle.jl_sites.specs.Places.{place_of, function_of, operator_name, function_name, site, deletion};
 
-use jl_grammar::tree::{Callee, Head};
+use jl_grammar::tree::{Callee, Head, Name};
 use jl_model::ty::Bytes;
 use jl_token::token::Operator;
 use std::alloc::AllocError;
@@ -22,6 +22,8 @@ pub(crate) enum Place {
     Site(u32, Function),
     /// A `Threads.@spawn`.
     Spawn(u32),
+    /// A `Base.delete_method` of a function's methods, at its `Base`.
+    Delete(u32, Function),
 }
 
 /// Where a function's name stands.
@@ -52,6 +54,14 @@ pub(crate) fn site(head: &Head) -> Result<Place, AllocError>
 {
     let function = function_of(&head.callee)?;
     Ok(Place::Site(place_of(&head.callee), function))
+}
+
+/// The deletion place of this function's methods.
+pub(crate) fn deletion(at: u32, function: &Name) -> Result<Place, AllocError>
+    ensures { IfOk result (λ p. p ≡ deletion at function.now) }
+{
+    let function = Function::Named(function.bytes.copy()?);
+    Ok(Place::Delete(at, function))
 }
 
 /// The name of a function that is written as an operator, as histories have it.

@@ -1,9 +1,9 @@
-//! The table of the sites and spawns of a script, a line each.
+//! The table of the sites, spawns and deletions of a script, a line each.
 
 ghost use Rattle.std.specs.Prelude.{◌≡◌, ◌++◌, decimal, codes, List, IfOk, OnOk};
 ghost use Rattle.jl_sites.specs.Places.{script_places};
 ghost use Rattle.jl_sites.specs.Spots.{IsReached, spot_text, spot_at};
-ghost use Rattle.jl_sites.specs.Table.{site_line, spawn_line, table, script_table};
+ghost use Rattle.jl_sites.specs.Table.{named_line, spawn_line, table, script_table};
 
 use crate::gather::put_script;
 use crate::place::{Function, Place, function_name};
@@ -36,16 +36,17 @@ fn append_spot(out: &mut Row<u8>, spot: Spot) -> Result<(), AllocError>
     out.append(b"\n")
 }
 
-/// The line of a site.
-fn append_site(
+/// The line of a site or of a deletion, with its first word.
+fn append_named(
     out: &mut Row<u8>,
+    word: &[u8],
     number: u64,
     function: &Function,
     spot: Spot,
 ) -> Result<(), AllocError>
-    ensures { OnOk result (out.new ≡ out.old ++ site_line number function.now spot) }
+    ensures { OnOk result (out.new ≡ out.old ++ named_line word.now number function.now spot) }
 {
-    out.append(b"site ")?;
+    out.append(word)?;
     append_number(out, number)?;
     out.append(b" ")?;
     out.append(function_name(function))?;
@@ -63,22 +64,28 @@ fn append_spawn(out: &mut Row<u8>, number: u64, spot: Spot) -> Result<(), AllocE
 
 /// The lines of these places of a source.
 fn append_places(out: &mut Row<u8>, bytes: &[u8], places: &[Place]) -> Result<(), AllocError>
-    ensures { OnOk result (out.new ≡ out.old ++ table bytes.now FIRST_SITE 0 places.now) }
+    ensures { OnOk result (out.new ≡ out.old ++ table bytes.now FIRST_SITE 0 0 places.now) }
 {
     let mut cursor = beginning();
     let mut sites = FIRST_SITE;
     let mut spawns = 0;
+    let mut deletes = 0;
     for place in places {
         match place {
             Place::Site(at, function) => {
                 cursor = move_to(cursor, bytes, *at);
-                append_site(out, sites, function, cursor.spot)?;
+                append_named(out, b"site ", sites, function, cursor.spot)?;
                 sites += 1;
             }
             Place::Spawn(at) => {
                 cursor = move_to(cursor, bytes, *at);
                 append_spawn(out, spawns, cursor.spot)?;
                 spawns += 1;
+            }
+            Place::Delete(at, function) => {
+                cursor = move_to(cursor, bytes, *at);
+                append_named(out, b"delete ", deletes, function, cursor.spot)?;
+                deletes += 1;
             }
         }
     }

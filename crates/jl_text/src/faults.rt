@@ -188,6 +188,19 @@ fn append_task_failed(out: &mut Row<u8>, task: u32) -> Result<(), AllocError>
     append_unsigned(out, u64::from(task))
 }
 
+/// No method of the function with the signature of a deletion place stands.
+fn append_no_such_method(
+    out: &mut Row<u8>,
+    program: &Program,
+    function: u32,
+) -> Result<(), AllocError>
+    ensures { OnOk result
+        (out.new ≡ out.old ++ (codes "NoSuchMethod: " ++ function_name program.now function)) }
+{
+    out.append(b"NoSuchMethod: ")?;
+    out.append(function_name(program, function))
+}
+
 /// A number between two texts.
 fn append_limit(
     out: &mut Row<u8>,
@@ -237,6 +250,7 @@ pub fn append_fault(out: &mut Row<u8>, program: &Program, fault: &Fault) -> Resu
         Fault::NotBool(ty) => append_not_bool(out, program, ty),
         Fault::NotTask(ty) => append_not_task(out, program, ty),
         Fault::TaskFailed(task) => append_task_failed(out, *task),
+        Fault::NoSuchMethod(function) => append_no_such_method(out, program, *function),
         Fault::FuelSpent(fuel) => append_fuel_spent(out, *fuel),
         Fault::StackLimit => append_limit(
             out,

@@ -13,10 +13,10 @@ use Rattle.jl_typeread.specs.declared.tree.ArgText.TheFolds.{fold-roll-TypeText,
 use Rattle.jl_written.specs.declared.reading.Reading.{Reading}
 use Rattle.jl_written.specs.declared.reading.TypeVar.{TypeVar}
 use Rattle.jl_written.specs.Reads.{TypeReads, ArgReads, VarReads, type_step, arg_step, var_step, type_reads, arg_reads, var_reads, read_arguments}
-use Rattle.jl_written.specs.Signatures.{option_reads, all_read, all_bound}
+use Rattle.jl_written.specs.Signatures.{option_reads, all_read, all_bound, parts_read}
 use Rattle.jl_type_laws.specs.Carried.{AllHave, BoundHas, BoundsHave, Visible, IsCarried}
 use Rattle.jl_type_laws.proofs.TextInduction.{EachText, TextCases, by_type, by_arg, by_var}
-use Rattle.jl_type_laws.proofs.StepLemmas.{Steps, TypeLaw, ArgLaw, VarLaw, still, then_, pair, behind_, fresh_variable_steps, within_law, name_law, read_applied_law, read_arguments_steps, bind_all_steps}
+use Rattle.jl_type_laws.proofs.StepLemmas.{Steps, TypeLaw, ArgLaw, VarLaw, still, then_, pair, behind_, fresh_variable_steps, within_law, name_law, read_applied_law, read_arguments_steps, read_members_steps, bind_all_steps}
 
 pub each_map : {A B : Type 0} (P : B → Type 0) (f : A → B) (xs : List A) → EachText (λ x. P (f x)) xs → EachText P (map f xs)
 each_map P f [] h = tt
@@ -92,6 +92,10 @@ module _ (ds : List Decl) (P : Ty → Type 0) (N : ℕ → Type 0) (S : ℕ → 
 
   pub bound_law : (vs : List VarText) (vars : List TypeVar) (r : Reading) → Steps ds P N S Ok c r (all_bound ds vs vars r).after (Visible S vars) (Visible S (all_bound ds vs vars r).vars)
   bound_law vs vars r = bind_all_steps ds P N S Ok c (map (var_reads ds) vs) (each_map VarLawOf (var_reads ds) vs (each_all (λ v. VarLawOf (var_reads ds v)) var_law vs)) vars false r
+
+  -- the parts of a tuple that is read as a signature
+  pub parts_law : (xs : List ArgText) (vars : List TypeVar) (r : Reading) → Steps ds P N S Ok c r (parts_read ds xs vars r).after (Visible S vars) (AllHave P (parts_read ds xs vars r).tys)
+  parts_law xs vars r = read_members_steps ds P N S Ok c (map (arg_reads ds) xs) (each_map ArgLawOf (arg_reads ds) xs (each_all (λ x. ArgLawOf (arg_reads ds x)) arg_law xs)) vars false r
 
   pub read_arguments_law : (bs : List Bound) → BoundsHave P bs → (xs : List ArgText) (vars : List TypeVar) (inside : Bool) (r : Reading)
       → Steps ds P N S Ok c r (read_arguments bs (map (arg_reads ds) xs) vars inside r).after (Visible S vars) (AllHave P (read_arguments bs (map (arg_reads ds) xs) vars inside r).tys)

@@ -1,35 +1,40 @@
--- The signatures of methods: where no fault stands they are good, and fit what their bodies see.
+-- The signatures of methods and deletions: where no fault stands they are good, and those of methods fit what their bodies see.
 use Rattle.std.proofs.Common.{◌≡◌, ◌∙◌, sym, ap, refl, ℕ, suc, ◌+◌, ◌<◌, arith, Bool, true, false, nat_lt, List, [], ◌∷◌, ◌++◌, map, length, Option, None}
 use Rattle.std.specs.List.{flat_map, list_all}
 use Rattle.jl_model.specs.declared.ty.Bound.{Bound}
 use Rattle.jl_model.specs.declared.ty.Decl.{Decl}
+use Rattle.jl_model.specs.declared.ty.Ty.{Ty}
 use Rattle.jl_model.specs.declared.ty.Written.{Written}
 use Rattle.jl_model.specs.AllRows.{each_var}
 use Rattle.jl_model.specs.Rows.{vars_in}
 use Rattle.jl_model.specs.Usable.{is_usable}
 use Rattle.jl_model.specs.Valid.{is_known}
 use Rattle.jl_typeread.specs.declared.tree.TypeText.{TypeText}
+use Rattle.jl_typeread.specs.declared.tree.VarText.{VarText}
+use Rattle.jl_typeread.specs.declared.tree.ArgText.TheViews.{out-TypeText}
 use Rattle.jl_grammar.specs.declared.tree.Head.{Head}
 use Rattle.jl_grammar.specs.declared.tree.Param.{Param}
 use Rattle.jl_written.specs.declared.fault.StaticKind.TheVariants as kind
 use Rattle.jl_written.specs.declared.reading.Reading.{Reading}
 use Rattle.jl_written.specs.declared.reading.TypeVar.{TypeVar}
 use Rattle.jl_written.specs.Meaning.{var_of}
-use Rattle.jl_written.specs.Reads.{VarReads, no_reading, bind_name, note_builtin, bind, bind_all, var_reads}
-use Rattle.jl_written.specs.Signatures.{all_bound, all_read, option_reads, written_of}
+use Rattle.jl_written.specs.Reads.{Types, Scoped, VarReads, no_reading, bind_name, note_builtin, bind, bind_all, var_reads}
+use Rattle.jl_written.specs.Signatures.{all_bound, all_read, parts_read, option_reads, signature_with, written_of}
 use Rattle.jl_written.specs.TextOrder.{in_text_order, text_places, number_in}
 use Rattle.jl_resolve_forms.specs.declared.known.Known.{Known}
-use Rattle.jl_resolve_forms.specs.Expressions.{type_of, static_parameters, method_signature}
+use Rattle.jl_resolve_forms.specs.declared.state.Signed.{Signed}
+use Rattle.jl_resolve_forms.specs.Expressions.{type_of, static_parameters, judge_signature, method_signature, deleted_signature, signature_args, signature_vars}
 use Rattle.jl_resolve_forms.specs.TypesIn.{Tests, declared_at}
 use Rattle.jl_resolve_forms.proofs.FlagLemmas.{each_var_at}
-use Rattle.jl_type_laws.specs.Carried.{vars_pass, Visible, WhereUsable}
+use Rattle.jl_type_laws.specs.Carried.{vars_pass, AllHave, Visible, WhereUsable, IsCarried}
 use Rattle.jl_type_laws.specs.Scripts.{DeclsKnown}
-use Rattle.jl_type_laws.specs.Told.{StaticsFit, IsGoodSignature}
+use Rattle.jl_type_laws.specs.Told.{StaticsFit, IsGoodDeletion, IsGoodSignature}
 use Rattle.jl_type_laws.proofs.GrowLemmas.{grows_trans}
 use Rattle.jl_type_laws.proofs.CarryLemmas.{lt_true, all_pass, all_flat}
 use Rattle.jl_type_laws.proofs.AdoptLemmas.{adopt_bounds_length}
 use Rattle.jl_type_laws.proofs.OrderLemmas.{number_below, known_kept, vars_kept, ordered_passes, ordered_told, ordered_count}
-use Rattle.jl_type_laws.proofs.ReadLemmas.{all_law, bound_law}
+use Rattle.jl_type_laws.proofs.ReadLemmas.{all_law, parts_law, bound_law}
+use Rattle.jl_type_laws.proofs.StepLemmas.{Steps}
 use Rattle.jl_type_laws.proofs.BodyLemmas.{untold, known_at, vars_at, types_pass, nothing_has}
 
 -- ---- the variables of a `where` at the end may all stand behind it
@@ -74,13 +79,28 @@ types_length : (ps : List Param) → length (map type_of ps) ≡ length ps
 types_length [] = refl
 types_length (p ∷ ps) = ap suc (types_length ps)
 
-module _ (t : Tests) (k : Known) (declared : DeclsKnown k.decls) (types : ℕ) (head : Head) where
-  pub method_signature_good : (method_signature t k types head).fault ≡ None → (method_signature t k types head).refusal ≡ None → IsGoodSignature t k.decls head (method_signature t k types head)
-  method_signature_good e n =
+-- ---- types that are read behind the variables of a `where`
+
+module _ (t : Tests) (k : Known) (declared : DeclsKnown k.decls) (types : ℕ) (vs : List VarText) (read : List TypeVar → Reading → Types)
+    (law :
+    (P : Ty → Type 0) (N : ℕ → Type 0) (S : ℕ → Bool → Type 0) (Ok : Reading → Type 0) (c : IsCarried (declared_at k types) P N S Ok) (vars : List TypeVar) (r : Reading)
+    → Steps (declared_at k types) P N S Ok c r (read vars r).after (Visible S vars) (AllHave P (read vars r).tys)) where
+  abbrev Bounds : Scoped
+  Bounds = all_bound (declared_at k types) vs [] no_reading
+
+  abbrev Sig : Signed
+  Sig = judge_signature t (signature_with (declared_at k types) vs read)
+
+  -- the signature is good, and the variables of the `where` are among its own
+  pub record Signs : Type 0 where
+    pub good : IsGoodDeletion t k.decls Sig
+    pub vars : Visible (WhereUsable (λ v. nat_lt v (length Sig.sig.vars) ≡ true)) Bounds.vars
+
+  pub signs : Sig.fault ≡ None → Sig.refusal ≡ None → Signs
+  signs e n =
       let ds = declared_at k types in
-      let texts = map type_of head.params in
-      let s = all_bound ds head.vars [] no_reading in
-      let ts = all_read ds texts s.vars s.after in
+      let s = Bounds in
+      let ts = read s.vars s.after in
       let r = ts.after in
       let us = in_text_order ts in
       let w = written_of t.below us in
@@ -89,28 +109,56 @@ module _ (t : Tests) (k : Known) (declared : DeclsKnown k.decls) (types : ℕ) (
       let q : ℕ → Bool = λ v. nat_lt v (length r.vars) in
       let ck = known_at k.decls declared types in
       let cv = vars_at k.decls declared types q in
-      let bk = bound_law ds _ _ _ _ ck head.vars [] no_reading in
-      let bv = bound_law ds _ _ _ _ cv head.vars [] no_reading in
-      let lk = all_law ds _ _ _ _ ck texts s.vars s.after in
-      let lv = all_law ds _ _ _ _ cv texts s.vars s.after in
+      let bk = bound_law ds _ _ _ _ ck vs [] no_reading in
+      let bv = bound_law ds _ _ _ _ cv vs [] no_reading in
+      let lk = law _ _ _ _ ck s.vars s.after in
+      let lv = law _ _ _ _ cv s.vars s.after in
       let long = lv.grows.longer in
       let grown = grows_trans no_reading s.after r bv.grows lv.grows in
       let known_vars = bk.holds tt (λ v l. tt) tt (nothing_has _) in
-      let read = lk.holds tt (λ v l. tt) known_vars.0 known_vars.1 in
-      let known = ordered_passes (is_known (length k.decls)) ts (known_kept (length k.decls) (text_places r)) r.swaps read.0 read.1 in
+      let known_types = lk.holds tt (λ v l. tt) known_vars.0 known_vars.1 in
+      let known = ordered_passes (is_known (length k.decls)) ts (known_kept (length k.decls) (text_places r)) r.swaps known_types.0 known_types.1 in
       let own_vars = bv.holds (lv.grows.faultless f) (λ v l. lt_true v (length r.vars) (omega (arith, l, long))) tt (nothing_has _) in
       let owned = lv.holds f (λ v l. lt_true v (length r.vars) l) own_vars.0 own_vars.1 in
       let stays : (v : ℕ) → q v ≡ true → q (number_in (text_places r) v) ≡ true = λ v h. lt_true (number_in (text_places r) v) (length r.vars) (number_below r (grown.fits tt) v (lt_of v (length r.vars) h)) in
       let own = ordered_passes (vars_pass q) ts (vars_kept q (text_places r) stays) r.swaps owned.0 owned.1 in
       let same : length w.vars ≡ length r.vars = adopt_bounds_length t.below us.after.places us.after.vars ∙ as_it_was.length_is in
       record {
-        own = ap (λ z. list_all (λ v. nat_lt v z) (flat_map vars_in us.tys)) same ∙ all_flat q us.tys ∙ all_pass (vars_pass q) us.tys own.0;
-        known = types_pass (is_known (length k.decls)) t.below us.after us.tys (ck.union [] tt) ck.any known.1 known.0;
-        allowed = untold us.after.misplaced us.after.unclear kind.VariablePlace (t.signature w) (as_it_was.unclear_is ∙ grown.told f) n;
-        counted = sym (ordered_count ts r.swaps ∙ read_length ds texts s.vars s.after ∙ types_length head.params);
-        statics = statics_fit w s.vars (widened w.vars s.vars (sym same) own_vars.0) (all_usable (map (var_reads ds) head.vars) [] false no_reading tt);
+        good = record {
+          own = ap (λ z. list_all (λ v. nat_lt v z) (flat_map vars_in us.tys)) same ∙ all_flat q us.tys ∙ all_pass (vars_pass q) us.tys own.0;
+          known = types_pass (is_known (length k.decls)) t.below us.after us.tys (ck.union [] tt) ck.any known.1 known.0;
+          allowed = untold us.after.misplaced us.after.unclear kind.VariablePlace (t.signature w) (as_it_was.unclear_is ∙ grown.told f) n;
+        };
+        vars = widened w.vars s.vars (sym same) own_vars.0;
       }
     where
       widened : {n : ℕ} (bs : List Bound) (vs : List TypeVar) → n ≡ length bs → Visible (WhereUsable (λ v. nat_lt v n ≡ true)) vs → Visible (WhereUsable (λ v. nat_lt v (length bs) ≡ true)) vs
       widened bs [] e h = tt
       widened bs (v ∷ vs) e h = ((λ u. ap (λ z. nat_lt v.number z) (sym e) ∙ h.0 u), widened bs vs e h.1)
+
+-- ---- methods and deletions
+
+module _ (t : Tests) (k : Known) (declared : DeclsKnown k.decls) (types : ℕ) where
+  pub method_signature_good : (head : Head) → (method_signature t k types head).fault ≡ None → (method_signature t k types head).refusal ≡ None
+      → IsGoodSignature t k.decls head (method_signature t k types head)
+  method_signature_good head e n =
+      let ds = declared_at k types in
+      let texts = map type_of head.params in
+      let s = all_bound ds head.vars [] no_reading in
+      let ts = all_read ds texts s.vars s.after in
+      let g = signs t k declared types head.vars (all_read ds texts) (λ P N S Ok c vars r. all_law ds P N S Ok c texts vars r) e n in
+      record {
+        own = g.good.own;
+        known = g.good.known;
+        allowed = g.good.allowed;
+        counted = sym (ordered_count ts ts.after.swaps ∙ read_length ds texts s.vars s.after ∙ types_length head.params);
+        statics = statics_fit (method_signature t k types head).sig s.vars g.vars (all_usable (map (var_reads ds) head.vars) [] false no_reading tt);
+      }
+
+  pub deleted_signature_good : (text : TypeText) → (deleted_signature t k types text).fault ≡ None → (deleted_signature t k types text).refusal ≡ None
+      → IsGoodDeletion t k.decls (deleted_signature t k types text)
+  deleted_signature_good text e n =
+      let ds = declared_at k types in
+      let xs = signature_args (out-TypeText text) in
+      let g = signs t k declared types (signature_vars (out-TypeText text)) (parts_read ds xs) (λ P N S Ok c vars r. parts_law ds P N S Ok c xs vars r) e n in
+      g.good

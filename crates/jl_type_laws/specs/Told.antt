@@ -33,6 +33,12 @@ pub record IsMadeType (t : Tests) (ds : List Decl) (flags : List Bool) (s : Stat
   pub type : IsSeenType t ds flags s w
   pub made : IsTrue (is_made ds w.value)
 
+-- The signature of a deletion: it has no variables but its own, names types of the program, and nothing refuses it.
+pub record IsGoodDeletion (t : Tests) (ds : List Decl) (g : Signed) : Type 0 where
+  pub own : IsTrue (list_all (λ v. nat_lt v (length g.sig.vars)) (flat_map vars_in g.sig.parts))
+  pub known : IsTrue (list_all (is_known (length ds)) (types_in g.sig))
+  pub allowed : t.signature g.sig ≡ None
+
 -- A signature: it has no variables but its own, names types of the program, nothing refuses it, it has a type for each
 -- parameter, and what a body may use of its variables is flagged there.
 pub record IsGoodSignature (t : Tests) (ds : List Decl) (h : Head) (g : Signed) : Type 0 where

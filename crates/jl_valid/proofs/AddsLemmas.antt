@@ -12,7 +12,7 @@ use Rattle.jl_program.specs.Valid.{IsValidSite}
 use Rattle.jl_grammar.specs.declared.tree.Name.{Name}
 use Rattle.jl_resolve_forms.specs.declared.known.Known.{Known}
 use Rattle.jl_resolve_forms.specs.declared.state.State.{State}
-use Rattle.jl_valid.specs.Adds.{Got, got, no_got, got_both, got_in, got_codes, gathered, bodies, AreAllowed, stands, Gathers, Every, IsFree, Fits, Views, Within, Adds}
+use Rattle.jl_valid.specs.Adds.{Got, got, no_got, got_both, got_in, got_codes, gathered, bodies, AreAllowed, stands, Gathers, Every, IsFree, IsGoodDelete, Fits, Views, Within, Adds}
 use Rattle.jl_valid.specs.Parts.{standing, Passes}
 
 -- tests
@@ -173,11 +173,14 @@ module _ (k : Known) where
     clean = e;
     sites = [];
     spawns = [];
+    deletes = [];
     views = [];
     sites_are = sym (append-nil s.sites);
     spawns_are = sym (append-nil s.spawns);
+    deletes_are = sym (append-nil s.deletes);
     as_many = refl;
     free = tt;
+    deletions = tt;
     gathers = gathers_none k (length s.spawns);
     valid = λ P all w. tt;
     tasks = λ P all w. refl;
@@ -190,11 +193,14 @@ module _ (k : Known) where
     clean = h.clean;
     sites = h.sites;
     spawns = h.spawns;
+    deletes = h.deletes;
     views = h.views;
     sites_are = h.sites_are;
     spawns_are = h.spawns_are;
+    deletes_are = h.deletes_are;
     as_many = h.as_many;
     free = h.free;
+    deletions = h.deletions;
     gathers = h.gathers;
     valid = h.valid;
     tasks = h.tasks;
@@ -210,6 +216,7 @@ module _ (k : Known) where
       fits = fits_before k (length m.sites) (length z.sites) P (not_shorter m.sites z.sites g.sites g.sites_are) w.fits;
       seen = first_views all (length s.spawns) h.views g.views w.seen;
       prelude = w.prelude;
+      deletes = omega (arith, w.deletes, not_shorter m.deletes z.deletes g.deletes g.deletes_are);
     }
 
     last_within : (P : Program) (all : List View) → Within k s z (h.views ++ g.views) P all → Within k m z g.views P all
@@ -217,6 +224,7 @@ module _ (k : Known) where
       fits = w.fits;
       seen = last_views all (length s.spawns) (length m.spawns) h.views g.views places w.seen;
       prelude = omega (arith, w.prelude, not_shorter s.sites m.sites h.sites h.sites_are);
+      deletes = w.deletes;
     }
 
     -- two parts one after another
@@ -225,11 +233,14 @@ module _ (k : Known) where
       clean = h.clean;
       sites = h.sites ++ g.sites;
       spawns = h.spawns ++ g.spawns;
+      deletes = h.deletes ++ g.deletes;
       views = h.views ++ g.views;
       sites_are = g.sites_are ∙ ap (λ y. y ++ g.sites) h.sites_are ∙ append_assoc s.sites h.sites g.sites;
       spawns_are = g.spawns_are ∙ ap (λ y. y ++ g.spawns) h.spawns_are ∙ append_assoc s.spawns h.spawns g.spawns;
+      deletes_are = g.deletes_are ∙ ap (λ y. y ++ g.deletes) h.deletes_are ∙ append_assoc s.deletes h.deletes g.deletes;
       as_many = length-append h.views g.views ∙ ap (λ y. y + length g.views) h.as_many ∙ ap (λ y. length h.spawns + y) g.as_many ∙ sym (length-append h.spawns g.spawns);
       free = every_append IsFree ns ms h.free g.free;
+      deletions = every_append (IsGoodDelete k) h.deletes g.deletes h.deletions g.deletions;
       gathers = gathers_both k (length s.spawns) (length m.spawns) (length z.spawns) h.sites g.sites h.spawns g.spawns a b
           (not_shorter s.spawns m.spawns h.spawns h.spawns_are) (not_shorter m.spawns z.spawns g.spawns g.spawns_are) h.gathers g.gathers;
       valid = λ P all w. every_append (IsValidSite P all) h.sites g.sites (h.valid P all (first_within P all w)) (g.valid P all (last_within P all w));
@@ -254,11 +265,14 @@ module _ (k : Known) where
     clean = h.clean;
     sites = h.sites;
     spawns = h.spawns;
+    deletes = h.deletes;
     views = h.views;
     sites_are = h.sites_are;
     spawns_are = h.spawns_are;
+    deletes_are = h.deletes_are;
     as_many = h.as_many;
     free = h.free;
+    deletions = h.deletions;
     gathers = gathers_more k (length s.spawns) (length z.spawns) h.sites h.spawns own a e allowed h.gathers;
     valid = h.valid;
     tasks = h.tasks;

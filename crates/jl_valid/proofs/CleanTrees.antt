@@ -34,6 +34,7 @@ use Rattle.jl_resolve_forms.specs.TypesIn.{start_of}
 use Rattle.jl_resolve_forms.specs.Expressions.{defines, evaluates, all_coded, all_tried, block_of, bare_scope, make_struct}
 use Rattle.jl_valid.specs.Adds.{Every}
 use Rattle.jl_valid.proofs.CleanForms as C
+use Rattle.jl_valid.proofs.DeleteForms.{delete_clean}
 use Rattle.jl_valid.proofs.FaultLemmas.{clean}
 use Rattle.jl_valid.proofs.TopLemmas.{top_bind_same}
 
@@ -119,6 +120,7 @@ module _ (t : Tests) (k : Known) where
     expr_clean _ _ (G.latest r a g es is fs) =
         expr_at (F.Latest a g es) (E.Latest a g es) (E.rolls-Latest a g es)
         (λ c s e. C.coded_clean (map (expr_reads t k) es) (exprs_clean r es fs) c s (C.latest_clean (place_of_callee g) (function_of k g c) (all_coded (map (expr_reads t k) es) c s) e))
+    expr_clean _ _ (G.delete r a x ty is f) = expr_at (F.Delete a x ty) (XV.Delete a x ty) (E.rolls-Delete a x ty) (delete_clean t k x ty)
     expr_clean _ _ (G.spawn r a e f) = expr_at (F.Spawn a e) (E.Spawn a e) (E.rolls-Spawn a e) (C.spawned_clean (expr_reads t k e) (expr_clean false e f))
     expr_clean _ _ (G.eval_method r a m f) =
         expr_at (F.EvalMethod a m) (E.EvalMethod a m) (E.rolls-EvalMethod a m) (λ c s e. C.evaluated_clean (defines (method_reads t k m) ∷ []) (method_clean m f, tt) c.types s e)

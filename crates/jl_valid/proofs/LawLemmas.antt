@@ -13,7 +13,7 @@ use Rattle.jl_type_laws.specs.Told.{StaticsFit}
 use Rattle.jl_type_laws.proofs.BodyLemmas.{body_seen}
 use Rattle.jl_type_laws.proofs.KnownMore.{declared_known}
 use Rattle.jl_type_laws.proofs.MadeLemmas.{made_seen, struct_below}
-use Rattle.jl_type_laws.proofs.SignedLemmas.{method_signature_good}
+use Rattle.jl_type_laws.proofs.SignedLemmas.{method_signature_good, deleted_signature_good}
 use Rattle.jl_grammar.specs.declared.tree.Item.{Item}
 use Rattle.jl_valid.specs.Adds.{Every}
 use Rattle.jl_valid.specs.Asked.{IsKnownOf, AreTold}
@@ -46,5 +46,8 @@ laws_hold t k items known told =
       heads = λ h types e f.
           let g = method_signature_good t k ds types h e f in
           record { valid = record { own = g.own; known = g.known; allowed = told.signature _ g.own g.known g.allowed }; statics = flagged _ _ g.statics };
+      deletions = λ text types e f.
+          let g = deleted_signature_good t k ds types text e f in
+          record { own = g.own; known = g.known; allowed = told.signature _ g.own g.known g.allowed };
       small = λ p is wide. told.wide p (struct_below k.decls p is) wide;
     }

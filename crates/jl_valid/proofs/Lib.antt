@@ -12,3 +12,4 @@ pub mod TreeLemmas
 pub mod PlaceForms
 pub mod BlockForms
 pub mod TypeUses
+pub mod DeleteForms

@@ -97,3 +97,12 @@ begins_known known (n ∷ ns) = by (is_among n.bytes known) (λ now. begins_know
     by : (b : Bool) → ((now : List (List ℕ)) → length now ≤ length (with_names now ns)) → length known ≤ length (with_names (cond b known (known ++ n.bytes ∷ [])) ns)
     by true rest = rest known
     by false rest = omega (arith, rest (known ++ n.bytes ∷ []), length-append known (n.bytes ∷ []))
+
+-- and they begin with those
+pub begins_with : (known : List (List ℕ)) (ns : List Name) → (fresh : List (List ℕ)) × (with_names known ns ≡ known ++ fresh)
+begins_with known [] = ([], sym (append-nil known))
+begins_with known (n ∷ ns) = by (is_among n.bytes known) (λ now. begins_with now ns)
+  where
+    by : (b : Bool) → ((now : List (List ℕ)) → (fresh : List (List ℕ)) × (with_names now ns ≡ now ++ fresh)) → (fresh : List (List ℕ)) × (with_names (cond b known (known ++ n.bytes ∷ [])) ns ≡ known ++ fresh)
+    by true rest = rest known
+    by false rest = let r = rest (known ++ n.bytes ∷ []) in (n.bytes ∷ r.0, r.1 ∙ append_assoc known (n.bytes ∷ []) r.0)

@@ -72,7 +72,7 @@ not_same p n l h = by (eq-or-lt_of_le l)
     by (inl e) = absurd (h (sym e))
     by (inr less) = omega (arith, less)
 
-one_longer : {X : Type 0} (xs : List X) (y : X) → length (xs ++ y ∷ []) ≡ length xs + 1
+pub one_longer : {X : Type 0} (xs : List X) (y : X) → length (xs ++ y ∷ []) ≡ length xs + 1
 one_longer xs y = length-append xs (y ∷ [])
 
 -- ---- places that stand once
@@ -154,7 +154,7 @@ module _ (t : Tests) (k : Known) where
       next = one_longer s.spawns W.Nothing
 
       within : (P : Program) (all : List View) → Within k s ended (v ∷ inner.views) P all → Within k begun read.after inner.views P all
-      within P all w = record { fits = w.fits; seen = last_views all (length s.spawns) (length begun.spawns) (v ∷ []) inner.views next w.seen; prelude = w.prelude }
+      within P all w = record { fits = w.fits; seen = last_views all (length s.spawns) (length begun.spawns) (v ∷ []) inner.views next w.seen; prelude = w.prelude; deletes = w.deletes }
 
       place_passes : (P : Program) (all : List View) → Views all (length s.spawns) (v ∷ inner.views) → IsCode v r (length s.spawns) (W.Spawn (length s.spawns)) P all
       place_passes P all w =
@@ -182,11 +182,14 @@ module _ (t : Tests) (k : Known) where
         clean = inner.clean;
         sites = inner.sites;
         spawns = read.value ∷ inner.spawns;
+        deletes = inner.deletes;
         views = v ∷ inner.views;
         sites_are = inner.sites_are;
         spawns_are = spawns_set;
+        deletes_are = inner.deletes_are;
         as_many = omega (arith, inner.as_many);
         free = inner.free;
+        deletions = inner.deletions;
         gathers = stands_once;
         valid = λ P all w. inner.valid P all (within P all w);
         tasks = λ P all w. and (is_valid_expr P all read.value (in_task (length s.spawns) v)) (are_valid_tasks P all (length s.spawns + 1) inner.views inner.spawns)
@@ -354,6 +357,7 @@ module _ (t : Tests) (k : Known) where
         fits = record { functions = w.fits.functions; types = w.fits.types; count = omega (arith, same_count, w.fits.count) };
         seen = w.seen;
         prelude = omega (arith, w.prelude, one_longer s.sites (site_of o W.Nothing));
+        deletes = w.deletes;
       }
 
       site_valid : (P : Program) (all : List View) → Within k s closing held.views P all → IsValidSite P all (site_of o body.value)
@@ -371,11 +375,14 @@ module _ (t : Tests) (k : Known) where
         clean = held.clean;
         sites = site_of o body.value ∷ held.sites;
         spawns = held.spawns;
+        deletes = held.deletes;
         views = held.views;
         sites_are = sites_set;
         spawns_are = held.spawns_are;
+        deletes_are = held.deletes_are;
         as_many = held.as_many;
         free = every_append IsFree own ns free held.free;
+        deletions = held.deletions;
         gathers = gathers_site k (length s.spawns) (length closing.spawns) held.sites held.spawns (site_of o body.value) held.gathers;
         valid = λ P all w. (site_valid P all w, held.valid P all (inside P all w));
         tasks = λ P all w. held.tasks P all (inside P all w);

@@ -1,5 +1,5 @@
 -- What is visible in the text is visible in the program.
-use Rattle.std.proofs.Common.{◌≡◌, ◌∙◌, ap, sym, refl, ℕ, ◌+◌, ◌<◌, ◌≤◌, arith, Bool, true, false, cond, List, [], ◌∷◌, length, replicate, Option, Some, None, length-append}
+use Rattle.std.proofs.Common.{◌≡◌, ◌∙◌, ap, sym, refl, ℕ, ◌+◌, ◌<◌, ◌≤◌, arith, Bool, true, false, cond, List, [], ◌∷◌, ◌++◌, length, replicate, Option, Some, None, length-append}
 use Rattle.std.proofs.lemmas.List.{get_or-replicate}
 use Rattle.jl_program.specs.Names.{same_text, is_among, builtin_names}
 use Rattle.jl_program.specs.Scope.{View}
@@ -52,6 +52,25 @@ place_within i (n ∷ ns) name j e = by (same_text name n) (place_within (i + 1)
 
 pub place_there : (ns : List (List ℕ)) (name : List ℕ) (j : ℕ) → place_from 0 ns name ≡ Some j → j < length ns
 place_there ns name j e = omega (arith, place_within 0 ns name j e)
+
+-- a name that is not among the first ones comes after them
+place_from_on : (ns : List (List ℕ)) (i : ℕ) (name : List ℕ) (j : ℕ) → place_from i ns name ≡ Some j → i ≤ j
+place_from_on [] i name j e = absurd (no_number j e)
+place_from_on (n ∷ ns) i name j e = by (same_text name n) (place_from_on ns (i + 1) name j) e
+  where
+    by : (b : Bool) → (place_from (i + 1) ns name ≡ Some j → i + 1 ≤ j) → cond b (Some i) (place_from (i + 1) ns name) ≡ Some j → i ≤ j
+    by true later h = omega (arith, same_number i j h)
+    by false later h = omega (arith, later h)
+
+pub place_past : (ms ns : List (List ℕ)) (i : ℕ) (name : List ℕ) (j : ℕ) → place_from i ms name ≡ None → place_from i (ms ++ ns) name ≡ Some j → i + length ms ≤ j
+place_past [] ns i name j n e = omega (arith, place_from_on ns i name j e)
+place_past (m ∷ ms) ns i name j n e = by (same_text name m) (place_past ms ns (i + 1) name j) n e
+  where
+    by :
+        (b : Bool) → (place_from (i + 1) ms name ≡ None → place_from (i + 1) (ms ++ ns) name ≡ Some j → i + 1 + length ms ≤ j)
+        → cond b (Some i) (place_from (i + 1) ms name) ≡ None → cond b (Some i) (place_from (i + 1) (ms ++ ns) name) ≡ Some j → i + length (m ∷ ms) ≤ j
+    by true later h g = absurd (no_number i (sym h))
+    by false later h g = omega (arith, later h g)
 
 -- one more slot
 abbrev pub one_more : View → View

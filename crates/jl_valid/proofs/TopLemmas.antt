@@ -8,6 +8,7 @@ use Rattle.jl_program.specs.declared.tree.Item.{Item as Code}
 use Rattle.jl_program.specs.declared.tree.Item.TheVariants as I
 use Rattle.jl_program.specs.declared.tree.Program.{Program}
 use Rattle.jl_program.specs.declared.tree.Expr.TheVariants as W
+use Rattle.jl_program.specs.declared.tree.Delete.{Delete}
 use Rattle.jl_program.specs.declared.tree.Site.{Site}
 use Rattle.jl_program.specs.BodyTypes.{IsAllowedType, IsSmallStruct}
 use Rattle.jl_program.specs.Gathered.{Layer, of_expr, of_item, own_place, own_types, own_struct, in_program, spawned_places, written_types, inferred_structs, times}
@@ -15,7 +16,7 @@ use Rattle.jl_program.specs.Names.{is_free_name, are_distinct}
 use Rattle.jl_model.specs.Refusals.{Declared}
 use Rattle.jl_program.specs.Prelude.{prelude_count, prelude_functions, prelude_sites}
 use Rattle.jl_program.specs.Scope.{all_types, View, Statement, nothing_seen, bound, in_turn, item_of, is_valid_expr, are_valid_items, are_valid_tasks, item_step as valid_item}
-use Rattle.jl_program.specs.Valid.{IsValid, IsValidDelete, IsValidSite}
+use Rattle.jl_program.specs.Valid.{IsValid, IsValidDelete, IsValidSig, IsValidSite}
 use Rattle.jl_program.proofs.ValidLayers.{in-nothing, valid-define, valid-top-bind, valid-top-do}
 use Rattle.jl_grammar.specs.declared.tree.Item.{Item}
 use Rattle.jl_grammar.specs.declared.tree.Item.TheVariants as N
@@ -33,12 +34,12 @@ use Rattle.jl_resolve_forms.specs.Scopes.{bind}
 use Rattle.jl_resolve_forms.specs.Top.{resolve, first_at, clash, note_clash, top_bind, one_top, all_top, beginning}
 use Rattle.jl_resolve_forms.specs.TypesIn.{Tests}
 use Rattle.jl_valid.specs.Asked.{IsKnownOf, AreTold}
-use Rattle.jl_valid.specs.Adds.{got, no_got, got_both, got_in, got_codes, gathered, bodies, stands, Fits, Views, Within, Adds}
+use Rattle.jl_valid.specs.Adds.{got, no_got, got_both, got_in, got_codes, gathered, bodies, stands, Every, IsGoodDelete, Fits, Views, Within, Adds}
 use Rattle.jl_valid.specs.Parts.{Sees, standing, Passes, IsCode, IsSite, IsKnown}
 use Rattle.jl_valid.specs.TypeLaws.{TypeLaws}
 use Rattle.jl_valid.proofs.FaultLemmas.{no_note, clean}
 use Rattle.jl_valid.proofs.AddsLemmas.{every_append, times_append, gathered_append, got_is, and, nothing, told, both, ends_at, more_spawns}
-use Rattle.jl_valid.proofs.NameLemmas.{all_of, adds_names, functions_begin, functions_end, begins_known}
+use Rattle.jl_valid.proofs.NameLemmas.{all_of, adds_names, functions_begin, functions_end, begins_known, begins_with}
 use Rattle.jl_valid.proofs.BlockForms.{got_item, got_items, define_got, top_bind_got, top_do_got}
 use Rattle.jl_valid.proofs.FormLemmas.{nil_behind}
 use Rattle.jl_valid.proofs.LawLemmas.{laws_hold}
@@ -176,13 +177,27 @@ in_all own e P sites is =
     ∙ gathered_append own (bodies prelude_sites) (bodies sites) ∙ ap (λ z. z ++ gathered own (bodies sites)) prelude in
     λ i. (all i ++ flat (of_expr own) P.spawns i) ++ flat (of_item own) P.top i
 
+all_valid : (k : Known) (P : Program) → P.functions ≡ k.functions → all_types P ≡ k.decls → (xs : List Delete) → Every (IsGoodDelete k) xs → Every (IsValidDelete P) xs
+all_valid k P f d [] h = tt
+all_valid k P f d (x ∷ xs) h =
+    let twelve : length prelude_functions ≡ 12 = refl in
+    let one : IsValidDelete P x = record {
+      function = omega (arith, h.0.function, ap length f);
+      past_prelude = omega (arith, twelve, h.0.past_prelude);
+      signature = subst (λ ds. IsValidSig ds x.sig) (sym d) h.0.signature;
+    } in (one, all_valid k P f d xs h.1)
+
 pub valid :
     (t : Tests) (k : Known) (items : List Item) (f : Option Fault) → FormedItems items → IsKnownOf items k → AreTold k.decls t
     → (resolve t k items f).fault ≡ None → IsValid (resolve t k items f).program
 valid t k items f formed of told_all e =
     let laws = laws_hold t k items of told_all in
     let twelve : length prelude_functions ≡ 12 = refl in
-    let known : IsKnown k = record { functions = omega (arith, twelve, begins_known prelude_functions (methods_of items), ap length of.functions) } in
+    let begun = begins_with prelude_functions (methods_of items) in
+    let known : IsKnown k = record {
+      functions = omega (arith, twelve, begins_known prelude_functions (methods_of items), ap length of.functions);
+      prelude = ap (take (length prelude_functions)) of.functions ∙ functions_begin (methods_of items) begun.0 begun.1;
+    } in
     let start = beginning f in
     let top = all_top t k items (bare_scope 8) start in
     let adds = all_top_good t k known laws items formed (bare_scope 8) nothing_seen start (record { slots = refl; statics = tt }) e in
@@ -191,7 +206,7 @@ valid t k items f formed of told_all e =
     let types : all_types P ≡ k.decls = ap (λ ds. ds ++ drop 8 k.decls) (sym of.builtins) ∙ take-append-drop 8 k.decls in
     let fits : Fits k (length top.after.sites) P = record { functions = refl; types = types; count = omega arith } in
     let seen : Views adds.views 0 adds.views = record { before = []; behind = []; is = sym (append-nil adds.views); at = refl } in
-    let within : Within k start top.after adds.views P adds.views = record { fits = fits; seen = seen; prelude = omega arith } in
+    let within : Within k start top.after adds.views P adds.views = record { fits = fits; seen = seen; prelude = omega arith; deletes = omega arith } in
     let g = adds.gathers in
     let got_top = got_items P.top in
     let sites = got_codes (bodies adds.sites) in
@@ -217,7 +232,7 @@ valid t k items f formed of told_all e =
       prelude = ap (take (length prelude_sites)) adds.sites_are ∙ take-append_seam prelude_sites adds.sites;
       sites = subst (λ xs. All (IsValidSite P adds.views) xs) (sym (ap (drop (length prelude_sites)) adds.sites_are ∙ drop-append_seam prelude_sites adds.sites))
           (all_of (IsValidSite P adds.views) adds.sites (adds.valid P adds.views within));
-      deletes = all_of (IsValidDelete P) [] tt;
+      deletes = subst (λ xs. All (IsValidDelete P) xs) (sym adds.deletes_are) (all_of (IsValidDelete P) adds.deletes (all_valid k P refl types adds.deletes adds.deletions));
       top = adds.holds P adds.views within 0 (omega arith);
       written = subst (λ ds. All (IsAllowedType ds) (written_types P)) (sym types) (subst (λ xs. All (IsAllowedType k.decls) xs) (sym all_written) (all_of (IsAllowedType k.decls) ((sites.types ++ gathered own_types adds.spawns) ++ got_top.types) allowed));
       inferred = subst (λ ds. All (IsSmallStruct ds) (inferred_structs P)) (sym types) (subst (λ xs. All (IsSmallStruct k.decls) xs) (sym all_inferred) (all_of (IsSmallStruct k.decls) ((sites.structs ++ gathered own_struct adds.spawns) ++ got_top.structs) small));

@@ -31,6 +31,7 @@ use Rattle.jl_resolve_forms.specs.Expressions.{Reads, Defines, Says, Evaluates, 
 use Rattle.jl_valid.specs.Adds.{Every}
 use Rattle.jl_valid.specs.Parts.{IsGood, IsGoodMethod, IsGoodStmt, IsGoodEval, IsGoodPiece, IsGoodBranch, Each, IsKnown, IsGoodName, AreGoodArgs, IsGoodHead}
 use Rattle.jl_valid.specs.TypeLaws.{TypeLaws}
+use Rattle.jl_valid.proofs.DeleteForms.{delete_good}
 use Rattle.jl_valid.proofs.FormLemmas as P
 use Rattle.jl_valid.proofs.TypeUses as U
 use Rattle.jl_valid.proofs.BlockForms as B
@@ -150,6 +151,7 @@ module _ (t : Tests) (k : Known) (known : IsKnown k) (laws : TypeLaws t k) where
         (B.if_else t k r a (map in_branch bs) (map in_stmt ss) (map (branch_reads t k) bs) (map (stmt_reads t k) ss) (branches_good r bs fs) (stmts_good r ss gs))
     expr_good _ _ (G.begin_end r a ss fs) = expr_at r (F.Begin a ss) (E.Begin a ss) (E.rolls-Begin a ss) (B.block_good t k r (map in_stmt ss) (map (stmt_reads t k) ss) (stmts_good r ss fs))
     expr_good _ _ (G.latest r a c es is fs) = expr_at r (F.Latest a c es) (E.Latest a c es) (E.rolls-Latest a c es) (U.latest_good t k known r a c (map in_expr es) (map (expr_reads t k) es) (exprs_good r es fs))
+    expr_good _ _ (G.delete r a x ty is f) = expr_at r (F.Delete a x ty) (XV.Delete a x ty) (E.rolls-Delete a x ty) (delete_good t k known r a x ty (laws.deletions ty))
     expr_good _ _ (G.spawn r a e f) = expr_at r (F.Spawn a e) (E.Spawn a e) (E.rolls-Spawn a e) (M.spawn t k r a (in_expr e) (expr_reads t k e) (expr_good false e f))
     expr_good _ _ (G.eval_method r a m f) = expr_at r (F.EvalMethod a m) (E.EvalMethod a m) (E.rolls-EvalMethod a m) (B.eval_method t k r a (in_method m) (method_reads t k m) (method_good m f))
     expr_good _ _ (G.eval_block r a xs fs) = expr_at r (F.EvalBlock a xs) (E.EvalBlock a xs) (E.rolls-EvalBlock a xs) (B.eval_block t k r a (map in_eval xs) (map (eval_reads t k) xs) (evals_good xs fs))

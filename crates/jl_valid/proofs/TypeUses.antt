@@ -1,5 +1,5 @@
 -- Expressions with types that are written in them, and calls: where the types and the parts are good, the form is.
-use Rattle.std.proofs.Common.{◌≡◌, ◌∙◌, ap, sym, refl, subst, ℕ, zero, suc, ◌<◌, ◌≤◌, arith, Bool, true, false, cond, nat_lt, nat_le, nat_eq, List, [], ◌∷◌, ◌++◌, map, length, Option, Some, None, slice_get, lt-ltb, le-leb, ltb-false, true≢false}
+use Rattle.std.proofs.Common.{◌≡◌, ◌∙◌, ap, sym, refl, subst, ℕ, zero, suc, ◌<◌, ◌≤◌, arith, Bool, true, false, cond, nat_lt, nat_le, nat_eq, List, [], ◌∷◌, ◌++◌, map, length, drop, take-append-drop, Option, Some, None, slice_get, lt-ltb, le-leb, ltb-false, true≢false}
 use Rattle.std.specs.List.{list_all, flat_map}
 use Rattle.jl_model.specs.declared.ty.Ty.TheOpen.{Nominal}
 use Rattle.jl_model.specs.declared.ty.Ty.TheFolds.{fold-roll-Ty}
@@ -15,6 +15,7 @@ use Rattle.jl_program.specs.declared.tree.Expr.TheVariants as W
 use Rattle.jl_program.specs.declared.tree.Expr.TheViews as X
 use Rattle.jl_program.specs.declared.tree.Program.{Program}
 use Rattle.jl_program.specs.BodyTypes.{IsSmallStruct, is_seen, is_made, is_struct, is_struct_type, is_inferable, finds_variables, may_stand, fields_signature as fields_of}
+use Rattle.jl_program.specs.declared.prelude.TheConstants.{PRELUDE_FUNCTIONS}
 use Rattle.jl_program.specs.Prelude.{prelude_functions}
 use Rattle.jl_program.specs.Scope.{View, is_valid_expr, all_types, expr_step as valid_step}
 use Rattle.jl_program.proofs.ValidLayers.{valid-make, valid-infer, valid-isa, valid-sub}
@@ -41,7 +42,7 @@ use Rattle.jl_resolve_forms.specs.declared.state.Scope.{Scope}
 use Rattle.jl_resolve_forms.specs.declared.state.State.{State}
 use Rattle.jl_resolve_forms.specs.Resolver.{Resolution}
 use Rattle.jl_resolve_forms.specs.Scopes.{slot_of, note_if, merge_fault}
-use Rattle.jl_resolve_forms.specs.Functions.{function_of_operator, place_of_callee, unless_slot, function_of, if_struct, struct_named, struct_of, constructor, callee_from, callee_of}
+use Rattle.jl_resolve_forms.specs.Functions.{function_of_operator, place_of_callee, unless_taken, function_of, own_function, if_struct, struct_named, struct_of, constructor, callee_from, callee_of}
 use Rattle.jl_resolve_forms.specs.Parameters.{has_usable_parameters_at}
 use Rattle.jl_resolve_forms.specs.TypesIn.{Tests, declared_at, refusal, start_of, one_type, make_refusal, type_at, make_type, type_in_body, make_at}
 use Rattle.jl_resolve_forms.specs.Expressions.{Reads, all_coded, count_call, latest, inferred_refusal, call, make_struct, make_args, made, expr_step}
@@ -51,7 +52,7 @@ use Rattle.jl_valid.proofs.FaultLemmas.{no_note, note_if_none, note_if_same, mer
 use Rattle.jl_valid.proofs.AddsLemmas.{formed, got_is, with_own, and, right, nothing, ends_at, by_layer}
 use Rattle.jl_valid.proofs.BareType.{bare_allowed}
 use Rattle.jl_valid.proofs.FormLemmas.{got_at, codes_pass, all_good, call_passes, latest_passes}
-use Rattle.jl_valid.proofs.ScopeLemmas.{same_number, no_number, place_there}
+use Rattle.jl_valid.proofs.ScopeLemmas.{same_number, no_number, place_there, place_past}
 
 -- ---- what a called name may be
 
@@ -70,7 +71,7 @@ operator_small O.GreaterEqual f e = omega (arith, same_number 10 f e)
 operator_small O.Not f e = omega (arith, same_number 11 f e)
 operator_small _ f e = absurd (no_number f e)
 
-unless_some : (a b : Option ℕ) (f : ℕ) → unless_slot a b ≡ Some f → b ≡ Some f
+unless_some : (a b : Option ℕ) (f : ℕ) → unless_taken a b ≡ Some f → b ≡ Some f
 unless_some None b f e = e
 unless_some (Some i) b f e = absurd (no_number f e)
 
@@ -79,6 +80,23 @@ unfolding function_of
 function_there k h (C.Plain n) c f e = place_there k.functions n.bytes f (unless_some (slot_of c.slots n.bytes) _ f e)
 function_there k h (C.Base at n) c f e = let twelve : length prelude_functions ≡ 12 = refl in omega (arith, h.functions, twelve, place_there prelude_functions n.bytes f e)
 function_there k h (C.Operator at o) c f e = omega (arith, h.functions, operator_small o f e)
+
+unless_none : (a b : Option ℕ) (f : ℕ) → unless_taken a b ≡ Some f → a ≡ None
+unless_none None b f e = refl
+unless_none (Some i) b f e = absurd (no_number f e)
+
+-- a function of the script comes after those of the prelude
+pub own_there : (k : Known) → IsKnown k → (n : Name) (c : Scope) (f : ℕ) → own_function k n c ≡ Some f → (f < length k.functions) × (PRELUDE_FUNCTIONS ≤ f)
+unfolding own_function
+own_there k h n c f e =
+    let past = unless_some (slot_of c.slots n.bytes) _ f e in
+    let named = unless_some (place_of prelude_functions n.bytes) (place_of k.functions n.bytes) f past in
+    let twelve : length prelude_functions ≡ 12 = refl in
+    let begins : k.functions ≡ prelude_functions ++ drop 12 k.functions = sym (ap (λ ns. ns ++ drop 12 k.functions) (sym h.prelude) ∙ take-append-drop 12 k.functions) in
+    let least = place_past prelude_functions (drop 12 k.functions) 0 n.bytes f (unless_none (place_of prelude_functions n.bytes) (place_of k.functions n.bytes) f past) (ap (λ ns. place_of ns n.bytes) (sym begins) ∙ named) in (
+      place_there k.functions n.bytes f named,
+      omega (arith, twelve, least),
+    )
 
 struct_from : (ds : List Decl) (o : Option ℕ) (p : ℕ) → if_struct ds o ≡ Some p → is_struct ds p ≡ true
 struct_from ds None p e = absurd (no_number p e)

@@ -1,8 +1,10 @@
--- What the reading of a part of a script adds to a program, where it ends without a fault: sites, spawn places, names of
--- functions, and what holds of it in every program that the script may become.
+-- What the reading of a part of a script adds to a program, where it ends without a fault: sites, spawn places, deletion places,
+-- names of functions, and what holds of it in every program that the script may become.
 use Rattle.std.specs.Prelude.{ℕ, ◌+◌, ◌≡◌, ◌<◌, ◌≤◌, IsTrue, List, [], ◌∷◌, ◌++◌, map, length, None}
 use Rattle.std.specs.List.{flat_map}
 use Rattle.jl_model.specs.declared.ty.Written.{Written}
+use Rattle.jl_program.specs.declared.prelude.TheConstants.{PRELUDE_FUNCTIONS}
+use Rattle.jl_program.specs.declared.tree.Delete.{Delete}
 use Rattle.jl_program.specs.declared.tree.Expr.{Expr as Code}
 use Rattle.jl_program.specs.declared.tree.Program.{Program}
 use Rattle.jl_program.specs.declared.tree.Site.{Site}
@@ -11,7 +13,7 @@ use Rattle.jl_program.specs.Gathered.{Layer, of_expr, own_place, own_types, own_
 use Rattle.jl_program.specs.Names.{is_free_name}
 use Rattle.jl_program.specs.Prelude.{prelude_count}
 use Rattle.jl_program.specs.Scope.{View, all_types, are_valid_tasks}
-use Rattle.jl_program.specs.Valid.{IsValidSite}
+use Rattle.jl_program.specs.Valid.{IsValidSig, IsValidSite}
 use Rattle.jl_grammar.specs.declared.tree.Name.{Name}
 use Rattle.jl_resolve_forms.specs.declared.known.Known.{Known}
 use Rattle.jl_resolve_forms.specs.declared.state.State.{State}
@@ -78,6 +80,12 @@ pub record Fits (k : Known) (sites : ℕ) (P : Program) : Type 0 where
   pub types : all_types P ≡ k.decls
   pub count : sites ≤ length P.sites
 
+-- a deletion place is valid: its function is one of the script, and its signature is valid
+pub record IsGoodDelete (k : Known) (place : Delete) : Type 0 where
+  pub function : place.function < length k.functions
+  pub past_prelude : PRELUDE_FUNCTIONS ≤ place.function
+  pub signature : IsValidSig k.decls place.sig
+
 -- from this number on these views stand among all
 pub record Views (all : List View) (place : ℕ) (more : List View) : Type 0 where
   pub before : List View
@@ -90,18 +98,22 @@ pub record Within (k : Known) (s z : State) (more : List View) (P : Program) (al
   pub fits : Fits k (length z.sites) P
   pub seen : Views all (length s.spawns) more
   pub prelude : prelude_count ≤ length s.sites
+  pub deletes : length z.deletes ≤ length P.deletes
 
--- From a state to the next one there are new sites and spawn places, each valid; there is no fault before; the names are free;
+-- From a state to the next one there are new sites, spawn places and deletion places, each valid; there is no fault before; the names are free;
 -- this stands in what was read; and this holds.
 pub record Adds (k : Known) (s z : State) (names : List Name) (g : Got) (Holds : Program → List View → Type 0) : Type 0 where
   pub clean : s.fault ≡ None
   pub sites : List Site
   pub spawns : List Code
+  pub deletes : List Delete
   pub views : List View
   pub sites_are : z.sites ≡ s.sites ++ sites
   pub spawns_are : z.spawns ≡ s.spawns ++ spawns
+  pub deletes_are : z.deletes ≡ s.deletes ++ deletes
   pub as_many : length views ≡ length spawns
   pub free : Every IsFree names
+  pub deletions : Every (IsGoodDelete k) deletes
   pub gathers : Gathers k (length s.spawns) (length z.spawns) sites spawns g
   pub valid : (P : Program) (all : List View) → Within k s z views P all → Every (IsValidSite P all) sites
   pub tasks : (P : Program) (all : List View) → Within k s z views P all → IsTrue (are_valid_tasks P all (length s.spawns) views spawns)

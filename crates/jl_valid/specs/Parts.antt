@@ -1,5 +1,5 @@
 -- When a reading is good: where it ends without a fault, what it becomes is valid where it stands.
-use Rattle.std.specs.Prelude.{ℕ, ◌≡◌, ◌≤◌, ◌<◌, Bool, true, false, IsTrue, List, [], ◌∷◌, ◌++◌, length, get_or, None}
+use Rattle.std.specs.Prelude.{ℕ, ◌≡◌, ◌≤◌, ◌<◌, Bool, true, false, IsTrue, List, [], ◌∷◌, ◌++◌, length, take, get_or, None}
 use Rattle.std.specs.List.{flat_map}
 use Rattle.std.specs.Str.{is_utf8}
 use Rattle.jl_program.specs.declared.prelude.TheConstants.{PRELUDE_FUNCTIONS}
@@ -9,7 +9,7 @@ use Rattle.jl_model.specs.Usable.{is_usable}
 use Rattle.jl_program.specs.declared.tree.Expr.{Expr as Code}
 use Rattle.jl_program.specs.declared.tree.Program.{Program}
 use Rattle.jl_program.specs.Names.{is_field_name}
-use Rattle.jl_program.specs.Prelude.{prelude_count}
+use Rattle.jl_program.specs.Prelude.{prelude_count, prelude_functions}
 use Rattle.jl_program.specs.BodyTypes.{is_seen, is_made, is_struct, IsAllowedType}
 use Rattle.jl_program.specs.Scope.{View, Scope as Standing, is_valid_expr}
 use Rattle.jl_program.specs.Valid.{IsValidSig}
@@ -22,7 +22,7 @@ use Rattle.jl_resolve_forms.specs.declared.known.Known.{Known}
 use Rattle.jl_resolve_forms.specs.declared.state.Scope.{Scope}
 use Rattle.jl_resolve_forms.specs.declared.state.State.{State}
 use Rattle.jl_resolve_forms.specs.Defined.{own_name}
-use Rattle.jl_resolve_forms.specs.Expressions.{Reads, Defines, Says, binds, returns, does, Evaluates, defines, evaluates, Shows, writes, shows, Tries, method_signature, static_parameters}
+use Rattle.jl_resolve_forms.specs.Expressions.{Reads, Defines, Says, binds, returns, does, Evaluates, defines, evaluates, Shows, writes, shows, Tries, method_signature, deleted_signature, static_parameters}
 use Rattle.jl_resolve_forms.specs.TypesIn.{Tests, type_in_body, make_at}
 use Rattle.jl_valid.specs.Adds.{no_got, got_in, Every, Adds}
 
@@ -114,6 +114,10 @@ module _ (k : Known) where
     abbrev pub AreGoodArgs : List ArgText → Type 0
     AreGoodArgs args = (at p : ℕ) (c : Scope) (v : View) (s : State) → Sees c v → IsTrue (is_struct k.decls p) → (make_at t k at p args c s).after.fault ≡ None → IsMadeOf c v at p args s
 
+    -- the signature of a deletion
+    abbrev pub IsDeleting : TypeText → Type 0
+    IsDeleting text = (types : ℕ) → (deleted_signature t k types text).fault ≡ None → (deleted_signature t k types text).refusal ≡ None → IsValidSig k.decls (deleted_signature t k types text).sig
+
     -- the head of a method
     pub record IsSignedBy (types : ℕ) (h : Head) : Type 0 where
       pub valid : IsValidSig k.decls (method_signature t k types h).sig
@@ -126,3 +130,4 @@ module _ (k : Known) where
 -- what is true of what is known of a script
 pub record IsKnown (k : Known) : Type 0 where
   pub functions : PRELUDE_FUNCTIONS ≤ length k.functions
+  pub prelude : take (length prelude_functions) k.functions ≡ prelude_functions

@@ -4,7 +4,7 @@ use Rattle.jl_written.specs.declared.fault.Fault.{Fault}
 use Rattle.jl_written.specs.declared.fault.StaticKind.{StaticKind}
 use Rattle.jl_written.specs.declared.fault.StaticKind.TheVariants as kind
 
--- the number of a fault in the table of the ten static faults; those of a declaration and those of a signature, which never
+-- the number of a fault in the table of the eleven static faults; those of a declaration and those of a signature, which never
 -- stand at one place, are the fifth and the sixth
 abbrev pub number_of : StaticKind → ℕ
 number_of kind.UnknownName = 1
@@ -26,6 +26,7 @@ number_of kind.TooManySites = 7
 number_of kind.StaticParameterUse = 8
 number_of kind.NameClash = 9
 number_of kind.TooManyArguments = 10
+number_of kind.BadType = 11
 
 abbrev pub comes_before : Fault → Fault → Bool
 comes_before f g = nat_lt f.at g.at || (nat_eq f.at g.at && nat_lt (number_of f.kind) (number_of g.kind))

@@ -12,7 +12,7 @@ use Rattle.jl_typeread.specs.declared.tree.VarText.{VarText}
 use Rattle.jl_written.specs.declared.reading.Place.{Place}
 use Rattle.jl_written.specs.declared.reading.Reading.{Reading}
 use Rattle.jl_written.specs.declared.reading.TypeVar.{TypeVar}
-use Rattle.jl_written.specs.Reads.{Types, Typed, Scoped, no_reading, bind_all, read_arguments, nominal_of, type_reads, arg_reads, var_reads}
+use Rattle.jl_written.specs.Reads.{Types, Typed, Scoped, no_reading, bind_all, read_arguments, read_members, nominal_of, type_reads, arg_reads, var_reads}
 use Rattle.jl_written.specs.TextOrder.{in_text_order, one_in_text_order}
 
 -- a parameter or a field without a type has the type `Any`
@@ -54,8 +54,18 @@ pub record Signature : Type 0 where
   pub vars : List TypeVar
   pub types : Types
 
+abbrev pub signature_with : List Decl → List VarText → (List TypeVar → Reading → Types) → Signature
+signature_with ds vs read = let s = all_bound ds vs [] no_reading in record { vars = s.vars; types = in_text_order (read s.vars s.after) }
+
 abbrev pub signature : List Decl → List (Option TypeText) → List VarText → Signature
-signature ds ts vs = let s = all_bound ds vs [] no_reading in record { vars = s.vars; types = in_text_order (all_read ds ts s.vars s.after) }
+signature ds ts vs = signature_with ds vs (all_read ds ts)
+
+-- the parts of a tuple that is read as a signature, as the types of so many parameters
+abbrev pub parts_read : List Decl → List ArgText → List TypeVar → Reading → Types
+parts_read ds xs vars r = read_members (map (arg_reads ds) xs) vars false r
+
+abbrev pub tuple_signature : List Decl → List ArgText → List VarText → Signature
+tuple_signature ds xs vs = signature_with ds vs (parts_read ds xs)
 
 -- the static parameters of a body, where the variables of the type itself have the numbers before them
 abbrev pub shifted : ℕ → List TypeVar → List TypeVar

@@ -43,6 +43,8 @@ pub enum StaticKind {
     NameClash,
     #[error("TooManyArguments")]
     TooManyArguments,
+    #[error("BadType")]
+    BadType,
 }
 
 /// A static fault, and the offset in bytes where it stands.

@@ -34,6 +34,7 @@ fn number_of(kind: StaticKind) -> u8
         StaticKind::StaticParameterUse => 8,
         StaticKind::NameClash => 9,
         StaticKind::TooManyArguments => 10,
+        StaticKind::BadType => 11,
     }
 }
 

@@ -104,7 +104,7 @@ fn read_applied(
 
 /// The members of a union, or the parts of a tuple.
 #[cycle(types)]
-fn read_members(
+pub fn read_members(
     alloc: Global,
     around: &Around<'_>,
     vars: &mut TypeVars,

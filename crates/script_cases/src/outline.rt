@@ -3,7 +3,7 @@
 use crate::outline_heads::{put_callee, put_head};
 use crate::outline_types::{put_name, put_type};
 use crate::text::Written;
-use jl_grammar::tree::{Branch, Callee, Eval, Expr, Infix, Method, Piece, Prefix, Stmt};
+use jl_grammar::tree::{Branch, Callee, Eval, Expr, Infix, Method, Name, Piece, Prefix, Stmt};
 use jl_typeread::tree::TypeText;
 use std::str;
 
@@ -47,6 +47,15 @@ fn put_sub(out: &mut Written, low: &TypeText, high: &TypeText) {
     put_type(out, low);
     out.put(" <: ");
     put_type(out, high);
+    out.put(")");
+}
+
+/// A deletion of a function's methods with the signature that a type is.
+fn put_delete(out: &mut Written, function: &Name, ty: &TypeText) {
+    out.put("delete(");
+    put_name(out, function.bytes.as_slice());
+    out.put(", ");
+    put_type(out, ty);
     out.put(")");
 }
 
@@ -276,6 +285,7 @@ pub fn put_expr(out: &mut Written, expr: &Expr) {
         Expr::Latest(_, callee, arguments) => {
             put_given(out, "latest ", callee, arguments.as_slice());
         }
+        Expr::Delete(_, function, ty) => put_delete(out, function, ty),
         Expr::Spawn(_, task) => put_around(out, "spawn", task.get()),
         Expr::EvalMethod(_, method) => {
             out.put("eval ");

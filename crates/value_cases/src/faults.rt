@@ -81,11 +81,12 @@ fn of_type(kind: &str, count: u32, types: &mut Vec<Ty>) -> Fault {
     }
 }
 
-/// A fault of a number, or of a task or a limit.
+/// A fault of a number, of a function, or of a task or a limit.
 fn of_count(kind: &str, count: u32) -> Fault {
     match kind {
         "DivideError" => Fault::DivideError,
         "TaskFailed" => Fault::TaskFailed(count),
+        "NoSuchMethod" => Fault::NoSuchMethod(count),
         "FuelSpent" => Fault::FuelSpent(u64::from(count)),
         "StackLimit" => Fault::StackLimit,
         "WorldLimit" => Fault::WorldLimit,

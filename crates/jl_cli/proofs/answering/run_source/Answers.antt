@@ -1,8 +1,8 @@
 use Rattle.jl_cli.proofs.Running.{ran_so}
 use Rattle.jl_cli.proofs.answering.run_source.Goals as goal
 
-pub told-requires-clause-stand : goal.told-requires-clause-stand
-told-requires-clause-stand g c = c.in_ok-history.ensures.legal.so_far.stand
+pub told-requires : goal.told-requires
+told-requires g c = c.in_ok-history.ensures.legal.so_far.stand
 
 pub returns : goal.returns
 returns g c =

@@ -1,4 +1,4 @@
-use Rattle.jl_fault_laws.proofs.ExampleRows.{good_rows, name_row, function_row, arguments_row, type_row, variable_row, binding_row, shared_row, built_in_row, inferred_row, sites_row}
+use Rattle.jl_fault_laws.proofs.ExampleRows.{good_rows, name_row, function_row, arguments_row, type_row, variable_row, binding_row, deletion_row, no_tuple_row, shared_row, built_in_row, inferred_row, sites_row}
 use Rattle.jl_fault_laws.proofs.laws.law_examples.Goals as goal
 
 pub returns-clause-none : goal.returns-clause-none
@@ -27,6 +27,12 @@ returns-clause-variable c = variable_row
 
 pub returns-clause-function_name : goal.returns-clause-function_name
 returns-clause-function_name c = shared_row
+
+pub returns-clause-deletion : goal.returns-clause-deletion
+returns-clause-deletion c = deletion_row
+
+pub returns-clause-no_tuple : goal.returns-clause-no_tuple
+returns-clause-no_tuple c = no_tuple_row
 
 pub returns-clause-inferred : goal.returns-clause-inferred
 returns-clause-inferred c = inferred_row

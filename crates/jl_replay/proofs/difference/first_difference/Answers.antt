@@ -6,7 +6,7 @@ use Rattle.jl_replay.proofs.difference.first_difference.Goals as goal
 -- src/difference.rt:45:5
 pub loop-n-init : goal.loop-n-init
 loop-n-init g c = (
-  record { plain = c.requires.plain; apart = apart_of c.law_keys_apart.ensures c.args.ready.now c.valid.ensures; well = c.requires.begun; clean = c.requires.clean },
+  record { apart = apart_of c.law_keys_apart.ensures c.args.ready.now c.valid.ensures; well = c.requires.begun; clean = c.requires.clean },
   c.in_ok-ends.ensures,
   c.in_ok-runs.ensures.followed,
   c.in_ok-runs.ensures.many,

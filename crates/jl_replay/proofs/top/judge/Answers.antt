@@ -1,12 +1,13 @@
 use Rattle.std.proofs.Common.{subst, ℕ, MatchOption}
 use Rattle.jl_causes.specs.declared.cause.Cause.{Cause}
 use Rattle.jl_causes.specs.Causes.{HasNoCause, IsFirstCause}
+use Rattle.jl_report.specs.HistoryText.{has_places}
 use Rattle.jl_replay.proofs.Judgements.{apart_of, well_of, judged_cause}
 use Rattle.jl_replay.proofs.top.judge.Goals as goal
 
 -- src/top.rt:34:31
 pub first_cause-requires-clause-begun : goal.first_cause-requires-clause-begun
-first_cause-requires-clause-begun g c = well_of c.args.entries.now c.requires.form.0
+first_cause-requires-clause-begun g c = well_of (has_places c.args.ready.now) c.args.entries.now c.requires.form.0
 
 -- src/top.rt:35:9
 pub returns-in-Some : goal.returns-in-Some
@@ -16,4 +17,4 @@ returns-in-Some g c =
 
 -- src/top.rt:37:11
 pub first_difference-requires-clause-begun : goal.first_difference-requires-clause-begun
-first_difference-requires-clause-begun g c = well_of c.args.entries.now c.requires.form.0
+first_difference-requires-clause-begun g c = well_of (has_places c.args.ready.now) c.args.entries.now c.requires.form.0

@@ -3,7 +3,7 @@ use Rattle.jl_program.specs.declared.tree.Item.TheVariants as I
 use Rattle.jl_resolve_forms.specs.Resolver.{resolution}
 use Rattle.jl_resolve_forms.specs.Scopes.{slot_of}
 use Rattle.jl_resolve_forms.specs.Expressions.{arm, block_of, one_said, one_shown, one_evaluated, one_tried, bare_scope, part_number, expr_reads, stmt_reads, piece_reads, eval_reads, branch_reads}
-use Rattle.jl_resolve_walk.proofs.Forms.{part, form-Number, form-Bool, form-Nothing, form-Name, form-Paren, form-Tuple, form-Call, form-Make, form-Field, form-Part, form-Prefix, form-Infix, form-Isa, form-Sub, form-Choose, form-If, form-IfElse, form-Begin, form-Latest, form-Spawn, form-EvalMethod, form-EvalBlock, form-EvalExpr, form-EvalQuote, form-Fetch, form-Print}
+use Rattle.jl_resolve_walk.proofs.Forms.{part, form-Number, form-Bool, form-Nothing, form-Name, form-Paren, form-Tuple, form-Call, form-Make, form-Field, form-Part, form-Prefix, form-Infix, form-Isa, form-Sub, form-Choose, form-If, form-IfElse, form-Begin, form-Latest, form-Delete, form-Spawn, form-EvalMethod, form-EvalBlock, form-EvalExpr, form-EvalQuote, form-Fetch, form-Print}
 use Rattle.jl_resolve_walk.proofs.GivenLemmas.{given, given_on, both_given, weaker, always, ok_at}
 use Rattle.jl_resolve_walk.proofs.Lists.{parts_step, parts_step_at, parts_end, parts_start, block_step, block_end, block_kept, block_start}
 use Rattle.jl_resolve_walk.proofs.Parts.{says-Bind, says-Return, says-ReturnNothing, says-Do, shows-Text, shows-Show, evals-Method, evals-Do, tries, method-long, method-short}
@@ -250,6 +250,18 @@ expr-returns-in-Sub g t c =
     record {
       means = weaker c.below.result _ _ c.below.ensures (λ z m. form-Sub ts k e c.in-Sub.field-0 c.in-Sub.left c.in-Sub.right sc st c.below.new.state z c.in-Sub.is m);
       kept = always c.below.result _ refl;
+    }
+
+pub expr-returns-in-Delete : goal.expr-returns-in-Delete
+expr-returns-in-Delete g t c =
+    let ts = g.J.Judge.tests c.args.judge.now in
+    let k = c.args.known.now in
+    let st = c.args.state.now in
+    let sc = c.args.scope.now in
+    let e = c.args.text.now in
+    record {
+      means = weaker c.delete.result _ _ c.delete.ensures (λ z m. form-Delete ts k e c.in-Delete.field-0 c.in-Delete.name c.in-Delete.ty sc st c.delete.new.state z c.in-Delete.is m);
+      kept = always c.delete.result _ refl;
     }
 
 pub expr-returns-in_ok-or_else-in-Choose : goal.expr-returns-in_ok-or_else-in-Choose

@@ -9,5 +9,6 @@ invariant-loop-place l = record {
   reached : IsReached l.bytes l.cursor;
   sites_fit : l.sites ≤ FIRST_SITE + l.place-index;
   spawns_fit : l.spawns ≤ l.place-index;
-  rest : l.out ++ table l.bytes l.sites l.spawns (drop l.place-index l.places) ≡ l.initial.out ++ table l.bytes FIRST_SITE 0 l.places;
+  deletes_fit : l.deletes ≤ l.place-index;
+  rest : l.out ++ table l.bytes l.sites l.spawns l.deletes (drop l.place-index l.places) ≡ l.initial.out ++ table l.bytes FIRST_SITE 0 0 l.places;
 }

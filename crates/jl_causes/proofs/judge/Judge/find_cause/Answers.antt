@@ -28,11 +28,12 @@ pub returns-in-Def : goal.returns-in-Def
 returns-in-Def c = λ es h told later named.
     subst (λ x. IsJudged c.args.ready.now c.args.entries.now es x c.judge_def.result) (sym c.in-Def.is) (c.judge_def.ensures c.args.entries.now es h)
 
-pub returns-in-Del : goal.returns-in-Del
-returns-in-Del c =
-    let P = c.args.ready.now in
-    λ es h told later named.
-    subst (λ x. IsJudged P c.args.entries.now es x c.judge_del.result) (sym c.in-Del.is) (c.judge_del.ensures P c.args.entries.now es c.in-Del.place h)
+pub judge_del-requires : goal.judge_del-requires
+judge_del-requires c = let (es, h) = c.requires in (c.args.entries.now, es, h)
+
+pub returns-in_ok-found-in-Del : goal.returns-in_ok-found-in-Del
+returns-in_ok-found-in-Del c = λ es h told later named.
+    subst (λ x. IsJudged c.args.ready.now c.args.entries.now es x c.in_ok-found-in-Del.found) (sym c.in-Del.is) (c.in_ok-found-in-Del.ensures c.args.entries.now es h)
 
 pub judge_spawn-requires : goal.judge_spawn-requires
 judge_spawn-requires c = let (es, h) = c.requires in (c.args.entries.now, es, h)
@@ -42,11 +43,11 @@ returns-in-Spawn c = λ es h told later named.
     subst (λ x. IsJudged c.args.ready.now c.args.entries.now es x c.judge_spawn.result) (sym c.in-Spawn.is) (c.judge_spawn.ensures c.args.entries.now es h)
 
 pub judge_done-requires : goal.judge_done-requires
-judge_done-requires c = let (es, h) = c.requires in (c.args.ready.now, es, h)
+judge_done-requires c = c.requires
 
-pub returns-in-Done : goal.returns-in-Done
-returns-in-Done c =
+pub returns-in_ok-found-in-Done : goal.returns-in_ok-found-in-Done
+returns-in_ok-found-in-Done c =
     let P = c.args.ready.now in
     λ es h told later named.
-    subst (λ x. IsJudged P c.args.entries.now es x c.judge_done.result) (sym (c.in-Done.is ∙ ap (λ ts. E.Done c.in-Done.task c.in-Done.calls ts c.in-Done.output c.in-Done.ending) (sym c.as_slice.ensures)))
-    (c.judge_done.ensures P es c.in-Done.calls c.in-Done.output c.in-Done.ending h told)
+    subst (λ x. IsJudged P c.args.entries.now es x c.in_ok-found-in-Done.found) (sym (c.in-Done.is ∙ ap (λ ts. E.Done c.in-Done.task c.in-Done.calls ts c.in-Done.output c.in-Done.ending) (sym c.as_slice.ensures)))
+    (c.in_ok-found-in-Done.ensures es c.in-Done.calls c.in-Done.output c.in-Done.ending h told)

@@ -1,8 +1,34 @@
-use Rattle.jl_causes.proofs.JudgeLemmas.{not_so, del_not_running, del_no_place}
+use Rattle.std.proofs.Common.{ap, arith, length}
+use Rattle.jl_program.specs.declared.tree.Program.{Program}
+use Rattle.jl_causes.proofs.JudgeLemmas.{not_so, not_yes, del_not_running, del_no_place, del_no_method, del_full, del_clean}
 use Rattle.jl_causes.proofs.judge.Judge.judge_del.Goals as goal
 
 pub returns-then-not-is_running : goal.returns-then-not-is_running
-returns-then-not-is_running c = λ P all es place h. del_not_running P all es c.args.task place (not_so c.is_running.result (c.is_running.ensures es h.tasks) c.if-not-is_running.true)
+returns-then-not-is_running c = λ all es h. del_not_running c.args.ready.now all es c.args.task c.args.place (not_so c.is_running.result (c.is_running.ensures es h.tasks) c.if-not-is_running.true)
+
+pub returns-then-place-count : goal.returns-then-place-count
+returns-then-place-count c = λ all es h.
+    del_no_place c.args.ready.now all es c.args.task c.args.place ((c.is_running.ensures es h.tasks).0 c.if-not-is_running.false) (omega (arith, c.if-place-count.true, c.len-count.ensures, ap (λ (P : Program). length P.deletes) c.program.ensures))
+
+pub has_method-requires-clause-place : goal.has_method-requires-clause-place
+has_method-requires-clause-place c = omega (arith, c.if-place-count.false, c.len-count.ensures, ap (λ (P : Program). length P.deletes) c.program.ensures)
+
+pub has_method-requires-clause-rows : goal.has_method-requires-clause-rows
+has_method-requires-clause-rows c = let (all, es, h) = c.requires in (es, h.rows)
+
+pub returns-then-not-has_method : goal.returns-then-not-has_method
+returns-then-not-has_method c = λ all es h.
+    del_no_method c.args.ready.now all es c.args.task c.args.place ((c.is_running.ensures es h.tasks).0 c.if-not-is_running.false)
+    (omega (arith, c.if-place-count.false, c.len-count.ensures, ap (λ (P : Program). length P.deletes) c.program.ensures)) (not_yes c.in_ok-has_method.has_method (c.in_ok-has_method.ensures es h.rows) c.if-not-has_method.true)
+
+pub returns-then-world-ge-MOST_WORLDS : goal.returns-then-world-ge-MOST_WORLDS
+returns-then-world-ge-MOST_WORLDS c = λ all es h.
+    del_full c.args.ready.now all es c.args.task c.args.place ((c.is_running.ensures es h.tasks).0 c.if-not-is_running.false)
+    (omega (arith, c.if-place-count.false, c.len-count.ensures, ap (λ (P : Program). length P.deletes) c.program.ensures)) ((c.in_ok-has_method.ensures es h.rows).0 c.if-not-has_method.false)
+    (let now = c.newest-world.ensures es h.places in omega (arith, now.world, c.if-world-ge-MOST_WORLDS.true))
 
 pub returns : goal.returns
-returns c = λ P all es place h. del_no_place P all es c.args.task place h.plain ((c.is_running.ensures es h.tasks).0 c.if-not-is_running.false)
+returns c = λ all es h.
+    del_clean c.args.ready.now all es c.args.task c.args.place ((c.is_running.ensures es h.tasks).0 c.if-not-is_running.false)
+    (omega (arith, c.if-place-count.false, c.len-count.ensures, ap (λ (P : Program). length P.deletes) c.program.ensures)) ((c.in_ok-has_method.ensures es h.rows).0 c.if-not-has_method.false)
+    (let now = c.newest-world.ensures es h.places in omega (arith, now.world, c.if-world-ge-MOST_WORLDS.false))

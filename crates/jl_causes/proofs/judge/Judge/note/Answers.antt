@@ -2,7 +2,7 @@ use Rattle.std.proofs.Common.{◌≡◌, ◌∙◌, ap, sym, subst, refl, true, 
 use Rattle.jl_calculus.specs.declared.history.Event.TheVariants as Ev
 use Rattle.jl_causes.specs.Causes.{is_begin}
 use Rattle.jl_causes.specs.Sketch.{start_at, record_of, Tells}
-use Rattle.jl_causes.proofs.NoteLemmas.{note_comes, key_named, no_key_here, no_deletion_here}
+use Rattle.jl_causes.proofs.NoteLemmas.{note_comes, key_named, no_key_here}
 use Rattle.jl_causes.proofs.judge.Judge.note.Goals as goal
 
 pub returns-in-Begin : goal.returns-in-Begin
@@ -56,9 +56,19 @@ returns-in_ok-note_def-in-Def c =
     let t : Tells P c.args.entry.now e = subst (λ x. Tells P x e) (sym c.in-Def.is) refl in
     (e, t, c.in_ok-note_def-in-Def.ensures all es m.knows (note_comes P all es c.args.self.now c.args.entry.now c.args.key m e t) at)
 
-pub returns-in-Del : goal.returns-in-Del
-returns-in-Del c = λ all es m at.
-    absurd (no_deletion_here c.args.ready.now all es c.args.self.now c.args.entry.now c.args.key c.in-Del.task c.in-Del.place c.in-Del.is m)
+pub note_del-requires : goal.note_del-requires
+note_del-requires c =
+    let P = c.args.ready.now in
+    let (all, es, m) = c.requires in
+    let e = Ev.Del c.in-Del.task c.in-Del.place in (all, es, m.knows, note_comes P all es c.args.self.now c.args.entry.now c.args.key m e (subst (λ x. Tells P x e) (sym c.in-Del.is) refl))
+
+pub returns-in_ok-note_del-in-Del : goal.returns-in_ok-note_del-in-Del
+returns-in_ok-note_del-in-Del c =
+    let P = c.args.ready.now in
+    λ all es m at.
+    let e = Ev.Del c.in-Del.task c.in-Del.place in
+    let t : Tells P c.args.entry.now e = subst (λ x. Tells P x e) (sym c.in-Del.is) refl in
+    (e, t, c.in_ok-note_del-in-Del.ensures all es m.knows (note_comes P all es c.args.self.now c.args.entry.now c.args.key m e t) at)
 
 pub note_spawn-requires : goal.note_spawn-requires
 note_spawn-requires c =

@@ -1,6 +1,7 @@
 use Rattle.std.proofs.Common.{refl, arith}
+use Rattle.jl_calculus.specs.declared.history.Change.TheVariants as Ch
 use Rattle.jl_calculus.specs.declared.history.Event.TheVariants as Ev
-use Rattle.jl_causes.proofs.NoteLemmas.{counts_def, judge_more}
+use Rattle.jl_causes.proofs.NoteLemmas.{counts_change, judge_more}
 use Rattle.jl_causes.proofs.judge.Judge.note_def.Goals as goal
 
 pub note_def-requires : goal.note_def-requires
@@ -13,7 +14,7 @@ pub returns : goal.returns
 returns c = λ all es h m at.
     let e = Ev.Def c.args.task c.args.site in
     judge_more c.args.ready.now all es e c.args.self.now _ refl h (c.in_ok-note_def.ensures es h.rows m) (c.in_ok-define.ensures es h.tasks at)
-    (c.in_ok-note.ensures es e h.places (counts_def es c.args.task c.args.site c.newest-old.result _ refl refl (c.newest-old.ensures es h.places)))
+    (c.in_ok-note.ensures es e h.places (counts_change es e (Ch.Def c.args.site) c.newest-old.result _ refl refl refl refl (c.newest-old.ensures es h.places)))
 
 pub overflow_add-old : goal.overflow_add-old
 overflow_add-old c =

@@ -1,7 +1,8 @@
 use Rattle.std.proofs.Common.{◌∙◌, ap, refl, arith, [], ◌∷◌, ◌++◌, ◌<◌, length, get_or}
 use Rattle.std.proofs.lemmas.List.{get_or_read}
+use Rattle.jl_calculus.specs.declared.history.Event.TheVariants as Ev
 use Rattle.jl_report.specs.declared.entry.Step.TheVariants as S
-use Rattle.jl_causes.proofs.TaskLemmas.{task_defines}
+use Rattle.jl_causes.proofs.TaskLemmas.{task_changes}
 use Rattle.jl_causes.proofs.tasks.Tasks.define.Goals as goal
 
 pub returns : goal.returns
@@ -11,5 +12,5 @@ returns c = λ es h at.
     let task = c.args.task in
     let site = c.args.site in
     let within : task < length own = omega (arith, k.many_own, l) in
-    task_defines es c.args.self.now _ task site c.push.new.self refl refl refl within
+    task_changes es c.args.self.now _ task (Ev.Def task site) (S.Def site (length es)) c.push.new.self refl (λ k. refl) (λ k p. refl) (λ k. refl) (λ k. refl) refl refl refl within
     (c.in_ok-push.ensures ∙ ap (λ xs. xs ++ S.Def site c.args.at ∷ []) (get_or_read own task c.index_mut.result.now within c.index_mut.ensures.value []) ∙ ap (λ n. get_or own task [] ++ S.Def site n ∷ []) at) h

@@ -15,7 +15,7 @@ invariant_of-self c =
     let s = c.args.self.now in
     record {
       placed = placed_more s.past.0 s.past.1 (Ev.Done c.args.task c.args.ended) s.task s.seen c.len-self.result c.end.new.self s.placed c.in-Ok.ensures.added c.len-self.ensures;
-      left = tt;
+      left = λ l. c.len-self.ensures;
     }
 
 pub returns-in-Ok : goal.returns-in-Ok

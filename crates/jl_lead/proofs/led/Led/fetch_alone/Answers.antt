@@ -7,7 +7,7 @@ use Rattle.jl_lead.proofs.led.Led.fetch_alone.Goals as goal
 pub invariant_of-self : goal.invariant_of-self
 invariant_of-self c =
     let s = c.args.self.now in
-    record { placed = placed_on s.past.1 s.task s.seen c.len-self.result s.placed (let e = c.len-self.ensures in omega (arith, e)); left = tt }
+    record { placed = placed_on s.past.1 s.task s.seen c.len-self.result s.placed (let e = c.len-self.ensures in omega (arith, e)); left = λ l. c.len-self.ensures }
 
 pub returns-in-Some : goal.returns-in-Some
 returns-in-Some c =

@@ -7,7 +7,7 @@ use Rattle.jl_lead.proofs.led.Led.make_task.Goals as goal
 pub invariant_of-self : goal.invariant_of-self
 invariant_of-self c =
     let s = c.args.self.now in
-    record { placed = placed_on s.past.1 s.task s.seen c.len-self.result s.placed (let e = c.len-self.ensures in omega (arith, e)); left = tt }
+    record { placed = placed_on s.past.1 s.task s.seen c.len-self.result s.placed (let e = c.len-self.ensures in omega (arith, e)); left = λ l. c.len-self.ensures }
 
 pub returns-then-child-ge-MOST_TASKS : goal.returns-then-child-ge-MOST_TASKS
 returns-then-child-ge-MOST_TASKS c =
@@ -29,7 +29,7 @@ invariant_of-self-in-Ok c =
     let s = c.args.self.now in
     record {
       placed = placed_more s.past.0 s.past.1 (Ev.Spawn s.task (tasks_of s.past.1) c.args.start) s.task s.seen c.len-self-in-Ok.result c.spawn.new.self s.placed c.in-Ok.ensures.added c.len-self-in-Ok.ensures;
-      left = tt;
+      left = λ l. c.len-self-in-Ok.ensures;
     }
 
 pub returns-in-Ok : goal.returns-in-Ok

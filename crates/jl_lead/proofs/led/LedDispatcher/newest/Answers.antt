@@ -18,7 +18,7 @@ returns-in-Some c =
 pub invariant_of-self-in-None : goal.invariant_of-self-in-None
 invariant_of-self-in-None c =
     let s = c.args.self.now in
-    record { placed = record { started = s.placed.started; seen_some = omega (arith, c.len-length.ensures) }; left = tt }
+    record { placed = record { started = s.placed.started; seen_some = omega (arith, c.len-length.ensures) }; left = λ l. c.len-length.ensures }
 
 pub returns-in-None : goal.returns-in-None
 returns-in-None c =

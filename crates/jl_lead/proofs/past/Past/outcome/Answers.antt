@@ -21,7 +21,7 @@ returns-in_ok-outcome-in-Some-clause-valid c =
     let d = c.self.inside in
     let h = c.self.invariant in
     subst (λ v. IsValidOutcome v.0 c.in_ok-outcome-in-Some.outcome) c.self.view_is
-    (done_valid d.definitions.0 d.events.items c.as_slice-events.result.now c.args.task c.in-Some.ended.now c.in_ok-outcome-in-Some.outcome h.sound c.as_slice-events.ensures.value c.in-Some.ensures c.in_ok-outcome-in-Some.ensures)
+    (done_valid d.changes.0 d.events.items c.as_slice-events.result.now c.args.task c.in-Some.ended.now c.in_ok-outcome-in-Some.outcome h.sound c.as_slice-events.ensures.value c.in-Some.ensures c.in_ok-outcome-in-Some.ensures)
 
 pub returns-in-None-clause-ended : goal.returns-in-None-clause-ended
 returns-in-None-clause-ended c = sym (ap (done_of c.args.task) (c.as_slice-events.ensures.value ∙ ap (λ v. v.1) c.self.view_is)) ∙ c.in-None.ensures

@@ -1,12 +1,10 @@
 use Rattle.std.proofs.Common.{◌∙◌, sym}
 use Rattle.jl_report.specs.declared.entry.Entry.TheVariants as E
-use Rattle.jl_replay.proofs.Followed.{no_deletion}
 use Rattle.jl_replay.proofs.Reading.{entry_read}
 use Rattle.jl_replay.proofs.runs.Runs.follow.Goals as goal
 
-pub unreachable-requires-in-Del : goal.unreachable-requires-in-Del
-unreachable-requires-in-Del g c =
-    no_deletion c.args.ready.now c.args.entries.now c.requires.judged c.args.n c.in-Del.task c.in-Del.place (entry_read c.args.entries.now c.args.n c.index-entries-n.result _ c.requires.there c.index-entries-n.is c.in-Del.is)
+pub follow_deletion-requires-clause-entry : goal.follow_deletion-requires-clause-entry
+follow_deletion-requires-clause-entry g c = entry_read c.args.entries.now c.args.n c.index-entries-n.result _ c.requires.there c.index-entries-n.is c.in-Del.is
 
 pub follow_spawn-requires-clause-entry : goal.follow_spawn-requires-clause-entry
 follow_spawn-requires-clause-entry g c = entry_read c.args.entries.now c.args.n c.index-entries-n.result _ c.requires.there c.index-entries-n.is c.in-Spawn.is
