@@ -27,6 +27,7 @@ fn bound_twice(alloc: Global) -> Result<Found, AllocError> {
     let mut state = State {
         sites: Cells::new(alloc),
         spawns: Cells::new(alloc),
+        deletes: Cells::new(alloc),
         fault: None,
     };
     let bound = bind_twice(alloc, &mut scope, &mut state);
