@@ -21,12 +21,12 @@ ABSTRACT = {"Number", "Real", "Integer", "Signed"}
 
 
 class Program:
-    """The types, functions, sites and spawn places of a script, and deletion places: each is of the function and signature of a site."""
+    """The types, functions, sites, spawn places and deletion places of a script."""
 
-    def __init__(self, lines, places=()):
+    def __init__(self, lines):
         self.names = list(SUPER)
         self.supers, self.abstract, self.arity = dict(SUPER), set(ABSTRACT), {name: 0 for name in SUPER}
-        self.functions, self.sites, self.spawns = [], [], 0
+        self.functions, self.sites, self.places, self.spawns = [], [], [], 0
         for line in lines:
             self.spawns += line.count("Threads.@spawn")
             if found := re.match(r"abstract type (\w+) end", line):
@@ -35,7 +35,9 @@ class Program:
                 self.declare(found[1], found[2].count(",") + 1, False)
             elif found := re.match(r"(\w+)\(([^)]*)\)(?: where (\w+)<:(\w+))? =", line):
                 self.define(found[1], found[2], found[3], found[4])
-        self.places = [self.site(number) for number in places]
+            elif found := re.match(r"Base\.delete_method\(which\((\w+), \(?Tuple\{((?:[^{}]|\{\})*)\}(?: where (\w+)<:(\w+)\))?\)\)", line):
+                types = [part.strip() for part in found[2].split(",") if part.strip()]
+                self.places.append((found[1], [(t, found[4] if t == found[3] else None) for t in types]))
 
     def declare(self, name, arity, is_abstract):
         self.names.append(name)
@@ -626,7 +628,7 @@ def begin(program, lines):
 
 
 def answers(text, lines):
-    program = Program(text, [int(line.split()[1]) for line in lines if line.startswith("place ")])
+    program = Program(text)
     core = begin(program, lines[:1])
     for i, line in enumerate(lines):
         words = line.split()

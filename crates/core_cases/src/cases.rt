@@ -54,7 +54,7 @@ impl Case {
 
     /// The lines with their answers.
     pub fn answer(&self, alloc: Global) -> Result<String, AllocError> {
-        let ready = program_of(alloc, self.text.as_slice(), self.lines.as_slice())?;
+        let ready = program_of(alloc, self.text.as_slice())?;
         let told = answer_all(alloc, &ready, self.lines.as_slice());
         drop(ready);
         told

@@ -1,8 +1,7 @@
 //! What the model of a run answers to steps, as standard input asks.
 //!
 //! A line `| TEXT` is the next line of a script. The lines after it, up to an empty line, are a case. The first is
-//! `start FUEL KEYS ROWS`. A line `place SITE` adds a deletion place to the program, which has the function and the signature of that
-//! site; it may stand anywhere in the case. All others ask. A line with a step (`reading.rt` has their words) is answered with whether the step is enabled,
+//! `start FUEL KEYS ROWS`. All others ask. A line with a step (`reading.rt` has their words) is answered with whether the step is enabled,
 //! and then it is made. `found T` asks what a task's last search has found, `history` for the events, `world` for the newest world.
 //! `walk` makes all interleavings of what lines `task T: define SITE, delete PLACE, call KEY` say, each after the steps of the case so far.
 //! `random SEED COUNT` tries random steps, with the keys of lines `pool FUNCTION TYPES`: the answer has how many of each kind were
