@@ -237,11 +237,11 @@ class Row:
     def __init__(self, sig, parts, chosen):
         self.parts = parts
         self.chosen = chosen
-        self.occurring = {sig.root(v) for part in parts for v in variables_in(part)}
+        self.occurring = sig.occurring(parts)
 
 
 class Signature:
-    """The bounds of variables, low and high, and a type for each parameter."""
+    """The bounds of variables, low and high, and a type for each parameter. An upper bound may mention variables before its own."""
 
     def __init__(self, table, bounds, parts):
         self.table = table
@@ -257,9 +257,17 @@ class Signature:
 
     def kind(self, v):
         covariant, invariant = places(v, tuple_of(*self.parts))
-        if invariant > 0:
+        # a place in a bound is an invariant one
+        if invariant > 0 or any(v in variables_in(t) for t in self.bound_types()):
             return "bound"
         return ["unused", "once"][covariant] if covariant < 2 else "diagonal"
+
+    def occurring(self, parts):
+        """The variables that stand in the parts of a row, or in the bound of a variable of the row."""
+        found, more = set(), {self.root(v) for part in parts for v in variables_in(part)}
+        while more > found:
+            found, more = more, more | {w for v in more for w in variables_in(self.bounds[v][1])}
+        return found
 
     def stands_for(self, v):
         """What stands at a covariant place of a variable, by its kind."""
@@ -301,21 +309,27 @@ class Signature:
             lambda k: self.kinds[k] == "diagonal" if k < self.width else False,
         )
 
-    def serving(self, fixed, row, v, guesses):
-        """Those guesses that may be put for a variable of a row; `Any` alone where it does not stand there."""
+    def serving(self, fixed, row, values, guesses):
+        """Those guesses that may be put for the next variable of a row, where those before it have these types; `Any` alone where it
+        is no variable of the row."""
+        v = len(values)
         if v not in row.occurring:
             return [ANY]
-        low, high = self.bounds[v][0], self.top(row, v)
+        low, high = (put(lambda w: values[w], t) for t in (self.bounds[v][0], self.top(row, v)))
         return [
             t
-            for t in guesses
+            for t in dict.fromkeys([*guesses, high])
             if fixed.below(low, t)
             and fixed.below(t, high)
             and (self.kinds[v] != "diagonal" or fixed.is_concrete(t))
         ]
 
-    def substitutions(self, fixed, row, guesses):
-        return itertools.product(*(self.serving(fixed, row, v, guesses) for v in range(self.width)))
+    def substitutions(self, fixed, row, guesses, values=()):
+        if len(values) == self.width:
+            yield values
+            return
+        for t in self.serving(fixed, row, values, guesses):
+            yield from self.substitutions(fixed, row, guesses, (*values, t))
 
     def bound_types(self):
         return [t for bound in self.bounds for t in bound]
@@ -349,7 +363,7 @@ def application(sig, types):
     if len(types) != len(sig.parts):
         return None
     table = sig.table
-    guesses = guesses_from(table, list(types) + sig.bound_types() + MORE)
+    guesses = [t for t in guesses_from(table, list(types) + sig.bound_types() + MORE) if not variables_in(t)]
     for row in sig.rows:
         for values in sig.substitutions(table.opaque, row, guesses):
             wanted = (put(lambda v: values[sig.root(v)], part) for part in row.parts)
@@ -360,12 +374,12 @@ def application(sig, types):
 
 def binding(sig, types, values, v):
     """What a body gets for a variable: of one that stands in a union `Any`, of one at an invariant place what is put for it, of
-    another one what stands at its first place."""
+    another one what stands at its first place. One that a bound needs, and that has no invariant place in a component, is `Any`."""
     whole = tuple_of(*sig.parts)
     if is_in_union(v, whole):
         return ANY
     if sig.kinds[v] == "bound":
-        return values[v]
+        return values[v] if places(v, whole)[1] else ANY
     return first_standing(v, whole, tuple_of(*types))
 
 
@@ -434,7 +448,7 @@ def sig_below(left, right):
 
 # ----------------------------------------------------------------------------------------------------------------- text
 
-NAMES = ["T", "S"]
+NAMES = ["T", "S", "R"]
 
 
 def type_text(t, names=()):
@@ -452,18 +466,18 @@ def list_text(types, names=()):
     return "(" + ", ".join(type_text(t, names) for t in types) + ")"
 
 
-def bound_text(name, low, high):
+def bound_text(name, low, high, names=()):
     if low == NONE:
-        return name if high == ANY else f"{name}<:{type_text(high)}"
+        return name if high == ANY else f"{name}<:{type_text(high, names)}"
     if high == ANY:
         return f"{name}>:{type_text(low)}"
-    return f"{type_text(low)}<:{name}<:{type_text(high)}"
+    return f"{type_text(low)}<:{name}<:{type_text(high, names)}"
 
 
 def sig_text(sig):
     names = NAMES[: sig.width]
     text = list_text(sig.parts, names)
-    bounds = [bound_text(name, *bound) for name, bound in zip(names, sig.bounds)]
+    bounds = [bound_text(name, *bound, names) for name, bound in zip(names, sig.bounds)]
     if not bounds:
         return text
     return text + " where " + (bounds[0] if len(bounds) == 1 else "{" + ", ".join(bounds) + "}")

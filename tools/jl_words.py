@@ -142,7 +142,7 @@ SCRIPTS = [
     ),
     Word(
         "VariablePlace",
-        "A type variable may not be in a union or a tuple within an argument, nor in a bound; no `<:B`, `where` or missing argument may be within an argument.",
+        "A type variable may not be in a union or a tuple within an argument or a bound, nor be a bound or in a lower one; no `<:B`, `where` or missing argument may be within an argument or a bound.",
         "Give that type a name of its own: `Box{S}` with `where S`.",
         "struct Box{T}; x::T end\nf(b::Box{Union{T, Nothing}}) where T = 1\n",
     ),

@@ -10,7 +10,7 @@ use Rattle.jl_model.specs.Valid.{is_counted}
 use Rattle.jl_model.specs.Refusals.{Declared, Given, bound_types}
 use Rattle.jl_model.specs.SigRefusals.{are_placed, types_in, arguments_in, UnusedVariable, TooManyParameters, BoundsCrossed, BoundBroken}
 use Rattle.jl_program.specs.BodyTypes.{without_statics}
-use Rattle.jl_sig.specs.Forms.{IsSmallForm, AreFormed, HasCrossed, HasOutside}
+use Rattle.jl_sig.specs.Forms.{IsBoundForm, AreFormed, HasCrossed, HasOutside}
 use Rattle.jl_match.proofs.MakeLemmas.{crossed_kept, outside_kept, outside_written}
 use Rattle.jl_body.specs.TypeRefused.{IsWellWritten}
 
@@ -26,7 +26,7 @@ well_written ds t plain types placed unused counted p e f g u v few k l = record
 
 module _ (ds : List Decl) (declared : Declared ds) (t : Written) where
   -- the bounds are in order
-  pub not_crossed : (bounds : List Bound) (r : Bool) → Both (IsSmallForm ds) (bound_types t.vars) (bound_types bounds) → (IsTrue r ↔ HasCrossed ds bounds) → r ≡ false → BoundsCrossed ds t → ⊥
+  pub not_crossed : (bounds : List Bound) (r : Bool) → Both (IsBoundForm ds) (bound_types t.vars) (bound_types bounds) → (IsTrue r ↔ HasCrossed ds bounds) → r ≡ false → BoundsCrossed ds t → ⊥
   not_crossed bounds r b e f h = let g = e.1 (crossed_kept ds declared t.vars bounds b h) in let x : true ≡ false = sym g ∙ f in cc
 
   -- an argument is outside its declared bounds, or none is

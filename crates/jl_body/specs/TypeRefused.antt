@@ -4,7 +4,7 @@ use Rattle.jl_model.specs.declared.ty.Decl.{Decl}
 use Rattle.jl_model.specs.declared.ty.Written.{Written}
 use Rattle.jl_model.specs.Ancestors.{table_of}
 use Rattle.jl_model.specs.SigRefusals.{VariablePlace, UnusedVariable, TooManyParameters, WrongParameterCount, ManyNodes, ManyAlternatives, LargeForm, ManyRows, BoundsCrossed, BoundBroken}
-use Rattle.jl_program.specs.BodyTypes.{without_statics}
+use Rattle.jl_program.specs.BodyTypes.{without_statics, without_any_statics}
 use Rattle.jl_sig.specs.declared.fault.SigFault.{SigFault}
 use Rattle.jl_sig.specs.declared.fault.SigFault.TheVariants as fault
 
@@ -17,7 +17,7 @@ pub record IsWellWritten (ds : List Decl) (t : Written) : Type 0 where
 
 -- it is too large
 abbrev pub BodyTypeLimit : List Decl → Written → Type 0
-BodyTypeLimit ds t = ManyNodes t ⊎ ManyAlternatives t ⊎ LargeForm (table_of ds) t ⊎ ManyRows (table_of ds) (without_statics t)
+BodyTypeLimit ds t = ManyNodes t ⊎ ManyAlternatives t ⊎ LargeForm (table_of ds) t ⊎ ManyRows (table_of ds) (without_any_statics t)
 
 -- this refusal holds, and no earlier one; of want of memory nothing is said
 abbrev pub TypeRefused : SigFault → List Decl → Written → Type 0

@@ -62,7 +62,8 @@ fn check_beside(
 /// Whether a type that is written in a body is allowed, or its first refusal by the order of `SigFault` (Julia manual, Methods:
 /// Parametric Methods). A variable whose number is the count of the type's own variables or more is a static parameter: it
 /// stands for any type, so it may stand at any place outside the bounds, and what is asked of types without variables is not
-/// asked of those with it. In a bound it counts as a variable. The type may name only types of the table.
+/// asked of those with it. In a bound it counts as a variable that is declared before those of the type. The type may name only
+/// types of the table.
 pub fn check_type(alloc: Global, table: &Table, written: &Written) -> Result<(), SigFault>
     requires known { IsTrue (list_all (is_known (length table.now)) (types_in written.now)) }
     ensures { MatchResult result (λ _. IsAllowedType table.now written.now) (λ fault. TypeRefused fault table.now written.now) }

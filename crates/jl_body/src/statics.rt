@@ -2,9 +2,9 @@
 
 ghost use Rattle.std.specs.Prelude.{◌≡◌, IfOk, length, map};
 ghost use Rattle.jl_model.specs.Subtype.{put};
-ghost use Rattle.jl_program.specs.BodyTypes.{own_or_any, without_statics};
+ghost use Rattle.jl_program.specs.BodyTypes.{own_or_any, any_in_bound, without_statics, without_any_statics};
 
-use jl_model::ty::{Ty, Tys, Written};
+use jl_model::ty::{Bound, Bounds, Ty, Tys, Written};
 use std::alloc::{AllocError, Global};
 
 /// Each with `Any` for the variables from `own` on.
@@ -50,5 +50,28 @@ pub fn without_statics(alloc: Global, written: &Written) -> Result<Written, Allo
 {
     let vars = written.vars.copy()?;
     let parts = all_without_statics(alloc, written.parts.as_slice(), written.vars.len())?;
+    Ok(Written { vars, parts })
+}
+
+/// Each bound with `Any` for the variables from `own` on.
+fn bounds_without_statics(alloc: Global, bounds: &[Bound], own: usize) -> Result<Bounds, AllocError>
+    ensures { IfOk result (λ r. r ≡ map (any_in_bound own) bounds.now) }
+{
+    let mut items = Vec::new(alloc);
+    for bound in bounds {
+        let low = ty_without_statics(alloc, &bound.low, own)?;
+        let high = ty_without_statics(alloc, &bound.high, own)?;
+        items.push(Bound { low, high })?;
+    }
+    Bounds::from_vec(alloc, items)
+}
+
+/// A written type with `Any` for each static parameter, in the bounds too.
+pub fn without_any_statics(alloc: Global, written: &Written) -> Result<Written, AllocError>
+    ensures { IfOk result (λ plain. plain ≡ without_any_statics written.now) }
+{
+    let own = written.vars.len();
+    let vars = bounds_without_statics(alloc, written.vars.as_slice(), own)?;
+    let parts = all_without_statics(alloc, written.parts.as_slice(), own)?;
     Ok(Written { vars, parts })
 }

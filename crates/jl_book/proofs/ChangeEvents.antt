@@ -13,22 +13,12 @@ use Rattle.jl_calculus.specs.Ranges.{keys_of}
 use Rattle.jl_calculus.specs.ValidHistory.{IsValidEvent}
 use Rattle.jl_calculus.specs.World.{change_event, world_of, HasMethodAt}
 use Rattle.jl_methods.specs.Filters.{IsOfProgram, AreTouched, ComesWith}
+use Rattle.jl_methods.proofs.MadeLemmas.{made_of_program}
 use Rattle.jl_world.specs.declared.about.About.{About}
 use Rattle.jl_world.specs.declared.view.TaskView.{TaskView}
 use Rattle.jl_world.specs.Adds.{HasPlaceFor, IsNarrow}
 use Rattle.jl_world.specs.Views.{number_or_zero}
 use Rattle.jl_book.specs.Passes.{task_in}
-
--- where a method is found a place is there
-place_known : (P : Program) (es : List Event) (w : ℕ) (places : List Delete) (n : ℕ) → HasMethodAt P es w (slice_get places n) → n < length places
-place_known P es w [] n m = absurd m
-place_known P es w (p ∷ places) zero m = omega arith
-place_known P es w (p ∷ places) (suc n) m = omega (arith, place_known P es w places n m)
-
--- a change that may be made is of the program
-pub made_of_program : (P : Program) (es : List Event) (c : Change) → MayBeMade P es c → IsOfProgram P c
-made_of_program P es (Ch.Def site) m = m.1
-made_of_program P es (Ch.Del place) m = place_known P es (world_of es) P.deletes place m
 
 module _ (t : ℕ) where
   pub change_comes : (P : Program) (es : List Event) (c : Change) → IsChange P es t c → MayCome P es (change_event t c)

@@ -8,7 +8,7 @@ use Rattle.jl_calculus.specs.Legal.{fuel_of, start_of, first_place, AreTrueOf}
 use Rattle.jl_calculus.specs.Past.{IsInOrder, own_items}
 use Rattle.jl_calculus.specs.Run.{setting_of, Run}
 use Rattle.jl_calculus.specs.ValidHistory.{IsValidOutcome}
-use Rattle.jl_fit.specs.Fits.{looks_of}
+use Rattle.jl_task.specs.Fits.{looks_of}
 use Rattle.jl_rows.specs.Plans.{places_of}
 use Rattle.jl_world.specs.declared.about.About.{About}
 use Rattle.jl_world.specs.declared.view.TaskView.{TaskView}

@@ -1,6 +1,6 @@
 -- A change that deletes a method which applies to the types of a key touches this key: its signature is above the method's, so it applies
 -- to these types too.
-use Rattle.std.proofs.Common.{◌≡◌, ◌∙◌, sym, ap, subst, refl, ℕ, zero, suc, ◌<◌, arith, Bool, true, false, ◌&&◌, IsTrue, All, List, [], ◌∷◌, length, slice_get, Option, None, Some}
+use Rattle.std.proofs.Common.{◌≡◌, ap, subst, refl, ℕ, zero, suc, Bool, true, false, ◌&&◌, IsTrue, All, List, [], ◌∷◌, slice_get, Option, None, Some}
 use Rattle.std.specs.List.{list_all}
 use Rattle.std.proofs.lemmas.List.Elements.{All-head, All-tail}
 use Rattle.jl_model.specs.declared.ty.Decl.{Decl}
@@ -41,7 +41,7 @@ and_first false b h = absurd (h refl)
 
 -- each variable of a valid signature is one of its own
 pub valid_scoped : (ds : List Decl) (s : Written) → IsValidSig ds s → IsScoped s
-valid_scoped ds s h = record { own = h.own; closed = and_first _ _ h.allowed.placed }
+valid_scoped ds s h = record { own = h.own; own_bounds = h.own_bounds; bounds = and_first _ _ h.allowed.placed }
 
 all_concrete : (ds : List Decl) (ts : List Ty) → All (IsValueType ds) ts → IsTrue (list_all (is_concrete (table_of ds) opaque) ts)
 all_concrete ds [] h = refl

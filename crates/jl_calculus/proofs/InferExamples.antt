@@ -1,6 +1,6 @@
 -- What stands for a variable of a signature, computed: `Box(3)` after `struct Box{T}; x::T end`, and the static parameter of
 -- `pick(x::Box{T}, y::T) where T` for `pick(Box{Integer}(1), true)`.
-use Rattle.std.proofs.Common.{◌≡◌, ◌∙◌, refl, sym, ap, subst, ℕ, zero, suc, ◌<◌, pos, Bool, true, List, [], ◌∷◌, ◌++◌, map, ◌⊎◌, get_or, slice_get, Option, Some, None, arith, inl, inr, length}
+use Rattle.std.proofs.Common.{◌≡◌, ◌∙◌, refl, sym, ap, subst, ℕ, zero, suc, ◌<◌, pos, Bool, true, ◌&&◌, List, [], ◌∷◌, ◌++◌, map, ◌⊎◌, get_or, slice_get, Option, Some, None, arith, inl, inr, length}
 use Rattle.std.specs.List.{Contains}
 use Rattle.jl_model.specs.declared.ty.Ty.{Ty}
 use Rattle.jl_model.specs.declared.ty.Ty.TheOpen as L
@@ -13,17 +13,17 @@ use Rattle.jl_model.specs.Ancestors.{named, table_of}
 use Rattle.jl_model.specs.Bindings.{bindings}
 use Rattle.jl_model.specs.Counts.{nodes}
 use Rattle.jl_model.specs.Found.{find_arg, find_arg_step, find_inner, find_inner_step, find_outer, find_outer_step}
-use Rattle.jl_model.specs.Kinds.{Places, places, places_step, plus, nowhere, kind_of, once}
+use Rattle.jl_model.specs.Kinds.{Places, places, places_step, plus, nowhere, below_nominal, kind_of, once}
 use Rattle.jl_model.specs.Refusals.{Given, given_in, given_step, Between}
-use Rattle.jl_model.specs.Rows.{choices, forms, forms_step, free, kind, place_of, root, Occurs, components}
+use Rattle.jl_model.specs.Rows.{choices, forms, forms_step, free, high, part_places, bound_places, kind, place_of, root, vars_in, Occurs, standing, bounding, components}
 use Rattle.jl_model.specs.SigRefusals.{BoundBroken}
 use Rattle.jl_model.specs.Signature.{Row, Applicable, Both, both_end, both_more}
 use Rattle.jl_model.specs.Subtype.{Table, opaque, Below}
 use Rattle.jl_model.specs.Valid.{params_of}
-use Rattle.jl_model.specs.Usable.{outside_step, is_outside_unions, is_usable}
+use Rattle.jl_model.specs.Usable.{outside_step, is_outside_unions, is_met, is_usable}
 use Rattle.jl_model.proofs.BelowLemmas.{union_below}
 use Rattle.jl_model.proofs.CountLemmas.{nodes-nominal}
-use Rattle.jl_model.proofs.FormLemmas.{alts-any, put-any, vars-any, vars-nominal, vars-var}
+use Rattle.jl_model.proofs.FormLemmas.{alts-any, put-any, vars-any}
 use Rattle.jl_program.specs.declared.datum.Datum.TheOpen as D
 use Rattle.jl_program.specs.declared.datum.Datum.TheFolds.{fold-roll-Datum}
 use Rattle.jl_program.specs.declared.fault.Fault.TheVariants as F
@@ -32,7 +32,7 @@ use Rattle.jl_program.specs.Making.{struct_of}
 use Rattle.jl_program.specs.Meaning.{datum}
 use Rattle.jl_program.specs.Measures as values
 use Rattle.jl_program.specs.Prelude.{plain, int64, bool}
-use Rattle.jl_program.proofs.FirstChoices.{int_below_any}
+use Rattle.jl_program.proofs.FirstChoices.{free_places, int_below_any}
 use Rattle.jl_calculus.specs.declared.history.Outcome.TheVariants as O
 use Rattle.jl_calculus.specs.Answers.{fault_where, refuse}
 use Rattle.jl_calculus.specs.Operations.{within_limits, inferred, make_inferred}
@@ -52,7 +52,10 @@ var_places : places 0 (W.Var 0) ≡ record { covariant = 1; invariant = 0 }
 var_places = ap (places 0) (sym (rolls-Var 0)) ∙ fold-roll-Ty Places (places_step 0) (L.Var 0)
 
 kind_is : kind fields 0 ≡ once
-kind_is = ap (λ p. kind_of (plus p nowhere)) var_places
+kind_is =
+    let bounds = below_nominal (bound_places 0 fields.vars) in
+    ap (λ p. kind_of (plus (plus p nowhere) bounds)) var_places
+    ∙ ap (λ b. kind_of (plus (record { covariant = 1; invariant = 0 }) (below_nominal (plus b nowhere)))) (free_places 0)
 
 abbrev at_places : ℕ → List Ty
 at_places v = place_of fields v (kind fields v)
@@ -66,8 +69,13 @@ row = record { parts = W.Any ∷ []; chosen = λ v. W.Any }
 no_number : (v : ℕ) → Contains [] v → ⊥
 no_number v (k, l, e) = absurd (omega (arith, l))
 
+any_bound : (w : ℕ) → vars_in (high fields w) ≡ []
+any_bound zero = vars-any
+any_bound (suc w) = vars-any
+
 never : (v : ℕ) → Occurs fields v (W.Any ∷ []) → ⊥
-never v o = no_number v (subst (λ (vs : List ℕ). Contains (map (root fields) (vs ++ [])) v) vars-any o)
+never v (standing v1 us o) = no_number v (subst (λ (vs : List ℕ). Contains (map (root fields) (vs ++ [])) v) vars-any o)
+never v (bounding v1 w us o c) = no_number v (subst (λ (vs : List ℕ). Contains vs v) (any_bound w) c)
 
 admits : Applicable n fields (int64 ∷ [])
 admits = (
@@ -75,7 +83,7 @@ admits = (
   (λ v. W.Any),
   record {
     parts = subst (λ (ts : List Ty). Contains (choices (ts ∷ [])) (W.Any ∷ [])) (sym var_forms) (0, omega arith, refl);
-    chosen = λ v k o. absurd (never v o);
+    chosen = λ v k o. absurd (never v (standing v (W.Any ∷ []) o));
     other = λ v o. refl;
   },
   record { least = λ v o. absurd (never v o); most = λ v o. absurd (never v o); sure = λ v o. absurd (never v o) },
@@ -86,7 +94,9 @@ admits = (
 -- ---- the binding of T
 
 usable : is_usable fields 0 ≡ true
-usable = rw (vars-var 0, ap (is_outside_unions 0) (sym (rolls-Var 0)) ∙ para-roll-Ty Bool (outside_step 0) (L.Var 0)) refl
+usable =
+    ap (λ k. is_met k (part_places fields 0) && (is_outside_unions 0 (W.Var 0) && true)) kind_is
+    ∙ ap (λ b. b && true) (ap (is_outside_unions 0) (sym (rolls-Var 0)) ∙ para-roll-Ty Bool (outside_step 0) (L.Var 0))
 
 not_inner : (t : Ty) → find_inner n opaque 0 (W.Var 0) t ≡ None
 not_inner t = ap (λ (f : Ty → Option Ty). f t) (ap (find_inner n opaque 0) (sym (rolls-Var 0)) ∙ para-roll-Ty (Ty → Option Ty) (find_inner_step n opaque 0) (L.Var 0))
@@ -159,11 +169,23 @@ in_box =
     ap (λ (f : Ty → Option Ty). f integers) (ap (find_inner n opaque 0) (sym (rolls-Nominal 8 (W.Var 0 ∷ []))) ∙ para-roll-Ty (Ty → Option Ty) (find_inner_step n opaque 0) (L.Nominal 8 (W.Var 0 ∷ [])))
     ∙ rw (outs-Nominal 8 (named 2 ∷ []), arg_var (named 2)) refl
 
+abbrev both_places : Places
+both_places = record { covariant = 1; invariant = 1 }
+
+pick_places : part_places pick 0 ≡ both_places
+pick_places =
+    ap (λ p. plus p (plus (places 0 (W.Var 0)) nowhere)) (ap (places 0) (sym (rolls-Nominal 8 (W.Var 0 ∷ []))) ∙ fold-roll-Ty Places (places_step 0) (L.Nominal 8 (W.Var 0 ∷ [])))
+    ∙ ap (λ p. plus (below_nominal (plus p nowhere)) (plus p nowhere)) var_places
+
+pick_met : is_met (kind pick 0) (part_places pick 0) ≡ true
+pick_met =
+    ap (λ p. is_met (kind_of (plus p (below_nominal (bound_places 0 pick.vars)))) p) pick_places
+    ∙ ap (λ b. is_met (kind_of (plus both_places (below_nominal (plus b nowhere)))) both_places) (free_places 0)
+
 pick_usable : is_usable pick 0 ≡ true
 pick_usable =
     rw (
-      vars-nominal 8 (W.Var 0 ∷ []),
-      vars-var 0,
+      pick_met,
       ap (is_outside_unions 0) (sym (rolls-Nominal 8 (W.Var 0 ∷ []))) ∙ para-roll-Ty Bool (outside_step 0) (L.Nominal 8 (W.Var 0 ∷ [])),
       ap (is_outside_unions 0) (sym (rolls-Var 0)) ∙ para-roll-Ty Bool (outside_step 0) (L.Var 0),
     ) refl

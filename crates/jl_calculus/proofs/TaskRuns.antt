@@ -25,7 +25,7 @@ use Rattle.jl_program.specs.declared.value.Value.TheVariants as V
 use Rattle.jl_program.specs.Prelude.{plain}
 use Rattle.jl_program.specs.Scope.{types_of}
 use Rattle.jl_program.specs.Text.{value_text, datum_step}
-use Rattle.jl_program.proofs.FirstChoices.{any_vars, only_choice}
+use Rattle.jl_program.proofs.FirstChoices.{any_vars, none_occurs, only_choice}
 use Rattle.jl_calculus.specs.declared.history.Event.{Event}
 use Rattle.jl_calculus.specs.declared.history.Outcome.{Outcome}
 use Rattle.jl_calculus.specs.declared.history.Outcome.TheVariants as O
@@ -52,8 +52,8 @@ module _ (n : Table) where
       by (zero, p, e) = e
       by (suc k, p, e) = absurd (omega (arith, p))
 
-  none_occurs : (l : Row) → [] ≡ l.parts → (v : ℕ) → Occurs (plain no_types) v l.parts → ⊥
-  none_occurs l e v o = nowhere v (subst (λ (ts : List Ty). Occurs (plain no_types) v ts → Contains {X = ℕ} [] v) e (λ x. x) o)
+  none_in : (l : Row) → [] ≡ l.parts → (v : ℕ) → Occurs (plain no_types) v l.parts → ⊥
+  none_in l e v o = none_occurs [] refl v (subst (λ (ts : List Ty). Occurs (plain no_types) v ts) (sym e) o)
 
   pub empty_below : SigBelow n (plain no_types) (plain no_types)
   empty_below l h =
@@ -62,7 +62,7 @@ module _ (n : Table) where
         h,
         (
           (λ v. Ty.Any),
-          record { least = λ v o. absurd (none_occurs l e v o); most = λ v o. absurd (none_occurs l e v o); sure = λ v o. absurd (none_occurs l e v o) },
+          record { least = λ v o. absurd (none_in l e v o); most = λ v o. absurd (none_in l e v o); sure = λ v o. absurd (none_in l e v o) },
           (λ v w c. absurd (nowhere w (subst (λ (ws : List ℕ). Contains ws w) any_vars c))),
           subst (λ (ts : List Ty). Meet n (fixed (plain no_types) l) (plain no_types) (λ v. Ty.Any) ts ts) e meet_end,
         ),

@@ -1,24 +1,26 @@
 -- Where a row of refusals asks for a fault, the fault can be told: a nominal type that breaks a declared bound has a form to name, and a
 -- part that is not of its field's type is preceded by a first one.
-use Rattle.std.proofs.Common.{◌≡◌, ◌∙◌, sym, ap, subst, refl, ℕ, zero, suc, ◌<◌, ◌⊎◌, inl, inr, arith, Bool, true, false, List, [], ◌∷◌, ◌++◌, length, take, get_or, Some, slice_get}
+use Rattle.std.proofs.Common.{◌≡◌, ◌∙◌, sym, ap, subst, refl, ℕ, zero, suc, ◌+◌, ◌<◌, ◌⊎◌, inl, inr, arith, Bool, true, false, true≢false, ◌&&◌, ◌||◌, not, nat_lt, List, [], ◌∷◌, ◌++◌, length, take, get_or, Some, slice_get}
 use Rattle.std.specs.List.{Contains, flat_map, list_all}
 use Rattle.std.proofs.lemmas.List.Elements.{Contains-append_cases}
 use Rattle.jl_model.specs.declared.ty.Ty.{Ty, out-Ty}
-use Rattle.jl_model.specs.declared.ty.Ty.TheOpen.{Any, Union, Tuple, Nominal, Var}
+use Rattle.jl_model.specs.declared.ty.Ty.TheOpen.{Ty-F, Any, Union, Tuple, Nominal, Var}
 use Rattle.jl_model.specs.declared.ty.Ty.TheVariants as W
 use Rattle.jl_model.specs.declared.ty.Ty.TheViews as T
 use Rattle.jl_model.specs.declared.ty.Ty.TheViews.{rolls-Any, rolls-Union, rolls-Tuple, rolls-Nominal, rolls-Var, outs-Nominal, outs-Var}
 use Rattle.jl_model.specs.declared.ty.Ty.TheFolds.{para-roll-Ty}
+use Rattle.jl_model.specs.declared.ty.Bound.{Bound}
 use Rattle.jl_model.specs.declared.ty.Decl.{Decl}
 use Rattle.jl_model.specs.declared.ty.Written.{Written}
 use Rattle.jl_model.specs.Ancestors.{table_of}
 use Rattle.jl_model.specs.Kept.{Argument, AllArguments, closed, variable, nominal as with_arguments, arguments_end, arguments_more, Settled, nominal as named_type}
 use Rattle.jl_model.specs.Refusals.{Declared, bound_types}
-use Rattle.jl_model.specs.SigRefusals.{VariablePlace, are_placed, is_argument, argument_step, is_component, component_step}
+use Rattle.jl_model.specs.Rows.{width, vars_in}
+use Rattle.jl_model.specs.SigRefusals.{VariablePlace, are_placed, is_argument, argument_step, is_component, component_step, is_bottom, named_form, is_bound, are_bounds}
 use Rattle.jl_model.specs.Signature.{Both, both_end, both_more}
 use Rattle.jl_model.specs.Subtype.{Table, opaque, Below}
 use Rattle.jl_model.specs.Valid.{is_closed}
-use Rattle.jl_model.proofs.FormLemmas.{all_firsts, all_seconds}
+use Rattle.jl_model.proofs.FormLemmas.{all_firsts, all_seconds, is_nominal}
 use Rattle.jl_model.proofs.PutLemmas.{and_l, and_r, both_true}
 use Rattle.jl_model.proofs.TypeInduction.{Each, by_cases}
 use Rattle.jl_types.proofs.ExistLemmas.{exists}
@@ -80,6 +82,61 @@ closed_argument = by_cases (λ t. is_closed t ≡ true → is_argument t ≡ tru
   var = λ v h. argument-var v;
 })
 
+-- ---- bounds
+
+pub or_either : (a b : Bool) → (a || b) ≡ true → (a ≡ true) ⊎ (b ≡ true)
+or_either true b h = inl refl
+or_either false b h = inr h
+
+-- an upper bound with variables is a nominal type, with these in its arguments
+pub named_is : (t : Ty) → named_form (out-Ty t) ≡ true → (k : ℕ) × (ts : List Ty) × (t ≡ T.Nominal k ts) × (list_all is_argument ts ≡ true)
+named_is t = by (out-Ty t) refl
+  where
+    by : (y : Ty-F Ty) → out-Ty t ≡ y → named_form y ≡ true → (k : ℕ) × (ts : List Ty) × (t ≡ T.Nominal k ts) × (list_all is_argument ts ≡ true)
+    by Any e h = absurd (true≢false (sym h))
+    by (Union ts) e h = absurd (true≢false (sym h))
+    by (Tuple ts) e h = absurd (true≢false (sym h))
+    by (Nominal k ts) e h = (k, ts, is_nominal t k ts e, h)
+    by (Var v) e h = absurd (true≢false (sym h))
+
+-- what a bound with variables is
+pub record IsNamedBound (m v : ℕ) (b : Bound) : Type 0 where
+  pub low : is_bottom b.low ≡ true
+  pub high : named_form (out-Ty b.high) ≡ true
+  pub before : list_all (λ w. nat_lt w v || not (nat_lt w m)) (vars_in b.high) ≡ true
+
+named_bound : (m v : ℕ) (b : Bound) → (is_bottom b.low && named_form (out-Ty b.high) && list_all (λ w. nat_lt w v || not (nat_lt w m)) (vars_in b.high)) ≡ true → IsNamedBound m v b
+named_bound m v b h =
+    let bottom = is_bottom b.low in
+    let form = named_form (out-Ty b.high) in
+    let before = list_all (λ w. nat_lt w v || not (nat_lt w m)) (vars_in b.high) in
+    let l = and_l (bottom && form) before h in
+    record { low = and_l bottom form l; high = and_r bottom form l; before = and_r (bottom && form) before h }
+
+pub bound_is : (m v : ℕ) (b : Bound) → is_bound m v b ≡ true → (is_closed b.low ≡ true) × ((is_closed b.high ≡ true) ⊎ IsNamedBound m v b)
+bound_is m v b h =
+    let named = is_bottom b.low && named_form (out-Ty b.high) && list_all (λ w. nat_lt w v || not (nat_lt w m)) (vars_in b.high) in
+    (and_l (is_closed b.low) (is_closed b.high || named) h, by named (named_bound m v b) (or_either (is_closed b.high) named (and_r (is_closed b.low) (is_closed b.high || named) h)))
+  where
+    by : (named : Bool) → (named ≡ true → IsNamedBound m v b) → (is_closed b.high ≡ true) ⊎ (named ≡ true) → (is_closed b.high ≡ true) ⊎ IsNamedBound m v b
+    by named f (inl c) = inl c
+    by named f (inr k) = inr (f k)
+
+-- no variable stands in a union or a tuple of a bound
+bound_argument : (m v : ℕ) (b : Bound) → is_bound m v b ≡ true → (is_argument b.low ≡ true) × (is_argument b.high ≡ true)
+bound_argument m v b h = let k = bound_is m v b h in (closed_argument b.low k.0, by k.1)
+  where
+    by : (is_closed b.high ≡ true) ⊎ IsNamedBound m v b → is_argument b.high ≡ true
+    by (inl c) = closed_argument b.high c
+    by (inr n) = let t = named_is b.high n.high in ap is_argument t.2 ∙ argument-nominal t.0 t.1 ∙ t.3
+
+bounds_argument : (m v : ℕ) (bs : List Bound) → are_bounds m v bs ≡ true → list_all is_argument (bound_types bs) ≡ true
+bounds_argument m v [] h = refl
+bounds_argument m v (b ∷ bs) h =
+    let a = bound_argument m v b (and_l (is_bound m v b) (are_bounds m (v + 1) bs) h) in
+    let rest = bounds_argument m (v + 1) bs (and_r (is_bound m v b) (are_bounds m (v + 1) bs) h) in
+    both_true (is_argument b.low) (list_all is_argument (b.high ∷ bound_types bs)) a.0 (both_true (is_argument b.high) (list_all is_argument (bound_types bs)) a.1 rest)
+
 -- ---- the nominal types in such a type
 
 -- no variable stands in a union or a tuple below this nominal type
@@ -139,11 +196,11 @@ part_good : (s : Written) → are_placed s ≡ true → (t : Ty) → Contains s.
 part_good s h t (inl c) =
     good_at s.parts
     (each_passes is_component (λ u. AllGood (nominals_in u)) s.parts (each_all (λ u. is_component u ≡ true → AllGood (nominals_in u)) component_good s.parts)
-    (and_r (list_all is_closed (bound_types s.vars)) (list_all is_component s.parts) h)) t c
+    (and_r (are_bounds (width s) 0 s.vars) (list_all is_component s.parts) h)) t c
 part_good s h t (inr c) =
     good_at (bound_types s.vars)
-    (each_passes is_closed (λ u. AllGood (nominals_in u)) (bound_types s.vars) (each_all (λ u. is_closed u ≡ true → AllGood (nominals_in u)) (λ u k. argument_good u (closed_argument u k)) (bound_types s.vars))
-    (and_l (list_all is_closed (bound_types s.vars)) (list_all is_component s.parts) h)) t c
+    (each_passes is_argument (λ u. AllGood (nominals_in u)) (bound_types s.vars) (each_all (λ u. is_argument u ≡ true → AllGood (nominals_in u)) argument_good (bound_types s.vars))
+    (bounds_argument (width s) 0 s.vars (and_l (are_bounds (width s) 0 s.vars) (list_all is_component s.parts) h))) t c
 
 all_good : (s : Written) → are_placed s ≡ true → AllGood (nominals_of s)
 all_good s h x c =

@@ -13,3 +13,9 @@ pub mod NoteLemmas
 pub mod FirstLemmas
 pub mod JudgeLemmas
 pub mod StoodLemmas
+pub mod TypeLemmas
+pub mod NameLemmas
+pub mod KeyLemmas
+pub mod ReadLemmas
+pub mod KeptLemmas
+pub mod NamedLemmas

@@ -4,3 +4,6 @@ pub mod Laws
 pub mod Tables
 pub mod State
 pub mod Judged
+pub mod KeyTexts
+pub mod KeyLaws
+pub mod KeyTypes

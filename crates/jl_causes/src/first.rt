@@ -5,7 +5,7 @@ ghost use Rattle.jl_causes.specs.Causes.{StartWell, HasNoCause, IsFirstCause};
 
 use crate::cause::Cause;
 use crate::judge::Judge;
-use crate::key::{ReadKey, read_named};
+use crate::key::read_named;
 use jl_report::Entry;
 use jl_sig::Ready;
 use std::alloc::{AllocError, Global};
@@ -14,10 +14,9 @@ use std::alloc::{AllocError, Global};
 /// is no such entry. The cost is in the length of the text, in the number of keys for each key, in the rows of its key for
 /// each fill that begins before the newest of these, in that of the choices of the fills, and in the definitions and the deletions of its
 /// function for each deletion and for each step that found none to delete.
-pub fn first_cause<R: ReadKey>(
+pub fn first_cause(
     alloc: Global,
     ready: &Ready,
-    reader: &R,
     entries: &[Entry],
 ) -> Result<Option<(u32, Cause)>, AllocError>
     requires begun { StartWell entries.now }
@@ -30,7 +29,7 @@ pub fn first_cause<R: ReadKey>(
     }
     for n in 1..entries.len() as u32 {
         let entry = &entries[n as usize];
-        let key = read_named(alloc, ready, reader, entry)?;
+        let key = read_named(alloc, ready, entry)?;
         if let Some(cause) = judge.find_cause(alloc, ready, entries, entry, &key)? {
             return Ok(Some((n, cause)));
         }

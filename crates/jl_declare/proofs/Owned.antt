@@ -71,13 +71,13 @@ module _ (ds : List Decl) (declared : Declared ds) (kind : DeclKind) (h : Header
 
   abbrev Tys : List Ty
   Tys =
-      let s = all_bound ds h.params [] no_reading in
+      let s = all_bound ds h.params no_reading in
       let p = option_reads ds h.parent s.vars s.after in
       (all_read (ds ++ Make s.after.vars p.ty ∷ []) Texts s.vars p.after).tys
 
   abbrev Term : Decl
   Term =
-      let s = all_bound ds h.params [] no_reading in
+      let s = all_bound ds h.params no_reading in
       record (Make s.after.vars (option_reads ds h.parent s.vars s.after).ty) { fields = fields_of fields Tys }
 
   term_own : (declaration ds kind h fields).whole ≡ true → HasOwnVariables Term

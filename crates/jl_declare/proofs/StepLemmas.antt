@@ -18,8 +18,8 @@ use Rattle.jl_typeread.specs.declared.tree.VarText.{VarText}
 use Rattle.jl_written.specs.declared.fault.StaticKind.TheVariants as kind
 use Rattle.jl_written.specs.declared.reading.Reading.{Reading}
 use Rattle.jl_written.specs.declared.reading.TypeVar.{TypeVar}
-use Rattle.jl_written.specs.Reads.{Types, Typed, Scoped, types, typed, scoped, no_reading, bind_all, var_reads}
-use Rattle.jl_written.specs.Signatures.{all_read, option_reads}
+use Rattle.jl_written.specs.Reads.{Types, Typed, Scoped, types, typed, scoped, no_reading}
+use Rattle.jl_written.specs.Signatures.{all_bound, all_read, option_reads}
 use Rattle.jl_declare.specs.declared.judged.Judged.{Judged}
 use Rattle.jl_declare.specs.declared.judged.Judged.TheVariants as J
 use Rattle.jl_declare.specs.declared.read.Heading.{Heading}
@@ -43,32 +43,25 @@ slice_drop (y ∷ ys) (suc i) x e = rw add-one (rw add-one at (slice_drop ys i x
 
 -- a declaration up to its fields, step by step
 pub heading_is :
-    (ds ds1 : List Decl) (k : DeclKind) (h : Header) (statics vars vars1 vars2 : List TypeVar) (r r1 r2 : Reading) (texts : List VarText) (bs : List Bound) (parent : Ty) (name : List ℕ) (fields : List Field)
-    → ds1 ≡ ds → statics ≡ [] → vars ≡ [] → r ≡ no_reading → texts ≡ h.params → scoped (statics ++ vars1) r1 ≡ bind_all (map (var_reads ds1) texts) (statics ++ vars) false r
-    → bs ≡ r1.vars → typed parent r2 ≡ option_reads ds1 h.parent (statics ++ vars1) r1 → vars2 ≡ vars1 → name ≡ h.name.bytes → fields ≡ []
-    → (let x : Heading = record { vars = vars2; own = record { name = name; kind = k; params = bs; parent = parent; fields = fields }; reading = r2 } in x) ≡ heading ds k h
-heading_is ds ds1 k h statics vars vars1 vars2 r r1 r2 texts bs parent name fields d e v u t b p o w n f =
-    ap (λ (z : List TypeVar). of z name bs parent fields r2) w
-    ∙ ap (λ (z : List ℕ). of vars1 z bs parent fields r2) n
-    ∙ ap (λ (z : List Field). of vars1 h.name.bytes bs parent z r2) f
-    ∙ ap (λ (z : List Bound). of vars1 h.name.bytes z parent [] r2) p
-    ∙ ap (λ (z : Typed). of vars1 h.name.bytes r1.vars z.ty [] z.after) read
+    (ds ds1 : List Decl) (k : DeclKind) (h : Header) (first vars : List TypeVar) (r r1 r2 : Reading) (texts : List VarText) (bs : List Bound) (parent : Ty) (name : List ℕ) (fields : List Field)
+    → ds1 ≡ ds → first ≡ vars → r ≡ no_reading → texts ≡ h.params → scoped vars r1 ≡ all_bound ds texts r
+    → bs ≡ r1.vars → typed parent r2 ≡ option_reads ds1 h.parent first r1 → name ≡ h.name.bytes → fields ≡ []
+    → (let x : Heading = record { vars = vars; own = record { name = name; kind = k; params = bs; parent = parent; fields = fields }; reading = r2 } in x) ≡ heading ds k h
+heading_is ds ds1 k h first vars r r1 r2 texts bs parent name fields d v u t b p o n f =
+    ap (λ (z : List ℕ). of vars z bs parent fields r2) n
+    ∙ ap (λ (z : List Field). of vars h.name.bytes bs parent z r2) f
+    ∙ ap (λ (z : List Bound). of vars h.name.bytes z parent [] r2) p
+    ∙ ap (λ (z : Typed). of vars h.name.bytes r1.vars z.ty [] z.after) read
     ∙ ap (λ (z : Scoped). of z.vars h.name.bytes z.after.vars (option_reads ds h.parent z.vars z.after).ty [] (option_reads ds h.parent z.vars z.after).after) bound
   where
     of : List TypeVar → List ℕ → List Bound → Ty → List Field → Reading → Heading
     of vs m cs q fs s = record { vars = vs; own = record { name = m; kind = k; params = cs; parent = q; fields = fs }; reading = s }
 
-    bound : scoped vars1 r1 ≡ bind_all (map (var_reads ds) h.params) [] false no_reading
-    bound =
-        sym (ap (λ (z : List TypeVar). scoped (z ++ vars1) r1) e) ∙ b
-        ∙ ap (λ (z : List Decl). bind_all (map (var_reads z) texts) (statics ++ vars) false r) d
-        ∙ ap (λ (z : List VarText). bind_all (map (var_reads ds) z) (statics ++ vars) false r) t
-        ∙ ap (λ (z : List TypeVar). bind_all (map (var_reads ds) h.params) (z ++ vars) false r) e
-        ∙ ap (λ (z : List TypeVar). bind_all (map (var_reads ds) h.params) z false r) v
-        ∙ ap (bind_all (map (var_reads ds) h.params) [] false) u
+    bound : scoped vars r1 ≡ all_bound ds h.params no_reading
+    bound = b ∙ ap (λ (z : List VarText). all_bound ds z r) t ∙ ap (all_bound ds h.params) u
 
-    read : typed parent r2 ≡ option_reads ds h.parent vars1 r1
-    read = o ∙ ap (λ (z : List Decl). option_reads z h.parent (statics ++ vars1) r1) d ∙ ap (λ (z : List TypeVar). option_reads ds h.parent (z ++ vars1) r1) e
+    read : typed parent r2 ≡ option_reads ds h.parent vars r1
+    read = o ∙ ap (λ (z : List Decl). option_reads z h.parent first r1) d ∙ ap (λ (z : List TypeVar). option_reads ds h.parent z r1) v
 
 -- what is read back from the table is what was added to it
 pub kept_is : (ds new : List Decl) (e f : Decl) (k : ℕ) → new ≡ ds ++ e ∷ [] → k ≡ length ds → slice_get new k ≡ Some f → f ≡ e

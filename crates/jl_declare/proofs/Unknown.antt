@@ -22,11 +22,11 @@ first_some (Some g) f e = go (comes_before f g) e
 
 pub declaration_named : (ds : List Decl) (k : DeclKind) (h : Header) (fields : List FieldText) → (declaration ds k h fields).reading.fault ≡ None → (declaration ds k h fields).reading.unknown ≡ false
 declaration_named ds k h fields e =
-    let s = all_bound ds h.params [] no_reading in
+    let s = all_bound ds h.params no_reading in
     let p = option_reads ds h.parent s.vars s.after in
     let x = heading ds k h in
     let own = ds ++ x.own ∷ [] in
-    let first = (bound_law ds _ _ _ _ (nothing_carried ds) h.params [] no_reading).grows in
+    let first = (bound_law ds _ _ _ _ (nothing_carried ds) h.params no_reading).grows in
     let second = (option_law ds _ _ _ _ (nothing_carried ds) h.parent s.vars s.after).grows in
     let third = (all_law own _ _ _ _ (nothing_carried own) (map (λ (f : FieldText). f.ty) fields) x.vars x.reading).grows in
     let e2 = third.faultless e in

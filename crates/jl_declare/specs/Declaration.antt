@@ -24,7 +24,7 @@ fields_of (f ∷ fs) (t ∷ ts) = record { name = f.name.bytes; ty = t } ∷ fie
 -- up to its fields: its parameters are visible from their own place on, and it sees the declarations before it
 abbrev pub heading : List Decl → DeclKind → Header → Heading
 heading ds k h =
-    let s = all_bound ds h.params [] no_reading in
+    let s = all_bound ds h.params no_reading in
     let p = option_reads ds h.parent s.vars s.after in
     record { vars = s.vars; own = record { name = h.name.bytes; kind = k; params = s.after.vars; parent = p.ty; fields = [] }; reading = p.after }
 

@@ -17,7 +17,7 @@ use jl_names::decls::{DeclList, FirstDecls, copy_decl};
 use jl_typeread::tree::{TypeText, VarText};
 use jl_written::names::to_u32;
 use jl_written::reading::Reading;
-use jl_written::reads::{bind_all, read_type};
+use jl_written::reads::{bind_first, read_alone};
 use jl_written::signatures::no_reading;
 use jl_written::vars::{Around, TypeVars};
 use std::alloc::{AllocError, Global};
@@ -43,17 +43,15 @@ pub struct ReadDecl {
 fn read_option(
     alloc: Global,
     around: &Around<'_>,
-    vars: &mut TypeVars,
     reading: &mut Reading,
     text: &Option<TypeText>,
 ) -> Result<Ty, AllocError>
-    ensures means { IfOk result (λ t. typed t reading.new
-        ≡ option_reads around.now.decls.now text.now (around.now.statics ++ vars.old) reading.old) }
-    ensures kept { OnOk result (vars.new ≡ vars.old) }
+    ensures { IfOk result (λ t. typed t reading.new
+        ≡ option_reads around.now.decls.now text.now around.now.first reading.old) }
 {
     match text {
         None => Ok(Ty::Any),
-        Some(text) => read_type(alloc, around, vars, reading, text, false),
+        Some(text) => read_alone(alloc, around, reading, text),
     }
 }
 
@@ -66,13 +64,11 @@ fn read_heading(
 ) -> Result<Heading, AllocError>
     ensures { IfOk result (λ h. h ≡ heading decls.now kind header.now) }
 {
-    let around = Around::top(decls);
-    let mut vars = TypeVars::new(alloc);
     let mut reading = no_reading(alloc);
-    let texts = header.params.as_slice();
-    bind_all(alloc, &around, &mut vars, &mut reading, texts, false)?;
+    let vars = bind_first(alloc, decls, &mut reading, header.params.as_slice())?;
     let params = copy_bounds(alloc, reading.vars.as_slice())?;
-    let parent = read_option(alloc, &around, &mut vars, &mut reading, &header.parent)?;
+    let around = Around::within(decls, &vars);
+    let parent = read_option(alloc, &around, &mut reading, &header.parent)?;
     let own = Decl {
         name: header.name.bytes.copy()?,
         kind,
@@ -87,18 +83,16 @@ fn read_heading(
 fn read_types(
     alloc: Global,
     around: &Around<'_>,
-    vars: &mut TypeVars,
     reading: &mut Reading,
     fields: &[FieldText],
 ) -> Result<Row<Ty>, AllocError>
-    ensures means { IfOk result (λ ts. types ts reading.new
+    ensures { IfOk result (λ ts. types ts reading.new
         ≡ all_read around.now.decls.now (map (λ (f : FieldOf). f.ty) fields.now)
-        (around.now.statics ++ vars.old) reading.old) }
-    ensures kept { OnOk result (vars.new ≡ vars.old) }
+        around.now.first reading.old) }
 {
     let mut tys = Row::new(alloc);
     for field in fields {
-        let ty = read_option(alloc, around, vars, reading, &field.ty)?;
+        let ty = read_option(alloc, around, reading, &field.ty)?;
         tys.push(ty)?;
     }
     Ok(tys)
@@ -153,8 +147,7 @@ fn own_types(
     decls.push(copy_decl(&heading.own)?)?;
     let tys = read_types(
         alloc,
-        &Around::top(&decls.all()),
-        &mut heading.vars,
+        &Around::within(&decls.all(), &heading.vars),
         &mut heading.reading,
         fields,
     )?;

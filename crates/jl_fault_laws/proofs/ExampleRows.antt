@@ -1,8 +1,11 @@
 -- The rows of the small scripts.
-use Rattle.std.proofs.Common.{ℕ, zero, suc, ◌+◌, ◌≤◌, ℤ, pos, codes, cond, List, [], ◌∷◌, ◌++◌, map, Some, ◌≡◌, inl, refl, sym, ap, subst, ◌∙◌, append_assoc}
+use Rattle.std.proofs.Common.{ℕ, zero, suc, ◌+◌, ◌≤◌, ℤ, pos, codes, cond, true, false, ◌&&◌, List, [], ◌∷◌, ◌++◌, map, None, Some, ◌≡◌, inl, refl, sym, ap, subst, ◌∙◌, append_assoc}
 use Rattle.std.proofs.lemmas.Bool.{le-leb}
 use Rattle.jl_model.specs.declared.limits.TheConstants.{MOST_SITES}
 use Rattle.jl_model.specs.declared.builtin.TheConstants.{BUILTIN_TYPES}
+use Rattle.jl_model.specs.declared.ty.Written.{Written}
+use Rattle.jl_model.specs.Rows.{free}
+use Rattle.jl_model.specs.Usable.{is_usable}
 use Rattle.jl_typeread.specs.declared.tree.ArgText.TheFolds.{fold-roll-TypeText, fold-roll-VarText}
 use Rattle.jl_typeread.specs.declared.tree.ArgText.TheOpen as A
 use Rattle.jl_typeread.specs.declared.tree.ArgText.TheViews as V
@@ -25,7 +28,7 @@ use Rattle.jl_grammar.specs.declared.tree.Name.{Name}
 use Rattle.jl_grammar.specs.declared.tree.Param.TheVariants as P
 use Rattle.jl_written.specs.declared.fault.Fault.{Fault}
 use Rattle.jl_written.specs.declared.fault.StaticKind.TheVariants as kind
-use Rattle.jl_fault_laws.specs.Uses.{Names, Visible, Use, Uses, Stated, Brings, ScriptNames, names_told, used, value, deleted, plain_type, written, deleted_by, bare, if_read, tuple_uses, at_top, top_uses, brought, with_vars, type_uses, var_uses, body_uses, uses_of}
+use Rattle.jl_fault_laws.specs.Uses.{Names, Visible, Use, Uses, Stated, Brings, ScriptNames, names_told, used, value, deleted, plain_type, written, deleted_by, bare, in_type, if_read, tuple_uses, at_top, top_uses, brought, with_vars, type_uses, var_uses, body_uses, uses_of}
 use Rattle.jl_fault_laws.specs.Uses as U
 use Rattle.jl_written.specs.Signatures.{written_of}
 use Rattle.jl_resolve_forms.specs.declared.known.Known.{Known}
@@ -34,6 +37,7 @@ use Rattle.jl_resolve_forms.specs.TypesIn.{Tests, start_of, start_of_layer}
 use Rattle.jl_fault_laws.specs.Rows.{HoldsAt, definitions}
 use Rattle.jl_fault_laws.specs.TypeRows.{unless_hidden, unless_misplaced, deleted_at, deleted_refusal, RefusedAt}
 use Rattle.jl_fault_laws.specs.Examples.{f, g, x, y, S, R, T, name_at, one_at, known, head, with_line, good, with_unknown_name, with_unknown_function, with_many_arguments, with_unknown_type, with_two_variables, with_prelude_deletion, with_deletion, with_function_name, with_two_bindings, with_built_in, known_struct, with_inferred, method_at, lines, fault}
+use Rattle.jl_sig.proofs.StandLemmas.{met_none}
 use Rattle.jl_fault_laws.proofs.Firsts.{In}
 use Rattle.jl_fault_laws.proofs.Faults.{all_named}
 use Rattle.jl_fault_laws.proofs.RowLaws.{holds_among, among_holds}
@@ -138,10 +142,10 @@ arguments_row = one_holds with_many_arguments (fault 13 kind.TooManyArguments) (
 
 -- with a type on the line
 abbrev with_type : TypeText → Uses → Uses
-with_type t u v = used (start_of t) (written t) v ∷ u v
+with_type t u v = used (start_of t) (written t) v ∷ u (in_type v)
 
 isa_is : (t : TypeText) (u : Uses) → type_uses t ≡ u → expr_uses (E.Isa 13 (one_at 13) t) ≡ with_type t u
-isa_is t u h = isa_uses 13 (one_at 13) t ∙ (λ i v. number_uses 13 (pos 1) i v ++ used (start_of t) (written t) v ∷ h i v)
+isa_is t u h = isa_uses 13 (one_at 13) t ∙ (λ i v. number_uses 13 (pos 1) i v ++ used (start_of t) (written t) v ∷ h i (in_type v))
 
 pub type_row : HoldsAt known with_unknown_type (fault 19 kind.UnknownType)
 type_row =
@@ -226,12 +230,25 @@ pub built_in_row : HoldsAt known with_built_in (fault 18 kind.NameClash)
 built_in_row = one_holds with_built_in (fault 18 kind.NameClash) (bound_faults (codes "div") 24)
 
 -- the parameter of a struct that is in no field can't be inferred
+abbrev in_no_field : Written
+in_no_field = record { vars = free ∷ []; parts = [] }
+
+not_usable : is_usable in_no_field 0 ≡ false
+not_usable = ap (λ b. b && true) (sym (met_none in_no_field 0 refl))
+
 pub inferred_row : (t : Tests) → RefusedAt t known_struct with_inferred (fault 16 kind.StaticParameterUse)
 inferred_row t =
     let g = names_told known_struct in
     let c = C.Plain (name_at 16 S) in
     let v = U.at_top g 9 [] in
-    record { before = []; use_ = used 16 (U.called c 0) v; behind = []; is = λ i. calls_use g 16 c [] i v ++ []; place = refl; row = refl }
+    record {
+      before = [];
+      use_ = used 16 (U.called c 0) v;
+      behind = [];
+      is = λ i. calls_use g 16 c [] i v ++ [];
+      place = refl;
+      row = ap (λ b. cond (b && true) (cond (t.wide 8) (Some kind.TypeLimit) None) (Some kind.StaticParameterUse)) not_usable;
+    }
 
 -- ---- many methods
 

@@ -1,5 +1,5 @@
 -- What is visible, and what a name is there, by slots and by names.
-use Rattle.std.proofs.Common.{ℕ, zero, suc, ◌+◌, Bool, true, false, cond, not, ◌||◌, ◌&&◌, List, [], ◌∷◌, ◌++◌, map, take, length, ◌≡◌, Option, Some, None, is_some, refl, sym, ap, ◌∙◌}
+use Rattle.std.proofs.Common.{ℕ, zero, suc, ◌+◌, Bool, true, false, cond, not, ◌||◌, ◌&&◌, List, [], ◌∷◌, ◌++◌, map, take, length, ◌≡◌, Option, Some, None, is_some, refl, sym, ap, subst, ◌∙◌, append-nil, append_assoc}
 use Rattle.jl_model.specs.declared.ty.Decl.{Decl}
 use Rattle.jl_model.specs.declared.ty.Written.{Written}
 use Rattle.jl_program.specs.Names.{same_text, is_among, builtin_names}
@@ -19,6 +19,7 @@ use Rattle.jl_grammar.specs.declared.tree.Param.TheVariants as A
 use Rattle.jl_grammar.specs.Marks.{is_function}
 use Rattle.jl_written.specs.declared.reading.TypeVar.{TypeVar}
 use Rattle.jl_written.specs.Meaning.{later, place_from, place_of, var_of}
+use Rattle.jl_written.specs.Reads.{Seen, seen, visible, with_own, in_bound}
 use Rattle.jl_written.specs.Signatures.{shifted}
 use Rattle.jl_written.specs.declared.fault.StaticKind.TheVariants as kind
 use Rattle.jl_names.proofs.NumberLemmas.{text_is}
@@ -30,7 +31,8 @@ use Rattle.jl_resolve_forms.specs.Scopes.{slot_from, slot_of, note, clashing, wi
 use Rattle.jl_resolve_forms.specs.Functions.{function_of_operator, function_of, own_function, unless_taken, if_struct, struct_named, struct_of}
 use Rattle.jl_resolve_forms.specs.TypesIn.{Tests, declared_at}
 use Rattle.jl_resolve_forms.specs.Expressions.{parameters, make_struct, static_parameter, static_parameters}
-use Rattle.jl_fault_laws.specs.Uses.{Names, Visible, bound, used, with_name, with_names, with_var, params_of, params_uses, type_names, names_told, makes_layer}
+use Rattle.jl_fault_laws.specs.Uses.{Names, Visible, in_type, bound, used, with_name, with_names, with_var, params_of, params_uses, type_names, names_told, makes_layer}
+use Rattle.jl_fault_laws.specs.Uses as U
 use Rattle.jl_fault_laws.specs.Rows.{is_struct, has_function, has_own_function}
 use Rattle.jl_fault_laws.specs.TypeRows.{declared_before, struct_at, struct_called, struct_built, is_idle, statics_at}
 use Rattle.jl_fault_laws.proofs.Firsts.{Tells, nothing, two, same, one_fault}
@@ -48,6 +50,12 @@ pub record KnowsAll (vars : List TypeVar) (ns inner : Names) (statics : List Typ
 
 abbrev pub Knows : Tests → Known → List TypeVar → Visible → Type 0
 Knows t k vars v = KnowsAll vars v.vars v.inner (statics_at t k v)
+
+-- what a type sees, and what a bound in it sees
+pub record KnowsSeen (t : Tests) (k : Known) (s : Seen) (v : Visible) : Type 0 where
+  pub now : Knows t k (visible s) v
+  pub bound : s.bound ≡ v.bounded
+  pub first : KnowsAll s.first v.first v.first_inner (statics_at t k v)
 
 -- a scope is what is visible
 pub record Sees (t : Tests) (k : Known) (c : Scope) (v : Visible) : Type 0 where
@@ -91,6 +99,36 @@ one_more t k vars v x e h = record {
   names = λ name. ap is_some (appended vars x name) ∙ last_some (var_of vars name) (same_text name x.name) x ∙ ap (λ b. same_text name x.name || b) (h.names name);
   idle = λ name. ap is_idle (appended vars x name) ∙ last_idle (var_of vars name) (same_text name x.name) x e ∙ ap (λ b. not (same_text name x.name) && b) (h.idle name)
       ∙ neither (same_text name x.name) (is_among name v.inner) (is_idle (var_of (statics_at t k v) name));
+}
+
+-- ---- what a type sees
+
+-- where a type begins
+pub type_knows : (t : Tests) (k : Known) (vars : List TypeVar) (v : Visible) → Knows t k vars v → KnowsSeen t k (seen vars [] false) (in_type v)
+type_knows t k vars v h = record { now = subst (λ xs. KnowsAll xs v.vars v.inner (statics_at t k v)) (sym (append-nil vars)) h; bound = refl; first = h }
+
+pub bound_knows : (t : Tests) (k : Known) (s : Seen) (v : Visible) → KnowsSeen t k s v → KnowsSeen t k (in_bound s) (U.in_bound v)
+bound_knows t k s v h = record { now = by s.bound v.bounded h.bound; bound = refl; first = h.first }
+  where
+    by : (a b : Bool) → a ≡ b → KnowsAll (s.first ++ cond a s.own []) (cond b v.vars v.first) (cond b v.inner v.first_inner) (statics_at t k v)
+    by true true e = h.now
+    by false false e = subst (λ xs. KnowsAll xs v.first v.first_inner (statics_at t k v)) (sym (append-nil s.first)) h.first
+    by true false e = absurd (let f : true ≡ false = e in cc)
+    by false true e = absurd (let f : false ≡ true = e in cc)
+
+-- a list of variables begins
+pub none_of_own : (s : Seen) → with_own [] s ≡ s
+none_of_own s = ap (λ xs. seen s.first xs s.bound) (append-nil s.own)
+
+one_behind : (s : Seen) (own : List TypeVar) (x : TypeVar) → visible (with_own own s) ++ x ∷ [] ≡ visible (with_own (own ++ x ∷ []) s)
+one_behind s own x = append_assoc s.first (s.own ++ own) (x ∷ []) ∙ ap (λ xs. s.first ++ xs) (append_assoc s.own own (x ∷ []))
+
+-- one more variable of the list
+pub one_seen : (t : Tests) (k : Known) (s : Seen) (own : List TypeVar) (v : Visible) (x : TypeVar) → x.usable ≡ true → KnowsSeen t k (with_own own s) v → KnowsSeen t k (with_own (own ++ x ∷ []) s) (with_var x.name v)
+one_seen t k s own v x e h = record {
+  now = subst (λ xs. Knows t k xs (with_var x.name v)) (one_behind s own x) (one_more t k (visible (with_own own s)) v x e h.now);
+  bound = h.bound;
+  first = h.first;
 }
 
 abbrev mapped : (TypeVar → TypeVar) → Option TypeVar → Option TypeVar

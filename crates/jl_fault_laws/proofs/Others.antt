@@ -12,7 +12,7 @@ use Rattle.jl_resolve_forms.specs.declared.known.Known.{Known}
 use Rattle.jl_resolve_forms.specs.Expressions.{type_of, make_args, is_signature, signature_args, signature_vars, inferred_refusal}
 use Rattle.jl_resolve_forms.specs.Parameters.{has_usable_parameters_at}
 use Rattle.jl_resolve_forms.specs.TypesIn.{Tests, one_type}
-use Rattle.jl_fault_laws.specs.Uses.{Visible, How, called, built, defined, plain_type, written, deleted_by, Use, each, type_uses, arg_uses, tuple_uses, signature_uses}
+use Rattle.jl_fault_laws.specs.Uses.{Visible, How, called, built, defined, plain_type, written, deleted_by, Use, alone_uses, args_uses, tuple_uses, signature_uses}
 use Rattle.jl_fault_laws.specs.Rows.{has_row, IsOtherKind, TellTypes}
 use Rattle.jl_fault_laws.specs.TypeRows.{declared_before, struct_called, struct_built, statics_at, is_barred, any_hides, unless_hidden, unless_misplaced, deleted_at, deleted_refusal, signature_refusal, type_refusal, built_refusal, call_refusal, refused_by}
 
@@ -58,7 +58,7 @@ module _ (t : Tests) (k : Known) (q : TellTypes t) where
   type_other text v =
       let ty = body_type (declared_before k v.types) (statics_at t k v) text in
       let w = one_type ty.ty (adopt_bounds t.below ty.after.places ty.after.vars) in
-      misplaced_other ty.after.misplaced (unless_hidden (type_uses text v) (t.body w)) (hidden_other (type_uses text v) (t.body w) (q.body w))
+      misplaced_other ty.after.misplaced (unless_hidden (alone_uses text v) (t.body w)) (hidden_other (alone_uses text v) (t.body w) (q.body w))
 
   built_other : (p : Option ℕ) (xs : List ArgText) (v : Visible) → IsOtherKind (built_refusal t k p xs v)
   unfolding built_refusal
@@ -67,7 +67,7 @@ module _ (t : Tests) (k : Known) (q : TellTypes t) where
       let bs = params_of (slice_get k.decls p) in
       let ty = constructor_type (declared_before k v.types) p bs (statics_at t k v) xs in
       let w = one_type ty.ty [] in
-      let us = each (map arg_uses xs) v in
+      let us = args_uses xs v in
       let b = not (nat_eq (length ty.after.vars) 0) || not (nat_eq (length xs) (length bs)) in
       misplaced_other ty.after.misplaced (cond b (Some kind.WrongParameterCount) (unless_hidden us (t.body w)))
       (counted_other b (unless_hidden us (t.body w)) (hidden_other us (t.body w) (q.body w)))

@@ -10,7 +10,7 @@ use Rattle.jl_grammar.specs.declared.tree.Param.{Param}
 use Rattle.jl_grammar.specs.declared.tree.Param.TheVariants as P
 use Rattle.jl_resolve_forms.specs.Expressions.{type_of}
 use Rattle.jl_type_laws.proofs.TextInduction.{EachText, TextCases, by_type, by_arg, by_var}
-use Rattle.jl_fault_laws.specs.Uses.{Visible, Use, Uses, Brings, used, type_variable, each, if_read, takes_braces, with_name, with_var, with_vars, params_uses, brought, bare, arg_step, type_step, var_step, type_uses, arg_uses, var_uses, option_uses, options_uses, tuple_uses, in_head, signature_uses}
+use Rattle.jl_fault_laws.specs.Uses.{Visible, Use, Uses, Brings, used, type_variable, each, if_read, takes_braces, with_name, with_var, with_vars, params_uses, brought, brought_by, bare, in_type, in_bound, arg_step, type_step, var_step, type_uses, arg_uses, args_uses, var_uses, option_uses, options_uses, tuple_uses, in_head, signature_uses}
 use Rattle.jl_fault_laws.specs.Rows.{definitions}
 use Rattle.jl_fault_laws.proofs.Faults.{definitions_append}
 
@@ -28,11 +28,14 @@ pub read_plain : (b : Bool) (us : List Use) → definitions us ≡ 0 → definit
 read_plain true us h = h
 read_plain false us h = refl
 
-pub brought_plain : (bs : List Brings) → EachText (λ (b : Brings). IsPlain b.uses) bs → IsPlain (brought bs)
-brought_plain [] h v = refl
-brought_plain (b ∷ bs) h v =
+brought_by_plain : (bs : List Brings) → EachText (λ (b : Brings). IsPlain b.uses) bs → (w v : Visible) → definitions (brought_by bs w v) ≡ 0
+brought_by_plain [] h w v = refl
+brought_by_plain (b ∷ bs) h w v =
     let own = used b.at (type_variable b.name) v ∷ [] in
-    both_plain (b.uses v ++ own) (brought bs (with_var b.name v)) (both_plain (b.uses v) own (h.0 v) refl) (brought_plain bs h.1 (with_var b.name v))
+    both_plain (b.uses w ++ own) (brought_by bs (with_var b.name w) (with_var b.name v)) (both_plain (b.uses w) own (h.0 w) refl) (brought_by_plain bs h.1 (with_var b.name w) (with_var b.name v))
+
+pub brought_plain : (bs : List Brings) → EachText (λ (b : Brings). IsPlain b.uses) bs → IsPlain (brought bs)
+brought_plain bs h v = brought_by_plain bs h (in_bound v) v
 
 each_map : {A B : Type 0} (P : B → Type 0) (f : A → B) (xs : List A) → EachText (λ x. P (f x)) xs → EachText P (map f xs)
 each_map P f [] h = tt
@@ -53,8 +56,8 @@ cases = record {
   paren = λ at t vs l p. subst IsPlain (sym (fold-roll-TypeText Uses Uses Brings arg_step type_step var_step (F.Paren at t vs)))
       (λ v. both_plain (brought (map var_uses vs) v) (type_uses t (with_vars (map var_uses vs) v)) (brought_plain (map var_uses vs) (each_map PlainVar var_uses vs p) v) (l (with_vars (map var_uses vs) v)));
   exact = λ t l. subst IsPlain (sym (fold-roll-ArgText Uses Uses Brings arg_step type_step var_step (F.Exact t))) l;
-  below_ = λ at t l. subst IsPlain (sym (fold-roll-ArgText Uses Uses Brings arg_step type_step var_step (F.ArgText::Below at t))) l;
-  above = λ at t l. subst IsPlain (sym (fold-roll-ArgText Uses Uses Brings arg_step type_step var_step (F.ArgText::Above at t))) l;
+  below_ = λ at t l. subst IsPlain (sym (fold-roll-ArgText Uses Uses Brings arg_step type_step var_step (F.ArgText::Below at t))) (λ v. l (in_bound v));
+  above = λ at t l. subst IsPlain (sym (fold-roll-ArgText Uses Uses Brings arg_step type_step var_step (F.ArgText::Above at t))) (λ v. l (in_bound v));
   free = λ at n. subst PlainVar (sym (fold-roll-VarText Uses Uses Brings arg_step type_step var_step (F.Free at n))) (λ v. refl);
   upper = λ at n t l. subst PlainVar (sym (fold-roll-VarText Uses Uses Brings arg_step type_step var_step (F.VarText::Below at n t))) l;
   lower = λ at n t l. subst PlainVar (sym (fold-roll-VarText Uses Uses Brings arg_step type_step var_step (F.VarText::Above at n t))) l;
@@ -78,7 +81,7 @@ vars_plain vs = brought_plain (map var_uses vs) (each_map PlainVar var_uses vs (
 
 pub option_plain : (t : Option TypeText) → IsPlain (option_uses t)
 option_plain None v = refl
-option_plain (Some t) v = type_plain t v
+option_plain (Some t) v = type_plain t (in_type v)
 
 pub options_plain : (ts : List (Option TypeText)) → IsPlain (options_uses ts)
 options_plain [] v = refl
@@ -88,7 +91,7 @@ pub signature_plain : (h : Head) → IsPlain (signature_uses h)
 signature_plain h v = both_plain (brought (map var_uses h.vars) (bare v)) (options_uses (map type_of h.params) (in_head h v)) (vars_plain h.vars (bare v)) (options_plain (map type_of h.params) (in_head h v))
 
 pub tuple_plain : (xs : List ArgText) (vs : List VarText) → IsPlain (tuple_uses xs vs)
-tuple_plain xs vs v = both_plain (brought (map var_uses vs) (bare v)) (each (map arg_uses xs) (with_vars (map var_uses vs) (bare v))) (vars_plain vs (bare v)) (args_plain xs (with_vars (map var_uses vs) (bare v)))
+tuple_plain xs vs v = both_plain (brought (map var_uses vs) (bare v)) (args_uses xs (with_vars (map var_uses vs) (bare v))) (vars_plain vs (bare v)) (args_plain xs (in_type (with_vars (map var_uses vs) (bare v))))
 
 pub params_plain : (ps : List Param) → IsPlain (params_uses ps)
 params_plain [] v = refl

@@ -25,7 +25,7 @@ use Rattle.jl_resolve_forms.specs.declared.state.Signed.{Signed}
 use Rattle.jl_resolve_forms.specs.Expressions.{type_of, make_args, is_signature, signature_args, signature_vars, judge_signature, static_parameters, inferred_refusal}
 use Rattle.jl_resolve_forms.specs.Functions.{if_struct}
 use Rattle.jl_resolve_forms.specs.TypesIn.{Tests, one_type}
-use Rattle.jl_fault_laws.specs.Uses.{Names, Visible, How, called, built, defined, plain_type, written, deleted_by, Use, each, names_told, type_names, type_uses, arg_uses, tuple_uses, signature_uses, uses_of}
+use Rattle.jl_fault_laws.specs.Uses.{Names, Visible, How, called, built, defined, plain_type, written, deleted_by, Use, names_told, type_names, alone_uses, args_uses, tuple_uses, signature_uses, uses_of}
 use Rattle.jl_fault_laws.specs.Rows.{unknown_type, rebound}
 
 -- the first declared types, as many as have a visible name
@@ -106,7 +106,7 @@ module _ (t : Tests) (k : Known) where
   unfoldable pub type_refusal : TypeText → Visible → Option StaticKind
   type_refusal text v =
       let ty = body_type (declared_before k v.types) (statics_at v) text in
-      unless_misplaced ty.after.misplaced (unless_hidden (type_uses text v) (t.body (one_type ty.ty (adopt_bounds t.below ty.after.places ty.after.vars))))
+      unless_misplaced ty.after.misplaced (unless_hidden (alone_uses text v) (t.body (one_type ty.ty (adopt_bounds t.below ty.after.places ty.after.vars))))
 
   -- what refuses the type of a struct with these arguments in braces: they must be as many as declared, and bring no variable
   unfoldable pub built_refusal : Option ℕ → List ArgText → Visible → Option StaticKind
@@ -116,7 +116,7 @@ module _ (t : Tests) (k : Known) where
       let ty = constructor_type (declared_before k v.types) p bs (statics_at v) xs in
       unless_misplaced ty.after.misplaced
       (if not (nat_eq (length ty.after.vars) 0) || not (nat_eq (length xs) (length bs)) then Some kind.WrongParameterCount
-      else unless_hidden (each (map arg_uses xs) v) (t.body (one_type ty.ty [])))
+      else unless_hidden (args_uses xs v) (t.body (one_type ty.ty [])))
 
   -- what refuses a struct that is called without braces: where it has parameters, these are inferred
   abbrev pub call_refusal : Option ℕ → Option StaticKind

@@ -1,7 +1,7 @@
 -- The uses of names in a script, each with what is visible there (Julia manual, Scope of Variables; Types): where a name is a
 -- value, where a function or a constructor is called, where a method is added to a function or deleted, where a name stands for a
 -- type, and where a variable, a type variable or a type gets its name. Neither faults nor slots nor code are named here.
-use Rattle.std.specs.Prelude.{ℕ, ◌+◌, max, Bool, false, ◌&&◌, ◌||◌, not, if◌then◌else◌, codes, List, [], ◌∷◌, ◌++◌, map, take, length, Option, Some, None, is_some}
+use Rattle.std.specs.Prelude.{ℕ, ◌+◌, max, Bool, true, false, ◌&&◌, ◌||◌, not, if◌then◌else◌, codes, List, [], ◌∷◌, ◌++◌, map, take, length, Option, Some, None, is_some}
 use Rattle.jl_model.specs.declared.ty.Decl.{Decl}
 use Rattle.jl_program.specs.Names.{same_text, is_among}
 use Rattle.jl_typeread.specs.declared.tree.ArgText.{ArgText}
@@ -38,12 +38,16 @@ use Rattle.jl_resolve_forms.specs.TypesIn.{start_of}
 abbrev pub Names : Type 0
 Names = List (List ℕ)
 
--- What is visible at a place: the variables; the type variables, and those of them that the type itself brings; the types that
--- are declared before it; and the method in whose body it is.
+-- What is visible at a place: the variables; the type variables, and those of them that the type itself brings; in a type the same
+-- two as they were at its beginning, and whether the place is in a bound; the types that are declared before it; and the method in
+-- whose body it is.
 pub record Visible : Type 0 where
   pub names : Names
   pub vars : Names
   pub inner : Names
+  pub first : Names
+  pub first_inner : Names
+  pub bounded : Bool
   pub types : Names
   pub method : Option Head
 
@@ -53,9 +57,18 @@ with_name n v = record v { names = n ∷ v.names }
 abbrev pub with_var : List ℕ → Visible → Visible
 with_var n v = record v { vars = n ∷ v.vars; inner = n ∷ v.inner }
 
--- a method and an evaluated statement see no variable around them
+-- a type begins, which is no part of another one
+abbrev pub in_type : Visible → Visible
+in_type v = record v { first = v.vars; first_inner = v.inner; bounded = false }
+
+-- A bound sees the type variables that are declared before it. Those of a `where` come after the type in front of it, so a bound in
+-- that type sees only what is visible at the beginning of the whole type.
+abbrev pub in_bound : Visible → Visible
+in_bound v = record v { vars = if v.bounded then v.vars else v.first; inner = if v.bounded then v.inner else v.first_inner; bounded = true }
+
+-- a method and an evaluated statement see no variable around them, and the variables of a `where` at the end come before all others
 abbrev pub bare : Visible → Visible
-bare v = record { names = []; vars = []; inner = []; types = v.types; method = None }
+bare v = record { names = []; vars = []; inner = []; first = []; first_inner = []; bounded = true; types = v.types; method = None }
 
 -- What the whole script tells of names: its types, the built-in ones first, in text order; which names are structs of it; and
 -- where it names its functions and its types.
@@ -187,9 +200,13 @@ then_vars (x ∷ xs) vs = then_vars xs (x.name ∷ vs)
 abbrev pub with_vars : List Brings → Visible → Visible
 with_vars xs v = record v { vars = then_vars xs v.vars; inner = then_vars xs v.inner }
 
+-- where their bounds see b
+abbrev pub brought_by : List Brings → Visible → Uses
+brought_by [] b v = []
+brought_by (x ∷ xs) b v = (x.uses b ++ used x.at (type_variable x.name) v ∷ []) ++ brought_by xs (with_var x.name b) (with_var x.name v)
+
 abbrev pub brought : List Brings → Uses
-brought [] v = []
-brought (x ∷ xs) v = (x.uses v ++ used x.at (type_variable x.name) v ∷ []) ++ brought xs (with_var x.name v)
+brought xs v = brought_by xs (in_bound v) v
 
 abbrev pub type_step : TypeText-F Uses Uses Brings → Uses
 type_step (T.Name at n) v = used at (plain_type n) v ∷ []
@@ -198,8 +215,8 @@ type_step (T.Paren at t ws) v = brought ws v ++ t (with_vars ws v)
 
 abbrev pub arg_step : ArgText-F Uses Uses Brings → Uses
 arg_step (T.Exact t) = t
-arg_step (T.ArgText::Below at t) = t
-arg_step (T.ArgText::Above at t) = t
+arg_step (T.ArgText::Below at t) = λ v. t (in_bound v)
+arg_step (T.ArgText::Above at t) = λ v. t (in_bound v)
 
 abbrev pub var_step : VarText-F Uses Uses Brings → Brings
 var_step (T.Free at n) = record { at = at; name = n; uses = λ v. [] }
@@ -216,10 +233,17 @@ arg_uses = fold-ArgText Uses Uses Brings arg_step type_step var_step
 abbrev pub var_uses : VarText → Brings
 var_uses = fold-VarText Uses Uses Brings arg_step type_step var_step
 
+-- a type that is no part of another one, and arguments that are in none
+abbrev pub alone_uses : TypeText → Uses
+alone_uses t v = type_uses t (in_type v)
+
+abbrev pub args_uses : List ArgText → Uses
+args_uses xs v = each (map arg_uses xs) (in_type v)
+
 -- a parameter or a field may have no type
 abbrev pub option_uses : Option TypeText → Uses
 option_uses None v = []
-option_uses (Some t) v = type_uses t v
+option_uses (Some t) v = alone_uses t v
 
 abbrev pub options_uses : List (Option TypeText) → Uses
 options_uses [] v = []
@@ -227,15 +251,15 @@ options_uses (t ∷ ts) v = option_uses t v ++ options_uses ts v
 
 -- a type in a body
 abbrev pub body_uses : TypeText → Uses
-body_uses t v = used (start_of t) (written t) v ∷ type_uses t v
+body_uses t v = used (start_of t) (written t) v ∷ alone_uses t v
 
 -- the type arguments of a struct that is called
 abbrev pub built_uses : TypeText → Uses
-built_uses t v = used (start_of t) (built t) v ∷ each (map arg_uses (make_args (out-TypeText t))) v
+built_uses t v = used (start_of t) (built t) v ∷ args_uses (make_args (out-TypeText t)) v
 
 -- the type of a deletion sees no type variable but its own
 abbrev pub tuple_uses : List ArgText → List VarText → Uses
-tuple_uses xs ws v = brought (map var_uses ws) (bare v) ++ each (map arg_uses xs) (with_vars (map var_uses ws) (bare v))
+tuple_uses xs ws v = brought (map var_uses ws) (bare v) ++ args_uses xs (with_vars (map var_uses ws) (bare v))
 
 abbrev pub deleted_uses : TypeText → Uses
 deleted_uses t v = used (start_of t) (deleted_by t) (bare v) ∷ if_read (is_signature (out-TypeText t)) (tuple_uses (signature_args (out-TypeText t)) (signature_vars (out-TypeText t)) v)
@@ -346,7 +370,7 @@ module _ (g : ScriptNames) where
 
   -- what is visible at the top, where so many types are declared before
   abbrev pub at_top : ℕ → Names → Visible
-  at_top n vs = record { names = vs; vars = []; inner = []; types = take n g.types; method = None }
+  at_top n vs = record { names = vs; vars = []; inner = []; first = []; first_inner = []; bounded = true; types = take n g.types; method = None }
 
   -- a variable at the top has the name of a function or a type, which stands there
   abbrev pub shared_uses : Name → Option ℕ → Uses

@@ -3,8 +3,8 @@ use Rattle.std.proofs.Common.{◌≡◌, ℕ, ◌+◌, ◌≤◌, List, [], ◌�
 use Rattle.std.proofs.lemmas.List.{drop-append-le, take-take, length-take, reverse-append, take-append-drop, drop-take, take_at, drop_at, drop_all}
 use Rattle.jl_model.specs.declared.ty.Ty.{Ty}
 use Rattle.jl_program.specs.declared.value.Value.{Value}
-use Rattle.jl_point.specs.declared.point.Frame.{Frame}
-use Rattle.jl_point.specs.declared.point.Frame.TheVariants as Fr
+use Rattle.jl_task.specs.declared.point.Frame.{Frame}
+use Rattle.jl_task.specs.declared.point.Frame.TheVariants as Fr
 use Rattle.jl_frames.specs.declared.flat.Scope.{Scope}
 use Rattle.jl_frames.specs.declared.flat.Flat.{Flat}
 use Rattle.jl_frames.specs.declared.flat.Flat.TheVariants as L

@@ -7,8 +7,8 @@ use Rattle.jl_program.specs.declared.tree.Piece.{Piece}
 use Rattle.jl_program.specs.declared.value.Value.{Value}
 use Rattle.jl_program.specs.declared.value.Value.TheVariants as V
 use Rattle.jl_calculus.specs.Run.{bound_at}
-use Rattle.jl_point.specs.declared.point.Frame.{Frame}
-use Rattle.jl_point.specs.declared.point.Frame.TheVariants as Fr
+use Rattle.jl_task.specs.declared.point.Frame.{Frame}
+use Rattle.jl_task.specs.declared.point.Frame.TheVariants as Fr
 
 pub record Held : Type 0 where
   pub env : List Value

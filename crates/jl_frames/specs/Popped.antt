@@ -2,8 +2,8 @@
 use Rattle.std.specs.Prelude.{◌≡◌, ℕ, List, [], ◌∷◌, ◌++◌, Option, None, Some}
 use Rattle.jl_model.specs.declared.ty.Ty.{Ty}
 use Rattle.jl_program.specs.declared.value.Value.{Value}
-use Rattle.jl_point.specs.declared.point.Frame.{Frame}
-use Rattle.jl_point.specs.declared.point.Frame.TheVariants as Fr
+use Rattle.jl_task.specs.declared.point.Frame.{Frame}
+use Rattle.jl_task.specs.declared.point.Frame.TheVariants as Fr
 use Rattle.jl_frames.specs.declared.flat.Flat.{Flat}
 use Rattle.jl_frames.specs.declared.flat.Flat.TheVariants as L
 use Rattle.jl_frames.specs.Held.{Held}

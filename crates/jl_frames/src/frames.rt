@@ -31,7 +31,7 @@ impl<'p> Model for Frames<'p> {
     ghost use Rattle.jl_frames.specs.Held.{Held};
     ghost use Rattle.jl_program.specs.contracts.value.Value as v;
     ghost use Rattle.jl_model.specs.contracts.ty.Ty as t;
-    ghost use Rattle.jl_point.specs.contracts.point.Frame as f;
+    ghost use Rattle.jl_task.specs.contracts.point.Frame as f;
     ghost use Rattle.std.specs.Coded.{codes};
 
     ghost Value = { Held };

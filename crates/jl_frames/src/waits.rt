@@ -1,7 +1,7 @@
 //! Frames that wait.
 
 ghost use Rattle.std.specs.Prelude.{◌≡◌, ◌∷◌, [], OnOk};
-ghost use Rattle.jl_point.specs.declared.point.Frame.TheVariants as Fr;
+ghost use Rattle.jl_task.specs.declared.point.Frame.TheVariants as Fr;
 ghost use Rattle.jl_frames.specs.Held.{waits, waits_args, waits_text, evaluates};
 
 use crate::flat::{Flat, Scope};

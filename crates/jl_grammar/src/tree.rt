@@ -22,10 +22,16 @@ pub type Branches = SharedList<Branch>;
 /// What a `print` writes, from left to right.
 pub type Pieces = SharedList<Piece>;
 
-/// A script.
-#[derive(Drop)]
+/// A script. Its drop is written by hand: so it is proved here alone, and is one call in every other crate.
 pub struct Script {
     pub items: Items,
+}
+
+impl Drop for Script {
+    fn drop(self) {
+        let Script { items } = self;
+        drop(items);
+    }
 }
 
 /// A name, and where it stands.

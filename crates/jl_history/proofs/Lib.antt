@@ -7,3 +7,10 @@ pub mod StateLemmas
 pub mod StepLemmas
 pub mod RunLemmas
 pub mod WholeLemmas
+pub mod LineTexts
+pub mod NameTexts
+pub mod ValueTexts
+pub mod AnswerNames
+pub mod RunTexts
+pub mod TextSizes
+pub mod EntryTexts

@@ -1,3 +1,4 @@
 pub mod Form
 pub mod Fields
 pub mod Reading
+pub mod Numbered

@@ -5,7 +5,7 @@ use Rattle.jl_model.specs.declared.ty.Ty.{Ty}
 use Rattle.jl_model.specs.declared.ty.Decl.{Decl}
 use Rattle.jl_model.specs.declared.ty.Written.{Written}
 use Rattle.jl_model.specs.Rows.{vars_in}
-use Rattle.jl_model.specs.SigRefusals.{TypeLimit}
+use Rattle.jl_model.specs.SigRefusals.{types_in, TypeLimit}
 use Rattle.jl_program.specs.BodyTypes.{fields_signature}
 use Rattle.jl_sig.specs.Prepared.{HasOwnVariables}
 use Rattle.jl_resolve_forms.specs.TypesIn.{Tests}
@@ -29,7 +29,7 @@ module _ (ds : List Decl) (t u : Tests) (right : IsRight ds t) (also : IsRight d
 
   one_signature : (s : Written) → t.signature s ≡ u.signature s
   one_signature s =
-      let own : Bool = list_all (λ v. nat_lt v (length s.vars)) (flat_map vars_in s.parts) in
+      let own : Bool = list_all (λ v. nat_lt v (length s.vars)) (flat_map vars_in (types_in s)) in
       by_test own
       (λ e. by_test (names_declared ds s) (λ f. sig_only ds s (t.signature s) (u.signature s) (right.signature s e f) (also.signature s e f)) (λ f. signature_outside s (λ h. not_both (names_declared ds s) h.1 f)))
       (λ e. signature_outside s (λ h. not_both own h.0 e))

@@ -10,7 +10,7 @@ use Rattle.jl_model.specs.Members.{EachBelow}
 use Rattle.jl_model.specs.Normal.{IsNormal, AllNormal, IsNormalForm, is_single, no_union, any, var, nominal, tuple, union, none, more}
 use Rattle.jl_model.specs.Refusals.{Declared}
 use Rattle.jl_model.specs.Subtype.{Table, opaque, Below}
-use Rattle.jl_model.specs.Valid.{is_known}
+use Rattle.jl_model.specs.Valid.{is_closed, is_known}
 use Rattle.jl_model.proofs.AncestorLemmas.{Lawful}
 use Rattle.jl_model.proofs.BelowLemmas.{union_below, below_union}
 use Rattle.jl_model.proofs.DeclaredLemmas.{declared_lawful}
@@ -82,9 +82,12 @@ module _ (ds : List Decl) (declared : Declared ds) where
   pub judged_decided : (t : Ty) → Decided (CanBeJudged ds t)
   judged_decided t =
       let K = is_known (length ds) t ≡ true in
-      decided_by (K × (IsWithinLimits t × HasSmallForm t)) (CanBeJudged ds t) (λ h. record { known = h.0; within = h.1.0; small = h.1.1 }) (λ h. (h.known, (h.within, h.small)))
-      (both_decided K (IsWithinLimits t × HasSmallForm t) (true_decided (is_known (length ds) t))
-      (both_decided (IsWithinLimits t) (HasSmallForm t) (within_decided t) (form_decided (λ u. nodes u ≤ MOST_TYPE_NODES) (λ u. most_decided (nodes u) MOST_TYPE_NODES) t)))
+      let C = is_closed t ≡ true in
+      let L = IsWithinLimits t × HasSmallForm t in
+      decided_by (K × (C × L)) (CanBeJudged ds t) (λ h. record { known = h.0; closed = h.1.0; within = h.1.1.0; small = h.1.1.1 }) (λ h. (h.known, (h.closed, (h.within, h.small))))
+      (both_decided K (C × L) (true_decided (is_known (length ds) t))
+      (both_decided C L (true_decided (is_closed t))
+      (both_decided (IsWithinLimits t) (HasSmallForm t) (within_decided t) (form_decided (λ u. nodes u ≤ MOST_TYPE_NODES) (λ u. most_decided (nodes u) MOST_TYPE_NODES) t))))
 
   -- both types can be judged, and the one is below the other
   pub judged_below_decided : (t u : Ty) → Decided (IsJudgedBelow ds t u)

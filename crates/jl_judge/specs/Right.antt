@@ -10,16 +10,17 @@ use Rattle.jl_model.specs.Counts.{nodes, IsWithinLimits}
 use Rattle.jl_model.specs.Normal.{IsNormalForm}
 use Rattle.jl_model.specs.SigRefusals.{types_in, IsAllowedSig, TypeLimit}
 use Rattle.jl_model.specs.Subtype.{opaque, Below}
-use Rattle.jl_model.specs.Valid.{is_known}
+use Rattle.jl_model.specs.Valid.{is_closed, is_known}
 use Rattle.jl_program.specs.BodyTypes.{fields_signature, IsAllowedType}
 use Rattle.jl_sig.specs.Prepared.{HasOwnVariables}
 use Rattle.jl_resolve_forms.specs.TypesIn.{Tests}
 use Rattle.jl_judge.specs.Answers.{SigAnswer, BodyAnswer}
 use Rattle.jl_judge.specs.Tell.{Tells}
 
--- it names only declared types, is within the limits, and its normal form has at most 1,024 nodes
+-- it names only declared types, has no variables, is within the limits, and its normal form has at most 1,024 nodes
 pub record CanBeJudged (ds : List Decl) (t : Ty) : Type 0 where
   pub known : IsTrue (is_known (length ds) t)
+  pub closed : IsTrue (is_closed t)
   pub within : IsWithinLimits t
   pub small : (u : Ty) × IsNormalForm (table_of ds) t u × (nodes u ≤ MOST_TYPE_NODES)
 

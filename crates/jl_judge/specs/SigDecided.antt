@@ -17,7 +17,7 @@ use Rattle.jl_model.specs.Rows.{alts, free, high, kind, low, width}
 use Rattle.jl_model.specs.SigRefusals.{types_in, arguments_in, ManyNodes, ManyAlternatives, LargeForm, ManyRows, VariablePlace, UnusedVariable, TooManyParameters, WrongParameterCount, TypeLimit, BoundsCrossed, BoundBroken, are_placed}
 use Rattle.jl_model.specs.Subtype.{Table, opaque, Below}
 use Rattle.jl_model.specs.Valid.{is_closed, is_counted, params_of}
-use Rattle.jl_program.specs.BodyTypes.{without_statics}
+use Rattle.jl_program.specs.BodyTypes.{without_any_statics}
 use Rattle.jl_types.proofs.DecideLemmas.{Decided}
 use Rattle.jl_sig.proofs.BuildLemmas.{not_many}
 use Rattle.jl_sig.proofs.SearchLemmas.{Some}
@@ -118,7 +118,7 @@ module _ (ds : List Decl) (declared : Declared ds) where
   limit_decided s = limit_by s s
 
   pub body_limit_decided : (s : Written) → Decided (BodyTypeLimit ds s)
-  body_limit_decided s = limit_by s (without_statics s)
+  body_limit_decided s = limit_by s (without_any_statics s)
 
   -- the low bound is not below the high bound
   abbrev Crossed : Bound → Type 0

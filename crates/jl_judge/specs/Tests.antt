@@ -25,7 +25,7 @@ names_declared ds s = list_all (is_known (length ds)) (types_in s)
 
 -- its variables are its own, and the types in it are declared
 abbrev pub is_well_named : List Decl → Written → Bool
-is_well_named ds s = list_all (λ v. nat_lt v (length s.vars)) (flat_map vars_in s.parts) && names_declared ds s
+is_well_named ds s = list_all (λ v. nat_lt v (length s.vars)) (flat_map vars_in (types_in s)) && names_declared ds s
 
 -- the first refusal that these tell, in their order
 abbrev pub first_told : Bool → Bool → Bool → Bool → Bool → Bool → Bool → Option StaticKind

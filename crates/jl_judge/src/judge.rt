@@ -15,8 +15,8 @@ use jl_written::fault::StaticKind;
 use jl_written::signatures::Order;
 use std::alloc::{AllocError, Global};
 
-/// The tests of written types and signatures over a table of valid declarations. A type that names what is not declared, or
-/// that is too large to be judged, is below nothing. Of a signature or a type in a body that names what is not declared
+/// The tests of written types and signatures over a table of valid declarations. A type that names what is not declared, that
+/// has variables, or that is too large to be judged, is below nothing. Of a signature or a type in a body that names what is not declared
 /// nothing is told, nor of a signature with a variable that is not its own. The only error is want of memory.
 #[derive(Drop)]
 pub struct TableJudge<'a> {

@@ -8,6 +8,7 @@ ghost use Rattle.jl_judge.specs.Tell.{Tells};
 use jl_model::ty::Ty;
 use jl_norm::known::is_known;
 use jl_norm::norm;
+use jl_types::closed::is_closed;
 use jl_types::{NormFault, Table, ground_sub};
 use std::alloc::{AllocError, Global};
 
@@ -17,6 +18,9 @@ fn judge_type(alloc: Global, table: &Table, ty: &Ty) -> Result<Option<Ty>, Alloc
         (CanBeJudged table.now ty.now → ⊥) (IsJudgedAs table.now ty.now)) }
 {
     if !is_known(ty, u64::from(table.count())) {
+        return Ok(None);
+    }
+    if !is_closed(ty) {
         return Ok(None);
     }
     match norm(alloc, table, ty) {

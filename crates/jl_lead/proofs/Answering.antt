@@ -16,7 +16,7 @@ use Rattle.jl_calculus.specs.Legal.{start_of, first_place}
 use Rattle.jl_calculus.specs.Past.{IsTrueOf, EndedSo, done_of, tasks_of, own_events, own_starts}
 use Rattle.jl_calculus.specs.World.{Selects, site_of, world_of}
 use Rattle.jl_calculus.proofs.GrowthLemmas.{world_more, first_at_most, selects_on, site_more}
-use Rattle.jl_dispatcher.specs.Knows.{Knows, Claim, Grew, Told, Looked, Asked, Refused, IsOfWorld, SelectsBySite, IsRight, Defined, Deleted, IsAbsentNow, IsMade, WorldsFull, IsFull, Spawned, TasksFull, AreTasksFull, Fetched}
+use Rattle.jl_task.specs.Knows.{Knows, Claim, Grew, Told, Looked, Asked, Refused, IsOfWorld, SelectsBySite, IsRight, Defined, Deleted, IsAbsentNow, IsMade, WorldsFull, IsFull, Spawned, TasksFull, AreTasksFull, Fetched}
 use Rattle.jl_lead.specs.Items.{Begins, next_item, look_of, world_full_of, task_full_of, absent_of, is_absence, IsNoFetch}
 use Rattle.jl_lead.specs.Leads.{GoesOn, HasMade, IsMadeBy, IsOn, led_knows}
 use Rattle.jl_lead.specs.Stretch.{IsStretch, IsLeft}

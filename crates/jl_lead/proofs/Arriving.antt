@@ -17,12 +17,12 @@ use Rattle.jl_calculus.specs.Run.{Question, a_look, a_definition, a_deletion, a_
 use Rattle.jl_calculus.specs.ValidHistory.{IsValidOutcome}
 use Rattle.jl_calculus.specs.World.{changed, world_of}
 use Rattle.jl_calculus.proofs.GrowthLemmas.{changed_append, first_at_most}
-use Rattle.jl_point.specs.declared.point.Work.TheVariants as W
-use Rattle.jl_point.specs.Questions.{IsAnswerTo, GoesOnFrom}
-use Rattle.jl_dispatcher.specs.Knows.{Knows}
-use Rattle.jl_fit.specs.Asks.{Over, Ending, RunsTo, StartsJoin}
-use Rattle.jl_fit.specs.Fits.{AllLearnt, FitsWith, IsRunOf}
-use Rattle.jl_fit.proofs.Traces.{own_more}
+use Rattle.jl_task.specs.declared.point.Work.TheVariants as W
+use Rattle.jl_task.specs.Questions.{IsAnswerTo, GoesOnFrom}
+use Rattle.jl_task.specs.Knows.{Knows}
+use Rattle.jl_task.specs.Asks.{Over, Ending, RunsTo, StartsJoin}
+use Rattle.jl_task.specs.Fits.{AllLearnt, FitsWith, IsRunOf}
+use Rattle.jl_task.proofs.Traces.{own_more}
 use Rattle.jl_machine.specs.declared.task.Machine.{Machine}
 use Rattle.jl_machine.specs.Lent.{work_of}
 use Rattle.jl_machine.specs.Steps.{IsAt, IsEnded, HasEnded, job_with, fuel_of, progress_of}

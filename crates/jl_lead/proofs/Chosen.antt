@@ -8,7 +8,7 @@ use Rattle.jl_calculus.specs.declared.history.Event.{Event}
 use Rattle.jl_calculus.specs.declared.history.TraceItem.{TraceItem}
 use Rattle.jl_calculus.specs.World.{Selects, world_of}
 use Rattle.jl_calculus.proofs.BetweenLemmas.{of_world}
-use Rattle.jl_dispatcher.specs.Knows.{IsOfWorld, IsRight}
+use Rattle.jl_task.specs.Knows.{IsOfWorld, IsRight}
 use Rattle.jl_lead.specs.Leads.{led_knows}
 use Rattle.jl_lead.proofs.Answering.{right}
 

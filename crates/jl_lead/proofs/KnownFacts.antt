@@ -19,10 +19,6 @@ use Rattle.jl_calculus.specs.Past.{EndedSo, done_of, tasks_of}
 use Rattle.jl_calculus.specs.ValidHistory.{IsValidOutcome}
 use Rattle.jl_calculus.specs.World.{changed, changes, change_event, site_in, site_of, world_of, Selects}
 use Rattle.jl_calculus.proofs.GrowthLemmas.{changed_append, changes_append, changes_length, world_more}
-use Rattle.jl_subsig.specs.Standing.{HaveLatest, ChoosesLeft}
-use Rattle.jl_lead.specs.ByFunction.{AreLatest, AreLatestDels}
-use Rattle.jl_lead.proofs.LeftLemmas.{chosen_left}
-use Rattle.jl_lead.proofs.PickLemmas.{latest_for}
 use Rattle.jl_lead.specs.Known.{IsNoted, IsStartAmong, AreSound, IsKnownSo, IsPlain, IsSpawnOf}
 use Rattle.jl_lead.proofs.EndLemmas.{ends_none, ends_same, ends_kept, ends_done}
 use Rattle.jl_lead.proofs.EventFacts.{tasks_append, done_stays, done_later}
@@ -216,14 +212,3 @@ site_here P cs es tasks ends h d low up all same c none is =
     let inside : d - 1 < length cs = omega (arith, low, up, many) in
     let at : get_or cs (d - 1) none ≡ c = subst (λ xs. get_or xs (d - 1) none ≡ c) same is in
     site_is P cs es tasks ends h d c low (slice_get-get_or cs (d - 1) none inside ∙ ap (λ z. Some z) at)
-
--- the choice among the latest definitions of their sites that the latest deletions of their places leave is the choice of the rules
-pub chosen : {E : Type 0} (P : Program) (cs : List Change) (es : List Event) (tasks : ℕ) (ends : List (Option ℕ)) (h : IsKnownSo P cs es tasks ends) (Q : Program) (f w : ℕ) (ts types : List Ty) (defs : List Def) (dels : List Del) → Q ≡ P
-    → AreLatest (defs_from P f 1 (take w cs)) defs → AreLatestDels (dels_from P f 1 (take w cs)) dels → types ≡ ts → (r : Result Choice E)
-    → IfOk r (λ c. (all : List Def) → HaveLatest Q types all defs → ChoosesLeft Q dels types all c) → IfOk r (λ c. Selects P es f ts w c)
-chosen P cs es tasks ends h Q f w ts types defs dels p e g q (Ok c) k =
-    let all : List Def = defs_from P f 1 (take w cs) in
-    let among : ChoosesLeft P dels ts all c = subst (λ xs. ChoosesLeft P dels xs all c) q (subst (λ R. ChoosesLeft R dels types all c) p (k all (latest_for Q types all defs e))) in
-    let made : all ≡ defs_in P es f w = ap (λ xs. defs_from P f 1 (take w xs)) (sym h.changes_are) in
-    chosen_left P es f w dels (subst (λ xs. AreLatestDels (dels_from P f 1 (take w xs)) dels) (sym h.changes_are) g) ts c (subst (λ ds. ChoosesLeft P dels ts ds c) made among)
-chosen P cs es tasks ends h Q f w ts types defs dels p e g q (Err x) k = tt

@@ -6,8 +6,8 @@ use Rattle.jl_calculus.specs.declared.history.TraceItem.{TraceItem}
 use Rattle.jl_calculus.specs.Legal.{start_of}
 use Rattle.jl_calculus.specs.Past.{own_events, own_starts}
 use Rattle.jl_calculus.specs.Run.{Question}
-use Rattle.jl_dispatcher.specs.Knows.{Knows, Claim}
-use Rattle.jl_fit.specs.Asks.{Job, Asks, Tells, Follows, StartsJoin}
+use Rattle.jl_task.specs.Knows.{Knows, Claim}
+use Rattle.jl_task.specs.Asks.{Job, Asks, Tells, Follows, StartsJoin}
 use Rattle.jl_machine.specs.declared.now.LentWork.{LentWork}
 use Rattle.jl_machine.specs.declared.now.LentWork.TheVariants.{Eval, Give, Leave, Acting, Calling, Items, Defining, Pieces, Ended, Lost}
 use Rattle.jl_machine.specs.declared.task.Task.{Task}

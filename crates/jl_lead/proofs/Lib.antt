@@ -1,8 +1,3 @@
-pub mod Slices
-pub mod LatestLemmas
-pub mod FunctionLemmas
-pub mod PickLemmas
-pub mod KeyTypes
 pub mod EventFacts
 pub mod EndLemmas
 pub mod ItemFacts
@@ -13,4 +8,3 @@ pub mod Chosen
 pub mod Leading
 pub mod Arriving
 pub mod Carrying
-pub mod LeftLemmas

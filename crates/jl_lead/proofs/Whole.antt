@@ -17,8 +17,8 @@ use Rattle.jl_calculus.specs.declared.history.TraceItem.TheVariants.{Fetch}
 use Rattle.jl_calculus.specs.Past.{EndedSo, done_of, tasks_of}
 use Rattle.jl_calculus.specs.ValidHistory.{IsValidOutcome}
 use Rattle.jl_calculus.specs.World.{world_of}
-use Rattle.jl_point.proofs.ValueTypes.{nothing_valid}
-use Rattle.jl_dispatcher.specs.Knows.{Knows}
+use Rattle.jl_task.proofs.ValueTypes.{nothing_valid}
+use Rattle.jl_task.specs.Knows.{Knows}
 use Rattle.jl_lead.specs.Answers.{AnswersDefinition, AnswersDeletion, AnswersSpawn, AnswersFetch}
 use Rattle.jl_lead.specs.Items.{next_item, world_full_of, task_full_of, absent_of, is_absence, IsNoFetch}
 use Rattle.jl_lead.specs.Known.{AreSound}

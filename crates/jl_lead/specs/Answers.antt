@@ -11,7 +11,7 @@ use Rattle.jl_calculus.specs.declared.history.Outcome.{Outcome}
 use Rattle.jl_calculus.specs.declared.history.SpawnFault.{SpawnFault}
 use Rattle.jl_calculus.specs.declared.history.SpawnFault.TheVariants as S
 use Rattle.jl_calculus.specs.ValidHistory.{IsValidOutcome}
-use Rattle.jl_dispatcher.specs.Knows.{Knows, Grew, Asked, Refused, Defined, Deleted, IsAbsentNow, IsMade, WorldsFull, IsFull, Spawned, TasksFull, AreTasksFull, Fetched}
+use Rattle.jl_task.specs.Knows.{Knows, Grew, Asked, Refused, Defined, Deleted, IsAbsentNow, IsMade, WorldsFull, IsFull, Spawned, TasksFull, AreTasksFull, Fetched}
 
 -- the answer to a definition of a site
 pub record AnswersDefinition (before now : Knows) (site : ℕ) (result : Result ℕ DefineFault) : Type 0 where

@@ -11,8 +11,8 @@ use Rattle.jl_calculus.specs.declared.history.TraceItem.TheVariants.{Def, Del, S
 use Rattle.jl_calculus.specs.Legal.{start_of}
 use Rattle.jl_calculus.specs.Past.{own_items, own_events, own_starts, tasks_of}
 use Rattle.jl_calculus.specs.Run.{Question, a_definition, a_deletion, a_spawn, setting_of, Run, Comes}
-use Rattle.jl_point.specs.Questions.{IsAnswerTo}
-use Rattle.jl_fit.specs.Asks.{Asks, StartsJoin}
+use Rattle.jl_task.specs.Questions.{IsAnswerTo}
+use Rattle.jl_task.specs.Asks.{Asks, StartsJoin}
 use Rattle.jl_machine.specs.declared.task.Machine.{Machine}
 use Rattle.jl_machine.specs.Steps.{MachineFits, IsLost, IsEnded, job_with, fuel_of, trace_of}
 use Rattle.jl_lead.specs.declared.led.Led.{Led}

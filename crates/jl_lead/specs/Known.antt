@@ -11,7 +11,7 @@ use Rattle.jl_calculus.specs.Past.{done_of, tasks_of}
 use Rattle.jl_calculus.specs.ValidHistory.{IsValidOutcome}
 use Rattle.jl_calculus.specs.ValidStart.{IsValidStart}
 use Rattle.jl_calculus.specs.World.{changes, world_of}
-use Rattle.jl_dispatcher.specs.Worlds.{IsWorld}
+use Rattle.jl_task.specs.Worlds.{IsWorld}
 
 -- a start is a valid one, in a world of the events
 pub record IsStartAmong (P : Program) (es : List Event) (start : Start) : Type 0 where

@@ -8,7 +8,7 @@ use Rattle.jl_calculus.specs.declared.history.TraceItem.{TraceItem}
 use Rattle.jl_calculus.specs.Legal.{start_of, first_place}
 use Rattle.jl_calculus.specs.Past.{IsTrueOf, own_events, own_starts, tasks_of}
 use Rattle.jl_calculus.specs.World.{site_of, world_of}
-use Rattle.jl_dispatcher.specs.Knows.{Knows}
+use Rattle.jl_task.specs.Knows.{Knows}
 use Rattle.jl_lead.specs.Items.{Departs}
 
 -- a list of events that begins with these

@@ -1,5 +1,3 @@
-pub mod ByFunction
-pub mod Picked
 pub mod Items
 pub mod Stretch
 pub mod Known

@@ -21,13 +21,13 @@ use jl_calculus::history::{
     Change, DefineFault, DeleteFault, Event, FetchFault, Outcome, Record, Seen, SpawnFault,
     TraceItem,
 };
-use jl_dispatcher::{Dispatcher, Recall, Recalled};
 use jl_model::limits::{MOST_TASKS, MOST_WORLDS};
 use jl_model::shared::SharedNode;
 use jl_model::ty::{Key, Tys};
 use jl_program::choice::Choice;
 use jl_program::tree::Start;
 use jl_program::value::Value;
+use jl_task::{Dispatcher, Recall, Recalled};
 use std::alloc::{AllocError, Global};
 
 /// A task that is led over the events so far. As long as what it asks is answered by the item that stands next, it is told this item. It

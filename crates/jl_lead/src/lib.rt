@@ -2,8 +2,6 @@
 //! is compared.
 #![tactic(auto)]
 
-mod changes;
-mod choosing;
 pub mod laws;
 pub mod lead;
 pub mod led;

@@ -9,9 +9,8 @@ ghost use Rattle.jl_calculus.specs.World.{Selects, change_event, site_of, world_
 ghost use Rattle.jl_methods.specs.Filters.{IsOfProgram};
 ghost use Rattle.jl_lead.specs.Known.{AreEnds, AreSound, IsNoted, IsStartAmong, IsPlain, IsSpawnOf, IsNoSpawn};
 
-use crate::changes::{Changes, prelude_changes};
-use crate::choosing::choose_for;
 use jl_calculus::history::{Change, Event, Outcome, Record};
+use jl_choosing::{Changes, prelude_changes};
 use jl_model::shared::SharedNode;
 use jl_model::ty::Key;
 use jl_program::choice::Choice;
@@ -186,10 +185,8 @@ impl<'p> Past<'p> {
         requires world { world ≤ world_of self.now.1 }
         ensures { IfOk result (λ c. Selects self.now.0 self.now.1 key.now.function key.now.types world c) }
     {
-        let ready = self.changes.ready();
-        let defs = self.changes.defs_of(key.function, world);
-        let dels = self.changes.dels_of(key.function, world);
-        choose_for(self.alloc, ready, defs, dels, key.types.as_slice())
+        let choice = self.changes.choose(self.alloc, key, world)?;
+        Ok(choice)
     }
 
     /// How a task ended, if it has.

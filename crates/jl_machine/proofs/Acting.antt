@@ -24,15 +24,15 @@ use Rattle.jl_calculus.specs.Operations.{make_tuple, make_written, make_inferred
 use Rattle.jl_calculus.proofs.AnswerLemmas.{tuple_once, inferred_once, written_once, test_once, order_once, same_once}
 use Rattle.jl_operations.specs.Conditions.{IsWrittenIn, IsMadeIn, IsInferredIn}
 use Rattle.jl_frames.specs.Held.{IsOne}
-use Rattle.jl_point.specs.declared.point.Work.TheVariants as W
-use Rattle.jl_point.specs.Operated.{exactly, operation_of}
-use Rattle.jl_point.specs.Point.{value_at}
-use Rattle.jl_point.proofs.AskedLemmas.{acts_of, acting_data, acted_good, call_good, make_asks, isa_asks, sub_asks, infer_asks, static_where, IsWrittenWhere}
-use Rattle.jl_dispatcher.specs.Knows.{Knows}
-use Rattle.jl_fit.specs.Fits.{Fitting}
-use Rattle.jl_fit.proofs.KnownLemmas.{answered_mentions, operated_mentions}
-use Rattle.jl_fit.proofs.Calling.{acting_call, step_acting}
-use Rattle.jl_fit.proofs.Turning.{step_operated}
+use Rattle.jl_task.specs.declared.point.Work.TheVariants as W
+use Rattle.jl_task.specs.Operated.{exactly, operation_of}
+use Rattle.jl_task.specs.Point.{value_at}
+use Rattle.jl_task.proofs.AskedLemmas.{acts_of, acting_data, acted_good, call_good, make_asks, isa_asks, sub_asks, infer_asks, static_where, IsWrittenWhere}
+use Rattle.jl_task.specs.Knows.{Knows}
+use Rattle.jl_task.specs.Fits.{Fitting}
+use Rattle.jl_task.proofs.KnownLemmas.{answered_mentions, operated_mentions}
+use Rattle.jl_task.proofs.Calling.{acting_call, step_acting}
+use Rattle.jl_task.proofs.Turning.{step_operated}
 use Rattle.jl_machine.specs.declared.now.LentNow.{LentNow}
 use Rattle.jl_machine.specs.declared.now.LentWork.{LentWork}
 use Rattle.jl_machine.specs.declared.task.Task.{Task}
@@ -41,7 +41,7 @@ use Rattle.jl_machine.specs.Lent.{now_of, Reaches, after_answer}
 use Rattle.jl_machine.specs.Steps.{progress_of, LentSteps}
 use Rattle.jl_machine.proofs.Stepping.{lent_is, knows_turn}
 use Rattle.jl_calculus.specs.ValidHistory.{IsValidOutcome}
-use Rattle.jl_point.specs.Turns.{answered}
+use Rattle.jl_task.specs.Turns.{answered}
 
 -- ---- what the operations ask
 

@@ -15,7 +15,7 @@ use Rattle.jl_program.specs.declared.tree.Start.{Start}
 use Rattle.jl_program.specs.Meaning.{datum}
 use Rattle.jl_model.specs.declared.ty.Ty.{Ty}
 use Rattle.jl_calculus.specs.ValidStart.{IsValidStart}
-use Rattle.jl_point.proofs.EnteredKept.{spawn_good}
+use Rattle.jl_task.proofs.EnteredKept.{spawn_good}
 use Rattle.jl_program.specs.declared.value.Value.{Value}
 use Rattle.jl_program.specs.declared.value.Value.TheVariants as V
 use Rattle.jl_program.specs.Scope.{View}
@@ -26,24 +26,24 @@ use Rattle.jl_calculus.specs.declared.history.TraceItem.{TraceItem}
 use Rattle.jl_calculus.specs.declared.history.TraceItem.TheVariants.{Look, Def, Del, Spawn, Fetch, WorldFull, TaskFull, Absent}
 use Rattle.jl_calculus.specs.ValidHistory.{IsValidOutcome, IsValidValue}
 use Rattle.jl_frames.specs.Held.{Held, with_open, first_value}
-use Rattle.jl_point.specs.declared.point.Work.{Work}
-use Rattle.jl_point.specs.declared.point.Work.TheVariants as W
-use Rattle.jl_point.specs.declared.point.Now.{Now}
-use Rattle.jl_point.specs.Point.{value_at}
-use Rattle.jl_point.specs.Turns.{Point, answered, looked_item, start_of}
-use Rattle.jl_point.specs.ValidPoint.{Every, IsGoodPoint, AreValidValues}
+use Rattle.jl_task.specs.declared.point.Work.{Work}
+use Rattle.jl_task.specs.declared.point.Work.TheVariants as W
+use Rattle.jl_task.specs.declared.point.Now.{Now}
+use Rattle.jl_task.specs.Point.{value_at}
+use Rattle.jl_task.specs.Turns.{Point, answered, looked_item, start_of}
+use Rattle.jl_task.specs.ValidPoint.{Every, IsGoodPoint, AreValidValues}
 use Rattle.jl_calculus.specs.Core.{in_fault, in_outcome}
 use Rattle.jl_calculus.specs.Run.{deleted_function}
-use Rattle.jl_point.proofs.AskedLemmas.{task_failed_valid, world_limit_valid, task_limit_valid, not_task_valid, no_such_method_valid, delete_there, ended_good, acted_good, acting_values, latest_good}
-use Rattle.jl_point.proofs.ValueTypes.{task_valid, nothing_valid}
-use Rattle.jl_point.proofs.ItemsKept.{item_bind_good, item_do_good, item_define_good, items_end, define_good}
-use Rattle.jl_dispatcher.specs.Knows.{Knows, Grew, Asked, Defined, Deleted, IsAbsentNow, WorldsFull, Spawned, TasksFull, Fetched, IsNotDone}
-use Rattle.jl_fit.specs.Fits.{Fitting, IsKnowing, Steps, fetched_outcome}
-use Rattle.jl_fit.specs.Known.{IsKnown, IsFetchOf, known_tasks, Mentions, AllMention, StackMentions, PointMentions}
-use Rattle.jl_fit.proofs.KnowingSteps.{knows_on, knows_item, spawned_mentions}
-use Rattle.jl_fit.proofs.KnownLemmas.{nothing_mentions, task_mentions, task_is, looked_mentions, ended_mentions}
-use Rattle.jl_fit.proofs.Asking.{step_item, step_latest, step_made, step_worlds_full, step_deleted, step_absent, step_deletion_full, step_spawned, step_tasks_full, step_fetched, step_refused, waits, IsNoTask}
-use Rattle.jl_fit.proofs.Turning.{step_end}
+use Rattle.jl_task.proofs.AskedLemmas.{task_failed_valid, world_limit_valid, task_limit_valid, not_task_valid, no_such_method_valid, delete_there, ended_good, acted_good, acting_values, latest_good}
+use Rattle.jl_task.proofs.ValueTypes.{task_valid, nothing_valid}
+use Rattle.jl_task.proofs.ItemsKept.{item_bind_good, item_do_good, item_define_good, items_end, define_good}
+use Rattle.jl_task.specs.Knows.{Knows, Grew, Asked, Defined, Deleted, IsAbsentNow, WorldsFull, Spawned, TasksFull, Fetched, IsNotDone}
+use Rattle.jl_task.specs.Fits.{Fitting, IsKnowing, Steps, fetched_outcome}
+use Rattle.jl_task.specs.Known.{IsKnown, IsFetchOf, known_tasks, Mentions, AllMention, StackMentions, PointMentions}
+use Rattle.jl_task.proofs.KnowingSteps.{knows_on, knows_item, spawned_mentions}
+use Rattle.jl_task.proofs.KnownLemmas.{nothing_mentions, task_mentions, task_is, looked_mentions, ended_mentions}
+use Rattle.jl_task.proofs.AskingSteps.{step_item, step_latest, step_made, step_worlds_full, step_deleted, step_absent, step_deletion_full, step_spawned, step_tasks_full, step_fetched, step_refused, waits, IsNoTask}
+use Rattle.jl_task.proofs.Turning.{step_end}
 use Rattle.jl_machine.specs.declared.now.LentNow.{LentNow}
 use Rattle.jl_machine.specs.declared.now.LentWork.{LentWork}
 use Rattle.jl_machine.specs.declared.now.LentWork.TheVariants as L

@@ -30,12 +30,12 @@ use Rattle.jl_sig.specs.Readied.{sigs_of}
 use Rattle.jl_match.specs.KeptRow.{AreConcrete}
 use Rattle.jl_match.proofs.ArgumentTypes.{no_arguments}
 use Rattle.jl_match.proofs.ComponentLemmas.{none_of}
-use Rattle.jl_point.specs.declared.point.Work.TheVariants as W
-use Rattle.jl_point.proofs.AskedLemmas.{call_key}
-use Rattle.jl_point.proofs.SelectedLemmas.{IsSelected}
-use Rattle.jl_dispatcher.specs.Knows.{Knows, Asked, IsMethod, IsRight, IsOfSite, variables_of}
-use Rattle.jl_fit.specs.Fits.{Progress, Fitting}
-use Rattle.jl_fit.proofs.Calling.{of_site}
+use Rattle.jl_task.specs.declared.point.Work.TheVariants as W
+use Rattle.jl_task.proofs.AskedLemmas.{call_key}
+use Rattle.jl_task.proofs.SelectedLemmas.{IsSelected}
+use Rattle.jl_task.specs.Knows.{Knows, Asked, IsMethod, IsRight, IsOfSite, variables_of}
+use Rattle.jl_task.specs.Fits.{Progress, Fitting}
+use Rattle.jl_task.proofs.Calling.{of_site}
 use Rattle.jl_machine.specs.Steps.{AppliesAt, variables_at}
 use Rattle.jl_machine.proofs.Stepping.{method_there, site_below, applies_at}
 

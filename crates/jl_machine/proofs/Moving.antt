@@ -3,12 +3,12 @@ use Rattle.std.proofs.Common.{◌≡◌, sym, ◌∙◌, subst, inl, inr, ℕ, �
 use Rattle.jl_program.specs.declared.tree.Expr.{Expr}
 use Rattle.jl_program.specs.declared.tree.Expr.TheVariants as E
 use Rattle.jl_calculus.specs.declared.history.TraceItem.{TraceItem}
-use Rattle.jl_point.specs.declared.point.Work.{Work}
-use Rattle.jl_point.specs.declared.point.Work.TheVariants as W
-use Rattle.jl_point.specs.Weight.{turns_left}
-use Rattle.jl_dispatcher.specs.Knows.{Knows}
-use Rattle.jl_fit.specs.Asks.{Job, Tells}
-use Rattle.jl_fit.specs.Fits.{FitsWith, Fitting, job_of}
+use Rattle.jl_task.specs.declared.point.Work.{Work}
+use Rattle.jl_task.specs.declared.point.Work.TheVariants as W
+use Rattle.jl_task.specs.Weight.{turns_left}
+use Rattle.jl_task.specs.Knows.{Knows}
+use Rattle.jl_task.specs.Asks.{Job, Tells}
+use Rattle.jl_task.specs.Fits.{FitsWith, Fitting, job_of}
 use Rattle.jl_machine.specs.declared.now.LentWork.{LentWork}
 use Rattle.jl_machine.specs.declared.task.Task.{Task}
 use Rattle.jl_machine.specs.Lent.{now_of, work_of, IsSettled}

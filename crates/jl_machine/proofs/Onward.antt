@@ -10,20 +10,20 @@ use Rattle.jl_program.specs.declared.tree.Expr.TheOpen.{Expr-F, Stmt-F}
 use Rattle.jl_program.specs.declared.tree.Expr.TheOpen as F
 use Rattle.jl_program.specs.declared.tree.Program.{Program}
 use Rattle.jl_calculus.specs.Run.{bound_at}
-use Rattle.jl_point.specs.declared.point.Frame.{Frame}
-use Rattle.jl_point.specs.declared.point.Frame.TheVariants.{Args, Testing, AfterStmt, Block, AfterItem, Evaluated, Showing, Body}
-use Rattle.jl_point.specs.declared.point.Work.{Work}
-use Rattle.jl_point.specs.declared.point.Work.TheVariants as W
-use Rattle.jl_point.specs.declared.point.Now.{Now}
-use Rattle.jl_point.specs.Turns.{Point, go_stmts}
-use Rattle.jl_point.specs.Skip.{leaf, by_leaf, skip_layer, skip_taken, skip_given}
-use Rattle.jl_point.proofs.TurnsKept.{stmts_good}
-use Rattle.jl_dispatcher.specs.Knows.{Knows}
-use Rattle.jl_fit.specs.Fits.{Progress, Fitting, Steps}
-use Rattle.jl_fit.specs.Known.{PointMentions}
-use Rattle.jl_fit.proofs.KnownLemmas.{begun_mentions, next_mentions, stmts_mention}
-use Rattle.jl_fit.proofs.Skipping.{step_skip_begun, step_skip_given}
-use Rattle.jl_fit.proofs.Turning.{step_stmts}
+use Rattle.jl_task.specs.declared.point.Frame.{Frame}
+use Rattle.jl_task.specs.declared.point.Frame.TheVariants.{Args, Testing, AfterStmt, Block, AfterItem, Evaluated, Showing, Body}
+use Rattle.jl_task.specs.declared.point.Work.{Work}
+use Rattle.jl_task.specs.declared.point.Work.TheVariants as W
+use Rattle.jl_task.specs.declared.point.Now.{Now}
+use Rattle.jl_task.specs.Turns.{Point, go_stmts}
+use Rattle.jl_task.specs.Skip.{leaf, by_leaf, skip_layer, skip_taken, skip_given}
+use Rattle.jl_task.proofs.TurnsKept.{stmts_good}
+use Rattle.jl_task.specs.Knows.{Knows}
+use Rattle.jl_task.specs.Fits.{Progress, Fitting, Steps}
+use Rattle.jl_task.specs.Known.{PointMentions}
+use Rattle.jl_task.proofs.KnownLemmas.{begun_mentions, next_mentions, stmts_mention}
+use Rattle.jl_task.proofs.Skipping.{step_skip_begun, step_skip_given}
+use Rattle.jl_task.proofs.Turning.{step_stmts}
 use Rattle.jl_machine.specs.Onward.{onward_layer, onward_begun, onward_stmt, onward_given}
 
 -- a step to a point, where each task is mentioned that was mentioned before

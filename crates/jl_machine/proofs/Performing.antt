@@ -8,9 +8,9 @@ use Rattle.jl_program.specs.declared.tree.Site.{Site}
 use Rattle.jl_program.specs.declared.tree.Program.{Program}
 use Rattle.jl_program.specs.TypeOf.{type_of}
 use Rattle.jl_calculus.specs.Run.{operation, code_of, body_of, operates}
-use Rattle.jl_point.specs.declared.point.Now.{Now}
-use Rattle.jl_point.specs.Operated.{performed}
-use Rattle.jl_point.specs.Turns.{answered, entered}
+use Rattle.jl_task.specs.declared.point.Now.{Now}
+use Rattle.jl_task.specs.Operated.{performed}
+use Rattle.jl_task.specs.Turns.{answered, entered}
 use Rattle.jl_machine.specs.declared.now.LentNow.{LentNow}
 use Rattle.jl_machine.specs.declared.now.LentWork.{LentWork}
 use Rattle.jl_machine.specs.Lent.{Reaches}

@@ -16,22 +16,22 @@ use Rattle.jl_calculus.specs.declared.history.Outcome.TheVariants as O
 use Rattle.jl_calculus.specs.Kept.{Keeps}
 use Rattle.jl_calculus.specs.Run.{Body, operation, code, body_of}
 use Rattle.jl_calculus.specs.World.{Selects, site_of}
-use Rattle.jl_point.specs.declared.point.Work.{Work}
-use Rattle.jl_point.specs.declared.point.Work.TheVariants as W
-use Rattle.jl_point.specs.declared.point.Now.{Now}
-use Rattle.jl_point.specs.Operated.{performed}
-use Rattle.jl_point.specs.Turns.{Point, left, go_pieces}
-use Rattle.jl_point.specs.ValidPoint.{IsGoodPoint}
-use Rattle.jl_point.proofs.AskedLemmas.{no_method_valid, ambiguous_valid, fuel_spent_valid, stack_limit_valid, ended_good, call_is, operated_good}
-use Rattle.jl_point.proofs.SelectedLemmas.{IsSelected, selected, selected_good}
-use Rattle.jl_point.proofs.TurnsKept.{left_good, pieces_good}
-use Rattle.jl_dispatcher.specs.Knows.{Knows, Asked, IsRight, IsOfSite, IsMethod, variables_of}
-use Rattle.jl_fit.specs.Fits.{Fitting, IsKnowing, Steps}
-use Rattle.jl_fit.specs.Known.{PointMentions}
-use Rattle.jl_fit.proofs.KnowingSteps.{knows_on}
-use Rattle.jl_fit.proofs.KnownLemmas.{left_mentions, pieces_mention, ended_mentions, performed_mentions}
-use Rattle.jl_fit.proofs.Calling.{step_spent, step_deep, step_none, step_ambiguous, step_method}
-use Rattle.jl_fit.proofs.Turning.{step_left, step_pieces}
+use Rattle.jl_task.specs.declared.point.Work.{Work}
+use Rattle.jl_task.specs.declared.point.Work.TheVariants as W
+use Rattle.jl_task.specs.declared.point.Now.{Now}
+use Rattle.jl_task.specs.Operated.{performed}
+use Rattle.jl_task.specs.Turns.{Point, left, go_pieces}
+use Rattle.jl_task.specs.ValidPoint.{IsGoodPoint}
+use Rattle.jl_task.proofs.AskedLemmas.{no_method_valid, ambiguous_valid, fuel_spent_valid, stack_limit_valid, ended_good, call_is, operated_good}
+use Rattle.jl_task.proofs.SelectedLemmas.{IsSelected, selected, selected_good}
+use Rattle.jl_task.proofs.TurnsKept.{left_good, pieces_good}
+use Rattle.jl_task.specs.Knows.{Knows, Asked, IsRight, IsOfSite, IsMethod, variables_of}
+use Rattle.jl_task.specs.Fits.{Fitting, IsKnowing, Steps}
+use Rattle.jl_task.specs.Known.{PointMentions}
+use Rattle.jl_task.proofs.KnowingSteps.{knows_on}
+use Rattle.jl_task.proofs.KnownLemmas.{left_mentions, pieces_mention, ended_mentions, performed_mentions}
+use Rattle.jl_task.proofs.Calling.{step_spent, step_deep, step_none, step_ambiguous, step_method}
+use Rattle.jl_task.proofs.Turning.{step_left, step_pieces}
 use Rattle.jl_machine.specs.declared.now.LentNow.{LentNow}
 use Rattle.jl_machine.specs.declared.now.LentWork.{LentWork}
 use Rattle.jl_machine.specs.declared.task.Task.{Task}

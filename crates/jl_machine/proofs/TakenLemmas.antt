@@ -36,14 +36,14 @@ use Rattle.jl_program.specs.ValidValue.{IsValueType, is_declared_step, int, trut
 use Rattle.jl_program.specs.ValidValue as values
 use Rattle.jl_calculus.specs.Run.{number_of}
 use Rattle.jl_host.specs.Replies.{IsTruth, AreShown, shown_by, IsShown}
-use Rattle.jl_point.specs.declared.point.Work.TheVariants as W
+use Rattle.jl_task.specs.declared.point.Work.TheVariants as W
 use Rattle.jl_calculus.specs.ValidHistory.{IsValidValue}
-use Rattle.jl_point.specs.ValidPoint.{AreValidValues}
-use Rattle.jl_point.proofs.AskedLemmas.{call_is}
-use Rattle.jl_point.proofs.SelectedLemmas.{IsSelected}
-use Rattle.jl_point.proofs.ValueTypes.{type_is_value_type}
-use Rattle.jl_dispatcher.specs.Knows.{Knows, IsMethod}
-use Rattle.jl_fit.specs.Fits.{Fitting, Progress}
+use Rattle.jl_task.specs.ValidPoint.{AreValidValues}
+use Rattle.jl_task.proofs.AskedLemmas.{call_is}
+use Rattle.jl_task.proofs.SelectedLemmas.{IsSelected}
+use Rattle.jl_task.proofs.ValueTypes.{type_is_value_type}
+use Rattle.jl_task.specs.Knows.{Knows, IsMethod}
+use Rattle.jl_task.specs.Fits.{Fitting, Progress}
 use Rattle.jl_machine.specs.Taken.{AreOfShape, taken_by, IsTakenBy, MayPerform}
 use Rattle.jl_machine.proofs.Stepping.{method_there}
 

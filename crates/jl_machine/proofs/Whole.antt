@@ -17,24 +17,24 @@ use Rattle.jl_calculus.specs.declared.history.Outcome.{Outcome}
 use Rattle.jl_calculus.specs.declared.history.Record.{Record}
 use Rattle.jl_calculus.specs.declared.history.TraceItem.{TraceItem}
 use Rattle.jl_calculus.specs.Run.{setting_of, Run}
-use Rattle.jl_point.specs.declared.point.Work.{Work}
-use Rattle.jl_point.specs.declared.point.Work.TheVariants as W
-use Rattle.jl_point.specs.declared.point.Now.{Now}
-use Rattle.jl_point.specs.ValidPoint.{IsGoodPoint}
-use Rattle.jl_point.specs.Weight.{turns_left}
-use Rattle.jl_point.specs.Worlds.{IsWithin}
-use Rattle.jl_point.proofs.AskedLemmas.{never_lost}
-use Rattle.jl_point.specs.Size.{program_size}
-use Rattle.jl_point.proofs.SizeLemmas.{root_few, task_few}
-use Rattle.jl_point.proofs.EnteredKept.{root_good, task_good}
-use Rattle.jl_dispatcher.specs.Knows.{Knows, Refused}
-use Rattle.jl_fit.specs.Asks.{Job, Over, Ending, RunsTo, FinishesTo, Tells}
-use Rattle.jl_fit.specs.Fits.{Progress, FitsWith, IsKnowing, Fitting, IsFresh, IsRunOf, job_of}
-use Rattle.jl_fit.specs.Known.{IsKnown, AreFetchesKnown, AllMention, PointMentions}
-use Rattle.jl_fit.proofs.KnownLemmas.{nothing_mentions}
-use Rattle.jl_fit.proofs.KnowingSteps.{knows_on, begins_known}
-use Rattle.jl_fit.proofs.Fitting.{grown}
-use Rattle.jl_fit.proofs.Traces.{append_nil}
+use Rattle.jl_task.specs.declared.point.Work.{Work}
+use Rattle.jl_task.specs.declared.point.Work.TheVariants as W
+use Rattle.jl_task.specs.declared.point.Now.{Now}
+use Rattle.jl_task.specs.ValidPoint.{IsGoodPoint}
+use Rattle.jl_task.specs.Weight.{turns_left}
+use Rattle.jl_task.specs.Worlds.{IsWithin}
+use Rattle.jl_task.proofs.AskedLemmas.{never_lost}
+use Rattle.jl_task.specs.Size.{program_size}
+use Rattle.jl_task.proofs.SizeLemmas.{root_few, task_few}
+use Rattle.jl_task.proofs.EnteredKept.{root_good, task_good}
+use Rattle.jl_task.specs.Knows.{Knows, Refused}
+use Rattle.jl_task.specs.Asks.{Job, Over, Ending, RunsTo, FinishesTo, Tells}
+use Rattle.jl_task.specs.Fits.{Progress, FitsWith, IsKnowing, Fitting, IsFresh, IsRunOf, job_of}
+use Rattle.jl_task.specs.Known.{IsKnown, AreFetchesKnown, AllMention, PointMentions}
+use Rattle.jl_task.proofs.KnownLemmas.{nothing_mentions}
+use Rattle.jl_task.proofs.KnowingSteps.{knows_on, begins_known}
+use Rattle.jl_task.proofs.Fitting.{grown}
+use Rattle.jl_task.proofs.Traces.{append_nil}
 use Rattle.jl_machine.specs.declared.now.LentWork.{LentWork}
 use Rattle.jl_machine.specs.declared.now.LentWork.TheVariants.{Eval, Give, Leave, Acting, Calling, Items, Defining, Pieces, Ended, Lost}
 use Rattle.jl_machine.specs.declared.task.Task.{Task}

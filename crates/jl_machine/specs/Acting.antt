@@ -10,9 +10,9 @@ use Rattle.jl_program.specs.declared.tree.Stmt.{Stmt}
 use Rattle.jl_program.specs.declared.tree.Program.{Program}
 use Rattle.jl_program.specs.declared.value.Value.{Value}
 use Rattle.jl_program.specs.Valid.{IsValid}
-use Rattle.jl_point.specs.declared.point.Now.{Now}
-use Rattle.jl_point.specs.declared.point.Work.TheVariants.{Acting}
-use Rattle.jl_point.specs.ValidPoint.{IsGoodPoint}
+use Rattle.jl_task.specs.declared.point.Now.{Now}
+use Rattle.jl_task.specs.declared.point.Work.TheVariants.{Acting}
+use Rattle.jl_task.specs.ValidPoint.{IsGoodPoint}
 
 -- a form that asks nobody
 abbrev pub IsOperation : Expr-F Expr Item Piece Stmt → Type 0

@@ -1,10 +1,10 @@
 -- What a machine over a lent program stands for: a point of the calculus.
 use Rattle.std.specs.Prelude.{◌≡◌, [], Bool, true, false}
 use Rattle.jl_program.specs.declared.value.Value.{Value}
-use Rattle.jl_point.specs.declared.point.Work.{Work}
-use Rattle.jl_point.specs.declared.point.Work.TheVariants as W
-use Rattle.jl_point.specs.declared.point.Now.{Now}
-use Rattle.jl_point.specs.Turns.{Point}
+use Rattle.jl_task.specs.declared.point.Work.{Work}
+use Rattle.jl_task.specs.declared.point.Work.TheVariants as W
+use Rattle.jl_task.specs.declared.point.Now.{Now}
+use Rattle.jl_task.specs.Turns.{Point}
 use Rattle.jl_frames.specs.Held.{Held, first_value, IsOne}
 use Rattle.jl_machine.specs.declared.now.LentNow.{LentNow}
 use Rattle.jl_machine.specs.declared.now.LentWork.{LentWork}

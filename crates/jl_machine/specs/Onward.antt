@@ -11,12 +11,12 @@ use Rattle.jl_program.specs.declared.tree.Expr.TheOpen as F
 use Rattle.jl_program.specs.declared.tree.Program.{Program}
 use Rattle.jl_calculus.specs.declared.history.Outcome.TheVariants as O
 use Rattle.jl_calculus.specs.Run.{bound_at}
-use Rattle.jl_point.specs.declared.point.Frame.{Frame}
-use Rattle.jl_point.specs.declared.point.Frame.TheVariants.{Args, Testing, AfterStmt, Block, AfterItem, Evaluated, Showing, Body}
-use Rattle.jl_point.specs.declared.point.Work.TheVariants.{Give, Leave, Ended}
-use Rattle.jl_point.specs.declared.point.Now.{Now}
-use Rattle.jl_point.specs.Turns.{Point, go_stmts}
-use Rattle.jl_point.specs.Skip.{leaf, by_leaf, skip_layer, skip_taken}
+use Rattle.jl_task.specs.declared.point.Frame.{Frame}
+use Rattle.jl_task.specs.declared.point.Frame.TheVariants.{Args, Testing, AfterStmt, Block, AfterItem, Evaluated, Showing, Body}
+use Rattle.jl_task.specs.declared.point.Work.TheVariants.{Give, Leave, Ended}
+use Rattle.jl_task.specs.declared.point.Now.{Now}
+use Rattle.jl_task.specs.Turns.{Point, go_stmts}
+use Rattle.jl_task.specs.Skip.{leaf, by_leaf, skip_layer, skip_taken}
 
 -- a block is begun with its first statement
 abbrev pub onward_layer : Expr → Expr-F Expr Item Piece Stmt → Now → Point

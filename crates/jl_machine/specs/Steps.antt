@@ -20,15 +20,15 @@ use Rattle.jl_calculus.specs.declared.history.TraceItem.TheVariants.{Look}
 use Rattle.jl_calculus.specs.Run.{open_calls}
 use Rattle.jl_calculus.specs.ValidStart.{IsValidStart}
 use Rattle.jl_frames.specs.Held.{Held}
-use Rattle.jl_point.specs.declared.point.Work.{Work}
-use Rattle.jl_point.specs.declared.point.Work.TheVariants as W
-use Rattle.jl_point.specs.declared.point.Now.{Now}
-use Rattle.jl_point.specs.Weight.{turns_left}
-use Rattle.jl_dispatcher.specs.Knows.{Knows, Looked, Refused, IsNotDone}
-use Rattle.jl_dispatcher.specs.Worlds.{IsWorld}
-use Rattle.jl_fit.specs.Asks.{Job}
-use Rattle.jl_fit.specs.Fits.{Progress, FitsWith, IsKnowing, Steps, Waits, IsFresh, IsRunOf}
-use Rattle.jl_fit.specs.Known.{IsKnown, AreFetchesKnown}
+use Rattle.jl_task.specs.declared.point.Work.{Work}
+use Rattle.jl_task.specs.declared.point.Work.TheVariants as W
+use Rattle.jl_task.specs.declared.point.Now.{Now}
+use Rattle.jl_task.specs.Weight.{turns_left}
+use Rattle.jl_task.specs.Knows.{Knows, Looked, Refused, IsNotDone}
+use Rattle.jl_task.specs.Worlds.{IsWorld}
+use Rattle.jl_task.specs.Asks.{Job}
+use Rattle.jl_task.specs.Fits.{Progress, FitsWith, IsKnowing, Steps, Waits, IsFresh, IsRunOf}
+use Rattle.jl_task.specs.Known.{IsKnown, AreFetchesKnown}
 use Rattle.jl_machine.specs.declared.now.LentWork.{LentWork}
 use Rattle.jl_machine.specs.declared.now.LentWork.TheVariants.{Eval, Give, Leave, Acting, Calling, Items, Defining, Pieces, Ended, Lost}
 use Rattle.jl_machine.specs.declared.task.Task.{Task}

@@ -4,8 +4,8 @@ ghost use Rattle.std.specs.Prelude.{◌≡◌, ◌<◌, IfOk, length};
 ghost use Rattle.jl_program.specs.declared.tree.Expr.{out-Expr};
 ghost use Rattle.jl_program.specs.Scope.{all_types};
 ghost use Rattle.jl_calculus.specs.ValidHistory.{IsValidOutcome};
-ghost use Rattle.jl_point.specs.Operated.{operation_of};
-ghost use Rattle.jl_point.specs.Point.{value_at};
+ghost use Rattle.jl_task.specs.Operated.{operation_of};
+ghost use Rattle.jl_task.specs.Point.{value_at};
 ghost use Rattle.jl_machine.specs.Acting.{MayAct, IsOperation};
 
 use jl_calculus::history::Outcome;

@@ -3,19 +3,19 @@
 
 ghost use Rattle.std.specs.Prelude.{◌≡◌, [], IfOk};
 ghost use Rattle.jl_program.specs.Scope.{all_types};
-ghost use Rattle.jl_point.specs.declared.point.Work.TheVariants as W;
-ghost use Rattle.jl_fit.specs.Fits.{Fitting};
+ghost use Rattle.jl_task.specs.declared.point.Work.TheVariants as W;
+ghost use Rattle.jl_task.specs.Fits.{Fitting};
 ghost use Rattle.jl_machine.specs.Lent.{work_of, IsSettled};
 ghost use Rattle.jl_machine.specs.Steps.{progress_of, MayMove, GoesOn};
 
 use crate::now::LentWork;
 use crate::task::Task;
 use crate::turns;
-use jl_dispatcher::Recall;
 use jl_host::HostOps;
 use jl_operations::Memo;
 use jl_program::tree::Expr;
 use jl_sig::Ready;
+use jl_task::Recall;
 use std::alloc::AllocError;
 
 impl<'p> Task<'p> {

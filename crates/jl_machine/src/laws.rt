@@ -3,7 +3,7 @@
 
 ghost use Rattle.jl_machine.specs.Steps.{RootFits, TaskFits, LostFits, GrownFits, EndedRuns};
 
-use jl_dispatcher::Dispatcher;
+use jl_task::Dispatcher;
 
 /// A new machine fits each dispatcher of its program, and of its start, that has done nothing for its task yet.
 pub fn law_new_machine<D: Dispatcher>(with: &D)

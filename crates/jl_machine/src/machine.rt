@@ -2,14 +2,13 @@
 
 ghost use Rattle.std.specs.Prelude.{◌≡◌, ◌<◌, ◌≤◌, ◌+◌, ◌*◌, ◌++◌, IfOk, OnOk, OnErr, IsErr, length};
 ghost use Rattle.jl_frames.specs.Held.{with_open};
-ghost use Rattle.jl_fit.specs.Asks.{Tells, Follows};
-ghost use Rattle.jl_point.specs.Size.{program_size};
+ghost use Rattle.jl_task.specs.Asks.{Tells, Follows};
+ghost use Rattle.jl_task.specs.Size.{program_size};
 ghost use Rattle.jl_machine.specs.Steps.{fuel_of, trace_of, turns_of, job_with, MachineFits, TurnSays, WaitsRightly, KnowsTasks, IsLost, IsEnded, IsNewRoot, IsNewTask, HasEnded, IsRecordOf, IsFirst};
 
 use crate::now::{LentNow, LentWork};
 use crate::task::{Machine, Next, Task, Turn};
 use jl_calculus::history::{Outcome, Record};
-use jl_dispatcher::Recall;
 use jl_frames::Frames;
 use jl_host::HostOps;
 use jl_model::limits::MOST_OPEN_CALLS;
@@ -20,6 +19,7 @@ use jl_program::prelude::FIRST_WORLD;
 use jl_program::tree::Start;
 use jl_program::value::Value;
 use jl_sig::Ready;
+use jl_task::Recall;
 use std::alloc::{AllocError, Global};
 
 impl<'p> Task<'p> {

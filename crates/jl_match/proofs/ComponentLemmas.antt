@@ -62,6 +62,9 @@ each_open : (ts : List Ty) → Each (λ t. is_argument t ≡ true → IsOpen t) 
 each_open [] = tt
 each_open (t ∷ ts) = (is_open t, each_open ts)
 
+pub open_args : (ts : List Ty) → list_all is_argument ts ≡ true → AreOpen ts
+open_args ts h = opens ts (each_open ts) h
+
 all_components : (ts : List Ty) → Each (λ t. is_component t ≡ true → IsComponent t) ts → list_all is_component ts ≡ true → AreComponents ts
 all_components [] e h = components_end
 all_components (t ∷ ts) e h =
@@ -72,7 +75,7 @@ component_of = by_cases (λ t. is_component t ≡ true → IsComponent t) (recor
   any = λ h. any W.Any outs-Any;
   union = λ ts e h. union (V.Union ts) ts (outs-Union ts) (all_components ts e (sym (component-union ts) ∙ h));
   tuple = λ ts e h. tuple (V.Tuple ts) ts (outs-Tuple ts) (all_components ts e (sym (component-tuple ts) ∙ h));
-  nominal = λ k ts e h. nominal (V.Nominal k ts) k ts (outs-Nominal k ts) (opens ts (each_open ts) (sym (component-nominal k ts) ∙ h));
+  nominal = λ k ts e h. nominal (V.Nominal k ts) k ts (outs-Nominal k ts) (open_args ts (sym (component-nominal k ts) ∙ h));
   var = λ v h. alone (W.Var v) v (outs-Var v);
 })
 

@@ -1,5 +1,5 @@
 -- The kinds of the variables at the places of a component.
-use Rattle.std.proofs.Common.{◌≡◌, ◌∙◌, sym, ap, subst, refl, ℕ, ◌+◌, ◌<◌, ◌≤◌, arith, Bool, true, false, cond, nat_eq, eqb-true, nat_lt, List, [], ◌∷◌, map, inl, inr}
+use Rattle.std.proofs.Common.{◌≡◌, ◌∙◌, sym, ap, subst, refl, ℕ, zero, suc, ◌+◌, ◌<◌, ◌≤◌, arith, Bool, true, false, cond, nat_eq, eqb-true, nat_lt, List, [], ◌∷◌, ◌++◌, map, get_or, inl, inr}
 use Rattle.std.specs.List.{flat_map, list_all}
 use Rattle.jl_model.specs.declared.ty.Ty.{Ty}
 use Rattle.jl_model.specs.declared.ty.Ty.TheOpen.{Any, Union, Tuple, Nominal, Var}
@@ -7,17 +7,24 @@ use Rattle.jl_model.specs.declared.ty.Ty.TheViews.{out-Ty, rolls-Any, rolls-Unio
 use Rattle.jl_model.specs.declared.ty.Ty.TheViews as V
 use Rattle.jl_model.specs.declared.ty.Ty.TheVariants as W
 use Rattle.jl_model.specs.declared.ty.Ty.TheFolds.{fold-roll-Ty}
+use Rattle.jl_model.specs.declared.ty.Bound.{Bound}
 use Rattle.jl_model.specs.declared.ty.Written.{Written}
-use Rattle.jl_model.specs.Kinds.{Places, places, places_step, plus_all, below_nominal, kind_of, bound, unused}
-use Rattle.jl_model.specs.Rows.{width, kind, vars_in}
+use Rattle.jl_model.specs.Kinds.{Places, Kind, places, places_step, plus, plus_all, below_nominal, kind_of, bound, unused}
+use Rattle.jl_model.specs.Rows.{free, width, high, kind, part_places, bound_places, vars_in}
+use Rattle.jl_model.specs.Refusals.{bound_types}
 use Rattle.jl_model.proofs.TypeInduction.{Each, by_cases}
 use Rattle.jl_model.proofs.FormLemmas.{is_union, is_tuple, is_nominal, is_var, vars-any, vars-union, vars-tuple, vars-nominal, vars-var}
 use Rattle.jl_model.proofs.PutLemmas.{and_l, and_r}
-use Rattle.jl_match.specs.KeptRow.{IsComponent, AreComponents, any, variable, union, tuple, nominal, components_end, components_more}
+use Rattle.jl_sig.specs.Prepared.{HasOwnVariables}
+use Rattle.jl_sig.proofs.OwnLemmas.{own_bounds, own_parts}
+use Rattle.jl_match.specs.KeptRow.{IsComponent, AreComponents, any, variable, union, tuple, nominal, components_end, components_more, with_bounds}
 use Rattle.jl_search.specs.Open.{EachVar, AreOpen}
 use Rattle.jl_match.proofs.ListLemmas.{In, in_left, in_right, in_either, each_of}
 
 -- equations
+pub places-any : (v : ℕ) → places v W.Any ≡ record { covariant = 0; invariant = 0 }
+places-any v = ap (places v) (sym rolls-Any) ∙ fold-roll-Ty Places (places_step v) Any
+
 pub places-union : (v : ℕ) (ts : List Ty) → places v (V.Union ts) ≡ plus_all (map (places v) ts)
 places-union v ts = ap (places v) (sym (rolls-Union ts)) ∙ fold-roll-Ty Places (places_step v) (Union ts)
 
@@ -67,6 +74,86 @@ module _ (v : ℕ) where
 
   pub below_nominal_place : (k : ℕ) (ts : List Ty) → In v (flat_map vars_in ts) → 0 < (places v (V.Nominal k ts)).invariant
   below_nominal_place k ts i = omega (arith, count_all ts (each_counted ts) i, ap (λ p. p.invariant) (places-nominal v k ts))
+
+abbrev one_if : Bool → ℕ
+one_if true = 1
+one_if false = 0
+
+-- how often a number stands among some
+abbrev pub count : ℕ → List ℕ → ℕ
+count v [] = 0
+count v (n ∷ ns) = one_if (nat_eq v n) + count v ns
+
+count_append : (v : ℕ) (ms ns : List ℕ) → count v (ms ++ ns) ≡ count v ms + count v ns
+count_append v [] ns = omega arith
+count_append v (m ∷ ms) ns = let h = count_append v ms ns in omega (arith, h)
+
+in_count : (v : ℕ) (ns : List ℕ) → In v ns → 0 < count v ns
+in_count v [] i = absurd i
+in_count v (n ∷ ns) (inl e) =
+    let h : nat_eq v n ≡ true = grind (arith, e) in
+    let c = ap one_if h in
+    omega (arith, c)
+in_count v (n ∷ ns) (inr i) = let h = in_count v ns i in omega (arith, h)
+
+count_none : (v : ℕ) (ns : List ℕ) → (In v ns → ⊥) → count v ns ≡ 0
+count_none v [] h = refl
+count_none v (n ∷ ns) h = let c = off (nat_eq v n) refl in let r = count_none v ns (λ i. h (inr i)) in omega (arith, c, r)
+  where
+    off : (b : Bool) → nat_eq v n ≡ b → one_if (nat_eq v n) ≡ 0
+    off true e = absurd (h (inl (eqb-true v n e)))
+    off false e = ap one_if e
+
+-- a variable has as many places in a type as it stands there
+module _ (v : ℕ) where
+  abbrev Sized : Ty → Type 0
+  Sized t = size (places v t) ≡ count v (vars_in t)
+
+  sizes : (ts : List Ty) → Each Sized ts → size (plus_all (map (places v) ts)) ≡ count v (flat_map vars_in ts)
+  sizes [] e = refl
+  sizes (t ∷ ts) e = let a = e.0 in let b = sizes ts e.1 in let c = count_append v (vars_in t) (flat_map vars_in ts) in omega (arith, a, b, c)
+
+  one_size : (b : Bool) → size (cond b (record { covariant = 1; invariant = 0 }) (record { covariant = 0; invariant = 0 })) ≡ one_if b + 0
+  one_size true = refl
+  one_size false = refl
+
+  sized : (t : Ty) → Sized t
+  sized = by_cases Sized (record {
+    any = ap size (places-any v) ∙ sym (ap (count v) vars-any);
+    union = λ ts e. ap size (places-union v ts) ∙ sizes ts e ∙ sym (ap (count v) (vars-union ts));
+    tuple = λ ts e. ap size (places-tuple v ts) ∙ sizes ts e ∙ sym (ap (count v) (vars-tuple ts));
+    nominal = λ k ts e. (let a = sizes ts e in let p = ap size (places-nominal v k ts) in let q = ap (count v) (vars-nominal k ts) in omega (arith, a, p, q));
+    var = λ w. ap size (places-var v w) ∙ one_size (nat_eq v w) ∙ sym (ap (count v) (vars-var w));
+  })
+
+  each_sized : (ts : List Ty) → Each Sized ts
+  each_sized [] = tt
+  each_sized (t ∷ ts) = (sized t, each_sized ts)
+
+  bounds_size : (bs : List Bound) → size (bound_places v bs) ≡ count v (flat_map vars_in (bound_types bs))
+  bounds_size [] = refl
+  bounds_size (b ∷ bs) =
+      let a = sized b.low in
+      let c = sized b.high in
+      let r = bounds_size bs in
+      let p = count_append v (vars_in b.low) (vars_in b.high ++ flat_map vars_in (bound_types bs)) in
+      let q = count_append v (vars_in b.high) (flat_map vars_in (bound_types bs)) in
+      omega (arith, a, c, r, p, q)
+
+  high_in : (w : ℕ) (bs : List Bound) → In v (vars_in (get_or bs w free).high) → In v (flat_map vars_in (bound_types bs))
+  high_in zero [] i = subst (In v) vars-any i
+  high_in (suc w) [] i = subst (In v) vars-any i
+  high_in zero (b ∷ bs) i = in_right v (vars_in b.low) (vars_in b.high ++ flat_map vars_in (bound_types bs)) (in_left v (vars_in b.high) (flat_map vars_in (bound_types bs)) i)
+  high_in (suc w) (b ∷ bs) i =
+      in_right v (vars_in b.low) (vars_in b.high ++ flat_map vars_in (bound_types bs)) (in_right v (vars_in b.high) (flat_map vars_in (bound_types bs)) (high_in w bs i))
+
+-- the kind where the components have the places p, and the bounds so many
+abbrev kind_with : Places → ℕ → Kind
+kind_with p i = kind_of (plus p (record { covariant = 0; invariant = i }))
+
+-- bounds with the same variables give the same kinds
+pub same_kind : (s : Written) (bs : List Bound) → flat_map vars_in (bound_types bs) ≡ flat_map vars_in (bound_types s.vars) → (v : ℕ) → kind (with_bounds s bs) v ≡ kind s v
+same_kind s bs e v = ap (kind_with (part_places s v)) (bounds_size v bs ∙ ap (count v) e ∙ sym (bounds_size v s.vars))
 
 module _ (s : Written) where
   -- a variable of the signature with an invariant place
@@ -131,8 +218,18 @@ module _ (s : Written) where
   bound_kind : (p : Places) → 0 < p.invariant → kind_of p ≡ bound
   bound_kind p l = let e : nat_eq p.invariant 0 ≡ false = grind (arith, l) in rw e refl
 
+  abbrev all_places : ℕ → Places
+  all_places v = plus (part_places s v) (below_nominal (bound_places v s.vars))
+
   pub comps : list_all (λ v. nat_lt v (width s)) (flat_map vars_in s.parts) ≡ true → AreComponents s.parts → Comps s.parts
-  comps own placed = comps_of s.parts placed (record { low = low_in (flat_map vars_in s.parts) own; inner = λ v l. bound_kind (plus_all (map (places v) s.parts)) l })
+  comps own placed = comps_of s.parts placed (record { low = low_in (flat_map vars_in s.parts) own; inner = λ v l. bound_kind (all_places v) (omega (arith, l)) })
+
+  -- a variable in an upper bound is bound
+  pub bound_in : (v w : ℕ) → In v (vars_in (high s w)) → kind s v ≡ bound
+  bound_in v w i =
+      let a = in_count v (flat_map vars_in (bound_types s.vars)) (high_in v w s.vars i) in
+      let b = bounds_size v s.vars in
+      bound_kind (all_places v) (omega (arith, a, b))
 
   -- a variable past the own ones has no place
   abbrev pub Lacking : ℕ → Ty → Type 0
@@ -154,7 +251,7 @@ module _ (s : Written) where
 
   pub lacking : (v : ℕ) (t : Ty) → Lacking v t
   lacking v = by_cases (Lacking v) (record {
-    any = λ h. ap size (ap (places v) (sym rolls-Any) ∙ fold-roll-Ty Places (places_step v) Any);
+    any = λ h. ap size (places-any v);
     union = λ ts e h. ap size (places-union v ts) ∙ lack_all v ts e (λ i. h (subst (In v) (sym (vars-union ts)) i));
     tuple = λ ts e h. ap size (places-tuple v ts) ∙ lack_all v ts e (λ i. h (subst (In v) (sym (vars-tuple ts)) i));
     nominal = λ k ts e h. omega (arith, lack_all v ts e (λ i. h (subst (In v) (sym (vars-nominal k ts)) i)), ap size (places-nominal v k ts));
@@ -171,7 +268,8 @@ module _ (s : Written) where
       let b : nat_eq p.covariant 0 ≡ true = grind (arith, e) in
       rw (a, b) refl
 
-  pub own_only : list_all (λ v. nat_lt v (width s)) (flat_map vars_in s.parts) ≡ true → (v : ℕ) → width s ≤ v → kind s v ≡ unused
+  pub own_only : HasOwnVariables s → (v : ℕ) → width s ≤ v → kind s v ≡ unused
   own_only own v l =
-      no_kind (plus_all (map (places v) s.parts))
-      (lack_all v s.parts (each_lacking v s.parts) (λ i. let h = low_in (flat_map vars_in s.parts) own v i in omega arith))
+      let a = sizes v s.parts (each_sized v s.parts) ∙ count_none v (flat_map vars_in s.parts) (λ i. (let h = low_in (flat_map vars_in s.parts) (own_parts s own) v i in omega (arith, h, l))) in
+      let b = bounds_size v s.vars ∙ count_none v (flat_map vars_in (bound_types s.vars)) (λ i. (let h = low_in (flat_map vars_in (bound_types s.vars)) (own_bounds s own) v i in omega (arith, h, l))) in
+      no_kind (all_places v) (omega (arith, a, b))

@@ -8,7 +8,11 @@ pub mod ConcreteLemmas
 pub mod FitLemmas
 pub mod RowLemmas
 pub mod KnownLemmas
+pub mod TopLemmas
 pub mod PlainLemmas
+pub mod FoundLemmas
+pub mod HitSteps
+pub mod ValueSteps
 pub mod TestLemmas
 pub mod ServeLemmas
 pub mod SubstLemmas

@@ -1,10 +1,9 @@
 -- From the bounds and arguments in normal form to those that are written.
-use Rattle.std.proofs.Common.{◌≡◌, ◌∙◌, sym, ap, subst, refl, ℕ, zero, suc, ◌+◌, ◌<◌, arith, true, false, IsTrue, List, [], ◌∷◌}
+use Rattle.std.proofs.Common.{◌≡◌, ◌∙◌, sym, ap, subst, zero, suc, arith, true, false, IsTrue, List, [], ◌∷◌}
 use Rattle.std.specs.List.{Contains}
 use Rattle.jl_model.specs.declared.ty.Ty.{Ty}
 use Rattle.jl_model.specs.declared.ty.Bound.{Bound as VarBound}
 use Rattle.jl_model.specs.declared.ty.Decl.{Decl}
-use Rattle.jl_model.specs.declared.ty.Written.{Written}
 use Rattle.jl_model.specs.Ancestors.{table_of}
 use Rattle.jl_model.specs.Signature.{Both, both_more}
 use Rattle.jl_model.specs.Subtype.{Table, opaque, Below}
@@ -16,7 +15,7 @@ use Rattle.jl_model.proofs.TransLemmas.{below_trans}
 use Rattle.jl_types.specs.Ground.{IsGround}
 use Rattle.jl_sig.specs.declared.arguments.Argument.{Argument}
 use Rattle.jl_sig.specs.Parts.{given, all_given}
-use Rattle.jl_sig.specs.Forms.{IsSmallForm, AreFormed, formed_end, formed_open, formed_closed, HasCrossed, AllGround, HasOutside, declared_bound}
+use Rattle.jl_sig.specs.Forms.{IsSmallForm, IsBoundForm, AreFormed, formed_end, formed_open, formed_closed, HasCrossed, AllGround, HasOutside, declared_bound}
 use Rattle.jl_sig.proofs.SearchLemmas.{some_first, some_cons}
 
 module _ (ds : List Decl) (declared : Declared ds) where
@@ -26,7 +25,7 @@ module _ (ds : List Decl) (declared : Declared ds) where
   law : Lawful n
   law = declared_lawful ds declared
 
-  pub forms_ground : (bs cs : List VarBound) → Both (IsSmallForm ds) (bound_types bs) (bound_types cs) → AllGround ds cs
+  pub forms_ground : (bs cs : List VarBound) → Both (IsBoundForm ds) (bound_types bs) (bound_types cs) → AllGround ds cs
   forms_ground [] [] h = tt
   forms_ground [] (c ∷ cs) h = elim h [ ]
   forms_ground (b ∷ bs) [] h = elim h [ ]
@@ -36,20 +35,20 @@ module _ (ds : List Decl) (declared : Declared ds) where
   abbrev Crossed : VarBound → Type 0
   Crossed b = Below n opaque b.low b.high → ⊥
 
-  cross_there : (b c : VarBound) → IsSmallForm ds b.low c.low → IsSmallForm ds b.high c.high → Crossed b → Crossed c
+  cross_there : (b c : VarBound) → IsBoundForm ds b.low c.low → IsBoundForm ds b.high c.high → Crossed b → Crossed c
   cross_there b c p q h s = h (below_trans n law b.low c.low b.high p.form.equal.0 (below_trans n law c.low c.high b.high s q.form.equal.1))
 
-  cross_back : (b c : VarBound) → IsSmallForm ds b.low c.low → IsSmallForm ds b.high c.high → Crossed c → Crossed b
+  cross_back : (b c : VarBound) → IsBoundForm ds b.low c.low → IsBoundForm ds b.high c.high → Crossed c → Crossed b
   cross_back b c p q h s = h (below_trans n law c.low b.low c.high p.form.equal.1 (below_trans n law b.low b.high c.high s q.form.equal.0))
 
-  pub crossed_kept : (bs cs : List VarBound) → Both (IsSmallForm ds) (bound_types bs) (bound_types cs) → (b : VarBound) × Contains bs b × Crossed b → HasCrossed ds cs
+  pub crossed_kept : (bs cs : List VarBound) → Both (IsBoundForm ds) (bound_types bs) (bound_types cs) → (b : VarBound) × Contains bs b × Crossed b → HasCrossed ds cs
   crossed_kept [] cs h (b, (i, l, e), x) = absurd (omega (arith, l))
   crossed_kept (b ∷ bs) [] h c = elim h [ ]
   crossed_kept (b ∷ bs) (c ∷ cs) (both_more t u vs ws p (both_more x y xs ys q r)) (a, (zero, l, e), k) =
       some_first Crossed c cs (cross_there b c p q (subst Crossed (sym e) k))
   crossed_kept (b ∷ bs) (c ∷ cs) (both_more t u vs ws p (both_more x y xs ys q r)) (a, (suc i, l, e), k) = some_cons Crossed c cs (crossed_kept bs cs r (a, (i, omega arith, e), k))
 
-  pub crossed_written : (bs cs : List VarBound) → Both (IsSmallForm ds) (bound_types bs) (bound_types cs) → HasCrossed ds cs → (b : VarBound) × Contains bs b × Crossed b
+  pub crossed_written : (bs cs : List VarBound) → Both (IsBoundForm ds) (bound_types bs) (bound_types cs) → HasCrossed ds cs → (b : VarBound) × Contains bs b × Crossed b
   crossed_written bs [] h (c, (i, l, e), x) = absurd (omega (arith, l))
   crossed_written [] (c ∷ cs) h x = elim h [ ]
   crossed_written (b ∷ bs) (c ∷ cs) (both_more t u vs ws p (both_more x y xs ys q r)) (a, (zero, l, e), k) =

@@ -3,17 +3,16 @@ use Rattle.std.proofs.Common.{◌≡◌, ◌∙◌, sym, ap, subst, refl, ℕ, z
 use Rattle.std.proofs.Math.Nat.{mod-eq_of_lt, add-mul-mod_self_left}
 use Rattle.std.specs.List.{flat_map, Contains}
 use Rattle.jl_model.specs.declared.ty.Ty.{Ty}
-use Rattle.jl_model.specs.declared.ty.Ty.TheOpen.{Any, Union, Tuple, Nominal, Var}
+use Rattle.jl_model.specs.declared.ty.Ty.TheOpen.{Any, Tuple, Nominal, Var}
 use Rattle.jl_model.specs.declared.ty.Ty.TheViews.{out-Ty, outs-Any, outs-Tuple, outs-Nominal, outs-Var, rolls-Any, rolls-Union, rolls-Tuple, rolls-Nominal, rolls-Var}
 use Rattle.jl_model.specs.declared.ty.Ty.TheViews as V
 use Rattle.jl_model.specs.declared.ty.Ty.TheVariants as W
-use Rattle.jl_model.specs.declared.ty.Ty.TheFolds.{para-roll-Ty}
 use Rattle.jl_model.specs.declared.ty.Written.{Written}
 use Rattle.jl_model.specs.Kinds.{Kind, unused, once, diagonal, bound}
-use Rattle.jl_model.specs.Rows.{choices, forms, forms_step, alts, width, high, kind, root, atom, atoms, place_of, components, vars_in}
+use Rattle.jl_model.specs.Rows.{choices, forms, alts, width, high, kind, root, atom, atoms, place_of, components, vars_in}
 use Rattle.jl_model.specs.Signature.{Both, both_end, both_more}
 use Rattle.jl_model.proofs.TypeInduction.{Each, by_cases}
-use Rattle.jl_model.proofs.FormLemmas.{is_any, is_union, is_tuple, is_nominal, is_var, firsts, seconds, flat_seconds, alts-any, alts-union, alts-tuple, alts-nominal, vars-union, vars-tuple, vars-nominal, vars-var}
+use Rattle.jl_model.proofs.FormLemmas.{is_any, is_union, is_tuple, is_nominal, is_var, alts-any, alts-union, alts-tuple, alts-nominal, vars-union, vars-tuple, vars-nominal, vars-var}
 use Rattle.jl_model.proofs.NormalLemmas.{In as Among, first, later}
 use Rattle.jl_search.specs.Open.{EachVar, AreOpen, closed, open_end, open_more}
 use Rattle.jl_match.proofs.TupleLemmas.{InRows, row_first, row_later, choice_of}
@@ -45,9 +44,24 @@ only a t (first y ys e) = e
 only a t (later y ys i) = elim i [ ]
 
 module _ (s : Written) where
+  -- an atom for an alternative of the upper bound
+  abbrev pub IsAtom : ℕ → Type 0
+  IsAtom w = (i : ℕ) × (i < length (alts (high s (root s w)))) × (w ≡ atom s (root s w) i)
+
   -- what may stand at a covariant place of a row
   abbrev pub Place : ℕ → Type 0
-  Place w = (root s w < width s) × (((kind s w ≡ diagonal) × (root s w ≡ w)) ⊎ (kind s (root s w) ≡ bound))
+  Place w = (root s w < width s) × (((kind s w ≡ diagonal) × (root s w ≡ w)) ⊎ ((kind s (root s w) ≡ bound) × IsAtom w))
+
+  -- an upper bound that mentions variables
+  pub record IsNamedHigh (v : ℕ) : Type 0 where
+    pub number : ℕ
+    pub args : List Ty
+    pub is_high : high s v ≡ V.Nominal number args
+    pub opened : AreOpen args
+    pub inside : EachVar (Inner s) (flat_map vars_in args)
+
+  abbrev pub IsHigh : ℕ → Type 0
+  IsHigh v = (vars_in (high s v) ≡ []) ⊎ IsNamedHigh v
 
   mutual
     -- a part of a row, with the kinds of its variables
@@ -107,21 +121,30 @@ module _ (s : Written) where
   atom_root : (v i : ℕ) → v < width s → root s (atom s v i) ≡ v
   atom_root v i l = add-mul-mod_self_left v (width s) (i + 1) ∙ mod-eq_of_lt l
 
-  atoms_good : (v i : ℕ) (us : List Ty) → v < width s → kind s v ≡ bound → (a : Ty) → Among a (atoms s v i us) → Form a
-  atoms_good v i [] l d a j = elim j [ ]
-  atoms_good v i (u ∷ us) l d a (first y ys e) =
-      let r = atom_root v i l in
-      form_var a (atom s v i) (ap out-Ty e ∙ outs-Var (atom s v i)) (subst (λ z. z < width s) (sym r) l, inr (ap (kind s) r ∙ d))
-  atoms_good v i (u ∷ us) l d a (later y ys j) = atoms_good v (i + 1) us l d a j
+  is_atom : (v i : ℕ) → root s (atom s v i) ≡ v → i < length (alts (high s v)) → IsAtom (atom s v i)
+  is_atom v i r h = (i, subst (λ z. i < length (alts (high s z))) (sym r) h, ap (λ z. atom s z i) (sym r))
 
-  module _ (plain : (v : ℕ) → v < width s → vars_in (high s v) ≡ []) where
+  atoms_good : (v i : ℕ) (us : List Ty) → v < width s → kind s v ≡ bound → i + length us ≡ length (alts (high s v)) → (a : Ty) → Among a (atoms s v i us) → Form a
+  atoms_good v i [] l d n a j = elim j [ ]
+  atoms_good v i (u ∷ us) l d n a (first y ys e) =
+      let r = atom_root v i l in
+      form_var a (atom s v i) (ap out-Ty e ∙ outs-Var (atom s v i)) (subst (λ z. z < width s) (sym r) l, inr (ap (kind s) r ∙ d, is_atom v i r (omega (arith, n))))
+  atoms_good v i (u ∷ us) l d n a (later y ys j) = atoms_good v (i + 1) us l d (omega (arith, n)) a j
+
+  -- the alternatives of an upper bound
+  pub high_alts : (v : ℕ) → IsHigh v → (a : Ty) → Among a (alts (high s v)) → Form a
+  high_alts v (inl e) a i = plain_alts (high s v) e a i
+  high_alts v (inr h) a i =
+      form_nominal a h.number h.args (ap out-Ty (only a (V.Nominal h.number h.args) (subst (Among a) (ap alts h.is_high ∙ alts-nominal h.number h.args) i)) ∙ outs-Nominal h.number h.args) h.opened h.inside
+
+  module _ (highs : (v : ℕ) → v < width s → IsHigh v) where
     place_good : (v : ℕ) (k : Kind) → kind s v ≡ k → v < width s → (a : Ty) → Among a (place_of s v k) → Form a
     place_good v unused e l a i = elim i [ ]
-    place_good v once e l a i = plain_alts (high s v) (plain v l) a i
+    place_good v once e l a i = high_alts v (highs v l) a i
     place_good v diagonal e l a i =
         let r : root s v ≡ v = mod-eq_of_lt l in
         form_var a v (ap out-Ty (only a (W.Var v) i) ∙ outs-Var v) (subst (λ z. z < width s) (sym r) l, inl (e, r))
-    place_good v bound e l a i = atoms_good v 0 (alts (high s v)) l e a i
+    place_good v bound e l a i = atoms_good v 0 (alts (high s v)) l e (omega arith) a i
 
     abbrev G : Ty → List Ty
     G = forms (λ v. place_of s v (kind s v))

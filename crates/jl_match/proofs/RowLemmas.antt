@@ -1,4 +1,4 @@
--- What holds of a kept row and of concrete types, and that the types found serve where any do.
+-- What holds of a kept row and of concrete types.
 use Rattle.std.proofs.Common.{◌≡◌, ◌∙◌, sym, ap, subst, refl, ℕ, zero, suc, ◌<◌, ◌≤◌, arith, Bool, true, false, nat_eq, nat_lt, List, [], ◌∷◌, map, Some, ◌⊎◌, inl, inr}
 use Rattle.std.proofs.Math.Nat.{mod-eq_of_lt}
 use Rattle.std.specs.List.{flat_map}
@@ -10,31 +10,30 @@ use Rattle.jl_model.specs.declared.ty.Decl.{Decl}
 use Rattle.jl_model.specs.declared.ty.Written.{Written}
 use Rattle.jl_model.specs.Ancestors.{table_of}
 use Rattle.jl_model.specs.Kinds.{unused, diagonal, bound}
-use Rattle.jl_model.specs.Rows.{width, kind, root, vars_in, Occurs}
+use Rattle.jl_model.specs.Rows.{width, kind, root, vars_in, Stands, Occurs, standing, bounding}
 use Rattle.jl_model.specs.Subtype.{Table, opaque, lifted, is_concrete}
 use Rattle.jl_model.specs.Signature.{Row, Serves, Meet}
 use Rattle.jl_model.specs.Normal.{IsNormal, AllNormal, none, more}
 use Rattle.jl_model.specs.Refusals.{Declared}
 use Rattle.jl_model.proofs.TypeInduction.{Each}
 use Rattle.jl_model.proofs.FormLemmas.{is_any, is_tuple, is_nominal, is_var, vars-any, vars-tuple, vars-nominal, vars-var}
-use Rattle.jl_model.proofs.SelfLemmas.{below_self}
 use Rattle.jl_model.proofs.AncestorLemmas.{true_each}
-use Rattle.jl_model.proofs.TransLemmas.{below_trans, far, near}
+use Rattle.jl_model.proofs.TransLemmas.{far, near}
 use Rattle.jl_model.proofs.NormalLemmas.{kids_nominal, kids_tuple}
 use Rattle.jl_model.proofs.FillLemmas.{ancestors_normal}
 use Rattle.jl_model.proofs.DeclaredLemmas.{declared_lawful}
-use Rattle.jl_model.specs.Found.{outer, inner, found}
+use Rattle.jl_model.specs.Found.{outer, inner}
 use Rattle.jl_match.specs.KeptRow.{IsPart, AreParts, any as part_any, variable as part_variable, tuple as part_tuple, nominal as part_nominal, parts_end, parts_more, AreKeptParts, IsKeptRow, AreConcrete, Fits}
 use Rattle.jl_search.specs.Serving.{IsPlace}
 use Rattle.jl_search.specs.Open.{EachVar}
 use Rattle.jl_search.proofs.HasLemmas.{Has}
-use Rattle.jl_search.proofs.MeetLemmas.{LeftForms, Laws}
-use Rattle.jl_search.proofs.FoundLemmas.{RightRow, values}
+use Rattle.jl_search.proofs.MeetLemmas.{LeftForms}
+use Rattle.jl_search.proofs.FoundLemmas.{RightRow}
 use Rattle.jl_match.proofs.ListLemmas.{In, in_of, of_in, in_left, in_right, in_either, in_map, map_in, each_of, has_in, in_has}
 use Rattle.jl_match.proofs.PartLemmas.{forms_of}
 use Rattle.jl_search.proofs.FindLemmas as L
 use Rattle.jl_match.proofs.ConcreteLemmas.{Concrete, concrete-var, parts_concrete}
-use Rattle.jl_match.proofs.FitLemmas.{meet_below, below_meet}
+use Rattle.jl_match.proofs.FitLemmas.{meet_below}
 
 -- each variable of a part stands at a covariant or at an invariant place
 module _ (n : Table) where
@@ -115,8 +114,8 @@ module _ (ds : List Decl) (s : Written) (r : Row) (kept : IsKeptRow ds s r) wher
   inner_root : (v : ℕ) → In v (flat_map inner r.parts) → root s v ≡ v
   inner_root v i = own_root v (inner_low v i)
 
-  occurs_of : (w : ℕ) → In w (flat_map vars_in r.parts) → Occurs s (root s w) r.parts
-  occurs_of w i = of_in (map (root s) (flat_map vars_in r.parts)) (root s w) (in_map (root s) w (flat_map vars_in r.parts) i)
+  stands_of : (w : ℕ) → In w (flat_map vars_in r.parts) → Stands s (root s w) r.parts
+  stands_of w i = of_in (map (root s) (flat_map vars_in r.parts)) (root s w) (in_map (root s) w (flat_map vars_in r.parts) i)
 
   place_of : (v w : ℕ) → In w (flat_map vars_in r.parts) → root s w ≡ v → In v (flat_map inner r.parts) ⊎ ((w : ℕ) × In w (flat_map outer r.parts) × (root s w ≡ v))
   place_of v w i e = elim (all_stand n r.parts kept.parts w i) [
@@ -124,7 +123,7 @@ module _ (ds : List Decl) (s : Written) (r : Row) (kept : IsKeptRow ds s r) wher
     | inr x ↦ inr (w, x, e)
   ]
 
-  places : (v : ℕ) → Occurs s v r.parts → In v (flat_map inner r.parts) ⊎ ((w : ℕ) × In w (flat_map outer r.parts) × (root s w ≡ v))
+  places : (v : ℕ) → Stands s v r.parts → In v (flat_map inner r.parts) ⊎ ((w : ℕ) × In w (flat_map outer r.parts) × (root s w ≡ v))
   places v o =
       let m = map_in (root s) v (flat_map vars_in r.parts) (in_of (map (root s) (flat_map vars_in r.parts)) v o) in
       place_of v m.0 m.1 m.2
@@ -132,11 +131,21 @@ module _ (ds : List Decl) (s : Written) (r : Row) (kept : IsKeptRow ds s r) wher
   outer_kind : (w : ℕ) → In w (flat_map outer r.parts) → kind s (root s w) ≡ diagonal → root s w ≡ w
   outer_kind w i d = elim (kept.covariant w (of_in (flat_map outer r.parts) w i)).1 [ inl e ↦ e.1 | inr b ↦ let e : diagonal ≡ bound = sym d ∙ b in cc ]
 
-  pub low_of : (v : ℕ) → Occurs s v r.parts → v < width s
-  low_of v o = elim (places v o) [
+  stands_low : (v : ℕ) → Stands s v r.parts → v < width s
+  stands_low v o = elim (places v o) [
     | inl i ↦ inner_low v i
     | inr z ↦ subst (λ k. k < width s) z.2 (kept.covariant z.0 (of_in (flat_map outer r.parts) z.0 z.1)).0
   ]
+
+  -- a variable in the bound of one of the row has a smaller number
+  occurs_low : (v : ℕ) (row : List Ty) → row ≡ r.parts → Occurs s v row → v < width s
+  occurs_low v row e (standing x y c) = stands_low v (subst (λ z. Stands s v z) e c)
+  occurs_low v row e (bounding x w y o c) =
+      let l = occurs_low w row e o in
+      let b = kept.before w v l c in omega (arith, l, b)
+
+  pub low_of : (v : ℕ) → Occurs s v r.parts → v < width s
+  low_of v o = occurs_low v r.parts refl o
 
   is_low : (v : ℕ) → v < width s → nat_lt v (width s) ≡ true
   is_low v l = grind (arith, l)
@@ -147,10 +156,10 @@ module _ (ds : List Decl) (s : Written) (r : Row) (kept : IsKeptRow ds s r) wher
   outer_in : (w : ℕ) → Has (flat_map outer r.parts) w → In w (flat_map outer r.parts)
   outer_in w h = in_has w (flat_map outer r.parts) h
 
-  occur : (w : ℕ) → In w (flat_map outer r.parts) → Occurs s (root s w) r.parts
-  occur w i = occurs_of w (outer_vars n r.parts kept.parts w i)
+  occur : (w : ℕ) → In w (flat_map outer r.parts) → Stands s (root s w) r.parts
+  occur w i = stands_of w (outer_vars n r.parts kept.parts w i)
 
-  right_row : RightRow s r
+  pub right_row : RightRow s r
   right_row = record {
     forms = forms_of n r.parts kept.parts;
     inner_kind = λ v h. (let i = inner_in v h in ((kept.invariant v (of_in (flat_map inner r.parts) v i)).1, inner_root v i));
@@ -159,24 +168,24 @@ module _ (ds : List Decl) (s : Written) (r : Row) (kept : IsKeptRow ds s r) wher
       | inr z ↦ inr (z.0, has_in z.0 (flat_map outer r.parts) z.1, z.2)
     ];
     occur = λ w h. occur w (outer_in w h);
-    occur_inner = λ v h. (let i = inner_in v h in subst (λ z. Occurs s z r.parts) (inner_root v i) (occurs_of v (inner_vars n r.parts kept.parts v i)));
+    occur_inner = λ v h. (let i = inner_in v h in subst (λ z. Stands s z r.parts) (inner_root v i) (stands_of v (inner_vars n r.parts kept.parts v i)));
     outer_kind = λ w h. outer_kind w (outer_in w h);
     diagonal_root = λ w i d. own_root w (diagonal_low w d);
     range = λ v o. is_low v (low_of v o);
   }
 
-  own_places : (f : ℕ → Ty) → EachVar (λ v. f (root s v) ≡ f v) (flat_map inner r.parts)
+  pub own_places : (f : ℕ → Ty) → EachVar (λ v. f (root s v) ≡ f v) (flat_map inner r.parts)
   own_places f = each_of (λ v. f (root s v) ≡ f v) (flat_map inner r.parts) (λ v i. ap f (inner_root v i))
 
   diagonals : (f : ℕ → Ty) → EachVar (λ w. kind s w ≡ diagonal → f (root s w) ≡ f w) (flat_map outer r.parts)
   diagonals f = each_of (λ w. kind s w ≡ diagonal → f (root s w) ≡ f w) (flat_map outer r.parts) (λ w i d. ap f (own_root w (diagonal_low w d)))
 
-  placed : (f : ℕ → Ty) → Serves n opaque s r f → EachVar (λ w. ((kind s w ≡ diagonal) × (f (root s w) ≡ f w) × Concrete n (f w)) ⊎ (kind s (root s w) ≡ bound)) (flat_map outer r.parts)
+  pub placed : (f : ℕ → Ty) → Serves n opaque s r f → EachVar (λ w. ((kind s w ≡ diagonal) × (f (root s w) ≡ f w) × Concrete n (f w)) ⊎ (kind s (root s w) ≡ bound)) (flat_map outer r.parts)
   placed f serves =
       each_of (λ w. ((kind s w ≡ diagonal) × (f (root s w) ≡ f w) × Concrete n (f w)) ⊎ (kind s (root s w) ≡ bound)) (flat_map outer r.parts)
       (λ w i. elim (kept.covariant w (of_in (flat_map outer r.parts) w i)).1 [
         | inl e ↦
-            let o : Occurs s w r.parts = subst (λ z. Occurs s z r.parts) e.1 (occur w i) in
+            let o : Occurs s w r.parts = standing w r.parts (subst (λ z. Stands s z r.parts) e.1 (occur w i)) in
             inl (e.0, ap f e.1, serves.sure w o e.0)
         | inr b ↦ inr b
       ])
@@ -233,15 +242,6 @@ module _ (ds : List Decl) (declared : Declared ds) where
     sure = λ t u h e c. (h.concrete, tt);
   }
 
-  laws : Laws o opaque (IsLeft o)
-  laws = record {
-    lift = λ t u b. b;
-    before = below_trans o (declared_lawful ds declared);
-    trans = λ t u v h. below_trans o (declared_lawful ds declared) t u v;
-    trans_closed = λ t u v h. below_trans o (declared_lawful ds declared) t u v;
-    self = below_self o;
-  }
-
   module _ (s : Written) (r : Row) (ts : List Ty) (kept : IsKeptRow ds s r) (types : AreConcrete ds ts) where
     concrete : Each (Concrete o) ts
     concrete = true_each (is_concrete o opaque) ts types.concrete
@@ -252,12 +252,3 @@ module _ (ds : List Decl) (declared : Declared ds) where
       serves = serves;
       below = meet_below ds declared s f ts r.parts kept.parts (own_places ds s r kept f) (diagonals ds s r kept f) concrete meet;
     }
-
-    -- values are found
-    pub found_fits : (f : ℕ → Ty) → Fits o s r ts f → Serves o opaque s r (found o opaque s r ts) × Meet o opaque s (found o opaque s r ts) ts r.parts
-    found_fits f fits =
-        values ds declared opaque (IsLeft o) (λ t. Unit {0}) s r ts f laws left_forms (right_row ds s r kept) (each_normal o ts concrete types.normal)
-        (λ v c. (kept.low v (low_of ds s r kept v c)).closed)
-        (λ v c. (kept.top v (low_of ds s r kept v c)).closed)
-        fits.serves
-        (below_meet ds declared s f r.parts kept.parts ts (own_places ds s r kept f) (placed ds s r kept f fits.serves) concrete fits.below)

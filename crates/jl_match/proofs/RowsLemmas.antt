@@ -1,21 +1,22 @@
 -- The listed rows of a signature, as they are kept, are its rows.
-use Rattle.std.proofs.Common.{◌≡◌, ◌∙◌, sym, ap, subst, refl, ℕ, zero, suc, ◌<◌, arith, Bool, true, false, ◌&&◌, cond, nat_eq, List, [], ◌∷◌, length, inl, inr}
+use Rattle.std.proofs.Common.{◌≡◌, ◌∙◌, sym, ap, subst, refl, ℕ, zero, suc, ◌<◌, arith, Bool, true, false, ◌&&◌, cond, nat_eq, List, [], ◌∷◌, length, get_or, ◌⊎◌, inl, inr}
 use Rattle.jl_model.specs.declared.ty.Ty.{Ty}
 use Rattle.jl_model.specs.declared.ty.Ty.TheViews.{outs-Any}
+use Rattle.jl_model.specs.declared.ty.Ty.TheViews as V
 use Rattle.jl_model.specs.declared.ty.Ty.TheVariants as W
 use Rattle.jl_model.specs.declared.ty.Decl.{Decl}
 use Rattle.jl_model.specs.declared.ty.Bound.{Bound}
 use Rattle.jl_model.specs.declared.ty.Written.{Written}
 use Rattle.jl_model.specs.Ancestors.{table_of}
 use Rattle.jl_model.specs.Kinds.{Kind, unused, once, diagonal, bound}
-use Rattle.jl_model.specs.Rows.{alts, width, low, high, kind, vars_in}
+use Rattle.jl_model.specs.Rows.{alts, free, width, low, high, kind, vars_in}
 use Rattle.jl_model.specs.Subtype.{Table, at, Equal}
 use Rattle.jl_model.specs.Signature.{Row, by_kind, top, is_diagonal, Both, both_end, both_more}
 use Rattle.jl_model.specs.Normal.{IsNormalForm}
 use Rattle.jl_model.specs.Valid.{is_known, is_closed}
 use Rattle.jl_model.specs.Refusals.{Declared}
 use Rattle.jl_model.specs.AllRows.{ArePicks, occurs, Listed, all_rows}
-use Rattle.jl_model.proofs.FormLemmas.{vars-any}
+use Rattle.jl_model.proofs.FormLemmas.{alts-nominal, vars-any}
 use Rattle.jl_model.proofs.KnownLemmas.{known-any}
 use Rattle.jl_model.proofs.TransLemmas.{equal_trans}
 use Rattle.jl_model.proofs.NormalLemmas.{In as Among, first, later, normal_same}
@@ -35,7 +36,7 @@ use Rattle.jl_search.proofs.HasLemmas.{Has}
 use Rattle.jl_search.proofs.KindLemmas.{is_diag}
 use Rattle.jl_search.proofs.ListedLemmas.{IsListed, listed, is_row, row_listed, slot_at, long_row, above_in, only_any, left_true}
 use Rattle.jl_match.proofs.TupleLemmas.{each_in}
-use Rattle.jl_match.proofs.RowForms.{Form, form_any, plain_alts}
+use Rattle.jl_match.proofs.RowForms.{Form, form_any, plain_alts, only}
 use Rattle.jl_match.proofs.KeepLemmas as K
 use Rattle.jl_match.proofs.ComponentLemmas.{components_of, none_of}
 use Rattle.jl_match.proofs.KindLemmas.{own_only}
@@ -81,32 +82,43 @@ module _ (ds : List Decl) (declared : Declared ds) (s : Written) (bs : List Boun
   closed_test : (a : Ty) → vars_in a ≡ [] → is_closed a ≡ true
   closed_test a e = ap (λ (ns : List ℕ). nat_eq (length ns) 0) e
 
-  alternative_plain : (v : ℕ) (a u : Ty) → v < width s → Among a (alts (high s v)) → Settles (IsNormalForm n) a u → IsPlain ds u
-  alternative_plain v a u l i k =
+  alternative_plain : (v : ℕ) (a u : Ty) → v < width s → vars_in (high s v) ≡ [] → Among a (alts (high s v)) → Settles (IsNormalForm n) a u → IsPlain ds u
+  alternative_plain v a u l e i k =
       let x = high s v in
-      let c : is_closed a ≡ true = each_in (λ z. is_closed z ≡ true) a (alts x) (alts_pass is_closed closed_parts x (closed_test x (sig.high v l).0)) i in
+      let c : is_closed a ≡ true = each_in (λ z. is_closed z ≡ true) a (alts x) (alts_pass is_closed closed_parts x (closed_test x e)) i in
       let h : is_known (length ds) a ≡ true = each_in (λ z. is_known (length ds) z ≡ true) a (alts x) (alts_pass (is_known (length ds)) (known_parts (length ds)) x (sig.known v l)) i in
-      plain_of a u (plain_alts s x (sig.high v l).0 a i) (none_of (vars_in a) c) h k
+      plain_of a u (plain_alts s x e a i) (none_of (vars_in a) c) h k
+
+  -- what is kept of an alternative of an upper bound: plain, or of a bound that mentions variables what is kept of it
+  abbrev IsTaken : ℕ → Ty → Type 0
+  IsTaken v u = IsPlain ds u ⊎ (u ≡ (get_or bs v free).high)
+
+  alternative_taken : (v : ℕ) (a u : Ty) → v < width s → Among a (alts (high s v)) → Settles (IsNormalForm n) a u → IsTaken v u
+  alternative_taken v a u l i k = elim (sig.bounds v l).high [
+    | inl p ↦ inl (alternative_plain v a u l p.closed i k)
+    | inr m ↦
+        let e : a ≡ high s v = only a (V.Nominal m.number m.args) (subst (Among a) (ap alts m.is_high ∙ alts-nominal m.number m.args) i) ∙ sym m.is_high in
+        inr (K.settled_named ds declared v (get_or s.vars v free) (get_or bs v free) m u (subst (λ z. Settles (IsNormalForm n) z u) e k))
+  ]
 
   any_plain : (a u : Ty) → a ≡ W.Any → Settles (IsNormalForm n) a u → IsPlain ds u
   any_plain a u e k =
       plain_of W.Any u (form_any W.Any outs-Any) vars-any (known-any (length ds)) (subst (λ z. Settles (IsNormalForm n) z u) e k)
 
-  slot_plain : (row : List Ty) (v : ℕ) (b : Bool) (a u : Ty) → (is_diagonal (kind s v) && occurs s v row) ≡ b → v < width s → Has (cond b (picks v) (W.Any ∷ [])) a → Settles (IsNormalForm n) a u → IsPlain ds u
-  slot_plain row v true a u e l i k =
+  slot_taken : (row : List Ty) (v : ℕ) (b : Bool) (a u : Ty) → (is_diagonal (kind s v) && occurs s v row) ≡ b → v < width s → Has (cond b (picks v) (W.Any ∷ [])) a → Settles (IsNormalForm n) a u → IsTaken v u
+  slot_taken row v true a u e l i k =
       let d = is_diag (kind s v) (left_true (is_diagonal (kind s v)) (occurs s v row) e) in
-      alternative_plain v a u l (among_of (alts (high s v)) a (above_in n (low s v) a (alts (high s v)) (picks v) (are v d) i).0) k
-  slot_plain row v false a u e l i k = any_plain a u (only_any a i) k
+      alternative_taken v a u l (among_of (alts (high s v)) a (above_in n (low s v) a (alts (high s v)) (picks v) (are v d) i).0) k
+  slot_taken row v false a u e l i k = inl (any_plain a u (only_any a i) k)
 
   kept_of : (l : Listed) (k : SigRow) → IsListed n s small picks are l → IsKeptListed ds l k → AreKept ds s (row_of l.parts l.chosen) bs k.parts k.chosen
   kept_of l k h q = record {
     own = sig.own;
     placed = components_of s.parts sig.placed;
     long = sig.long;
-    low = sig.low;
-    high = sig.high;
+    bounds = sig.bounds;
     plain = λ v i.
-        slot_plain l.parts v (is_diagonal (kind s v) && occurs s v l.parts) (at l.chosen v) (at k.chosen v) refl i
+        slot_taken l.parts v (is_diagonal (kind s v) && occurs s v l.parts) (at l.chosen v) (at k.chosen v) refl i
         (slot_at n s small picks are l h v i)
         (at_both (Settles (IsNormalForm n)) l.chosen k.chosen v q.chosen (omega (arith, i, long_row n s small picks are l h)));
     chosen = λ v d o.

@@ -1,46 +1,45 @@
 -- A signature with what is kept of it has the kept rows that the walk asks for.
-use Rattle.std.proofs.Common.{◌≡◌, ◌∙◌, sym, ap, subst, refl, ℕ, zero, suc, ◌+◌, ◌<◌, ◌≤◌, arith, Bool, true, false, ◌&&◌, List, [], ◌∷◌, ◌++◌, map, length, get_or, inl, inr}
-use Rattle.std.specs.List.{list_all}
+use Rattle.std.proofs.Common.{◌≡◌, ◌∙◌, sym, ap, subst, refl, ℕ, zero, suc, ◌+◌, ◌<◌, ◌≤◌, arith, Bool, true, false, ◌&&◌, ◌||◌, not, nat_lt, List, [], ◌∷◌, ◌++◌, map, length, get_or, ◌⊎◌, inl, inr}
+use Rattle.std.specs.List.{flat_map, list_all}
 use Rattle.jl_model.specs.declared.ty.Ty.{Ty}
+use Rattle.jl_model.specs.declared.ty.Ty.TheOpen.{Any, Union, Tuple, Nominal, Var}
+use Rattle.jl_model.specs.declared.ty.Ty.TheViews.{out-Ty, outs-Union, outs-Nominal}
+use Rattle.jl_model.specs.declared.ty.Ty.TheViews as V
 use Rattle.jl_model.specs.declared.ty.Bound.{Bound}
 use Rattle.jl_model.specs.declared.ty.Decl.{Decl}
 use Rattle.jl_model.specs.declared.ty.Written.{Written}
 use Rattle.jl_model.specs.Ancestors.{table_of}
 use Rattle.jl_model.specs.Rows.{free, width, kind, vars_in}
-use Rattle.jl_model.specs.Subtype.{Table, Equal}
+use Rattle.jl_model.specs.Subtype.{Table}
+use Rattle.jl_model.specs.Normal.{IsNormalForm, union as normal_union, none as normal_none}
 use Rattle.jl_model.specs.Signature.{Both, both_more, is_diagonal}
 use Rattle.jl_model.specs.Valid.{is_known, is_closed}
 use Rattle.jl_model.specs.Refusals.{Declared, bound_types}
-use Rattle.jl_model.specs.SigRefusals.{are_placed, is_component, types_in}
+use Rattle.jl_model.specs.SigRefusals.{is_bound, types_in}
 use Rattle.jl_model.specs.Counts.{total, nodes}
 use Rattle.jl_types.proofs.ExpandLemmas.{nodes-positive}
 use Rattle.jl_model.specs.AllRows.{Listed, all_rows, each_var}
 use Rattle.jl_model.proofs.PutLemmas.{and_l, and_r}
-use Rattle.jl_model.proofs.TransLemmas.{equal_trans}
-use Rattle.jl_model.proofs.NormalLemmas.{normal_same}
-use Rattle.jl_model.proofs.DeclaredLemmas.{declared_lawful}
+use Rattle.jl_model.proofs.FormLemmas.{is_nominal, vars-nominal}
+use Rattle.jl_model.proofs.SelfLemmas.{equal_self}
+use Rattle.jl_types.specs.Form.{Settles, any, var, union, tuple, nominal}
 use Rattle.jl_types.proofs.ExistLemmas.{exists}
 use Rattle.jl_types.proofs.PartsLemmas.{closed_parts}
 use Rattle.jl_sig.specs.declared.sig.Sig.{Sig}
-use Rattle.jl_sig.specs.Forms.{IsSmallForm}
+use Rattle.jl_sig.specs.Forms.{IsBoundForm}
 use Rattle.jl_sig.specs.Fit.{AreKeptRows as AreKeptListed}
 use Rattle.jl_sig.specs.Prepared.{IsKeptOf}
 use Rattle.jl_sig.specs.SigParts.{written_of, bounded_of, diagonals_of, rows_of as kept_rows_of}
-use Rattle.jl_match.specs.KeptRow.{AreDiagonals, with_bounds}
-use Rattle.jl_search.specs.Serving.{IsPlain}
+use Rattle.jl_sig.proofs.BoundLemmas.{low_closed, high_named, bound_at, placed_bounds, placed_parts, bottom_is, named_is, one_form}
+use Rattle.jl_sig.proofs.OwnLemmas.{own_high}
+use Rattle.jl_match.specs.KeptRow.{AreDiagonals, with_bounds, IsPlainForm, IsNamedForm, IsKeptBound}
 use Rattle.jl_match.specs.Listed.{IsKeptSig}
 use Rattle.jl_match.specs.SigRows.{AreKeptRows, AreRowsOf}
-use Rattle.jl_match.proofs.ComponentLemmas.{none_of}
+use Rattle.jl_match.proofs.ComponentLemmas.{none_of, open_args}
+use Rattle.jl_match.proofs.KeepLemmas.{kept_kinds}
+use Rattle.jl_match.proofs.ListLemmas.{In, in_of}
 use Rattle.jl_match.proofs.RowLemmas.{below_or}
 use Rattle.jl_match.proofs.RowsLemmas.{rows_of, rows_kept}
-
--- a type without variables and its normal form
-abbrev PlainForm : List Decl → Ty → Ty → Type 0
-PlainForm ds a u = (vars_in a ≡ []) × IsPlain ds u × Equal (table_of ds) a u
-
--- a variable's bounds as they are written and in normal form
-abbrev PlainBound : List Decl → Bound → Bound → Type 0
-PlainBound ds b c = PlainForm ds b.low c.low × PlainForm ds b.high c.high
 
 pub not_false : (b : Bool) → (b ≡ false → ⊥) → b ≡ true
 not_false true h = refl
@@ -65,54 +64,118 @@ high_passes p (b ∷ bs) h v l =
     pick zero l e f = e
     pick (suc w) l e f = f w (omega arith)
 
+-- what is put together for the bounds of two signatures
+long_bounds : (P : Ty → Ty → Type 0) (bs cs : List Bound) → Both P (bound_types bs) (bound_types cs) → length cs ≡ length bs
+long_bounds P [] [] h = refl
+long_bounds P [] (c ∷ cs) h = elim h [ ]
+long_bounds P (b ∷ bs) [] h = elim h [ ]
+long_bounds P (b ∷ bs) (c ∷ cs) (both_more x y xs ys p (both_more u w us ws q h)) = ap suc (long_bounds P bs cs h)
+
+both_bounds : (P : Ty → Ty → Type 0) (bs cs : List Bound) → Both P (bound_types bs) (bound_types cs) → (v : ℕ) → v < length bs
+    → P (get_or bs v free).low (get_or cs v free).low × P (get_or bs v free).high (get_or cs v free).high
+both_bounds P [] cs h v l = absurd (omega arith)
+both_bounds P (b ∷ bs) [] h v l = elim h [ ]
+both_bounds P (b ∷ bs) (c ∷ cs) (both_more x y xs ys p (both_more u w us ws q h)) zero l = (p, q)
+both_bounds P (b ∷ bs) (c ∷ cs) (both_more x y xs ys p (both_more u w us ws q h)) (suc v) l = both_bounds P bs cs h v (omega arith)
+
+-- variables before one, and none from the count of all on
+before_in : (v m : ℕ) (ns : List ℕ) → list_all (λ w. nat_lt w v || not (nat_lt w m)) ns ≡ true → list_all (λ w. nat_lt w m) ns ≡ true → (w : ℕ) → In w ns → w < v
+before_in v m [] h k w i = absurd i
+before_in v m (n ∷ ns) h k w (inr i) =
+    before_in v m ns (and_r (nat_lt n v || not (nat_lt n m)) (list_all (λ w. nat_lt w v || not (nat_lt w m)) ns) h) (and_r (nat_lt n m) (list_all (λ w. nat_lt w m) ns) k) w i
+before_in v m (n ∷ ns) h k w (inl e) =
+    let a = and_l (nat_lt n v || not (nat_lt n m)) (list_all (λ w. nat_lt w v || not (nat_lt w m)) ns) h in
+    let b = and_l (nat_lt n m) (list_all (λ w. nat_lt w m) ns) k in
+    let c = either (nat_lt n v) (nat_lt n m) a b in
+    subst (λ z. z < v) (sym e) (grind (arith, c))
+  where
+    either : (x y : Bool) → (x || not y) ≡ true → y ≡ true → x ≡ true
+    either true y f g = refl
+    either false true f g = let z : false ≡ true = f in cc
+    either false false f g = let z : false ≡ true = g in cc
+
 module _ (ds : List Decl) (declared : Declared ds) where
-  plain_form : (a u : Ty) → IsSmallForm ds a u → is_closed a ≡ true → PlainForm ds a u
+  abbrev n : Table
+  n = table_of ds
+
+  -- a bound without variables
+  plain_form : (a u : Ty) → IsBoundForm ds a u → is_closed a ≡ true → IsPlainForm ds a u
   plain_form a u f c =
-      let n : Table = table_of ds in
       let r = exists ds declared a in
-      let law = declared_lawful ds declared in
-      let e : r.0 ≡ u = normal_same n law r.0 r.1.form.normal u f.form.normal (equal_trans n law r.0 a u (r.1.form.equal.1, r.1.form.equal.0) f.form.equal) in
+      let e : r.0 ≡ u = one_form ds declared a r.0 u r.1.form f.form in
       let k : is_closed u ≡ true = subst (λ z. is_closed z ≡ true) e (r.1.kept is_closed closed_parts c) in
-      (none_of (vars_in a) c, record { normal = f.form.normal; known = f.known; closed = none_of (vars_in u) k }, f.form.equal)
+      record { closed = none_of (vars_in a) c; plain = record { normal = f.form.normal; known = f.known; closed = none_of (vars_in u) k }; equal = f.form.equal }
 
-  long_bounds : (bs cs : List Bound) → Both (IsSmallForm ds) (bound_types bs) (bound_types cs) → length cs ≡ length bs
-  long_bounds [] [] h = refl
-  long_bounds [] (c ∷ cs) h = elim h [ ]
-  long_bounds (b ∷ bs) [] h = elim h [ ]
-  long_bounds (b ∷ bs) (c ∷ cs) (both_more x y xs ys p (both_more u w us ws q h)) = ap suc (long_bounds bs cs h)
+  -- one that mentions variables
+  bottom_form : (u : Ty) → IsNormalForm n (V.Union []) u → u ≡ V.Union []
+  bottom_form u f =
+      one_form ds declared (V.Union []) u (V.Union []) f
+      (record { normal = normal_union (V.Union []) [] (outs-Union []) normal_none refl tt (λ e. absurd (omega (arith, e))); equal = equal_self n (V.Union []) })
 
-  plain_bounds : (bs cs : List Bound) → Both (IsSmallForm ds) (bound_types bs) (bound_types cs) → list_all is_closed (bound_types bs) ≡ true → (v : ℕ) → v < length bs → PlainBound ds (get_or bs v free) (get_or cs v free)
-  plain_bounds [] cs h c v l = absurd (omega arith)
-  plain_bounds (b ∷ bs) [] h c v l = elim h [ ]
-  plain_bounds (b ∷ bs) (d ∷ cs) (both_more x y xs ys p (both_more u w us ws q h)) c zero l =
-      let r = and_r (is_closed b.low) (is_closed b.high && list_all is_closed (bound_types bs)) c in
-      (plain_form b.low d.low p (and_l (is_closed b.low) (is_closed b.high && list_all is_closed (bound_types bs)) c), plain_form b.high d.high q (and_l (is_closed b.high) (list_all is_closed (bound_types bs)) r))
-  plain_bounds (b ∷ bs) (d ∷ cs) (both_more x y xs ys p (both_more u w us ws q h)) c (suc v) l =
-      let r = and_r (is_closed b.low) (is_closed b.high && list_all is_closed (bound_types bs)) c in
-      plain_bounds bs cs h (and_r (is_closed b.high) (list_all is_closed (bound_types bs)) r) v (omega arith)
+  settled_args : (k : ℕ) (ts : List Ty) (t u : Ty) → t ≡ V.Nominal k ts → Settles (IsNormalForm n) t u → (us : List Ty) × (u ≡ V.Nominal k us) × Both (IsNormalForm n) ts us
+  settled_args k ts t u e (any x o) = let f : Nominal k ts ≡ Any = sym (ap out-Ty e ∙ outs-Nominal k ts) ∙ o in cc
+  settled_args k ts t u e (var x w o) = let f : Nominal k ts ≡ Var w = sym (ap out-Ty e ∙ outs-Nominal k ts) ∙ o in cc
+  settled_args k ts t u e (union x y qs ws o f h) = let g : Nominal k ts ≡ Union qs = sym (ap out-Ty e ∙ outs-Nominal k ts) ∙ o in cc
+  settled_args k ts t u e (tuple x y qs ws o f h) = let g : Nominal k ts ≡ Tuple qs = sym (ap out-Ty e ∙ outs-Nominal k ts) ∙ o in cc
+  settled_args k ts t u e (nominal x y j qs ws o f h) =
+      let g : Nominal k ts ≡ Nominal j qs = sym (ap out-Ty e ∙ outs-Nominal k ts) ∙ o in
+      let a : j ≡ k = cc in
+      let b : qs ≡ ts = cc in
+      (ws, is_nominal u j ws f ∙ ap (λ z. V.Nominal z ws) a, subst (λ z. Both (IsNormalForm n) z ws) b h)
+
+  named_form : (m v : ℕ) (b c : Bound) → is_bound m v b ≡ true → is_closed b.high ≡ false → list_all (λ w. nat_lt w m) (vars_in b.high) ≡ true
+      → IsBoundForm ds b.low c.low → IsBoundForm ds b.high c.high → IsNamedForm ds v b c
+  named_form m v b c h f own p q =
+      let i = high_named m v b h f in
+      let low = bottom_is b.low i.bottom in
+      let high = named_is b.high i.named in
+      let args = settled_args high.0 high.1 b.high c.high high.2 (q.named f) in
+      record {
+        number = high.0;
+        args = high.1;
+        forms = args.0;
+        is_low = low;
+        is_high = high.2;
+        kept_low = bottom_form c.low (subst (λ z. IsNormalForm n z c.low) low p.form);
+        kept_high = args.1;
+        opened = open_args high.1 high.3;
+        settled = args.2;
+        known = q.known;
+        before = λ w d. before_in v m (vars_in b.high) i.before own w (subst (In w) (sym (ap vars_in high.2 ∙ vars-nominal high.0 high.1)) (in_of (flat_map vars_in high.1) w d));
+      }
+
+  kept_bound : (m v : ℕ) (b c : Bound) → is_bound m v b ≡ true → list_all (λ w. nat_lt w m) (vars_in b.high) ≡ true → IsBoundForm ds b.low c.low → IsBoundForm ds b.high c.high → IsKeptBound ds v b c
+  kept_bound m v b c h own p q = record { low = plain_form b.low c.low p (low_closed m v b h); high = upper (is_closed b.high) refl }
+    where
+      upper : (d : Bool) → is_closed b.high ≡ d → IsPlainForm ds b.high c.high ⊎ IsNamedForm ds v b c
+      upper true e = inl (plain_form b.high c.high q e)
+      upper false e = inr (named_form m v b c h e own p q)
 
   module _ (g : Sig) (h : IsKeptOf ds g) where
     abbrev s : Written
     s = (written_of g)
 
-    placed : are_placed s ≡ true
-    placed = not_false (are_placed s) h.placed.placed
-
-    bounds_at : (v : ℕ) → v < width s → PlainBound ds (get_or s.vars v free) (get_or (bounded_of g).vars v free)
-    bounds_at v l = plain_bounds s.vars (bounded_of g).vars h.bounds (and_l (list_all is_closed (bound_types s.vars)) (list_all is_component s.parts) placed) v l
+    bounds_at : (v : ℕ) → v < width s → IsKeptBound ds v (get_or s.vars v free) (get_or (bounded_of g).vars v free)
+    bounds_at v l =
+        let f = both_bounds (IsBoundForm ds) s.vars (bounded_of g).vars h.bounds v l in
+        let e : 0 + v ≡ v = omega arith in
+        let b = subst (λ z. is_bound (width s) z (get_or s.vars v free) ≡ true) e (bound_at (width s) 0 s.vars v free (placed_bounds s h.placed.placed) l) in
+        kept_bound (width s) v (get_or s.vars v free) (get_or (bounded_of g).vars v free) b (own_high s h.placed.own v) f.0 f.1
 
     pub kept_sig : IsKeptSig ds s (bounded_of g).vars
     kept_sig = record {
       own = h.placed.own;
-      placed = and_r (list_all is_closed (bound_types s.vars)) (list_all is_component s.parts) placed;
-      long = long_bounds s.vars (bounded_of g).vars h.bounds;
+      placed = placed_parts s h.placed.placed;
+      long = long_bounds (IsBoundForm ds) s.vars (bounded_of g).vars h.bounds;
       known = λ v l. high_passes (is_known (length ds)) s.vars (left_all (is_known (length ds)) (bound_types s.vars) s.parts h.placed.known) v l;
-      low = λ v l. (bounds_at v l).0;
-      high = λ v l. (bounds_at v l).1;
+      bounds = bounds_at;
     }
 
     bounded : with_bounds s (bounded_of g).vars ≡ (bounded_of g)
     bounded = ap (λ (ts : List Ty). let w : Written = record { vars = (bounded_of g).vars; parts = ts } in w) (sym h.parts)
+
+    pub same_kinds : (v : ℕ) → kind (bounded_of g) v ≡ kind s v
+    same_kinds v = ap (λ (w : Written). kind w v) (sym bounded) ∙ kept_kinds ds declared s (bounded_of g).vars kept_sig.long bounds_at v
 
     kept_listed : AreKeptListed ds (all_rows s h.rows.1.picks) (kept_rows_of g)
     kept_listed = subst (λ (rs : List Listed). AreKeptListed ds rs (kept_rows_of g)) h.rows.1.are h.rows.2
@@ -136,13 +199,12 @@ pub sig_diagonals : (ds : List Decl) (declared : Declared ds) (g : Sig) → IsKe
 sig_diagonals ds declared g h =
     let long = (kept_sig ds declared g h).long in
     let f : ℕ → Bool = λ v. is_diagonal (kind (written_of g) v) in
-    let e = h.parts in
     let d = h.diagonals in
     record {
       long = ap length d ∙ each_long f 0 (written_of g).vars ∙ sym long;
       kinds = λ v l.
           let z : 0 + v ≡ v = omega arith in
-          ap (λ bs. get_or bs v false) d ∙ each_at f 0 (written_of g).vars false v (omega (arith, l, long)) ∙ ap f z ∙ rw e refl;
+          ap (λ bs. get_or bs v false) d ∙ each_at f 0 (written_of g).vars false v (omega (arith, l, long)) ∙ ap f z ∙ ap is_diagonal (sym (same_kinds ds declared g h v));
     }
 
 bounds_nodes : (bs : List Bound) → length bs ≤ total (map nodes (bound_types bs))

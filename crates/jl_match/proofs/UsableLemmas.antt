@@ -8,9 +8,9 @@ use Rattle.jl_model.specs.declared.ty.Ty.TheViews as V
 use Rattle.jl_model.specs.declared.ty.Ty.TheVariants as W
 use Rattle.jl_model.specs.declared.ty.Ty.TheFolds.{fold-roll-Ty}
 use Rattle.jl_model.specs.declared.ty.Written.{Written}
-use Rattle.jl_model.specs.Kinds.{unused, once, diagonal, bound, Places, places, places_step, plus_all, kind_of}
-use Rattle.jl_model.specs.Rows.{kind, vars_in}
-use Rattle.jl_model.specs.Usable.{stands_in, is_outside_unions}
+use Rattle.jl_model.specs.Kinds.{unused, once, diagonal, bound, Places, places, places_step, plus, plus_all, below_nominal, kind_of}
+use Rattle.jl_model.specs.Rows.{kind, part_places, bound_places, vars_in}
+use Rattle.jl_model.specs.Usable.{stands_in, is_met, is_outside_unions, is_usable}
 use Rattle.jl_model.specs.Found.{outer, inner}
 use Rattle.jl_model.proofs.TypeInduction.{Each, by_cases}
 use Rattle.jl_model.proofs.PutLemmas.{and_l, and_r}
@@ -106,17 +106,8 @@ module _ (s : Written) (v : ℕ) where
   each_seen [] = tt
   each_seen (t ∷ ts) = (seen t, each_seen ts)
 
--- a bound variable has an invariant place, and another one that is used a covariant place
+-- a variable of another kind that is used has a covariant place
 module _ (p : Places) where
-  pub bound_place : kind_of p ≡ bound → 0 < p.invariant
-  bound_place h = pick (nat_eq p.invariant 0) (nat_eq p.covariant 0) (nat_eq p.covariant 1) refl h
-    where
-      pick : (a b c : Bool) → nat_eq p.invariant 0 ≡ a → cond a (cond b unused (cond c once diagonal)) bound ≡ bound → 0 < p.invariant
-      pick false b c e h = grind (arith, e)
-      pick true true c e h = cc
-      pick true false true e h = cc
-      pick true false false e h = cc
-
   pub diagonal_place : kind_of p ≡ diagonal → 0 < p.covariant
   diagonal_place h = pick (nat_eq p.invariant 0) (nat_eq p.covariant 0) (nat_eq p.covariant 1) refl h
     where
@@ -133,11 +124,29 @@ module _ (p : Places) where
       pick true true c e h = cc
       pick true false c e h = grind (arith, e)
 
-pub bound_stands : (s : Written) (v : ℕ) → list_all (is_outside_unions v) s.parts ≡ true → kind s v ≡ bound → In v (flat_map inner s.parts)
-bound_stands s v h k = (all_seen s v s.parts (each_seen s v s.parts) h).0 (bound_place (plus_all (map (places v) s.parts)) k)
+-- where a match finds a bound variable, it has an invariant place
+met_place : (p : Places) → is_met bound p ≡ true → 0 < p.invariant
+met_place p h = pick (nat_eq p.invariant 0) refl h
+  where
+    pick : (b : Bool) → nat_eq p.invariant 0 ≡ b → not b ≡ true → 0 < p.invariant
+    pick true e g = let f : false ≡ true = g in cc
+    pick false e g = grind (arith, e)
 
-pub diagonal_stands : (s : Written) (v : ℕ) → list_all (is_outside_unions v) s.parts ≡ true → kind s v ≡ diagonal → In v (flat_map outer s.parts)
-diagonal_stands s v h k = (all_seen s v s.parts (each_seen s v s.parts) h).1 (diagonal_place (plus_all (map (places v) s.parts)) k)
+module _ (s : Written) (v : ℕ) (usable : is_usable s v ≡ true) where
+  met : is_met (kind s v) (part_places s v) ≡ true
+  met = and_l (is_met (kind s v) (part_places s v)) (list_all (is_outside_unions v) s.parts) usable
 
-pub once_stands : (s : Written) (v : ℕ) → list_all (is_outside_unions v) s.parts ≡ true → kind s v ≡ once → In v (flat_map outer s.parts)
-once_stands s v h k = (all_seen s v s.parts (each_seen s v s.parts) h).1 (once_place (plus_all (map (places v) s.parts)) k)
+  outside : list_all (is_outside_unions v) s.parts ≡ true
+  outside = and_r (is_met (kind s v) (part_places s v)) (list_all (is_outside_unions v) s.parts) usable
+
+  abbrev all_places : Places
+  all_places = plus (part_places s v) (below_nominal (bound_places v s.vars))
+
+  pub bound_stands : kind s v ≡ bound → In v (flat_map inner s.parts)
+  bound_stands k = (all_seen s v s.parts (each_seen s v s.parts) outside).0 (met_place (part_places s v) (subst (λ z. is_met z (part_places s v) ≡ true) k met))
+
+  pub diagonal_stands : kind s v ≡ diagonal → In v (flat_map outer s.parts)
+  diagonal_stands k = (all_seen s v s.parts (each_seen s v s.parts) outside).1 (let l = diagonal_place all_places k in omega (arith, l))
+
+  pub once_stands : kind s v ≡ once → In v (flat_map outer s.parts)
+  once_stands k = (all_seen s v s.parts (each_seen s v s.parts) outside).1 (let l = once_place all_places k in omega (arith, l))

@@ -1,5 +1,5 @@
 -- The types that serve for a row are those that stand at the places of a variable in the signature as it is written.
-use Rattle.std.proofs.Common.{◌≡◌, ◌∙◌, sym, ap, subst, refl, ℕ, ◌<◌, cond, nat_eq, List, [], ◌∷◌, map, None, Some, inl, true, length}
+use Rattle.std.proofs.Common.{◌≡◌, ◌∙◌, sym, ap, subst, refl, ℕ, ◌<◌, cond, nat_eq, List, [], ◌∷◌, map, None, Some, inl}
 use Rattle.std.specs.List.{flat_map}
 use Rattle.jl_model.specs.declared.ty.Ty.{Ty}
 use Rattle.jl_model.specs.declared.ty.Ty.TheOpen.{Any, Tuple, Nominal, Var}
@@ -20,33 +20,22 @@ use Rattle.jl_model.proofs.FormLemmas.{is_any, is_union, is_tuple, is_nominal, i
 use Rattle.jl_model.proofs.HeightLemmas.{PartBy, by_any, by_tuple, by_nominal, by_self, equals_of}
 use Rattle.jl_model.proofs.BelowLemmas.{below_part}
 use Rattle.jl_model.proofs.DeclaredLemmas.{declared_lawful}
-use Rattle.jl_model.specs.Valid.{is_closed}
-use Rattle.jl_model.proofs.PutLemmas.{put-closed}
 use Rattle.jl_model.proofs.SelfLemmas.{Fine, alts_fine}
 use Rattle.jl_model.proofs.TransLemmas.{below_trans}
 use Rattle.jl_model.proofs.NormalLemmas.{In as Among, first as among_first, later as among_later}
-use Rattle.jl_types.proofs.KeptLemmas.{alts_pass}
-use Rattle.jl_types.proofs.PartsLemmas.{closed_parts}
 use Rattle.jl_search.specs.Open.{AreOpen}
 use Rattle.jl_match.proofs.ListLemmas.{In, in_left, in_right}
 use Rattle.jl_search.proofs.GoodLemmas.{Good, good_map, good_both, good_same, bare_good, at_var}
 use Rattle.jl_search.proofs.FindLemmas as L
 use Rattle.jl_search.proofs.OpenFound.{args_good}
 use Rattle.jl_match.proofs.TupleLemmas.{below_tuple, each_in}
-use Rattle.jl_match.proofs.ComponentLemmas.{none_of}
-use Rattle.jl_match.proofs.SubstLemmas.{tuples_in}
+use Rattle.jl_match.proofs.SubstLemmas.{put_below, tuples_in}
 use Rattle.jl_match.proofs.ConcreteLemmas.{Concrete, concrete_lone, concrete_turns}
 use Rattle.jl_match.proofs.KindLemmas.{Comp, comp_any, comp_var, comp_union, comp_tuple, comp_nominal, Comps, comps_end, comps_more}
 use Rattle.jl_match.proofs.RowForms.{choices_by, only}
 use Rattle.jl_types.proofs.FormEquations.{forms-tuple, forms-nominal, forms-var}
 use Rattle.jl_match.proofs.FitLemmas.{both_put}
 use Rattle.jl_match.proofs.RowLemmas.{IsLeft, each_unit, left_forms}
-
--- an alternative of a type without variables has none
-alternative_closed : (t a : Ty) → vars_in t ≡ [] → Among a (alts t) → vars_in a ≡ []
-alternative_closed t a e i =
-    let c : is_closed t ≡ true = ap (λ (ns : List ℕ). nat_eq (length ns) 0) e in
-    none_of (vars_in a) (each_in (λ z. is_closed z ≡ true) a (alts t) (alts_pass is_closed closed_parts t c) i)
 
 -- an alternative is below its type
 module _ (n : Table) where
@@ -187,16 +176,16 @@ module _ (ds : List Decl) (declared : Declared ds) (s : Written) (f : ℕ → Ty
         → Good Same v (first (map (find_outer opaque v) us) xs) (flat_map outer us)
     diagonals_good = outers_good Same (Concrete n (F v)) same_at
 
-  module _ (is_once : kind s v ≡ once) (plain : v < width s → vars_in (high s v) ≡ []) where
-    -- a type at the place of a variable with one place is below its upper bound
-    below_at : (w : ℕ) → w < width s → v ≡ w → (a : Ty) → Among a (at w) → (In v (vars_in a) → Unit {0}) → (x : Ty) → IsLeft n x → B x a → Below n opaque x (high s v)
+  module _ (is_once : kind s v ≡ once) where
+    -- a type at the place of a variable with one place is below its upper bound, with the types put for the variables in it
+    below_at : (w : ℕ) → w < width s → v ≡ w → (a : Ty) → Among a (at w) → (In v (vars_in a) → Unit {0}) → (x : Ty) → IsLeft n x → B x a → Below n opaque x (put F (high s v))
     below_at w l e a i c x h b =
         let o : kind s w ≡ once = ap (kind s) (sym e) ∙ is_once in
         let j : Among a (alts (high s w)) = subst (λ k. Among a (place_of s w k)) o i in
         let k : Among a (alts (high s v)) = subst (λ z. Among a (alts (high s z))) (sym e) j in
-        let p : vars_in a ≡ [] = alternative_closed (high s v) a (plain (subst (λ z. z < width s) (sym e) l)) k in
-        below_trans n (declared_lawful ds declared) x a (high s v) (subst (Below n opaque x) (put-closed F a p) b) (alternative_below n (high s v) a k)
+        let law = declared_lawful ds declared in
+        below_trans n law x (put F a) (put F (high s v)) b (put_below n law F a (high s v) (alternative_below n (high s v) a k))
 
     pub onces_good : (us : List Ty) → Comps s us → (as_ : List Ty) → Both (λ a w. Among a (G w)) as_ us → (xs : List Ty) → Each (IsLeft n) xs → Both B xs as_
-        → Good (λ y. Below n opaque y (high s v)) v (first (map (find_outer opaque v) us) xs) (flat_map outer us)
-    onces_good us p as_ b xs h d = outers_good (λ y. Below n opaque y (high s v)) (Unit {0}) below_at us p as_ b (λ i. tt) xs h d
+        → Good (λ y. Below n opaque y (put F (high s v))) v (first (map (find_outer opaque v) us) xs) (flat_map outer us)
+    onces_good us p as_ b xs h d = outers_good (λ y. Below n opaque y (put F (high s v))) (Unit {0}) below_at us p as_ b (λ i. tt) xs h d

@@ -3,3 +3,4 @@ pub mod KeptRow
 pub mod SigRows
 pub mod Listed
 pub mod Stands
+pub mod Hits

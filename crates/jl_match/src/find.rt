@@ -15,7 +15,12 @@ use jl_types::Table;
 use std::alloc::{AllocError, Global};
 
 /// The arguments of the ancestor `target` of a type, if it has one.
-fn ancestor(alloc: Global, table: &Table, target: u32, ty: &Ty) -> Result<Tys, AllocError>
+pub(crate) fn ancestor(
+    alloc: Global,
+    table: &Table,
+    target: u32,
+    ty: &Ty,
+) -> Result<Tys, AllocError>
     requires known { IsTrue (is_known (length table.now) ty.now) }
     ensures { IfOk result (λ found. found ≡ ancestor (table_of table.now) target (raised opaque (out-Ty ty.now))) }
 {

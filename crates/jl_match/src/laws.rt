@@ -47,10 +47,11 @@ pub fn law_rows()
 {}
 
 /// Whatever types for the variables serve, a variable of several places that a body may use stands for its binding, and the
-/// binding of one with a single place, outside nominal types, is below its upper bound. (Its lower bound is not asked.)
+/// binding of one with a single place, outside nominal types, is below its upper bound with these types put in. (Its lower bound is
+/// not asked.)
 pub fn law_bindings()
     ensures serve { (ds : List Decl) → Declared ds → (s : Written) → HasOwnVariables s → (VariablePlace s → ⊥) → (ts : List Ty) → AreConcrete ds ts → (r : Row) (f : ℕ → Ty) → IsRow (table_of ds) s r → Fits (table_of ds) s r ts f → (v : ℕ) → IsTrue (is_usable s v) → (kind s v ≡ diagonal) ⊎ (kind s v ≡ bound) → Equal (table_of ds) (binding (table_of ds) s ts v) (f v) }
-    ensures once { (ds : List Decl) → Declared ds → (s : Written) → HasOwnVariables s → (VariablePlace s → ⊥) → (ts : List Ty) → AreConcrete ds ts → (r : Row) (f : ℕ → Ty) → IsRow (table_of ds) s r → Fits (table_of ds) s r ts f → (v : ℕ) → IsTrue (is_usable s v) → kind s v ≡ once → Below (table_of ds) opaque (binding (table_of ds) s ts v) (high s v) }
+    ensures once { (ds : List Decl) → Declared ds → (s : Written) → HasOwnVariables s → (VariablePlace s → ⊥) → (ts : List Ty) → AreConcrete ds ts → (r : Row) (f : ℕ → Ty) → IsRow (table_of ds) s r → Fits (table_of ds) s r ts f → (v : ℕ) → IsTrue (is_usable s v) → kind s v ≡ once → Below (table_of ds) opaque (binding (table_of ds) s ts v) (put f (high s v)) }
 {}
 
 /// Where a signature applies, the binding of a variable with a single place, outside nominal types, is concrete. It stands at that

@@ -6,6 +6,7 @@ mod bindings;
 mod check;
 mod concrete;
 mod find;
+mod hits;
 pub mod laws;
 mod make;
 mod meet;

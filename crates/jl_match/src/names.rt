@@ -4,11 +4,12 @@
 ghost use Rattle.std.specs.Prelude.{◌≡◌, IsTrue, length, nat_lt, slice_get};
 ghost use Rattle.std.specs.List.{flat_map, list_all};
 ghost use Rattle.jl_model.specs.Rows.{vars_in};
+ghost use Rattle.jl_model.specs.Refusals.{bound_types};
 ghost use Rattle.jl_model.specs.SigRefusals.{types_in};
 ghost use Rattle.jl_sig.specs.Prepared.{HasOwnVariables};
 ghost use Rattle.jl_model.specs.Valid.{is_counted, is_known, params_of};
 
-use jl_model::ty::{Ty, Written};
+use jl_model::ty::{Bound, Ty, Written};
 use jl_norm::known::{are_bounds_known, are_known};
 use jl_types::Table;
 
@@ -82,6 +83,19 @@ fn is_own(ty: &Ty, count: u64) -> bool
     }
 }
 
+/// Whether each variable in the bounds is below `count`.
+#[tactic(auto, using(crate::proofs::NameLemmas::owning))]
+fn are_bounds_own(bounds: &[Bound], count: u64) -> bool
+    ensures { result ≡ list_all (λ v. nat_lt v count) (flat_map vars_in (bound_types bounds.now)) }
+{
+    for bound in bounds {
+        if !is_own(&bound.low, count) || !is_own(&bound.high, count) {
+            return false;
+        }
+    }
+    true
+}
+
 /// Whether a signature names only types of the table and its own variables.
 pub fn is_well_named(table: &Table, written: &Written) -> bool
     ensures own { IsTrue result → HasOwnVariables written.now }
@@ -89,11 +103,16 @@ pub fn is_well_named(table: &Table, written: &Written) -> bool
     ensures all { HasOwnVariables written.now → IsTrue (list_all (is_known (length table.now)) (types_in written.now)) → IsTrue result }
 {
     let count = u64::from(table.count());
+    let own = written.vars.len() as u64;
+    let bounds = written.vars.as_slice();
     let parts = written.parts.as_slice();
-    if !are_own(parts, written.vars.len() as u64) {
+    if !are_bounds_own(bounds, own) {
         return false;
     }
-    if !are_bounds_known(written.vars.as_slice(), count) {
+    if !are_own(parts, own) {
+        return false;
+    }
+    if !are_bounds_known(bounds, count) {
         return false;
     }
     are_known(parts, count)

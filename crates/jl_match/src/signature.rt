@@ -1,11 +1,13 @@
 //! Whether a signature applies to types, and what a method's body gets for its variables (Julia manual, Methods: Parametric
 //! Methods).
 
-ghost use Rattle.std.specs.Prelude.{◌≡◌, IsTrue, IfOk, None, Some};
+ghost use Rattle.std.specs.Prelude.{◌≡◌, not, IsTrue, IfOk, None, Some};
+ghost use Rattle.std.specs.List.{list_any};
 ghost use Rattle.jl_model.specs.declared.ty.Written.{Written};
 ghost use Rattle.jl_model.specs.Ancestors.{table_of};
 ghost use Rattle.jl_model.specs.Signature.{Applicable};
 ghost use Rattle.jl_model.specs.Bindings.{bindings};
+ghost use Rattle.jl_model.specs.Valid.{is_closed};
 ghost use Rattle.jl_sig.specs.Prepared.{IsSigOf};
 ghost use Rattle.jl_sig.specs.SigParts.{written_of};
 ghost use Rattle.jl_match.specs.KeptRow.{AreDiagonals, AreConcrete};
@@ -14,21 +16,25 @@ ghost use Rattle.jl_match.specs.SigRows.{AreKeptRows, AreRowsOf};
 use crate::bindings::{Bindings, bindings};
 use crate::row::row_applies;
 use jl_model::ty::{Ty, Written};
+use jl_search::bounds::mention_variables;
 use jl_sig::Sig;
 use jl_sig::row::SigRow;
 use jl_types::Table;
 use std::alloc::{AllocError, Global};
 
-/// Whether these types are below one of the rows of a signature whose bounds are normal forms, where `diagonals` tells which
-/// of its variables are diagonal. The cost is that of one row times the number of rows.
+/// Whether these types are below one of the rows of a signature whose bounds are as they are kept, where `named` tells whether an
+/// upper bound mentions a variable, and `diagonals` which variables are diagonal. The cost is that of one row times the number of
+/// rows.
 fn some_row_applies(
     alloc: Global,
     table: &Table,
     signature: &Written,
+    named: bool,
     diagonals: &[bool],
     rows: &[SigRow],
     types: &[Ty],
 ) -> Result<bool, AllocError>
+    requires named { named ≡ list_any (λ b. not (is_closed b.high)) signature.now.vars }
     requires diagonals { AreDiagonals signature.now diagonals.now }
     requires rows { AreKeptRows table.now signature.now rows.now }
     requires types { AreConcrete table.now types.now }
@@ -41,6 +47,7 @@ fn some_row_applies(
             alloc,
             table,
             signature,
+            named,
             diagonals,
             row.parts.as_slice(),
             row.chosen.as_slice(),
@@ -67,10 +74,12 @@ pub fn applies(
     ensures none { IfOk result (λ answer. answer ≡ None → Applicable (table_of table.now) (written_of sig.now) types.now → ⊥) }
 {
     table.valid();
+    let named = mention_variables(sig.bounds());
     if !some_row_applies(
         alloc,
         table,
         sig.bounded(),
+        named,
         sig.diagonals(),
         sig.rows(),
         types,

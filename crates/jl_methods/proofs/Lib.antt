@@ -13,3 +13,4 @@ pub mod CountLemmas
 pub mod LatestLemmas
 pub mod NewestLemmas
 pub mod NoteLemmas
+pub mod MadeLemmas

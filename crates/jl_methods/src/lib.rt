@@ -12,3 +12,4 @@ mod touch;
 pub use count::count_up_to;
 pub use index::Index;
 pub use newest::NewestRow;
+pub use touch::touches;

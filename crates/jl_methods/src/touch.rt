@@ -12,7 +12,7 @@ ghost use Rattle.jl_calculus.specs.declared.history.Del.{Del as L};
 ghost use Rattle.jl_calculus.specs.declared.history.Event.{Event};
 ghost use Rattle.jl_calculus.specs.Definitions.{HasSite, worlds};
 ghost use Rattle.jl_calculus.specs.Legal.{IsKeyOf};
-ghost use Rattle.jl_calculus.specs.Ranges.{head_of, keys_of};
+ghost use Rattle.jl_calculus.specs.Ranges.{head_of, keys_of, ChangeTouches};
 ghost use Rattle.jl_sig.specs.Prepared.{IsSigOf};
 ghost use Rattle.jl_sig.specs.SigParts.{written_of};
 ghost use Rattle.jl_methods.specs.Filters.{ArePicked, AreMadeThatApply, AreTouching, AreTouched, ChangeApplies, HasSig, IsOfProgram, defs_at};
@@ -64,6 +64,24 @@ fn change_applies(
         key.types.as_slice(),
     )?;
     Ok(is_there(found))
+}
+
+/// Whether a change touches a key: it is of its function, and its signature applies to its types.
+pub fn touches(
+    alloc: Global,
+    ready: &Ready,
+    change: Change,
+    key: &Key,
+) -> Result<bool, AllocError>
+    requires change { IsOfProgram ready.now change }
+    requires key { IsKeyOf ready.now key.now }
+    ensures { IfOk result (λ yes. Decides yes (ChangeTouches ready.now (Some change) key.now)) }
+{
+    if function_of(ready, change) != key.function {
+        return Ok(false);
+    }
+    let does_apply = change_applies(alloc, ready, change, key)?;
+    Ok(does_apply)
 }
 
 /// The worlds of those of the definitions that apply to the types of a key.

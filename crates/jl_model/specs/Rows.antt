@@ -8,7 +8,7 @@ use Rattle.jl_model.specs.declared.ty.Ty.TheVariants as W
 use Rattle.jl_model.specs.declared.ty.Ty.TheFolds.{fold-Ty, para-Ty}
 use Rattle.jl_model.specs.declared.ty.Bound.{Bound}
 use Rattle.jl_model.specs.declared.ty.Written.{Written}
-use Rattle.jl_model.specs.Kinds.{Places, Kind, unused, once, diagonal, bound, places, plus_all, kind_of}
+use Rattle.jl_model.specs.Kinds.{Places, Kind, unused, once, diagonal, bound, places, plus, plus_all, below_nominal, kind_of}
 
 -- every list that takes one member of each
 abbrev pub choices : List (List Ty) → List (List Ty)
@@ -42,8 +42,16 @@ low s v = (get_or s.vars v free).low
 abbrev pub high : Written → ℕ → Ty
 high s v = (get_or s.vars v free).high
 
+-- the places of a variable in the components, and in the bounds of the variables
+abbrev pub part_places : Written → ℕ → Places
+part_places s v = plus_all (map (places v) s.parts)
+
+abbrev pub bound_places : ℕ → List Bound → Places
+bound_places v bs = plus_all (map (λ b. plus (places v b.low) (places v b.high)) bs)
+
+-- a place in a bound is an invariant one
 abbrev pub kind : Written → ℕ → Kind
-kind s v = kind_of (plus_all (map (places v) s.parts))
+kind s v = kind_of (plus (part_places s v) (below_nominal (bound_places v s.vars)))
 
 -- The atom (v, u), where u is alternative i of the upper bound of v, is the variable v + width * (i + 1).
 abbrev pub atom : Written → ℕ → ℕ → ℕ
@@ -78,5 +86,10 @@ abbrev pub vars_in : Ty → List ℕ
 vars_in = fold-Ty (List ℕ) vars_step
 
 -- the variable, or an atom of it, stands in a row
-abbrev pub Occurs : Written → ℕ → List Ty → Type 0
-Occurs s v row = Contains (map (root s) (flat_map vars_in row)) v
+abbrev pub Stands : Written → ℕ → List Ty → Type 0
+Stands s v row = Contains (map (root s) (flat_map vars_in row)) v
+
+-- it is a variable of the row: it stands there, or in the bound of a variable of the row
+pub data Occurs (s : Written) : ℕ → List Ty → Type 0 where
+  standing : (v : ℕ) (row : List Ty) → Stands s v row → Occurs s v row
+  bounding : (v w : ℕ) (row : List Ty) → Occurs s w row → Contains (vars_in (high s w)) v → Occurs s v row

@@ -1,16 +1,17 @@
 -- What refuses a signature, and the signatures that are allowed (Julia manual, Methods: Parametric Methods; Types: UnionAll
 -- Types). The declarations are ds, the built-in ones first, and the signature is s.
-use Rattle.std.specs.Prelude.{ℕ, ◌≡◌, ◌<◌, ◌⊎◌, Bool, true, false, ◌&&◌, IsTrue, List, [], ◌∷◌, ◌++◌, map, length, get_or, slice_get}
+use Rattle.std.specs.Prelude.{ℕ, ◌+◌, ◌≡◌, ◌<◌, ◌⊎◌, Bool, true, false, ◌&&◌, ◌||◌, not, nat_lt, IsTrue, List, [], ◌∷◌, ◌++◌, map, length, get_or, slice_get}
 use Rattle.std.specs.List.{flat_map, list_all, Contains}
 use Rattle.jl_model.specs.declared.limits.TheConstants.{MOST_TYPE_NODES, MOST_ALTERNATIVES, MOST_SIGNATURE_ROWS, MOST_ARGUMENTS}
 use Rattle.jl_model.specs.declared.ty.Ty.{Ty}
 use Rattle.jl_model.specs.declared.ty.Ty.TheOpen.{Ty-F, Any, Union, Tuple, Nominal, Var}
+use Rattle.jl_model.specs.declared.ty.Ty.TheViews.{out-Ty}
 use Rattle.jl_model.specs.declared.ty.Ty.TheFolds.{para-Ty}
 use Rattle.jl_model.specs.declared.ty.Bound.{Bound}
 use Rattle.jl_model.specs.declared.ty.Decl.{Decl}
 use Rattle.jl_model.specs.declared.ty.Written.{Written}
 use Rattle.jl_model.specs.Kinds.{unused}
-use Rattle.jl_model.specs.Rows.{free, kind, width}
+use Rattle.jl_model.specs.Rows.{free, kind, width, vars_in}
 use Rattle.jl_model.specs.Subtype.{Table, opaque, Below}
 use Rattle.jl_model.specs.Ancestors.{table_of}
 use Rattle.jl_model.specs.Counts.{total, nodes, raw}
@@ -45,8 +46,30 @@ component_step (Var _) = true
 abbrev pub is_component : Ty → Bool
 is_component = para-Ty Bool component_step
 
+abbrev pub bottom_form : Ty-F Ty → Bool
+bottom_form (Union []) = true
+bottom_form _ = false
+
+abbrev pub is_bottom : Ty → Bool
+is_bottom t = bottom_form (out-Ty t)
+
+-- an upper bound with variables is a nominal type, and no variable stands in a union or a tuple of it
+abbrev pub named_form : Ty-F Ty → Bool
+named_form (Nominal _ ts) = list_all is_argument ts
+named_form _ = false
+
+-- Of m variables, the bounds of variable v have none; or the upper one is a nominal type over variables before v, and the lower one is
+-- `Union{}`. A number from m on is no variable of these: in a body it is a static parameter, which counts as declared before them.
+abbrev pub is_bound : ℕ → ℕ → Bound → Bool
+is_bound m v b =
+    is_closed b.low && (is_closed b.high || (is_bottom b.low && named_form (out-Ty b.high) && list_all (λ w. nat_lt w v || not (nat_lt w m)) (vars_in b.high)))
+
+abbrev pub are_bounds : ℕ → ℕ → List Bound → Bool
+are_bounds m v [] = true
+are_bounds m v (b ∷ bs) = is_bound m v b && are_bounds m (v + 1) bs
+
 abbrev pub are_placed : Written → Bool
-are_placed s = list_all is_closed (bound_types s.vars) && list_all is_component s.parts
+are_placed s = are_bounds (width s) 0 s.vars && list_all is_component s.parts
 
 -- all arguments of nominal types in it, nested ones too
 abbrev pub arguments_in : Written → List Given
@@ -72,7 +95,7 @@ ManyRows n s = (picks : ℕ → List Ty) × ArePicks n s picks × (MOST_SIGNATUR
 
 -- THE REFUSALS, in their order.
 
--- a variable stands in a union or tuple below a nominal type, or in a bound
+-- a variable stands in a union or tuple below a nominal type, or in a bound where it may not
 abbrev pub VariablePlace : Written → Type 0
 VariablePlace s = are_placed s ≡ false
 
@@ -92,7 +115,7 @@ WrongParameterCount ds s = list_all (is_counted ds) (types_in s) ≡ false
 abbrev pub TypeLimit : List Decl → Written → Type 0
 TypeLimit ds s = ManyNodes s ⊎ ManyAlternatives s ⊎ LargeForm (table_of ds) s ⊎ ManyRows (table_of ds) s
 
--- a low bound that is not below its high bound
+-- a low bound that is not below its high bound; it is below one with variables, since it is `Union{}` there
 abbrev pub BoundsCrossed : List Decl → Written → Type 0
 BoundsCrossed ds s = (b : Bound) × Contains s.vars b × (Below (table_of ds) opaque b.low b.high → ⊥)
 

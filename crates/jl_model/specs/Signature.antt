@@ -8,7 +8,7 @@ use Rattle.jl_model.specs.declared.ty.Ty.TheViews as V
 use Rattle.jl_model.specs.declared.ty.Ty.TheVariants as W
 use Rattle.jl_model.specs.declared.ty.Written.{Written}
 use Rattle.jl_model.specs.Kinds.{Kind, unused, once, diagonal, bound}
-use Rattle.jl_model.specs.Rows.{alts, width, low, high, kind, root, components, vars_in, Occurs}
+use Rattle.jl_model.specs.Rows.{alts, width, low, high, kind, root, components, vars_in, Stands, Occurs}
 use Rattle.jl_model.specs.Subtype.{Table, Fixed, opaque, put, lifted, Below, Equals, Equal, is_concrete}
 
 pub record Row : Type 0 where
@@ -18,9 +18,10 @@ pub record Row : Type 0 where
 
 pub record IsRow (n : Table) (s : Written) (r : Row) : Type 0 where
   pub parts : Contains (components s) r.parts
-  pub chosen : (v : ℕ) → kind s v ≡ diagonal → Occurs s v r.parts → Contains (alts (high s v)) (r.chosen v) × Below n opaque (low s v) (r.chosen v)
+  -- a diagonal variable stands in no bound
+  pub chosen : (v : ℕ) → kind s v ≡ diagonal → Stands s v r.parts → Contains (alts (high s v)) (r.chosen v) × Below n opaque (low s v) (r.chosen v)
   -- what stands for the other variables is of no account
-  pub other : (v : ℕ) → (Occurs s v r.parts → ⊥) → r.chosen v ≡ W.Any
+  pub other : (v : ℕ) → (Stands s v r.parts → ⊥) → r.chosen v ≡ W.Any
 
 abbrev pub by_kind : Kind → Ty → Ty → Ty
 by_kind diagonal t u = t

@@ -1,7 +1,7 @@
 -- A written type of a body, with its static parameters put in, is a signature that only its size or a declared bound refuses.
-use Rattle.std.proofs.Common.{◌≡◌, ◌∙◌, sym, ap, subst, refl, ℕ, ◌-◌, ◌<◌, arith, Bool, true, false, ◌&&◌, ◌||◌, cond, nat_eq, nat_lt, List, [], ◌∷◌, ◌++◌, map, length, get_or}
+use Rattle.std.proofs.Common.{◌≡◌, ◌∙◌, sym, ap, ap₂, subst, refl, ℕ, ◌-◌, ◌<◌, arith, Bool, true, false, ◌&&◌, ◌||◌, not, cond, nat_eq, nat_lt, List, [], ◌∷◌, ◌++◌, map, length, get_or}
 use Rattle.std.specs.List.{flat_map, list_all}
-use Rattle.std.proofs.lemmas.List.{length-map}
+use Rattle.std.proofs.lemmas.List.{length-map, map-append}
 use Rattle.jl_model.specs.declared.ty.Ty.{Ty}
 use Rattle.jl_model.specs.declared.ty.Ty.TheOpen.{Any, Var}
 use Rattle.jl_model.specs.declared.ty.Ty.TheViews.{rolls-Any, rolls-Var}
@@ -10,18 +10,19 @@ use Rattle.jl_model.specs.declared.ty.Ty.TheFolds.{fold-roll-Ty}
 use Rattle.jl_model.specs.declared.ty.Bound.{Bound}
 use Rattle.jl_model.specs.declared.ty.Decl.{Decl}
 use Rattle.jl_model.specs.declared.ty.Written.{Written}
-use Rattle.jl_model.specs.Kinds.{places, plus_all, kind_of, nowhere}
+use Rattle.jl_model.specs.Ancestors.{table_of}
+use Rattle.jl_model.specs.Kinds.{places, plus, plus_all, below_nominal, kind_of, nowhere}
 use Rattle.jl_model.specs.Refusals.{bound_types}
-use Rattle.jl_model.specs.Rows.{vars_in}
-use Rattle.jl_model.specs.SigRefusals.{types_in, are_placed, is_argument, is_component, UnusedVariable, TooManyParameters}
-use Rattle.jl_model.specs.Subtype.{put}
+use Rattle.jl_model.specs.Rows.{kind, vars_in}
+use Rattle.jl_model.specs.SigRefusals.{types_in, are_bounds, are_placed, is_argument, is_component, UnusedVariable, TooManyParameters, BoundsCrossed}
+use Rattle.jl_model.specs.Subtype.{opaque, put, Below}
 use Rattle.jl_model.specs.Valid.{is_known, is_counted, counted_step, is_closed}
 use Rattle.jl_model.proofs.DeclaredLemmas.{not_false}
 use Rattle.jl_model.proofs.FormLemmas.{vars-var}
 use Rattle.jl_model.proofs.KnownLemmas.{known-any, known-var}
-use Rattle.jl_model.proofs.PutLemmas.{and_l, and_r, both_true, put-closed}
+use Rattle.jl_model.proofs.PutLemmas.{and_l, and_r, both_true}
 use Rattle.jl_model.proofs.TypeInduction.{Each, by_cases}
-use Rattle.jl_types.proofs.PartsLemmas.{closed_parts, closed-any, known_parts, counted_parts}
+use Rattle.jl_types.proofs.PartsLemmas.{closed_parts, closed-any, closed-var, known_parts, counted_parts}
 use Rattle.jl_sig.proofs.FitLemmas.{argument-var, argument-union, argument-tuple, argument-nominal, component-any, component-var, component-union, component-tuple, component-nominal}
 use Rattle.jl_sig.proofs.KindLemmas.{places-var}
 use Rattle.jl_match.proofs.ComponentLemmas.{none_of}
@@ -33,6 +34,9 @@ use Rattle.jl_calculus.specs.Statics.{own_or_bound, put_bound, with_statics}
 use Rattle.jl_calculus.proofs.ToldFaults.{closed_argument}
 use Rattle.jl_operations.specs.Bodies.{IsBodySig}
 use Rattle.jl_operations.specs.Conditions.{IsPutType, HaveTypes, IsWrittenIn}
+use Rattle.jl_search.proofs.HasLemmas.{map_has, has_of, of_has}
+use Rattle.jl_sig.proofs.OwnLemmas.{vars_split}
+use Rattle.jl_operations.proofs.BoundLemmas.{types_put, bounds_same, places_stay, bounds_put, order_put}
 use Rattle.jl_operations.proofs.PutLemmas.{all_alike, all_pass, IsLike, components_kept, closed_nowhere, all_places, all_left}
 
 -- a type without variables may stand anywhere
@@ -63,27 +67,6 @@ all_right_of p xs ys h = and_r (list_all p xs) (list_all p ys) (sym (all-append 
 
 pub all_both : {A : Type 0} (p : A → Bool) (xs ys : List A) → list_all p xs ≡ true → list_all p ys ≡ true → list_all p (xs ++ ys) ≡ true
 all_both p xs ys h k = all-append p xs ys ∙ both_true (list_all p xs) (list_all p ys) h k
-
-vars_right : (p : ℕ → Bool) (xs ys : List Ty) → list_all p (flat_map vars_in (xs ++ ys)) ≡ true → list_all p (flat_map vars_in ys) ≡ true
-vars_right p [] ys h = h
-vars_right p (x ∷ xs) ys h = vars_right p xs ys (all_right_of p (vars_in x) (flat_map vars_in (xs ++ ys)) h)
-
--- bounds without variables stay
-same_bound : (f : ℕ → Ty) (b : Bound) → is_closed b.low ≡ true → is_closed b.high ≡ true → put_bound f b ≡ b
-same_bound f b h k =
-    let p = put-closed f b.low (none_of (vars_in b.low) h) in
-    let q = put-closed f b.high (none_of (vars_in b.high) k) in
-    ap (λ (z : Ty). let c : Bound = record { low = z; high = put f b.high } in c) p ∙ ap (λ (z : Ty). let c : Bound = record { low = b.low; high = z } in c) q
-
-pub bounds_stay : (f : ℕ → Ty) (bs : List Bound) → list_all is_closed (bound_types bs) ≡ true → map (put_bound f) bs ≡ bs
-bounds_stay f [] h = refl
-bounds_stay f (b ∷ bs) h =
-    let low = and_l (is_closed b.low) (list_all is_closed (b.high ∷ bound_types bs)) h in
-    let rest = and_r (is_closed b.low) (list_all is_closed (b.high ∷ bound_types bs)) h in
-    let high = and_l (is_closed b.high) (list_all is_closed (bound_types bs)) rest in
-    let p = same_bound f b low high in
-    let q = bounds_stay f bs (and_r (is_closed b.high) (list_all is_closed (bound_types bs)) rest) in
-    cc
 
 -- ---- tests of `Any` and of variables
 
@@ -146,27 +129,33 @@ module _ (ds : List Decl) (usable : List Bool) (statics : List Ty) (types : Have
   known_all : list_all (is_known m) (types_in t) ≡ true
   known_all = and_l (list_all (is_known m) (types_in t)) (list_all (may_stand own usable) (flat_map vars_in (types_in t))) seen_rest
 
-  stand_parts : list_all (may_stand own usable) (flat_map vars_in t.parts) ≡ true
-  stand_parts = vars_right (may_stand own usable) (bound_types t.vars) t.parts (and_r (list_all (is_known m) (types_in t)) (list_all (may_stand own usable) (flat_map vars_in (types_in t))) seen_rest)
+  stand_all : (list_all (may_stand own usable) (flat_map vars_in (bound_types t.vars)) ≡ true) × (list_all (may_stand own usable) (flat_map vars_in t.parts) ≡ true)
+  stand_all = vars_split (may_stand own usable) (bound_types t.vars) t.parts (and_r (list_all (is_known m) (types_in t)) (list_all (may_stand own usable) (flat_map vars_in (types_in t))) seen_rest)
 
   -- where the variables stand
   well : are_placed (without_statics t) ≡ true
   well = not_false (are_placed (without_statics t)) allowed.placed
 
-  pub bounds_closed : list_all is_closed (bound_types t.vars) ≡ true
-  bounds_closed = and_l (list_all is_closed (bound_types t.vars)) (list_all is_component (map (put (own_or_any own)) t.parts)) well
+  bounds_placed : are_bounds own 0 t.vars ≡ true
+  bounds_placed = and_l (are_bounds own 0 t.vars) (list_all is_component (map (put (own_or_any own)) t.parts)) well
 
   parts_placed : list_all is_component (map (put (own_or_any own)) t.parts) ≡ true
-  parts_placed = and_r (list_all is_closed (bound_types t.vars)) (list_all is_component (map (put (own_or_any own)) t.parts)) well
+  parts_placed = and_r (are_bounds own 0 t.vars) (list_all is_component (map (put (own_or_any own)) t.parts)) well
 
   -- the type with these put in
   abbrev pub plain : Written
-  plain = record { vars = t.vars; parts = map (put clean) t.parts }
+  plain = record { vars = map (put_bound clean) t.vars; parts = map (put clean) t.parts }
+
+  wide : length (map (put_bound clean) t.vars) ≡ own
+  wide = length-map t.vars (put_bound clean)
+
+  types_are : types_in plain ≡ map (put clean) (types_in t)
+  types_are = ap (λ z. z ++ map (put clean) t.parts) (types_put clean t.vars) ∙ sym (map-append (put clean) (bound_types t.vars) t.parts)
 
   pub with_is : with_statics statics t ≡ plain
   with_is =
-      let bounds = bounds_stay (own_or_bound statics own) t.vars bounds_closed in
-      let parts = all_alike (may_stand own usable) (own_or_bound statics own) clean agree t.parts stand_parts in
+      let bounds = bounds_same (own_or_bound statics own) clean t.vars (all_alike (may_stand own usable) (own_or_bound statics own) clean agree (bound_types t.vars) stand_all.0) in
+      let parts = all_alike (may_stand own usable) (own_or_bound statics own) clean agree t.parts stand_all.1 in
       λ i. record { vars = bounds i; parts = parts i }
 
   other_place : (v w : ℕ) → v < own → nat_lt w own ≡ false → places v (W.Var w) ≡ nowhere
@@ -177,30 +166,64 @@ module _ (ds : List Decl) (usable : List Bool) (statics : List Ty) (types : Have
   unused : UnusedVariable plain → ⊥
   unused (v, l, k) =
       let same : (w : ℕ) → places v (clean w) ≡ places v (W.Var w)
-      = λ w. pick (λ z. places v z ≡ places v (W.Var w)) w (λ e. refl) (λ u h e. closed_nowhere v u h.closed ∙ sym (other_place v w l e)) in
-      allowed.used (v, l, sym (ap (λ z. kind_of (plus_all z)) (all_places v clean same t.parts)) ∙ k)
+      = λ w. pick (λ z. places v z ≡ places v (W.Var w)) w (λ e. refl) (λ u h e. closed_nowhere v u h.closed ∙ sym (other_place v w (subst (λ z. v < z) wide l) e)) in
+      let kinds : kind plain v ≡ kind t v = ap₂ (λ z y. kind_of (plus (plus_all z) (below_nominal y))) (all_places v clean same t.parts) (places_stay v clean same t.vars) in
+      allowed.used (v, subst (λ z. v < z) wide l, sym kinds ∙ k)
 
   many : TooManyParameters plain → ⊥
   many h = allowed.few (let e = length-map t.parts (put clean) in omega (arith, e, h))
 
-  types_pass : (p : Ty → Bool) → list_all p (types_in t) ≡ true → (list_all p t.parts ≡ true → list_all p (map (put clean) t.parts) ≡ true) → list_all p (types_in plain) ≡ true
-  types_pass p h f = all_both p (bound_types t.vars) (map (put clean) t.parts) (all_left_of p (bound_types t.vars) t.parts h) (f (all_right_of p (bound_types t.vars) t.parts h))
+  types_pass : (p : Ty → Bool) → list_all p (map (put clean) (types_in t)) ≡ true → list_all p (types_in plain) ≡ true
+  types_pass p h = ap (list_all p) types_are ∙ h
 
   counted : list_all (is_counted ds) (types_in plain) ≡ true
   counted =
-      types_pass (is_counted ds) (not_false (list_all (is_counted ds) (types_in t)) allowed.counted)
-      (all_pass (is_counted ds) (counted_parts ds) (counted-any ds) clean (λ v. pick (λ z. is_counted ds z ≡ true) v (λ e. counted-var ds v) (λ u h e. h.valid.counted)) t.parts)
+      types_pass (is_counted ds)
+      (all_pass (is_counted ds) (counted_parts ds) (counted-any ds) clean (λ v. pick (λ z. is_counted ds z ≡ true) v (λ e. counted-var ds v) (λ u h e. h.valid.counted)) (types_in t)
+      (not_false (list_all (is_counted ds) (types_in t)) allowed.counted))
 
   known : list_all (is_known m) (types_in plain) ≡ true
   known =
-      types_pass (is_known m) known_all
-      (all_pass (is_known m) (known_parts m) (known-any m) clean (λ v. pick (λ z. is_known m z ≡ true) v (λ e. known-var m v) (λ u h e. h.valid.known)) t.parts)
+      types_pass (is_known m)
+      (all_pass (is_known m) (known_parts m) (known-any m) clean (λ v. pick (λ z. is_known m z ≡ true) v (λ e. known-var m v) (λ u h e. h.valid.known)) (types_in t) known_all)
 
-  own_left : list_all (λ v. nat_lt v own) (flat_map vars_in (map (put clean) t.parts)) ≡ true
+  -- where p holds of a variable, it holds of what stands for it
+  one_left : (p : ℕ → Bool) (v : ℕ) → (nat_lt v own ≡ true → p v ≡ true) → list_all p (vars_in (clean v)) ≡ true
+  one_left p v h =
+      pick (λ z. list_all p (vars_in z) ≡ true) v (λ e. ap (list_all p) (vars-var v) ∙ both_true (p v) true (h e) refl) (λ u k e. ap (list_all p) (none_of (vars_in u) k.closed))
+
+  own_left : list_all (λ v. nat_lt v (length plain.vars)) (flat_map vars_in (types_in plain)) ≡ true
   own_left =
-      let p : ℕ → Bool = λ v. nat_lt v own in
-      all_left p clean
-      (λ v. pick (λ z. list_all p (vars_in z) ≡ true) v (λ e. ap (list_all p) (vars-var v) ∙ both_true (nat_lt v own) true e refl) (λ u h e. ap (list_all p) (none_of (vars_in u) h.closed))) t.parts
+      let p : ℕ → Bool = λ v. nat_lt v (length plain.vars) in
+      let here : (v : ℕ) → list_all p (vars_in (clean v)) ≡ true = λ v. one_left p v (λ e. ap (λ (z : ℕ). nat_lt v z) wide ∙ e) in
+      ap (λ z. list_all p (flat_map vars_in z)) types_are ∙ all_left p clean here (types_in t)
+
+  -- bounds stand where they may, and are in order
+  may_be : (v : ℕ) → is_argument (clean v) ≡ true
+  may_be v = pick (λ z. is_argument z ≡ true) v (λ e. argument-var v) (λ u h e. closed_argument u h.closed)
+
+  before_left : (v w : ℕ) → (nat_lt w v || not (nat_lt w own)) ≡ true → list_all (λ w. nat_lt w v || not (nat_lt w own)) (vars_in (clean w)) ≡ true
+  before_left v w h = one_left (λ w. nat_lt w v || not (nat_lt w own)) w (λ e. h)
+
+  var_like : (v : ℕ) → IsLike (W.Var v) (clean v)
+  var_like v = record {
+    closed = λ h. let f : false ≡ true = sym (closed-var v) ∙ h in cc;
+    argument = may_be v;
+    component = pick (λ z. is_component z ≡ true) v (λ e. component-var v) (λ u h e. closed_component u h.closed);
+  }
+
+  bounds_well : are_bounds (length plain.vars) 0 plain.vars ≡ true
+  bounds_well = subst (λ (z : ℕ). are_bounds z 0 plain.vars ≡ true) (sym wide) (bounds_put own clean may_be before_left var_like 0 t.vars bounds_placed)
+
+  crossed : BoundsCrossed ds plain → ⊥
+  crossed c =
+      let r = map_has (put_bound clean) t.vars c.0 (has_of plain.vars c.0 c.1) in
+      allowed.ordered (
+        r.0,
+        of_has t.vars r.0 r.1,
+        λ k. c.2
+            (subst (λ (z : Bound). Below (table_of ds) opaque z.low z.high) r.2 (order_put own clean may_be before_left var_like (table_of ds) 0 t.vars bounds_placed r.0 r.1 k)),
+      )
 
   plain_body : IsBodySig ds plain
   plain_body = record {
@@ -208,13 +231,13 @@ module _ (ds : List Decl) (usable : List Bool) (statics : List Ty) (types : Have
     known = known;
     written = record {
       placed = λ h.
-          (let a = both_true (list_all is_closed (bound_types t.vars)) (list_all is_component (map (put clean) t.parts)) bounds_closed (components_kept (own_or_any own) clean like t.parts parts_placed) in
+          (let a = both_true (are_bounds (length plain.vars) 0 plain.vars) (list_all is_component (map (put clean) t.parts)) bounds_well (components_kept (own_or_any own) clean like t.parts parts_placed) in
           let f : true ≡ false = sym a ∙ h in cc);
       used = unused;
       few = many;
       counted = λ h. (let f : true ≡ false = sym counted ∙ h in cc);
     };
-    ordered = allowed.ordered;
+    ordered = crossed;
   }
 
   pub body_sig : IsBodySig ds (with_statics statics t)
@@ -223,9 +246,6 @@ module _ (ds : List Decl) (usable : List Bool) (statics : List Ty) (types : Have
 -- the same of a type that is written in a body of a program
 pub written_sig : (P : Program) (statics : List Ty) (t : Written) → IsWrittenIn P statics t → IsBodySig (all_types P) (with_statics statics t)
 written_sig P statics t h = body_sig (all_types P) h.usable statics h.types t h.seen h.allowed
-
-pub written_closed : (P : Program) (statics : List Ty) (t : Written) → IsWrittenIn P statics t → list_all is_closed (bound_types t.vars) ≡ true
-written_closed P statics t h = bounds_closed (all_types P) h.usable statics h.types t h.seen h.allowed
 
 -- where an argument may stand a part may
 components_of_closed : (ts : List Ty) → list_all is_closed ts ≡ true → list_all is_component ts ≡ true

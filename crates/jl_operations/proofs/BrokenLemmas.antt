@@ -9,12 +9,14 @@ use Rattle.jl_model.specs.declared.ty.Decl.{Decl}
 use Rattle.jl_model.specs.declared.ty.Written.{Written}
 use Rattle.jl_model.specs.Counts.{nodes, total}
 use Rattle.jl_model.specs.Refusals.{Declared, bound_types, Given, given_in}
-use Rattle.jl_model.specs.SigRefusals.{types_in, are_placed, is_component, VariablePlace, TypeLimit}
-use Rattle.jl_model.specs.Valid.{is_known, is_closed}
+use Rattle.jl_model.specs.Rows.{width}
+use Rattle.jl_model.specs.SigRefusals.{types_in, are_bounds, are_placed, is_component, VariablePlace, TypeLimit}
+use Rattle.jl_model.specs.Valid.{is_known}
 use Rattle.jl_model.proofs.DeclaredLemmas.{not_false}
 use Rattle.jl_model.proofs.PutLemmas.{and_l, and_r}
 use Rattle.jl_sig.specs.Parts.{HasWide}
 use Rattle.jl_sig.specs.Fit.{IsFit, AllFit, AllFitArguments}
+use Rattle.jl_sig.proofs.BoundLemmas.{bounds_components}
 use Rattle.jl_sig.proofs.FitLemmas.{nominal_fit}
 use Rattle.jl_sig.proofs.LimitLemmas.{large_argument}
 use Rattle.jl_program.specs.declared.fault.Fault.TheVariants as F
@@ -22,7 +24,7 @@ use Rattle.jl_calculus.specs.Laws.{HasBroken}
 use Rattle.jl_calculus.specs.Statics.{IsBroken, nominals_in, is_bad_parameter}
 use Rattle.jl_calculus.proofs.BrokenLemmas.{nominals-any, nominals-var, nominals-union, nominals-tuple, nominals-nominal}
 use Rattle.jl_operations.specs.Broken.{IsFirstOf, IsNamed}
-use Rattle.jl_operations.proofs.BodyLemmas.{closed_component, argument_component}
+use Rattle.jl_operations.proofs.BodyLemmas.{argument_component}
 
 -- ---- members
 
@@ -123,12 +125,12 @@ module _ (ds : List Decl) (declared : Declared ds) (s : Written) (known : list_a
   pub parts_fit : AllFit ds s.parts
   parts_fit =
       fit_all s.parts
-      (λ t c. (Contains-append_right (bound_types s.vars) s.parts t c, true_in is_component s.parts t (and_r (list_all is_closed (bound_types s.vars)) (list_all is_component s.parts) well) c))
+      (λ t c. (Contains-append_right (bound_types s.vars) s.parts t c, true_in is_component s.parts t (and_r (are_bounds (width s) 0 s.vars) (list_all is_component s.parts) well) c))
 
   pub bounds_fit : AllFit ds (bound_types s.vars)
   bounds_fit =
       fit_all (bound_types s.vars)
-      (λ t c. (Contains-append_left (bound_types s.vars) s.parts t c, closed_component t (true_in is_closed (bound_types s.vars) t (and_l (list_all is_closed (bound_types s.vars)) (list_all is_component s.parts) well) c)))
+      (λ t c. (Contains-append_left (bound_types s.vars) s.parts t c, bounds_components (width s) 0 s.vars t (and_l (are_bounds (width s) 0 s.vars) (list_all is_component s.parts) well) c))
 
 pub fit_both : (ds : List Decl) (xs ys : List Ty) → AllFit ds xs → AllFit ds ys → AllFit ds (xs ++ ys)
 fit_both ds [] ys e f = f

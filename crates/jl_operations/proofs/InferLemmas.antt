@@ -2,7 +2,7 @@
 use Rattle.std.proofs.Common.{◌≡◌, ◌∙◌, sym, ap, subst, refl, ℕ, zero, suc, ◌+◌, ◌<◌, ◌≤◌, inl, inr, ◌↔◌, arith, Bool, true, IsTrue, nat_eq, nat_le, nat_lt, List, [], ◌∷◌, map, length, Option, None, Some, slice_get, append-nil, IfOk, Result}
 use Rattle.std.proofs.lemmas.Result.{IfOk-weaker}
 use Rattle.std.proofs.lemmas.List.{length-map}
-use Rattle.std.specs.List.{flat_map, list_all, list_any, Contains}
+use Rattle.std.specs.List.{flat_map, list_all, Contains}
 use Rattle.jl_model.specs.declared.ty.Ty.{Ty}
 use Rattle.jl_model.specs.declared.ty.Ty.TheViews.{outs-Union, outs-Nominal}
 use Rattle.jl_model.specs.declared.ty.Ty.TheViews as V
@@ -15,13 +15,13 @@ use Rattle.jl_model.specs.Bindings.{binding, bindings}
 use Rattle.jl_model.specs.Counts.{nodes}
 use Rattle.jl_model.specs.Kept.{field_types}
 use Rattle.jl_model.specs.Normal.{IsNormal, nominal as normal_nominal}
-use Rattle.jl_model.specs.Refusals.{Declared, Given, given_in, bound_types}
-use Rattle.jl_model.specs.Rows.{vars_in, forms, width, kind, place_of, components}
-use Rattle.jl_model.specs.SigRefusals.{VariablePlace, BoundBroken, are_placed, is_component}
+use Rattle.jl_model.specs.Refusals.{Declared, Given, given_in}
+use Rattle.jl_model.specs.Rows.{vars_in, forms, width, kind, part_places, place_of, components}
+use Rattle.jl_model.specs.SigRefusals.{VariablePlace, BoundBroken, are_bounds, are_placed, is_component}
 use Rattle.jl_model.specs.Signature.{Both, both_end, both_more, Applicable}
 use Rattle.jl_model.specs.Subtype.{Table, opaque, put, at, Below, Equal, is_concrete}
-use Rattle.jl_model.specs.Usable.{is_usable, is_outside_unions, stands_in}
-use Rattle.jl_model.specs.Valid.{is_known, is_counted, is_closed, params_of}
+use Rattle.jl_model.specs.Usable.{is_met, is_usable, is_outside_unions}
+use Rattle.jl_model.specs.Valid.{is_known, is_counted, params_of}
 use Rattle.jl_model.proofs.AncestorLemmas.{true_each, each_true}
 use Rattle.jl_model.proofs.FormLemmas.{vars-nominal}
 use Rattle.jl_model.proofs.KnownLemmas.{known_nominal}
@@ -46,6 +46,7 @@ use Rattle.jl_sig.specs.declared.sig.Sig.{Sig}
 use Rattle.jl_sig.specs.Forms.{HasOutside}
 use Rattle.jl_sig.specs.Parts.{given, all_given}
 use Rattle.jl_sig.specs.Prepared.{HasOwnVariables, IsWellPlaced}
+use Rattle.jl_sig.proofs.OwnLemmas.{own_parts}
 use Rattle.jl_sig.specs.Readied.{HasFieldSig}
 use Rattle.jl_sig.specs.SigParts.{written_of}
 use Rattle.jl_match.specs.KeptRow.{AreConcrete, Fits}
@@ -90,13 +91,13 @@ module _ (ds : List Decl) (declared : Declared ds) (s : Written) (own : HasOwnVa
   well = not_false (are_placed s) placed
 
   parts : Comps s s.parts
-  parts = comps s own (components_of s.parts (and_r (list_all is_closed (bound_types s.vars)) (list_all is_component s.parts) well))
+  parts = comps s (own_parts s own) (components_of s.parts (and_r (are_bounds (width s) 0 s.vars) (list_all is_component s.parts) well))
 
   lefts : Each (IsLeft n) ts
   lefts = each_normal n ts (true_each (is_concrete n opaque) ts types.concrete) types.normal
 
   outside : (v : ℕ) → v < width s → list_all (is_outside_unions v) s.parts ≡ true
-  outside v l = and_r (list_any (stands_in v) s.parts) (list_all (is_outside_unions v) s.parts) (usable v l)
+  outside v l = and_r (is_met (kind s v) (part_places s v)) (list_all (is_outside_unions v) s.parts) (usable v l)
 
   abbrev found : ℕ → Ty
   found = at (bindings n s ts)

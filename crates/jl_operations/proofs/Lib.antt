@@ -3,6 +3,7 @@ pub mod ValidLemmas
 pub mod PartLemmas
 pub mod StaticLemmas
 pub mod PutLemmas
+pub mod BoundLemmas
 pub mod BodyLemmas
 pub mod BrokenLemmas
 pub mod SettleLemmas

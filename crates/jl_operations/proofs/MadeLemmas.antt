@@ -18,6 +18,7 @@ use Rattle.jl_program.specs.declared.tree.Program.{Program}
 use Rattle.jl_program.specs.BodyTypes.{may_stand, is_struct_type}
 use Rattle.jl_program.specs.Scope.{all_types}
 use Rattle.jl_calculus.specs.Statics.{own_or_bound, put_bound, with_statics}
+use Rattle.jl_sig.proofs.OwnLemmas.{own_parts}
 use Rattle.jl_operations.specs.Bodies.{IsBodySig}
 use Rattle.jl_operations.specs.Conditions.{IsMadeIn}
 use Rattle.jl_operations.specs.Constructed.{IsConstructed, IsOneConstructed}
@@ -49,7 +50,7 @@ module _ (ds : List Decl) where
       let known = and_l (is_known (length ds) t) true (subst (λ z. list_all (is_known (length ds)) z ≡ true) e (all_right_of (is_known (length ds)) (bound_types s.vars) s.parts b.known)) in
       let all = not_false (list_all (is_counted ds) (types_in s)) b.written.counted in
       let counted = and_l (is_counted ds t) true (subst (λ z. list_all (is_counted ds) z ≡ true) e (all_right_of (is_counted ds) (bound_types s.vars) s.parts all)) in
-      let own : list_all (λ v. nat_lt v 0) (flat_map vars_in (t ∷ [])) ≡ true = subst (λ z. list_all (λ v. nat_lt v 0) (flat_map vars_in z) ≡ true) e (subst (λ (m : ℕ). list_all (λ v. nat_lt v m) (flat_map vars_in s.parts) ≡ true) n b.own) in
+      let own : list_all (λ v. nat_lt v 0) (flat_map vars_in (t ∷ [])) ≡ true = subst (λ z. list_all (λ v. nat_lt v 0) (flat_map vars_in z) ≡ true) e (subst (λ (m : ℕ). list_all (λ v. nat_lt v m) (flat_map vars_in s.parts) ≡ true) n (own_parts s b.own)) in
       let none = no_append (vars_in t) [] (none_below (flat_map vars_in (t ∷ [])) own) in
       record { known = known; counted = counted; closed = ap (λ ns. nat_eq (length ns) 0) none; struct = h }
 

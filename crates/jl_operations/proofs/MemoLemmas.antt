@@ -17,7 +17,6 @@ use Rattle.jl_operations.specs.Bodies.{IsBodySig, IsKeptAs}
 use Rattle.jl_operations.specs.Conditions.{IsWrittenIn}
 use Rattle.jl_operations.specs.Constructed.{made_of}
 use Rattle.jl_operations.specs.Memo.{IsFormed, IsFormedIf, IsRight, AreRight, NonePrepared, IsAmong, IsOf, IsPut}
-use Rattle.jl_operations.proofs.BodyLemmas.{written_closed}
 use Rattle.jl_operations.proofs.PreparedLemmas.{alone_stays, kept_made}
 
 -- ---- what is prepared stays right
@@ -78,10 +77,10 @@ of_form ds s x u h e = subst (IsFormedIf ds s) e (subst (λ z. IsFormedIf ds z x
 -- ---- a written type that is found is the same with the static parameters put in
 
 pub found_stays : (P : Program) (statics : List Ty) (t : Written) (x : Prepared) → IsWrittenIn P statics t → IsOf (all_types P) t x → with_statics statics t ≡ t
-found_stays P statics t x w h = alone_stays statics t (written_closed P statics t w) (of_body (all_types P) t x h).own
+found_stays P statics t x w h = alone_stays statics t (of_body (all_types P) t x h).own
 
 pub formed_stays : (P : Program) (statics : List Ty) (t : Written) (u : Ty) → IsWrittenIn P statics t → IsFormed (all_types P) t u → with_statics statics t ≡ t
-formed_stays P statics t u w h = alone_stays statics t (written_closed P statics t w) h.own
+formed_stays P statics t u w h = alone_stays statics t h.own
 
 pub formed_made : (ds : List Decl) (s : Written) (u : Ty) (vs : List Value) (o : Outcome) → Declared ds → IsFormed ds s u → make_struct ds u vs o → made_of ds s vs o
 formed_made ds s u vs o declared h m = kept_made ds declared s u vs o h.allowed h.form m

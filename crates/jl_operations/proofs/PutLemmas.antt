@@ -126,6 +126,9 @@ module _ (h f : ℕ → Ty) (like : (v : ℕ) → IsLike (h v) (f v)) where
     var = λ v k. ap is_component (put-var f v) ∙ (like v).component;
   })
 
+  pub arguments_kept : (ts : List Ty) → list_all is_argument (map (put h) ts) ≡ true → list_all is_argument (map (put f) ts) ≡ true
+  arguments_kept ts = keeps_all is_argument ts (each_all (Keeps is_argument) argument_kept ts)
+
   pub components_kept : (ts : List Ty) → list_all is_component (map (put h) ts) ≡ true → list_all is_component (map (put f) ts) ≡ true
   components_kept ts = keeps_all is_component ts (each_all (Keeps is_component) component_kept ts)
 
@@ -153,7 +156,7 @@ module _ (v : ℕ) where
     same_each [] e = refl
     same_each (t ∷ ts) e = let p = e.0 in let q = same_each ts e.1 in cc
 
-    same_places : (t : Ty) → places v (put f t) ≡ places v t
+    pub same_places : (t : Ty) → places v (put f t) ≡ places v t
     same_places = by_cases (λ t. places v (put f t) ≡ places v t) (record {
       any = ap (places v) (put-any f);
       union = λ ts e. ap (places v) (put-union f ts) ∙ places-union v (map (put f) ts) ∙ ap plus_all (same_each ts e) ∙ sym (places-union v ts);

@@ -2,11 +2,12 @@
 use Rattle.std.proofs.Common.{◌≡◌, ◌∙◌, refl, sym, ap, subst, ℕ, zero, suc, arith, List, [], ◌∷◌, ◌++◌, map}
 use Rattle.std.specs.List.{Contains, flat_map}
 use Rattle.jl_model.specs.declared.ty.Ty.{Ty}
-use Rattle.jl_model.specs.declared.ty.Ty.TheOpen.{Any, Nominal}
+use Rattle.jl_model.specs.declared.ty.Ty.TheOpen.{Any, Union, Nominal}
 use Rattle.jl_model.specs.declared.ty.Ty.TheVariants as T
-use Rattle.jl_model.specs.declared.ty.Ty.TheViews.{rolls-Any, rolls-Nominal, outs-Any, outs-Nominal}
+use Rattle.jl_model.specs.declared.ty.Ty.TheViews.{rolls-Any, rolls-Union, rolls-Nominal, outs-Any, outs-Nominal}
 use Rattle.jl_model.specs.declared.ty.Ty.TheFolds.{fold-roll-Ty, para-roll-Ty}
-use Rattle.jl_model.specs.Rows.{choices, forms, forms_step, alts, components, place_of, vars_in, vars_step, kind, root, Occurs}
+use Rattle.jl_model.specs.Kinds.{Places, nowhere, plus, places, places_step}
+use Rattle.jl_model.specs.Rows.{free, choices, forms, forms_step, alts, components, place_of, vars_in, vars_step, kind, root, Occurs, standing, bounding}
 use Rattle.jl_model.specs.Subtype.{Table, opaque, put, put_step, Below, Covered, Found, Part, below, none, more, here, any, nominal, equals_end}
 use Rattle.jl_model.specs.Signature.{Row, Both, both_end, both_more, Applicable}
 use Rattle.jl_model.specs.Choice.{Method, Applies, IsCandidate, ChoosesMethod}
@@ -39,6 +40,20 @@ module _ (f : ℕ → Ty) where
 abbrev pub places_in : List Ty → ℕ → List Ty
 places_in us v = place_of (plain us) v (kind (plain us) v)
 
+-- no variable stands in the bounds of a variable that is written without them
+pub free_places : (v : ℕ) → plus (places v free.low) (places v free.high) ≡ nowhere
+free_places v =
+    ap (λ p. plus p (places v T.Any)) (ap (places v) (sym (rolls-Union [])) ∙ fold-roll-Ty Places (places_step v) (Union []))
+    ∙ ap (plus nowhere) (ap (places v) (sym rolls-Any) ∙ fold-roll-Ty Places (places_step v) Any)
+
+not_in_none : (v : ℕ) → Contains [] v → ⊥
+not_in_none v (k, l, e) = absurd (omega (arith, l))
+
+-- no variable is one of the row of such a signature
+pub none_occurs : (us : List Ty) → flat_map vars_in us ≡ [] → (v : ℕ) → Occurs (plain us) v us → ⊥
+none_occurs us e v (standing v1 us1 o) = not_in_none v (subst (λ (ws : List ℕ). Contains (map (root (plain us)) ws) v) e o)
+none_occurs us e v (bounding v1 w us1 o c) = not_in_none v (subst (λ (ws : List ℕ). Contains ws v) any_vars c)
+
 module _ (n : Table) where
   one_below : (t u : Ty) → alts t ≡ t ∷ [] → alts u ≡ u ∷ [] → Part n opaque t u → Below n opaque t u
   one_below t u d e p =
@@ -56,17 +71,14 @@ module _ (n : Table) where
       → Both (λ t u. Below n opaque t (put (λ v. T.Any) u)) ts us → Applicable n (plain us) ts
   applies_by us ts c vs b =
       let r : Row = record { parts = us; chosen = λ v. T.Any } in
-      let never : (v : ℕ) → Occurs (plain us) v us → ⊥ = λ v o. nowhere v (subst (λ (ws : List ℕ). Contains (map (root (plain us)) ws) v) vs o) in (
+      let none = none_occurs us vs in (
         r,
         (λ v. T.Any),
-        record { parts = c; chosen = λ v k o. absurd (never v o); other = λ v o. refl },
-        record { least = λ v o. absurd (never v o); most = λ v o. absurd (never v o); sure = λ v o. absurd (never v o) },
+        record { parts = c; chosen = λ v k o. absurd (none v (standing v us o)); other = λ v o. refl },
+        record { least = λ v o. absurd (none v o); most = λ v o. absurd (none v o); sure = λ v o. absurd (none v o) },
         (λ v. any_vars),
         b,
       )
-    where
-      nowhere : (v : ℕ) → Contains [] v → ⊥
-      nowhere v (k, l, e) = absurd (omega (arith, l))
 
   pub any_applies : Applicable n (plain (T.Any ∷ [])) (int64 ∷ [])
   any_applies =

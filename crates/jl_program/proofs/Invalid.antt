@@ -9,8 +9,9 @@ use Rattle.jl_model.specs.declared.ty.Ty.TheFolds.{fold-roll-Ty, para-roll-Ty}
 use Rattle.jl_model.specs.declared.ty.Written.{Written}
 use Rattle.jl_model.specs.Ancestors.{named}
 use Rattle.jl_model.specs.declared.ty.Decl.{Decl}
-use Rattle.jl_model.specs.Rows.{free, vars_in, vars_step}
-use Rattle.jl_model.specs.Usable.{stands_in, is_outside_unions, outside_step, is_usable}
+use Rattle.jl_model.specs.Rows.{free, kind, part_places, vars_in, vars_step}
+use Rattle.jl_model.specs.SigRefusals.{is_bottom}
+use Rattle.jl_model.specs.Usable.{stands_in, is_outside_unions, outside_step, is_met, is_usable}
 use Rattle.jl_model.specs.Valid.{is_known}
 use Rattle.std.specs.List.{list_all, list_any}
 use Rattle.jl_program.specs.declared.tree.Expr.{Expr}
@@ -166,7 +167,9 @@ union_inside =
     ∙ ap (λ vs. not (list_any (nat_eq 0) vs) && (not (stands_in 0 (named 6)) && true)) (var_vars 0)
 
 not_usable : is_usable in_union 0 ≡ false
-not_usable = ap (λ b. list_any (stands_in 0) in_union.parts && (b && true)) union_inside ∙ and_false (list_any (stands_in 0) in_union.parts)
+not_usable =
+    let met = is_met (kind in_union 0) (part_places in_union 0) in
+    ap (λ b. met && (b && true)) union_inside ∙ and_false met
 
 unusable_static : IsValid (program (record { function = 12; sig = in_union; body = X.Isa (E.Local 0) (type (T.Var 0)) } ∷ []) [] []) → ⊥
 unusable_static =
@@ -197,4 +200,4 @@ abbrev static_bound : Written
 static_bound = record { vars = record { low = W.Union []; high = T.Var 1 } ∷ []; parts = T.Var 0 ∷ [] }
 
 bound_by_static : (ds : List Decl) → IsAllowedType ds static_bound → ⊥
-bound_by_static ds a = a.placed (rw (var_vars 1, and_false (nat_eq (length (vars_in (W.Union []))) 0)) refl)
+bound_by_static ds a = a.placed (rw (var_vars 1, outs-Var 1, and_false (is_bottom (W.Union [])), and_false (nat_eq (length (vars_in (W.Union []))) 0)) refl)

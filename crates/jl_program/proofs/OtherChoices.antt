@@ -1,16 +1,16 @@
 -- The order of signatures and the choice, computed on two scripts with two methods of one name.
-use Rattle.std.proofs.Common.{◌≡◌, ◌∙◌, refl, sym, ap, subst, ℕ, zero, suc, ◌<◌, ◌≤◌, ◌⊎◌, inl, inr, arith, List, [], ◌∷◌, ◌++◌, map}
+use Rattle.std.proofs.Common.{◌≡◌, ◌∙◌, refl, sym, ap, subst, ℕ, zero, suc, ◌<◌, ◌≤◌, ◌⊎◌, inl, inr, arith, List, [], ◌∷◌, ◌++◌}
 use Rattle.std.specs.List.{Contains, flat_map}
 use Rattle.jl_model.specs.declared.ty.Ty.{Ty}
 use Rattle.jl_model.specs.declared.ty.Ty.TheOpen.{Any, Tuple, Nominal, Var}
 use Rattle.jl_model.specs.declared.ty.Ty.TheVariants as T
 use Rattle.jl_model.specs.declared.ty.Ty.TheViews.{out-Ty, outs-Any, outs-Nominal}
-use Rattle.jl_model.specs.Rows.{choices, forms, components, vars_in, root, Occurs}
+use Rattle.jl_model.specs.Rows.{choices, forms, components, vars_in, Occurs, standing}
 use Rattle.jl_model.specs.Subtype.{Table, Fixed, opaque, put, Below}
 use Rattle.jl_model.specs.Signature.{Row, IsRow, fixed, Both, both_end, both_more, Meets, Meet, any, tuple, nominal, same, atom, raise_tuple, raise_nominal, meet_end, meet_more, Applicable, SigBelow, StrictlyBelow, SameSignature}
 use Rattle.jl_model.specs.Choice.{Method, Applies, IsCandidate, IsBest, IsUnordered, IsFirstUnordered, IsFirstTwo, ChoosesMethod, ChoosesAmbiguous}
 use Rattle.jl_program.specs.Prelude.{plain, int64, two}
-use Rattle.jl_program.proofs.FirstChoices.{any_forms, int_forms, any_vars, int_vars, any_put, int_put, places_in, applies_by, int_below_any, int_below_int}
+use Rattle.jl_program.proofs.FirstChoices.{any_forms, int_forms, any_vars, int_vars, any_put, int_put, places_in, none_occurs, applies_by, int_below_any, int_below_int}
 
 -- a list that is the only row of its signature, without variables
 record IsAlone (us : List Ty) : Type 0 where
@@ -25,7 +25,7 @@ nowhere : (v : ℕ) → Contains [] v → ⊥
 nowhere v (k, p, e) = absurd (omega (arith, p))
 
 never : (us : List Ty) → IsAlone us → (v : ℕ) → Occurs (plain us) v us → ⊥
-never us a v o = nowhere v (subst (λ (ws : List ℕ). Contains (map (root (plain us)) ws) v) a.free o)
+never us a = none_occurs us a.free
 
 abbrev row_of : List Ty → Row
 row_of us = record { parts = us; chosen = λ v. T.Any }
@@ -34,7 +34,7 @@ module _ (n : Table) where
   is_row : (us : List Ty) → IsAlone us → IsRow n (plain us) (row_of us)
   is_row us a = record {
     parts = subst (λ (cs : List (List Ty)). Contains cs us) (sym a.only) (0, omega arith, refl);
-    chosen = λ v k o. absurd (never us a v o);
+    chosen = λ v k o. absurd (never us a v (standing v us o));
     other = λ v o. refl;
   }
 

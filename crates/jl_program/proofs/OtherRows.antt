@@ -9,13 +9,13 @@ use Rattle.jl_model.specs.declared.ty.Ty.TheViews as W
 use Rattle.jl_model.specs.declared.ty.Ty.TheViews.{out-Ty, roll-Ty, roll-out-Ty, rolls-Any, rolls-Union, rolls-Tuple, rolls-Nominal, rolls-Var, outs-Any, outs-Union, outs-Tuple, outs-Nominal, outs-Var}
 use Rattle.jl_model.specs.declared.ty.Ty.TheFolds.{fold-roll-Ty, para-roll-Ty}
 use Rattle.jl_model.specs.declared.ty.Written.{Written}
-use Rattle.jl_model.specs.Kinds.{Kind, diagonal, Places, places, places_step, nowhere, plus, kind_of}
+use Rattle.jl_model.specs.Kinds.{Kind, diagonal, Places, places, places_step, nowhere, plus, below_nominal, kind_of}
 use Rattle.jl_model.specs.Ancestors.{builtin_types, table_of, up_in}
-use Rattle.jl_model.specs.Rows.{choices, forms, forms_step, alts, components, place_of, vars_in, vars_step, kind, root, high, low, free, Occurs}
+use Rattle.jl_model.specs.Rows.{choices, forms, forms_step, alts, components, place_of, vars_in, vars_step, kind, root, high, low, free, bound_places, Occurs, standing}
 use Rattle.jl_model.specs.Subtype.{Table, Fixed, opaque, lifted, put_in, put, put_step, Below, Covered, Found, Part, below, none, more, here, there, raise, any, tuple, nominal, self, own, under, is_concrete, concrete_step}
 use Rattle.jl_model.specs.Signature.{Row, IsRow, by_kind, top, Both, both_end, both_more, Applicable}
 use Rattle.jl_program.specs.Prelude.{int64, bool}
-use Rattle.jl_program.proofs.FirstChoices.{any_forms, int_forms, any_put, int_vars, int_below_any, int_below_int}
+use Rattle.jl_program.proofs.FirstChoices.{free_places, any_forms, int_forms, any_put, int_vars, int_below_any, int_below_int}
 
 -- the signature
 abbrev pub same : Written
@@ -29,7 +29,10 @@ var_places = ap (places 0) (sym (rolls-Var 0)) ∙ fold-roll-Ty Places (places_s
 
 -- its variable is diagonal
 kind_is : kind same 0 ≡ diagonal
-kind_is = ap (λ p. kind_of (plus p (plus p nowhere))) var_places
+kind_is =
+    let bounds = below_nominal (bound_places 0 same.vars) in
+    ap (λ p. kind_of (plus (plus p (plus p nowhere)) bounds)) var_places
+    ∙ ap (λ b. kind_of (plus (record { covariant = 2; invariant = 0 }) (below_nominal (plus b nowhere)))) (free_places 0)
 
 abbrev at_places : ℕ → List Ty
 at_places v = place_of same v (kind same v)
@@ -45,7 +48,7 @@ var_vars : vars_in (T.Var 0) ≡ 0 ∷ []
 var_vars = ap vars_in (sym (rolls-Var 0)) ∙ fold-roll-Ty (List ℕ) vars_step (L.Var 0)
 
 occurs : Occurs same 0 vars
-occurs = subst (λ (vs : List ℕ). Contains (map (root same) (vs ++ (vs ++ []))) 0) (sym var_vars) (0, omega arith, refl)
+occurs = standing 0 vars (subst (λ (vs : List ℕ). Contains (map (root same) (vs ++ (vs ++ []))) 0) (sym var_vars) (0, omega arith, refl))
 
 none_alts : alts (W.Union []) ≡ []
 none_alts = ap alts (sym (rolls-Union [])) ∙ para-roll-Ty (List Ty) (forms_step (λ v. T.Var v ∷ [])) (L.Union [])

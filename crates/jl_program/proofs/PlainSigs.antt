@@ -134,6 +134,7 @@ plain_valid ds ts a few =
     let no_vars : flat_map vars_in ts ≡ [] = gives vars_in (λ t p. (f t p).vars) ts a in
     record {
       own = ap (list_all (λ v. nat_lt v 0)) no_vars;
+      own_bounds = refl;
       known = passes (is_known (length (builtin_types ++ ds))) (λ t p. (f t p).known) ts a;
       allowed = record {
         placed = λ e. true≢false (sym (passes is_component (λ t p. (f t p).component) ts a) ∙ e);

@@ -6,6 +6,7 @@ use Rattle.jl_model.specs.declared.ty.Ty.{Ty}
 use Rattle.jl_model.specs.declared.ty.Ty.TheOpen.{Ty-F, Nominal}
 use Rattle.jl_model.specs.declared.ty.Ty.TheViews.{out-Ty}
 use Rattle.jl_model.specs.declared.ty.Ty.TheVariants as W
+use Rattle.jl_model.specs.declared.ty.Bound.{Bound}
 use Rattle.jl_model.specs.declared.ty.Decl.{Decl}
 use Rattle.jl_model.specs.declared.ty.Written.{Written}
 use Rattle.jl_model.specs.AllRows.{each_var}
@@ -56,12 +57,19 @@ abbrev pub is_inferable : List Decl → ℕ → Bool
 is_inferable ds name = is_struct ds name && finds_variables (fields_signature (slice_get ds name))
 
 -- The type with `Any` for each static parameter outside the bounds: a static parameter stands for any type, so it is no
--- variable there, and counts as one node and one alternative. In a bound it counts as a variable.
+-- variable there, and counts as one node and one alternative. In a bound it counts as a variable declared before the type's own.
 abbrev pub own_or_any : ℕ → ℕ → Ty
 own_or_any own v = cond (nat_lt v own) (W.Var v) W.Any
 
 abbrev pub without_statics : Written → Written
 without_statics t = record { vars = t.vars; parts = map (put (own_or_any (length t.vars))) t.parts }
+
+abbrev pub any_in_bound : ℕ → Bound → Bound
+any_in_bound own b = record { low = put (own_or_any own) b.low; high = put (own_or_any own) b.high }
+
+-- the type with `Any` for each static parameter, in the bounds too: of this one the rows are counted
+abbrev pub without_any_statics : Written → Written
+without_any_statics t = record { vars = map (any_in_bound (length t.vars)) t.vars; parts = map (put (own_or_any (length t.vars))) t.parts }
 
 -- A written type in a body keeps what is asked of a signature. What is said of types without variables is not said of those
 -- with a static parameter.
@@ -70,7 +78,7 @@ pub record IsAllowedType (ds : List Decl) (t : Written) : Type 0 where
   pub used : UnusedVariable t → ⊥
   pub few : TooManyParameters t → ⊥
   pub counted : WrongParameterCount ds t → ⊥
-  pub small : ManyNodes t ⊎ ManyAlternatives t ⊎ LargeForm (table_of ds) t ⊎ ManyRows (table_of ds) (without_statics t) → ⊥
+  pub small : ManyNodes t ⊎ ManyAlternatives t ⊎ LargeForm (table_of ds) t ⊎ ManyRows (table_of ds) (without_any_statics t) → ⊥
   pub ordered : BoundsCrossed ds t → ⊥
   pub within : BoundBroken ds t → ⊥
 

@@ -4,7 +4,7 @@ use Rattle.std.specs.Prelude.{ℕ, ◌≡◌, ◌<◌, ◌≤◌, Bool, ◌&&◌
 use Rattle.std.specs.List.{flat_map, list_all}
 use Rattle.jl_model.specs.declared.ty.Decl.{Decl}
 use Rattle.jl_model.specs.declared.ty.Written.{Written}
-use Rattle.jl_model.specs.Refusals.{Declared}
+use Rattle.jl_model.specs.Refusals.{bound_types, Declared}
 use Rattle.jl_model.specs.Rows.{vars_in}
 use Rattle.jl_model.specs.SigRefusals.{types_in, IsAllowedSig}
 use Rattle.jl_model.specs.Valid.{is_known}
@@ -24,6 +24,7 @@ is_named d = is_free_name d.name && list_all (λ f. is_field_name f.name) d.fiel
 -- a signature has no variables but its own, names types of the program, and is allowed
 pub record IsValidSig (ds : List Decl) (s : Written) : Type 0 where
   pub own : IsTrue (list_all (λ v. nat_lt v (length s.vars)) (flat_map vars_in s.parts))
+  pub own_bounds : IsTrue (list_all (λ v. nat_lt v (length s.vars)) (flat_map vars_in (bound_types s.vars)))
   pub known : IsTrue (list_all (is_known (length ds)) (types_in s))
   pub allowed : IsAllowedSig ds s
 

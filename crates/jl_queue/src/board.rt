@@ -38,6 +38,13 @@ impl<T> Board<T> {
         self.line.is_empty() && !self.line.is_closed()
     }
 
+    /// How many jobs are ready.
+    pub fn count_ready(&self) -> usize
+        ensures { result ≡ length self.now.ready }
+    {
+        self.line.len()
+    }
+
     /// Closes the board for good.
     pub fn close(&mut self)
         ensures { self.new ≡ record { ready = self.old.ready; closed = true; waiting = self.old.waiting } }

@@ -64,6 +64,13 @@ impl<T> Line<T> {
         self.values.is_empty()
     }
 
+    /// How many values are in the line.
+    pub fn len(&self) -> usize
+        ensures { result ≡ length self.now.0 }
+    {
+        self.values.len()
+    }
+
     /// Closes the line for good. The values that are in it are still handed out.
     pub fn close(&mut self)
         ensures { self.new ≡ (self.old.0, true) }

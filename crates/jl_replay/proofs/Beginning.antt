@@ -8,7 +8,7 @@ use Rattle.jl_calculus.specs.declared.history.Event.TheVariants as Ev
 use Rattle.jl_calculus.specs.declared.history.TraceItem.TheVariants as I
 use Rattle.jl_calculus.specs.Legal.{EachAfter, MayCome, MayStand, start_of, first_place}
 use Rattle.jl_calculus.specs.Past.{IsInOrder, own_events, own_starts, tasks_of}
-use Rattle.jl_dispatcher.specs.Knows.{Knows}
+use Rattle.jl_task.specs.Knows.{Knows}
 use Rattle.jl_machine.specs.declared.task.Machine.{Machine}
 use Rattle.jl_machine.specs.Steps.{MachineFits, IsLost, IsNewRoot, IsNewTask}
 use Rattle.jl_machine.proofs.Whole.{root_law, task_law}

@@ -13,8 +13,8 @@ use Rattle.jl_history.specs.declared.fault.HistoryFault.TheVariants.{BadText}
 use Rattle.jl_history.specs.declared.history.TheConstants.{MOST_HISTORY_BYTES}
 use Rattle.jl_history.specs.Form.{AreLater, AreFirst, AreEntries, IsFirstBad, UnlessMemory}
 use Rattle.jl_history.proofs.WholeLemmas.{one_text}
-use Rattle.jl_legible.specs.Numbered.{IsNumbered}
-use Rattle.jl_legible.proofs.EntryTexts.{legal_entries}
+use Rattle.jl_history.specs.Numbered.{IsNumbered}
+use Rattle.jl_history.proofs.EntryTexts.{legal_entries}
 use Rattle.jl_causes.specs.declared.cause.Cause.{Cause}
 use Rattle.jl_causes.specs.declared.cause.Cause.TheVariants.{RunDiffers}
 use Rattle.jl_causes.specs.Sketch.{Tells, AllTell}
@@ -22,7 +22,7 @@ use Rattle.jl_causes.specs.Causes.{is_begin, StartWell, IsFreeOf, HasNoCause, Is
 use Rattle.jl_causes.specs.Laws.{AreApart}
 use Rattle.jl_causes.proofs.SketchLemmas.{tell_take}
 use Rattle.jl_causes.proofs.LegalLemmas.{legal_has_no_cause}
-use Rattle.jl_keys.specs.Laws.{KeysApart}
+use Rattle.jl_causes.specs.KeyLaws.{KeysApart}
 use Rattle.jl_replay.specs.declared.verdict.Verdict.{Verdict}
 use Rattle.jl_replay.specs.declared.verdict.Verdict.TheVariants as V
 use Rattle.jl_replay.specs.Differs.{AreLegalEntries}

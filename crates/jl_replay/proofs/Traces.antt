@@ -15,7 +15,7 @@ use Rattle.jl_calculus.specs.declared.history.TraceItem.TheVariants as I
 use Rattle.jl_calculus.specs.Legal.{AreTrueOf, IsRunning, MayCome, first_place, HasTrueTrace}
 use Rattle.jl_calculus.specs.Past.{tasks_of, IsInOrder, place, past, own_items, own_events}
 use Rattle.jl_machine.specs.Steps.{fuel_of as fuel_in, trace_of, IsAt}
-use Rattle.jl_fit.specs.Fits.{AllLearnt}
+use Rattle.jl_task.specs.Fits.{AllLearnt}
 use Rattle.jl_lead.specs.Leads.{led_knows}
 use Rattle.jl_lead.specs.Stretch.{IsStretch}
 use Rattle.jl_lead.proofs.EventFacts.{goes_self, tasks_append, own_later, self_eq}

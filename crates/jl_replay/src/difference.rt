@@ -8,8 +8,8 @@ ghost use Rattle.jl_replay.specs.Following.{IsDifference};
 
 use crate::ends::find_ends;
 use crate::runs::Runs;
+use jl_causes::law_keys_apart;
 use jl_host::HostOps;
-use jl_keys::law_keys_apart;
 use jl_report::Entry;
 use jl_sig::Ready;
 use std::alloc::{AllocError, Global};

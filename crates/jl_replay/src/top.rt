@@ -12,10 +12,9 @@ ghost use Rattle.jl_replay.specs.Verdict.{AreRead, IsVerdict, AreJudgedSo};
 
 use crate::difference::first_difference;
 use crate::verdict::Verdict;
-use jl_causes::{Cause, first_cause};
+use jl_causes::{Cause, first_cause, law_keys_apart};
 use jl_history::{HistoryFault, MOST_NUMBER, read_history};
 use jl_host::HostOps;
-use jl_keys::{KeyReader, law_keys_apart};
 use jl_program::tree::Program;
 use jl_report::{Entry, has_places};
 use jl_sig::Ready;
@@ -33,7 +32,7 @@ fn judge(
 {
     law_keys_apart();
     ready.valid();
-    if let Some((n, cause)) = first_cause(alloc, ready, &KeyReader, entries)? {
+    if let Some((n, cause)) = first_cause(alloc, ready, entries)? {
         return Ok(Verdict::Illegal(n, cause));
     }
     match first_difference(alloc, ready, ops, entries)? {

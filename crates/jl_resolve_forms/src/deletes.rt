@@ -14,17 +14,19 @@ use crate::scopes::{merge_fault, note, note_if};
 use crate::state::{Scope, SignatureRead, Signed, State};
 use crate::types::{declared_at, make_args, start_of};
 use jl_grammar::tree::Name;
+use jl_model::rows::Row;
 use jl_model::ty::Written;
 use jl_names::decls::FirstDecls;
 use jl_program::tree::{Delete, Expr as Code};
 use jl_typeread::tree::{ArgText, TypeText, VarText};
 use jl_written::fault::StaticKind;
 use jl_written::names::{is_same, to_u32};
-use jl_written::reads::{bind_all, read_members};
+use jl_written::reads::{add_places, bind_first, read_parts};
 use jl_written::signatures::no_reading;
 use jl_written::text_order::order_types;
-use jl_written::vars::{Around, TypeVars};
+use jl_written::vars::Around;
 use std::alloc::{AllocError, Global};
+use std::mem;
 
 /// The name `Tuple` with its arguments in braces.
 fn is_tuple(ty: &TypeText) -> bool
@@ -79,11 +81,11 @@ fn tuple_signature(
 ) -> Result<SignatureRead, AllocError>
     ensures { IfOk result (λ r. signature_as r ≡ tuple_signature decls.now args.now vars.now) }
 {
-    let around = Around::top(decls);
-    let mut visible = TypeVars::new(alloc);
     let mut reading = no_reading(alloc);
-    bind_all(alloc, &around, &mut visible, &mut reading, vars, false)?;
-    let types = read_members(alloc, &around, &mut visible, &mut reading, args, false)?;
+    let visible = bind_first(alloc, decls, &mut reading, vars)?;
+    let behind = mem::replace(&mut reading.places, Row::new(alloc));
+    let types = read_parts(alloc, &Around::within(decls, &visible), &mut reading, args)?;
+    add_places(&mut reading, behind.as_slice())?;
     let types = order_types(alloc, &mut reading, types)?;
     Ok(SignatureRead {
         vars: visible,

@@ -32,11 +32,12 @@ use jl_typeread::tree::VarText;
 use jl_written::fault::StaticKind;
 use jl_written::names::{is_builtin, to_u32};
 use jl_written::reading::{Reading, TypeVar};
-use jl_written::reads::{bind_all, read_type};
+use jl_written::reads::{add_places, bind_first, read_alone};
 use jl_written::signatures::{adopt_bounds, no_reading};
 use jl_written::text_order::order_types;
 use jl_written::vars::{Around, TypeVars};
 use std::alloc::{AllocError, Global};
+use std::mem;
 
 /// Neither slots nor static parameters are visible.
 pub fn bare_scope(alloc: Global, types: u32) -> Scope
@@ -105,25 +106,22 @@ fn too_many(state: &State) -> Option<StaticKind>
     }
 }
 
-/// The types of parameters.
+/// The types of parameters, where the variables of the `where` at the end of the signature are declared before.
 fn all_read(
     alloc: Global,
     around: &Around<'_>,
-    vars: &mut TypeVars,
     reading: &mut Reading,
     params: &[Param],
 ) -> Result<Tys, AllocError>
-    ensures means { IfOk result (λ ts. types ts reading.new
-        ≡ all_read around.now.decls.now (map type_of params.now)
-        (around.now.statics ++ vars.old) reading.old) }
-    ensures kept { OnOk result (vars.new ≡ vars.old) }
+    ensures { IfOk result (λ ts. types ts reading.new
+        ≡ all_read around.now.decls.now (map type_of params.now) around.now.first reading.old) }
 {
     let mut tys = Row::new(alloc);
     for param in params {
         let ty = match param {
             Param::Name(_) => Ty::Any,
-            Param::Typed(_, text) => read_type(alloc, around, vars, reading, text, false)?,
-            Param::Unnamed(_, text) => read_type(alloc, around, vars, reading, text, false)?,
+            Param::Typed(_, text) => read_alone(alloc, around, reading, text)?,
+            Param::Unnamed(_, text) => read_alone(alloc, around, reading, text)?,
         };
         tys.push(ty)?;
     }
@@ -141,11 +139,16 @@ fn signature(
     ensures { IfOk result (λ r. signature_as r
         ≡ signature decls.now (map type_of params.now) vars.now) }
 {
-    let around = Around::top(decls);
-    let mut visible = TypeVars::new(alloc);
     let mut reading = no_reading(alloc);
-    bind_all(alloc, &around, &mut visible, &mut reading, vars, false)?;
-    let types = all_read(alloc, &around, &mut visible, &mut reading, params)?;
+    let visible = bind_first(alloc, decls, &mut reading, vars)?;
+    let behind = mem::replace(&mut reading.places, Row::new(alloc));
+    let types = all_read(
+        alloc,
+        &Around::within(decls, &visible),
+        &mut reading,
+        params,
+    )?;
+    add_places(&mut reading, behind.as_slice())?;
     let types = order_types(alloc, &mut reading, types)?;
     Ok(SignatureRead {
         vars: visible,

@@ -222,11 +222,11 @@ module _ (t : Tests) (k : Known) where
       let w = with_vars bs v in
       let inside : Visible = record w { types = types ++ h.name.bytes ∷ [] } in
       let texts = map (λ (f : FieldText). f.ty) fields in
-      let s = all_bound ds h.params [] no_reading in
+      let s = all_bound ds h.params no_reading in
       let p = option_reads ds h.parent s.vars s.after in
       let x = heading ds kind_ h in
       let ts = all_read (ds ++ x.own ∷ []) texts x.vars x.reading in
-      let b = bound_told t k ds h.params [] v no_reading (record { names = λ name. refl; idle = λ name. refl }) e in
+      let b = bound_told t k ds h.params v no_reading (record { now = record { names = λ name. refl; idle = λ name. refl }; bound = refl; first = record { names = λ name. refl; idle = λ name. refl } }) e in
       joined t k (brought bs v) (option_uses h.parent w ++ options_uses texts inside) None s.after.fault ts.after.fault b.0
       (joined t k (option_uses h.parent w) (options_uses texts inside) s.after.fault p.after.fault ts.after.fault
       (option_told t k ds h.parent s.vars w s.after b.1 e)

@@ -49,7 +49,7 @@ abbrev P_use : List Use → List Use
 P_use us = used 7 (declared_type (codes "P")) (types_only (type_names builtin_types)) ∷ us
 
 unknown_faults : AreFaults with_unknown_type (fault 12 kind.UnknownType ∷ [])
-unknown_faults = λ i. all_named (text_known with_unknown_type) 0 (P_use (((plain_uses 12 (codes "R") i (types_only (type_names builtin_types)) ++ []) ++ []) ++ []))
+unknown_faults = λ i. all_named (text_known with_unknown_type) 0 (P_use (((plain_uses 12 (codes "R") i (U.in_type (types_only (type_names builtin_types))) ++ []) ++ []) ++ []))
 
 pub unknown_row : HoldsOf with_unknown_type (fault 12 kind.UnknownType)
 unknown_row = one_holds with_unknown_type (fault 12 kind.UnknownType) unknown_faults

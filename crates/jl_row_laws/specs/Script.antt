@@ -1,5 +1,5 @@
 -- Where a row holds of a script.
-use Rattle.std.specs.Prelude.{◌≡◌, List, [], ◌∷◌, ◌++◌, map, take, None}
+use Rattle.std.specs.Prelude.{◌≡◌, true, List, [], ◌∷◌, ◌++◌, map, take, None}
 use Rattle.jl_model.specs.declared.ty.Decl.{Decl}
 use Rattle.jl_model.specs.declared.ty.DeclKind.{DeclKind}
 use Rattle.jl_model.specs.declared.ty.DeclKind.TheVariants.{Abstract, Struct}
@@ -32,7 +32,7 @@ declared_in (N.Do x ∷ xs) = declared_in xs
 
 -- only these types are visible
 abbrev pub types_only : Names → Visible
-types_only types = record { names = []; vars = []; inner = []; types = types; method = None }
+types_only types = record { names = []; vars = []; inner = []; first = []; first_inner = []; bounded = true; types = types; method = None }
 
 -- The uses of names in a declaration behind these types: its own name, its parameters with their bounds, its parent, and its
 -- fields, which see the type itself too.

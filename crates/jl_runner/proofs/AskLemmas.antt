@@ -18,8 +18,8 @@ use Rattle.jl_world.proofs.Growth.{worlds_grow}
 use Rattle.jl_methods.specs.Filters.{change_in, IsDefinition}
 use Rattle.jl_rows.specs.Plans.{places_of}
 use Rattle.jl_rows.proofs.PlanLemmas.{chosen_definition}
-use Rattle.jl_dispatcher.specs.Knows.{Grew, Looked, Asked, Refused, IsRight}
-use Rattle.jl_dispatcher.specs.Worlds.{IsWorld}
+use Rattle.jl_task.specs.Knows.{Grew, Looked, Asked, Refused, IsRight}
+use Rattle.jl_task.specs.Worlds.{IsWorld}
 use Rattle.jl_runner.specs.declared.known.Knowing.{Knowing}
 use Rattle.jl_runner.specs.Knowing.{knows_of, IsKnowing, IsOfDefinition, IsSiteOf}
 use Rattle.jl_runner.specs.Keys.{IsNumbered, AreNamed}

@@ -16,14 +16,14 @@ use Rattle.jl_calculus.specs.Legal.{MayStand}
 use Rattle.jl_calculus.specs.Past.{IsTrueOf, IsAbsent, tasks_of}
 use Rattle.jl_calculus.specs.ValidStart.{IsValidStart}
 use Rattle.jl_calculus.specs.World.{world_of, FindsMethod}
-use Rattle.jl_dispatcher.specs.Worlds.{IsWorld}
+use Rattle.jl_task.specs.Worlds.{IsWorld}
 use Rattle.jl_runner.proofs.FirstLemmas.{spawned_new}
 use Rattle.jl_world.specs.declared.about.About.{About}
 use Rattle.jl_world.specs.declared.view.TaskView.{TaskView}
 use Rattle.jl_world.specs.Views.{Begins, begun, met, noted}
 use Rattle.jl_world.proofs.Bounds.{few_worlds}
 use Rattle.jl_world.proofs.Growth.{begins_self, worlds_grow, tasks_append, tasks_some}
-use Rattle.jl_dispatcher.specs.Knows.{Grew, Refused, Defined, Deleted, IsAbsentNow, Fetched, Spawned, IsFull, AreTasksFull}
+use Rattle.jl_task.specs.Knows.{Grew, Refused, Defined, Deleted, IsAbsentNow, Fetched, Spawned, IsFull, AreTasksFull}
 use Rattle.jl_rows.specs.declared.plan.RowPlan.{RowPlan}
 use Rattle.jl_rows.specs.declared.plan.RowPlan.TheVariants.{NoMethod, Covered, RowsFull, Link}
 use Rattle.jl_rows.specs.Plans.{with_row}

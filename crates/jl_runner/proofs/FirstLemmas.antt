@@ -8,7 +8,7 @@ use Rattle.jl_calculus.specs.Legal.{first_place, start_of, MayStand}
 use Rattle.jl_calculus.specs.Past.{tasks_of}
 use Rattle.jl_calculus.specs.ValidStart.{IsValidStart}
 use Rattle.jl_calculus.specs.World.{world_of}
-use Rattle.jl_dispatcher.specs.Worlds.{IsWorld}
+use Rattle.jl_task.specs.Worlds.{IsWorld}
 use Rattle.jl_world.specs.declared.about.About.{About}
 use Rattle.jl_world.specs.declared.view.TaskView.{TaskView}
 use Rattle.jl_world.specs.Views.{Begins, begun, number_or_zero}

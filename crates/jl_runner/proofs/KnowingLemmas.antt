@@ -24,8 +24,8 @@ use Rattle.jl_world.specs.Views.{Begins, met, looked, noted, own_of, starts_of}
 use Rattle.jl_world.proofs.Growth.{agreed, begins_self, begins_trans, begins_length, still_true, worlds_grow}
 use Rattle.jl_world.proofs.Lists.{take_whole, one_there, get_push}
 use Rattle.jl_world.proofs.Rights.{named_more}
-use Rattle.jl_dispatcher.specs.Knows.{Knows, Grew, Told, Looked, Asked, Refused, IsRight, IsOfWorld, SelectsBySite, Defined, Deleted, IsAbsentNow, IsMade, WorldsFull, IsFull, Spawned, TasksFull, AreTasksFull, Fetched, IsNotDone}
-use Rattle.jl_fit.specs.Fits.{IsFresh}
+use Rattle.jl_task.specs.Knows.{Knows, Grew, Told, Looked, Asked, Refused, IsRight, IsOfWorld, SelectsBySite, Defined, Deleted, IsAbsentNow, IsMade, WorldsFull, IsFull, Spawned, TasksFull, AreTasksFull, Fetched, IsNotDone}
+use Rattle.jl_task.specs.Fits.{IsFresh}
 use Rattle.jl_book.specs.Passes.{task_in}
 use Rattle.jl_rows.specs.Plans.{places_of}
 use Rattle.jl_runner.specs.Knowing.{knows_at, IsSiteOf}

@@ -8,8 +8,8 @@ use Rattle.jl_calculus.specs.World.{world_of}
 use Rattle.jl_world.specs.declared.about.About.{About}
 use Rattle.jl_world.specs.Views.{Begins}
 use Rattle.jl_world.proofs.Growth.{begins_self}
-use Rattle.jl_dispatcher.specs.Knows.{Knows, Asked, IsRight}
-use Rattle.jl_dispatcher.specs.Worlds.{IsWorld}
+use Rattle.jl_task.specs.Knows.{Knows, Asked, IsRight}
+use Rattle.jl_task.specs.Worlds.{IsWorld}
 use Rattle.jl_runner.specs.declared.known.Knowing.{Knowing}
 use Rattle.jl_runner.specs.Knowing.{knows_of}
 use Rattle.jl_runner.proofs.KnowingLemmas.{named_so, asked_trans}

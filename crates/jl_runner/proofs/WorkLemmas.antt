@@ -10,9 +10,9 @@ use Rattle.jl_calculus.specs.Legal.{AreTrueOf}
 use Rattle.jl_calculus.specs.Past.{IsInOrder}
 use Rattle.jl_calculus.specs.Run.{setting_of, Run}
 use Rattle.jl_calculus.specs.ValidHistory.{IsValidOutcome}
-use Rattle.jl_point.specs.declared.point.Work.TheVariants as W
-use Rattle.jl_dispatcher.specs.Knows.{Knows}
-use Rattle.jl_fit.specs.Fits.{AllLearnt, IsFresh, IsRunOf}
+use Rattle.jl_task.specs.declared.point.Work.TheVariants as W
+use Rattle.jl_task.specs.Knows.{Knows}
+use Rattle.jl_task.specs.Fits.{AllLearnt, IsFresh, IsRunOf}
 use Rattle.jl_machine.specs.declared.now.LentWork.{LentWork}
 use Rattle.jl_machine.specs.declared.now.LentWork.TheVariants.{Eval, Give, Leave, Acting, Calling, Items, Defining, Pieces, Ended, Lost}
 use Rattle.jl_machine.specs.declared.task.Machine.{Machine}

@@ -15,8 +15,8 @@ use Rattle.jl_calculus.specs.World.{change_at, site_of, world_of}
 use Rattle.jl_world.specs.declared.about.About.{About}
 use Rattle.jl_world.specs.declared.view.TaskView.{TaskView}
 use Rattle.jl_world.specs.Views.{Begins}
-use Rattle.jl_dispatcher.specs.Knows.{Knows}
-use Rattle.jl_dispatcher.specs.Worlds.{IsWorld}
+use Rattle.jl_task.specs.Knows.{Knows}
+use Rattle.jl_task.specs.Worlds.{IsWorld}
 use Rattle.jl_runner.specs.declared.known.Knowing.{Knowing}
 use Rattle.jl_book.specs.Passes.{task_in, first_of, HasStarted}
 use Rattle.jl_methods.specs.Filters.{IsDefinition}

@@ -13,8 +13,8 @@ ghost use Rattle.jl_calculus.specs.Ranges.{keys_of};
 ghost use Rattle.jl_calculus.specs.ValidHistory.{IsValidOutcome};
 ghost use Rattle.jl_calculus.specs.ValidStart.{IsValidStart};
 ghost use Rattle.jl_calculus.specs.World.{world_of};
-ghost use Rattle.jl_dispatcher.specs.Knows.{Looked, Grew, Asked, Refused, IsRight, Defined, Deleted, IsMade, IsAbsentNow, WorldsFull, IsFull, Spawned, TasksFull, AreTasksFull, Fetched, IsNotDone};
-ghost use Rattle.jl_dispatcher.specs.Worlds.{IsWorld};
+ghost use Rattle.jl_task.specs.Knows.{Looked, Grew, Asked, Refused, IsRight, Defined, Deleted, IsMade, IsAbsentNow, WorldsFull, IsFull, Spawned, TasksFull, AreTasksFull, Fetched, IsNotDone};
+ghost use Rattle.jl_task.specs.Worlds.{IsWorld};
 ghost use Rattle.jl_runner.specs.Knowing.{knows_of, IsNew, IsBegun, IsOfDefinition, IsSiteOf, IsNumberOf};
 
 use crate::keys::KeyNumbers;

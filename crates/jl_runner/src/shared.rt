@@ -55,14 +55,12 @@ impl<'p, N: Naming> Shared<'p, N> {
         }
     }
 
-    /// Lets a job wait for the end of a task. Where that has come meanwhile, the job is ready.
+    /// Lets a job wait for the end of a task. Where that has come meanwhile, the job is ready. Nobody is woken for it: this worker takes a
+    /// job next.
     pub(crate) fn park<R: Wait>(&self, rt: &R, of: u32, job: Job<'p, N>) -> Result<(), AllocError> {
         let parked = self.board.lock(rt).park(of, job);
         match parked {
-            Ok(()) => {
-                self.moved.notify_one();
-                Ok(())
-            }
+            Ok(()) => Ok(()),
             Err(PutFault::Closed(job)) => {
                 drop(job);
                 Ok(())
@@ -74,21 +72,26 @@ impl<'p, N: Naming> Shared<'p, N> {
         }
     }
 
-    /// A task has ended: those that wait for it are ready. Where no task is left, the board is closed.
+    /// A task has ended: those that wait for it are ready. Where no task is left, the board is closed. One of those that are ready needs
+    /// nobody to be woken, since this worker takes a job next.
     pub(crate) fn end<R: Wait>(
         &self,
         rt: &R,
         task: u32,
         unfinished: u32,
     ) -> Result<(), AllocError> {
-        let mut board = self.board.lock(rt);
         if unfinished == 0 {
-            board.close();
-        } else {
-            board.end(task)?;
+            self.close(rt);
+            return Ok(());
         }
+        let mut board = self.board.lock(rt);
+        let before = board.count_ready();
+        board.end(task)?;
+        let freed = board.count_ready().saturating_sub(before);
         drop(board);
-        self.moved.notify_all();
+        for _ in 1..freed {
+            self.moved.notify_one();
+        }
         Ok(())
     }
 

@@ -4,10 +4,10 @@ ghost use Rattle.std.specs.Prelude.{◌≡◌, IfOk};
 ghost use Rattle.jl_machine.specs.Steps.{MachineFits, fuel_of};
 ghost use Rattle.jl_runner.specs.Working.{IsAtEnd};
 
-use jl_dispatcher::Recall;
 use jl_host::HostOps;
 use jl_machine::{Machine, Turn};
 use jl_sig::Ready;
+use jl_task::Recall;
 use std::alloc::AllocError;
 
 /// Runs a machine with so many calls on, until its task has ended, or waits for another one, whose number it answers.

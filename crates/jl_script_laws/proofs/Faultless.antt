@@ -124,11 +124,11 @@ told_kept ds d false false false false j at e n u a = absurd (true≢false (sym 
 -- without a fault each name in a declaration means something
 meant : (ds : List Decl) (k : DeclKind) (h : Header) (fields : List FieldText) → (declaration ds k h fields).reading.fault ≡ None → (declaration ds k h fields).reading.unknown ≡ false
 meant ds k h fields e =
-    let s = all_bound ds h.params [] no_reading in
+    let s = all_bound ds h.params no_reading in
     let p = option_reads ds h.parent s.vars s.after in
     let x = heading ds k h in
     let own = ds ++ x.own ∷ [] in
-    let first = (bound_law ds _ _ _ _ (nothing_carried ds) h.params [] no_reading).grows in
+    let first = (bound_law ds _ _ _ _ (nothing_carried ds) h.params no_reading).grows in
     let second = (option_law ds _ _ _ _ (nothing_carried ds) h.parent s.vars s.after).grows in
     let third = (all_law own _ _ _ _ (nothing_carried own) (map (λ (f : FieldText). f.ty) fields) x.vars x.reading).grows in
     let e2 = third.faultless e in

@@ -21,7 +21,7 @@ order_of zero (suc b) = inl (omega arith)
 order_of (suc a) zero = inr (inr (omega arith))
 order_of (suc a) (suc b) = elim (order_of a b) [ inl h ↦ inl (omega arith) | inr h ↦ elim h [ inl e ↦ inr (inl (ap suc e)) | inr l ↦ inr (inr (omega arith)) ] ]
 
-same_or : (b : Bool) → (b ≡ true) ⊎ (b ≡ false)
+pub same_or : (b : Bool) → (b ≡ true) ⊎ (b ≡ false)
 same_or true = inl refl
 same_or false = inr refl
 

@@ -12,5 +12,14 @@ pub mod PartLemmas
 pub mod MeetLemmas
 pub mod OpenFound
 pub mod FoundLemmas
+pub mod SeekLemmas
+pub mod FillLemmas
+pub mod ValueLaw
+pub mod LiftLemmas
+pub mod BoundLeads
 pub mod ListedLemmas
 pub mod ValueLemmas
+pub mod WalkLemmas
+pub mod ServingLemmas
+pub mod AbsentLemmas
+pub mod FlagLemmas

@@ -6,7 +6,7 @@ use Rattle.jl_model.specs.declared.ty.Ty.TheVariants as W
 use Rattle.jl_model.specs.declared.ty.Bound.{Bound}
 use Rattle.jl_model.specs.declared.ty.Written.{Written}
 use Rattle.jl_model.specs.Kinds.{diagonal}
-use Rattle.jl_model.specs.Rows.{choices, alts, width, low, high, kind, root, components, vars_in, Occurs}
+use Rattle.jl_model.specs.Rows.{choices, alts, width, low, high, kind, root, components, vars_in, Stands}
 use Rattle.jl_model.specs.Subtype.{Table, opaque, at, Below}
 use Rattle.jl_model.specs.Signature.{Row, IsRow, is_diagonal}
 use Rattle.jl_model.specs.AllRows.{Above, above_end, taken, passed, ArePicks, occurs, slot, each_var, Listed, rows_with, all_rows}
@@ -97,10 +97,10 @@ only_any x (inr i) = absurd i
 
 -- the diagonal variables of the signature are its own
 module _ (n : Table) (s : Written) (small : (v : ℕ) → kind s v ≡ diagonal → v < width s) (picks : ℕ → List Ty) (are : ArePicks n s picks) where
-  occurs_true : (row : List Ty) (v : ℕ) → Occurs s v row → occurs s v row ≡ true
+  occurs_true : (row : List Ty) (v : ℕ) → Stands s v row → occurs s v row ≡ true
   occurs_true row v o = in_any v (map (root s) (flat_map vars_in row)) (has_of (map (root s) (flat_map vars_in row)) v o)
 
-  true_occurs : (row : List Ty) (v : ℕ) → occurs s v row ≡ true → Occurs s v row
+  true_occurs : (row : List Ty) (v : ℕ) → occurs s v row ≡ true → Stands s v row
   true_occurs row v h = of_has (map (root s) (flat_map vars_in row)) v (any_in v (map (root s) (flat_map vars_in row)) h)
 
   -- a listed row

@@ -13,7 +13,7 @@ use Rattle.jl_model.specs.Normal.{AllNormal}
 use Rattle.jl_model.specs.declared.ty.Decl.{Decl}
 use Rattle.jl_model.specs.declared.ty.Written.{Written}
 use Rattle.jl_model.specs.Ancestors.{table_of}
-use Rattle.jl_model.specs.Kinds.{diagonal}
+use Rattle.jl_model.specs.Kinds.{diagonal, bound}
 use Rattle.jl_model.specs.Rows.{kind, root}
 use Rattle.jl_model.specs.Subtype.{Table, Fixed, opaque, put, Below, Equal}
 use Rattle.jl_model.specs.Signature.{Meets, Meet, any, tuple, nominal, same, atom, raise_tuple, raise_nominal, meet_end, meet_more}
@@ -53,6 +53,8 @@ pub record Laws (n : Table) (g : Fixed) (p : Ty → Type 0) : Type 0 where
   pub before : (t u v : Ty) → Below n opaque t u → Below n g u v → Below n g t v
   pub trans : (t u v : Ty) → p t → Below n g t u → Below n g u v → Below n g t v
   pub trans_closed : (t u v : Ty) → vars_in t ≡ [] → Below n g t u → Below n g u v → Below n g t v
+  pub after : (t u v : Ty) → Below n g t u → Below n opaque u v → Below n g t v
+  pub none : (t : Ty) → Below n opaque (V.Union []) t
   pub self : (t : Ty) → Below n opaque t t
 
 module _ (ds : List Decl) (declared : Declared ds) (g : Fixed) (p o : Ty → Type 0) (laws : Laws (table_of ds) g p) (forms : LeftForms (table_of ds) g p o) (s : Written) (f h : ℕ → Ty) where
@@ -63,7 +65,7 @@ module _ (ds : List Decl) (declared : Declared ds) (g : Fixed) (p o : Ty → Typ
   Agree w = Equal n (f w) (h w)
 
   abbrev pub Rises : ℕ → Type 0
-  Rises w = (kind s w ≡ diagonal → Equal n (f w) (h w)) × Below n g (f (root s w)) (h (root s w))
+  Rises w = (kind s w ≡ diagonal → Equal n (f w) (h w)) × (kind s (root s w) ≡ bound → Below n g (f (root s w)) (h (root s w)))
 
   mutual
     pub too : (t u : Ty) → IsPart u → p t → EachVar Agree (inner u) → EachVar Rises (outer u) → Meets n g s f t u → Meets n g s h t u
@@ -82,7 +84,7 @@ module _ (ds : List Decl) (declared : Declared ds) (g : Fixed) (p o : Ty → Typ
         same t u v j d (equal_trans n (declared_lawful ds declared) t (f v) (h v) e (r.0.0 d))
     too t u k l a b (atom t2 u2 v j d e) =
         let r : EachVar Rises (v ∷ []) = subst (EachVar Rises) (ap outer (is_var u v j) ∙ L.outer-var v) b in
-        atom t u v j d (laws.trans t (f (root s v)) (h (root s v)) l e r.0.1)
+        atom t u v j d (laws.trans t (f (root s v)) (h (root s v)) l e (r.0.1 d))
     too t u k l a b (raise_tuple t2 u2 v ys i j q) = raise_tuple t u v ys i j (too (g.high v) u k (forms.raise v (subst p (is_var t v i) l)).0 a b q)
     too t u k l a b (raise_nominal t2 u2 v m ys i j q) = raise_nominal t u v m ys i j (too (g.high v) u k (forms.raise v (subst p (is_var t v i) l)).0 a b q)
 

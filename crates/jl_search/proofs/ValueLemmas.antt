@@ -1,17 +1,18 @@
 -- The list of the types found.
-use Rattle.std.proofs.Common.{◌≡◌, ◌∙◌, sym, ap, refl, ℕ, ◌<◌, ◌≤◌, arith, Bool, true, false, cond, nat_lt, List, [], ◌∷◌, ◌++◌, map, length, Option, ◌⊎◌, inl, inr}
+use Rattle.std.proofs.Common.{◌≡◌, ◌∙◌, sym, ap, refl, ℕ, ◌<◌, ◌≤◌, arith, Bool, true, false, nat_lt, List, [], ◌∷◌, ◌++◌, length, ◌⊎◌, inl, inr}
 use Rattle.jl_model.specs.declared.ty.Ty.{Ty}
 use Rattle.jl_model.specs.declared.ty.Ty.TheVariants as W
 use Rattle.jl_model.specs.declared.ty.Written.{Written}
-use Rattle.jl_model.specs.Rows.{width, kind}
+use Rattle.jl_model.specs.Rows.{width}
 use Rattle.jl_model.specs.Subtype.{Table, Fixed, at}
-use Rattle.jl_model.specs.Signature.{Row, top, is_diagonal}
+use Rattle.jl_model.specs.Signature.{Row}
 use Rattle.jl_model.proofs.AncestorLemmas.{get_before, long-snoc}
 use Rattle.jl_types.proofs.TableLemmas.{get-past}
-use Rattle.jl_model.specs.Found.{find_inner, find_outer, first, or_type, found}
+use Rattle.jl_model.specs.Found.{hits, filled, found}
 use Rattle.jl_search.proofs.AbstractLemmas.{get_end}
+use Rattle.jl_search.proofs.FillLemmas.{long_fill, long_hits}
 
-below_or : (v m : ℕ) → (v < m) ⊎ (m ≤ v)
+pub below_or : (v m : ℕ) → (v < m) ⊎ (m ≤ v)
 below_or v m = by_test (nat_lt v m) refl
   where
     by_test : (b : Bool) → nat_lt v m ≡ b → (v < m) ⊎ (m ≤ v)
@@ -42,16 +43,6 @@ all_at F vs h g v (inr k) = get-past vs v W.Any k ∙ sym (g v k)
 pub gives_all : (F : ℕ → Ty) (vs : List Ty) → Gives F vs → ((v : ℕ) → length vs ≤ v → F v ≡ W.Any) → at vs ≡ F
 gives_all F vs h g = λ i v. all_at F vs h g v (below_or v (length vs)) i
 
+-- a number past the variables
 pub found_past : (n : Table) (g : Fixed) (s : Written) (r : Row) (ts : List Ty) (v : ℕ) → width s ≤ v → found n g s r ts v ≡ W.Any
-found_past n g s r ts v l = let e : nat_lt v (width s) ≡ false = grind (arith, l) in rw e refl
-
--- where nothing is found, the upper bound
-pub found_top : (n : Table) (g : Fixed) (s : Written) (r : Row) (ts : List Ty) (v : ℕ) (o : Option Ty) → v < width s
-    → cond (is_diagonal (kind s v)) (first (map (find_outer g v) r.parts) ts) (first (map (find_inner n g v) r.parts) ts) ≡ o → or_type o (top s r v) ≡ found n g s r ts v
-found_top n g s r ts v o l e = let i : nat_lt v (width s) ≡ true = grind (arith, l) in rw (i, e) refl
-
-pub outer_hit : (k d : Bool) (a b o : Option Ty) → d ≡ k → d ≡ true → a ≡ o → cond k a b ≡ o
-outer_hit k d a b o i e h = let j = sym i ∙ e in rw j h
-
-pub inner_hit : (k d : Bool) (a b o : Option Ty) → d ≡ k → d ≡ false → b ≡ o → cond k a b ≡ o
-inner_hit k d a b o i e h = let j = sym i ∙ e in rw j h
+found_past n g s r ts v l = get-past (filled n g s r ts [] (hits n g s r ts 0 s.vars)) v W.Any (omega (arith, l, long_fill n g s r ts [] (hits n g s r ts 0 s.vars), long_hits n g s r ts 0 s.vars))

@@ -7,7 +7,7 @@ use Rattle.jl_model.specs.Ancestors.{table_of}
 use Rattle.jl_model.specs.Kinds.{diagonal, bound}
 use Rattle.jl_model.specs.Rows.{width, low, kind, root, vars_in, Occurs}
 use Rattle.jl_model.specs.Signature.{Row, top, is_diagonal}
-use Rattle.jl_model.specs.Subtype.{Table, Fixed, Below, is_concrete}
+use Rattle.jl_model.specs.Subtype.{Table, Fixed, put, Below, is_concrete}
 use Rattle.jl_model.specs.Normal.{IsNormal}
 use Rattle.jl_model.specs.Valid.{is_known}
 
@@ -25,6 +25,6 @@ IsPlace s w = (root s w < width s) × (((kind s w ≡ diagonal) × (root s w ≡
 abbrev pub Within : Table → Fixed → Ty → Ty → Bool → Ty → Type 0
 Within n g low high is_diagonal t = Below n g low t × Below n g t high × (IsTrue is_diagonal → IsTrue (is_concrete n g t))
 
--- what is put for the variable serves, if it stands in the row
+-- what is put for the variable serves, if it is one of the row
 abbrev pub ServesAt : Table → Fixed → Written → Row → (ℕ → Ty) → ℕ → Type 0
-ServesAt n g s r f v = Occurs s v r.parts → Within n g (low s v) (top s r v) (is_diagonal (kind s v)) (f v)
+ServesAt n g s r f v = Occurs s v r.parts → Within n g (put f (low s v)) (put f (top s r v)) (is_diagonal (kind s v)) (f v)

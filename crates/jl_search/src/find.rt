@@ -36,7 +36,7 @@ pub fn lifted(
 }
 
 /// The arguments of a nominal type.
-fn arguments(ty: &Ty) -> &[Ty]
+pub fn arguments(ty: &Ty) -> &[Ty]
     ensures { result.now ≡ arguments_of (out-Ty ty.now) }
 {
     match ty {

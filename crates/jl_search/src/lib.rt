@@ -2,5 +2,6 @@
 //! (Zappa Nardelli et al., OOPSLA 2018).
 #![tactic(auto)]
 
+pub mod bounds;
 pub mod find;
 pub mod occurs;

@@ -32,14 +32,14 @@ module _ (ds : List Decl) (s : Written) (bounds : List Bound) (b : IsExpandable 
   n = table_of ds
 
   held : ArePicks (table_of ds) s (picked ps)
-  held = picks_hold (table_of ds) s ps b.own b.closed a
+  held = picks_hold (table_of ds) s ps b.own a
 
   are : rows_from s ps (choices (map (forms (placed pl)) s.parts)) ≡ all_rows s (picked ps)
-  are = ap (λ z. rows_from s ps (choices (map (forms (placed z)) s.parts))) pe ∙ rows_are (table_of ds) s ps b.own b.closed
+  are = ap (λ z. rows_from s ps (choices (map (forms (placed z)) s.parts))) pe ∙ rows_are (table_of ds) s ps b.own
 
   pub many_components : (c : ℕ) (parts : List Ty) → parts ≡ s.parts → c ≡ min (length (choices (map (forms (placed pl)) parts))) 257 → 256 < c → ManyRows (table_of ds) s
   many_components c parts q e l =
-      let m = rows_are_many (table_of ds) s ps b.own b.closed in
+      let m = rows_are_many (table_of ds) s ps b.own in
       let f : length (choices (map (forms (placed pl)) parts)) ≡ length (choices (map (forms (placed (each_var (place_in s ps) 0 s.vars))) s.parts)) =
       ap (λ z. length (choices (map (forms (placed pl)) z))) q ∙ ap (λ z. length (choices (map (forms (placed z)) s.parts))) pe in
       (picked ps, held, omega (arith, m, f, e, l))

@@ -9,18 +9,19 @@ use Rattle.jl_model.specs.Rows.{vars_in}
 use Rattle.jl_model.specs.Valid.{is_known, is_closed, names_in}
 use Rattle.jl_model.specs.Kept.{field_types}
 use Rattle.jl_model.specs.Refusals.{Declared, builtin, added, IsReady, bound_types, is_known_decl, is_placed_decl, is_free_of, is_placed, is_placed_field, own}
-use Rattle.jl_model.specs.SigRefusals.{is_argument, is_component, BoundsCrossed}
+use Rattle.jl_model.specs.SigRefusals.{is_argument, is_component, are_bounds, BoundsCrossed}
 use Rattle.jl_model.proofs.TypeInduction.{Each, by_cases}
 use Rattle.jl_model.proofs.PutLemmas.{and_l, and_r, both_true}
 use Rattle.jl_model.proofs.AncestorLemmas.{each_true, true_each, long-snoc}
 use Rattle.jl_model.proofs.DeclaredLemmas.{not_false, placed-union, placed-tuple, placed-nominal}
 use Rattle.jl_types.proofs.PlaceLemmas.{free_is_closed, field-union, field-tuple, field-nominal}
-use Rattle.jl_program.specs.BodyTypes.{fields_signature}
+use Rattle.jl_program.specs.BodyTypes.{fields_written, fields_signature}
 use Rattle.jl_sig.specs.Fields.{fields_of}
 use Rattle.jl_sig.specs.Prepared.{IsWellPlaced}
 use Rattle.jl_sig.proofs.DeclaredBounds.{declared_ordered}
 use Rattle.jl_sig.proofs.FitLemmas.{argument-any, argument-var, argument-union, argument-tuple, argument-nominal, component-any, component-var, component-union, component-tuple, component-nominal}
-use Rattle.jl_sig.proofs.WholeLemmas.{all_split}
+use Rattle.jl_sig.proofs.OwnLemmas.{all_split, own_joined}
+use Rattle.jl_sig.proofs.BoundLemmas.{closed_own, closed_placed}
 
 -- what is placed in a declaration is placed in a signature
 each_of : (P Q : Ty → Type 0) (ts : List Ty) → Each (λ t. P t → Q t) ts → Each P ts → Each Q ts
@@ -80,7 +81,8 @@ all_joined p (t ∷ ts) us h k = both_true (p t) (list_all p (ts ++ us)) (and_l 
 record Fields (m : ℕ) (d : Decl) : Type 0 where
   variables : list_all (λ v. nat_lt v (length d.params)) (flat_map vars_in (field_types d.fields)) ≡ true
   known : list_all (is_known m) (bound_types d.params ++ field_types d.fields) ≡ true
-  placed : (list_all is_closed (bound_types d.params) && list_all is_component (field_types d.fields)) ≡ true
+  closed : list_all is_closed (bound_types d.params) ≡ true
+  placed : list_all is_component (field_types d.fields) ≡ true
 
 abbrev AllFields : ℕ → List Decl → Type 0
 AllFields m [] = Unit {0}
@@ -88,7 +90,7 @@ AllFields m (d ∷ ds) = Fields m d × AllFields m ds
 
 fields_later : (m n : ℕ) (ds : List Decl) → m ≤ n → AllFields m ds → AllFields n ds
 fields_later m n [] l a = tt
-fields_later m n (d ∷ ds) l a = (record { variables = a.0.variables; known = known_later m n (bound_types d.params ++ field_types d.fields) l a.0.known; placed = a.0.placed }, fields_later m n ds l a.1)
+fields_later m n (d ∷ ds) l a = (record { variables = a.0.variables; known = known_later m n (bound_types d.params ++ field_types d.fields) l a.0.known; closed = a.0.closed; placed = a.0.placed }, fields_later m n ds l a.1)
 
 fields_snoc : (m : ℕ) (ds : List Decl) (d : Decl) → AllFields m ds → Fields m d → AllFields m (ds ++ d ∷ [])
 fields_snoc m [] d a f = (f, tt)
@@ -112,15 +114,16 @@ ready_fields es d r =
       known = all_joined (is_known (length es + 1)) (bound_types d.params) (field_types d.fields)
           (known_later (length es) (length es + 1) (bound_types d.params) (omega arith) (and_l bs p (and_l (bs && p) fs k)))
           (known_later (length es + own d.kind) (length es + 1) (field_types d.fields) (omega (arith, o)) (and_r (bs && p) fs k));
-      placed = both_true cs (list_all is_component (field_types d.fields)) (and_l cs q (and_l (cs && q) gs h))
-          (moved (is_placed_field (length es)) is_component (field_types d.fields) (placed_component (length es)) (and_r (cs && q) gs h));
+      closed = and_l cs q (and_l (cs && q) gs h);
+      placed = moved (is_placed_field (length es)) is_component (field_types d.fields) (placed_component (length es)) (and_r (cs && q) gs h);
     }
 
 plain : (d : Decl) (m : ℕ) → d.params ≡ [] → d.fields ≡ [] → Fields m d
 plain d m p f = record {
   variables = rw (p, f) refl;
   known = rw (p, f) refl;
-  placed = rw (p, f) refl;
+  closed = rw p refl;
+  placed = rw f refl;
 }
 
 all_fields : (ds : List Decl) → Declared ds → AllFields (length ds) ds
@@ -138,9 +141,11 @@ pub fields_placed : (ds : List Decl) → Declared ds → (k : ℕ) → k < lengt
 fields_placed ds h k l =
     let f = fields_at (length ds) ds k (all_fields ds h) l in
     subst (λ o. IsWellPlaced ds (fields_signature o)) (sym f.1) (record {
-      own = f.2.variables;
+      own = own_joined (fields_written f.0) (closed_own (λ v. nat_lt v (length f.0.params)) (bound_types f.0.params) f.2.closed) f.2.variables;
       known = f.2.known;
-      placed = λ e. let g : true ≡ false = sym f.2.placed ∙ e in cc;
+      placed = λ e.
+          let p = both_true (are_bounds (length f.0.params) 0 f.0.params) (list_all is_component (field_types f.0.fields)) (closed_placed (length f.0.params) 0 f.0.params f.2.closed) f.2.placed in
+          let g : true ≡ false = sym p ∙ e in cc;
     })
 
 crossed_at : (ds : List Decl) → Declared ds → (k : ℕ) (o : Option Decl) → slice_get ds k ≡ o → BoundsCrossed ds (fields_signature o) → ⊥

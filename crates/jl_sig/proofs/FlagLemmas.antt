@@ -6,7 +6,11 @@ use Rattle.jl_model.specs.declared.ty.Bound.{Bound}
 use Rattle.jl_model.specs.declared.ty.Written.{Written}
 use Rattle.jl_model.specs.AllRows.{each_var}
 use Rattle.jl_model.specs.Usable.{stands_in, is_outside_unions, is_usable}
-use Rattle.jl_sig.specs.Flags.{with_flag}
+use Rattle.jl_model.specs.Refusals.{bound_types}
+use Rattle.jl_model.specs.Valid.{is_closed}
+use Rattle.jl_sig.specs.Flags.{with_flag, is_below}
+use Rattle.jl_sig.proofs.FormSteps.{drop_at}
+use Rattle.jl_sig.proofs.StandLemmas.{met, met_closed, closed_stand}
 use Rattle.jl_sig.proofs.UsableLemmas.{any-suc, all-suc}
 
 pub with_same : (p q : ℕ → Bool) (b : Bool) (i : ℕ) (bs : List Bool) → ((v : ℕ) → p v ≡ q v) → with_flag p b i bs ≡ with_flag q b i bs
@@ -84,33 +88,84 @@ all_done [] (suc i) l = refl
 all_done (x ∷ xs) zero l = absurd (omega (arith, l))
 all_done (x ∷ xs) (suc i) l = all_done xs i (omega (arith, l))
 
+-- both bounds of one variable after another
+module _ (b : Bool) (bs : List Bound) (i : ℕ) (c : Bound) (l : i < length bs) (e : c ≡ get_or bs i c) (fs gs hs : List Bool) where
+  bounds_next : (v : ℕ) → list_any (stands_in v) (bound_types (drop i bs)) ≡ (stands_in v c.low || (stands_in v c.high || list_any (stands_in v) (bound_types (drop (i + 1) bs))))
+  bounds_next v = ap (λ z. list_any (stands_in v) (bound_types z)) (drop_at bs i c l e)
+
+  pub step_bounds : gs ≡ with_flag (λ v. stands_in v c.low) b 0 fs → hs ≡ with_flag (λ v. stands_in v c.high) b 0 gs
+      → with_flag (λ v. list_any (stands_in v) (bound_types (drop (i + 1) bs))) b 0 hs ≡ with_flag (λ v. list_any (stands_in v) (bound_types (drop i bs))) b 0 fs
+  step_bounds g h =
+      let rest : ℕ → Bool = λ v. list_any (stands_in v) (bound_types (drop (i + 1) bs)) in
+      ap (with_flag rest b 0) (h ∙ ap (with_flag (λ v. stands_in v c.high) b 0) g)
+      ∙ with_both (λ v. stands_in v c.high) rest b 0 (with_flag (λ v. stands_in v c.low) b 0 fs)
+      ∙ with_both (λ v. stands_in v c.low) (λ v. stands_in v c.high || rest v) b 0 fs
+      ∙ sym (with_same (λ v. list_any (stands_in v) (bound_types (drop i bs))) (λ v. stands_in v c.low || (stands_in v c.high || rest v)) b 0 fs bounds_next)
+
 -- all variables
-both : (s o : Bool) → cond (not o) false (cond s true false) ≡ (s && o)
-both true true = refl
-both true false = refl
-both false true = refl
-both false false = refl
+plain_flag : (a o : Bool) → cond (not o) false (cond a true false) ≡ (a && o)
+plain_flag true true = refl
+plain_flag true false = refl
+plain_flag false true = refl
+plain_flag false false = refl
+
+flag_of : (a b c o : Bool) → cond (not o) false (cond c true (cond b false (cond a true false))) ≡ (cond c true (cond b false a) && o)
+flag_of a b true true = refl
+flag_of a b true false = refl
+flag_of a true false true = refl
+flag_of a true false false = refl
+flag_of true false false true = refl
+flag_of true false false false = refl
+flag_of false false false true = refl
+flag_of false false false false = refl
 
 module _ (w : Written) where
   abbrev stands : ℕ → Bool
   stands v = list_any (stands_in v) w.parts
 
-  abbrev outside : ℕ → Bool
-  outside v = list_all (is_outside_unions v) w.parts
+  abbrev in_bounds : ℕ → Bool
+  in_bounds v = list_any (stands_in v) (bound_types w.vars)
 
-  usable_from : (i : ℕ) (bs : List Bound) → with_flag (λ v. not (outside v)) false i (with_flag stands true i (map (λ (b : Bound). false) bs)) ≡ each_var (is_usable w) i bs
+  abbrev has_below : ℕ → Bool
+  has_below v = list_any (is_below v) w.parts
+
+  abbrev inside : ℕ → Bool
+  inside v = not (list_all (is_outside_unions v) w.parts)
+
+  -- where no variable stands in bounds
+  closed_from : ((v : ℕ) → in_bounds v ≡ false) → (i : ℕ) (bs : List Bound) → with_flag inside false i (with_flag stands true i (map (λ (b : Bound). false) bs)) ≡ each_var (is_usable w) i bs
+  closed_from h i [] = refl
+  closed_from h i (b ∷ bs) =
+      let o = list_all (is_outside_unions i) w.parts in
+      ap (λ z. z ∷ with_flag inside false (i + 1) (with_flag stands true (i + 1) (map (λ (b : Bound). false) bs))) (plain_flag (stands i) o ∙ ap (λ z. z && o) (sym (met_closed w i (h i))))
+      ∙ ap (λ z. is_usable w i ∷ z) (closed_from h (i + 1) bs)
+
+  usable_from : (i : ℕ) (bs : List Bound) → with_flag inside false i (with_flag has_below true i (with_flag in_bounds false i (with_flag stands true i (map (λ (b : Bound). false) bs)))) ≡ each_var (is_usable w) i bs
   usable_from i [] = refl
   usable_from i (b ∷ bs) =
-      ap (λ z. z ∷ with_flag (λ v. not (outside v)) false (i + 1) (with_flag stands true (i + 1) (map (λ (b : Bound). false) bs))) (both (stands i) (outside i))
+      let o = list_all (is_outside_unions i) w.parts in
+      ap (λ z. z ∷ with_flag inside false (i + 1) (with_flag has_below true (i + 1) (with_flag in_bounds false (i + 1) (with_flag stands true (i + 1) (map (λ (b : Bound). false) bs)))))
+      (flag_of (stands i) (in_bounds i) (has_below i) o ∙ ap (λ z. z && o) (sym (met w i)))
       ∙ ap (λ z. is_usable w i ∷ z) (usable_from (i + 1) bs)
 
-  pub usable_all :
-      with_flag (λ v. not (list_all (is_outside_unions v) w.parts)) false 0 (with_flag (λ v. list_any (stands_in v) w.parts) true 0 (map (λ (b : Bound). false) w.vars)) ≡ each_var (is_usable w) 0 w.vars
-  usable_all = usable_from 0 w.vars
+  module _ (ps : List Ty) (vs : List Bound) (p : ps ≡ w.parts) (v : vs ≡ w.vars) (fs gs : List Bool) (f : fs ≡ map (λ (b : Bound). false) vs) (g : gs ≡ with_flag (λ v. list_any (stands_in v) ps) true 0 fs) where
+    standing : gs ≡ with_flag stands true 0 (map (λ (b : Bound). false) w.vars)
+    standing = g ∙ ap (λ z. with_flag (λ v. list_any (stands_in v) z) true 0 fs) p ∙ ap (with_flag stands true 0) (f ∙ ap (map (λ (b : Bound). false)) v)
 
-pub usable_steps : (w : Written) (ps : List Ty) (vs : List Bound) (fs gs hs : List Bool) → ps ≡ w.parts → vs ≡ w.vars → fs ≡ map (λ (b : Bound). false) vs → gs ≡ with_flag (λ v. list_any (stands_in v) ps) true 0 fs
-    → hs ≡ with_flag (λ v. not (list_all (is_outside_unions v) ps)) false 0 gs → hs ≡ each_var (is_usable w) 0 w.vars
-usable_steps w ps vs fs gs hs p v f g h =
-    h ∙ ap (with_flag (λ v. not (list_all (is_outside_unions v) ps)) false 0) (g ∙ ap (with_flag (λ v. list_any (stands_in v) ps) true 0) (f ∙ ap (map (λ (b : Bound). false)) v))
-    ∙ ap (λ z. with_flag (λ v. not (list_all (is_outside_unions v) z)) false 0 (with_flag (λ v. list_any (stands_in v) z) true 0 (map (λ (b : Bound). false) w.vars))) p
-    ∙ usable_all w
+    pub closed_steps : (hs : List Bool) → not (list_all is_closed (bound_types vs)) ≡ false → hs ≡ with_flag (λ v. not (list_all (is_outside_unions v) ps)) false 0 gs → hs ≡ each_var (is_usable w) 0 w.vars
+    closed_steps hs c h =
+        let k : list_all is_closed (bound_types w.vars) ≡ true = ap (λ z. list_all is_closed (bound_types z)) (sym v) ∙ not_true (list_all is_closed (bound_types vs)) c in
+        h ∙ ap (λ z. with_flag (λ v. not (list_all (is_outside_unions v) z)) false 0 gs) p ∙ ap (with_flag inside false 0) standing ∙ closed_from (λ v. closed_stand v (bound_types w.vars) k) 0 w.vars
+      where
+        not_true : (b : Bool) → not b ≡ false → b ≡ true
+        not_true true e = refl
+        not_true false e = absurd (let x : true ≡ false = e in cc)
+
+    pub usable_steps : (hs is js : List Bool) → hs ≡ with_flag (λ v. list_any (stands_in v) (bound_types vs)) false 0 gs → is ≡ with_flag (λ v. list_any (is_below v) ps) true 0 hs
+        → js ≡ with_flag (λ v. not (list_all (is_outside_unions v) ps)) false 0 is → js ≡ each_var (is_usable w) 0 w.vars
+    usable_steps hs is js h k j =
+        let b : hs ≡ with_flag in_bounds false 0 (with_flag stands true 0 (map (λ (b : Bound). false) w.vars)) =
+        h ∙ ap (λ z. with_flag (λ v. list_any (stands_in v) (bound_types z)) false 0 gs) v ∙ ap (with_flag in_bounds false 0) standing in
+        let c : is ≡ with_flag has_below true 0 (with_flag in_bounds false 0 (with_flag stands true 0 (map (λ (b : Bound). false) w.vars))) =
+        k ∙ ap (λ z. with_flag (λ v. list_any (is_below v) z) true 0 hs) p ∙ ap (with_flag has_below true 0) b in
+        j ∙ ap (λ z. with_flag (λ v. not (list_all (is_outside_unions v) z)) false 0 is) p ∙ ap (with_flag inside false 0) c ∙ usable_from 0 w.vars

@@ -1,5 +1,5 @@
 -- One more bound, and one more argument, in normal form.
-use Rattle.std.proofs.Common.{◌≡◌, ◌∙◌, sym, ap, subst, refl, ℕ, zero, suc, ◌+◌, ◌<◌, arith, add-one, Bool, true, false, ◌&&◌, IsTrue, List, [], ◌∷◌, ◌++◌, length, drop, get_or, append_assoc, append-nil, ◌⊎◌, inl, inr}
+use Rattle.std.proofs.Common.{◌≡◌, ◌∙◌, sym, ap, subst, refl, ℕ, zero, suc, ◌+◌, ◌<◌, arith, add-one, true, false, IsTrue, List, [], ◌∷◌, ◌++◌, length, drop, get_or, append_assoc, append-nil, ◌⊎◌, inl, inr}
 use Rattle.std.specs.List.{list_all}
 use Rattle.jl_model.specs.declared.ty.Ty.{Ty}
 use Rattle.jl_model.specs.declared.ty.Bound.{Bound}
@@ -21,13 +21,6 @@ drop_at (y ∷ xs) zero x lt e = ap (λ z. z ∷ xs) (sym e)
 drop_at (y ∷ xs) (suc i) x lt e = rw add-one (rw add-one at (drop_at xs i x (omega arith) e))
 
 -- bounds
-pub bound_known : (p : Ty → Bool) (bs : List Bound) (i : ℕ) (b : Bound) → i < length bs → b ≡ get_or bs i b → list_all p (bound_types bs) ≡ true → (p b.low ≡ true) × (p b.high ≡ true)
-bound_known p [] i b lt e h = absurd (omega arith)
-bound_known p (x ∷ xs) zero b lt e h =
-    let r = and_r (p x.low) (p x.high && list_all p (bound_types xs)) h in
-    (ap (λ (z : Bound). p z.low) e ∙ and_l (p x.low) (p x.high && list_all p (bound_types xs)) h, ap (λ (z : Bound). p z.high) e ∙ and_l (p x.high) (list_all p (bound_types xs)) r)
-bound_known p (x ∷ xs) (suc i) b lt e h = bound_known p xs i b (omega arith) e (and_r (p x.high) (list_all p (bound_types xs)) (and_r (p x.low) (p x.high && list_all p (bound_types xs)) h))
-
 module _ (R : Ty → Ty → Type 0) where
   abbrev B : List Bound → List Bound → Type 0
   B bs cs = Both R (bound_types bs) (bound_types cs)
@@ -43,11 +36,15 @@ module _ (R : Ty → Ty → Type 0) where
   bounds_done bs items i e k = subst (B bs) (append-nil items) (k [] (subst (λ z. B z []) (sym e) both_end))
 
 module _ (ds : List Decl) where
-  pub bound_large : (bs : List Bound) (i : ℕ) (b : Bound) → i < length bs → b ≡ get_or bs i b → IsTooLarge ds b.low ⊎ IsTooLarge ds b.high → HasTooLarge ds (bound_types bs)
+  -- one without variables that is too large
+  abbrev TooLarge : Ty → Type 0
+  TooLarge t = IsTrue (is_closed t) × IsTooLarge ds t
+
+  pub bound_large : (bs : List Bound) (i : ℕ) (b : Bound) → i < length bs → b ≡ get_or bs i b → (IsTrue (is_closed b.low) × IsTooLarge ds b.low) ⊎ (IsTrue (is_closed b.high) × IsTooLarge ds b.high) → HasTooLarge ds (bound_types bs)
   bound_large [] i b lt e l = absurd (omega arith)
-  bound_large (x ∷ xs) zero b lt e (inl l) = some_first (IsTooLarge ds) x.low (x.high ∷ bound_types xs) (subst (λ (z : Bound). IsTooLarge ds z.low) e l)
-  bound_large (x ∷ xs) zero b lt e (inr l) = some_cons (IsTooLarge ds) x.low (x.high ∷ bound_types xs) (some_first (IsTooLarge ds) x.high (bound_types xs) (subst (λ (z : Bound). IsTooLarge ds z.high) e l))
-  bound_large (x ∷ xs) (suc i) b lt e l = some_cons (IsTooLarge ds) x.low (x.high ∷ bound_types xs) (some_cons (IsTooLarge ds) x.high (bound_types xs) (bound_large xs i b (omega arith) e l))
+  bound_large (x ∷ xs) zero b lt e (inl l) = some_first TooLarge x.low (x.high ∷ bound_types xs) (subst (λ (z : Bound). TooLarge z.low) e l)
+  bound_large (x ∷ xs) zero b lt e (inr l) = some_cons TooLarge x.low (x.high ∷ bound_types xs) (some_first TooLarge x.high (bound_types xs) (subst (λ (z : Bound). TooLarge z.high) e l))
+  bound_large (x ∷ xs) (suc i) b lt e l = some_cons TooLarge x.low (x.high ∷ bound_types xs) (some_cons TooLarge x.high (bound_types xs) (bound_large xs i b (omega arith) e l))
 
   pub ground_at : (bs : List Bound) (i : ℕ) (b : Bound) → AllGround ds bs → i < length bs → b ≡ get_or bs i b → IsGround ds b.low × IsGround ds b.high
   ground_at [] i b g lt e = absurd (omega arith)

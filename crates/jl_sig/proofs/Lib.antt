@@ -6,7 +6,10 @@ pub mod FormSteps
 pub mod DeclaredBounds
 pub mod ExpansionLemmas
 pub mod LiveLemmas
+pub mod OwnLemmas
+pub mod StandLemmas
 pub mod FitLemmas
+pub mod BoundLemmas
 pub mod RowLemmas
 pub mod PickLemmas
 pub mod PlacedLemmas

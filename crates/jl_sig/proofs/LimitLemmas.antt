@@ -1,6 +1,6 @@
 -- Which types in a signature are too large.
-use Rattle.std.proofs.Common.{◌≡◌, ◌∙◌, sym, ap, subst, refl, ℕ, zero, suc, ◌+◌, ◌*◌, ◌<◌, ◌≤◌, max, arith, Bool, true, false, List, [], ◌∷◌, map, length, length-append, ◌⊎◌, inl, inr}
-use Rattle.std.specs.List.{flat_map, list_all, Contains}
+use Rattle.std.proofs.Common.{◌≡◌, ◌∙◌, sym, ap, subst, refl, ℕ, zero, suc, ◌+◌, ◌*◌, ◌<◌, ◌≤◌, max, arith, true, false, List, [], ◌∷◌, map, length, length-append, ◌⊎◌, inl, inr}
+use Rattle.std.specs.List.{flat_map, Contains}
 use Rattle.std.proofs.lemmas.List.{length-map}
 use Rattle.std.proofs.lemmas.List.Elements.{Contains-append_left, Contains-append_cases}
 use Rattle.jl_model.specs.declared.ty.Ty.{Ty}
@@ -16,18 +16,17 @@ use Rattle.jl_model.specs.Signature.{Both, both_end, both_more}
 use Rattle.jl_model.specs.Subtype.{Table}
 use Rattle.jl_model.specs.Valid.{is_closed}
 use Rattle.jl_model.specs.Refusals.{Declared, bound_types, Given, given_in, given_from}
-use Rattle.jl_model.specs.SigRefusals.{types_in, arguments_in, are_placed, is_component, LargeForm, VariablePlace}
+use Rattle.jl_model.specs.SigRefusals.{types_in, arguments_in, LargeForm}
 use Rattle.jl_model.proofs.TypeInduction.{Each, by_cases}
 use Rattle.jl_model.proofs.FormLemmas.{alts-any, alts-union, alts-tuple, alts-nominal, alts-var}
 use Rattle.jl_model.proofs.CountLemmas.{nodes_all, nodes-union, nodes-tuple, nodes-nominal, raw-any, raw-union, raw-tuple, raw-nominal, raw-var}
-use Rattle.jl_model.proofs.PutLemmas.{and_l, and_r}
-use Rattle.jl_model.proofs.DeclaredLemmas.{declared_lawful, not_false}
+use Rattle.jl_model.proofs.DeclaredLemmas.{declared_lawful}
 use Rattle.jl_model.proofs.TransLemmas.{equal_trans}
 use Rattle.jl_model.proofs.NormalLemmas.{normal_same}
 use Rattle.jl_types.specs.Form.{IsTooLarge}
 use Rattle.jl_types.proofs.ExistLemmas.{exists}
 use Rattle.jl_sig.specs.Parts.{HasWide}
-use Rattle.jl_sig.specs.Forms.{IsSmallForm, HasTooLarge, AreFormed, formed_end, formed_open, formed_closed, HasTooLargeGiven}
+use Rattle.jl_sig.specs.Forms.{IsSmallForm, IsBoundForm, HasTooLarge, AreFormed, formed_end, formed_open, formed_closed, HasTooLargeGiven}
 use Rattle.jl_types.proofs.GivenLemmas.{AllGiven, given-any, given-var, given-union, given-tuple, given-nominal, given_both, given_none}
 use Rattle.jl_sig.proofs.ExpansionLemmas.{length-choices}
 
@@ -137,10 +136,6 @@ given_within (t ∷ ts) h a c = elim (Contains-append_cases (given_in t) (flat_m
 pub arguments_within : (ts : List Ty) → total (map nodes ts) ≤ 1024 → (HasWide ts → ⊥) → (a : Given) → Contains (flat_map given_in ts) a → IsWithinLimits a.ty
 arguments_within ts m h = given_within ts (λ t c. within ts t m h c)
 
--- where each variable stands where it may, the bounds have none
-pub closed_bounds : (s : Written) → (VariablePlace s → ⊥) → list_all is_closed (bound_types s.vars) ≡ true
-closed_bounds s p = and_l (list_all is_closed (bound_types s.vars)) (list_all is_component s.parts) (not_false (are_placed s) p)
-
 -- LARGE FORMS
 module _ (ds : List Decl) (declared : Declared ds) where
   abbrev n : Table
@@ -164,9 +159,9 @@ module _ (ds : List Decl) (declared : Declared ds) where
   not_too_large t u w s (inl h) = h w
   not_too_large t u w s (inr h) = let l = h u s.form in let m = s.small in omega (arith, l, m)
 
-  form_in : (ts us : List Ty) (t : Ty) → Both (IsSmallForm ds) ts us → Contains ts t → (u : Ty) × IsSmallForm ds t u
+  form_in : (ts us : List Ty) (t : Ty) → Both (IsBoundForm ds) ts us → Contains ts t → (u : Ty) × IsBoundForm ds t u
   form_in ts us t both_end c = absurd (omega (arith, c.1))
-  form_in ts us t (both_more x y xs ys p b) (zero, l, e) = (y, subst (λ z. IsSmallForm ds z y) e p)
+  form_in ts us t (both_more x y xs ys p b) (zero, l, e) = (y, subst (λ z. IsBoundForm ds z y) e p)
   form_in ts us t (both_more x y xs ys p b) (suc i, l, e) = form_in xs ys t b (i, omega arith, e)
 
   pub argument_form : (gs hs : List Given) (a : Given) → AreFormed ds gs hs → Contains gs a → is_closed a.ty ≡ true → (u : Ty) × IsSmallForm ds a.ty u
@@ -177,24 +172,18 @@ module _ (ds : List Decl) (declared : Declared ds) where
   argument_form gs hs a (formed_closed b u xs ys o s f) (suc i, l, e) k = argument_form xs ys a f (i, omega arith, e) k
 
   -- no form is large
-  pub no_large : (s : Written) (us : List Ty) (hs : List Given) → Both (IsSmallForm ds) (bound_types s.vars) us → AreFormed ds (arguments_in s) hs → LargeForm n s → ⊥
-  no_large s us hs b f (t, u, (inl c, k), i, l) = let e = form_in (bound_types s.vars) us t b c in small_form t e.0 u e.1 i l
+  pub no_large : (s : Written) (us : List Ty) (hs : List Given) → Both (IsBoundForm ds) (bound_types s.vars) us → AreFormed ds (arguments_in s) hs → LargeForm n s → ⊥
+  no_large s us hs b f (t, u, (inl c, k), i, l) = let e = form_in (bound_types s.vars) us t b c in small_form t e.0 u (e.1.small k) i l
   no_large s us hs b f (t, u, (inr (a, c, q), k), i, l) =
       let e = argument_form (arguments_in s) hs a f c (ap is_closed q ∙ k) in
       small_form t e.0 u (subst (λ z. IsSmallForm ds z e.0) q e.1) i l
 
   -- a bound, or an argument, is large
-  pub large_bound : (s : Written) → list_all is_closed (bound_types s.vars) ≡ true → total (map nodes (types_in s)) ≤ 1024 → (HasWide (types_in s) → ⊥) → HasTooLarge ds (bound_types s.vars) → LargeForm n s
-  large_bound s p m h (t, c, l) =
+  pub large_bound : (s : Written) → total (map nodes (types_in s)) ≤ 1024 → (HasWide (types_in s) → ⊥) → HasTooLarge ds (bound_types s.vars) → LargeForm n s
+  large_bound s m h (t, c, l) =
       let w = within (types_in s) t m h (Contains-append_left (bound_types s.vars) s.parts t c) in
-      let f = large_form t w l in
-      let k = true_in is_closed (bound_types s.vars) t p c in
-      (t, f.0, (inl c, k), f.1, f.2)
-    where
-      true_in : (q : Ty → Bool) (ts : List Ty) (x : Ty) → list_all q ts ≡ true → Contains ts x → q x ≡ true
-      true_in q [] x g d = absurd (omega (arith, d.1))
-      true_in q (y ∷ ys) x g (zero, o, e) = ap q (sym e) ∙ and_l (q y) (list_all q ys) g
-      true_in q (y ∷ ys) x g (suc i, o, e) = true_in q ys x (and_r (q y) (list_all q ys) g) (i, omega arith, e)
+      let f = large_form t w l.1 in
+      (t, f.0, (inl c, l.0), f.1, f.2)
 
   pub large_argument : (s : Written) → total (map nodes (types_in s)) ≤ 1024 → (HasWide (types_in s) → ⊥) → HasTooLargeGiven ds (arguments_in s) → LargeForm n s
   large_argument s m h (a, c, l) =

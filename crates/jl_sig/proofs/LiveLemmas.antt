@@ -9,7 +9,7 @@ use Rattle.jl_model.specs.Kinds.{Places, places, plus_all, nowhere}
 use Rattle.jl_model.specs.Rows.{choices, forms, vars_in}
 use Rattle.jl_model.specs.Usable.{stands_in}
 use Rattle.jl_model.proofs.TypeInduction.{Each, by_cases}
-use Rattle.jl_model.proofs.FormLemmas.{vars-any, vars-tuple}
+use Rattle.jl_model.proofs.FormLemmas.{vars-any, vars-tuple, vars-union}
 use Rattle.jl_sig.proofs.KindLemmas.{places-union, places-tuple, places-nominal, places-var}
 use Rattle.jl_sig.proofs.UsableLemmas.{stands-any, stands-union, stands-tuple, stands-nominal, stands-var}
 use Rattle.jl_types.proofs.FormEquations.{forms-any, forms-union, forms-tuple, forms-nominal, forms-var}
@@ -111,8 +111,11 @@ module _ (dead : ℕ → Bool) (name : ℕ → ℕ) where
       ap (λ z. not (list_any dead z)) (map_append (vars_in u) (flat_map vars_in us)) ∙ ap not (list_any-append dead (map name (vars_in u)) (map name (flat_map vars_in us)))
       ∙ not_or (list_any dead (map name (vars_in u))) (list_any dead (map name (flat_map vars_in us)))
 
-  live-tuple : (us : List Ty) → live (V.Tuple us) ≡ live_row us
+  pub live-tuple : (us : List Ty) → live (V.Tuple us) ≡ live_row us
   live-tuple us = ap (λ z. not (list_any dead (map name z))) (vars-tuple us)
+
+  pub live-union : (us : List Ty) → live (V.Union us) ≡ live_row us
+  live-union us = ap (λ z. not (list_any dead (map name z))) (vars-union us)
 
   -- rows
   sift-cons : (t : Ty) (rows : List (List Ty)) (b : Bool) → live t ≡ b → sift live_row (map (λ us. t ∷ us) rows) ≡ cond b (map (λ us. t ∷ us) (sift live_row rows)) []

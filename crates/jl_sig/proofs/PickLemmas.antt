@@ -1,5 +1,5 @@
 -- The alternatives that a low bound is below, as they are written and as they are kept.
-use Rattle.std.proofs.Common.{◌≡◌, ◌∙◌, sym, ap, subst, refl, ℕ, zero, suc, ◌+◌, ◌<◌, arith, Bool, true, List, [], ◌∷◌, ◌++◌, length, drop, get_or, append_assoc, append-nil, length-append, ◌⊎◌, inl, inr}
+use Rattle.std.proofs.Common.{◌≡◌, ◌∙◌, sym, ap, subst, refl, ℕ, zero, suc, ◌+◌, ◌<◌, arith, Bool, true, false, List, [], ◌∷◌, ◌++◌, length, drop, get_or, append_assoc, append-nil, length-append, ◌⊎◌, inl, inr}
 use Rattle.jl_model.specs.declared.ty.Ty.{Ty}
 use Rattle.jl_model.specs.declared.ty.Ty.TheViews.{outs-Any, outs-Tuple, outs-Nominal, outs-Var}
 use Rattle.jl_model.specs.declared.ty.Ty.TheViews as V
@@ -10,13 +10,15 @@ use Rattle.jl_model.specs.Ancestors.{table_of}
 use Rattle.jl_model.specs.declared.ty.Written.{Written}
 use Rattle.jl_model.specs.Kinds.{diagonal}
 use Rattle.jl_model.specs.Rows.{alts, free, high, kind, low}
-use Rattle.jl_model.specs.Subtype.{Table, opaque, Below, Equal}
+use Rattle.jl_model.specs.Subtype.{Table, opaque, Below, Equal, below, Covered, none as none_left}
 use Rattle.jl_model.specs.Signature.{Both, both_end, both_more}
 use Rattle.jl_model.specs.Normal.{IsNormal, AllNormal, any, var, nominal, tuple, none, more, IsNormalForm, is_single, no_union}
 use Rattle.jl_model.specs.Valid.{is_known}
-use Rattle.jl_model.specs.Refusals.{Declared, bound_types}
+use Rattle.jl_model.specs.Refusals.{Declared}
+use Rattle.jl_model.specs.SigRefusals.{is_bottom}
 use Rattle.jl_model.specs.AllRows.{Above, above_end, taken, passed}
 use Rattle.jl_model.proofs.TypeInduction.{Each}
+use Rattle.jl_model.proofs.FormLemmas.{alts-union}
 use Rattle.jl_model.proofs.AncestorLemmas.{Lawful, each_true}
 use Rattle.jl_model.proofs.DeclaredLemmas.{declared_lawful}
 use Rattle.jl_model.proofs.TransLemmas.{below_trans, equal_trans}
@@ -27,9 +29,10 @@ use Rattle.jl_types.specs.Ground.{IsGround}
 use Rattle.jl_types.proofs.ExistLemmas.{exists}
 use Rattle.jl_types.proofs.PartsLemmas.{known_parts}
 use Rattle.jl_types.proofs.SettleLemmas.{Grows, Turns, turns, settles_pass}
-use Rattle.jl_sig.specs.Fit.{IsFit, AllFit, IsKeptAs}
-use Rattle.jl_sig.specs.Forms.{IsSmallForm}
+use Rattle.jl_sig.specs.Fit.{IsFit, IsKeptAs}
+use Rattle.jl_sig.specs.Forms.{lows}
 use Rattle.jl_sig.specs.Built.{AreAligned, ArePicked, picked}
+use Rattle.jl_sig.proofs.BoundLemmas.{bottom_is}
 use Rattle.jl_sig.proofs.FormSteps.{drop_at}
 
 module _ (ds : List Decl) (declared : Declared ds) where
@@ -119,28 +122,35 @@ element [] i l = absurd (omega arith)
 element (x ∷ xs) zero l = (x, refl)
 element (x ∷ xs) (suc i) l = element xs i (omega arith)
 
+-- `Union{}` is below all
+pub all_above : (n : Table) (t : Ty) → is_bottom t ≡ true → (us : List Ty) → Above n t us us
+all_above n t h [] = above_end
+all_above n t h (u ∷ us) =
+    taken u us us (below opaque t u (subst (λ z. Covered n opaque z (alts u)) (sym (ap alts (bottom_is t h) ∙ alts-union [])) (none_left opaque (alts u)))) (all_above n t h us)
+
 -- THE BOUNDS OF ONE VARIABLE
-pub bounds_long : (ds : List Decl) (bs cs : List Bound) → Both (IsSmallForm ds) (bound_types bs) (bound_types cs) → length cs ≡ length bs
-bounds_long ds [] [] h = refl
-bounds_long ds [] (c ∷ cs) h = elim h [ ]
-bounds_long ds (b ∷ bs) [] h = elim h [ ]
-bounds_long ds (b ∷ bs) (c ∷ cs) (both_more t u vs ws p (both_more x y xs ys q r)) = ap suc (bounds_long ds bs cs r)
+pub lows_long : (R : Ty → Ty → Type 0) (bs cs : List Bound) → Both R (lows bs) (lows cs) → length cs ≡ length bs
+lows_long R [] [] h = refl
+lows_long R [] (c ∷ cs) h = elim h [ ]
+lows_long R (b ∷ bs) [] h = elim h [ ]
+lows_long R (b ∷ bs) (c ∷ cs) (both_more t u vs ws p r) = ap suc (lows_long R bs cs r)
 
-pub bound_fit : (ds : List Decl) (bs : List Bound) (i : ℕ) (b : Bound) → AllFit ds (bound_types bs) → i < length bs → b ≡ get_or bs i b → IsFit ds b.high
-bound_fit ds [] i b f l e = absurd (omega arith)
-bound_fit ds (x ∷ xs) zero b f l e = subst (λ (z : Bound). IsFit ds z.high) (sym e) f.1.0
-bound_fit ds (x ∷ xs) (suc i) b f l e = bound_fit ds xs i b f.1.1 (omega arith) e
+pub low_form : (R : Ty → Ty → Type 0) (bs cs : List Bound) (i : ℕ) (b c : Bound) → Both R (lows bs) (lows cs) → i < length bs → b ≡ get_or bs i b → c ≡ get_or cs i c → R b.low c.low
+low_form R [] cs i b c h l e f = absurd (omega arith)
+low_form R (x ∷ xs) [] i b c h l e f = elim h [ ]
+low_form R (x ∷ xs) (y ∷ ys) zero b c (both_more t u vs ws p r) l e f = subst (λ (z : Bound). R z.low c.low) (sym e) (subst (λ (z : Bound). R x.low z.low) (sym f) p)
+low_form R (x ∷ xs) (y ∷ ys) (suc i) b c (both_more t u vs ws p r) l e f = low_form R xs ys i b c r (omega arith) e f
 
-pub bound_form : (ds : List Decl) (bs cs : List Bound) (i : ℕ) (b c : Bound) → Both (IsSmallForm ds) (bound_types bs) (bound_types cs) → i < length bs → b ≡ get_or bs i b → c ≡ get_or cs i c → IsSmallForm ds b.low c.low
-bound_form ds [] cs i b c h l e f = absurd (omega arith)
-bound_form ds (x ∷ xs) [] i b c h l e f = elim h [ ]
-bound_form ds (x ∷ xs) (y ∷ ys) zero b c (both_more t u vs ws p r) l e f = subst (λ (z : Bound). IsSmallForm ds z.low c.low) (sym e) (subst (λ (z : Bound). IsSmallForm ds x.low z.low) (sym f) p)
-bound_form ds (x ∷ xs) (y ∷ ys) (suc i) b c (both_more t u vs ws p (both_more t2 u2 vs2 ws2 q r)) l e f = bound_form ds xs ys i b c r (omega arith) e f
-
+-- a variable's bound
 pub bound_is : (bs : List Bound) (i : ℕ) (b d : Bound) → i < length bs → b ≡ get_or bs i b → get_or bs i d ≡ b
 bound_is [] i b d l e = absurd (omega arith)
 bound_is (x ∷ xs) zero b d l e = sym e
 bound_is (x ∷ xs) (suc i) b d l e = bound_is xs i b d (omega arith) e
+
+pub high_fit : (ds : List Decl) (s : Written) (v : ℕ) (b : Bound) → v < length s.vars → b ≡ get_or s.vars v b → ((v : ℕ) → is_bottom (low s v) ≡ false → IsFit ds (high s v)) → is_bottom b.low ≡ false → IsFit ds b.high
+high_fit ds s v b l e f h =
+    let c : get_or s.vars v free ≡ b = bound_is s.vars v b free l e in
+    subst (λ (z : Bound). IsFit ds z.high) c (f v (ap (λ (z : Bound). is_bottom z.low) c ∙ h))
 
 get_last : (xs : List (List Ty)) (x d : List Ty) (i : ℕ) → i ≡ length xs → get_or (xs ++ x ∷ []) i d ≡ x
 get_last [] x d i e = rw e refl

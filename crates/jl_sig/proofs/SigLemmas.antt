@@ -1,68 +1,43 @@
 -- What the code that prepares a signature needs.
 use Rattle.std.proofs.Common.{◌≡◌, ◌∙◌, sym, ap, subst, refl, ℕ, zero, suc, ◌+◌, ◌<◌, ◌≤◌, arith, Bool, true, false, IsTrue, ◌↔◌, List, [], ◌∷◌, ◌++◌, map, length, get_or, ◌⊎◌, inl, inr}
 use Rattle.std.specs.List.{flat_map, list_all, Contains}
+use Rattle.std.proofs.lemmas.List.{length-map}
 use Rattle.std.proofs.lemmas.List.Elements.{Contains-append_left, Contains-append_right}
 use Rattle.jl_model.specs.declared.ty.Ty.{Ty}
+use Rattle.jl_model.specs.declared.ty.Ty.TheViews.{outs-Union}
+use Rattle.jl_model.specs.declared.ty.Ty.TheViews as V
 use Rattle.jl_model.specs.declared.ty.Ty.TheVariants as W
 use Rattle.jl_model.specs.declared.ty.Bound.{Bound}
 use Rattle.jl_model.specs.declared.ty.Decl.{Decl}
 use Rattle.jl_model.specs.declared.ty.Written.{Written}
 use Rattle.jl_model.specs.Ancestors.{table_of}
 use Rattle.jl_model.specs.Counts.{nodes, total}
-use Rattle.jl_model.specs.Rows.{alts, free, high}
-use Rattle.jl_model.specs.Signature.{Both}
-use Rattle.jl_model.specs.Valid.{is_known, is_closed}
+use Rattle.jl_model.specs.Rows.{alts, free, high, low, width}
+use Rattle.jl_model.specs.Signature.{Both, both_end, both_more}
+use Rattle.jl_model.specs.Valid.{is_known}
 use Rattle.jl_model.specs.Refusals.{Declared, bound_types, Given, given_in, given_from}
-use Rattle.jl_model.specs.SigRefusals.{types_in, arguments_in, are_placed, is_component, is_argument, TypeLimit, ManyRows, BoundsCrossed}
+use Rattle.jl_model.specs.SigRefusals.{types_in, arguments_in, are_bounds, bottom_form, is_bottom, is_component, TypeLimit, ManyRows, BoundsCrossed}
 use Rattle.jl_model.specs.AllRows.{Listed}
 use Rattle.jl_model.proofs.TypeInduction.{Each, by_cases}
 use Rattle.jl_model.proofs.FormLemmas.{alts-any}
 use Rattle.jl_model.proofs.CountLemmas.{nodes_all}
 use Rattle.jl_model.proofs.PutLemmas.{and_l, and_r, both_true}
-use Rattle.jl_model.proofs.AncestorLemmas.{each_true, true_each}
-use Rattle.jl_model.proofs.DeclaredLemmas.{not_false}
+use Rattle.jl_model.proofs.AncestorLemmas.{true_each}
 use Rattle.jl_model.proofs.KnownLemmas.{Known, union_known, tuple_known, nominal_known}
 use Rattle.jl_types.proofs.ExpandLemmas.{nodes-positive}
-use Rattle.jl_types.proofs.PartsLemmas.{closed-any, closed-union, closed-tuple, closed-nominal, closed-var}
 use Rattle.jl_sig.specs.Parts.{HasWide}
-use Rattle.jl_sig.specs.Forms.{IsSmallForm, AreFormed, AreKnown}
+use Rattle.jl_sig.specs.Forms.{IsBoundForm, AreFormed, AreKnown, lows}
 use Rattle.jl_sig.specs.Fit.{IsFit, AllFit}
 use Rattle.jl_sig.specs.declared.sig.Prepared.{Prepared}
 use Rattle.jl_sig.specs.Prepared.{HasOwnVariables, IsExpandable, IsBuildable, AreAllRows, IsWellPlaced, IsSigOf, IsPrepared}
 use Rattle.jl_types.proofs.GivenLemmas.{AllGiven, given-any, given-var, given-union, given-tuple, given-nominal, given_both, given_none, each_given}
-use Rattle.jl_sig.proofs.FitLemmas.{argument-any, argument-var, argument-union, argument-tuple, argument-nominal, component-any, component-union, component-tuple, component-nominal}
-use Rattle.jl_sig.proofs.LimitLemmas.{closed_bounds, few_alternatives, within, arguments_within, argument_form, not_too_large, no_large}
+use Rattle.jl_sig.proofs.BoundLemmas.{placed_bounds, placed_parts, bounds_components}
+use Rattle.jl_sig.proofs.LimitLemmas.{few_alternatives, within, arguments_within, argument_form, not_too_large, no_large}
 use Rattle.jl_sig.proofs.BuildLemmas.{not_many}
 
--- a type without variables has none in a wrong place
 each_of : (P Q : Ty → Type 0) (ts : List Ty) → Each (λ t. P t → Q t) ts → Each P ts → Each Q ts
 each_of P Q [] e f = tt
 each_of P Q (t ∷ ts) e f = (e.0 f.0, each_of P Q ts e.1 f.1)
-
-C : Ty → Type 0
-C t = is_closed t ≡ true
-
-argument_of : (t : Ty) → is_closed t ≡ true → is_argument t ≡ true
-argument_of = by_cases (λ t. is_closed t ≡ true → is_argument t ≡ true) (record {
-  any = λ h. argument-any;
-  union = λ ts e h. argument-union ts ∙ sym (closed-union ts) ∙ h;
-  tuple = λ ts e h. argument-tuple ts ∙ sym (closed-tuple ts) ∙ h;
-  nominal = λ k ts e h. argument-nominal k ts ∙ each_true is_argument ts (each_of (λ t. is_closed t ≡ true) (λ t. is_argument t ≡ true) ts e (true_each is_closed ts (sym (closed-nominal k ts) ∙ h)));
-  var = λ v h. argument-var v;
-})
-
-arguments_of : (ts : List Ty) → Each (λ t. is_closed t ≡ true) ts → Each (λ t. is_argument t ≡ true) ts
-arguments_of [] e = tt
-arguments_of (t ∷ ts) e = (argument_of t e.0, arguments_of ts e.1)
-
-component_of : (t : Ty) → is_closed t ≡ true → is_component t ≡ true
-component_of = by_cases (λ t. is_closed t ≡ true → is_component t ≡ true) (record {
-  any = λ h. component-any;
-  union = λ ts e h. component-union ts ∙ each_true is_component ts (each_of (λ t. is_closed t ≡ true) (λ t. is_component t ≡ true) ts e (true_each is_closed ts (sym (closed-union ts) ∙ h)));
-  tuple = λ ts e h. component-tuple ts ∙ each_true is_component ts (each_of (λ t. is_closed t ≡ true) (λ t. is_component t ≡ true) ts e (true_each is_closed ts (sym (closed-tuple ts) ∙ h)));
-  nominal = λ k ts e h. component-nominal k ts ∙ each_true is_argument ts (arguments_of ts (true_each is_closed ts (sym (closed-nominal k ts) ∙ h)));
-  var = λ v h. absurd (let f : false ≡ true = sym (closed-var v) ∙ h in cc);
-})
 
 -- the arguments of known types are known
 known_own : (ds : List Decl) (k j : ℕ) (ts : List Ty) → Each (Known (length ds)) ts → AllGiven (λ a. is_known (length ds) a.ty ≡ true) (given_from k j ts)
@@ -111,6 +86,36 @@ high_past [] (suc v) l = refl
 high_past (b ∷ bs) zero l = absurd (omega arith)
 high_past (b ∷ bs) (suc v) l = high_past bs v (omega arith)
 
+bottom_past : (bs : List Bound) (v : ℕ) → length bs ≤ v → is_bottom (get_or bs v free).low ≡ true
+bottom_past [] zero l = ap bottom_form (outs-Union [])
+bottom_past [] (suc v) l = ap bottom_form (outs-Union [])
+bottom_past (b ∷ bs) zero l = absurd (omega arith)
+bottom_past (b ∷ bs) (suc v) l = bottom_past bs v (omega arith)
+
+-- lower bounds
+lows_long : (bs cs : List Bound) → lows bs ≡ lows cs → length bs ≡ length cs
+lows_long bs cs e = sym (length-map bs (λ (b : Bound). b.low)) ∙ ap length e ∙ length-map cs (λ (b : Bound). b.low)
+
+low_is : (bs : List Bound) (v : ℕ) → (get_or bs v free).low ≡ get_or (lows bs) v (V.Union [])
+low_is [] zero = refl
+low_is [] (suc v) = refl
+low_is (b ∷ bs) zero = refl
+low_is (b ∷ bs) (suc v) = low_is bs v
+
+low_same : (bs cs : List Bound) (v : ℕ) → lows bs ≡ lows cs → (get_or bs v free).low ≡ (get_or cs v free).low
+low_same bs cs v e = low_is bs v ∙ ap (λ z. get_or z v (V.Union [])) e ∙ sym (low_is cs v)
+
+pub lows_formed : (R : Ty → Ty → Type 0) (bs cs : List Bound) → Both R (bound_types bs) (bound_types cs) → Both R (lows bs) (lows cs)
+lows_formed R [] [] h = both_end
+lows_formed R [] (c ∷ cs) h = elim h [ ]
+lows_formed R (b ∷ bs) [] h = elim h [ ]
+lows_formed R (b ∷ bs) (c ∷ cs) (both_more t u vs ws p (both_more x y xs ys q r)) = both_more b.low c.low (lows bs) (lows cs) p (lows_formed R bs cs r)
+
+fit_at : (ds : List Decl) (ts : List Ty) → AllFit ds ts → (t : Ty) → Contains ts t → IsFit ds t
+fit_at ds [] f t c = absurd (omega (arith, c.1))
+fit_at ds (x ∷ xs) f t (zero, l, e) = subst (IsFit ds) e f.0
+fit_at ds (x ∷ xs) f t (suc i, l, e) = fit_at ds xs f.1 t (i, omega arith, e)
+
 true_at : (q : Ty → Bool) (ts : List Ty) (x : Ty) → list_all q ts ≡ true → Contains ts x → q x ≡ true
 true_at q [] x g d = absurd (omega (arith, d.1))
 true_at q (y ∷ ys) x g (zero, o, e) = ap q (sym e) ∙ and_l (q y) (list_all q ys) g
@@ -135,10 +140,9 @@ flat_contains [] t a c d = absurd (omega (arith, c.1))
 flat_contains (x ∷ xs) t a (zero, l, e) d = Contains-append_left (given_in x) (flat_map given_in xs) a (subst (λ z. Contains (given_in z) a) (sym e) d)
 flat_contains (x ∷ xs) t a (suc i, l, e) d = Contains-append_right (given_in x) (flat_map given_in xs) a (flat_contains xs t a (i, omega arith, e) d)
 
--- A signature s without too large types, and one with the same bounds and other components.
-module _ (ds : List Decl) (declared : Declared ds) (s : Written) (known : list_all (is_known (length ds)) (types_in s) ≡ true) (closed : list_all is_closed (bound_types s.vars) ≡ true)
-    (m : total (map nodes (types_in s)) ≤ 1024) (wide : HasWide (types_in s) → ⊥) (bounds : List Bound) (hs : List Given) (forms : Both (IsSmallForm ds) (bound_types s.vars) (bound_types bounds))
-    (formed : AreFormed ds (arguments_in s) hs) where
+-- A signature s without too large types: its bounds can be kept, and so can components that are placed.
+module _ (ds : List Decl) (declared : Declared ds) (s : Written) (known : list_all (is_known (length ds)) (types_in s) ≡ true) (placed : are_bounds (width s) 0 s.vars ≡ true)
+    (m : total (map nodes (types_in s)) ≤ 1024) (wide : HasWide (types_in s) → ⊥) (hs : List Given) (formed : AreFormed ds (arguments_in s) hs) where
   inside : (t : Ty) → Contains (bound_types s.vars) t → Contains (types_in s) t
   inside t c = Contains-append_left (bound_types s.vars) s.parts t c
 
@@ -156,35 +160,56 @@ module _ (ds : List Decl) (declared : Declared ds) (s : Written) (known : list_a
   fit_all [] h = tt
   fit_all (t ∷ ts) h = let c = h t (zero, omega arith, refl) in (fit_one t c.0 c.1, fit_all ts (λ u d. h u (suc d.0, omega (arith, d.1), d.2)))
 
-  pub expandable : (parts : List Ty) → HasOwnVariables (record { vars = s.vars; parts = parts }) → IsExpandable ds (record { vars = s.vars; parts = parts }) bounds
-  expandable parts own = record {
-    own = own;
-    closed = λ v. elim (lt_cases v (length s.vars)) [
-      | inl a ↦ true_at is_closed (bound_types s.vars) (high s v) closed (high_at s.vars v a)
-      | inr b ↦ ap is_closed (high_past s.vars v b) ∙ closed-any
-    ];
-    fit = fit_all (bound_types s.vars) (λ t c. (inside t c, component_of t (true_at is_closed (bound_types s.vars) t closed c)));
-    forms = forms;
-    few = let a = bounds_nodes s.vars in let b = total_append (bound_types s.vars) s.parts in omega (arith, a, b, m);
-    narrow = λ v. elim (lt_cases v (length s.vars)) [
+  pub bounds_fit : AllFit ds (bound_types s.vars)
+  bounds_fit = fit_all (bound_types s.vars) (λ t c. (inside t c, bounds_components (width s) 0 s.vars t placed c))
+
+  pub parts_fit : list_all is_component s.parts ≡ true → AllFit ds s.parts
+  parts_fit h = fit_all s.parts (λ t c. (Contains-append_right (bound_types s.vars) s.parts t c, true_at is_component s.parts t h c))
+
+  -- the rows of a signature can be built whose bounds differ in upper ones with variables alone
+  module _ (bounds : List Bound) (forms : Both (IsBoundForm ds) (bound_types s.vars) (bound_types bounds)) where
+    few : length s.vars ≤ 1024
+    few = let a = bounds_nodes s.vars in let b = total_append (bound_types s.vars) s.parts in omega (arith, a, b, m)
+
+    fit_high : (v : ℕ) → is_bottom (low s v) ≡ false → IsFit ds (high s v)
+    fit_high v e = elim (lt_cases v (length s.vars)) [
+      | inl a ↦ fit_at ds (bound_types s.vars) bounds_fit (high s v) (high_at s.vars v a)
+      | inr b ↦ absurd (let f : true ≡ false = sym (bottom_past s.vars v b) ∙ e in cc)
+    ]
+
+    narrow_high : (v : ℕ) → length (alts (high s v)) ≤ 256
+    narrow_high v = elim (lt_cases v (length s.vars)) [
       | inl a ↦ few_alternatives (high s v) ((within (types_in s) (high s v) m wide (inside (high s v) (high_at s.vars v a))).alternatives)
       | inr b ↦ (let e = ap (λ z. length (alts z)) (high_past s.vars v b) ∙ ap (λ z. length z) alts-any in omega (arith, e))
-    ];
-  }
+    ]
+
+    pub expandable : HasOwnVariables s → IsExpandable ds s bounds
+    expandable own = record { own = own; fit = fit_high; forms = lows_formed (IsBoundForm ds) s.vars bounds forms; few = few; narrow = narrow_high }
+
+    pub expandable_like : (w : Written) → HasOwnVariables w → lows w.vars ≡ lows s.vars
+        → ((v : ℕ) → (high w v ≡ high s v) ⊎ ((is_bottom (low s v) ≡ true) × (length (alts (high w v)) ≤ 256))) → IsExpandable ds w bounds
+    expandable_like w own same highs = record {
+      own = own;
+      fit = λ v e. elim (highs v) [
+        | inl a ↦ subst (IsFit ds) (sym a) (fit_high v (sym (ap is_bottom (low_same w.vars s.vars v same)) ∙ e))
+        | inr b ↦ absurd (let f : true ≡ false = sym b.0 ∙ sym (ap is_bottom (low_same w.vars s.vars v same)) ∙ e in cc)
+      ];
+      forms = subst (λ z. Both (IsBoundForm ds) z (lows bounds)) (sym same) (lows_formed (IsBoundForm ds) s.vars bounds forms);
+      few = let e = lows_long w.vars s.vars same in let f = few in omega (arith, e, f);
+      narrow = λ v. elim (highs v) [
+        | inl a ↦ subst (λ z. length (alts z) ≤ 256) (sym a) (narrow_high v)
+        | inr b ↦ b.1
+      ];
+    }
 
 module _ (ds : List Decl) (declared : Declared ds) (s : Written) (w : IsWellPlaced ds s) (m : total (map nodes (types_in s)) ≤ 1024) (wide : HasWide (types_in s) → ⊥)
-    (bounds : List Bound) (hs : List Given) (forms : Both (IsSmallForm ds) (bound_types s.vars) (bound_types bounds)) (formed : AreFormed ds (arguments_in s) hs) where
-  bounds_closed : list_all is_closed (bound_types s.vars) ≡ true
-  bounds_closed = closed_bounds s w.placed
-
-  parts_placed : list_all is_component s.parts ≡ true
-  parts_placed = and_r (list_all is_closed (bound_types s.vars)) (list_all is_component s.parts) (not_false (are_placed s) w.placed)
-
+    (bounds : List Bound) (hs : List Given) (forms : Both (IsBoundForm ds) (bound_types s.vars) (bound_types bounds)) (formed : AreFormed ds (arguments_in s) hs) where
   pub buildable : IsBuildable ds s bounds
   buildable = record {
-    rows = expandable ds declared s w.known bounds_closed m wide bounds hs forms formed s.parts w.own;
-    parts = fit_all ds declared s w.known bounds_closed m wide bounds hs forms formed s.parts
-        (λ t c. (Contains-append_right (bound_types s.vars) s.parts t c, true_at is_component s.parts t parts_placed c));
+    rows = expandable ds declared s w.known (placed_bounds s w.placed) m wide hs formed bounds forms w.own;
+    fit = bounds_fit ds declared s w.known (placed_bounds s w.placed) m wide hs formed;
+    parts = parts_fit ds declared s w.known (placed_bounds s w.placed) m wide hs formed (placed_parts s w.placed);
+    forms = forms;
   }
 
   -- it is small, where there are few rows

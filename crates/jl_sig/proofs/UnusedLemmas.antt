@@ -1,20 +1,18 @@
 -- A variable has no place where it stands in no type.
-use Rattle.std.proofs.Common.{◌≡◌, ◌∙◌, sym, ap, subst, refl, ℕ, zero, suc, ◌+◌, ◌<◌, ◌≤◌, ◌↔◌, arith, Bool, true, false, cond, ◌||◌, not, nat_eq, List, [], ◌∷◌, map, length, IsTrue}
+use Rattle.std.proofs.Common.{◌≡◌, ◌∙◌, sym, ap, refl, ℕ, zero, suc, ◌+◌, ◌<◌, ◌↔◌, arith, Bool, true, false, cond, ◌||◌, not, nat_eq, List, [], ◌∷◌, map, length, IsTrue}
 use Rattle.std.specs.List.{list_any}
 use Rattle.jl_model.specs.declared.ty.Ty.{Ty}
-use Rattle.jl_model.specs.declared.ty.Ty.TheViews as V
 use Rattle.jl_model.specs.declared.ty.Bound.{Bound}
 use Rattle.jl_model.specs.declared.ty.Written.{Written}
 use Rattle.jl_model.specs.AllRows.{each_var}
 use Rattle.jl_model.specs.Kinds.{Places, places, plus_all, kind_of, unused, once, diagonal, bound}
 use Rattle.jl_model.specs.Rows.{kind}
+use Rattle.jl_model.specs.Refusals.{bound_types}
 use Rattle.jl_model.specs.SigRefusals.{UnusedVariable}
 use Rattle.jl_model.specs.Usable.{stands_in}
 use Rattle.jl_sig.specs.Flags.{with_flag}
-use Rattle.jl_sig.proofs.KindLemmas.{places-tuple}
-use Rattle.jl_sig.proofs.UsableLemmas.{stands-tuple}
-use Rattle.jl_sig.proofs.LiveLemmas.{has_place}
-use Rattle.jl_sig.proofs.WholeLemmas.{all_hidden, unused_places}
+use Rattle.jl_sig.proofs.FlagLemmas.{with_both}
+use Rattle.jl_sig.proofs.StandLemmas.{all_hidden, all_had, unused_places, kind_parts, kind_stands}
 
 no_place : (p : Places) → kind_of p ≡ unused → (p.covariant ≡ 0) × (p.invariant ≡ 0)
 no_place p = by (nat_eq p.invariant 0) (nat_eq p.covariant 0) (nat_eq p.covariant 1) refl refl
@@ -27,20 +25,27 @@ no_place p = by (nat_eq p.invariant 0) (nat_eq p.covariant 0) (nat_eq p.covarian
 
 module _ (w : Written) where
   abbrev stands : ℕ → Bool
-  stands v = list_any (stands_in v) w.parts
+  stands v = list_any (stands_in v) w.parts || list_any (stands_in v) (bound_types w.vars)
 
   unused_is : (v : ℕ) → stands v ≡ false → kind w v ≡ unused
-  unused_is v h = let n = all_hidden v w.parts h in unused_places (plus_all (map (places v) w.parts)) n.0 n.1
+  unused_is v h =
+      let a = neither (list_any (stands_in v) w.parts) (list_any (stands_in v) (bound_types w.vars)) h in
+      let n = all_hidden v w.parts a.0 in
+      kind_parts w v a.1 ∙ unused_places (plus_all (map (places v) w.parts)) n.0 n.1
+    where
+      neither : (x y : Bool) → (x || y) ≡ false → (x ≡ false) × (y ≡ false)
+      neither true y e = absurd (let f : true ≡ false = e in cc)
+      neither false y e = (refl, e)
 
   used_is : (v : ℕ) → kind w v ≡ unused → stands v ≡ false
-  used_is v h = by (stands v) refl
+  used_is v h = by (list_any (stands_in v) w.parts) (list_any (stands_in v) (bound_types w.vars)) refl refl
     where
-      by : (b : Bool) → stands v ≡ b → stands v ≡ false
-      by false e = e
-      by true e =
-          let n = no_place (plus_all (map (places v) w.parts)) h in
-          let p = has_place v (V.Tuple w.parts) (stands-tuple v w.parts ∙ e) in
-          let q = subst (λ (z : Places). 1 ≤ z.covariant + z.invariant) (places-tuple v w.parts) p in
+      by : (x y : Bool) → list_any (stands_in v) w.parts ≡ x → list_any (stands_in v) (bound_types w.vars) ≡ y → (x || y) ≡ false
+      by x true d e = absurd (let f : bound ≡ unused = sym (kind_stands w v e) ∙ h in cc)
+      by false false d e = refl
+      by true false d e =
+          let n = no_place (plus_all (map (places v) w.parts)) (sym (kind_parts w v e) ∙ h) in
+          let q = all_had v w.parts d in
           absurd (omega (arith, q, n.0, n.1))
 
   -- the flags of all variables
@@ -74,9 +79,9 @@ clear_of f i (b ∷ bs) (suc v) l h = let z : i + 1 + v ≡ i + suc v = omega ar
     any true = refl
     any false = refl
 
-pub unused_told : (w : Written) (ps : List Ty) (vs : List Bound) (fs gs hs : List Bool) (b : Bool) → ps ≡ w.parts → vs ≡ w.vars → fs ≡ map (λ (b : Bound). false) vs → gs ≡ with_flag (λ v. list_any (stands_in v) ps) true 0 fs
-    → hs ≡ gs → b ≡ list_any not hs → IsTrue b ↔ UnusedVariable w
-unused_told w ps vs fs gs hs b p v f g h e = (
+pub unused_told : (w : Written) (ps : List Ty) (us vs : List Bound) (fs gs is hs : List Bool) (b : Bool) → ps ≡ w.parts → us ≡ w.vars → vs ≡ w.vars → fs ≡ map (λ (b : Bound). false) vs → gs ≡ with_flag (λ v. list_any (stands_in v) ps) true 0 fs
+    → is ≡ with_flag (λ v. list_any (stands_in v) (bound_types us)) true 0 gs → hs ≡ is → b ≡ list_any not hs → IsTrue b ↔ UnusedVariable w
+unused_told w ps us vs fs gs is hs b p u v f g i h e = (
   λ t.
       let r = clear_at (stands w) 0 w.vars (sym whole ∙ t) in
       let z : 0 + r.0 ≡ r.0 = omega arith in
@@ -89,6 +94,8 @@ unused_told w ps vs fs gs hs b p v f g h e = (
     whole : b ≡ list_any not (each_var (stands w) 0 w.vars)
     whole =
         e ∙ ap (list_any not)
-        (h ∙ g ∙ ap (with_flag (λ v. list_any (stands_in v) ps) true 0) (f ∙ ap (map (λ (b : Bound). false)) v)
-        ∙ ap (λ z. with_flag (λ v. list_any (stands_in v) z) true 0 (map (λ (b : Bound). false) w.vars)) p
+        (h ∙ i ∙ ap (λ z. with_flag (λ v. list_any (stands_in v) (bound_types z)) true 0 gs) u
+        ∙ ap (with_flag (λ v. list_any (stands_in v) (bound_types w.vars)) true 0)
+        (g ∙ ap (λ z. with_flag (λ v. list_any (stands_in v) z) true 0 fs) p ∙ ap (with_flag (λ v. list_any (stands_in v) w.parts) true 0) (f ∙ ap (map (λ (b : Bound). false)) v))
+        ∙ with_both (λ v. list_any (stands_in v) w.parts) (λ v. list_any (stands_in v) (bound_types w.vars)) true 0 (map (λ (b : Bound). false) w.vars)
         ∙ flags_from w 0 w.vars)

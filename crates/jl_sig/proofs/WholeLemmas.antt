@@ -10,23 +10,22 @@ use Rattle.jl_model.specs.declared.ty.Ty.TheVariants as W
 use Rattle.jl_model.specs.declared.ty.Bound.{Bound}
 use Rattle.jl_model.specs.declared.ty.Written.{Written}
 use Rattle.jl_model.specs.Kinds as model
-use Rattle.jl_model.specs.Kinds.{Places, places, plus_all, kind_of, nowhere, unused, once, diagonal, bound}
+use Rattle.jl_model.specs.Kinds.{places, plus_all, unused, once, diagonal, bound}
 use Rattle.jl_model.specs.Rows.{alts, atom, atoms, choices, components, forms, high, kind, place_of, root, vars_in, width}
 use Rattle.jl_model.specs.Subtype.{Table}
 use Rattle.jl_model.specs.Signature.{is_diagonal}
+use Rattle.jl_model.specs.Refusals.{bound_types}
 use Rattle.jl_model.specs.AllRows.{Above, above_end, taken, passed, ArePicks, Listed, all_rows, each_var, occurs, rows_with, slot}
 use Rattle.jl_model.specs.Usable.{stands_in}
-use Rattle.jl_model.specs.Valid.{is_closed}
 use Rattle.jl_model.proofs.TypeInduction.{Each, by_cases}
 use Rattle.jl_model.proofs.PutLemmas.{and_l, and_r, both_true}
-use Rattle.jl_model.proofs.AncestorLemmas.{each_true, true_each}
-use Rattle.jl_types.proofs.PartsLemmas.{closed-union, closed-tuple}
 use Rattle.jl_model.proofs.FormLemmas.{vars-var}
 use Rattle.jl_sig.specs.Built.{placed, picked, place_by, place_in, ArePicked, rows_from}
-use Rattle.jl_sig.proofs.KindLemmas.{places-any, places-union, places-tuple, places-nominal, places-var}
-use Rattle.jl_sig.proofs.UsableLemmas.{stands-union, stands-tuple, stands-nominal, stands-var}
+use Rattle.jl_sig.specs.Prepared.{HasOwnVariables}
+use Rattle.jl_sig.proofs.OwnLemmas.{all_split, own_bounds, own_parts, own_high}
+use Rattle.jl_sig.proofs.StandLemmas.{all_hidden, unused_places, kind_parts, kind_below, kind_stands, high_stands}
 use Rattle.jl_types.proofs.FormEquations.{forms-any, forms-union, forms-tuple, forms-nominal, forms-var}
-use Rattle.jl_sig.proofs.LiveLemmas.{sift, sift-flat, sift_long, live, live_row, live_rows}
+use Rattle.jl_sig.proofs.LiveLemmas.{sift, sift-flat, sift_long, live, live_row, live-cons, live-union, live-tuple, live_rows}
 use Rattle.jl_sig.proofs.RowLemmas.{each-get, each-long}
 
 -- a picked list is one
@@ -61,52 +60,6 @@ each_some f j (b ∷ bs) h = some_from (f j) (choices (each_var f (j + 1) bs)) (
 pub each_same : (f g : ℕ → List Ty) (j : ℕ) (bs : List Bound) → ((v : ℕ) → f v ≡ g v) → each_var f j bs ≡ each_var g j bs
 each_same f g j [] h = refl
 each_same f g j (b ∷ bs) h = ap (λ z. z ∷ each_var f (j + 1) bs) (h j) ∙ ap (λ z. g j ∷ z) (each_same f g (j + 1) bs h)
-
--- a variable that stands nowhere has no place
-none_place : (v : ℕ) (ts : List Ty) → Each (λ t. stands_in v t ≡ false → ((places v t).covariant ≡ 0) × ((places v t).invariant ≡ 0)) ts → list_any (stands_in v) ts ≡ false
-    → ((plus_all (map (places v) ts)).covariant ≡ 0) × ((plus_all (map (places v) ts)).invariant ≡ 0)
-none_place v [] e h = (refl, refl)
-none_place v (t ∷ ts) e h =
-    let a = e.0 (or_l (stands_in v t) (list_any (stands_in v) ts) h) in
-    let b = none_place v ts e.1 (or_r (stands_in v t) (list_any (stands_in v) ts) h) in
-    (omega (arith, a.0, b.0), omega (arith, a.1, b.1))
-  where
-    or_l : (x y : Bool) → (x || y) ≡ false → x ≡ false
-    or_l true y g = g
-    or_l false y g = refl
-
-    or_r : (x y : Bool) → (x || y) ≡ false → y ≡ false
-    or_r true y g = absurd (let f : true ≡ false = g in cc)
-    or_r false y g = g
-
-abbrev Hidden : ℕ → Ty → Type 0
-Hidden v t = stands_in v t ≡ false → ((places v t).covariant ≡ 0) × ((places v t).invariant ≡ 0)
-
-moved : (p q : Places) → p ≡ q → (q.covariant ≡ 0) × (q.invariant ≡ 0) → (p.covariant ≡ 0) × (p.invariant ≡ 0)
-moved p q e h = (ap (λ z. z.covariant) e ∙ h.0, ap (λ z. z.invariant) e ∙ h.1)
-
-hidden : (v : ℕ) (t : Ty) → Hidden v t
-hidden v = by_cases (Hidden v) (record {
-  any = λ h. moved (places v W.Any) nowhere (places-any v) (refl, refl);
-  union = λ ts e h. moved (places v (V.Union ts)) (plus_all (map (places v) ts)) (places-union v ts) (none_place v ts e (sym (stands-union v ts) ∙ h));
-  tuple = λ ts e h. moved (places v (V.Tuple ts)) (plus_all (map (places v) ts)) (places-tuple v ts) (none_place v ts e (sym (stands-tuple v ts) ∙ h));
-  nominal = λ k ts e h.
-      let g = none_place v ts e (sym (stands-nominal v k ts) ∙ h) in
-      let p = places-nominal v k ts in
-      (ap (λ z. z.covariant) p, (let q = ap (λ z. z.invariant) p in omega (arith, q, g.0, g.1)));
-  var = λ w h. moved (places v (W.Var w)) (cond (nat_eq v w) (record { covariant = 1; invariant = 0 }) nowhere) (places-var v w) (off (nat_eq v w) (sym (stands-var v w) ∙ h));
-})
-  where
-    off : (b : Bool) → b ≡ false → ((cond b (record { covariant = 1; invariant = 0 }) nowhere).covariant ≡ 0) × ((cond b (record { covariant = 1; invariant = 0 }) nowhere).invariant ≡ 0)
-    off true e = absurd (let f : true ≡ false = e in cc)
-    off false e = (refl, refl)
-
-pub all_hidden : (v : ℕ) (ts : List Ty) → list_any (stands_in v) ts ≡ false → ((plus_all (map (places v) ts)).covariant ≡ 0) × ((plus_all (map (places v) ts)).invariant ≡ 0)
-all_hidden v ts h = none_place v ts (each ts) h
-  where
-    each : (us : List Ty) → Each (Hidden v) us
-    each [] = tt
-    each (u ∷ us) = (hidden v u, each us)
 
 -- a property of a type that its forms have
 pub record Carries (P : Ty → Type 0) (at : ℕ → List Ty) : Type 0 where
@@ -164,25 +117,6 @@ module _ (P : Ty → Type 0) (at : ℕ → List Ty) (h : Carries P at) where
     var = λ v p. subst (Each P) (sym (forms-var at v)) (h.var v p);
   })
 
--- the alternatives of a type without variables have none
-closed_carries : Carries (λ t. is_closed t ≡ true) (λ v. W.Var v ∷ [])
-closed_carries = record {
-  union = λ ts p. true_each is_closed ts (sym (closed-union ts) ∙ p);
-  tuple = λ ts p. true_each is_closed ts (sym (closed-tuple ts) ∙ p);
-  join = λ us e. closed-tuple us ∙ each_true is_closed us e;
-  var = λ v p. (p, tt);
-}
-
-pub closed_alternatives : (t : Ty) → is_closed t ≡ true → Each (λ u. is_closed u ≡ true) (alts t)
-closed_alternatives t c = forms_have (λ t. is_closed t ≡ true) (λ v. W.Var v ∷ []) closed_carries t c
-
-pub closed_vars : (t : Ty) → is_closed t ≡ true → vars_in t ≡ []
-closed_vars t h = empty (vars_in t) h
-  where
-    empty : (ns : List ℕ) → nat_eq (length ns) 0 ≡ true → ns ≡ []
-    empty [] e = refl
-    empty (m ∷ ms) e = absurd (let f : nat_eq (length (m ∷ ms)) 0 ≡ false = grind arith in let g : true ≡ false = sym e ∙ f in cc)
-
 abbrev is_nil : List Ty → Bool
 is_nil [] = true
 is_nil (t ∷ ts) = false
@@ -200,34 +134,28 @@ away (n ∷ ns) m v h l =
     let q : nat_eq v n ≡ false = grind (arith, p, l) in
     ap (λ b. b || list_any (nat_eq v) ns) q ∙ away ns m v (and_r (nat_lt n m) (list_all (λ w. nat_lt w m) ns) h) l
 
-pub all_split : (p : ℕ → Bool) (xs ys : List ℕ) → list_all p (xs ++ ys) ≡ true → (list_all p xs ≡ true) × (list_all p ys ≡ true)
-all_split p [] ys h = (refl, h)
-all_split p (x ∷ xs) ys h =
-    let r = all_split p xs ys (and_r (p x) (list_all p (xs ++ ys)) h) in
-    (both_true (p x) (list_all p xs) (and_l (p x) (list_all p (xs ++ ys)) h) r.0, r.1)
-
 not_there : (ts : List Ty) (m v : ℕ) → list_all (λ w. nat_lt w m) (flat_map vars_in ts) ≡ true → m ≤ v → list_any (stands_in v) ts ≡ false
 not_there [] m v h l = refl
 not_there (t ∷ ts) m v h l =
     let r = all_split (λ w. nat_lt w m) (vars_in t) (flat_map vars_in ts) h in
     ap (λ b. b || list_any (stands_in v) ts) (away (vars_in t) m v r.0 l) ∙ not_there ts m v r.1 l
 
-diagonal_places : (p : Places) → kind_of p ≡ diagonal → p.invariant ≡ 0
-diagonal_places p h = by_test (nat_eq p.invariant 0) refl h
-  where
-    by_test : (b : Bool) → nat_eq p.invariant 0 ≡ b → cond b (cond (nat_eq p.covariant 0) unused (cond (nat_eq p.covariant 1) once diagonal)) bound ≡ diagonal → p.invariant ≡ 0
-    by_test true e g = grind (arith, e)
-    by_test false e g = absurd (let f : bound ≡ diagonal = g in cc)
-
-pub unused_places : (p : Places) → p.covariant ≡ 0 → p.invariant ≡ 0 → kind_of p ≡ unused
-unused_places p c i = rw (i, c) refl
+-- a diagonal variable has no invariant place in a component
+diagonal_places : (s : Written) (w : ℕ) → kind s w ≡ diagonal → (plus_all (map (places w) s.parts)).invariant ≡ 0
+diagonal_places s w h = elim (lt_cases 0 (plus_all (map (places w) s.parts)).invariant) [
+  | inl a ↦ absurd (let f : bound ≡ diagonal = sym (kind_below s w a) ∙ h in cc)
+  | inr b ↦ omega (arith, b)
+]
 
 -- ROWS
-module _ (n : Table) (s : Written) (ps : List (List Ty)) (has_own : list_all (λ v. nat_lt v (width s)) (flat_map vars_in s.parts) ≡ true) (closed : (v : ℕ) → is_closed (high s v) ≡ true) where
+module _ (n : Table) (s : Written) (ps : List (List Ty)) (own : HasOwnVariables s) where
+  has_own : list_all (λ v. nat_lt v (width s)) (flat_map vars_in s.parts) ≡ true
+  has_own = own_parts s own
+
   past_unused : (v : ℕ) → width s ≤ v → kind s v ≡ unused
   past_unused v l =
       let h = all_hidden v s.parts (not_there s.parts (width s) v has_own l) in
-      unused_places (plus_all (map (places v) s.parts)) h.0 h.1
+      kind_parts s v (not_there (bound_types s.vars) (width s) v (own_bounds s own) l) ∙ unused_places (plus_all (map (places v) s.parts)) h.0 h.1
 
   pub diagonal_below : (v : ℕ) → kind s v ≡ diagonal → v < width s
   diagonal_below v k = elim (lt_cases v (width s)) [ inl a ↦ a | inr b ↦ absurd (let f : unused ≡ diagonal = sym (past_unused v b) ∙ k in cc) ]
@@ -254,7 +182,7 @@ module _ (n : Table) (s : Written) (ps : List (List Ty)) (has_own : list_all (λ
   clear w d = elim (lt_cases w (width s)) [
     | inl a ↦
         (let k : kind s w ≡ diagonal = dead_diagonal (kind s w) (is_nil (picked ps w)) (sym (ap dead (root_of w a)) ∙ d) in
-        diagonal_places (plus_all (map (places w) s.parts)) k)
+        diagonal_places s w k)
     | inr b ↦ (all_hidden w s.parts (not_there s.parts (width s) w has_own b)).1
   ]
 
@@ -262,12 +190,45 @@ module _ (n : Table) (s : Written) (ps : List (List Ty)) (has_own : list_all (λ
   abbrev alive : Ty → Bool
   alive = live dead (root s)
 
-  closed_alive : (t : Ty) → is_closed t ≡ true → alive t ≡ true
-  closed_alive t c = ap (λ z. not (list_any dead (map (root s) z))) (closed_vars t c)
+  -- a variable in an upper bound is bound, and so it is not dead
+  bound_alive : (ns : List ℕ) → list_all (λ v. nat_lt v (width s)) ns ≡ true → ((w : ℕ) → list_any (nat_eq w) ns ≡ true → kind s w ≡ bound) → list_any dead (map (root s) ns) ≡ false
+  bound_alive [] l h = refl
+  bound_alive (m ∷ ns) l h =
+      let p : nat_lt m (width s) ≡ true = and_l (nat_lt m (width s)) (list_all (λ v. nat_lt v (width s)) ns) l in
+      let q : nat_eq m m ≡ true = grind arith in
+      let k : kind s m ≡ bound = h m (ap (λ z. z || list_any (nat_eq m) ns) q) in
+      let d : dead (root s m) ≡ false = ap dead (root_of m (grind (arith, p))) ∙ ap (λ z. is_diagonal z && is_nil (picked ps m)) k in
+      ap (λ z. z || list_any dead (map (root s) ns)) d ∙ bound_alive ns (and_r (nat_lt m (width s)) (list_all (λ v. nat_lt v (width s)) ns) l) (λ w e. h w (later (nat_eq w m) (list_any (nat_eq w) ns) e))
+    where
+      later : (a b : Bool) → b ≡ true → (a || b) ≡ true
+      later true b g = refl
+      later false b g = g
 
-  all_alive : (ts : List Ty) → Each (λ u. is_closed u ≡ true) ts → sift alive ts ≡ ts
+  high_alive : (v : ℕ) → v < width s → alive (high s v) ≡ true
+  high_alive v l = ap not (bound_alive (vars_in (high s v)) (own_high s own v) (λ w e. kind_stands s w (high_stands v w s.vars l e)))
+
+  -- and so are the alternatives
+  alive_carries : Carries (λ t. alive t ≡ true) (λ v. W.Var v ∷ [])
+  alive_carries = record {
+    union = λ ts p. row_alive ts (sym (live-union dead (root s) ts) ∙ p);
+    tuple = λ ts p. row_alive ts (sym (live-tuple dead (root s) ts) ∙ p);
+    join = λ us e. live-tuple dead (root s) us ∙ alive_row us e;
+    var = λ v p. (p, tt);
+  }
+    where
+      row_alive : (ts : List Ty) → live_row dead (root s) ts ≡ true → Each (λ t. alive t ≡ true) ts
+      row_alive [] h = tt
+      row_alive (t ∷ ts) h =
+          let g = sym (live-cons dead (root s) t ts) ∙ h in
+          (and_l (alive t) (live_row dead (root s) ts) g, row_alive ts (and_r (alive t) (live_row dead (root s) ts) g))
+
+      alive_row : (ts : List Ty) → Each (λ t. alive t ≡ true) ts → live_row dead (root s) ts ≡ true
+      alive_row [] e = refl
+      alive_row (t ∷ ts) e = live-cons dead (root s) t ts ∙ both_true (alive t) (live_row dead (root s) ts) e.0 (alive_row ts e.1)
+
+  all_alive : (ts : List Ty) → Each (λ u. alive u ≡ true) ts → sift alive ts ≡ ts
   all_alive [] e = refl
-  all_alive (t ∷ ts) e = ap (λ b. cond b (t ∷ sift alive ts) (sift alive ts)) (closed_alive t e.0) ∙ ap (λ z. t ∷ z) (all_alive ts e.1)
+  all_alive (t ∷ ts) e = ap (λ b. cond b (t ∷ sift alive ts) (sift alive ts)) e.0 ∙ ap (λ z. t ∷ z) (all_alive ts e.1)
 
   alive_var : (m v : ℕ) → root s m ≡ v → alive (W.Var m) ≡ not (dead v)
   alive_var m v e = ap (λ z. not (list_any dead (map (root s) z))) (vars-var m) ∙ ap (λ z. not (dead z || false)) e ∙ ap not (or_false (dead v))
@@ -284,7 +245,7 @@ module _ (n : Table) (s : Written) (ps : List (List Ty)) (has_own : list_all (λ
 
   place_alive : (v : ℕ) (k : model.Kind) (us : List Ty) → v < width s → kind s v ≡ k → picked ps v ≡ us → place_by s v k (alts (high s v)) us ≡ sift alive (place_of s v k)
   place_alive v unused us l e p = refl
-  place_alive v once us l e p = sym (all_alive (alts (high s v)) (closed_alternatives (high s v) (closed v)))
+  place_alive v once us l e p = sym (all_alive (alts (high s v)) (forms_have (λ t. alive t ≡ true) (λ v. W.Var v ∷ []) alive_carries (high s v) (high_alive v l)))
   place_alive v diagonal [] l e p =
       let d : dead v ≡ true = ap (λ z. is_diagonal z && is_nil (picked ps v)) e ∙ ap is_nil p in
       sym (ap (λ b. cond b (W.Var v ∷ []) []) (alive_var v v (root_of v l) ∙ ap not d))

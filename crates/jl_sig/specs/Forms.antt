@@ -1,5 +1,5 @@
 -- The bounds and arguments of a signature in normal form.
-use Rattle.std.specs.Prelude.{◌≡◌, ◌≤◌, true, false, IsTrue, List, [], ◌∷◌, length, get_or, slice_get}
+use Rattle.std.specs.Prelude.{◌≡◌, ◌≤◌, true, false, IsTrue, List, [], ◌∷◌, map, length, get_or, slice_get}
 use Rattle.std.specs.List.{list_all, Contains}
 use Rattle.jl_model.specs.declared.limits.TheConstants.{MOST_TYPE_NODES}
 use Rattle.jl_model.specs.declared.ty.Ty.{Ty}
@@ -12,7 +12,7 @@ use Rattle.jl_model.specs.Counts.{nodes, IsWithinLimits}
 use Rattle.jl_model.specs.Normal.{IsNormalForm}
 use Rattle.jl_model.specs.Valid.{is_known, is_closed, params_of}
 use Rattle.jl_model.specs.Refusals.{Given, Between}
-use Rattle.jl_types.specs.Form.{IsTooLarge}
+use Rattle.jl_types.specs.Form.{IsTooLarge, Settles}
 use Rattle.jl_types.specs.Ground.{IsGround}
 
 -- t is within the limits as it is written, and u is its normal form, and small
@@ -22,9 +22,20 @@ pub record IsSmallForm (ds : List Decl) (t u : Ty) : Type 0 where
   pub small : nodes u ≤ MOST_TYPE_NODES
   pub known : IsTrue (is_known (length ds) u)
 
--- one of these is too large for a normal form
+-- u stands for the bound t: its normal form, and small, where t has no variables, else t with the arguments of nominal types in normal form
+pub record IsBoundForm (ds : List Decl) (t u : Ty) : Type 0 where
+  pub form : IsNormalForm (table_of ds) t u
+  pub known : IsTrue (is_known (length ds) u)
+  pub small : IsTrue (is_closed t) → IsSmallForm ds t u
+  pub named : is_closed t ≡ false → Settles (IsNormalForm (table_of ds)) t u
+
+-- the lower bounds
+abbrev pub lows : List Bound → List Ty
+lows bs = map (λ b. b.low) bs
+
+-- one of these without variables is too large for a normal form
 abbrev pub HasTooLarge : List Decl → List Ty → Type 0
-HasTooLarge ds ts = (t : Ty) × Contains ts t × IsTooLarge ds t
+HasTooLarge ds ts = (t : Ty) × Contains ts t × (IsTrue (is_closed t) × IsTooLarge ds t)
 
 -- the arguments without variables, in normal form, and no others
 pub data AreFormed (ds : List Decl) : List Given → List Given → Type 0 where

@@ -9,7 +9,7 @@ use Rattle.jl_sig.specs.declared.sig.Sig.{Sig}
 abbrev pub written_of : Sig → Written
 written_of g = g.written
 
--- the signature with the bounds of its variables in normal form
+-- the signature with the bounds of its variables in normal form, those with variables by the arguments of nominal types in them
 abbrev pub bounded_of : Sig → Written
 bounded_of g = g.bounded
 

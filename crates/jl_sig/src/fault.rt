@@ -10,7 +10,8 @@ use thiserror::Error;
 /// that stands first here is given.
 #[derive(Clone, Copy, Debug, Drop, PartialEq, Eq, Error)]
 pub enum SigFault {
-    /// A variable stands in a union or tuple below a nominal type, or in a bound.
+    /// A variable stands in a union or tuple below a nominal type, or in a bound where it may not: an upper bound with variables is
+    /// a nominal type over variables that are declared before, beside the lower bound `Union{}`.
     #[error("VariablePlace")]
     VariablePlace,
     /// A variable has no place.

@@ -1,19 +1,24 @@
 //! The bounds and arguments of a signature in normal form, and whether they are in order.
 
-ghost use Rattle.std.specs.Prelude.{◌≡◌, ◌++◌, ◌∷◌, [], ◌↔◌, IsTrue, OnOk, IfOk, Err, length};
-ghost use Rattle.std.specs.List.{list_all, Contains};
+ghost use Rattle.std.specs.Prelude.{◌≡◌, ◌++◌, ◌∷◌, [], ◌↔◌, false, IsTrue, OnOk, IfOk, Err, length};
+ghost use Rattle.std.specs.List.{Contains};
 ghost use Rattle.jl_model.specs.Ancestors.{table_of};
 ghost use Rattle.jl_model.specs.Signature.{Both};
-ghost use Rattle.jl_model.specs.Valid.{is_known};
+ghost use Rattle.jl_model.specs.Valid.{is_closed};
+ghost use Rattle.jl_model.specs.SigRefusals.{are_bounds, named_form};
+ghost use Rattle.jl_model.specs.declared.ty.Ty.TheViews.{out-Ty};
+ghost use Rattle.jl_types.specs.Form.{IsTooLarge};
 ghost use Rattle.jl_model.specs.Refusals.{bound_types, Between};
 ghost use Rattle.jl_types.specs.Ground.{IsGround};
 ghost use Rattle.jl_types.specs.declared.normal_form.NormFault.TheVariants.{TypeLimit};
 ghost use Rattle.jl_sig.specs.declared.arguments.Argument.{Argument as Arg};
 ghost use Rattle.jl_sig.specs.Parts.{given, all_given};
-ghost use Rattle.jl_sig.specs.Forms.{IsSmallForm, HasTooLarge, AreFormed, HasTooLargeGiven, AreKnown, HasCrossed, AllGround, declared_bound, HasOutside};
+ghost use Rattle.jl_sig.specs.Fit.{IsFit, AllFit};
+ghost use Rattle.jl_sig.specs.Forms.{IsBoundForm, HasTooLarge, AreFormed, HasTooLargeGiven, AreKnown, HasCrossed, AllGround, declared_bound, HasOutside};
 
 use crate::arguments::Argument;
-use jl_model::ty::{Bound, Bounds};
+use crate::keep::keep;
+use jl_model::ty::{Bound, Bounds, Ty};
 use jl_types::closed::is_closed;
 use jl_types::{NormFault, Table, ground_sub, normal};
 use std::alloc::{AllocError, Global};
@@ -41,16 +46,34 @@ fn push_argument(arguments: &mut Vec<Argument>, argument: Argument) -> Result<()
     Ok(())
 }
 
-/// The bounds in normal form.
+/// The normal form of an upper bound. One with variables, as any type with variables, is not measured by its normal form: it stays as
+/// written, with its arguments in normal form.
+fn normal_high(alloc: Global, table: &Table, high: &Ty) -> Result<Ty, NormFault>
+    requires fit { IsFit table.now high.now }
+    requires named { is_closed high.now ≡ false → IsTrue (named_form (out-Ty high.now)) }
+    ensures form { IfOk result (λ u. IsBoundForm table.now high.now u) }
+    ensures limit { result ≡ Err TypeLimit → IsTrue (is_closed high.now) × IsTooLarge table.now high.now }
+{
+    if is_closed(high) {
+        let form = normal(alloc, table, high)?;
+        return Ok(form);
+    }
+    table.valid();
+    let kept = keep(alloc, table, high)?;
+    Ok(kept)
+}
+
+/// The bounds in normal form; of one with variables its arguments so.
 pub fn normal_bounds(alloc: Global, table: &Table, bounds: &[Bound]) -> Result<Bounds, NormFault>
-    requires { IsTrue (list_all (is_known (length table.now)) (bound_types bounds.now)) }
-    ensures forms { IfOk result (λ cs. Both (IsSmallForm table.now) (bound_types bounds.now) (bound_types cs)) }
+    requires fit { AllFit table.now (bound_types bounds.now) }
+    requires placed { IsTrue (are_bounds (length bounds.now) 0 bounds.now) }
+    ensures forms { IfOk result (λ cs. Both (IsBoundForm table.now) (bound_types bounds.now) (bound_types cs)) }
     ensures limit { result ≡ Err TypeLimit → HasTooLarge table.now (bound_types bounds.now) }
 {
     let mut forms = Vec::new(alloc);
     for bound in bounds {
         let low = normal(alloc, table, &bound.low)?;
-        let high = normal(alloc, table, &bound.high)?;
+        let high = normal_high(alloc, table, &bound.high)?;
         push_bound(&mut forms, Bound { low, high })?;
     }
     Ok(Bounds::from_vec(alloc, forms)?)
@@ -78,7 +101,8 @@ pub fn normal_arguments(
     Ok(forms)
 }
 
-/// Whether a low bound is not below its high bound. The bounds are normal forms.
+/// Whether a low bound is not below its high bound. The bounds are normal forms, and the low one beside a high one with variables is
+/// `Union{}`.
 pub fn have_crossed(table: &Table, bounds: &[Bound]) -> bool
     requires { AllGround table.now bounds.now }
     ensures { IsTrue result ↔ HasCrossed table.now bounds.now }

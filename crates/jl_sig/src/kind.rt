@@ -1,10 +1,12 @@
 //! The kinds of a signature's variables.
 
 ghost use Rattle.std.specs.Prelude.{◌≡◌, ◌≤◌, min, map};
-ghost use Rattle.jl_model.specs.Kinds.{places, plus_all, kind_of};
+ghost use Rattle.jl_model.specs.Kinds.{places, plus_all};
+ghost use Rattle.jl_model.specs.Rows.{kind};
 ghost use Rattle.jl_sig.specs.KindIn.{kind_in};
 
-use jl_model::ty::Ty;
+use crate::standing::stands_in_bounds;
+use jl_model::ty::{Ty, Written};
 
 /// How a variable stands in a signature. A diagonal variable ranges over concrete types alone (Julia manual, Types:
 /// UnionAll Types; Zappa Nardelli et al., OOPSLA 2018).
@@ -16,21 +18,21 @@ pub enum Kind {
     Once,
     /// It has several covariant places and no invariant one.
     Diagonal,
-    /// It has an invariant place.
+    /// It has an invariant place, in a component or in a bound.
     Bound,
 }
 
 /// How many places a variable has, each number at most 2.
 #[derive(Clone, Copy)]
-struct Found {
-    covariant: u64,
-    invariant: u64,
+pub(crate) struct Found {
+    pub(crate) covariant: u64,
+    pub(crate) invariant: u64,
 }
 
 /// The places of a variable in these types.
 #[cycle(places)]
 #[tactic(auto, using(crate::proofs::KindLemmas::placing))]
-fn places_in_all(types: &[Ty], variable: u64) -> Found
+pub(crate) fn places_in_all(types: &[Ty], variable: u64) -> Found
     ensures covariant { result.covariant ≡ min (plus_all (map (places variable) types.now)).covariant 2 }
     ensures invariant { result.invariant ≡ min (plus_all (map (places variable) types.now)).invariant 2 }
 {
@@ -74,16 +76,20 @@ fn places_in(ty: &Ty, variable: u64) -> Found
     }
 }
 
-/// The kind of a variable in a signature with these components, as they are written. The components and parts of unions and
-/// tuples in them are covariant places, and all below a nominal type is an invariant place (Zappa Nardelli et al., OOPSLA
+/// The kind of a variable in a signature as it is written. The components and parts of unions and tuples in them are covariant
+/// places. All below a nominal type, and all in the bounds of variables, is an invariant place (Zappa Nardelli et al., OOPSLA
 /// 2018).
-pub fn kind_of(components: &[Ty], variable: u64) -> Kind
-    ensures { kind_in result ≡ kind_of (plus_all (map (places variable) components.now)) }
+pub fn kind_of(written: &Written, variable: u64) -> Kind
+    ensures { kind_in result ≡ kind written.now variable }
 {
-    let found = places_in_all(components, variable);
+    let found = places_in_all(written.parts.as_slice(), variable);
     if found.invariant > 0 {
-        Kind::Bound
-    } else if found.covariant == 0 {
+        return Kind::Bound;
+    }
+    if stands_in_bounds(written.vars.as_slice(), variable) {
+        return Kind::Bound;
+    }
+    if found.covariant == 0 {
         Kind::Unused
     } else if found.covariant == 1 {
         Kind::Once

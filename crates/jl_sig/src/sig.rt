@@ -4,7 +4,7 @@ ghost use Rattle.std.specs.Prelude.{◌≡◌, ◌<◌, IsTrue, IfOk, IfErr, OnO
 ghost use Rattle.std.specs.List.{list_all};
 ghost use Rattle.jl_model.specs.Valid.{is_known};
 ghost use Rattle.jl_model.specs.Ancestors.{table_of};
-ghost use Rattle.jl_model.specs.Kinds.{places, plus_all, kind_of};
+ghost use Rattle.jl_model.specs.Rows.{kind};
 ghost use Rattle.jl_model.specs.SigRefusals.{types_in, IsAllowedSig, TypeLimit as TooLarge};
 ghost use Rattle.jl_model.specs.Usable.{is_usable};
 ghost use Rattle.jl_types.specs.declared.normal_form.NormFault.TheVariants.{TypeLimit};
@@ -29,7 +29,8 @@ use jl_types::{NormFault, Table};
 use std::alloc::{AllocError, Global};
 
 /// A signature with what the walks over it need: its bounds in normal form, itself and all its rows with the arguments of
-/// nominal types in normal form, which variables are diagonal, and the alternatives of its upper bounds.
+/// nominal types in normal form, which variables are diagonal, and the alternatives of its upper bounds. Of a bound with
+/// variables the arguments alone stand in normal form.
 #[derive(Drop)]
 pub struct Sig {
     written: Written,
@@ -96,7 +97,7 @@ impl Sig {
         &self.bounded
     }
 
-    /// The bounds of its variables in normal form.
+    /// The bounds of its variables in normal form, those with variables as they are kept.
     pub fn bounds(&self) -> &[Bound]
         ensures { result.now ≡ (bounded_of self.now).vars }
     {
@@ -133,12 +134,12 @@ impl Sig {
 
     /// The kind of a variable.
     pub fn kind(&self, variable: u32) -> Kind
-        ensures { kind_in result ≡ kind_of (plus_all (map (places variable) (written_of self.now).parts)) }
+        ensures { kind_in result ≡ kind (written_of self.now) variable }
     {
-        kind_of(self.written.parts.as_slice(), u64::from(variable))
+        kind_of(&self.written, u64::from(variable))
     }
 
-    /// Whether a method's body may use a variable: it occurs in the signature, and no occurrence stands in a union.
+    /// Whether a method's body may use a variable: a match finds it in a component, and no occurrence stands in a union.
     pub fn usable(&self, variable: u32) -> bool
         ensures { result ≡ is_usable (written_of self.now) variable }
     {
@@ -163,6 +164,7 @@ fn sig_of(
     ensures written { IfOk result (λ sig. written_of sig ≡ written.now) }
     ensures kept { IfOk result (λ sig. IsKeptOf table.now sig) }
 {
+    table.valid();
     let kept = keep_signature(alloc, table, written)?;
     let alternatives = alternatives(alloc, kept.vars.as_slice())?;
     let diagonals = diagonals(alloc, kinds)?;

@@ -18,7 +18,7 @@ use jl_types::{NormFault, Table};
 use std::alloc::Global;
 
 /// The bounds of a signature, and its arguments without variables, in normal form. `TypeLimit` comes where it is too large
-/// whatever its rows are.
+/// whatever its rows are. The arguments come first, since those of a bound with variables must be known to be small.
 pub(crate) fn small_forms(
     alloc: Global,
     table: &Table,
@@ -33,9 +33,9 @@ pub(crate) fn small_forms(
     if have_many_nodes(types.as_slice()) || have_wide(types.as_slice()) {
         return Err(NormFault::TypeLimit);
     }
-    let bounds = normal_bounds(alloc, table, written.vars.as_slice())?;
     let arguments = arguments_in(alloc, types.as_slice())?;
     let arguments = normal_arguments(alloc, table, arguments.as_slice())?;
+    let bounds = normal_bounds(alloc, table, written.vars.as_slice())?;
     Ok(Forms { bounds, arguments })
 }
 

@@ -1,44 +1,18 @@
 //! Which variables of a signature a method's body may use.
 
 ghost use Rattle.std.specs.Prelude.{◌≡◌};
-ghost use Rattle.std.specs.List.{list_all, list_any};
-ghost use Rattle.jl_model.specs.Usable.{stands_in, is_outside_unions, is_usable};
+ghost use Rattle.std.specs.List.{list_all};
+ghost use Rattle.jl_model.specs.Rows.{kind, part_places};
+ghost use Rattle.jl_model.specs.Usable.{is_outside_unions, is_met, is_usable};
 
+use crate::kind::places_in_all;
+use crate::standing::{stands_in_bounds, stands_in_some};
 use jl_model::ty::{Ty, Written};
-
-/// Whether a variable stands in one of these.
-#[cycle(stands)]
-#[tactic(auto, using(crate::proofs::UsableLemmas::standing))]
-fn stands_in_some(types: &[Ty], variable: u32) -> bool
-    ensures { result ≡ list_any (stands_in variable) types.now }
-{
-    for ty in types {
-        if stands_in(ty, variable) {
-            return true;
-        }
-    }
-    false
-}
-
-/// Whether a variable stands in a type.
-#[cycle(stands)]
-#[tactic(auto, using(crate::proofs::UsableLemmas::standing))]
-pub fn stands_in(ty: &Ty, variable: u32) -> bool
-    ensures { result ≡ stands_in variable ty.now }
-{
-    match ty {
-        Ty::Any => false,
-        Ty::Union(parts) | Ty::Tuple(parts) | Ty::Nominal(_, parts) => {
-            stands_in_some(parts.as_slice(), variable)
-        }
-        Ty::Var(other) => variable == *other,
-    }
-}
 
 /// Whether no occurrence of a variable in these stands in a union.
 #[cycle(outside)]
 #[tactic(auto, using(crate::proofs::UsableLemmas::keeping_out))]
-fn are_outside_unions(types: &[Ty], variable: u32) -> bool
+fn are_outside_unions(types: &[Ty], variable: u64) -> bool
     ensures { result ≡ list_all (is_outside_unions variable) types.now }
 {
     for ty in types {
@@ -52,7 +26,7 @@ fn are_outside_unions(types: &[Ty], variable: u32) -> bool
 /// Whether no occurrence of a variable in a type stands in a union.
 #[cycle(outside)]
 #[tactic(auto, using(crate::proofs::UsableLemmas::keeping_out))]
-fn is_outside_unions(ty: &Ty, variable: u32) -> bool
+fn is_outside_unions(ty: &Ty, variable: u64) -> bool
     ensures { result ≡ is_outside_unions variable ty.now }
 {
     match ty {
@@ -64,10 +38,27 @@ fn is_outside_unions(ty: &Ty, variable: u32) -> bool
     }
 }
 
-/// Whether a method's body may use a variable of its signature: it occurs, and no occurrence stands in a union.
+/// Whether a match finds a variable in a component: at a covariant place where it has no invariant one, bounds counted, or at an
+/// invariant place in a component.
+fn is_met(written: &Written, variable: u64) -> bool
+    ensures { result ≡ is_met (kind written.now variable) (part_places written.now variable) }
+{
+    let parts = written.parts.as_slice();
+    if !stands_in_some(parts, variable) {
+        return false;
+    }
+    if !stands_in_bounds(written.vars.as_slice(), variable) {
+        return true;
+    }
+    let found = places_in_all(parts, variable);
+    found.invariant > 0
+}
+
+/// Whether a method's body may use a variable of its signature: a match finds it in a component, and no occurrence stands in a
+/// union.
 pub fn is_usable(written: &Written, variable: u32) -> bool
     ensures { result ≡ is_usable written.now variable }
 {
-    let parts = written.parts.as_slice();
-    stands_in_some(parts, variable) && are_outside_unions(parts, variable)
+    let variable = u64::from(variable);
+    is_met(written, variable) && are_outside_unions(written.parts.as_slice(), variable)
 }

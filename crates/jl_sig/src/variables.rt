@@ -1,20 +1,20 @@
 //! The variables of a signature: their kinds, what the diagonal ones may take, and what stands at their covariant places.
 
-ghost use Rattle.std.specs.Prelude.{ℕ, ◌≡◌, ◌<◌, ◌≤◌, IfOk, length, get_or};
+ghost use Rattle.std.specs.Prelude.{ℕ, ◌≡◌, ◌<◌, ◌≤◌, false, IfOk, length, get_or};
 ghost use Rattle.jl_model.specs.declared.limits.TheConstants.{MOST_TYPE_NODES, MOST_ALTERNATIVES};
 ghost use Rattle.jl_model.specs.declared.ty.Ty.{Ty as Term};
 ghost use Rattle.jl_model.specs.Ancestors.{table_of};
 ghost use Rattle.jl_model.specs.Signature.{Both};
 ghost use Rattle.jl_model.specs.Subtype.{Equal};
 ghost use Rattle.jl_model.specs.Kinds.{diagonal};
-ghost use Rattle.jl_model.specs.Refusals.{bound_types};
-ghost use Rattle.jl_model.specs.Rows.{alts, atoms, high, kind};
+ghost use Rattle.jl_model.specs.SigRefusals.{is_bottom};
+ghost use Rattle.jl_model.specs.Rows.{alts, atoms, high, kind, low};
 ghost use Rattle.jl_model.specs.AllRows.{Above, each_var};
 ghost use Rattle.jl_types.specs.Ground.{IsGround};
 ghost use Rattle.jl_sig.specs.KindIn.{kind_in};
 ghost use Rattle.jl_sig.specs.Built.{picked, place_by, place_in, AreAligned, AreKinds, ArePicked};
-ghost use Rattle.jl_sig.specs.Fit.{AllFit, IsFit};
-ghost use Rattle.jl_sig.specs.Forms.{IsSmallForm};
+ghost use Rattle.jl_sig.specs.Fit.{IsFit};
+ghost use Rattle.jl_sig.specs.Forms.{IsBoundForm, lows};
 
 use crate::keep::keep;
 use crate::kind::{Kind, kind_of};
@@ -30,7 +30,7 @@ pub fn kinds(alloc: Global, written: &Written) -> Result<Vec<Kind>, AllocError>
 {
     let mut kinds = Vec::new(alloc);
     for variable in 0..written.vars.len() {
-        kinds.push(kind_of(written.parts.as_slice(), variable as u64))?;
+        kinds.push(kind_of(written, variable as u64))?;
     }
     Ok(kinds)
 }
@@ -59,14 +59,28 @@ fn above(
     Ok(picks)
 }
 
-/// The alternatives of an upper bound that the lower bound is below.
+/// Whether a type is `Union{}`, by its form.
+fn is_bottom(ty: &Ty) -> bool
+    ensures { result ≡ is_bottom ty.now }
+{
+    match ty {
+        Ty::Union(members) => members.as_slice().is_empty(),
+        _ => false,
+    }
+}
+
+/// The alternatives of an upper bound that the lower bound is below. `Union{}` is below all, those with variables too.
 fn picks_of(alloc: Global, table: &Table, bound: &Bound, low: &Ty) -> Result<Tys, AllocError>
-    requires high { IsFit table.now bound.now.high }
-    requires low { IsSmallForm table.now bound.now.low low.now }
+    requires high { is_bottom bound.now.low ≡ false → IsFit table.now bound.now.high }
+    requires low { IsBoundForm table.now bound.now.low low.now }
     ensures { IfOk result (λ ps. Above (table_of table.now) bound.now.low (alts bound.now.high) ps) }
 {
     table.valid();
     let alternatives = expand(alloc, &bound.high)?;
+    if is_bottom(&bound.low) {
+        let picks = Tys::from_vec(alloc, alternatives)?;
+        return Ok(picks);
+    }
     let high = keep(alloc, table, &bound.high)?;
     let kept = expand(alloc, &high)?;
     let picks = above(alloc, table, low, alternatives.as_slice(), kept.as_slice())?;
@@ -81,8 +95,8 @@ fn own_picks(
     bound: &Bound,
     low: &Ty,
 ) -> Result<Tys, AllocError>
-    requires high { IsFit table.now bound.now.high }
-    requires low { IsSmallForm table.now bound.now.low low.now }
+    requires high { is_bottom bound.now.low ≡ false → IsFit table.now bound.now.high }
+    requires low { IsBoundForm table.now bound.now.low low.now }
     ensures { IfOk result (λ ps. kind_in kind ≡ diagonal → Above (table_of table.now) bound.now.low (alts bound.now.high) ps) }
 {
     match kind {
@@ -106,8 +120,8 @@ pub fn picks(
     bounds: &[Bound],
 ) -> Result<Vec<Tys>, AllocError>
     requires kinds { AreKinds written.now kinds.now }
-    requires fit { AllFit table.now (bound_types written.now.vars) }
-    requires forms { Both (IsSmallForm table.now) (bound_types written.now.vars) (bound_types bounds.now) }
+    requires fit { (v : ℕ) → is_bottom (low written.now v) ≡ false → IsFit table.now (high written.now v) }
+    requires forms { Both (IsBoundForm table.now) (lows written.now.vars) (lows bounds.now) }
     ensures many { IfOk result (λ ps. length ps.items ≡ length written.now.vars) }
     ensures picked { IfOk result (λ ps. ArePicked (table_of table.now) written.now (length written.now.vars) ps.items) }
 {

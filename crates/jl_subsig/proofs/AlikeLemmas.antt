@@ -23,7 +23,7 @@ use Rattle.jl_subsig.specs.Alike.{EqualArguments, Alike}
 use Rattle.jl_subsig.proofs.PairLemmas.{pairs_end, pairs_more, TyPairs, all_of_pairs, settle_tuple, settle_nominal, settle_var, settle_any}
 use Rattle.jl_search.proofs.EqualLemmas.{turned}
 use Rattle.jl_subsig.proofs.OrderLemmas.{before, after, before_covered, up_of}
-use Rattle.jl_subsume.proofs.LiftLemmas.{covered_from, alt_fine}
+use Rattle.jl_search.proofs.LiftLemmas.{covered_from, alt_fine}
 use Rattle.jl_subsume.proofs.PutBelowLemmas.{equals_put}
 
 module _ (n : Table) where

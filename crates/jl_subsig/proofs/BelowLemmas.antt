@@ -23,11 +23,12 @@ use Rattle.jl_types.proofs.GroundLemmas.{Tells, all-at, ground-at, union_singles
 use Rattle.jl_sig.specs.declared.row.SigRow.{SigRow}
 use Rattle.jl_sig.specs.declared.sig.Sig.{Sig}
 use Rattle.jl_sig.specs.SigParts.{kept_of, bounded_of}
-use Rattle.jl_subsig.specs.Side.{held, tops, IsItem, ArePlain, IsRigid, closed, applied, AreHeld, Every, AnyOf}
+use Rattle.jl_subsig.specs.Side.{held, tops, IsItem, ArePlain, IsRigid, closed, applied, IsHigh, AreHeld, Every, AnyOf}
 use Rattle.jl_search.specs.Serving.{IsPlain}
 use Rattle.jl_search.proofs.HasLemmas.{Has, has_left, has_right, none_has, has_none}
-use Rattle.jl_subsume.proofs.LiftLemmas.{lift}
+use Rattle.jl_search.proofs.LiftLemmas.{lift}
 use Rattle.jl_subsig.proofs.OrderLemmas.{before, after}
+use Rattle.jl_subsig.proofs.HighLemmas.{form_high, form_equal}
 use Rattle.jl_subsig.proofs.HeldLemmas as H
 use Rattle.jl_subsig.proofs.FixedLemmas as F
 
@@ -190,7 +191,7 @@ module _ (ds : List Decl) (declared : Declared ds) (s : Sig) (r : SigRow) (h : A
 
   pub high_step : (k : ℕ) (u t : Ty) (x y : Bool) → x ≡ false → IsItem ds u → Tells x ((u ≡ W.Var k) ⊎ (u ≡ W.Var (root (kept_of s) k))) → tops (bounded_of s).vars s r k ≡ t → Tells y (B t u) → Tells y (B (W.Var k) u)
   high_step k u t x y e i o f a =
-      let q = subst (λ z. Below n opaque (G.high k) z × Below n opaque z (G.high k)) f (H.top_form ds s r h k).equal in (
+      let q = subst (λ z. Below n opaque (G.high k) z × Below n opaque z (G.high k)) f (form_equal ds (G.high k) (tops (bounded_of s).vars s r k) (H.top_form ds s r h k)) in (
         (λ w. F.to_variable n G k u (inr (before n law G (G.high k) t u q.0 (a.0 w)))),
         (λ b. elim (F.variables n G (H.low_none ds s r h) k u (single_or_closed ds u i) b) [
           | inl w ↦ let c : true ≡ false = sym (o.1 w) ∙ e in cc
@@ -198,8 +199,8 @@ module _ (ds : List Decl) (declared : Declared ds) (s : Sig) (r : SigRow) (h : A
         ]),
       )
 
-  pub high_plain : (k : ℕ) (t : Ty) → tops (bounded_of s).vars s r k ≡ t → IsPlain ds t
-  high_plain k t e = subst (IsPlain ds) e (H.top_form ds s r h k).plain
+  pub high_at : (k : ℕ) (t : Ty) → tops (bounded_of s).vars s r k ≡ t → IsHigh ds t
+  high_at k t e = subst (IsHigh ds) e (form_high ds (G.high k) (tops (bounded_of s).vars s r k) (H.top_form ds s r h k))
 
   -- tuples
   module _ (xs : List Ty) (singles : AreSingles ds xs) where

@@ -7,8 +7,8 @@ use Rattle.jl_model.specs.declared.ty.Ty.TheViews.{out-Ty, outs-Nominal, outs-Va
 use Rattle.jl_model.specs.declared.ty.Ty.TheViews as V
 use Rattle.jl_model.specs.declared.ty.Ty.TheVariants as W
 use Rattle.jl_model.specs.declared.ty.Written.{Written}
-use Rattle.jl_model.specs.Kinds.{Places, diagonal, bound, plus_all, places, kind_of}
-use Rattle.jl_model.specs.Rows.{forms, alts, low, high, kind, root, place_of, components, vars_in, Occurs}
+use Rattle.jl_model.specs.Kinds.{Places, diagonal, bound, nowhere, plus, plus_all, below_nominal, places, kind_of}
+use Rattle.jl_model.specs.Rows.{forms, alts, low, high, kind, root, place_of, components, vars_in, Stands, Occurs, standing, bounding}
 use Rattle.jl_model.specs.Subtype.{Fixed, opaque, put, Below, Equal, equals_end}
 use Rattle.jl_model.specs.Signature.{Row, IsRow, by_kind, top, fixed, Meets, Meet, any, tuple, nominal, same, atom, raise_tuple, raise_nominal, meet_end, meet_more, RowBelow, SigBelow, SameSignature}
 use Rattle.jl_model.specs.Ancestors.{table_of, builtin_types}
@@ -19,14 +19,14 @@ use Rattle.jl_model.proofs.BelowLemmas.{below_part}
 use Rattle.jl_model.proofs.TransLemmas.{below_trans}
 use Rattle.jl_model.proofs.DeclaredLemmas.{declared_lawful}
 use Rattle.jl_model.specs.Refusals.{builtin}
-use Rattle.jl_model.specs.Valid.{is_closed}
+use Rattle.jl_model.specs.SigRefusals.{are_bounds}
 use Rattle.jl_subsume.specs.Scoped.{IsScoped}
 use Rattle.jl_subsig.specs.Chain.{builtins, int, below_int, first_of_chain, middle_of_chain, last_of_chain}
 use Rattle.jl_search.proofs.HasLemmas.{Has, Picks, has_of, of_has, has_none}
 use Rattle.jl_types.proofs.FormEquations.{forms-var, forms-nominal}
 use Rattle.jl_search.proofs.PickLemmas.{has_choices, choices_has}
-use Rattle.jl_subsume.proofs.LiftLemmas.{lift, refl_below}
-use Rattle.jl_subsume.proofs.ScopeLemmas.{places-nominal, places-var, diagonal_small, occurs_small}
+use Rattle.jl_search.proofs.LiftLemmas.{lift, refl_below}
+use Rattle.jl_subsume.proofs.ScopeLemmas.{places-union, places-nominal, places-var, diagonal_small, occurs_small}
 use Rattle.jl_subsume.proofs.PutBelowLemmas.{none_below}
 use Rattle.jl_subsume.proofs.SureLemmas.{concrete-nominal}
 
@@ -45,15 +45,19 @@ none_vars : vars_in (V.Union []) ≡ []
 none_vars = vars-union []
 
 -- kinds
-three : (p q r : Places) (x y z : Ty) → places 0 x ≡ p → places 0 y ≡ q → places 0 z ≡ r → kind_of (plus_all (map (places 0) (x ∷ y ∷ z ∷ []))) ≡ kind_of (plus_all (p ∷ q ∷ r ∷ []))
-three p q r x y z e f g = rw (e, f, g) refl
+three : (p q r u w : Places) (x y z t h : Ty) → places 0 x ≡ p → places 0 y ≡ q → places 0 z ≡ r → places 0 t ≡ u → places 0 h ≡ w
+    → kind_of (plus (plus_all (map (places 0) (x ∷ y ∷ z ∷ []))) (below_nominal (plus (plus (places 0 t) (places 0 h)) nowhere))) ≡ kind_of (plus (plus_all (p ∷ q ∷ r ∷ [])) (below_nominal (plus (plus u w) nowhere)))
+three p q r u w x y z t h e f g i j = rw (e, f, g, i, j) refl
 
-one : Places
+abbrev one : Places
 one = record { covariant = 1; invariant = 0 }
 
+abbrev none_inside : Places
+none_inside = record { covariant = 0; invariant = 0 + 0 }
+
 kind_is : (q : Bool) → kind (of_last q) 0 ≡ diagonal
-kind_is true = three (record { covariant = 1; invariant = 0 }) (record { covariant = 1; invariant = 0 }) (record { covariant = 1; invariant = 0 }) (W.Var 0) (W.Var 0) (W.Var 0) (places-var 0 0) (places-var 0 0) (places-var 0 0)
-kind_is false = three (record { covariant = 1; invariant = 0 }) (record { covariant = 1; invariant = 0 }) (record { covariant = 0; invariant = 0 + 0 }) (W.Var 0) (W.Var 0) int (places-var 0 0) (places-var 0 0) (places-nominal 0 4 [])
+kind_is true = three one one one nowhere none_inside (W.Var 0) (W.Var 0) (W.Var 0) (V.Union []) int (places-var 0 0) (places-var 0 0) (places-var 0 0) (places-union 0 []) (places-nominal 0 4 [])
+kind_is false = three one one none_inside nowhere none_inside (W.Var 0) (W.Var 0) int (V.Union []) int (places-var 0 0) (places-var 0 0) (places-nominal 0 4 []) (places-union 0 []) (places-nominal 0 4 [])
 
 -- the forms
 place_is : (q : Bool) → forms (λ v. place_of (of_last q) v (kind (of_last q) v)) (W.Var 0) ≡ W.Var 0 ∷ []
@@ -99,22 +103,25 @@ middle_are l row =
 first_has : (x : Ty) (ts : List Ty) → ts ≡ x ∷ [] → Has ts x
 first_has x ts e = subst (λ z. Has z x) (sym e) (inl refl)
 
-occurs_first : (q : Bool) (us : List Ty) → Occurs (of_last q) 0 (W.Var 0 ∷ us)
-occurs_first q us = of_has (map (root (of_last q)) (flat_map vars_in (W.Var 0 ∷ us))) 0 (subst (λ z. Has (map (root (of_last q)) (z ++ flat_map vars_in us)) 0) (sym (vars-var 0)) (inl refl))
+stands_first : (q : Bool) (us : List Ty) → Stands (of_last q) 0 (W.Var 0 ∷ us)
+stands_first q us = of_has (map (root (of_last q)) (flat_map vars_in (W.Var 0 ∷ us))) 0 (subst (λ z. Has (map (root (of_last q)) (z ++ flat_map vars_in us)) 0) (sym (vars-var 0)) (inl refl))
 
 -- scopes
 three_own : (m : ℕ) (x y z : Ty) (as_ bs cs : List ℕ) → vars_in x ≡ as_ → vars_in y ≡ bs → vars_in z ≡ cs → list_all (λ v. nat_lt v m) (flat_map vars_in (x ∷ y ∷ z ∷ [])) ≡ list_all (λ v. nat_lt v m) (as_ ++ (bs ++ (cs ++ [])))
 three_own m x y z as_ bs cs e f g = rw (e, f, g) refl
 
-closed_both : list_all is_closed (V.Union [] ∷ int ∷ []) ≡ true
-closed_both = let e = none_vars in let f = int_vars in rw (e, f) refl
+bounds_own : list_all (λ v. nat_lt v 1) (flat_map vars_in (V.Union [] ∷ int ∷ [])) ≡ true
+bounds_own = let e = none_vars in let f = int_vars in rw (e, f) refl
+
+bounds_are : are_bounds 1 0 (below_int ∷ []) ≡ true
+bounds_are = let e = none_vars in let f = int_vars in rw (e, f) refl
 
 pub scope_is : (q : Bool) → IsScoped (of_last q)
-scope_is true = record { own = three_own 1 (W.Var 0) (W.Var 0) (W.Var 0) (0 ∷ []) (0 ∷ []) (0 ∷ []) (vars-var 0) (vars-var 0) (vars-var 0); closed = closed_both }
-scope_is false = record { own = three_own 1 (W.Var 0) (W.Var 0) int (0 ∷ []) (0 ∷ []) [] (vars-var 0) (vars-var 0) int_vars; closed = closed_both }
+scope_is true = record { own = three_own 1 (W.Var 0) (W.Var 0) (W.Var 0) (0 ∷ []) (0 ∷ []) (0 ∷ []) (vars-var 0) (vars-var 0) (vars-var 0); own_bounds = bounds_own; bounds = bounds_are }
+scope_is false = record { own = three_own 1 (W.Var 0) (W.Var 0) int (0 ∷ []) (0 ∷ []) [] (vars-var 0) (vars-var 0) int_vars; own_bounds = bounds_own; bounds = bounds_are }
 
 pub middle_scope : IsScoped middle_of_chain
-middle_scope = record { own = three_own 0 int int int [] [] [] int_vars int_vars int_vars; closed = refl }
+middle_scope = record { own = three_own 0 int int int [] [] [] int_vars int_vars int_vars; own_bounds = refl; bounds = refl }
 
 -- the row of each
 abbrev row_is : Bool → Row
@@ -129,21 +136,25 @@ row_of q = record { parts = there; chosen = chosen; other = other }
         of_has (components (of_last q)) (row_parts q) (has_choices (map (forms at) (row_parts q)) (row_parts q)
         (first_has (W.Var 0) (forms at (W.Var 0)) (place_is q), (first_has (W.Var 0) (forms at (W.Var 0)) (place_is q), (first_has (last q) (forms at (last q)) (last_is q), tt))))
 
-    chosen : (v : ℕ) → kind (of_last q) v ≡ diagonal → Occurs (of_last q) v (row_parts q) → Contains (alts (high (of_last q) v)) (cond (nat_eq v 0) int W.Any) × Below builtins opaque (low (of_last q) v) (cond (nat_eq v 0) int W.Any)
+    chosen : (v : ℕ) → kind (of_last q) v ≡ diagonal → Stands (of_last q) v (row_parts q) → Contains (alts (high (of_last q) v)) (cond (nat_eq v 0) int W.Any) × Below builtins opaque (low (of_last q) v) (cond (nat_eq v 0) int W.Any)
     chosen zero d o = (of_has (alts int) int (first_has int (alts int) (alts-nominal 4 [])), none_below builtins int)
     chosen (suc v) d o = let l = diagonal_small (of_last q) (scope_is q) (suc v) d in absurd (omega (arith, l))
 
-    other : (v : ℕ) → (Occurs (of_last q) v (row_parts q) → ⊥) → cond (nat_eq v 0) int W.Any ≡ W.Any
-    other zero g = absurd (g (occurs_first q (W.Var 0 ∷ last q ∷ [])))
+    other : (v : ℕ) → (Stands (of_last q) v (row_parts q) → ⊥) → cond (nat_eq v 0) int W.Any ≡ W.Any
+    other zero g = absurd (g (stands_first q (W.Var 0 ∷ last q ∷ [])))
     other (suc v) g = let e : nat_eq (suc v) 0 ≡ false = grind arith in rw e refl
 
 abbrev middle_row : Row
 middle_row = record { parts = ints; chosen = λ v. W.Any }
 
-nothing_there : (v : ℕ) → Occurs middle_of_chain v ints → ⊥
-nothing_there v o =
+nothing_stands : (v : ℕ) → Stands middle_of_chain v ints → ⊥
+nothing_stands v o =
     let e : flat_map vars_in ints ≡ [] = (let i = int_vars in rw i refl) in
     has_none (map (root middle_of_chain) (flat_map vars_in ints)) v (ap (map (root middle_of_chain)) e) (has_of (map (root middle_of_chain) (flat_map vars_in ints)) v o)
+
+nothing_there : (v : ℕ) → Occurs middle_of_chain v ints → ⊥
+nothing_there v (standing x row o) = nothing_stands v o
+nothing_there v (bounding x w row o c) = nothing_there w o
 
 middle_of : IsRow builtins middle_of_chain middle_row
 middle_of = record {
@@ -151,14 +162,14 @@ middle_of = record {
       let at : ℕ → List Ty = λ v. place_of middle_of_chain v (kind middle_of_chain v) in
       let h = first_has int (forms at int) (forms-nominal at 4 []) in
       of_has (components middle_of_chain) ints (has_choices (map (forms at) ints) ints (h, (h, (h, tt))));
-  chosen = λ v d o. absurd (nothing_there v o);
+  chosen = λ v d o. absurd (nothing_stands v o);
   other = λ v g. refl;
 }
 
 -- what a diagonal variable of a row takes
 high_is : (q : Bool) (l : Row) → IsRow builtins (of_last q) l → (fixed (of_last q) l).high 0 ≡ int
 high_is q l row =
-    let o : Occurs (of_last q) 0 l.parts = subst (λ z. Occurs (of_last q) 0 z) (parts_are q l row) (occurs_first q (W.Var 0 ∷ last q ∷ [])) in
+    let o : Stands (of_last q) 0 l.parts = subst (λ z. Stands (of_last q) 0 z) (parts_are q l row) (stands_first q (W.Var 0 ∷ last q ∷ [])) in
     let c = row.chosen 0 (kind_is q) o in
     let e : int ≡ l.chosen 0 = only int (l.chosen 0) (alts int) (alts-nominal 4 []) (has_of (alts int) (l.chosen 0) c.0) in
     ap (λ k. by_kind k (l.chosen 0) int) (kind_is q) ∙ sym e

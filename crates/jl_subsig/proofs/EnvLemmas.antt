@@ -15,9 +15,8 @@ use Rattle.jl_model.proofs.AncestorLemmas.{Lawful}
 use Rattle.jl_subsume.specs.Scoped.{IsScoped, IsOrdered}
 use Rattle.jl_search.proofs.HasLemmas.{Has, has_split, has_of, of_has, has_none}
 use Rattle.jl_search.proofs.PartLemmas.{Plain, plain_any, plain_tuple, plain_nominal, plain_var, AllPlain, all_end, all_more, plain_single}
-use Rattle.jl_subsume.proofs.ScopeLemmas.{IsSlot, slot_diagonal, slot_atom, Never, Bare, Small, bound_plain, root_own, root_atom, low_at, high_at, high_atom, top_closed, top_diagonal, top_other, which, has_or, slot_high}
+use Rattle.jl_subsume.proofs.ScopeLemmas.{IsSlot, slot_diagonal, slot_atom, Never, Small, bound_plain, root_own, root_atom, alts_within, high_small, low_at, high_at, high_atom, top_small, top_diagonal, top_other, which, has_or}
 use Rattle.jl_subsume.proofs.PutBelowLemmas.{none_below}
-use Rattle.jl_subsume.proofs.SubsumeLemmas.{bare_vars}
 use Rattle.jl_subsig.proofs.OrderLemmas.{trans, Ordered}
 
 module _ (n : Table) (law : Lawful n) (a : Written) (scope : IsScoped a) (ordered : IsOrdered n a) (l : Row) (row : IsRow n a l) where
@@ -40,10 +39,13 @@ module _ (n : Table) (law : Lawful n) (a : Written) (scope : IsScoped a) (ordere
   ok_root_root k (ok_own v i) = ap (root a) (root_own a v i)
   ok_root_root k (ok_slot v d) = root_own a (root a v) (root_small v d)
 
-  ok_closed : (k : ℕ) → Ok k → vars_in (G.high k) ≡ []
-  ok_closed k (ok_own v i) = ap vars_in (high_at n a l v i) ∙ top_closed n a l scope row v
-  ok_closed k (ok_slot v d) =
-      bare_vars (G.high v) (slot_high n a l scope row v d)
+  slot_ok : (k : ℕ) → IsSlot a k → (j : ℕ) → Has (vars_in (G.high k)) j → j < width a
+  slot_ok k (slot_diagonal v l2 e) j h = top_small n a l scope row v j (subst (λ z. Has (vars_in z) j) (high_at n a l v l2) h)
+  slot_ok k (slot_atom v i l2 e m) j h = high_small a scope v j (alts_within (high a v) (get_or (alts (high a v)) i W.Any) m j (subst (λ z. Has (vars_in z) j) (high_atom n a l v i l2) h))
+
+  ok_ok : (k : ℕ) → Ok k → (j : ℕ) → Has (vars_in (G.high k)) j → Ok j
+  ok_ok k (ok_own v i) j h = ok_own j (top_small n a l scope row v j (subst (λ z. Has (vars_in z) j) (high_at n a l v i) h))
+  ok_ok k (ok_slot v d) j h = ok_own j (slot_ok v d j h)
 
   own_root : (k : ℕ) → k < width a → (c : Ty) → Has (alts (G.high k)) c → Has (alts (G.high (root a k))) c
   own_root k i c h = subst (λ z. Has (alts (G.high z)) c) (sym (root_own a k i)) h
@@ -52,7 +54,7 @@ module _ (n : Table) (law : Lawful n) (a : Written) (scope : IsScoped a) (ordere
   slot_root k (slot_diagonal v i e) c h = own_root v i c h
   slot_root k (slot_atom v i j e m) c h =
       let u : Ty = get_or (alts (high a v)) i W.Any in
-      let single : alts u ≡ u ∷ [] = plain_single Never Bare u (bound_plain a scope v u m) in
+      let single : alts u ≡ u ∷ [] = plain_single Never (Small a scope) u (bound_plain a scope v u m) in
       let h2 : Has (u ∷ []) c = subst (λ z. Has z c) (ap alts (high_atom n a l v i j) ∙ single) h in
       let is_u : u ≡ c = elim h2 [ inl q ↦ q | inr b ↦ absurd b ] in
       let high_is : G.high (root a (atom a v i)) ≡ high a v = ap (G.high) (root_atom a v i j) ∙ high_at n a l v j ∙ ap (λ z. by_kind z (l.chosen v) (high a v)) e in
@@ -94,7 +96,7 @@ module _ (n : Table) (law : Lawful n) (a : Written) (scope : IsScoped a) (ordere
   ]
 
   orders : Ordered n law G Ok
-  orders = record { root_root = ok_root_root; high_root = ok_high; low_root = low_or; low_high = low_high; high_closed = ok_closed }
+  orders = record { root_root = ok_root_root; high_root = ok_high; low_root = low_or; low_high = low_high; high_ok = ok_ok }
 
   mutual
     fine_left : (t : Ty) → Plain (IsSlot a) (Small a scope) t → (k : ℕ) → Has (vars_in t) k → Ok k

@@ -17,7 +17,7 @@ use Rattle.jl_types.proofs.GroundLemmas.{Tells}
 use Rattle.jl_subsig.specs.Side.{IsRigid, closed, applied, Every, AnyOf}
 use Rattle.jl_search.proofs.HasLemmas.{Has, has_none, has_flat, flat_has}
 use Rattle.jl_subsume.proofs.ScopeLemmas.{Never, alts_closed}
-use Rattle.jl_subsume.proofs.LiftLemmas.{lift, covered_at, found_in, below_found, found_below, single_found, found_single, alt_fine, by_alts, part_single}
+use Rattle.jl_search.proofs.LiftLemmas.{lift, covered_at, found_in, below_found, found_below, single_found, found_single, alt_fine, by_alts, part_single}
 use Rattle.jl_subsume.proofs.PutBelowLemmas.{Env, put_below}
 
 -- no variable
@@ -274,7 +274,7 @@ module _ (n : Table) (g : Fixed) where
       covers [] f = none g (u ∷ us)
       covers (t ∷ ts) f = more g t ts (u ∷ us) (f t (inl refl)) (covers ts (λ x h. f x (inr h)))
 
-  ways : (x : Ty) (us : List Ty) → Found n g x us → ((u : Ty) × Has us u × Part n g x u) ⊎ ((k : ℕ) × (out-Ty x ≡ Var k) × Covered n g (alts (g.high k)) us)
+  pub ways : (x : Ty) (us : List Ty) → Found n g x us → ((u : Ty) × Has us u × Part n g x u) ⊎ ((k : ℕ) × (out-Ty x ≡ Var k) × Covered n g (alts (g.high k)) us)
   ways x us (here h t u vs p) = inl (u, inl refl, p)
   ways x us (there h t u vs f) = elim (ways x vs f) [
     | inl r ↦ inl (r.0, inr r.1, r.2)

@@ -1,7 +1,8 @@
 -- What is kept of the bounds of fixed variables.
 use Rattle.std.proofs.Common.{◌≡◌, ◌∙◌, sym, ap, subst, refl, ℕ, zero, suc, ◌-◌, ◌/◌, ◌%◌, ◌<◌, arith, Bool, true, false, cond, nat_lt, mod-lt, List, [], ◌∷◌, map, length, get_or, ◌⊎◌, inl, inr}
 use Rattle.jl_model.specs.declared.ty.Ty.{Ty}
-use Rattle.jl_model.specs.declared.ty.Ty.TheViews.{outs-Any}
+use Rattle.jl_model.specs.declared.ty.Ty.TheOpen.{Var}
+use Rattle.jl_model.specs.declared.ty.Ty.TheViews.{out-Ty, outs-Any}
 use Rattle.jl_model.specs.declared.ty.Ty.TheViews as V
 use Rattle.jl_model.specs.declared.ty.Ty.TheVariants as W
 use Rattle.jl_model.specs.declared.ty.Bound.{Bound}
@@ -11,23 +12,17 @@ use Rattle.jl_model.specs.Kinds.{Kind, unused, once, diagonal, bound}
 use Rattle.jl_model.specs.Rows.{alts, free, width, low, high, kind, root, vars_in}
 use Rattle.jl_model.specs.Signature.{by_kind, is_diagonal}
 use Rattle.jl_model.specs.Subtype.{Table, at}
-use Rattle.jl_model.specs.Normal.{any as normal_any}
-use Rattle.jl_model.proofs.FormLemmas.{alts-any, vars-any, vars-union}
-use Rattle.jl_model.proofs.KnownLemmas.{known-any}
-use Rattle.jl_model.proofs.SelfLemmas.{equal_self}
+use Rattle.jl_model.specs.Normal.{no_union}
+use Rattle.jl_model.proofs.FormLemmas.{alts-any, vars-union}
+use Rattle.jl_model.proofs.NormalLemmas.{single_alts}
 use Rattle.jl_sig.specs.declared.row.SigRow.{SigRow}
 use Rattle.jl_sig.specs.declared.sig.Sig.{Sig}
 use Rattle.jl_sig.specs.SigParts.{kept_of, bounded_of, diagonals_of, alternatives_of}
 use Rattle.jl_search.proofs.KindLemmas.{is_diag, less_or}
-use Rattle.jl_subsig.specs.Side.{held, tops, IsPlainForm, IsTold, AreHeld}
-use Rattle.jl_search.specs.Serving.{IsPlain}
+use Rattle.jl_subsig.specs.Side.{held, tops, IsHighForm, IsAlternative, IsTold, AreHeld}
 use Rattle.jl_subsume.proofs.ScopeLemmas.{is_less}
-
-pub any_plain : (ds : List Decl) → IsPlain ds W.Any
-any_plain ds = record { normal = normal_any W.Any outs-Any; known = known-any (length ds); closed = vars-any }
-
-pub same_form : (ds : List Decl) (t : Ty) → IsPlain ds t → IsPlainForm ds t t
-same_form ds t h = record { closed = h.closed; plain = h; equal = equal_self (table_of ds) t }
+use Rattle.jl_search.proofs.HasLemmas.{Has}
+use Rattle.jl_subsig.proofs.HighLemmas.{high_any, high_normal, high_self, form_fast}
 
 pub true_or : (b : Bool) → (b ≡ true) ⊎ (b ≡ false)
 true_or true = inl refl
@@ -127,26 +122,52 @@ module _ (ds : List Decl) (s : Sig) (r : SigRow) (h : AreHeld ds s r) where
     | inr e ↦ ap vars_in (low_past k e) ∙ vars-union []
   ]
 
-  pub past_plain : (k : ℕ) → nat_lt k (width (kept_of s)) ≡ false → IsPlain ds ((held s r).high k)
-  past_plain k e = elim (less_or 0 (width (kept_of s))) [
-    | inl p ↦ subst (IsPlain ds) (sym (atom_high s r h.told k e)) (h.atom (k % width (kept_of s)) (k / width (kept_of s) - 1) (atom_in s r h.told k p))
-    | inr f ↦ subst (IsPlain ds) (sym (no_high s r h.told k e (grind (arith, f)))) (any_plain ds)
+  pub past_alternative : (k : ℕ) → nat_lt k (width (kept_of s)) ≡ false → IsAlternative ds ((held s r).high k)
+  past_alternative k e = elim (less_or 0 (width (kept_of s))) [
+    | inl p ↦ subst (IsAlternative ds) (sym (atom_high s r h.told k e)) (h.atom (k % width (kept_of s)) (k / width (kept_of s) - 1) (atom_in s r h.told k p))
+    | inr f ↦ subst (IsAlternative ds) (sym (no_high s r h.told k e (grind (arith, f)))) (record { high = high_any ds; single = ap no_union outs-Any })
   ]
 
-  pub top_form : (k : ℕ) → IsPlainForm ds ((held s r).high k) (tops (bounded_of s).vars s r k)
+  -- a diagonal variable takes an alternative
+  pub own_alternative : (v : ℕ) → v < width (kept_of s) → kind (kept_of s) v ≡ diagonal → IsAlternative ds ((held s r).high v)
+  own_alternative v l e = subst (IsAlternative ds) (sym (own_high s r h.told v l ∙ ap (λ z. by_kind z (at r.chosen v) (high (kept_of s) v)) e)) (h.chosen v l e)
+
+  -- each alternative of an upper bound is one
+  one_of : (t c : Ty) → IsAlternative ds t → Has (alts t) c → IsAlternative ds c
+  one_of t c a i = elim (subst (λ z. Has z c) (single_alts (table_of ds) t (high_normal ds t a.high) a.single) i) [ inl e ↦ subst (IsAlternative ds) e a | inr b ↦ absurd b ]
+
+  get_in : (us : List Ty) (c : Ty) → Has us c → (i : ℕ) × (at us i ≡ c)
+  get_in [] c i = absurd i
+  get_in (u ∷ us) c (inl e) = (0, e)
+  get_in (u ∷ us) c (inr i) = let q = get_in us c i in (suc q.0, q.1)
+
+  pub alternative_in : (k : ℕ) (c : Ty) → Has (alts ((held s r).high k)) c → IsAlternative ds c
+  alternative_in k c i = elim (less_or k (width (kept_of s))) [
+    | inr e ↦ one_of ((held s r).high k) c (past_alternative k e) i
+    | inl l ↦ elim (true_or (is_diagonal (kind (kept_of s) k))) [
+      | inl d ↦ one_of ((held s r).high k) c (own_alternative k l (is_diag (kind (kept_of s) k) d)) i
+      | inr d ↦
+          let e : (held s r).high k ≡ high (kept_of s) k = own_high s r h.told k l ∙ other_kind (kind (kept_of s) k) (at r.chosen k) (high (kept_of s) k) d in
+          let j = get_in (alts (high (kept_of s) k)) c (subst (λ z. Has (alts z) c) e i) in
+          subst (IsAlternative ds) j.1 (h.atom k j.0 l)
+    ]
+  ]
+
+  pub top_form : (k : ℕ) → IsHighForm ds ((held s r).high k) (tops (bounded_of s).vars s r k)
   top_form k = elim (less_or k (width (kept_of s))) [
-    | inr e ↦ subst (IsPlainForm ds ((held s r).high k)) (sym (top_past s r h.told (bounded_of s).vars h.wide k e)) (same_form ds ((held s r).high k) (past_plain k e))
+    | inr e ↦ subst (IsHighForm ds ((held s r).high k)) (sym (top_past s r h.told (bounded_of s).vars h.wide k e)) (high_self ds ((held s r).high k) (past_alternative k e).high)
     | inl l ↦ elim (true_or (is_diagonal (kind (kept_of s) k))) [
       | inl d ↦
           let a : tops (bounded_of s).vars s r k ≡ at r.chosen k = top_own s r h.told (bounded_of s).vars h.wide k l ∙ ap (λ z. cond z (at r.chosen k) (high (bounded_of s) k)) d in
           let b : (held s r).high k ≡ at r.chosen k = own_high s r h.told k l ∙ ap (λ z. by_kind z (at r.chosen k) (high (kept_of s) k)) (is_diag (kind (kept_of s) k) d) in
-          subst (IsPlainForm ds ((held s r).high k)) (sym a) (subst (λ z. IsPlainForm ds z (at r.chosen k)) (sym b) (same_form ds (at r.chosen k) (h.chosen k l (is_diag (kind (kept_of s) k) d))))
+          subst (IsHighForm ds ((held s r).high k)) (sym a) (subst (λ z. IsHighForm ds z (at r.chosen k)) (sym b) (high_self ds (at r.chosen k) (h.chosen k l (is_diag (kind (kept_of s) k) d)).high))
       | inr d ↦
           let a : tops (bounded_of s).vars s r k ≡ high (bounded_of s) k = top_own s r h.told (bounded_of s).vars h.wide k l ∙ ap (λ z. cond z (at r.chosen k) (high (bounded_of s) k)) d in
           let b : (held s r).high k ≡ high (kept_of s) k = own_high s r h.told k l ∙ other_kind (kind (kept_of s) k) (at r.chosen k) (high (kept_of s) k) d in
-          subst (IsPlainForm ds ((held s r).high k)) (sym a) (subst (λ z. IsPlainForm ds z (high (bounded_of s) k)) (sym b) (h.highs k l))
+          subst (IsHighForm ds ((held s r).high k)) (sym a) (subst (λ z. IsHighForm ds z (high (bounded_of s) k)) (sym b) (h.highs k l))
     ]
   ]
 
-  pub high_none : (k : ℕ) → vars_in ((held s r).high k) ≡ []
-  high_none k = (top_form k).closed
+  -- an upper bound is no variable
+  pub high_still : (k v : ℕ) → out-Ty ((held s r).high k) ≡ Var v → ⊥
+  high_still k v e = form_fast ds ((held s r).high k) (tops (bounded_of s).vars s r k) (top_form k) v e

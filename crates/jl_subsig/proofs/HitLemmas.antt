@@ -16,11 +16,11 @@ abbrev pub Hit : (Ty → Type 0) → Option Ty → Type 0
 Hit P None = Unit {0}
 Hit P (Some y) = P y
 
-hit_map : (P Q : Ty → Type 0) → ((y : Ty) → P y → Q y) → (o : Option Ty) → Hit P o → Hit Q o
+pub hit_map : (P Q : Ty → Type 0) → ((y : Ty) → P y → Q y) → (o : Option Ty) → Hit P o → Hit Q o
 hit_map P Q f None h = tt
 hit_map P Q f (Some y) h = f y h
 
-hit_or : (P : Ty → Type 0) (o p : Option Ty) → Hit P o → Hit P p → Hit P (or_else o p)
+pub hit_or : (P : Ty → Type 0) (o p : Option Ty) → Hit P o → Hit P p → Hit P (or_else o p)
 hit_or P None p a b = b
 hit_or P (Some y) p a b = a
 
@@ -47,6 +47,10 @@ module _ (n : Table) (g : Fixed) (P Q : Ty → Type 0) (parts : (t : Ty) → P t
   each_arg : (us : List Ty) → Each (λ u. (t : Ty) → Q t → Hit Q (find_arg v u t)) us
   each_arg [] = tt
   each_arg (u ∷ us) = (arg_hit u, each_arg us)
+
+  -- in arguments
+  pub arg_hits : (us ts : List Ty) → Each Q ts → Hit Q (first (map (find_arg v) us) ts)
+  arg_hits us ts h = first_hit Q Q (find_arg v) us ts (each_arg us) h
 
   inner_hit : (u : Ty) (t : Ty) → P t → Hit Q (find_inner n g v u t)
   inner_hit = by_cases (λ u. (t : Ty) → P t → Hit Q (find_inner n g v u t)) (record {

@@ -1,15 +1,16 @@
 -- A signature and its kept form differ in equal arguments alone, and the kept form has what the laws ask.
-use Rattle.std.proofs.Common.{◌≡◌, ◌∙◌, sym, ap, subst, refl, ℕ, ◌+◌, ◌<◌, arith, true, nat_eq, nat_lt, List, [], ◌∷◌, ◌++◌, length, inl, inr}
+use Rattle.std.proofs.Common.{◌≡◌, ◌∙◌, sym, ap, subst, refl, ℕ, suc, ◌+◌, ◌<◌, arith, Bool, true, false, ◌&&◌, ◌||◌, not, nat_eq, nat_lt, List, [], ◌∷◌, ◌++◌, length, get_or, ◌⊎◌, inl, inr}
 use Rattle.std.specs.List.{flat_map, list_all}
 use Rattle.jl_model.specs.declared.ty.Ty.{Ty}
-use Rattle.jl_model.specs.declared.ty.Ty.TheOpen.{Var}
+use Rattle.jl_model.specs.declared.ty.Bound.{Bound}
+use Rattle.jl_model.specs.declared.ty.Ty.TheOpen.{Ty-F, Any, Union, Tuple, Nominal, Var}
 use Rattle.jl_model.specs.declared.ty.Ty.TheViews.{out-Ty, outs-Nominal, outs-Var, rolls-Var}
 use Rattle.jl_model.specs.declared.ty.Ty.TheVariants as W
 use Rattle.jl_model.specs.declared.ty.Ty.TheFolds.{para-roll-Ty}
 use Rattle.jl_model.specs.declared.ty.Decl.{Decl}
 use Rattle.jl_model.specs.declared.ty.Written.{Written}
 use Rattle.jl_model.specs.Ancestors.{table_of}
-use Rattle.jl_model.specs.Rows.{width, low, high, vars_in}
+use Rattle.jl_model.specs.Rows.{width, free, low, high, vars_in}
 use Rattle.jl_model.specs.Signature.{Both, both_end, both_more}
 use Rattle.jl_model.specs.Subtype.{Table, Equal, Equals, equals_end, equals_more}
 use Rattle.jl_model.specs.Normal.{IsNormal, AllNormal, any as normal_any, var as normal_var, nominal as normal_nominal, tuple as normal_tuple, union as normal_union, none as normals_end, more as normals_more, IsNormalForm}
@@ -27,11 +28,13 @@ use Rattle.jl_types.proofs.ExistLemmas.{exists}
 use Rattle.jl_types.proofs.PartsLemmas.{closed_parts}
 use Rattle.jl_subsig.specs.Alike.{EqualArguments, Alike, AreAlike, IsKeptForm}
 use Rattle.jl_subsume.specs.Scoped.{IsScoped, IsPlaced, IsOrdered, HasNormalArguments}
-use Rattle.jl_model.specs.SigRefusals.{is_argument, is_component}
+use Rattle.jl_model.specs.SigRefusals.{is_argument, is_component, bottom_form, is_bottom, named_form, is_bound, are_bounds}
 use Rattle.jl_search.proofs.HasLemmas.{Has, has_left, has_right, has_split, has_of, all_has, none_has, has_none}
 use Rattle.jl_search.proofs.EqualLemmas.{nominal_form}
 use Rattle.jl_search.specs.Open.{IsOpen, AreOpen, closed, variable, applied, open_end, open_more}
-use Rattle.jl_subsig.proofs.RightLemmas.{Allowed, allowed_seeds}
+use Rattle.jl_subsig.proofs.RightLemmas.{Allowed, allowed_seeds, allowed_bound}
+use Rattle.jl_subsume.proofs.ScopeLemmas.{low_none}
+use Rattle.jl_subsig.proofs.PairLemmas.{settle_union}
 use Rattle.jl_sig.proofs.FitLemmas.{argument-any, argument-var, argument-union, argument-tuple, argument-nominal, component-any, component-var, component-union, component-tuple, component-nominal}
 use Rattle.jl_subsig.proofs.LeftLemmas.{NormalIn, given-any, given-union, given-tuple, given-nominal}
 use Rattle.jl_subsig.proofs.AlikeLemmas.{alike_equal, alike_vars, all_vars}
@@ -209,10 +212,87 @@ module _ (ds : List Decl) (declared : Declared ds) where
   both_append P ts us vs ws both_end q = q
   both_append P ts us vs ws (both_more t u as_ bs p r) q = both_more t u (as_ ++ vs) (bs ++ ws) p (both_append P as_ bs vs ws r q)
 
+  -- bounds that are kept are as they were: without variables, or nominal types over variables before
+  bottom_of : (x : Ty-F Ty) → bottom_form x ≡ true → x ≡ Union []
+  bottom_of Any h = let e : false ≡ true = h in cc
+  bottom_of (Union []) h = refl
+  bottom_of (Union (t ∷ ts)) h = let e : false ≡ true = h in cc
+  bottom_of (Tuple ts) h = let e : false ≡ true = h in cc
+  bottom_of (Nominal k ts) h = let e : false ≡ true = h in cc
+  bottom_of (Var v) h = let e : false ≡ true = h in cc
+
+  nothing_settles : (us : List Ty) → AllSettle (EqualArguments n) [] us → us ≡ []
+  nothing_settles us none = refl
+
+  bottom_there : (t u : Ty) → Alike n t u → is_bottom t ≡ true → is_bottom u ≡ true
+  bottom_there t u p h =
+      let r = settle_union (EqualArguments n) t u [] (bottom_of (out-Ty t) h) p in
+      ap bottom_form (r.1 ∙ ap (λ z. Union z) (nothing_settles r.0 r.2))
+
+  named_there : (t u : Ty) → Alike n t u → is_component u ≡ true → named_form (out-Ty t) ≡ true → named_form (out-Ty u) ≡ true
+  named_there t u (any a e) c h = let i : false ≡ true = sym (ap named_form e) ∙ h in cc
+  named_there t u (var a v e) c h = let i : false ≡ true = sym (ap named_form e) ∙ h in cc
+  named_there t u (union a b ts us e f r) c h = let i : false ≡ true = sym (ap named_form e) ∙ h in cc
+  named_there t u (tuple a b ts us e f r) c h = let i : false ≡ true = sym (ap named_form e) ∙ h in cc
+  named_there t u (nominal a b k ts us e f r) c h = ap named_form f ∙ sym (ap is_component (is_nominal u k us f) ∙ component-nominal k us) ∙ c
+
+  or_true : (b c : Bool) → (b || c) ≡ true → (b ≡ true) ⊎ (c ≡ true)
+  or_true true c h = inl refl
+  or_true false c h = inr h
+
+  or_left : (b c : Bool) → b ≡ true → (b || c) ≡ true
+  or_left b c h = rw h refl
+
+  or_right : (b c : Bool) → c ≡ true → (b || c) ≡ true
+  or_right true c h = refl
+  or_right false c h = h
+
+  is_bound_there : (m v : ℕ) (b c : Bound) → Alike n b.low c.low → Alike n b.high c.high → is_component c.high ≡ true → is_bound m v b ≡ true → is_bound m v c ≡ true
+  is_bound_there m v b c p q o h =
+      let before : ℕ → Bool = λ w. nat_lt w v || not (nat_lt w m) in
+      let lows : vars_in b.low ≡ vars_in c.low = alike_vars n b.low c.low p in
+      let highs : vars_in b.high ≡ vars_in c.high = alike_vars n b.high c.high q in
+      let old : Bool = is_bottom b.low && named_form (out-Ty b.high) in
+      let new : Bool = is_bottom c.low && named_form (out-Ty c.high) in
+      let one : is_closed c.low ≡ true = ap (λ z. nat_eq (length z) 0) (sym lows) ∙ and_l (is_closed b.low) (is_closed b.high || (old && list_all before (vars_in b.high))) h in
+      both_true (is_closed c.low) (is_closed c.high || (new && list_all before (vars_in c.high))) one
+      (elim (or_true (is_closed b.high) (old && list_all before (vars_in b.high)) (and_r (is_closed b.low) (is_closed b.high || (old && list_all before (vars_in b.high))) h)) [
+        | inl e ↦ or_left (is_closed c.high) (new && list_all before (vars_in c.high)) (ap (λ z. nat_eq (length z) 0) (sym highs) ∙ e)
+        | inr e ↦
+            let a = and_l old (list_all before (vars_in b.high)) e in
+            or_right (is_closed c.high) (new && list_all before (vars_in c.high))
+            (both_true new (list_all before (vars_in c.high))
+            (both_true (is_bottom c.low) (named_form (out-Ty c.high)) (bottom_there b.low c.low p (and_l (is_bottom b.low) (named_form (out-Ty b.high)) a))
+            (named_there b.high c.high q o (and_r (is_bottom b.low) (named_form (out-Ty b.high)) a)))
+            (ap (list_all before) (sym highs) ∙ and_r old (list_all before (vars_in b.high)) e))
+      ])
+
+  are_bounds_there : (m v : ℕ) (bs cs : List Bound) → Both (Alike n) (bound_types bs) (bound_types cs) → list_all is_component (bound_types cs) ≡ true → are_bounds m v bs ≡ true → are_bounds m v cs ≡ true
+  are_bounds_there m v [] [] p o h = refl
+  are_bounds_there m v [] (c ∷ cs) p o h = elim p [ ]
+  are_bounds_there m v (b ∷ bs) [] p o h = elim p [ ]
+  are_bounds_there m v (b ∷ bs) (c ∷ cs) (both_more x y xs ys p (both_more z w zs ws q r)) o h =
+      let rest = and_r (is_component c.low) (list_all is_component (c.high ∷ bound_types cs)) o in
+      both_true (is_bound m v c) (are_bounds m (v + 1) cs)
+      (is_bound_there m v b c p q (and_l (is_component c.high) (list_all is_component (bound_types cs)) rest) (and_l (is_bound m v b) (are_bounds m (v + 1) bs) h))
+      (are_bounds_there m (v + 1) bs cs r (and_r (is_component c.high) (list_all is_component (bound_types cs)) rest) (and_r (is_bound m v b) (are_bounds m (v + 1) bs) h))
+
+  -- each type in the bounds is one of a variable
+  bound_at : (bs : List Bound) (t : Ty) → Has (bound_types bs) t → (v : ℕ) × (((get_or bs v free).low ≡ t) ⊎ ((get_or bs v free).high ≡ t))
+  bound_at [] t h = absurd h
+  bound_at (b ∷ bs) t (inl e) = (0, inl e)
+  bound_at (b ∷ bs) t (inr (inl e)) = (0, inr e)
+  bound_at (b ∷ bs) t (inr (inr h)) = let r = bound_at bs t h in (suc r.0, r.1)
+
   -- THE KEPT FORM.
   module _ (s k : Written) (scope : IsScoped s) (placed : IsPlaced s) (kept : IsKeptForm n s k) where
+    allowed : (t : Ty) → Has (bound_types s.vars) t → Allowed t
+    allowed t h =
+        let r = bound_at s.vars t h in
+        elim r.1 [ inl e ↦ subst Allowed e (inr (low_none s scope r.0)) | inr e ↦ subst Allowed e (allowed_bound s scope r.0) ]
+
     bounds : Both (Alike n) (bound_types s.vars) (bound_types k.vars) × (list_all is_component (bound_types k.vars) ≡ true)
-    bounds = both_kept_alike (bound_types s.vars) (bound_types k.vars) (λ t h. inr (none_length (vars_in t) (all_has is_closed (bound_types s.vars) t scope.closed h))) kept.bounds
+    bounds = both_kept_alike (bound_types s.vars) (bound_types k.vars) allowed kept.bounds
 
     parts : Both (Alike n) s.parts k.parts × (list_all is_component k.parts ≡ true)
     parts = both_kept_alike s.parts k.parts (λ t h. inl (all_has is_component s.parts t placed h)) kept.parts
@@ -228,12 +308,6 @@ module _ (ds : List Decl) (declared : Declared ds) where
         both_kept_in (bound_types s.vars ++ s.parts) (bound_types k.vars ++ k.parts) (both_append (Settles Form) (bound_types s.vars) (bound_types k.vars) s.parts k.parts kept.bounds kept.parts) x
         (has_of (flat_map given_in (bound_types k.vars ++ k.parts)) x c)
 
-    closed_there : (ts us : List Ty) → Both (Alike n) ts us → list_all is_closed ts ≡ true → list_all is_closed us ≡ true
-    closed_there ts us both_end h = refl
-    closed_there ts us (both_more t u vs ws p r) h =
-        let e : vars_in u ≡ [] = sym (alike_vars n t u p) ∙ none_length (vars_in t) (and_l (is_closed t) (list_all is_closed vs) h) in
-        both_true (is_closed u) (list_all is_closed ws) (length_none u e) (closed_there vs ws r (and_r (is_closed t) (list_all is_closed vs) h))
-
     vars_there : (ts us : List Ty) → Both (Alike n) ts us → flat_map vars_in ts ≡ flat_map vars_in us
     vars_there ts us both_end = refl
     vars_there ts us (both_more t u vs ws p r) = ap (λ z. z ++ flat_map vars_in vs) (alike_vars n t u p) ∙ ap (λ z. vars_in u ++ z) (vars_there vs ws r)
@@ -246,7 +320,10 @@ module _ (ds : List Decl) (declared : Declared ds) where
       own =
           let e : flat_map vars_in s.parts ≡ flat_map vars_in k.parts = vars_there s.parts k.parts parts.0 in
           ap (λ w. list_all (λ v. nat_lt v w) (flat_map vars_in k.parts)) (sym matches.width) ∙ ap (λ z. list_all (λ v. nat_lt v (width s)) z) (sym e) ∙ scope.own;
-      closed = closed_there (bound_types s.vars) (bound_types k.vars) bounds.0 scope.closed;
+      own_bounds =
+          let e : flat_map vars_in (bound_types s.vars) ≡ flat_map vars_in (bound_types k.vars) = vars_there (bound_types s.vars) (bound_types k.vars) bounds.0 in
+          ap (λ w. list_all (λ v. nat_lt v w) (flat_map vars_in (bound_types k.vars))) (sym matches.width) ∙ ap (λ z. list_all (λ v. nat_lt v (width s)) z) (sym e) ∙ scope.own_bounds;
+      bounds = ap (λ w. are_bounds w 0 k.vars) (sym matches.width) ∙ are_bounds_there (width s) 0 s.vars k.vars bounds.0 bounds.1 scope.bounds;
     }
 
     pub kept_is_ordered : IsOrdered n s → IsOrdered n k

@@ -8,7 +8,7 @@ use Rattle.jl_model.specs.declared.ty.Ty.TheViews as V
 use Rattle.jl_model.specs.declared.ty.Ty.TheVariants as W
 use Rattle.jl_model.specs.declared.ty.Written.{Written}
 use Rattle.jl_model.specs.Kinds.{diagonal}
-use Rattle.jl_model.specs.Rows.{alts, width, low, high, kind, root, components, vars_in, Occurs}
+use Rattle.jl_model.specs.Rows.{alts, width, low, high, kind, root, components, vars_in, Stands, Occurs, standing, bounding}
 use Rattle.jl_model.specs.Signature.{Row, IsRow, by_kind, top, fixed, is_diagonal, Serves, Both, both_end, both_more, Applicable, RowBelow, SigBelow}
 use Rattle.jl_model.specs.Subtype.{Table, Fixed, opaque, put, Below, Equal, is_concrete}
 use Rattle.jl_model.proofs.SelfLemmas.{equal_self}
@@ -23,7 +23,7 @@ use Rattle.jl_subsig.proofs.OrderLemmas.{before, after}
 use Rattle.jl_subsume.proofs.PutBelowLemmas.{put_opaque}
 use Rattle.jl_subsig.proofs.PairLemmas.{pairs_end, pairs_more, TyPairs, RowPairs, pairs_right, pairs_get, all_of_pairs, alts_pairs}
 use Rattle.jl_subsig.proofs.RowPairLemmas.{row_component_pairs}
-use Rattle.jl_subsig.proofs.AlikeLemmas.{alike_equal, alike_self, alike_turned, pairs_vars, pairs_turned, SameFixed, below_there, meet_alike}
+use Rattle.jl_subsig.proofs.AlikeLemmas.{alike_equal, alike_vars, alike_self, alike_turned, pairs_vars, pairs_turned, SameFixed, below_there, meet_alike}
 
 module _ (n : Table) where
   both_alike_turned : (ts us : List Ty) → Both (Alike n) ts us → Both (Alike n) us ts
@@ -58,32 +58,43 @@ module _ (n : Table) where
         roots_same [] = refl
         roots_same (m ∷ ns) = let e = root_same a b h m in let f = roots_same ns in rw (e, f) refl
 
+    stands_there : (ts us : List Ty) → TyPairs (Alike n) ts us → (v : ℕ) → Stands a v ts → Stands b v us
+    stands_there ts us p v o = subst (λ z. Contains z v) (names_same ts us p) o
+
+    stands_back : (ts us : List Ty) → TyPairs (Alike n) ts us → (v : ℕ) → Stands b v us → Stands a v ts
+    stands_back ts us p v o = subst (λ z. Contains z v) (sym (names_same ts us p)) o
+
+    high_vars : (w : ℕ) → vars_in (high a w) ≡ vars_in (high b w)
+    high_vars w = alike_vars n (high a w) (high b w) (h.high w)
+
     pub occurs_there : (ts us : List Ty) → TyPairs (Alike n) ts us → (v : ℕ) → Occurs a v ts → Occurs b v us
-    occurs_there ts us p v o = subst (λ z. Contains z v) (names_same ts us p) o
+    occurs_there ts us p v (standing x row o) = standing v us (stands_there ts us p v o)
+    occurs_there ts us p v (bounding x w row o c) = bounding v w us (occurs_there ts us p w o) (subst (λ z. Contains z v) (high_vars w) c)
 
     pub occurs_back : (ts us : List Ty) → TyPairs (Alike n) ts us → (v : ℕ) → Occurs b v us → Occurs a v ts
-    occurs_back ts us p v o = subst (λ z. Contains z v) (sym (names_same ts us p)) o
+    occurs_back ts us p v (standing x row o) = standing v ts (stands_back ts us p v o)
+    occurs_back ts us p v (bounding x w row o c) = bounding v w ts (occurs_back ts us p w o) (subst (λ z. Contains z v) (sym (high_vars w)) c)
 
     -- what a diagonal variable takes
     record Taken (r : Row) (us : List Ty) (v : ℕ) : Type 0 where
       pub ty : Ty
       pub alike : Alike n (r.chosen v) ty
-      pub choice : kind b v ≡ diagonal → Occurs b v us → Contains (alts (high b v)) ty × Below n opaque (low b v) ty
-      pub other : (Occurs b v us → ⊥) → ty ≡ W.Any
+      pub choice : kind b v ≡ diagonal → Stands b v us → Contains (alts (high b v)) ty × Below n opaque (low b v) ty
+      pub other : (Stands b v us → ⊥) → ty ≡ W.Any
 
     module _ (law : Lawful n) (r : Row) (row : IsRow n a r) (us : List Ty) (p : TyPairs (Alike n) r.parts us) where
       takes : (v : ℕ) → Taken r us v
       takes v = elim (has_or (map (root b) (flat_map vars_in us)) v) [
         | inr f ↦
-            let none_there : Occurs b v us → ⊥ = λ o. f (has_of (map (root b) (flat_map vars_in us)) v o) in
-            let e : r.chosen v ≡ W.Any = row.other v (λ o. none_there (occurs_there r.parts us p v o)) in
+            let none_there : Stands b v us → ⊥ = λ o. f (has_of (map (root b) (flat_map vars_in us)) v o) in
+            let e : r.chosen v ≡ W.Any = row.other v (λ o. none_there (stands_there r.parts us p v o)) in
             record { ty = W.Any; alike = subst (λ z. Alike n z W.Any) (sym e) (alike_self n W.Any); choice = λ d o. absurd (none_there o); other = λ g. refl }
         | inl i ↦
-            let o : Occurs b v us = of_has (map (root b) (flat_map vars_in us)) v i in
+            let o : Stands b v us = of_has (map (root b) (flat_map vars_in us)) v i in
             by_which v o (which (kind a v))
       ]
         where
-          by_which : (v : ℕ) → Occurs b v us → (kind a v ≡ diagonal) ⊎ ((t u : Ty) → by_kind (kind a v) t u ≡ u) → Taken r us v
+          by_which : (v : ℕ) → Stands b v us → (kind a v ≡ diagonal) ⊎ ((t u : Ty) → by_kind (kind a v) t u ≡ u) → Taken r us v
           by_which v o (inr f) = record {
             ty = r.chosen v;
             alike = alike_self n (r.chosen v);
@@ -97,7 +108,7 @@ module _ (n : Table) where
               differ : W.Any ≡ V.Union [] → ⊥
               differ e = let i : Any ≡ Union [] = sym outs-Any ∙ ap out-Ty e ∙ outs-Union [] in cc
           by_which v o (inl d) =
-              let c = row.chosen v d (occurs_back r.parts us p v o) in
+              let c = row.chosen v d (stands_back r.parts us p v o) in
               let q = pairs_right Ty Ty (Alike n) (alts (high a v)) (alts (high b v)) (r.chosen v) (alts_pairs (EqualArguments n) (high a v) (high b v) (h.high v)) (has_of (alts (high a v)) (r.chosen v) c.0) in
               let below_there : Below n opaque (low b v) q.0 =
               below_trans n law (low b v) (low a v) q.0 (alike_equal n (low a v) (low b v) (h.low v)).1

@@ -9,7 +9,7 @@ use Rattle.jl_model.specs.declared.ty.Decl.{Decl}
 use Rattle.jl_model.specs.declared.ty.Written.{Written}
 use Rattle.jl_model.specs.Ancestors.{table_of}
 use Rattle.jl_model.specs.Kinds.{Kind, unused, once, diagonal, bound}
-use Rattle.jl_model.specs.Rows.{alts, low, high, kind, root, components, vars_in, Occurs}
+use Rattle.jl_model.specs.Rows.{alts, low, high, kind, root, components, vars_in, Stands}
 use Rattle.jl_model.specs.Signature.{Row, IsRow, Both, both_end, both_more}
 use Rattle.jl_model.specs.Subtype.{Table, opaque, Below, Equal}
 use Rattle.jl_model.specs.Normal.{IsNormalForm}
@@ -25,13 +25,13 @@ use Rattle.jl_subsume.specs.Scoped.{IsScoped, IsPlaced}
 use Rattle.jl_model.specs.SigRefusals.{is_component}
 use Rattle.jl_subsig.specs.Alike.{IsKeptForm, IsKeptRow}
 use Rattle.jl_search.proofs.HasLemmas.{Has, has_of, of_has, all_has}
-use Rattle.jl_subsume.proofs.ScopeLemmas.{IsSlot, SmallN, components_plain_n, high_none, has_or}
+use Rattle.jl_subsume.proofs.ScopeLemmas.{IsSlot, SmallN, components_plain_n, has_or}
 use Rattle.jl_subsig.proofs.PairLemmas.{pairs_end, pairs_more, TyPairs, RowPairs, pairs_left, pairs_right, all_of_pairs, alts_pairs, settle_any, settle_var, settle_union, settle_tuple, settle_nominal}
 use Rattle.jl_subsig.proofs.RowPairLemmas.{row_component_pairs}
 use Rattle.jl_subsig.proofs.MatchLemmas.{Matches, matches_of, lows, highs}
 use Rattle.jl_search.proofs.PartLemmas.{Plain, plain_any, plain_tuple, plain_nominal, plain_var, AllPlain, all_end, all_more}
 use Rattle.jl_search.specs.Open.{AreOpen}
-use Rattle.jl_subsig.proofs.RightLemmas.{Allowed, allowed_seeds}
+use Rattle.jl_subsig.proofs.RightLemmas.{Allowed, allowed_seeds, allowed_bound}
 use Rattle.jl_subsig.proofs.KeptFormLemmas.{kept_is_alike, forms_vars}
 
 diagonal_or : (k : Kind) → (k ≡ diagonal) ⊎ (k ≡ diagonal → ⊥)
@@ -131,19 +131,19 @@ module _ (n : Table) (law : Lawful n) where
       pub ty : Ty
       pub stays : kind s v ≡ diagonal → A ty (q.chosen v)
       pub others : (kind s v ≡ diagonal → ⊥) → ty ≡ q.chosen v
-      pub choice : kind s v ≡ diagonal → Occurs s v r → Contains (alts (high s v)) ty × Below n opaque (low s v) ty
-      pub other : (Occurs s v r → ⊥) → ty ≡ W.Any
+      pub choice : kind s v ≡ diagonal → Stands s v r → Contains (alts (high s v)) ty × Below n opaque (low s v) ty
+      pub other : (Stands s v r → ⊥) → ty ≡ W.Any
 
     module _ (q : Row) (row : IsRow n k q) (ts : List Ty) (names : map (root s) (flat_map vars_in ts) ≡ map (root k) (flat_map vars_in q.parts)) where
-      took_none : (v : ℕ) → (Occurs s v ts → ⊥) → Took ts q v
+      took_none : (v : ℕ) → (Stands s v ts → ⊥) → Took ts q v
       took_none v f =
           let e : q.chosen v ≡ W.Any = row.other v (λ o. f (subst (λ z. Contains z v) (sym names) o)) in
           record { ty = W.Any; stays = λ d. subst (λ z. A W.Any z) (sym e) (any W.Any outs-Any); others = λ g. sym e; choice = λ d o. absurd (f o); other = λ g. refl }
 
-      took_same : (v : ℕ) → Occurs s v ts → (kind s v ≡ diagonal → ⊥) → Took ts q v
+      took_same : (v : ℕ) → Stands s v ts → (kind s v ≡ diagonal → ⊥) → Took ts q v
       took_same v o f = record { ty = q.chosen v; stays = λ d. absurd (f d); others = λ g. refl; choice = λ d i. absurd (f d); other = λ g. absurd (g o) }
 
-      took_one : (v : ℕ) → Occurs s v ts → kind s v ≡ diagonal → Took ts q v
+      took_one : (v : ℕ) → Stands s v ts → kind s v ≡ diagonal → Took ts q v
       took_one v o d =
           let g = row.chosen v (sym (match.kinds v) ∙ d) (subst (λ z. Contains z v) names o) in
           let u = pairs_left Ty Ty A (alts (high s v)) (alts (high k v)) (q.chosen v) (alts_pairs Form (high s v) (high k v) (kept_high v)) (has_of (alts (high k v)) (q.chosen v) g.0) in
@@ -190,12 +190,12 @@ module _ (ds : List Decl) (declared : Declared ds) (s k : Written) (scope : IsSc
   match = matches_of order s k (kept_is_alike ds declared s k scope placed kept)
 
   abbrev Shape : List Ty → Type 0
-  Shape = SmallN s scope AreOpen Allowed allowed_seeds (λ v. inr (high_none s scope v))
+  Shape = SmallN s scope AreOpen Allowed allowed_seeds (allowed_bound s scope)
 
   same_vars : (ts us : List Ty) → Has (components s) ts → TyPairs (Settles (IsNormalForm order)) ts us → flat_map vars_in ts ≡ flat_map vars_in us
   same_vars ts us h p =
       all_kept_vars ds declared (IsSlot s) Shape (λ xs q. q.1) ts us
-      (components_plain_n s scope AreOpen Allowed allowed_seeds (λ v. inr (high_none s scope v)) ts h (λ t i. inl (all_has is_component s.parts t placed i))) (all_of_pairs (IsNormalForm order) ts us p)
+      (components_plain_n s scope AreOpen Allowed allowed_seeds (allowed_bound s scope) ts h (λ t i. inl (all_has is_component s.parts t placed i))) (all_of_pairs (IsNormalForm order) ts us p)
 
   pub kept_row : (r q : Row) → IsRow order s r → IsKeptRow order s r q → IsRow order k q
   kept_row r q row h = row_kept order (declared_lawful ds declared) s k match kept same_vars r q row h

@@ -104,7 +104,7 @@ and_first true b h = refl
 and_first false b h = absurd (h refl)
 
 scope_of : (ds : List Decl) (s : Written) → IsValidSig ds s → IsScoped s
-scope_of ds s h = record { own = h.own; closed = and_first _ _ h.allowed.placed }
+scope_of ds s h = record { own = h.own; own_bounds = h.own_bounds; bounds = and_first _ _ h.allowed.placed }
 
 valid_at : (ds : List Decl) (sites : List Site) (k : ℕ) → All (λ (s : Site). IsValidSig ds s.sig) sites → k < length sites → IsValidSig ds (sig_of (slice_get sites k))
 valid_at ds [] k h l = absurd (omega (arith, l))

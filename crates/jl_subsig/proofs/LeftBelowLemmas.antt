@@ -1,4 +1,4 @@
--- What a part of a left row is below.
+-- What a part of a left row is below. A rigid form has no variable at a covariant place: the upper bound of what stands in the row is one.
 use Rattle.std.proofs.Common.{◌≡◌, ◌∙◌, sym, ap, subst, refl, ℕ, Bool, true, false, nat_eq, List, [], ◌∷◌, map, Some, ◌⊎◌, inl, inr}
 use Rattle.jl_model.specs.declared.ty.Ty.{Ty}
 use Rattle.jl_model.specs.declared.ty.Ty.TheOpen.{Any, Tuple, Nominal, Var}
@@ -16,8 +16,8 @@ use Rattle.jl_subsume.specs.Scoped.{IsScoped}
 use Rattle.jl_search.proofs.HasLemmas.{Has, Picks}
 use Rattle.jl_subsume.proofs.FormsLemmas.{form_tuple}
 use Rattle.jl_search.proofs.PartLemmas.{Plain, plain_tuple, AllPlain, plain_single, tuple_parts, var_number, head_plain, tail_plain}
-use Rattle.jl_subsume.proofs.LiftLemmas.{covered_from, covered_at, found_in, single_found, found_single, part_single, alt_fine}
-use Rattle.jl_subsume.proofs.ScopeLemmas.{IsSlot, Never, Bare, Small, bare_plain, slot_high}
+use Rattle.jl_search.proofs.LiftLemmas.{covered_from, covered_at, found_in, single_found, found_single, part_single, alt_fine}
+use Rattle.jl_subsume.proofs.ScopeLemmas.{IsSlot, Never, Small, rigid_plain, slot_high}
 use Rattle.jl_subsume.proofs.PutBelowLemmas.{tuple_below}
 use Rattle.jl_search.proofs.EqualLemmas.{nominals}
 use Rattle.jl_subsume.proofs.SureLemmas.{Sure, AllSure, sure_more, sure_tuple, sure_nominal, sure_var, sure_equal}
@@ -35,14 +35,17 @@ module _ (n : Table) (a : Written) (scope : IsScoped a) (l : Row) (row : IsRow n
   abbrev pub Lefts : List Ty → Type 0
   Lefts = AllPlain (IsSlot a) (Small a scope)
 
-  abbrev pub Bares : Ty → Type 0
-  Bares = Plain Never Bare
+  abbrev pub Rigid : Ty → Type 0
+  Rigid = Plain Never (Small a scope)
 
-  pub left_of : (c : Ty) → Bares c → Left c
-  left_of c p = bare_plain a scope c p
+  abbrev pub Rigids : List Ty → Type 0
+  Rigids = AllPlain Never (Small a scope)
 
-  pub high_bare : (x : Ty) (k : ℕ) → out-Ty x ≡ Var k → Left x → Bares (G.high k)
-  high_bare x k e p = slot_high n a l scope row k (var_number (IsSlot a) (Small a scope) x k e p)
+  pub left_of : (c : Ty) → Rigid c → Left c
+  left_of c p = rigid_plain a scope c p
+
+  pub high_rigid : (x : Ty) (k : ℕ) → out-Ty x ≡ Var k → Left x → Rigid (G.high k)
+  high_rigid x k e p = slot_high n a l scope row k (var_number (IsSlot a) (Small a scope) x k e p)
 
   covered_of : (t u : Ty) → B t u → Covered n G (alts t) (alts u)
   covered_of t u (below h x y c) = c
@@ -72,21 +75,21 @@ module _ (n : Table) (a : Written) (scope : IsScoped a) (l : Row) (row : IsRow n
   left_single : (x : Ty) → Left x → alts x ≡ x ∷ []
   left_single x p = plain_single (IsSlot a) (Small a scope) x p
 
-  bare_single : (c : Ty) → Bares c → alts c ≡ c ∷ []
-  bare_single c p = plain_single Never Bare c p
+  rigid_single : (c : Ty) → Rigid c → alts c ≡ c ∷ []
+  rigid_single c p = plain_single Never (Small a scope) c p
 
-  bare_some : (c : Ty) (us : List Ty) → Bares c → Found n G c us → (u : Ty) × Has us u × Part n G c u
-  bare_some c us p f = elim (shape c us f) [ inl r ↦ r | inr r ↦ absurd (var_number Never Bare c r.0 r.1 p) ]
+  rigid_some : (c : Ty) (us : List Ty) → Rigid c → Found n G c us → (u : Ty) × Has us u × Part n G c u
+  rigid_some c us p f = elim (shape c us f) [ inl r ↦ r | inr r ↦ absurd (var_number Never (Small a scope) c r.0 r.1 p) ]
 
   -- what a part of the left row is below it is below by one alternative
   pub alt_of_left : (x w : Ty) → Left x → B x w → (u : Ty) × Has (alts w) u × B x u
   alt_of_left x w p b = elim (shape x (alts w) (single_found n G x w (left_single x p) b)) [
     | inl r ↦ (r.0, r.1, part_single n G x r.0 (left_single x p) (alt_fine n G w r.0 r.1).0 r.2)
     | inr r ↦
-        let q = high_bare x r.0 r.1 p in
+        let q = high_rigid x r.0 r.1 p in
         let c = G.high r.0 in
-        let s = bare_some c (alts w) q (covered_at n G (alts c) (alts w) c r.2 (subst (λ z. Has z c) (sym (bare_single c q)) (inl refl))) in
-        (s.0, s.1, raise_below x r.0 s.0 r.1 (part_single n G c s.0 (bare_single c q) (alt_fine n G w s.0 s.1).0 s.2))
+        let s = rigid_some c (alts w) q (covered_at n G (alts c) (alts w) c r.2 (subst (λ z. Has z c) (sym (rigid_single c q)) (inl refl))) in
+        (s.0, s.1, raise_below x r.0 s.0 r.1 (part_single n G c s.0 (rigid_single c q) (alt_fine n G w s.0 s.1).0 s.2))
   ]
 
   pub both_of_parts : (xs us : List Ty) → Parts n G xs us → Both B xs us
@@ -120,8 +123,8 @@ module _ (n : Table) (a : Written) (scope : IsScoped a) (l : Row) (row : IsRow n
     | inr r ↦ inr (r.0, r.1, below G (G.high r.0) u r.2)
   ]
 
-  pub bare_part : (c u : Ty) → Bares c → alts u ≡ u ∷ [] → B c u → Part n G c u
-  bare_part c u p s b = elim (left_part c u (left_of c p) s b) [ inl q ↦ q | inr r ↦ absurd (var_number Never Bare c r.0 r.1 p) ]
+  pub rigid_part : (c u : Ty) → Rigid c → alts u ≡ u ∷ [] → B c u → Part n G c u
+  rigid_part c u p s b = elim (left_part c u (left_of c p) s b) [ inl q ↦ q | inr r ↦ absurd (var_number Never (Small a scope) c r.0 r.1 p) ]
 
   pub at_tuple : (x u : Ty) (us : List Ty) → out-Ty u ≡ Tuple us → Part n G x u → (xs : List Ty) × (out-Ty x ≡ Tuple xs) × Both B xs us
   at_tuple x u us e (any g t w d) = let i : Tuple us ≡ Any = sym e ∙ d in cc
@@ -182,43 +185,43 @@ module _ (n : Table) (a : Written) (scope : IsScoped a) (l : Row) (row : IsRow n
         seconds xs us (both_more x u vs ws p r) = both_more u x ws vs p.1 (seconds vs ws r)
 
     mutual
-      bare_sure : (c u : Ty) → Bares c → Bares u → Sure n opaque u → B c u → Equal n c u
-      bare_sure c u p q (sure_tuple t us e s) b =
-          let r = at_tuple c u us e (bare_part c u p (bare_single u q) b) in
-          tuple_equal c u r.0 us r.1 e (all_bare_sure r.0 us (tuple_parts Never Bare c r.0 r.1 p) (tuple_parts Never Bare u us e q) s r.2)
-      bare_sure c u p q (sure_nominal t m us e s) b =
-          let r = at_nominal c u m us e (bare_part c u p (bare_single u q) b) in
+      rigid_sure : (c u : Ty) → Rigid c → Rigid u → Sure n opaque u → B c u → Equal n c u
+      rigid_sure c u p q (sure_tuple t us e s) b =
+          let r = at_tuple c u us e (rigid_part c u p (rigid_single u q) b) in
+          tuple_equal c u r.0 us r.1 e (all_rigid_sure r.0 us (tuple_parts Never (Small a scope) c r.0 r.1 p) (tuple_parts Never (Small a scope) u us e q) s r.2)
+      rigid_sure c u p q (sure_nominal t m us e s) b =
+          let r = at_nominal c u m us e (rigid_part c u p (rigid_single u q) b) in
           struct_equal c u r.number m r.given r.raised us r.is e s r.lifts r.equals
-      bare_sure c u p q (sure_var t v e s) b = absurd (var_number Never Bare u v e q)
+      rigid_sure c u p q (sure_var t v e s) b = absurd (var_number Never (Small a scope) u v e q)
 
-      all_bare_sure : (cs us : List Ty) → AllPlain Never Bare cs → AllPlain Never Bare us → AllSure n opaque us → Both B cs us → Both (Equal n) cs us
-      all_bare_sure cs us p q s both_end = both_end
-      all_bare_sure cs us p q (sure_more t ts s ss) (both_more c u vs ws b r) =
-          both_more c u vs ws (bare_sure c u (head_plain Never Bare c vs p) (head_plain Never Bare u ws q) s b) (all_bare_sure vs ws (tail_plain Never Bare c vs p) (tail_plain Never Bare u ws q) ss r)
+      all_rigid_sure : (cs us : List Ty) → Rigids cs → Rigids us → AllSure n opaque us → Both B cs us → Both (Equal n) cs us
+      all_rigid_sure cs us p q s both_end = both_end
+      all_rigid_sure cs us p q (sure_more t ts s ss) (both_more c u vs ws b r) =
+          both_more c u vs ws (rigid_sure c u (head_plain Never (Small a scope) c vs p) (head_plain Never (Small a scope) u ws q) s b) (all_rigid_sure vs ws (tail_plain Never (Small a scope) c vs p) (tail_plain Never (Small a scope) u ws q) ss r)
 
     module _ (open_bounds : (k : ℕ) → IsSlot a k → Sure n opaque (G.high k) → ⊥) where
       -- through the bound nothing concrete is reached
-      pub no_raise : (x u : Ty) (k : ℕ) → Left x → out-Ty x ≡ Var k → Bares u → Sure n opaque u → B (G.high k) u → ⊥
+      pub no_raise : (x u : Ty) (k : ℕ) → Left x → out-Ty x ≡ Var k → Rigid u → Sure n opaque u → B (G.high k) u → ⊥
       no_raise x u k p e q s b =
-          let c = high_bare x k e p in
-          open_bounds k (var_number (IsSlot a) (Small a scope) x k e p) (sure_equal n law opaque Never Bare (G.high k) u c (bare_sure (G.high k) u c q s b) s)
+          let c = high_rigid x k e p in
+          open_bounds k (var_number (IsSlot a) (Small a scope) x k e p) (sure_equal n law opaque Never (Small a scope) (G.high k) u c (rigid_sure (G.high k) u c q s b) s)
 
-      through : (x u : Ty) → Left x → Bares u → Sure n opaque u → B x u → Part n G x u
-      through x u p q s b = elim (left_part x u p (bare_single u q) b) [ inl r ↦ r | inr r ↦ absurd (no_raise x u r.0 p r.1 q s r.2) ]
+      through : (x u : Ty) → Left x → Rigid u → Sure n opaque u → B x u → Part n G x u
+      through x u p q s b = elim (left_part x u p (rigid_single u q) b) [ inl r ↦ r | inr r ↦ absurd (no_raise x u r.0 p r.1 q s r.2) ]
 
       mutual
         -- a left part below a concrete type equals it
-        pub left_sure : (x u : Ty) → Left x → Bares u → Sure n opaque u → B x u → Equal n x u
+        pub left_sure : (x u : Ty) → Left x → Rigid u → Sure n opaque u → B x u → Equal n x u
         left_sure x u p q (sure_tuple t us e s) b =
             let r = at_tuple x u us e (through x u p q (sure_tuple u us e s) b) in
-            tuple_equal x u r.0 us r.1 e (all_left_sure r.0 us (tuple_parts (IsSlot a) (Small a scope) x r.0 r.1 p) (tuple_parts Never Bare u us e q) s r.2)
+            tuple_equal x u r.0 us r.1 e (all_left_sure r.0 us (tuple_parts (IsSlot a) (Small a scope) x r.0 r.1 p) (tuple_parts Never (Small a scope) u us e q) s r.2)
         left_sure x u p q (sure_nominal t m us e s) b =
             let r = at_nominal x u m us e (through x u p q (sure_nominal u m us e s) b) in
             struct_equal x u r.number m r.given r.raised us r.is e s r.lifts r.equals
-        left_sure x u p q (sure_var t v e s) b = absurd (var_number Never Bare u v e q)
+        left_sure x u p q (sure_var t v e s) b = absurd (var_number Never (Small a scope) u v e q)
 
-        all_left_sure : (xs us : List Ty) → Lefts xs → AllPlain Never Bare us → AllSure n opaque us → Both B xs us → Both (Equal n) xs us
+        all_left_sure : (xs us : List Ty) → Lefts xs → Rigids us → AllSure n opaque us → Both B xs us → Both (Equal n) xs us
         all_left_sure xs us p q s both_end = both_end
         all_left_sure xs us p q (sure_more t ts s ss) (both_more x u vs ws b r) =
-            both_more x u vs ws (left_sure x u (head_plain (IsSlot a) (Small a scope) x vs p) (head_plain Never Bare u ws q) s b)
-            (all_left_sure vs ws (tail_plain (IsSlot a) (Small a scope) x vs p) (tail_plain Never Bare u ws q) ss r)
+            both_more x u vs ws (left_sure x u (head_plain (IsSlot a) (Small a scope) x vs p) (head_plain Never (Small a scope) u ws q) s b)
+            (all_left_sure vs ws (tail_plain (IsSlot a) (Small a scope) x vs p) (tail_plain Never (Small a scope) u ws q) ss r)

@@ -22,12 +22,12 @@ use Rattle.jl_sig.specs.declared.row.SigRow.{SigRow}
 use Rattle.jl_sig.specs.declared.sig.Sig.{Sig}
 use Rattle.jl_sig.specs.SigParts.{kept_of}
 use Rattle.jl_model.specs.Found.{raised, outer}
-use Rattle.jl_subsig.specs.Side.{held, tops, IsTold, IsLeftPart, AreLeftParts}
-use Rattle.jl_search.specs.Serving.{IsPlain}
+use Rattle.jl_subsig.specs.Side.{held, tops, IsTold, IsHigh, high_plain, high_named, IsLeftPart, AreLeftParts}
 use Rattle.jl_search.proofs.HasLemmas.{Has, has_left, has_right, has_of, of_has, has_none, has_split}
 use Rattle.jl_search.proofs.FindLemmas.{outer-any, outer-union, outer-tuple, outer-nominal, outer-var}
 use Rattle.jl_subsig.proofs.HeldLemmas.{top_kept}
-use Rattle.jl_subsig.proofs.BelowLemmas.{item-at, plain_item, tuple_items}
+use Rattle.jl_subsig.proofs.HighLemmas.{high_item}
+use Rattle.jl_subsig.proofs.BelowLemmas.{item-at, tuple_items}
 
 pub match_map : {A : Type 0} (o : Option A) (P R : Type 0) (Q S : A → Type 0) → (P → R) → ((t : A) → Q t → S t) → MatchOption o P Q → MatchOption o R S
 match_map None P R Q S f g h = f h
@@ -52,8 +52,12 @@ outer_within x v = by_cases (λ x. Has (outer x) v → Has (vars_in x) v) (recor
     flat_in (t ∷ ts) e h = elim (has_split (outer t) (flat_map outer ts) v h) [ inl i ↦ has_left (vars_in t) (flat_map vars_in ts) v (e.0 i) | inr i ↦ has_right (vars_in t) (flat_map vars_in ts) v (flat_in ts e.1 i) ]
 
 module _ (ds : List Decl) (g : Fixed) where
-  pub plain_left : (t : Ty) → IsPlain ds t → IsLeftPart ds g t
-  plain_left t h = record { item = plain_item ds t h; raises = λ k c. absurd (has_none (vars_in t) k h.closed (outer_within t k (has_of (outer t) k c))) }
+  no_outer : (t : Ty) (k : ℕ) → IsHigh ds t → Has (outer t) k → ⊥
+  no_outer t k (high_plain u p) i = has_none (vars_in t) k p.closed (outer_within t k i)
+  no_outer t k (high_named u p) i = subst (λ z. Has z k) (ap outer p.is ∙ outer-nominal p.number p.args) i
+
+  pub high_left : (t : Ty) → IsHigh ds t → IsLeftPart ds g t
+  high_left t h = record { item = high_item ds t h; raises = λ k c. absurd (no_outer t k h (has_of (outer t) k c)) }
 
   -- what a left part stands for
   pub record Stands (t : Ty) (x : Ty-F Ty) : Type 0 where
@@ -68,7 +72,7 @@ module _ (ds : List Decl) (g : Fixed) where
   stands_by t (Nominal k ts) e h = record { ty = t; left = h; form = e }
   stands_by t (Var v) e h =
       let c : Contains (outer t) v = of_has (outer t) v (subst (λ z. Has z v) (sym (ap outer (is_var t v e) ∙ outer-var v)) (inl refl)) in
-      record { ty = g.high v; left = plain_left (g.high v) (h.raises v c); form = refl }
+      record { ty = g.high v; left = high_left (g.high v) (h.raises v c); form = refl }
 
   pub stands : (t : Ty) → IsLeftPart ds g t → Stands t (raised g (out-Ty t))
   stands t h = stands_by t (out-Ty t) refl h

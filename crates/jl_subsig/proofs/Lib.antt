@@ -20,7 +20,9 @@ pub mod KeptRowLemmas
 pub mod ByValuesLemmas
 pub mod GlueLemmas
 pub mod FixedLemmas
+pub mod HighLemmas
 pub mod HeldLemmas
+pub mod RiseLemmas
 pub mod BelowLemmas
 pub mod GroundNone
 pub mod OwnLemmas
@@ -29,11 +31,14 @@ pub mod SomeLemmas
 pub mod AncestorSteps
 pub mod LeftPartLemmas
 pub mod SureSteps
+pub mod NamedLemmas
 pub mod ServeSteps
 pub mod MeetSteps
+pub mod AppliedLemmas
 pub mod HitLemmas
 pub mod SideLemmas
 pub mod FoundItems
+pub mod ValueSteps
 pub mod RowSteps
 pub mod SigSides
 pub mod OrderSteps

@@ -7,7 +7,7 @@ use Rattle.jl_model.specs.declared.ty.Ty.TheVariants as W
 use Rattle.jl_model.specs.declared.ty.Bound.{Bound}
 use Rattle.jl_model.specs.declared.ty.Written.{Written}
 use Rattle.jl_model.specs.Kinds.{Places, nowhere, plus, plus_all, below_nominal, places, kind_of}
-use Rattle.jl_model.specs.Rows.{width, free, low, high, kind, vars_in}
+use Rattle.jl_model.specs.Rows.{width, free, low, high, kind, vars_in, part_places, bound_places}
 use Rattle.jl_model.specs.Signature.{Both, both_end, both_more}
 use Rattle.jl_model.specs.Subtype.{Table}
 use Rattle.jl_model.specs.Refusals.{bound_types}
@@ -116,11 +116,22 @@ module _ (v : ℕ) where
     both_same_places ts us both_end = refl
     both_same_places ts us (both_more t u vs ws p r) = ap (λ z. plus z (plus_all (map (places v) vs))) (same_places t u p) ∙ ap (λ z. plus (places v u) z) (both_same_places vs ws r)
 
+    -- bounds that are alike have the same places
+    same_bound_places : (bs cs : List Bound) → Both (Alike n) (bound_types bs) (bound_types cs) → bound_places v bs ≡ bound_places v cs
+    same_bound_places [] [] h = refl
+    same_bound_places [] (c ∷ cs) h = elim h [ ]
+    same_bound_places (b ∷ bs) [] h = elim h [ ]
+    same_bound_places (b ∷ bs) (c ∷ cs) (both_more x y xs ys p (both_more z w zs ws q r)) =
+        ap (λ i. plus (plus i (places v b.high)) (bound_places v bs)) (same_places b.low c.low p) ∙ ap (λ i. plus (plus (places v c.low) i) (bound_places v bs)) (same_places b.high c.high q)
+        ∙ ap (λ i. plus (plus (places v c.low) (places v c.high)) i) (same_bound_places bs cs r)
+
 pub matches_of : (n : Table) (a b : Written) → AreAlike n a b → Matches n a b
 matches_of n a b h = record {
   width = widths n a.vars b.vars h.bounds;
   low = lows (Alike n) (alike_self n (V.Union [])) a.vars b.vars h.bounds;
   high = highs (Alike n) (alike_self n W.Any) a.vars b.vars h.bounds;
-  kinds = λ v. ap kind_of (both_same_places v n a.parts b.parts h.parts);
+  kinds = λ v.
+      ap (λ z. kind_of (plus z (below_nominal (bound_places v a.vars)))) (both_same_places v n a.parts b.parts h.parts)
+      ∙ ap (λ z. kind_of (plus (part_places b v) (below_nominal z))) (same_bound_places v n a.vars b.vars h.bounds);
   parts = h.parts;
 }

@@ -13,8 +13,8 @@ use Rattle.jl_model.proofs.AncestorLemmas.{Lawful}
 use Rattle.jl_model.proofs.HeightLemmas.{PartBy, by_any, by_tuple, by_nominal, by_self, part_of}
 use Rattle.jl_model.proofs.BelowLemmas.{below_part, part_below, equals_both}
 use Rattle.jl_model.proofs.TransLemmas.{below_trans}
-use Rattle.jl_search.proofs.HasLemmas.{Has, has_flat, has_none}
-use Rattle.jl_subsume.proofs.LiftLemmas.{lift_part, covered_from, covered_at, found_in, found_single, alt_fine, alt_below}
+use Rattle.jl_search.proofs.HasLemmas.{Has, has_flat}
+use Rattle.jl_search.proofs.LiftLemmas.{lift_part, covered_from, covered_at, found_in, found_single, alt_fine, alt_below}
 use Rattle.jl_subsume.proofs.ScopeLemmas.{alts_within}
 use Rattle.jl_subsume.proofs.PutBelowLemmas.{alt_some, none_below}
 
@@ -162,7 +162,7 @@ module _ (n : Table) (law : Lawful n) where
       pub high_root : (k : ℕ) → Ok k → (c : Ty) → Has (alts (g.high k)) c → Has (alts (g.high (g.root k))) c
       pub low_root : (z : ℕ) → (g.root z ≡ z) ⊎ (g.low z ≡ V.Union [])
       pub low_high : (z : ℕ) → B (g.low z) (g.high z)
-      pub high_closed : (k : ℕ) → Ok k → vars_in (g.high k) ≡ []
+      pub high_ok : (k : ℕ) → Ok k → (j : ℕ) → Has (vars_in (g.high k)) j → Ok j
 
     module _ (Ok : ℕ → Type 0) (order : Ordered Ok) where
       abbrev pub Fine : Ty → Type 0
@@ -175,7 +175,7 @@ module _ (n : Table) (law : Lawful n) where
       fine_var t k e f = f k (subst (λ z. Has z k) (sym (ap vars_in (is_var t k e) ∙ vars-var k)) (inl refl))
 
       fine_high : (k : ℕ) → Ok k → (c : Ty) → Has (alts (g.high k)) c → Fine c
-      fine_high k o c h j i = absurd (has_none (vars_in (g.high k)) j (order.high_closed k o) (alts_within (g.high k) c h j i))
+      fine_high k o c h j i = order.high_ok k o j (alts_within (g.high k) c h j i)
 
       fine_member : (t : Ty) (ts : List Ty) → out-Ty t ≡ Tuple ts → Fine t → (c : Ty) → Has ts c → Fine c
       fine_member t ts e f c h k i = f k (subst (λ z. Has z k) (sym (ap vars_in (is_tuple t ts e) ∙ vars-tuple ts)) (has_flat vars_in ts c k h i))

@@ -9,7 +9,7 @@ use Rattle.jl_model.specs.declared.ty.Written.{Written}
 use Rattle.jl_model.specs.declared.ty.Bound.{Bound}
 use Rattle.jl_model.specs.Ancestors.{table_of}
 use Rattle.jl_model.specs.Kinds.{Kind, unused, once, diagonal, bound}
-use Rattle.jl_model.specs.Rows.{alts, forms, components, place_of, atoms, free, width, low, high, kind, root, atom, vars_in, Occurs}
+use Rattle.jl_model.specs.Rows.{alts, forms, components, place_of, atoms, free, width, low, high, kind, root, atom, vars_in, Stands, Occurs, standing, bounding}
 use Rattle.jl_model.specs.Signature.{Row, top, by_kind, is_diagonal}
 use Rattle.jl_model.specs.Subtype.{Table, at}
 use Rattle.jl_model.specs.Normal.{IsNormal, AllNormal, no_union, is_single, any as normal_any, var as normal_var, nominal as normal_nominal, tuple as normal_tuple, none, more}
@@ -27,17 +27,19 @@ use Rattle.jl_sig.proofs.WholeLemmas.{Carries, Rows, chosen_have, forms_have}
 use Rattle.jl_model.specs.SigRefusals.{is_argument, is_component}
 use Rattle.jl_model.specs.Found.{outer}
 use Rattle.jl_search.proofs.KindLemmas.{is_diag, less_or}
-use Rattle.jl_subsig.specs.Side.{row_of, held, sided, AreLeftParts, IsRightPart, AreRightParts, right_any, right_variable, right_tuple, right_nominal, right_end, right_more, IsRightRow, IsSide}
+use Rattle.jl_subsig.specs.Side.{row_of, held, sided, IsHigh, IsHighForm, form_plain, form_named, AreLeftParts, IsRightPart, AreRightParts, right_any, right_variable, right_tuple, right_nominal, right_end, right_more, IsRightRow, IsSide}
 use Rattle.jl_search.specs.Serving.{IsPlain, IsPlace}
 use Rattle.jl_search.proofs.HasLemmas.{Has, has_left, has_right, has_split, has_of, all_has, has_none, none_has}
 use Rattle.jl_search.proofs.PartLemmas.{Plain, plain_any, plain_tuple, plain_nominal, plain_var, AllPlain, all_end, all_more}
 use Rattle.jl_subsume.proofs.MadeLemmas.{Seeds, seeds_both}
-use Rattle.jl_subsume.proofs.ScopeLemmas.{IsSlot, slot_diagonal, slot_atom, SmallN, BareN, row_plain_n, root_own, root_atom, atom_past, high_none, foreign, occurs_small, diagonal_small}
+use Rattle.jl_subsume.proofs.ScopeLemmas.{IsSlot, slot_diagonal, slot_atom, SmallN, row_plain_n, root_own, root_atom, atom_past, high_before, top_within, foreign, occurs_small, diagonal_small}
 use Rattle.jl_search.proofs.FindLemmas.{outer-any, outer-tuple, outer-nominal, outer-var}
 use Rattle.jl_search.specs.Open.{IsOpen, AreOpen, closed, variable, applied, open_end, open_more}
-use Rattle.jl_subsig.proofs.RightLemmas.{Allowed, allowed_seeds}
+use Rattle.jl_subsig.proofs.RightLemmas.{Allowed, allowed_seeds, allowed_bound}
 use Rattle.jl_sig.proofs.FitLemmas.{argument-any, argument-var, argument-union, argument-tuple, argument-nominal}
 use Rattle.jl_subsig.proofs.LeftLemmas.{NormalIn, normal_seeds, normal_bound, normal_component, high_in}
+use Rattle.jl_subsig.proofs.GroundNone.{none_ground}
+use Rattle.jl_subsig.proofs.HighLemmas.{high_any, form_high}
 use Rattle.jl_subsig.proofs.HeldLemmas as H
 
 -- the nominal types of a type are declared
@@ -127,7 +129,7 @@ module _ (ds : List Decl) (declared : Declared ds) (s : Sig) (r : SigRow) (side 
       by_place (inr e) = ap (is_known (length ds)) e ∙ known-any (length ds)
 
   pub bounds : (v : ℕ) → M (high (kept_of s) v)
-  bounds v = (normal_bound ds declared (kept_of s) side.scoped side.ordered side.normal (row_of r) side.row v, (inr (high_none (kept_of s) side.scoped v), known_high v))
+  bounds v = (normal_bound ds declared (kept_of s) side.scoped side.ordered side.normal (row_of r) side.row v, (allowed_bound (kept_of s) side.scoped v, known_high v))
 
   component : (t : Ty) → Has (kept_of s).parts t → M t
   component t h =
@@ -139,16 +141,13 @@ module _ (ds : List Decl) (declared : Declared ds) (s : Sig) (r : SigRow) (side 
   abbrev pub Shape : List Ty → Type 0
   Shape = SmallN (kept_of s) side.scoped N M seeds bounds
 
-  abbrev pub BareShape : List Ty → Type 0
-  BareShape = BareN (kept_of s) side.scoped N M seeds bounds
-
   pub plains : AllPlain (IsSlot (kept_of s)) Shape r.parts
   plains = row_plain_n (kept_of s) side.scoped N M seeds bounds (table_of ds) (row_of r) side.row component
 
   -- as left parts
-  pub slot_plain : (k : ℕ) → IsSlot (kept_of s) k → IsPlain ds ((held s r).high k)
-  slot_plain k (slot_diagonal v i e) = subst (IsPlain ds) (sym (H.own_high s r side.held.told v i ∙ ap (λ z. by_kind z (at r.chosen v) (high (kept_of s) v)) e)) (side.held.chosen v i e)
-  slot_plain k (slot_atom v i j e h) = H.past_plain ds s r side.held (atom (kept_of s) v i) (atom_past (kept_of s) v i j)
+  pub slot_high : (k : ℕ) → IsSlot (kept_of s) k → IsHigh ds ((held s r).high k)
+  slot_high k (slot_diagonal v i e) = (H.own_alternative ds s r side.held v i e).high
+  slot_high k (slot_atom v i j e h) = (H.past_alternative ds s r side.held (atom (kept_of s) v i) (atom_past (kept_of s) v i j)).high
 
   mutual
     part_normal : (t : Ty) → Plain (IsSlot (kept_of s)) Shape t → IsNormal (table_of ds) t × (is_single t ≡ true)
@@ -216,13 +215,13 @@ module _ (ds : List Decl) (declared : Declared ds) (s : Sig) (r : SigRow) (side 
   pub left_parts : AreLeftParts ds (held s r) r.parts
   left_parts =
       let q = parts_normal r.parts plains in
-      record { singles = record { normal = q.0; known = parts_known; single = q.1 }; raises = λ k c. slot_plain k (outer_slots r.parts k plains (has_of (flat_map outer r.parts) k c)) }
+      record { singles = record { normal = q.0; known = parts_known; single = q.1 }; raises = λ k c. slot_high k (outer_slots r.parts k plains (has_of (flat_map outer r.parts) k c)) }
 
   -- as right parts
-  abbrev PlaceAt : ℕ → ℕ → Type 0
-  PlaceAt m k = (k % m < m) × (((kind (kept_of s) k ≡ diagonal) × (k % m ≡ k)) ⊎ ((kind (kept_of s) (k % m) ≡ bound) × (kind (kept_of s) k ≡ diagonal → ⊥)))
+  abbrev PlaceAt : (ℕ → Kind) → ℕ → ℕ → Type 0
+  PlaceAt kinds m k = (k % m < m) × (((kinds k ≡ diagonal) × (k % m ≡ k)) ⊎ ((kinds (k % m) ≡ bound) × (kinds k ≡ diagonal → ⊥)))
 
-  slot_place : (k : ℕ) → IsSlot (kept_of s) k → PlaceAt (width (kept_of s)) k
+  slot_place : (k : ℕ) → IsSlot (kept_of s) k → PlaceAt (kind (kept_of s)) (width (kept_of s)) k
   slot_place k (slot_diagonal v i e) = (subst (λ z. z < width (kept_of s)) (sym (root_own (kept_of s) v i)) i, inl (e, root_own (kept_of s) v i))
   slot_place k (slot_atom v i j e h) =
       let x = root_atom (kept_of s) v i j in
@@ -231,7 +230,9 @@ module _ (ds : List Decl) (declared : Declared ds) (s : Sig) (r : SigRow) (side 
       (subst (λ z. z < width (kept_of s)) (sym x) j, inr (ap (kind (kept_of s)) x ∙ e, λ d. (let c : unused ≡ diagonal = sym u ∙ d in cc)))
 
   pub is_place : (k : ℕ) → IsSlot (kept_of s) k → IsPlace (sided s) k
-  is_place k d = subst (λ m. PlaceAt m k) (sym side.held.wide) (slot_place k d)
+  is_place k d =
+      let same : kind (kept_of s) ≡ kind (sided s) = λ i v. sym (side.held.kinds v) i in
+      subst (λ m. PlaceAt (kind (sided s)) m k) (sym side.held.wide) (subst (λ f. PlaceAt f (width (kept_of s)) k) same (slot_place k d))
 
   mutual
     right_of : (t : Ty) → Plain (IsSlot (kept_of s)) Shape t → IsRightPart (table_of ds) (sided s) t
@@ -251,46 +252,90 @@ module _ (ds : List Decl) (declared : Declared ds) (s : Sig) (r : SigRow) (side 
   pub root_same : root (sided s) ≡ root (kept_of s)
   root_same = let f : ℕ → ℕ → ℕ = λ m k. k % m in ap f side.held.wide
 
-  pub occurs_kept : (v : ℕ) → Occurs (sided s) v r.parts → Occurs (kept_of s) v r.parts
-  occurs_kept v o = subst (λ f. Contains (map f (flat_map vars_in r.parts)) v) root_same o
-
-  pub occurs_sided : (v : ℕ) → Occurs (kept_of s) v r.parts → Occurs (sided s) v r.parts
-  occurs_sided v o = subst (λ f. Contains (map f (flat_map vars_in r.parts)) v) (sym root_same) o
-
   free_past : (bs : List Bound) (v : ℕ) → length bs ≤ v → get_or bs v free ≡ free
   free_past [] v e = refl
   free_past (b ∷ bs) zero e = absurd (omega arith)
   free_past (b ∷ bs) (suc v) e = free_past bs v (omega arith)
 
-  past_kept : (v : ℕ) → nat_lt v (width (kept_of s)) ≡ false → length (bounded_of s).vars ≤ v
-  past_kept v e = let w = side.held.wide in let j : width (kept_of s) ≤ v = grind (arith, e) in omega (arith, j, w)
+  past_width : (v : ℕ) → nat_lt v (width (kept_of s)) ≡ false → width (kept_of s) ≤ v
+  past_width v e = grind (arith, e)
 
-  pub low_sided : (v : ℕ) → vars_in (low (sided s) v) ≡ []
-  low_sided v = elim (less_or v (width (kept_of s))) [
-    | inl i ↦ (side.held.lows v i).plain.closed
-    | inr e ↦ ap (λ (b : Bound). vars_in b.low) (free_past (bounded_of s).vars v (past_kept v e)) ∙ vars-union []
+  past_kept : (v : ℕ) → nat_lt v (width (kept_of s)) ≡ false → length (bounded_of s).vars ≤ v
+  past_kept v e = let w = side.held.wide in let j = past_width v e in omega (arith, j, w)
+
+  form_vars : (t u : Ty) → IsHighForm ds t u → vars_in u ≡ vars_in t
+  form_vars t u (form_plain x y p) = p.plain.closed ∙ sym p.closed
+  form_vars t u (form_named x p) = refl
+
+  -- the bounds have the same variables in normal form
+  pub high_vars : (v : ℕ) → vars_in (high (sided s) v) ≡ vars_in (high (kept_of s) v)
+  high_vars v = elim (less_or v (width (kept_of s))) [
+    | inl i ↦ form_vars (high (kept_of s) v) (high (bounded_of s) v) (side.held.highs v i)
+    | inr e ↦
+        ap (λ (b : Bound). vars_in b.high) (free_past (bounded_of s).vars v (past_kept v e))
+        ∙ sym (ap (λ (b : Bound). vars_in b.high) (free_past (kept_of s).vars v (past_width v e)))
   ]
 
-  high_sided : (v : ℕ) → IsPlain ds (high (sided s) v)
+  pub stands_kept : (v : ℕ) → Stands (sided s) v r.parts → Stands (kept_of s) v r.parts
+  stands_kept v o = subst (λ f. Contains (map f (flat_map vars_in r.parts)) v) root_same o
+
+  pub stands_sided : (v : ℕ) → Stands (kept_of s) v r.parts → Stands (sided s) v r.parts
+  stands_sided v o = subst (λ f. Contains (map f (flat_map vars_in r.parts)) v) (sym root_same) o
+
+  pub occurs_kept : (v : ℕ) → Occurs (sided s) v r.parts → Occurs (kept_of s) v r.parts
+  occurs_kept v (standing x row o) = standing v r.parts (stands_kept v o)
+  occurs_kept v (bounding x w row o c) = bounding v w r.parts (occurs_kept w o) (subst (λ z. Contains z v) (high_vars w) c)
+
+  pub occurs_sided : (v : ℕ) → Occurs (kept_of s) v r.parts → Occurs (sided s) v r.parts
+  occurs_sided v (standing x row o) = standing v r.parts (stands_sided v o)
+  occurs_sided v (bounding x w row o c) = bounding v w r.parts (occurs_sided w o) (subst (λ z. Contains z v) (sym (high_vars w)) c)
+
+  none_plain : IsPlain ds (V.Union [])
+  none_plain = let g = none_ground ds [] refl in record { normal = g.normal; known = g.known; closed = vars-union [] }
+
+  pub low_sided : (v : ℕ) → IsPlain ds (low (sided s) v)
+  low_sided v = elim (less_or v (width (kept_of s))) [
+    | inl i ↦ (side.held.lows v i).plain
+    | inr e ↦ subst (λ (b : Bound). IsPlain ds b.low) (sym (free_past (bounded_of s).vars v (past_kept v e))) none_plain
+  ]
+
+  high_sided : (v : ℕ) → IsHigh ds (high (sided s) v)
   high_sided v = elim (less_or v (width (kept_of s))) [
-    | inl i ↦ (side.held.highs v i).plain
-    | inr e ↦ subst (λ (b : Bound). IsPlain ds b.high) (sym (free_past (bounded_of s).vars v (past_kept v e))) (H.any_plain ds)
+    | inl i ↦ form_high ds (high (kept_of s) v) (high (bounded_of s) v) (side.held.highs v i)
+    | inr e ↦ subst (λ (b : Bound). IsHigh ds b.high) (sym (free_past (bounded_of s).vars v (past_kept v e))) (high_any ds)
   ]
 
   chosen_small : (v : ℕ) → kind (kept_of s) v ≡ diagonal → v < width (kept_of s)
   chosen_small v d = diagonal_small (kept_of s) side.scoped v d
 
-  pub top_sided : (v : ℕ) → IsPlain ds (top (sided s) (row_of r) v)
-  top_sided v = elim (H.true_or (is_diagonal (kind (kept_of s) v))) [
+  pub top_sided : (v : ℕ) → IsHigh ds (top (sided s) (row_of r) v)
+  top_sided v = elim (H.true_or (is_diagonal (kind (sided s) v))) [
     | inl d ↦
-        let k = is_diag (kind (kept_of s) v) d in
-        subst (IsPlain ds) (sym (ap (λ z. by_kind z (at r.chosen v) (high (sided s) v)) k)) (side.held.chosen v (chosen_small v k) k)
-    | inr d ↦ subst (IsPlain ds) (sym (H.other_kind (kind (kept_of s) v) (at r.chosen v) (high (sided s) v) d)) (high_sided v)
+        let k = is_diag (kind (sided s) v) d in
+        let i : kind (kept_of s) v ≡ diagonal = sym (side.held.kinds v) ∙ k in
+        subst (IsHigh ds) (sym (ap (λ z. by_kind z (at r.chosen v) (high (sided s) v)) k)) (side.held.chosen v (chosen_small v i) i).high
+    | inr d ↦ subst (IsHigh ds) (sym (H.other_kind (kind (sided s) v) (at r.chosen v) (high (sided s) v) d)) (high_sided v)
   ]
+
+  -- what bounds a variable in the row has no other variables than its upper bound
+  pub top_in : (v w : ℕ) → Has (vars_in (top (sided s) (row_of r) v)) w → Has (vars_in (high (sided s) v)) w
+  top_in v w i = elim (H.true_or (is_diagonal (kind (sided s) v))) [
+    | inl d ↦
+        let k = is_diag (kind (sided s) v) d in
+        let e : top (sided s) (row_of r) v ≡ top (kept_of s) (row_of r) v =
+        ap (λ z. by_kind z (at r.chosen v) (high (sided s) v)) k ∙ sym (ap (λ z. by_kind z (at r.chosen v) (high (kept_of s) v)) (sym (side.held.kinds v) ∙ k)) in
+        subst (λ z. Has z w) (sym (high_vars v)) (top_within (table_of ds) (kept_of s) (row_of r) side.scoped side.row v w (subst (λ z. Has (vars_in z) w) e i))
+    | inr d ↦ subst (λ z. Has (vars_in z) w) (H.other_kind (kind (sided s) v) (at r.chosen v) (high (sided s) v) d) i
+  ]
+
+  -- a bound mentions variables before its own
+  pub top_before : (v w : ℕ) → Has (vars_in (top (sided s) (row_of r) v)) w → w < v
+  top_before v w i = high_before (kept_of s) side.scoped v w (subst (λ z. Has z w) (high_vars v) (top_in v w i))
 
   pub right_row : IsRightRow ds s r
   right_row = record {
     own = λ v o. occurs_small (kept_of s) side.scoped (table_of ds) (row_of r) side.row v (occurs_kept v o);
     lows = low_sided;
-    tops = λ v. (top_sided v).closed;
+    tops = top_sided;
+    ordered = λ v w l c. high_before (kept_of s) side.scoped v w (has_of (vars_in (high (kept_of s) v)) w (subst (λ z. Contains z w) (high_vars v) c));
   }

@@ -1,21 +1,22 @@
 -- What is kept of a signature: each of its kept rows is one of its kept form, and these are all.
-use Rattle.std.proofs.Common.{◌≡◌, ◌∙◌, sym, ap, subst, refl, ℕ, zero, suc, ◌+◌, ◌<◌, ◌≤◌, arith, Bool, true, false, nat_lt, List, [], ◌∷◌, ◌++◌, map, length, get_or, ◌⊎◌, inl, inr}
+use Rattle.std.proofs.Common.{◌≡◌, ◌∙◌, sym, ap, subst, refl, ℕ, zero, suc, ◌+◌, ◌<◌, ◌≤◌, arith, Bool, true, false, nat_eq, nat_lt, List, [], ◌∷◌, ◌++◌, map, length, get_or, ◌⊎◌, inl, inr}
 use Rattle.std.specs.List.{flat_map, list_all}
 use Rattle.jl_model.specs.declared.ty.Ty.{Ty}
+use Rattle.jl_model.specs.declared.ty.Ty.TheOpen.{Nominal}
 use Rattle.jl_model.specs.declared.ty.Ty.TheViews.{out-Ty, outs-Any, outs-Union}
 use Rattle.jl_model.specs.declared.ty.Ty.TheViews as V
 use Rattle.jl_model.specs.declared.ty.Ty.TheVariants as W
 use Rattle.jl_model.specs.declared.ty.Bound.{Bound}
 use Rattle.jl_model.specs.declared.ty.Decl.{Decl}
 use Rattle.jl_model.specs.Ancestors.{table_of}
-use Rattle.jl_model.specs.Kinds.{diagonal}
-use Rattle.jl_model.specs.Rows.{alts, width, low, high, kind, root, vars_in}
+use Rattle.jl_model.specs.Kinds.{diagonal, plus, below_nominal, places, kind_of}
+use Rattle.jl_model.specs.Rows.{alts, free, width, low, high, kind, root, part_places, bound_places, vars_in}
 use Rattle.jl_model.specs.Signature.{Row, IsRow, Both, both_end, both_more, is_diagonal}
 use Rattle.jl_model.specs.Subtype.{Table, at, Equal}
 use Rattle.jl_model.specs.Normal.{IsNormal, AllNormal, IsNormalForm, no_union, is_single, any as normal_any, var as normal_var, nominal as normal_nominal, tuple as normal_tuple, none as normals_end, more as normals_more}
 use Rattle.jl_model.specs.Valid.{is_known, is_closed}
 use Rattle.jl_model.specs.Refusals.{Declared, bound_types}
-use Rattle.jl_model.specs.SigRefusals.{are_placed, is_component}
+use Rattle.jl_model.specs.SigRefusals.{are_bounds, are_placed, is_component}
 use Rattle.jl_model.specs.AllRows.{Listed, each_var, all_rows}
 use Rattle.jl_model.proofs.TypeInduction.{Each}
 use Rattle.jl_model.proofs.FormLemmas.{is_any, is_union, is_tuple, is_nominal, vars-union}
@@ -31,28 +32,31 @@ use Rattle.jl_types.proofs.PartsLemmas.{known_parts}
 use Rattle.jl_sig.specs.declared.row.SigRow.{SigRow}
 use Rattle.jl_sig.specs.declared.sig.Sig.{Sig}
 use Rattle.jl_sig.specs.SigParts.{written_of, kept_of, bounded_of, diagonals_of, rows_of}
-use Rattle.jl_sig.specs.Forms.{IsSmallForm}
+use Rattle.jl_sig.specs.Forms.{IsBoundForm}
 use Rattle.jl_sig.specs.Fit.{AreKeptRows, rows_end, rows_more}
 use Rattle.jl_sig.specs.Fit as F
 use Rattle.jl_sig.specs.Prepared.{IsKeptOf, IsSigOf}
+use Rattle.jl_sig.proofs.OwnLemmas.{own_parts, own_bounds}
 use Rattle.jl_sig.proofs.WholeLemmas.{Carries, forms_have}
 use Rattle.jl_search.proofs.KindLemmas.{less_or}
 use Rattle.jl_subsume.specs.Scoped.{IsScoped, IsPlaced, IsOrdered, HasNormalArguments}
 use Rattle.jl_subsig.specs.Alike.{IsKeptForm, IsKeptRow}
-use Rattle.jl_subsig.specs.Side.{row_of, IsPlainForm, IsSide}
-use Rattle.jl_search.specs.Serving.{IsPlain}
-use Rattle.jl_search.proofs.HasLemmas.{Has, has_of, of_has, all_has}
+use Rattle.jl_subsig.specs.Side.{row_of, sided, IsPlainForm, IsNamed, high_plain, high_named, IsHighForm, form_plain, form_named, IsAlternative, IsSide}
+use Rattle.jl_search.proofs.HasLemmas.{Has, has_of, of_has, has_none, all_has}
 use Rattle.jl_search.proofs.PartLemmas.{Plain, plain_any, plain_tuple, plain_nominal, plain_var, AllPlain, all_end, all_more}
-use Rattle.jl_subsume.proofs.ScopeLemmas.{diagonal_small, Never, bound_plain_n, alts_closed, low_none, high_none, foreign, has_or}
+use Rattle.jl_subsume.proofs.FormsLemmas.{nominal_form}
+use Rattle.jl_subsume.proofs.ScopeLemmas.{diagonal_small, Never, SmallN, bound_plain_n, own_shape, lacks, alts_closed, low_none, foreign, has_or}
 use Rattle.jl_subsig.proofs.PairLemmas.{settle_any}
 use Rattle.jl_subsig.proofs.MatchLemmas.{Matches, matches_of, lows, highs}
-use Rattle.jl_subsig.proofs.AlikeLemmas.{alike_equal}
+use Rattle.jl_subsig.proofs.AlikeLemmas.{alike_equal, alike_vars}
 use Rattle.jl_subsig.proofs.LeftLemmas.{NormalIn, normal_seeds, normal_bound, high_in}
 use Rattle.jl_subsig.proofs.KeptFormLemmas.{closed_form, kept_is_alike, kept_is_scoped, kept_is_placed, kept_is_ordered, kept_is_normal}
 use Rattle.jl_subsig.proofs.KeptRowLemmas.{kept_once, kept_row, row_of_kept}
 use Rattle.jl_subsig.proofs.GlueLemmas.{bounds_ordered}
 use Rattle.jl_subsig.proofs.GroundNone.{none_ground}
 use Rattle.jl_search.proofs.ListedLemmas as L
+use Rattle.jl_subsig.proofs.RightLemmas.{Allowed, allowed_seeds, allowed_bound}
+use Rattle.jl_subsig.proofs.HighLemmas.{any_plain, same_form, high_any}
 use Rattle.jl_subsig.proofs.HeldLemmas as H
 
 small_name : (k m : ℕ) → k < m → nat_lt k m ≡ true
@@ -91,6 +95,19 @@ get_past : (bs : List Bool) (k : ℕ) → length bs ≤ k → get_or bs k false 
 get_past [] k l = refl
 get_past (b ∷ bs) zero l = absurd (omega arith)
 get_past (b ∷ bs) (suc k) l = get_past bs k (omega arith)
+
+-- bounds with the same places, one by one
+same_places : (v : ℕ) (bs cs : List Bound) → length bs ≡ length cs
+    → ((i : ℕ) → i < length bs → plus (places v (get_or bs i free).low) (places v (get_or bs i free).high) ≡ plus (places v (get_or cs i free).low) (places v (get_or cs i free).high)) → bound_places v bs ≡ bound_places v cs
+same_places v [] [] e h = refl
+same_places v [] (c ∷ cs) e h = absurd (omega (arith, e))
+same_places v (b ∷ bs) [] e h = absurd (omega (arith, e))
+same_places v (b ∷ bs) (c ∷ cs) e h =
+    ap (λ z. plus z (bound_places v bs)) (h 0 (omega arith)) ∙ ap (λ z. plus (plus (places v c.low) (places v c.high)) z) (same_places v bs cs (omega (arith, e)) (λ i l. h (suc i) (omega (arith, l))))
+
+none_length : (ns : List ℕ) → nat_eq (length ns) 0 ≡ true → ns ≡ []
+none_length [] h = refl
+none_length (n ∷ ns) h = let e : length (n ∷ ns) ≡ 0 = grind (arith, h) in absurd (omega arith)
 
 alts_long : (bs : List Bound) → length (map (λ (b : Bound). alts b.high) bs) ≡ length bs
 alts_long [] = refl
@@ -174,14 +191,17 @@ module _ (ds : List Decl) (declared : Declared ds) where
   abbrev FormOf : Ty → Ty → Type 0
   FormOf t u = vars_in t ≡ [] → IsPlainForm ds t u
 
-  small_form : (t u : Ty) → IsSmallForm ds t u → FormOf t u
-  small_form t u h e = record { closed = e; plain = record { normal = h.form.normal; known = h.known; closed = closed_form ds declared t u e h.form }; equal = h.form.equal }
+  bound_form : (t u : Ty) → IsBoundForm ds t u → FormOf t u
+  bound_form t u h e = record { closed = e; plain = record { normal = h.form.normal; known = h.known; closed = closed_form ds declared t u e h.form }; equal = h.form.equal }
 
   none_form : FormOf (V.Union []) (V.Union [])
-  none_form e = H.same_form ds (V.Union []) (let g = none_ground ds [] refl in record { normal = g.normal; known = g.known; closed = vars-union [] })
+  none_form e = same_form ds (V.Union []) (let g = none_ground ds [] refl in record { normal = g.normal; known = g.known; closed = vars-union [] })
 
   any_form : FormOf W.Any W.Any
-  any_form e = H.same_form ds W.Any (H.any_plain ds)
+  any_form e = same_form ds W.Any (any_plain ds)
+
+  any_alternative : IsAlternative ds W.Any
+  any_alternative = record { high = high_any ds; single = ap no_union outs-Any }
 
   carries : Carries (Known (length ds)) (λ v. W.Var v ∷ [])
   carries = record {
@@ -219,10 +239,14 @@ module _ (ds : List Decl) (declared : Declared ds) where
     placed_true = elim (H.true_or (are_placed (written_of g))) [ inl e ↦ e | inr e ↦ absurd (kept.placed.placed e) ]
 
     pub scoped : IsScoped (written_of g)
-    scoped = record { own = kept.placed.own; closed = and_l (list_all is_closed (bound_types (written_of g).vars)) (list_all is_component (written_of g).parts) placed_true }
+    scoped = record {
+      own = own_parts (written_of g) kept.placed.own;
+      own_bounds = own_bounds (written_of g) kept.placed.own;
+      bounds = and_l (are_bounds (width (written_of g)) 0 (written_of g).vars) (list_all is_component (written_of g).parts) placed_true;
+    }
 
     pub placed : IsPlaced (written_of g)
-    placed = and_r (list_all is_closed (bound_types (written_of g).vars)) (list_all is_component (written_of g).parts) placed_true
+    placed = and_r (are_bounds (width (written_of g)) 0 (written_of g).vars) (list_all is_component (written_of g).parts) placed_true
 
     pub form : IsKeptForm (table_of ds) (written_of g) (kept_of g)
     form = record { bounds = kept.kept.bounds; parts = kept.kept.parts }
@@ -248,7 +272,7 @@ module _ (ds : List Decl) (declared : Declared ds) where
         (both_known (written_of g).parts (kept_of g).parts kept.kept.parts (all_right (is_known (length ds)) (bound_types (written_of g).vars) (written_of g).parts kept.placed.known))
 
     bounded_forms : Both FormOf (bound_types (written_of g).vars) (bound_types (bounded_of g).vars)
-    bounded_forms = both_map (IsSmallForm ds) FormOf small_form (bound_types (written_of g).vars) (bound_types (bounded_of g).vars) kept.bounds
+    bounded_forms = both_map (IsBoundForm ds) FormOf bound_form (bound_types (written_of g).vars) (bound_types (bounded_of g).vars) kept.bounds
 
     wide : length (bounded_of g).vars ≡ width (kept_of g)
     wide = sym (both_widths FormOf (written_of g).vars (bounded_of g).vars bounded_forms) ∙ match.width
@@ -261,10 +285,12 @@ module _ (ds : List Decl) (declared : Declared ds) where
         form_on (low (written_of g) v) (low (kept_of g) v) (low (bounded_of g) v) (alike_equal (table_of ds) (low (written_of g) v) (low (kept_of g) v) (match.low v)) (low_none (kept_of g) kept_scoped v)
         (lows FormOf none_form (written_of g).vars (bounded_of g).vars bounded_forms v (low_none (written_of g) scoped v))
 
-    high_form : (v : ℕ) → IsPlainForm ds (high (kept_of g) v) (high (bounded_of g) v)
-    high_form v =
-        form_on (high (written_of g) v) (high (kept_of g) v) (high (bounded_of g) v) (alike_equal (table_of ds) (high (written_of g) v) (high (kept_of g) v) (match.high v)) (high_none (kept_of g) kept_scoped v)
-        (highs FormOf any_form (written_of g).vars (bounded_of g).vars bounded_forms v (high_none (written_of g) scoped v))
+    -- an upper bound without variables in normal form
+    plain_high : (v : ℕ) → vars_in (high (written_of g) v) ≡ [] → IsPlainForm ds (high (kept_of g) v) (high (bounded_of g) v)
+    plain_high v e =
+        form_on (high (written_of g) v) (high (kept_of g) v) (high (bounded_of g) v) (alike_equal (table_of ds) (high (written_of g) v) (high (kept_of g) v) (match.high v))
+        (sym (alike_vars (table_of ds) (high (written_of g) v) (high (kept_of g) v) (match.high v)) ∙ e)
+        (highs FormOf any_form (written_of g).vars (bounded_of g).vars bounded_forms v e)
 
     diagonal_told : (v : ℕ) → get_or (diagonals_of g) v false ≡ is_diagonal (kind (kept_of g) v)
     diagonal_told v =
@@ -292,22 +318,70 @@ module _ (ds : List Decl) (declared : Declared ds) where
       normal_high : (v : ℕ) → NormalIn (table_of ds) (high (kept_of g) v)
       normal_high v = normal_bound ds declared (kept_of g) kept_scoped kept_ordered kept_normal (row_of r) row v
 
-      alt_plain : (v : ℕ) (u : Ty) → Has (alts (high (kept_of g) v)) u → IsPlain ds u
-      alt_plain v u h = record {
-        normal = (plain_normal (table_of ds) Never (λ xs. (flat_map vars_in xs ≡ []) × AllNormal (table_of ds) xs) (λ xs q. q.1) u
-            (bound_plain_n (kept_of g) kept_scoped (AllNormal (table_of ds)) (NormalIn (table_of ds)) (normal_seeds (table_of ds)) normal_high v u h)).0;
-        known = each_of_has (alts (high (kept_of g) v)) u (forms_have (Known (length ds)) (λ v. W.Var v ∷ []) carries (high (kept_of g) v) (known_bound v)) h;
-        closed = alts_closed (high (kept_of g) v) u (high_none (kept_of g) kept_scoped v) h;
-      }
+      -- an upper bound that is a nominal type
+      named : (v k : ℕ) (ts : List Ty) → out-Ty (high (kept_of g) v) ≡ Nominal k ts → IsNamed ds (high (kept_of g) v)
+      named v k ts e =
+          let i : high (kept_of g) v ≡ V.Nominal k ts = is_nominal (high (kept_of g) v) k ts e in
+          record {
+            number = k;
+            args = ts;
+            is = i;
+            normal = (normal_seeds (table_of ds)).nominal k ts (subst (NormalIn (table_of ds)) i (normal_high v));
+            known = known_bound v;
+            opened = allowed_seeds.nominal k ts (subst Allowed i (allowed_bound (kept_of g) kept_scoped v));
+          }
 
-      atom_plain : (v i : ℕ) → IsPlain ds (at (alts (high (kept_of g) v)) i)
-      atom_plain v i = elim (at_or (alts (high (kept_of g) v)) i) [ inl h ↦ alt_plain v (at (alts (high (kept_of g) v)) i) h | inr e ↦ subst (IsPlain ds) (sym e) (H.any_plain ds) ]
-
-      chosen_plain : (v : ℕ) → kind (kept_of g) v ≡ diagonal → IsPlain ds (at r.chosen v)
-      chosen_plain v d = elim (has_or (map (root (kept_of g)) (flat_map vars_in r.parts)) v) [
-        | inl h ↦ let c = row.chosen v d (of_has (map (root (kept_of g)) (flat_map vars_in r.parts)) v h) in alt_plain v (at r.chosen v) (has_of (alts (high (kept_of g) v)) (at r.chosen v) c.0)
-        | inr f ↦ subst (IsPlain ds) (sym (row.other v (λ o. f (has_of (map (root (kept_of g)) (flat_map vars_in r.parts)) v o)))) (H.any_plain ds)
+      high_form : (v : ℕ) → IsHighForm ds (high (kept_of g) v) (high (bounded_of g) v)
+      high_form v = elim (H.true_or (is_closed (high (written_of g) v))) [
+        | inl c ↦ form_plain (high (kept_of g) v) (high (bounded_of g) v) (plain_high v (none_length (vars_in (high (written_of g) v)) c))
+        | inr c ↦ elim (own_shape (kept_of g) kept_scoped v).high [
+          | inl e ↦
+              let i : vars_in (high (written_of g) v) ≡ [] = alike_vars (table_of ds) (high (written_of g) v) (high (kept_of g) v) (match.high v) ∙ e in
+              form_plain (high (kept_of g) v) (high (bounded_of g) v) (plain_high v i)
+          | inr r ↦ subst (IsHighForm ds (high (kept_of g) v)) (sym (kept.named v c)) (form_named (high (kept_of g) v) (named v r.0 r.1 r.2))
+        ]
       ]
+
+      alternative : (v : ℕ) (u : Ty) → Has (alts (high (kept_of g) v)) u → IsAlternative ds u
+      alternative v u h =
+          let q = plain_normal (table_of ds) Never (SmallN (kept_of g) kept_scoped (AllNormal (table_of ds)) (NormalIn (table_of ds)) (normal_seeds (table_of ds)) normal_high) (λ xs q. q.1) u
+          (bound_plain_n (kept_of g) kept_scoped (AllNormal (table_of ds)) (NormalIn (table_of ds)) (normal_seeds (table_of ds)) normal_high v u h) in
+          record {
+            high = elim (own_shape (kept_of g) kept_scoped v).high [
+              | inl e ↦ high_plain u (record {
+                normal = q.0;
+                known = each_of_has (alts (high (kept_of g) v)) u (forms_have (Known (length ds)) (λ v. W.Var v ∷ []) carries (high (kept_of g) v) (known_bound v)) h;
+                closed = alts_closed (high (kept_of g) v) u e h;
+              })
+              | inr r ↦
+                  let i : high (kept_of g) v ≡ V.Nominal r.0 r.1 = is_nominal (high (kept_of g) v) r.0 r.1 r.2 in
+                  let j : V.Nominal r.0 r.1 ≡ u = nominal_form (λ v. W.Var v ∷ []) r.0 r.1 u (subst (λ z. Has (alts z) u) i h) in
+                  high_named u (subst (IsNamed ds) (i ∙ j) (named v r.0 r.1 r.2))
+            ];
+            single = q.1;
+          }
+
+      atom_alternative : (v i : ℕ) → IsAlternative ds (at (alts (high (kept_of g) v)) i)
+      atom_alternative v i = elim (at_or (alts (high (kept_of g) v)) i) [ inl h ↦ alternative v (at (alts (high (kept_of g) v)) i) h | inr e ↦ subst (IsAlternative ds) (sym e) any_alternative ]
+
+      chosen_alternative : (v : ℕ) → kind (kept_of g) v ≡ diagonal → IsAlternative ds (at r.chosen v)
+      chosen_alternative v d = elim (has_or (map (root (kept_of g)) (flat_map vars_in r.parts)) v) [
+        | inl h ↦ let c = row.chosen v d (of_has (map (root (kept_of g)) (flat_map vars_in r.parts)) v h) in alternative v (at r.chosen v) (has_of (alts (high (kept_of g) v)) (at r.chosen v) c.0)
+        | inr f ↦ subst (IsAlternative ds) (sym (row.other v (λ o. f (has_of (map (root (kept_of g)) (flat_map vars_in r.parts)) v o)))) any_alternative
+      ]
+
+      -- the kinds are the same with the bounds in normal form
+      closed_places : (v : ℕ) (t u : Ty) → vars_in t ≡ [] → vars_in u ≡ [] → places v t ≡ places v u
+      closed_places v t u d e = lacks v t (λ i. has_none (vars_in t) v d i) ∙ sym (lacks v u (λ i. has_none (vars_in u) v e i))
+
+      high_places : (v : ℕ) (t u : Ty) → IsHighForm ds t u → places v u ≡ places v t
+      high_places v t u (form_plain x y p) = closed_places v u t p.plain.closed p.closed
+      high_places v t u (form_named x p) = refl
+
+      same_kinds : (v : ℕ) → kind (sided g) v ≡ kind (kept_of g) v
+      same_kinds v = ap (λ z. kind_of (plus (part_places (kept_of g) v) (below_nominal z))) (same_places v (bounded_of g).vars (kept_of g).vars wide (λ i l.
+          ap (λ z. plus z (places v (high (bounded_of g) i))) (closed_places v (low (bounded_of g) i) (low (kept_of g) i) (low_form i).plain.closed (low_form i).closed)
+          ∙ ap (λ z. plus (places v (low (kept_of g) i)) z) (high_places v (high (kept_of g) i) (high (bounded_of g) i) (high_form i))))
 
       pub side_of : IsSide ds g r
       side_of = record {
@@ -324,8 +398,9 @@ module _ (ds : List Decl) (declared : Declared ds) where
           wide = wide;
           lows = λ v l. low_form v;
           highs = λ v l. high_form v;
-          chosen = λ v l d. chosen_plain v d;
-          atom = λ v i l. atom_plain v i;
+          kinds = same_kinds;
+          chosen = λ v l d. chosen_alternative v d;
+          atom = λ v i l. atom_alternative v i;
         };
         scoped = kept_scoped;
         placed = kept_is_placed ds declared (written_of g) (kept_of g) scoped placed form;

@@ -1,9 +1,10 @@
 -- A row of a signature with what is kept of both, for the walks over two rows.
-use Rattle.std.specs.Prelude.{ℕ, ◌-◌, ◌%◌, ◌/◌, ◌≡◌, ◌<◌, false, cond, nat_lt, IsTrue, ◌⊎◌, List, [], ◌∷◌, ◌++◌, map, length, get_or, Option, None}
+use Rattle.std.specs.Prelude.{ℕ, ◌-◌, ◌%◌, ◌/◌, ◌≡◌, ◌<◌, ◌↔◌, Bool, true, false, cond, nat_lt, IsTrue, ◌⊎◌, List, [], ◌∷◌, ◌++◌, map, length, get_or, Option, None}
 use Rattle.std.specs.List.{flat_map, list_all, Contains}
 use Rattle.jl_model.specs.declared.ty.Ty.{Ty}
 use Rattle.jl_model.specs.declared.ty.Ty.TheOpen.{Ty-F, Any, Union, Tuple, Nominal, Var}
 use Rattle.jl_model.specs.declared.ty.Ty.TheViews.{out-Ty}
+use Rattle.jl_model.specs.declared.ty.Ty.TheViews as V
 use Rattle.jl_model.specs.declared.ty.Bound.{Bound}
 use Rattle.jl_model.specs.declared.ty.Decl.{Decl}
 use Rattle.jl_model.specs.declared.ty.Written.{Written}
@@ -22,6 +23,8 @@ use Rattle.jl_model.specs.SigRefusals.{is_argument}
 use Rattle.jl_model.specs.Found.{outer}
 use Rattle.jl_sig.specs.declared.sig.Sig.{Sig}
 use Rattle.jl_sig.specs.SigParts.{kept_of, bounded_of, diagonals_of, alternatives_of}
+use Rattle.jl_search.specs.Occurring.{IsInOrder}
+use Rattle.jl_search.specs.Open.{AreOpen}
 use Rattle.jl_search.specs.Serving.{IsPlain, IsPlace}
 
 abbrev pub row_of : SigRow → Row
@@ -61,15 +64,39 @@ pub record IsPlainForm (ds : List Decl) (t u : Ty) : Type 0 where
   pub plain : IsPlain ds u
   pub equal : Equal (table_of ds) t u
 
+-- a nominal type of declared nominal types whose arguments are normal forms, with no variable in a union or tuple of them
+pub record IsNamed (ds : List Decl) (t : Ty) : Type 0 where
+  pub number : ℕ
+  pub args : List Ty
+  pub is : t ≡ V.Nominal number args
+  pub normal : AllNormal (table_of ds) args
+  pub known : IsTrue (is_known (length ds) t)
+  pub opened : AreOpen args
+
+-- what an upper bound may be: a normal form without variables, or a nominal type with variables in its arguments
+pub data IsHigh (ds : List Decl) : Ty → Type 0 where
+  high_plain : (t : Ty) → IsPlain ds t → IsHigh ds t
+  high_named : (t : Ty) → IsNamed ds t → IsHigh ds t
+
+-- u is a normal form of the upper bound t
+pub data IsHighForm (ds : List Decl) : Ty → Ty → Type 0 where
+  form_plain : (t u : Ty) → IsPlainForm ds t u → IsHighForm ds t u
+  form_named : (t : Ty) → IsNamed ds t → IsHighForm ds t t
+
+-- an alternative of an upper bound
+pub record IsAlternative (ds : List Decl) (t : Ty) : Type 0 where
+  pub high : IsHigh ds t
+  pub single : IsTrue (is_single t)
+
 -- What may stand in a left row: a normal form of declared nominal types, with no variable in a union, whose variables and atoms
--- at covariant places have plain upper bounds.
+-- at covariant places have such upper bounds.
 pub record IsLeftPart (ds : List Decl) (g : Fixed) (t : Ty) : Type 0 where
   pub item : IsItem ds t
-  pub raises : (k : ℕ) → Contains (outer t) k → IsPlain ds (g.high k)
+  pub raises : (k : ℕ) → Contains (outer t) k → IsHigh ds (g.high k)
 
 pub record AreLeftParts (ds : List Decl) (g : Fixed) (ts : List Ty) : Type 0 where
   pub singles : AreSingles ds ts
-  pub raises : (k : ℕ) → Contains (flat_map outer ts) k → IsPlain ds (g.high k)
+  pub raises : (k : ℕ) → Contains (flat_map outer ts) k → IsHigh ds (g.high k)
 
 -- the arguments of the ancestor m of a nominal type, or of the type itself
 abbrev pub lift_to : Table → ℕ → Ty-F Ty → Option (List Ty)
@@ -105,13 +132,20 @@ pub record AreValues (ds : List Decl) (m : ℕ) (vs : List Ty) : Type 0 where
 pub record AreDiagonalsOf (s : Sig) : Type 0 where
   pub long : length (diagonals_of s) ≡ width (kept_of s)
   pub wide : length (bounded_of s).vars ≡ width (kept_of s)
-  pub kinds : (v : ℕ) → get_or (diagonals_of s) v false ≡ is_diagonal (kind (kept_of s) v)
+  pub kinds : (v : ℕ) → get_or (diagonals_of s) v false ≡ is_diagonal (kind (sided s) v)
 
--- each variable in a right row is one of the signature, and the bounds have no variables
+-- each variable of a right row is one of the signature, the lower bounds have no variables, and the upper ones are such bounds over
+-- variables before their own
 pub record IsRightRow (ds : List Decl) (s : Sig) (r : SigRow) : Type 0 where
   pub own : (v : ℕ) → Occurs (sided s) v r.parts → v < width (kept_of s)
-  pub lows : (v : ℕ) → vars_in (low (sided s) v) ≡ []
-  pub tops : (v : ℕ) → vars_in (top (sided s) (row_of r) v) ≡ []
+  pub lows : (v : ℕ) → IsPlain ds (low (sided s) v)
+  pub tops : (v : ℕ) → IsHigh ds (top (sided s) (row_of r) v)
+  pub ordered : IsInOrder (sided s)
+
+-- of each variable, whether it is one of the row, where the bounds mention variables
+abbrev pub HasFlags : Bool → Written → List Ty → List Bool → Type 0
+HasFlags true s row fs = (length fs ≡ width s) × ((v : ℕ) → v < width s → IsTrue (get_or fs v false) ↔ Occurs s v row)
+HasFlags false s row fs = Unit {0}
 
 -- the upper bound of each variable and atom of a row, where bs are the bounds of the variables
 abbrev pub tops : List Bound → Sig → SigRow → ℕ → Ty
@@ -136,9 +170,11 @@ pub record AreHeld (ds : List Decl) (s : Sig) (r : SigRow) : Type 0 where
   pub told : IsTold s r
   pub wide : length (bounded_of s).vars ≡ width (kept_of s)
   pub lows : (v : ℕ) → v < width (kept_of s) → IsPlainForm ds (low (kept_of s) v) (low (bounded_of s) v)
-  pub highs : (v : ℕ) → v < width (kept_of s) → IsPlainForm ds (high (kept_of s) v) (high (bounded_of s) v)
-  pub chosen : (v : ℕ) → v < width (kept_of s) → kind (kept_of s) v ≡ diagonal → IsPlain ds (at r.chosen v)
-  pub atom : (v i : ℕ) → v < width (kept_of s) → IsPlain ds (at (alts (high (kept_of s) v)) i)
+  pub highs : (v : ℕ) → v < width (kept_of s) → IsHighForm ds (high (kept_of s) v) (high (bounded_of s) v)
+  -- the kinds are the same with the bounds in normal form
+  pub kinds : (v : ℕ) → kind (sided s) v ≡ kind (kept_of s) v
+  pub chosen : (v : ℕ) → v < width (kept_of s) → kind (kept_of s) v ≡ diagonal → IsAlternative ds (at r.chosen v)
+  pub atom : (v i : ℕ) → v < width (kept_of s) → IsAlternative ds (at (alts (high (kept_of s) v)) i)
 
 -- a row of a kept signature that nothing refuses
 pub record IsSide (ds : List Decl) (s : Sig) (r : SigRow) : Type 0 where

@@ -18,7 +18,8 @@ ghost use Rattle.jl_subsig.specs.Values.{RowBelowBy, values, BelowByValues};
 
 /// Values are found. Where any types put for the variables of a right row serve for a left row, those serve that are found by
 /// one walk over the two rows: for a diagonal variable the left part at its first place, for another one the type at an
-/// invariant place, and its upper bound where there is none.
+/// invariant place of the row, or of an upper bound of a later variable, and its own upper bound with the types found put in
+/// where there is none.
 pub fn law_values_are_found()
     ensures { (ds : List Decl) → Declared ds → (a b : Written) → IsScoped a → IsOrdered (table_of ds) a → HasNormalArguments (table_of ds) a → IsScoped b → IsPlaced b
         → (l r : Row) → IsRow (table_of ds) a l → IsRow (table_of ds) b r → RowBelow (table_of ds) a l b r → RowBelowBy (table_of ds) a l b r (values (table_of ds) a l b r) }
@@ -85,8 +86,8 @@ pub fn law_same_signature()
     ensures symmetric { (n : Table) (a b : Written) → SameSignature n a b → SameSignature n b a }
 {}
 
-/// Below is transitive from a signature whose variables have no concrete type as an alternative of their upper bounds. Among such
-/// signatures strictly below is transitive, and so is the same signature.
+/// Below is transitive from a signature whose variables have no concrete type as an alternative of their upper bounds, where a
+/// struct over variables counts as concrete. Among such signatures strictly below is transitive, and so is the same signature.
 pub fn law_below_is_transitive()
     ensures below { (ds : List Decl) → Declared ds → (a b c : Written) → IsOpen (table_of ds) a → IsScoped b → IsScoped c → SigBelow (table_of ds) a b → SigBelow (table_of ds) b c → SigBelow (table_of ds) a c }
     ensures strictly { (ds : List Decl) → Declared ds → (a b c : Written) → IsOpen (table_of ds) a → IsScoped b → IsOpen (table_of ds) c

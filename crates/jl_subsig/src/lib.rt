@@ -12,6 +12,7 @@ mod latest;
 pub mod laws;
 mod meet;
 mod order;
+mod rise;
 mod row;
 mod serve;
 mod standing;

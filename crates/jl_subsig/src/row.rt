@@ -10,6 +10,7 @@ ghost use Rattle.jl_subsig.specs.Side.{row_of, IsSide};
 use crate::meet::meet_all;
 use crate::serve::serve;
 use crate::values::values_of;
+use jl_search::bounds::mention_variables;
 use jl_sig::Sig;
 use jl_sig::row::SigRow;
 use jl_types::Table;
@@ -32,8 +33,19 @@ pub fn row_below(
     ensures { IfOk result (λ yes. IsTrue yes ↔ RowBelow (table_of table.now) (kept_of left.now) (row_of row.now) (kept_of right.now) (row_of other.now)) }
 {
     table.valid();
-    let values = values_of(alloc, table, left, row, right, other)?;
-    if !serve(table, left, row, right, other, values.as_slice()) {
+    let is_named = mention_variables(right.bounds());
+    let values = values_of(alloc, table, left, row, right, other, is_named)?;
+    let serves = serve(
+        alloc,
+        table,
+        left,
+        row,
+        right,
+        other,
+        values.as_slice(),
+        is_named,
+    )?;
+    if !serves {
         return Ok(false);
     }
     let is_met = meet_all(

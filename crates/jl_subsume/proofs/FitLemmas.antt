@@ -10,12 +10,11 @@ use Rattle.jl_model.specs.declared.ty.Ty.TheViews as V
 use Rattle.jl_model.specs.declared.ty.Ty.TheVariants as W
 use Rattle.jl_model.specs.declared.ty.Written.{Written}
 use Rattle.jl_model.specs.Kinds.{Kind, unused, once, diagonal, bound}
-use Rattle.jl_model.specs.Rows.{forms, alts, width, high, kind, atom, root, place_of, vars_in}
+use Rattle.jl_model.specs.Rows.{forms, alts, width, high, kind, atom, root, place_of, vars_in, standing}
 use Rattle.jl_model.specs.Signature.{Row, IsRow, Both, both_end, both_more, Serves, fixed, top, by_kind}
 use Rattle.jl_model.specs.Subtype.{Table, Fixed, opaque, put, Below}
 use Rattle.jl_model.proofs.TypeInduction.{Each, by_cases}
-use Rattle.jl_model.proofs.FormLemmas.{is_any, is_tuple, is_nominal, is_var, put-any, put-tuple, put-var, vars-union, vars-tuple, vars-nominal, vars-var}
-use Rattle.jl_model.proofs.PutLemmas.{put-closed}
+use Rattle.jl_model.proofs.FormLemmas.{is_any, is_tuple, is_var, put-any, put-tuple, put-var, vars-union, vars-tuple, vars-var}
 use Rattle.jl_model.proofs.AncestorLemmas.{Lawful}
 use Rattle.jl_model.proofs.HeightLemmas.{PartBy, by_any, by_tuple, by_nominal, by_self}
 use Rattle.jl_model.proofs.BelowLemmas.{below_any, below_part}
@@ -23,10 +22,11 @@ use Rattle.jl_model.proofs.TransLemmas.{below_trans}
 use Rattle.jl_subsume.specs.Scoped.{IsScoped}
 use Rattle.jl_search.proofs.HasLemmas.{Has, Picks, has_left, has_right, has_flat, of_has}
 use Rattle.jl_subsume.proofs.FormsLemmas.{any_form, union_form, form_union, tuple_form, form_tuple, nominal_form, var_form, form_var}
-use Rattle.jl_search.proofs.PartLemmas.{Plain, plain_any, plain_tuple, plain_nominal, plain_var, AllPlain, all_end, all_more, plain_single}
-use Rattle.jl_subsume.proofs.LiftLemmas.{each_has, alt_fine, alt_below}
-use Rattle.jl_subsume.proofs.ScopeLemmas.{root_own, root_atom, at_atoms, an_atom, Never, Bare, alts_closed, high_none, high_at, high_atom, bound_plain, top_closed}
-use Rattle.jl_subsume.proofs.PutBelowLemmas.{alt_some, tuple_below}
+use Rattle.jl_search.proofs.PartLemmas.{Plain, plain_any, plain_tuple, plain_nominal, plain_var, AllPlain, all_end, all_more}
+use Rattle.jl_search.proofs.LiftLemmas.{each_has, alt_fine, alt_below}
+use Rattle.jl_subsume.proofs.ScopeLemmas.{root_own, root_atom, at_atoms, an_atom, Never, Small, high_at, high_atom, bound_plain, top_small}
+use Rattle.jl_subsume.proofs.PutBelowLemmas.{comes, alt_some, tuple_below}
+use Rattle.jl_search.proofs.SeekLemmas.{agrees}
 use Rattle.jl_subsume.proofs.SureLemmas.{Sure, AllSure, sure_end, sure_more, sure_single, sure_parts}
 
 module _ (n : Table) (law : Lawful n) where
@@ -70,7 +70,7 @@ module _ (n : Table) (law : Lawful n) where
         fits_any : (t x : Ty) → out-Ty x ≡ Any → Fits t x
         fits_tuple : (t x : Ty) (ts us : List Ty) → out-Ty t ≡ Tuple ts → out-Ty x ≡ Tuple us → AllFit ts us → Fits t x
         fits_nominal : (t x : Ty) (k : ℕ) (xs : List Ty) → out-Ty x ≡ Nominal k xs → B t (put F x) → Fits t x
-        fits_var : (t x : Ty) (k : ℕ) → out-Ty x ≡ Var k → B t (F k) → B t (G.high k) → Fits t x
+        fits_var : (t x : Ty) (k : ℕ) → out-Ty x ≡ Var k → B t (F k) → B t (put F (G.high k)) → Fits t x
 
       pub data AllFit : List Ty → List Ty → Type 0 where
         fit_end : AllFit [] []
@@ -95,28 +95,28 @@ module _ (n : Table) (law : Lawful n) where
     fit_tuple t x us e (fits_nominal s y k xs d b) = let f : Tuple us ≡ Nominal k xs = sym e ∙ d in cc
     fit_tuple t x us e (fits_var s y k d b c) = let f : Tuple us ≡ Var k = sym e ∙ d in cc
 
-    pub fit_high : (t x : Ty) (v : ℕ) → out-Ty x ≡ Var v → Fits t x → B t (G.high v)
+    pub fit_high : (t x : Ty) (v : ℕ) → out-Ty x ≡ Var v → Fits t x → B t (put F (G.high v))
     fit_high t x v e (fits_any s y d) = let f : Var v ≡ Any = sym e ∙ d in cc
     fit_high t x v e (fits_tuple s y ts vs d i p) = let f : Tuple vs ≡ Var v = sym i ∙ e in cc
     fit_high t x v e (fits_nominal s y k xs d b) = let f : Var v ≡ Nominal k xs = sym e ∙ d in cc
-    fit_high t x v e (fits_var s y k d b c) = let f : Var k ≡ Var v = sym d ∙ e in let i : k ≡ v = cc in subst (λ z. B t (G.high z)) i c
+    fit_high t x v e (fits_var s y k d b c) = let f : Var k ≡ Var v = sym d ∙ e in let i : k ≡ v = cc in subst (λ z. B t (put F (G.high z))) i c
 
-    -- what is below a form without variables fits it
-    mutual
-      pub fit_closed : (t c : Ty) → S t → Plain Never Bare c → B t c → Fits t c
-      fit_closed t c s (plain_any x e) b = fits_any t c e
-      fit_closed t c s (plain_tuple x us e p) b =
-          let r = single_tuple t c us s (plain_single Never Bare c (plain_tuple c us e p)) e b in
-          fits_tuple t c r.0 us r.1 e (all_closed r.0 us (sure_parts n opaque t r.0 r.1 s) p r.2)
-      fit_closed t c s (plain_nominal x k xs e q) b =
-          let v : vars_in c ≡ [] = ap vars_in (is_nominal c k xs e) ∙ vars-nominal k xs ∙ q in
-          fits_nominal t c k xs e (subst (λ z. B t z) (sym (put-closed F c v)) b)
-      fit_closed t c s (plain_var x k e d) b = absurd d
+    -- what is below a form without variables at covariant places fits it
+    module _ (Q : List Ty → Type 0) where
+      mutual
+        pub fit_rigid : (t c : Ty) → S t → Plain Never Q c → B t (put F c) → Fits t c
+        fit_rigid t c s (plain_any x e) b = fits_any t c e
+        fit_rigid t c s (plain_tuple x us e p) b =
+            let r = under_tuple t (map (put F) us) s (subst (λ z. B t z) (ap (put F) (is_tuple c us e) ∙ put-tuple F us) b) in
+            fits_tuple t c r.0 us r.1 e (all_rigid r.0 us (sure_parts n opaque t r.0 r.1 s) p r.2)
+        fit_rigid t c s (plain_nominal x k xs e q) b = fits_nominal t c k xs e b
+        fit_rigid t c s (plain_var x k e d) b = absurd d
 
-      all_closed : (ts us : List Ty) → AllSure n opaque ts → AllPlain Never Bare us → Both B ts us → AllFit ts us
-      all_closed ts us s all_end both_end = fit_end
-      all_closed ts us sure_end (all_more u vs h k) b = elim b [ ]
-      all_closed ts us (sure_more t ss p q) (all_more u vs h k) (both_more x y xs ys b r) = fit_more x y xs ys (fit_closed x y p h b) (all_closed xs ys q k r)
+        all_rigid : (ts us : List Ty) → AllSure n opaque ts → AllPlain Never Q us → Both B ts (map (put F) us) → AllFit ts us
+        all_rigid [] us s all_end both_end = fit_end
+        all_rigid (t ∷ ts) us s all_end b = elim b [ ]
+        all_rigid ts us sure_end (all_more u vs h k) b = elim b [ ]
+        all_rigid ts us (sure_more t ss p q) (all_more u vs h k) (both_more x y xs ys b r) = fit_more x u xs vs (fit_rigid x u p h b) (all_rigid xs vs q k r)
 
 -- THE LEFT ROW: the atoms of a row that applies are taken so that the types fit.
 module _ (n : Table) (law : Lawful n) (a : Written) (scope : IsScoped a) (r : Row) (row : IsRow n a r) (f : ℕ → Ty) (serves : Serves n opaque a r f) where
@@ -176,8 +176,11 @@ module _ (n : Table) (law : Lawful n) (a : Written) (scope : IsScoped a) (r : Ro
       }
 
   -- at a variable
-  below_high : (v : ℕ) → v < width a → Has names v → B n law (f v) (top a r v)
-  below_high v l h = subst (λ z. B n law (f v) z) (put-closed f (top a r v) (top_closed n a r scope row v)) (serves.most v (of_has names v h))
+  top_put : (v : ℕ) → put f (top a r v) ≡ put F (top a r v)
+  top_put v = agrees f F (top a r v) (λ w h. sym (ap f (root_own a w (top_small n a r scope row v w h))))
+
+  below_high : (v : ℕ) → v < width a → Has names v → B n law (f v) (put F (top a r v))
+  below_high v l h = subst (λ z. B n law (f v) z) (top_put v) (serves.most v (standing v r.parts (of_has names v h)))
 
   F_own : (v : ℕ) → v < width a → F v ≡ f v
   F_own v l = ap f (root_own a v l)
@@ -200,18 +203,17 @@ module _ (n : Table) (law : Lawful n) (a : Written) (scope : IsScoped a) (r : Ro
   refit_at : (v : ℕ) → v < width a → (k : Kind) → kind a v ≡ k → (x : Ty) → Has (place_of a v k) x → Known x → (t : Ty) → S n law t → B n law t (put F x) → Other (W.Var v) x t
   refit_at v l unused e x h k t s b = absurd h
   refit_at v l once e x h k t s b =
-      let c : vars_in x ≡ [] = alts_closed (high a v) x (high_none a scope v) h in
       record {
         form = x;
         is_form = form_at v once e x h;
         roots = refl;
-        fits = fit_closed n law F G t x s (bound_plain a scope v x h) (subst (λ z. B n law t z) (put-closed F x c) b);
+        fits = fit_rigid n law F G (Small a scope) t x s (bound_plain a scope v x h) b;
       }
   refit_at v l diagonal e x (inr h) k t s b = absurd h
   refit_at v l diagonal e x (inl h) k t s b =
       let c : B n law t (F v) = put_var x t v (sym h) b in
       let d : Has names v = subst (λ z. Has names z) (root_own a v l) (known_var x v (sym h) k) in
-      let top_is : B n law t (G.high v) = subst (λ z. B n law t z) (sym (high_at n a r v l)) (below_trans n law t (f v) (top a r v) (subst (λ z. B n law t z) (F_own v l) c) (below_high v l d)) in
+      let top_is : B n law t (put F (G.high v)) = subst (λ z. B n law t (put F z)) (sym (high_at n a r v l)) (below_trans n law t (f v) (put F (top a r v)) (subst (λ z. B n law t z) (F_own v l) c) (below_high v l d)) in
       record {
         form = x;
         is_form = form_at v diagonal e x (inl h);
@@ -224,8 +226,9 @@ module _ (n : Table) (law : Lawful n) (a : Written) (scope : IsScoped a) (r : Ro
       let c : B n law t (f v) = subst (λ z. B n law t z) (F_atom v i l) (put_var x t (atom a v i) q.1 b) in
       let d : Has names v = subst (λ z. Has names z) (root_atom a v i l) (known_var x (atom a v i) q.1 k) in
       let not_chosen : top a r v ≡ high a v = ap (λ z. by_kind z (r.chosen v) (high a v)) e in
-      let up : B n law t (high a v) = subst (λ z. B n law t z) not_chosen (below_trans n law t (f v) (top a r v) c (below_high v l d)) in
-      let u = alt_some n t (high a v) (sure_single n opaque t s) up in
+      let up : B n law t (put F (high a v)) = subst (λ z. B n law t (put F z)) not_chosen (below_trans n law t (f v) (put F (top a r v)) c (below_high v l d)) in
+      let w = alt_some n t (put F (high a v)) (sure_single n opaque t s) up in
+      let u = comes F (high a v) w.0 w.1 in
       let m = an_atom a v (alts (high a v)) u.0 u.1 in
       let j : ℕ = m.0 in
       let y : Ty = W.Var (atom a v j) in
@@ -234,7 +237,7 @@ module _ (n : Table) (law : Lawful n) (a : Written) (scope : IsScoped a) (r : Ro
         is_form = form_at v bound e y m.1;
         roots = root_of y (atom a v j) refl ∙ ap (λ z. z ∷ []) (root_atom a v j l ∙ sym (root_atom a v i l)) ∙ sym (root_of x (atom a v i) q.1);
         fits = fits_var t y (atom a v j) (outs-Var (atom a v j)) (subst (λ z. B n law t z) (sym (F_atom v j l)) c)
-            (subst (λ z. B n law t z) (sym (high_atom n a r v j l ∙ m.2)) u.2);
+            (subst (λ z. B n law t (put F z)) (sym (high_atom n a r v j l ∙ m.2)) (below_trans n law t w.0 (put F u.0) w.2 (alt_below n opaque (put F u.0) w.0 u.2)));
       }
 
   member_own : (p : Ty) (ps : List Ty) → vars_in p ≡ flat_map vars_in ps → Own p → (q : Ty) → Has ps q → Own q

@@ -1,14 +1,10 @@
 -- The union-free forms of a type, one by one.
-use Rattle.std.proofs.Common.{◌≡◌, ◌∙◌, sym, ap, subst, refl, ℕ, List, [], ◌∷◌, map, inl, inr}
-use Rattle.std.specs.List.{flat_map}
+use Rattle.std.proofs.Common.{◌≡◌, sym, subst, refl, ℕ, List, map, inl, inr}
 use Rattle.jl_model.specs.declared.ty.Ty.{Ty}
-use Rattle.jl_model.specs.declared.ty.Ty.TheOpen.{Any, Union, Tuple, Nominal, Var}
 use Rattle.jl_model.specs.declared.ty.Ty.TheViews.{rolls-Any, rolls-Union, rolls-Tuple, rolls-Nominal, rolls-Var}
 use Rattle.jl_model.specs.declared.ty.Ty.TheViews as V
 use Rattle.jl_model.specs.declared.ty.Ty.TheVariants as W
-use Rattle.jl_model.specs.declared.ty.Ty.TheFolds.{para-roll-Ty}
-use Rattle.jl_model.specs.Rows.{forms, forms_step, choices}
-use Rattle.jl_model.proofs.FormLemmas.{firsts, seconds, flat_seconds}
+use Rattle.jl_model.specs.Rows.{forms, choices}
 use Rattle.jl_search.proofs.HasLemmas.{Has, Picks, has_map, map_has, has_flat, flat_has}
 use Rattle.jl_search.proofs.PickLemmas.{has_choices, choices_has}
 use Rattle.jl_types.proofs.FormEquations.{forms-any, forms-var, forms-union, forms-tuple, forms-nominal}

@@ -1,7 +1,6 @@
 pub mod FormsLemmas
 pub mod MadeLemmas
 pub mod ScopeLemmas
-pub mod LiftLemmas
 pub mod PutBelowLemmas
 pub mod SureLemmas
 pub mod FitLemmas

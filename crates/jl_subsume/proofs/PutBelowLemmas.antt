@@ -18,7 +18,7 @@ use Rattle.jl_model.proofs.BelowLemmas.{below_any}
 use Rattle.jl_model.proofs.TransLemmas.{below_trans, near, far}
 use Rattle.jl_search.proofs.HasLemmas.{Has, Picks, has_map, map_has, has_flat}
 use Rattle.jl_subsume.proofs.FormsLemmas.{union_form, form_union, tuple_form, form_tuple, any_form, nominal_form, var_form, form_any, form_nominal, form_var}
-use Rattle.jl_subsume.proofs.LiftLemmas.{each_has, found_in, below_found, found_below, single_found, alt_fine, alt_below, part_single}
+use Rattle.jl_search.proofs.LiftLemmas.{each_has, found_in, below_found, found_below, single_found, alt_fine, alt_below, part_single}
 use Rattle.jl_subsume.proofs.ScopeLemmas.{alts_within}
 
 -- each alternative of a type with types put in comes from an alternative of the type, and back

@@ -1,21 +1,22 @@
--- Signatures whose variables are their own and whose bounds have none: variables, atoms and bounds in their rows.
-use Rattle.std.proofs.Common.{◌≡◌, ◌∙◌, sym, ap, subst, refl, ℕ, zero, suc, ◌+◌, ◌-◌, ◌*◌, ◌<◌, ◌≤◌, ◌/◌, arith, Bool, true, false, cond, nat_eq, nat_lt, eqb-true, List, [], ◌∷◌, map, length, get_or, ◌⊎◌, inl, inr}
+-- Signatures whose variables are their own: variables, atoms and bounds in their rows.
+use Rattle.std.proofs.Common.{◌≡◌, ◌∙◌, sym, ap, subst, refl, ℕ, zero, suc, ◌+◌, ◌-◌, ◌*◌, ◌<◌, ◌≤◌, ◌/◌, arith, Bool, true, false, ◌&&◌, ◌||◌, not, ◌++◌, cond, nat_eq, nat_lt, eqb-true, List, [], ◌∷◌, map, length, get_or, ◌⊎◌, inl, inr}
 use Rattle.std.proofs.lemmas.Nat.{mod-mul-add, div-mul-add}
 use Rattle.std.specs.List.{flat_map, list_all}
 use Rattle.jl_model.specs.declared.ty.Ty.{Ty}
-use Rattle.jl_model.specs.declared.ty.Ty.TheOpen.{Any, Union, Tuple, Nominal, Var}
-use Rattle.jl_model.specs.declared.ty.Ty.TheViews.{out-Ty, outs-Any, outs-Var, rolls-Any, rolls-Union, rolls-Tuple, rolls-Nominal, rolls-Var}
+use Rattle.jl_model.specs.declared.ty.Ty.TheOpen.{Ty-F, Any, Union, Tuple, Nominal, Var}
+use Rattle.jl_model.specs.declared.ty.Ty.TheViews.{out-Ty, outs-Any, outs-Var, outs-Nominal, rolls-Any, rolls-Union, rolls-Tuple, rolls-Nominal, rolls-Var}
 use Rattle.jl_model.specs.declared.ty.Ty.TheViews as V
 use Rattle.jl_model.specs.declared.ty.Ty.TheVariants as W
 use Rattle.jl_model.specs.declared.ty.Ty.TheFolds.{fold-roll-Ty}
 use Rattle.jl_model.specs.declared.ty.Bound.{Bound}
 use Rattle.jl_model.specs.declared.ty.Written.{Written}
 use Rattle.jl_model.specs.Kinds.{Places, Kind, unused, once, diagonal, bound, nowhere, plus, plus_all, below_nominal, places, places_step, kind_of}
-use Rattle.jl_model.specs.Rows.{forms, alts, width, free, low, high, kind, atom, root, atoms, place_of, components, vars_in, Occurs}
+use Rattle.jl_model.specs.Rows.{forms, alts, width, free, low, high, kind, atom, root, atoms, place_of, components, vars_in, part_places, bound_places, Stands, Occurs, standing, bounding}
 use Rattle.jl_model.specs.Subtype.{Table}
 use Rattle.jl_model.specs.Signature.{Row, IsRow, by_kind, top, fixed}
 use Rattle.jl_model.specs.Valid.{is_closed}
 use Rattle.jl_model.specs.Refusals.{bound_types}
+use Rattle.jl_model.specs.SigRefusals.{is_argument, is_bottom, named_form, is_bound, are_bounds}
 use Rattle.jl_model.proofs.TypeInduction.{Each, by_cases}
 use Rattle.jl_model.proofs.PutLemmas.{and_l, and_r}
 use Rattle.jl_model.proofs.FormLemmas.{is_any, is_tuple, is_nominal, is_var, vars-any, vars-union, vars-tuple, vars-nominal, vars-var}
@@ -35,20 +36,6 @@ is_less a b h = grind (arith, h)
 no_length : (ns : List ℕ) → nat_eq (length ns) 0 ≡ true → ns ≡ []
 no_length [] h = refl
 no_length (n ∷ ns) h = let e : length (n ∷ ns) ≡ 0 = grind (arith, h) in absurd (omega arith)
-
--- bounds have no variables
-low_closed : (bs : List Bound) → list_all is_closed (bound_types bs) ≡ true → (v : ℕ) → vars_in (get_or bs v free).low ≡ []
-low_closed [] h v = vars-union []
-low_closed (b ∷ bs) h zero = no_length (vars_in b.low) (and_l (is_closed b.low) (list_all is_closed (b.high ∷ bound_types bs)) h)
-low_closed (b ∷ bs) h (suc v) =
-    low_closed bs (and_r (is_closed b.high) (list_all is_closed (bound_types bs)) (and_r (is_closed b.low) (list_all is_closed (b.high ∷ bound_types bs)) h)) v
-
-high_closed : (bs : List Bound) → list_all is_closed (bound_types bs) ≡ true → (v : ℕ) → vars_in (get_or bs v free).high ≡ []
-high_closed [] h v = vars-any
-high_closed (b ∷ bs) h zero =
-    no_length (vars_in b.high) (and_l (is_closed b.high) (list_all is_closed (bound_types bs)) (and_r (is_closed b.low) (list_all is_closed (b.high ∷ bound_types bs)) h))
-high_closed (b ∷ bs) h (suc v) =
-    high_closed bs (and_r (is_closed b.high) (list_all is_closed (bound_types bs)) (and_r (is_closed b.low) (list_all is_closed (b.high ∷ bound_types bs)) h)) v
 
 -- the variables of an alternative are variables of the type
 module _ (at : ℕ → List Ty) (E : ℕ → Type 0) (each_at : (v : ℕ) (x : Ty) (k : ℕ) → Has (at v) x → Has (vars_in x) k → (v ≡ k) ⊎ E k) where
@@ -207,28 +194,127 @@ Never k = ⊥
 abbrev pub Bare : List Ty → Type 0
 Bare xs = flat_map vars_in xs ≡ []
 
-module _ (s : Written) (scope : IsScoped s) where
-  pub low_none : (v : ℕ) → vars_in (low s v) ≡ []
-  low_none v = low_closed s.vars scope.closed v
+-- the shape of a bound: it has no variables, or it is a nominal type over variables before its own
+pub record Shape (v : ℕ) (b : Bound) : Type 0 where
+  pub low_none : vars_in b.low ≡ []
+  pub high : (vars_in b.high ≡ []) ⊎ ((k : ℕ) × (ts : List Ty) × (out-Ty b.high ≡ Nominal k ts) × ((w : ℕ) → Has (vars_in b.high) w → w < v) × (is_bottom b.low ≡ true) × (list_all is_argument ts ≡ true))
 
-  pub high_none : (v : ℕ) → vars_in (high s v) ≡ []
-  high_none v = high_closed s.vars scope.closed v
+named_shape : (x : Ty-F Ty) → named_form x ≡ true → (k : ℕ) × (ts : List Ty) × (x ≡ Nominal k ts) × (list_all is_argument ts ≡ true)
+named_shape Any h = let e : false ≡ true = h in cc
+named_shape (Union ts) h = let e : false ≡ true = h in cc
+named_shape (Tuple ts) h = let e : false ≡ true = h in cc
+named_shape (Nominal k ts) h = (k, ts, refl, h)
+named_shape (Var v) h = let e : false ≡ true = h in cc
+
+or_true : (b c : Bool) → (b || c) ≡ true → (b ≡ true) ⊎ (c ≡ true)
+or_true true c h = inl refl
+or_true false c h = inr h
+
+-- a number of one of m variables that is before v or from m on is before v
+before_or : (m v w : ℕ) → w < m → (nat_lt w v || not (nat_lt w m)) ≡ true → w < v
+before_or m v w l h = elim (or_true (nat_lt w v) (not (nat_lt w m)) h) [
+  | inl e ↦ less w v e
+  | inr e ↦ let i = is_less w m l in let c : false ≡ true = sym (ap not i) ∙ e in cc
+]
+
+shape : (m v : ℕ) (b : Bound) → ((w : ℕ) → Has (vars_in b.high) w → w < m) → is_bound m v b ≡ true → Shape v b
+shape m v b own h =
+    let first : Bool = is_bottom b.low && named_form (out-Ty b.high) in
+    let mine : Bool = list_all (λ w. nat_lt w v || not (nat_lt w m)) (vars_in b.high) in
+    let named : Bool = first && mine in
+    record {
+      low_none = no_length (vars_in b.low) (and_l (is_closed b.low) (is_closed b.high || named) h);
+      high = elim (or_true (is_closed b.high) named (and_r (is_closed b.low) (is_closed b.high || named) h)) [
+        | inl c ↦ inl (no_length (vars_in b.high) c)
+        | inr c ↦
+            let d : first ≡ true = and_l first mine c in
+            let r = named_shape (out-Ty b.high) (and_r (is_bottom b.low) (named_form (out-Ty b.high)) d) in
+            inr (
+              r.0,
+              r.1,
+              r.2,
+              (λ w i. before_or m v w (own w i) (all_has (λ w. nat_lt w v || not (nat_lt w m)) (vars_in b.high) w (and_r first mine c) i)),
+              and_l (is_bottom b.low) (named_form (out-Ty b.high)) d,
+              r.3,
+            )
+      ];
+    }
+
+abbrev Owns : ℕ → List Bound → Type 0
+Owns m bs = (w : ℕ) → Has (flat_map vars_in (bound_types bs)) w → w < m
+
+owns_high : (m : ℕ) (b : Bound) (bs : List Bound) → Owns m (b ∷ bs) → (w : ℕ) → Has (vars_in b.high) w → w < m
+owns_high m b bs o w h = o w (has_right (vars_in b.low) (vars_in b.high ++ flat_map vars_in (bound_types bs)) w (has_left (vars_in b.high) (flat_map vars_in (bound_types bs)) w h))
+
+owns_rest : (m : ℕ) (b : Bound) (bs : List Bound) → Owns m (b ∷ bs) → Owns m bs
+owns_rest m b bs o w h = o w (has_right (vars_in b.low) (vars_in b.high ++ flat_map vars_in (bound_types bs)) w (has_right (vars_in b.high) (flat_map vars_in (bound_types bs)) w h))
+
+shapes : (m v : ℕ) (bs : List Bound) → Owns m bs → are_bounds m v bs ≡ true → (i : ℕ) → Shape (v + i) (get_or bs i free)
+shapes m v [] o h i = record { low_none = vars-union []; high = inl vars-any }
+shapes m v (b ∷ bs) o h zero = let e : v ≡ v + 0 = omega arith in subst (λ k. Shape k b) e (shape m v b (owns_high m b bs o) (and_l (is_bound m v b) (are_bounds m (v + 1) bs) h))
+shapes m v (b ∷ bs) o h (suc i) =
+    let e : v + 1 + i ≡ v + suc i = omega arith in
+    subst (λ k. Shape k (get_or bs i free)) e (shapes m (v + 1) bs (owns_rest m b bs o) (and_r (is_bound m v b) (are_bounds m (v + 1) bs) h) i)
+
+-- a number past the variables stands in no bound
+lack_bound : (v k : ℕ) (b : Bound) → Shape k b → k ≤ v → plus (places v b.low) (places v b.high) ≡ nowhere
+lack_bound v k b sh l =
+    let p : places v b.low ≡ nowhere = lacks v b.low (λ i. has_none (vars_in b.low) v sh.low_none i) in
+    let q : places v b.high ≡ nowhere = lacks v b.high (λ i. elim sh.high [ inl e ↦ has_none (vars_in b.high) v e i | inr r ↦ (let z = r.3 v i in absurd (omega (arith, z, l))) ]) in
+    ap (λ z. plus z (places v b.high)) p ∙ ap (λ z. plus nowhere z) q
+
+lack_bounds : (m v i : ℕ) (bs : List Bound) → Owns m bs → are_bounds m i bs ≡ true → i + length bs ≤ v → bound_places v bs ≡ nowhere
+lack_bounds m v i [] o h l = refl
+lack_bounds m v i (b ∷ bs) o h l =
+    let p = lack_bound v i b (shape m i b (owns_high m b bs o) (and_l (is_bound m i b) (are_bounds m (i + 1) bs) h)) (omega (arith, l)) in
+    let q = lack_bounds m v (i + 1) bs (owns_rest m b bs o) (and_r (is_bound m i b) (are_bounds m (i + 1) bs) h) (omega (arith, l)) in
+    ap (λ z. plus z (bound_places v bs)) p ∙ ap (λ z. plus nowhere z) q
+
+module _ (s : Written) (scope : IsScoped s) where
+  owns : Owns (width s) s.vars
+  owns w h = less w (width s) (all_has (λ v. nat_lt v (width s)) (flat_map vars_in (bound_types s.vars)) w scope.own_bounds h)
+
+  pub own_shape : (v : ℕ) → Shape v (get_or s.vars v free)
+  own_shape v = let e : 0 + v ≡ v = omega arith in subst (λ k. Shape k (get_or s.vars v free)) e (shapes (width s) 0 s.vars owns scope.bounds v)
+
+  pub low_none : (v : ℕ) → vars_in (low s v) ≡ []
+  low_none v = (own_shape v).low_none
 
   pub own_small : (v : ℕ) → Has (flat_map vars_in s.parts) v → v < width s
   own_small v h = less v (width s) (all_has (λ v. nat_lt v (width s)) (flat_map vars_in s.parts) v scope.own h)
 
+  -- an upper bound mentions variables before its own
+  pub high_before : (v w : ℕ) → Has (vars_in (high s v)) w → w < v
+  high_before v w h = elim (own_shape v).high [ inl e ↦ absurd (has_none (vars_in (high s v)) w e h) | inr r ↦ r.3 w h ]
+
+  get_past : (bs : List Bound) (v : ℕ) → length bs ≤ v → get_or bs v free ≡ free
+  get_past [] v l = refl
+  get_past (b ∷ bs) zero l = absurd (omega (arith, l))
+  get_past (b ∷ bs) (suc v) l = get_past bs v (omega (arith, l))
+
+  small_or : (v : ℕ) → (v < width s) ⊎ (width s ≤ v)
+  small_or v = by_test (nat_lt v (width s)) refl
+    where
+      by_test : (b : Bool) → nat_lt v (width s) ≡ b → (v < width s) ⊎ (width s ≤ v)
+      by_test true e = inl (grind (arith, e))
+      by_test false e = inr (grind (arith, e))
+
+  pub high_small : (v w : ℕ) → Has (vars_in (high s v)) w → w < width s
+  high_small v w h = elim (small_or v) [
+    | inl l ↦ let k = high_before v w h in omega (arith, k, l)
+    | inr l ↦ absurd (has_none (vars_in (high s v)) w (ap (λ b. vars_in b.high) (get_past s.vars v l) ∙ vars-any) h)
+  ]
+
   -- a variable that is not its own has no kind but `unused`
   pub foreign : (v : ℕ) → (v < width s → ⊥) → kind s v ≡ unused
-  foreign v f = ap kind_of (all_nowhere v s.parts (each_lacks v s.parts) (λ h. f (own_small v h)))
+  foreign v f =
+      let l : width s ≤ v = elim (small_or v) [ inl l ↦ absurd (f l) | inr l ↦ l ] in
+      let p : part_places s v ≡ nowhere = all_nowhere v s.parts (each_lacks v s.parts) (λ h. f (own_small v h)) in
+      let q : bound_places v s.vars ≡ nowhere = lack_bounds (width s) v 0 s.vars owns scope.bounds (omega (arith, l)) in
+      ap (λ z. kind_of (plus z (below_nominal (bound_places v s.vars)))) p ∙ ap (λ z. kind_of (plus nowhere (below_nominal z))) q
 
   used_small : (v : ℕ) (k : Kind) → (k ≡ unused → ⊥) → kind s v ≡ k → v < width s
-  used_small v k f e = by_test (nat_lt v (width s)) refl
-    where
-      by_test : (b : Bool) → nat_lt v (width s) ≡ b → v < width s
-      by_test true h = less v (width s) h
-      by_test false h =
-          let g : v < width s → ⊥ = λ l. let d : true ≡ false = sym (is_less v (width s) l) ∙ h in cc in
-          absurd (f (sym e ∙ foreign v g))
+  used_small v k f e = elim (small_or v) [ inl l ↦ l | inr l ↦ absurd (f (sym e ∙ foreign v (λ i. (let z : ⊥ = omega (arith, i, l) in z)))) ]
 
   pub diagonal_small : (v : ℕ) → kind s v ≡ diagonal → v < width s
   diagonal_small v e = used_small v diagonal (λ (i : diagonal ≡ unused). cc) e
@@ -275,25 +361,31 @@ module _ (s : Written) (scope : IsScoped s) where
   pub closed_plain : (t : Ty) → vars_in t ≡ [] → (x : Ty) → Has (alts t) x → Plain Never Bare x
   closed_plain t e x h = made (λ v. W.Var v ∷ []) Never Bare Closed closed_seeds (λ v c y i. absurd (has_none (vars_in (W.Var v)) v c (has_var v))) t e x h
 
-  -- N holds besides of the arguments, where M holds of the bounds and of the components
+  -- an alternative of an upper bound: no variable stands at a covariant place. N holds besides of the arguments, where M holds of the
+  -- bounds and of the components
   module _ (N : List Ty → Type 0) (M : Ty → Type 0) (seeds : Seeds M N) (bounds : (v : ℕ) → M (high s v)) where
-    abbrev pub BareN : List Ty → Type 0
-    BareN xs = Bare xs × N xs
-
     abbrev pub SmallN : List Ty → Type 0
     SmallN xs = Small xs × N xs
 
-    pub bound_plain_n : (v : ℕ) (x : Ty) → Has (alts (high s v)) x → Plain Never BareN x
-    bound_plain_n v x h =
-        made (λ v. W.Var v ∷ []) Never BareN (λ t. Closed t × M t) (seeds_both Closed M Bare N closed_seeds seeds)
-        (λ v c y i. absurd (has_none (vars_in (W.Var v)) v c.0 (has_var v))) (high s v) (high_none v, bounds v) x h
+    pub bound_plain_n : (v : ℕ) (x : Ty) → Has (alts (high s v)) x → Plain Never SmallN x
+    bound_plain_n v x h = elim (own_shape v).high [
+      | inl e ↦
+          plain_map Never Never (λ xs. Bare xs × N xs) SmallN (λ k b. b) (λ xs q. (bare_small xs q.0, q.1)) x
+          (made (λ v. W.Var v ∷ []) Never (λ xs. Bare xs × N xs) (λ t. Closed t × M t) (seeds_both Closed M Bare N closed_seeds seeds)
+          (λ v c y i. absurd (has_none (vars_in (W.Var v)) v c.0 (has_var v))) (high s v) (e, bounds v) x h)
+      | inr r ↦
+          let is : high s v ≡ V.Nominal r.0 r.1 = is_nominal (high s v) r.0 r.1 r.2 in
+          let j : V.Nominal r.0 r.1 ≡ x = nominal_form (λ v. W.Var v ∷ []) r.0 r.1 x (subst (λ z. Has (alts z) x) is h) in
+          plain_nominal x r.0 r.1 (ap out-Ty (sym j) ∙ outs-Nominal r.0 r.1)
+          ((λ w i. high_small v w (subst (λ z. Has z w) (sym (ap vars_in is ∙ vars-nominal r.0 r.1)) i)), seeds.nominal r.0 r.1 (subst M is (bounds v)))
+    ]
 
-    pub bare_plain_n : (x : Ty) → Plain Never BareN x → Plain (IsSlot s) SmallN x
-    bare_plain_n x p = plain_map Never (IsSlot s) BareN SmallN (λ k b. absurd b) (λ xs q. (bare_small xs q.0, q.1)) x p
+    pub rigid_plain_n : (x : Ty) → Plain Never SmallN x → Plain (IsSlot s) SmallN x
+    rigid_plain_n x p = plain_map Never (IsSlot s) SmallN SmallN (λ k b. absurd b) (λ xs q. q) x p
 
     slot_plain : (v : ℕ) → v < width s → (k : Kind) → kind s v ≡ k → (x : Ty) → Has (place_of s v k) x → Plain (IsSlot s) SmallN x
     slot_plain v l unused e x h = absurd h
-    slot_plain v l once e x h = bare_plain_n x (bound_plain_n v x h)
+    slot_plain v l once e x h = rigid_plain_n x (bound_plain_n v x h)
     slot_plain v l diagonal e x (inl i) = plain_var x v (ap out-Ty (sym i) ∙ outs-Var v) (slot_diagonal v l e)
     slot_plain v l diagonal e x (inr i) = absurd i
     slot_plain v l bound e x h =
@@ -320,12 +412,12 @@ module _ (s : Written) (scope : IsScoped s) where
   nothing_seeds : Seeds Whatever Nothing
   nothing_seeds = record { union = λ ts c u h. tt; tuple = λ ts c u h. tt; nominal = λ k ts c. tt }
 
-  pub bound_plain : (v : ℕ) (x : Ty) → Has (alts (high s v)) x → Plain Never Bare x
+  pub bound_plain : (v : ℕ) (x : Ty) → Has (alts (high s v)) x → Plain Never Small x
   bound_plain v x h =
-      plain_map Never Never (λ xs. Bare xs × Nothing xs) Bare (λ k b. b) (λ xs q. q.0) x (bound_plain_n Nothing Whatever nothing_seeds (λ v. tt) v x h)
+      plain_map Never Never (λ xs. Small xs × Nothing xs) Small (λ k b. b) (λ xs q. q.0) x (bound_plain_n Nothing Whatever nothing_seeds (λ v. tt) v x h)
 
-  pub bare_plain : (x : Ty) → Plain Never Bare x → Plain (IsSlot s) Small x
-  bare_plain x p = plain_map Never (IsSlot s) Bare Small (λ k b. absurd b) bare_small x p
+  pub rigid_plain : (x : Ty) → Plain Never Small x → Plain (IsSlot s) Small x
+  rigid_plain x p = plain_map Never (IsSlot s) Small Small (λ k b. absurd b) (λ xs q. q) x p
 
   pub row_plain : (n : Table) (r : Row) → IsRow n s r → AllPlain (IsSlot s) Small r.parts
   row_plain n r row =
@@ -333,7 +425,7 @@ module _ (s : Written) (scope : IsScoped s) where
       (row_plain_n Nothing Whatever nothing_seeds (λ v. tt) n r row (λ t h. tt))
 
   -- the roots of variables in a row are its own
-  slot_small : (k : ℕ) → IsSlot s k → root s k < width s
+  pub slot_small : (k : ℕ) → IsSlot s k → root s k < width s
   slot_small k (slot_diagonal v l e) = subst (λ z. z < width s) (sym (root_own s v l)) l
   slot_small k (slot_atom v i l e h) = subst (λ z. z < width s) (sym (root_atom s v i l)) l
 
@@ -352,10 +444,14 @@ module _ (s : Written) (scope : IsScoped s) where
     all_small us all_end k h = absurd h
     all_small us (all_more x xs p r) k h = elim (has_split (vars_in x) (flat_map vars_in xs) k h) [ inl i ↦ plain_small x p k i | inr i ↦ all_small xs r k i ]
 
+  occurs_in : (us : List Ty) → AllPlain (IsSlot s) Small us → (v : ℕ) (row : List Ty) → row ≡ us → Occurs s v row → v < width s
+  occurs_in us p v row e (standing x y o) =
+      let q = map_has (root s) (flat_map vars_in us) v (has_of (map (root s) (flat_map vars_in us)) v (subst (λ z. Stands s v z) e o)) in
+      subst (λ z. z < width s) q.2 (all_small us p q.0 q.1)
+  occurs_in us p v row e (bounding x w y o c) = high_small w v (has_of (vars_in (high s w)) v c)
+
   pub occurs_small : (n : Table) (r : Row) → IsRow n s r → (v : ℕ) → Occurs s v r.parts → v < width s
-  occurs_small n r row v o =
-      let q = map_has (root s) (flat_map vars_in r.parts) v (has_of (map (root s) (flat_map vars_in r.parts)) v o) in
-      subst (λ z. z < width s) q.2 (all_small r.parts (row_plain n r row) q.0 q.1)
+  occurs_small n r row v o = occurs_in r.parts (row_plain n r row) v r.parts refl o
 
 -- what is known of the variables of a row, held fixed
 pub has_or : (ns : List ℕ) (v : ℕ) → Has ns v ⊎ (Has ns v → ⊥)
@@ -396,23 +492,26 @@ module _ (n : Table) (s : Written) (r : Row) where
   top_other v f = f (r.chosen v) (high s v)
 
   module _ (scope : IsScoped s) (row : IsRow n s r) where
-    pub chosen_closed : (v : ℕ) → kind s v ≡ diagonal → vars_in (r.chosen v) ≡ []
-    chosen_closed v e = elim (has_or (map (root s) (flat_map vars_in r.parts)) v) [
+    -- what bounds a variable in a row has no other variables than its upper bound
+    chosen_within : (v : ℕ) → kind s v ≡ diagonal → (w : ℕ) → Has (vars_in (r.chosen v)) w → Has (vars_in (high s v)) w
+    chosen_within v e w i = elim (has_or (map (root s) (flat_map vars_in r.parts)) v) [
       | inl h ↦
           let c = row.chosen v e (of_has (map (root s) (flat_map vars_in r.parts)) v h) in
-          alts_closed (high s v) (r.chosen v) (high_none s scope v) (has_of (alts (high s v)) (r.chosen v) c.0)
-      | inr f ↦ ap vars_in (row.other v (λ o. f (has_of (map (root s) (flat_map vars_in r.parts)) v o))) ∙ vars-any
+          alts_within (high s v) (r.chosen v) (has_of (alts (high s v)) (r.chosen v) c.0) w i
+      | inr f ↦ absurd (has_none (vars_in (r.chosen v)) w (ap vars_in (row.other v (λ o. f (has_of (map (root s) (flat_map vars_in r.parts)) v o))) ∙ vars-any) i)
     ]
 
-    pub top_closed : (v : ℕ) → vars_in (top s r v) ≡ []
-    top_closed v = elim (which (kind s v)) [
-      | inl e ↦ ap vars_in (top_diagonal v e) ∙ chosen_closed v e
-      | inr f ↦ ap vars_in (top_other v f) ∙ high_none s scope v
+    pub top_within : (v w : ℕ) → Has (vars_in (top s r v)) w → Has (vars_in (high s v)) w
+    top_within v w i = elim (which (kind s v)) [
+      | inl e ↦ chosen_within v e w (subst (λ z. Has (vars_in z) w) (top_diagonal v e) i)
+      | inr f ↦ subst (λ z. Has (vars_in z) w) (top_other v f) i
     ]
 
-    -- the bound of what stands in a row is an alternative without variables
+    pub top_small : (v w : ℕ) → Has (vars_in (top s r v)) w → w < width s
+    top_small v w i = high_small s scope v w (top_within v w i)
+
     module _ (Q : List Ty → Type 0) (plain : (v : ℕ) (x : Ty) → Has (alts (high s v)) x → Plain Never Q x) where
-      chosen_plain : (v : ℕ) → kind s v ≡ diagonal → Plain Never Q (r.chosen v)
+      pub chosen_plain : (v : ℕ) → kind s v ≡ diagonal → Plain Never Q (r.chosen v)
       chosen_plain v e = elim (has_or (map (root s) (flat_map vars_in r.parts)) v) [
         | inl h ↦
             let c = row.chosen v e (of_has (map (root s) (flat_map vars_in r.parts)) v h) in
@@ -424,5 +523,14 @@ module _ (n : Table) (s : Written) (r : Row) where
       slot_high_by k (slot_diagonal v l e) = subst (λ z. Plain Never Q z) (sym (high_at v l ∙ top_diagonal v e)) (chosen_plain v e)
       slot_high_by k (slot_atom v i l e h) = subst (λ z. Plain Never Q z) (sym (high_atom v i l)) (plain v (get_or (alts (high s v)) i W.Any) h)
 
-    pub slot_high : (k : ℕ) → IsSlot s k → Plain Never Bare ((fixed s r).high k)
-    slot_high k d = slot_high_by Bare (bound_plain s scope) k d
+    -- the bound of what stands in a row is an alternative, without variables at covariant places
+    pub slot_high : (k : ℕ) → IsSlot s k → Plain Never (Small s scope) ((fixed s r).high k)
+    slot_high k d = slot_high_by (Small s scope) (bound_plain s scope) k d
+
+    -- and its variables are variables of the row
+    pub slot_occurs : (k : ℕ) → IsSlot s k → Occurs s (root s k) r.parts → (w : ℕ) → Has (vars_in ((fixed s r).high k)) w → Occurs s w r.parts
+    slot_occurs k (slot_diagonal v l e) o w i =
+        bounding w v r.parts (subst (λ z. Occurs s z r.parts) (root_own s v l) o) (of_has (vars_in (high s v)) w (top_within v w (subst (λ z. Has (vars_in z) w) (high_at v l) i)))
+    slot_occurs k (slot_atom v j l e h) o w i =
+        bounding w v r.parts (subst (λ z. Occurs s z r.parts) (root_atom s v j l) o)
+        (of_has (vars_in (high s v)) w (alts_within (high s v) (get_or (alts (high s v)) j W.Any) h w (subst (λ z. Has (vars_in z) w) (high_atom v j l) i)))

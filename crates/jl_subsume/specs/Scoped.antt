@@ -7,14 +7,15 @@ use Rattle.jl_model.specs.Kinds.{diagonal, bound}
 use Rattle.jl_model.specs.Rows.{alts, width, low, high, kind, vars_in}
 use Rattle.jl_model.specs.Subtype.{Table, opaque, Below, is_concrete}
 use Rattle.jl_model.specs.Normal.{IsNormal}
-use Rattle.jl_model.specs.Valid.{is_closed}
 use Rattle.jl_model.specs.Refusals.{bound_types, Given, given_in}
-use Rattle.jl_model.specs.SigRefusals.{is_component}
+use Rattle.jl_model.specs.SigRefusals.{are_bounds, is_component}
 
--- each variable in its components is one of its own, and no variable stands in its bounds
+-- each variable in its components and bounds is one of its own, and its bounds have no variables, or are nominal types over variables
+-- before their own
 pub record IsScoped (s : Written) : Type 0 where
   pub own : IsTrue (list_all (λ v. nat_lt v (width s)) (flat_map vars_in s.parts))
-  pub closed : IsTrue (list_all is_closed (bound_types s.vars))
+  pub own_bounds : IsTrue (list_all (λ v. nat_lt v (width s)) (flat_map vars_in (bound_types s.vars)))
+  pub bounds : IsTrue (are_bounds (width s) 0 s.vars)
 
 -- its variables stand at allowed places
 abbrev pub IsPlaced : Written → Type 0

@@ -19,7 +19,7 @@ use Rattle.jl_written.specs.declared.fault.StaticKind.{StaticKind}
 use Rattle.jl_written.specs.declared.fault.StaticKind.TheVariants as kind
 use Rattle.jl_written.specs.declared.reading.Reading.{Reading}
 use Rattle.jl_written.specs.declared.reading.TypeVar.{TypeVar}
-use Rattle.jl_written.specs.Reads.{no_reading, type_reads}
+use Rattle.jl_written.specs.Reads.{seen, no_reading, type_reads}
 use Rattle.jl_written.specs.Signatures.{adopt_bounds, shifted, width_of, body_type}
 use Rattle.jl_written.specs.TextOrder.{text_places, number_in}
 use Rattle.jl_resolve_forms.specs.declared.known.Known.{Known}
@@ -35,7 +35,7 @@ use Rattle.jl_type_laws.proofs.CarryLemmas.{lt_true, all_pass, bounds_pass, all_
 use Rattle.jl_type_laws.proofs.AdoptLemmas.{adopt_bounds_length, adopt_bounds_has}
 use Rattle.jl_type_laws.specs.Grown.{SwapsFit}
 use Rattle.jl_type_laws.proofs.OrderLemmas.{number_below, number_kept, known_kept, vars_kept, one_ordered_passes, one_ordered_told}
-use Rattle.jl_type_laws.proofs.ReadLemmas.{type_law}
+use Rattle.jl_type_laws.proofs.ReadLemmas.{alone_law}
 use Rattle.jl_type_laws.proofs.WideLemmas.{width_is}
 
 -- ---- faults
@@ -138,21 +138,21 @@ module _ (t : Tests) (k : Known) (declared : DeclsKnown k.decls) (flags : List B
       let n = note_if_none (start_of text) (refusal t.body r w) (merge_fault r.fault s) e in
       let m = merge_fault_none r.fault s n.1 in
       let vars = shifted (width_of Decls c.statics text) c.statics in
-      let raw = type_reads Decls text vars false no_reading in
+      let raw = type_reads Decls text (seen vars [] false) false no_reading in
       let as_it_was = one_ordered_told raw raw.after.swaps in
       let ck = known_at k.decls declared c.types in
       let q = may_stand (length raw.after.vars) flags in
       let cv = vars_at k.decls declared c.types q in
       let cw = vars_at k.decls declared c.types (may_stand (length r.vars) flags) in
       let wide = sym (width_is Decls c.statics text (width_of Decls c.statics text)) in
-      let lk = type_law Decls _ _ _ _ ck text vars false no_reading in
-      let lv = type_law Decls _ _ _ _ cv text vars false no_reading in
+      let lk = alone_law Decls _ _ _ _ ck text vars no_reading in
+      let lv = alone_law Decls _ _ _ _ cv text vars no_reading in
       let f = sym as_it_was.fault_is ∙ m.0 in
       let read = lk.holds tt (λ v l. tt) (all_visible vars) (nothing_has _) in
       let known = one_ordered_passes (is_known (length k.decls)) raw (known_kept (length k.decls) (text_places raw.after)) raw.after.swaps read.0 read.1 in
       let owned = lv.holds f (own_stand flags raw.after) (shifted_fit (width_of Decls c.statics text) (length raw.after.vars) flags c.statics wide fit) (nothing_has _) in
-      let seen = one_ordered_passes (vars_pass q) raw (vars_kept q (text_places raw.after) (stays_seen flags raw.after (lv.grows.fits tt))) raw.after.swaps owned.0 owned.1 in
-      let own = subst (λ n. Passes (vars_pass (may_stand n flags)) ty.ty × ReadingHas (Passes (vars_pass (may_stand n flags))) r) (sym as_it_was.length_is) seen in
+      let stand = one_ordered_passes (vars_pass q) raw (vars_kept q (text_places raw.after) (stays_seen flags raw.after (lv.grows.fits tt))) raw.after.swaps owned.0 owned.1 in
+      let own = subst (λ n. Passes (vars_pass (may_stand n flags)) ty.ty × ReadingHas (Passes (vars_pass (may_stand n flags))) r) (sym as_it_was.length_is) stand in
       record {
         unfaulted = m.1;
         seen = seen_of k.decls flags t.below ty.ty r known (ck.union [] tt) ck.any own (cw.union [] tt) cw.any;

@@ -14,7 +14,7 @@ use Rattle.jl_program.specs.Names.{is_among, builtin_names}
 use Rattle.jl_written.specs.declared.reading.Reading.{Reading}
 use Rattle.jl_written.specs.declared.reading.TypeVar.{TypeVar}
 use Rattle.jl_written.specs.Meaning.{var_of}
-use Rattle.jl_written.specs.Reads.{Typed, Types, Scoped, VarReads, no_reading, bind_name, note_builtin, bind, bind_all, var_reads}
+use Rattle.jl_written.specs.Reads.{Typed, Types, Scoped, VarReads, Seen, seen, visible, with_own, in_bound, no_reading, bind_name, note_builtin, bind, bind_all, var_reads}
 use Rattle.jl_written.specs.Signatures.{all_bound, all_read, option_reads}
 use Rattle.jl_type_laws.specs.Carried.{Passes, vars_pass, ReadingHas, Visible}
 use Rattle.jl_type_laws.specs.Grown.{Grows}
@@ -30,20 +30,20 @@ use Rattle.jl_type_laws.proofs.BodyLemmas.{all_visible, nothing_has}
 -- ---- each variable of a list is one more
 
 abbrev VarGrows : VarReads → Type 0
-VarGrows v = (vars : List TypeVar) (inside : Bool) (r : Reading) → length r.vars ≤ length (v.bounds vars inside r).after.vars
+VarGrows v = (s : Seen) (r : Reading) → length r.vars ≤ length (v.bounds s r).after.vars
 
 bound_more : (at : ℕ) (name : List ℕ) (b : Bound) (vars : List TypeVar) (r : Reading) (o : Option TypeVar) → length r.vars + 1 ≤ length (bind_name at name b vars r o).after.vars
 bound_more at name b vars r o = let h = one_longer r.vars b in omega (arith, h)
 
-pub bound_count : (vs : List VarReads) → EachText VarGrows vs → (vars : List TypeVar) (inside : Bool) (r : Reading) → length r.vars + length vs ≤ length (bind_all vs vars inside r).after.vars
-bound_count [] l vars inside r = omega arith
-bound_count (v ∷ vs) l vars inside r =
-    let b = v.bounds vars inside r in
-    let s = bind v vars inside r in
+pub bound_count : (vs : List VarReads) → EachText VarGrows vs → (s : Seen) (own : List TypeVar) (r : Reading) → length r.vars + length vs ≤ length (bind_all vs s own r).after.vars
+bound_count [] l s own r = omega arith
+bound_count (v ∷ vs) l s own r =
+    let b = v.bounds (with_own own (in_bound s)) r in
+    let d = bind v s own r in
     let g = ap (λ z. length z) (guarded_same v.at (is_among v.name builtin_names) b.after) in
-    let one = bound_more v.at v.name b.bound vars (note_builtin v.at v.name b.after) (var_of vars v.name) in
-    let rest = bound_count vs l.1 s.vars inside s.after in
-    let first = l.0 vars inside r in
+    let one = bound_more v.at v.name b.bound own (note_builtin v.at v.name b.after) (var_of (visible (with_own own s)) v.name) in
+    let rest = bound_count vs l.1 s d.vars d.after in
+    let first = l.0 (with_own own (in_bound s)) r in
     omega (arith, g, one, rest, first)
 
 map_length : {A B : Type 0} (f : A → B) (xs : List A) → length (map f xs) ≡ length xs
@@ -53,7 +53,7 @@ map_length f (x ∷ xs) = ap suc (map_length f xs)
 module _ (ds : List Decl) (k : DeclsKnown ds) (params : List VarText) (parent : Option TypeText) (make : List Bound → Ty → Decl)
     (is : (bs : List Bound) (p : Ty) → (make bs p).params ≡ bs) (fields : List (Option TypeText)) where
   abbrev Bounds : Scoped
-  Bounds = all_bound ds params [] no_reading
+  Bounds = all_bound ds params no_reading
 
   abbrev Parent : Typed
   Parent = option_reads ds parent Bounds.vars Bounds.after
@@ -68,7 +68,7 @@ module _ (ds : List Decl) (k : DeclsKnown ds) (params : List VarText) (parent : 
   at_least =
       let c = nothing_carried ds in
       let h = bound_count (map (var_reads ds) params)
-      (each_map VarGrows (var_reads ds) params (each_all (λ v. VarGrows (var_reads ds v)) (λ v vars inside r. (var_law ds _ _ _ _ c v vars inside r).grows.longer) params)) [] false no_reading in
+      (each_map VarGrows (var_reads ds) params (each_all (λ v. VarGrows (var_reads ds v)) (λ v s r. (var_law ds _ _ _ _ c v s r).grows.longer) params)) (seen [] [] true) [] no_reading in
       let e = map_length (var_reads ds) params in
       omega (arith, h, e)
 
@@ -83,7 +83,7 @@ module _ (ds : List Decl) (k : DeclsKnown ds) (params : List VarText) (parent : 
 
   -- what is known up to the parent
   bounds_read : Visible (λ v u. Number v ≡ true) Bounds.vars × ReadingHas (Passes (vars_pass Number)) Bounds.after
-  bounds_read = (bound_law ds _ _ _ _ (all_carried ds Number (closed_params Number ds k.closed)) params [] no_reading).holds tt (λ v i. lt_true v (length Bounds.after.vars) i) tt (nothing_has _)
+  bounds_read = (bound_law ds _ _ _ _ (all_carried ds Number (closed_params Number ds k.closed)) params no_reading).holds tt (λ v i. lt_true v (length Bounds.after.vars) i) tt (nothing_has _)
 
   parent_has : length Fields.after.vars ≡ length params → (vars_pass Number Parent.ty ≡ true) × ReadingHas (Passes (vars_pass Number)) Parent.after
   parent_has whole =
@@ -118,13 +118,13 @@ module _ (ds : List Decl) (k : DeclsKnown ds) (params : List VarText) (parent : 
   pub bounds_known : list_all (is_known (length ds)) (bound_types Bounds.after.vars) ≡ true
   bounds_known =
       let c = known_carried ds (length ds) (omega arith) k.builtins k.known in
-      let b = (bound_law ds _ _ _ _ c params [] no_reading).holds tt (λ v i. tt) tt (nothing_has _) in
+      let b = (bound_law ds _ _ _ _ c params no_reading).holds tt (λ v i. tt) tt (nothing_has _) in
       bounds_pass (is_known (length ds)) Bounds.after.vars b.1.bounds
 
   parent_read : (is_known (length ds) Parent.ty ≡ true) × ReadingHas (Passes (is_known (length ds))) Parent.after
   parent_read =
       let c = known_carried ds (length ds) (omega arith) k.builtins k.known in
-      let b = (bound_law ds _ _ _ _ c params [] no_reading).holds tt (λ v i. tt) tt (nothing_has _) in
+      let b = (bound_law ds _ _ _ _ c params no_reading).holds tt (λ v i. tt) tt (nothing_has _) in
       (option_law ds _ _ _ _ c parent Bounds.vars Bounds.after).holds tt (λ v i. tt) b.0 b.1
 
   pub parent_known : is_known (length ds) Parent.ty ≡ true
@@ -144,7 +144,7 @@ module _ (ds : List Decl) (k : DeclsKnown ds) (params : List VarText) (parent : 
 
   grows : Grows no_reading Fields.after
   grows =
-      let lb = (bound_law ds _ _ _ _ (nothing_carried ds) params [] no_reading).grows in
+      let lb = (bound_law ds _ _ _ _ (nothing_carried ds) params no_reading).grows in
       let lp = (option_law ds _ _ _ _ (nothing_carried ds) parent Bounds.vars Bounds.after).grows in
       let lf = (all_law (ds ++ Own ∷ []) _ _ _ _ (nothing_carried (ds ++ Own ∷ [])) fields Bounds.vars Parent.after).grows in
       grows_trans no_reading Parent.after Fields.after (grows_trans no_reading Bounds.after Parent.after lb lp) lf

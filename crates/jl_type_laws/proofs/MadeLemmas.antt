@@ -16,7 +16,7 @@ use Rattle.jl_typeread.specs.declared.tree.ArgText.{ArgText}
 use Rattle.jl_written.specs.declared.fault.StaticKind.{StaticKind}
 use Rattle.jl_written.specs.declared.fault.StaticKind.TheVariants as kind
 use Rattle.jl_written.specs.declared.reading.Reading.{Reading}
-use Rattle.jl_written.specs.Reads.{no_reading, arg_reads, read_arguments}
+use Rattle.jl_written.specs.Reads.{seen, no_reading, arg_reads, read_arguments}
 use Rattle.jl_written.specs.Signatures.{shifted, constructor_type}
 use Rattle.jl_resolve_forms.specs.declared.known.Known.{Known}
 use Rattle.jl_resolve_forms.specs.declared.state.Scope.{Scope}
@@ -72,7 +72,7 @@ module _ (t : Tests) (k : Known) (declared : DeclsKnown k.decls) (flags : List B
       let n = note_if_none at (make_refusal t.body counted r w) (merge_fault r.fault s) e in
       let m = merge_fault_none r.fault s n.1 in
       let vars = shifted 0 c.statics in
-      let ts = (read_arguments bs (map (arg_reads Decls) xs) vars false no_reading).tys in
+      let ts = (read_arguments bs (map (arg_reads Decls) xs) (seen vars [] false) false no_reading).tys in
       let q = may_stand 0 flags in
       let ck = known_at k.decls declared c.types in
       let cv = vars_at k.decls declared c.types q in

@@ -17,9 +17,9 @@ use Rattle.jl_written.specs.declared.reading.Reading.{Reading}
 use Rattle.jl_written.specs.declared.reading.Swap.{Swap}
 use Rattle.jl_written.specs.declared.reading.TypeVar.{TypeVar}
 use Rattle.jl_written.specs.Meaning.{place_from, place_of, later, var_of, nominal_of, word_of, var_or, meaning_of}
-use Rattle.jl_written.specs.Reads.{TypeReads, ArgReads, VarReads, note, note_unknown, note_use, fresh_variable, missing_arguments, note_place, note_place_of, read_arguments, read_members, rebound, bind_name, note_builtin, bind, bind_all, bind_where, swap, within, read_plain, read_applied}
+use Rattle.jl_written.specs.Reads.{TypeReads, ArgReads, VarReads, Seen, visible, with_own, in_bound, without_places, places_behind, note, note_unknown, note_use, fresh_variable, missing_arguments, note_place, note_place_of, read_arguments, read_members, rebound, bind_name, note_builtin, bind, bind_all, bind_where, swap, within, read_plain, read_applied}
 use Rattle.jl_type_laws.specs.Grown.{Grows}
-use Rattle.jl_type_laws.specs.Carried.{AllHave, BoundHas, BoundsHave, PlacesHave, ReadingHas, Visible, NumbersHave, IsCarried}
+use Rattle.jl_type_laws.specs.Carried.{AllHave, BoundHas, BoundsHave, PlacesHave, ReadingHas, Visible, SeenHave, NumbersHave, IsCarried}
 use Rattle.jl_type_laws.proofs.GrowLemmas.{one_longer, grows_refl, grows_trans, grows_note, grows_unknown, grows_unclear, grows_note_brought, grows_bound, grows_fresh_variable, grows_swap}
 use Rattle.jl_type_laws.proofs.TextInduction.{EachText}
 
@@ -35,9 +35,31 @@ pub bounds_drop : (P : Ty → Type 0) (bs : List Bound) → BoundsHave P bs → 
 bounds_drop P [] h = tt
 bounds_drop P (b ∷ bs) h = h.1
 
+pub places_join : (P : Ty → Type 0) (ps qs : List Place) → PlacesHave P ps → PlacesHave P qs → PlacesHave P (ps ++ qs)
+places_join P [] qs h g = g
+places_join P (p ∷ ps) qs h g = (h.0, places_join P ps qs h.1 g)
+
+pub visible_join : (S : ℕ → Bool → Type 0) (vs us : List TypeVar) → Visible S vs → Visible S us → Visible S (vs ++ us)
+visible_join S [] us h g = g
+visible_join S (v ∷ vs) us h g = (h.0, visible_join S vs us h.1 g)
+
 pub visible_append : (S : ℕ → Bool → Type 0) (vs : List TypeVar) (v : TypeVar) → Visible S vs → S v.number v.usable → Visible S (vs ++ v ∷ [])
-visible_append S [] v h g = (g, tt)
-visible_append S (a ∷ vs) v h g = (h.0, visible_append S vs v h.1 g)
+visible_append S vs v h g = visible_join S vs (v ∷ []) h (g, tt)
+
+-- ---- what is visible
+
+pub seen_have : (S : ℕ → Bool → Type 0) (s : Seen) → SeenHave S s → Visible S (visible s)
+seen_have S s h = visible_join S s.first s.own h.0 h.1
+
+pub more_have : (S : ℕ → Bool → Type 0) (vs : List TypeVar) (s : Seen) → SeenHave S s → Visible S vs → SeenHave S (with_own vs s)
+more_have S vs s h g = (h.0, visible_join S s.own vs h.1 g)
+
+pub bound_have : (S : ℕ → Bool → Type 0) (s : Seen) → SeenHave S s → SeenHave S (in_bound s)
+bound_have S s h = (h.0, by s.bound)
+  where
+    by : (b : Bool) → Visible S (cond b s.own [])
+    by true = h.1
+    by false = tt
 
 module _ (ds : List Decl) (P : Ty → Type 0) (N : ℕ → Type 0) (S : ℕ → Bool → Type 0) (Ok : Reading → Type 0) (c : IsCarried ds P N S Ok) where
   -- a step from r to s, which gives H where G is given
@@ -124,26 +146,26 @@ module _ (ds : List Decl) (P : Ty → Type 0) (N : ℕ → Type 0) (S : ℕ → 
   -- ---- what is said of a text
 
   abbrev pub TypeLaw : TypeReads → Type 0
-  TypeLaw t = (vars : List TypeVar) (inside : Bool) (r : Reading) → Steps r (t vars inside r).after (Visible S vars) (P (t vars inside r).ty)
+  TypeLaw t = (s : Seen) (inside : Bool) (r : Reading) → Steps r (t s inside r).after (SeenHave S s) (P (t s inside r).ty)
 
   abbrev pub ArgLaw : ArgReads → Type 0
-  ArgLaw x = (vars : List TypeVar) (outer inner : Bool) (r : Reading) → Steps r (x vars outer inner r).after (Visible S vars) (P (x vars outer inner r).ty)
+  ArgLaw x = (s : Seen) (outer inner : Bool) (r : Reading) → Steps r (x s outer inner r).after (SeenHave S s) (P (x s outer inner r).ty)
 
   abbrev pub VarLaw : VarReads → Type 0
-  VarLaw v = (vars : List TypeVar) (inside : Bool) (r : Reading) → Steps r (v.bounds vars inside r).after (Visible S vars) (BoundHas P (v.bounds vars inside r).bound)
+  VarLaw v = (s : Seen) (r : Reading) → Steps r (v.bounds s r).after (SeenHave S s) (BoundHas P (v.bounds s r).bound)
 
-  pub read_arguments_steps : (bs : List Bound) → BoundsHave P bs → (xs : List ArgReads) → EachText ArgLaw xs → (vars : List TypeVar) (inside : Bool) (r : Reading)
-      → Steps r (read_arguments bs xs vars inside r).after (Visible S vars) (AllHave P (read_arguments bs xs vars inside r).tys)
-  read_arguments_steps bs h [] l vars inside r = missing_arguments_steps bs h inside r
-  read_arguments_steps bs h (x ∷ xs) l vars inside r =
-      let t = x vars inside true r in
-      let s = note_place bs t.ty t.after in
-      pair (l.0 vars inside true r) (then_ (note_place_steps bs h t.ty t.after) (read_arguments_steps (drop 1 bs) (bounds_drop P bs h) xs l.1 vars inside s))
+  pub read_arguments_steps : (bs : List Bound) → BoundsHave P bs → (xs : List ArgReads) → EachText ArgLaw xs → (s : Seen) (inside : Bool) (r : Reading)
+      → Steps r (read_arguments bs xs s inside r).after (SeenHave S s) (AllHave P (read_arguments bs xs s inside r).tys)
+  read_arguments_steps bs h [] l s inside r = missing_arguments_steps bs h inside r
+  read_arguments_steps bs h (x ∷ xs) l s inside r =
+      let t = x s inside true r in
+      let z = note_place bs t.ty t.after in
+      pair (l.0 s inside true r) (then_ (note_place_steps bs h t.ty t.after) (read_arguments_steps (drop 1 bs) (bounds_drop P bs h) xs l.1 s inside z))
 
-  pub read_members_steps : (xs : List ArgReads) → EachText ArgLaw xs → (vars : List TypeVar) (inside : Bool) (r : Reading)
-      → Steps r (read_members xs vars inside r).after (Visible S vars) (AllHave P (read_members xs vars inside r).tys)
-  read_members_steps [] l vars inside r = still r (λ g. tt)
-  read_members_steps (x ∷ xs) l vars inside r = pair (l.0 vars inside inside r) (read_members_steps xs l.1 vars inside (x vars inside inside r).after)
+  pub read_members_steps : (xs : List ArgReads) → EachText ArgLaw xs → (s : Seen) (inside : Bool) (r : Reading)
+      → Steps r (read_members xs s inside r).after (SeenHave S s) (AllHave P (read_members xs s inside r).tys)
+  read_members_steps [] l s inside r = still r (λ g. tt)
+  read_members_steps (x ∷ xs) l s inside r = pair (l.0 s inside inside r) (read_members_steps xs l.1 s inside (x s inside inside r).after)
 
   -- ---- variables
 
@@ -159,26 +181,30 @@ module _ (ds : List Decl) (P : Ty → Type 0) (N : ℕ → Type 0) (S : ℕ → 
   bound_has at None bs r h g = record { bounds = h; places = g }
   bound_has at (Some v) bs r h g = record { bounds = h; places = g }
 
-  bind_name_steps : (at : ℕ) (name : List ℕ) (b : Bound) (vars : List TypeVar) (r : Reading) (o : Option TypeVar)
-      → Steps r (bind_name at name b vars r o).after (BoundHas P b × Visible S vars) (Visible S (bind_name at name b vars r o).vars)
-  bind_name_steps at name b vars r o = record {
-    grows = grows_trans r (rebound at o r) (bind_name at name b vars r o).after (rebound_grows at o r) (bound_grows at o b r);
-    holds = λ e n g h. (visible_append S vars (record { name = name; number = length r.vars; usable = true }) g.1 (c.bound (length r.vars) (n (length r.vars) (one_longer r.vars b))), bound_has at o (r.vars ++ b ∷ []) r (bounds_append P r.vars b h.bounds g.0) h.places);
+  bind_name_steps : {F : Type 0} (at : ℕ) (name : List ℕ) (b : Bound) (own : List TypeVar) (r : Reading) (o : Option TypeVar)
+      → Steps r (bind_name at name b own r o).after (BoundHas P b × (F × Visible S own)) (Visible S (bind_name at name b own r o).vars)
+  bind_name_steps at name b own r o = record {
+    grows = grows_trans r (rebound at o r) (bind_name at name b own r o).after (rebound_grows at o r) (bound_grows at o b r);
+    holds = λ e n g h. (visible_append S own (record { name = name; number = length r.vars; usable = true }) g.1.1 (c.bound (length r.vars) (n (length r.vars) (one_longer r.vars b))), bound_has at o (r.vars ++ b ∷ []) r (bounds_append P r.vars b h.bounds g.0) h.places);
   }
 
   guarded_case : {G : Type 0} (at : ℕ) (b : Bool) (r : Reading) → Steps r (cond b (note at kind.NameClash r) r) G G
   guarded_case at true r = record { grows = grows_note at kind.NameClash r; holds = λ e n g h. (g, record { bounds = h.bounds; places = h.places }) }
   guarded_case at false r = still r (λ g. g)
 
-  pub bind_steps : (v : VarReads) → VarLaw v → (vars : List TypeVar) (inside : Bool) (r : Reading) → Steps r (bind v vars inside r).after (Visible S vars) (Visible S (bind v vars inside r).vars)
-  bind_steps v l vars inside r =
-      let b = v.bounds vars inside r in
-      then_ (keep (l vars inside r)) (then_ (guarded_case v.at (is_among v.name builtin_names) b.after) (bind_name_steps v.at v.name b.bound vars (note_builtin v.at v.name b.after) (var_of vars v.name)))
+  pub bind_steps : (v : VarReads) → VarLaw v → (s : Seen) (own : List TypeVar) (r : Reading) → Steps r (bind v s own r).after (SeenHave S s × Visible S own) (Visible S (bind v s own r).vars)
+  bind_steps v l s own r =
+      let seen = with_own own (in_bound s) in
+      let b = v.bounds seen r in
+      then_ (keep (before (λ g. more_have S own (in_bound s) (bound_have S s g.0) g.1) (l seen r)))
+      (then_ (guarded_case v.at (is_among v.name builtin_names) b.after) (bind_name_steps v.at v.name b.bound own (note_builtin v.at v.name b.after) (var_of (visible (with_own own s)) v.name)))
 
-  pub bind_all_steps : (vs : List VarReads) → EachText VarLaw vs → (vars : List TypeVar) (inside : Bool) (r : Reading)
-      → Steps r (bind_all vs vars inside r).after (Visible S vars) (Visible S (bind_all vs vars inside r).vars)
-  bind_all_steps [] l vars inside r = still r (λ g. g)
-  bind_all_steps (v ∷ vs) l vars inside r = let s = bind v vars inside r in then_ (bind_steps v l.0 vars inside r) (bind_all_steps vs l.1 s.vars inside s.after)
+  pub bind_all_steps : (vs : List VarReads) → EachText VarLaw vs → (s : Seen) (own : List TypeVar) (r : Reading)
+      → Steps r (bind_all vs s own r).after (SeenHave S s × Visible S own) (Visible S (bind_all vs s own r).vars)
+  bind_all_steps [] l s own r = still r (λ g. g.1)
+  bind_all_steps (v ∷ vs) l s own r =
+      let d = bind v s own r in
+      then_ (keep (bind_steps v l.0 s own r)) (before (λ g. (g.1.0, g.0)) (bind_all_steps vs l.1 s d.vars d.after))
 
   where_steps : {F : Type 0} (vs : List VarReads) (inside : Bool) (r : Reading) → Steps r (bind_where vs inside r) F F
   where_steps [] inside r = still r (λ g. g)
@@ -194,12 +220,35 @@ module _ (ds : List Decl) (P : Ty → Type 0) (N : ℕ → Type 0) (S : ℕ → 
     holds = λ e n g h. (g, swapped_has (nat_lt start middle && nat_lt middle (length r.vars)) (record { start = start; middle = middle; stop = length r.vars }) r h);
   }
 
+  -- ---- places of declared bounds are put aside and come back
+
+  placed_grows : (ps : List Place) (r : Reading) → Grows r (record r { places = ps })
+  placed_grows ps r = let g = grows_refl r in record { longer = g.longer; fits = g.fits; faultless = g.faultless; named = g.named; told = g.told; unclear = g.unclear; misplaced = g.misplaced }
+
+  pub note_places : {F : Type 0} (r : Reading) → Steps r r F (PlacesHave P r.places × F)
+  note_places r = record { grows = grows_refl r; holds = λ e n g h. ((h.places, g), h) }
+
+  pub without_steps : {F : Type 0} (r : Reading) → Steps r (without_places r) F F
+  without_steps r = record { grows = placed_grows [] r; holds = λ e n g h. (g, record { bounds = h.bounds; places = tt }) }
+
+  put_back_steps : {F G : Type 0} (ps : List Place) (r : Reading) → Steps r (record r { places = ps }) (F × (PlacesHave P ps × G)) (PlacesHave P r.places × (F × G))
+  put_back_steps ps r = record { grows = placed_grows ps r; holds = λ e n g h. ((h.places, (g.0, g.1.1)), record { bounds = h.bounds; places = g.1.0 }) }
+
+  pub behind_steps : {F G : Type 0} (ps : List Place) (r : Reading) → Steps r (places_behind ps r) (F × (PlacesHave P ps × G)) F
+  behind_steps ps r = record { grows = placed_grows (r.places ++ ps) r; holds = λ e n g h. (g.0, record { bounds = h.bounds; places = places_join P r.places ps h.places g.1.0 }) }
+
   pub within_law : (t : TypeReads) → TypeLaw t → (vs : List VarReads) → EachText VarLaw vs → TypeLaw (within t vs)
-  within_law t k vs l vars inside r =
-      let s = bind_all vs vars inside (bind_where vs inside r) in
-      let u = t s.vars inside s.after in
-      then_ (where_steps vs inside r)
-      (then_ (bind_all_steps vs l vars inside (bind_where vs inside r)) (then_ (k s.vars inside s.after) (swap_steps (length r.vars) (length s.after.vars) u.after)))
+  within_law t k vs l s inside r =
+      let w = bind_where vs inside r in
+      let d = bind_all vs s [] (without_places w) in
+      let u = t (with_own d.vars s) inside (record d.after { places = r.places }) in
+      then_ (note_places r)
+      (then_ (where_steps vs inside r)
+      (then_ (without_steps w)
+      (then_ (keep (before (λ g. (g.1, tt)) (bind_all_steps vs l s [] (without_places w))))
+      (then_ (put_back_steps r.places d.after)
+      (then_ (keep (before (λ g. more_have S d.vars s g.1.1 g.1.0) (k (with_own d.vars s) inside (record d.after { places = r.places }))))
+      (then_ (behind_steps d.after.places u.after) (swap_steps (length r.vars) (length d.after.vars) (places_behind d.after.places u.after))))))))
 
   -- ---- names
 
@@ -264,20 +313,21 @@ module _ (ds : List Decl) (P : Ty → Type 0) (N : ℕ → Type 0) (S : ℕ → 
       behind_ (nominal_have k f (missing_arguments bs inside r).tys) (missing_arguments_steps bs (c.params k) inside r)
   read_plain_steps at M.Unknown vars f inside r = note_unknown_steps at r
 
-  read_applied_steps : (at : ℕ) (n : Named) (xs : List ArgReads) → EachText ArgLaw xs → (vars : List TypeVar) → Fits vars n → (inside : Bool) (r : Reading)
-      → Steps r (read_applied ds at n xs vars inside r).after (Visible S vars) (P (read_applied ds at n xs vars inside r).ty)
-  read_applied_steps at (M.Variable v usable) xs l vars f inside r = note_unknown_steps at r
-  read_applied_steps at M.Any xs l vars f inside r = note_unknown_steps at r
-  read_applied_steps at M.Union xs l vars f inside r = behind_ (c.union (read_members xs vars inside r).tys) (read_members_steps xs l vars inside r)
-  read_applied_steps at M.Tuple xs l vars f inside r = behind_ (c.tuple (read_members xs vars inside r).tys) (read_members_steps xs l vars inside r)
-  read_applied_steps at (M.Nominal k) xs l vars f inside r =
+  read_applied_steps : (at : ℕ) (n : Named) (xs : List ArgReads) → EachText ArgLaw xs → (s : Seen) → Fits (visible s) n → (inside : Bool) (r : Reading)
+      → Steps r (read_applied ds at n xs s inside r).after (SeenHave S s) (P (read_applied ds at n xs s inside r).ty)
+  read_applied_steps at (M.Variable v usable) xs l s f inside r = note_unknown_steps at r
+  read_applied_steps at M.Any xs l s f inside r = note_unknown_steps at r
+  read_applied_steps at M.Union xs l s f inside r = behind_ (c.union (read_members xs s inside r).tys) (read_members_steps xs l s inside r)
+  read_applied_steps at M.Tuple xs l s f inside r = behind_ (c.tuple (read_members xs s inside r).tys) (read_members_steps xs l s inside r)
+  read_applied_steps at (M.Nominal k) xs l s f inside r =
       let bs = params_of (slice_get ds k) in
-      behind_ (nominal_have k f (read_arguments bs xs vars inside r).tys) (read_arguments_steps bs (c.params k) xs l vars inside r)
-  read_applied_steps at M.Unknown xs l vars f inside r = note_unknown_steps at r
+      behind_ (nominal_have k f (read_arguments bs xs s inside r).tys) (read_arguments_steps bs (c.params k) xs l s inside r)
+  read_applied_steps at M.Unknown xs l s f inside r = note_unknown_steps at r
 
-  pub name_law : (at : ℕ) (name : List ℕ) (vars : List TypeVar) (inside : Bool) (r : Reading) → Steps r (read_plain ds at (meaning_of ds vars name) inside r).after (Visible S vars) (P (read_plain ds at (meaning_of ds vars name) inside r).ty)
-  name_law at name vars inside r = read_plain_steps at (meaning_of ds vars name) vars (meaning_of_fits vars name) inside r
+  pub name_law : (at : ℕ) (name : List ℕ) (s : Seen) (inside : Bool) (r : Reading)
+      → Steps r (read_plain ds at (meaning_of ds (visible s) name) inside r).after (SeenHave S s) (P (read_plain ds at (meaning_of ds (visible s) name) inside r).ty)
+  name_law at name s inside r = before (seen_have S s) (read_plain_steps at (meaning_of ds (visible s) name) (visible s) (meaning_of_fits (visible s) name) inside r)
 
-  pub read_applied_law : (at : ℕ) (name : List ℕ) (xs : List ArgReads) → EachText ArgLaw xs → (vars : List TypeVar) (inside : Bool) (r : Reading)
-      → Steps r (read_applied ds at (meaning_of ds vars name) xs vars inside r).after (Visible S vars) (P (read_applied ds at (meaning_of ds vars name) xs vars inside r).ty)
-  read_applied_law at name xs l vars inside r = read_applied_steps at (meaning_of ds vars name) xs l vars (meaning_of_fits vars name) inside r
+  pub read_applied_law : (at : ℕ) (name : List ℕ) (xs : List ArgReads) → EachText ArgLaw xs → (s : Seen) (inside : Bool) (r : Reading)
+      → Steps r (read_applied ds at (meaning_of ds (visible s) name) xs s inside r).after (SeenHave S s) (P (read_applied ds at (meaning_of ds (visible s) name) xs s inside r).ty)
+  read_applied_law at name xs l s inside r = read_applied_steps at (meaning_of ds (visible s) name) xs l s (meaning_of_fits (visible s) name) inside r

@@ -12,7 +12,7 @@ use Rattle.jl_model.specs.Valid.{params_of}
 use Rattle.jl_written.specs.declared.reading.Place.{Place}
 use Rattle.jl_written.specs.declared.reading.Reading.{Reading}
 use Rattle.jl_written.specs.declared.reading.TypeVar.{TypeVar}
-use Rattle.jl_written.specs.Reads.{Typed, note_use}
+use Rattle.jl_written.specs.Reads.{Typed, Seen, note_use}
 use Rattle.jl_type_laws.specs.Grown.{Grows}
 
 -- a type passes a test
@@ -56,6 +56,10 @@ pub record ReadPasses (p : Ty → Bool) (t : Typed) : Type 0 where
 abbrev pub Visible : (ℕ → Bool → Type 0) → List TypeVar → Type 0
 Visible S [] = Unit {0}
 Visible S (v ∷ vs) = S v.number v.usable × Visible S vs
+
+-- each variable that a type sees has S
+abbrev pub SeenHave : (ℕ → Bool → Type 0) → Seen → Type 0
+SeenHave S s = Visible S s.first × Visible S s.own
 
 -- the number has N where the variable may stand here
 abbrev pub WhereUsable : (ℕ → Type 0) → ℕ → Bool → Type 0

@@ -24,7 +24,7 @@ pub record Parts : Type 0 where
 -- `make` is the declaration without its fields, from its bounds and its parent
 abbrev pub read_parts : List Decl → List VarText → Option TypeText → (List Bound → Ty → Decl) → List (Option TypeText) → Parts
 read_parts ds params parent make fields =
-    let s = all_bound ds params [] no_reading in
+    let s = all_bound ds params no_reading in
     let p = option_reads ds parent s.vars s.after in
     let ts = all_read (ds ++ make s.after.vars p.ty ∷ []) fields s.vars p.after in
     record { bounds = s.after.vars; parent = p.ty; fields = ts.tys; after = ts.after }

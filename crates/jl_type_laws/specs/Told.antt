@@ -2,6 +2,7 @@
 use Rattle.std.specs.Prelude.{◌≡◌, Bool, true, false, nat_lt, IsTrue, List, length, get_or, None}
 use Rattle.std.specs.List.{flat_map, list_all}
 use Rattle.jl_model.specs.declared.ty.Decl.{Decl}
+use Rattle.jl_model.specs.Refusals.{bound_types}
 use Rattle.jl_model.specs.Rows.{vars_in}
 use Rattle.jl_model.specs.SigRefusals.{types_in}
 use Rattle.jl_model.specs.Valid.{is_known}
@@ -36,6 +37,7 @@ pub record IsMadeType (t : Tests) (ds : List Decl) (flags : List Bool) (s : Stat
 -- The signature of a deletion: it has no variables but its own, names types of the program, and nothing refuses it.
 pub record IsGoodDeletion (t : Tests) (ds : List Decl) (g : Signed) : Type 0 where
   pub own : IsTrue (list_all (λ v. nat_lt v (length g.sig.vars)) (flat_map vars_in g.sig.parts))
+  pub own_bounds : IsTrue (list_all (λ v. nat_lt v (length g.sig.vars)) (flat_map vars_in (bound_types g.sig.vars)))
   pub known : IsTrue (list_all (is_known (length ds)) (types_in g.sig))
   pub allowed : t.signature g.sig ≡ None
 
@@ -43,6 +45,7 @@ pub record IsGoodDeletion (t : Tests) (ds : List Decl) (g : Signed) : Type 0 whe
 -- parameter, and what a body may use of its variables is flagged there.
 pub record IsGoodSignature (t : Tests) (ds : List Decl) (h : Head) (g : Signed) : Type 0 where
   pub own : IsTrue (list_all (λ v. nat_lt v (length g.sig.vars)) (flat_map vars_in g.sig.parts))
+  pub own_bounds : IsTrue (list_all (λ v. nat_lt v (length g.sig.vars)) (flat_map vars_in (bound_types g.sig.vars)))
   pub known : IsTrue (list_all (is_known (length ds)) (types_in g.sig))
   pub allowed : t.signature g.sig ≡ None
   pub counted : length h.params ≡ length g.sig.parts

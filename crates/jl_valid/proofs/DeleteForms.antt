@@ -1,8 +1,7 @@
 -- Deletions: where no fault stands behind one, its place is valid.
-use Rattle.std.proofs.Common.{◌≡◌, ◌∙◌, sym, refl, subst, ℕ, ◌<◌, ◌≤◌, arith, Bool, true, false, ap, List, [], ◌∷◌, length, lt-ltb, append-nil, Option, Some, None}
+use Rattle.std.proofs.Common.{◌≡◌, ◌∙◌, sym, refl, subst, ℕ, ◌<◌, ◌≤◌, arith, Bool, true, false, [], ◌∷◌, length, lt-ltb, append-nil, Option, Some, None}
 use Rattle.jl_model.specs.declared.ty.Written.{Written}
 use Rattle.jl_program.specs.declared.prelude.TheConstants.{PRELUDE_FUNCTIONS}
-use Rattle.jl_program.specs.declared.tree.Expr.{Expr as Code}
 use Rattle.jl_program.specs.declared.tree.Expr.TheOpen as V
 use Rattle.jl_program.specs.declared.tree.Expr.TheVariants as W
 use Rattle.jl_program.specs.declared.tree.Expr.TheViews as X
@@ -22,7 +21,7 @@ use Rattle.jl_resolve_forms.specs.Functions.{own_function}
 use Rattle.jl_resolve_forms.specs.Scopes.{note_if, merge_fault}
 use Rattle.jl_resolve_forms.specs.TypesIn.{Tests, start_of}
 use Rattle.jl_resolve_forms.specs.Expressions.{if_unknown, defined_function, is_signature, next_delete, delete_signed, deleted_signature, delete_of, delete, expr_step}
-use Rattle.jl_valid.specs.Adds.{no_got, got_in, Every, IsGoodDelete, Within, Adds}
+use Rattle.jl_valid.specs.Adds.{no_got, got_in, Adds}
 use Rattle.jl_valid.specs.Parts.{IsCode, IsGood, IsDeleting, IsKnown}
 use Rattle.jl_valid.proofs.FaultLemmas.{no_note, note_if_none, note_if_same, merge_fault_none, merge_fault_same, clean}
 use Rattle.jl_valid.proofs.AddsLemmas.{gathers_none, got_is, by_layer}

@@ -45,9 +45,9 @@ laws_hold t k items known told =
           record { seen = h.type.seen; made = h.made; allowed = told.body _ (seen_known k.decls v.statics _ h.type.seen) h.type.allowed };
       heads = λ h types e f.
           let g = method_signature_good t k ds types h e f in
-          record { valid = record { own = g.own; known = g.known; allowed = told.signature _ g.own g.known g.allowed }; statics = flagged _ _ g.statics };
+          record { valid = record { own = g.own; own_bounds = g.own_bounds; known = g.known; allowed = told.signature _ g.own g.own_bounds g.known g.allowed }; statics = flagged _ _ g.statics };
       deletions = λ text types e f.
           let g = deleted_signature_good t k ds types text e f in
-          record { own = g.own; known = g.known; allowed = told.signature _ g.own g.known g.allowed };
+          record { own = g.own; own_bounds = g.own_bounds; known = g.known; allowed = told.signature _ g.own g.own_bounds g.known g.allowed };
       small = λ p is wide. told.wide p (struct_below k.decls p is) wide;
     }

@@ -25,7 +25,7 @@ use Rattle.jl_grammar.specs.declared.tree.Param.TheVariants as A
 use Rattle.jl_written.specs.declared.fault.StaticKind.TheVariants as kind
 use Rattle.jl_written.specs.declared.reading.Reading.{Reading}
 use Rattle.jl_written.specs.declared.reading.TypeVar.{TypeVar}
-use Rattle.jl_written.specs.Reads.{no_reading}
+use Rattle.jl_written.specs.Reads.{Types, no_reading, without_places, places_behind}
 use Rattle.jl_written.specs.Signatures.{all_bound, all_read, option_reads}
 use Rattle.jl_resolve_forms.specs.declared.known.Known.{Known}
 use Rattle.jl_resolve_forms.specs.declared.state.Opening.{Opening}
@@ -243,9 +243,11 @@ module _ (t : Tests) (k : Known) where
   as_many_parts : (types : ℕ) (h : Head) → length (method_signature t k types h).sig.parts ≡ length h.params
   as_many_parts types h =
       let ds = declared_at k types in
-      let s = all_bound ds h.vars [] no_reading in
-      let ts = all_read ds (map type_of h.params) s.vars s.after in
-      ordered_count ts ts.after.swaps ∙ as_many_types ds (map type_of h.params) s.vars s.after ∙ length-map h.params type_of
+      let s = all_bound ds h.vars no_reading in
+      let begun = without_places s.after in
+      let read = all_read ds (map type_of h.params) s.vars begun in
+      let ts : Types = record { tys = read.tys; after = places_behind s.after.places read.after } in
+      ordered_count ts ts.after.swaps ∙ as_many_types ds (map type_of h.params) s.vars begun ∙ length-map h.params type_of
 
   -- ---- the head of a method
 

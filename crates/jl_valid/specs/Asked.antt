@@ -4,7 +4,7 @@ use Rattle.std.specs.List.{flat_map, list_all}
 use Rattle.jl_model.specs.declared.ty.Decl.{Decl}
 use Rattle.jl_model.specs.declared.ty.Written.{Written}
 use Rattle.jl_model.specs.Ancestors.{builtin_types}
-use Rattle.jl_model.specs.Refusals.{Declared}
+use Rattle.jl_model.specs.Refusals.{Declared, bound_types}
 use Rattle.jl_model.specs.Rows.{vars_in}
 use Rattle.jl_model.specs.SigRefusals.{types_in, IsAllowedSig}
 use Rattle.jl_model.specs.Valid.{is_known}
@@ -25,6 +25,7 @@ pub record IsKnownOf (items : List Item) (k : Known) : Type 0 where
 -- What the tests do not refuse is allowed: of a signature with variables and types of its own program, of a type in a body, and of
 -- the fields of a declared type.
 pub record AreTold (ds : List Decl) (t : Tests) : Type 0 where
-  pub signature : (s : Written) → IsTrue (list_all (λ v. nat_lt v (length s.vars)) (flat_map vars_in s.parts)) → IsTrue (list_all (is_known (length ds)) (types_in s)) → t.signature s ≡ None → IsAllowedSig ds s
+  pub signature : (s : Written) → IsTrue (list_all (λ v. nat_lt v (length s.vars)) (flat_map vars_in s.parts)) → IsTrue (list_all (λ v. nat_lt v (length s.vars)) (flat_map vars_in (bound_types s.vars)))
+      → IsTrue (list_all (is_known (length ds)) (types_in s)) → t.signature s ≡ None → IsAllowedSig ds s
   pub body : (s : Written) → IsTrue (list_all (is_known (length ds)) (types_in s)) → t.body s ≡ None → IsAllowedType ds s
   pub wide : (p : ℕ) → p < length ds → t.wide p ≡ false → IsSmallStruct ds p

@@ -1,5 +1,5 @@
 -- The last variable of a name: by its place, among static parameters and others, and with another number.
-use Rattle.std.proofs.Common.{◌≡◌, ◌∙◌, refl, sym, ap, ℕ, zero, suc, ◌+◌, arith, Bool, true, false, cond, ◌||◌, List, [], ◌∷◌, ◌++◌, map, Option, Some, None, is_some, slice_get, option_copied, Bor, Result, Ok, Err, OnErr}
+use Rattle.std.proofs.Common.{◌≡◌, ◌∙◌, refl, sym, ap, ℕ, zero, suc, ◌+◌, arith, Bool, true, false, cond, ◌||◌, List, [], ◌∷◌, ◌++◌, Option, Some, None, is_some, slice_get, option_copied, Bor, Result, Ok, Err, OnErr}
 use Rattle.std.specs.Option.{option_or, option_map}
 use Rattle.jl_program.specs.Names.{same_text}
 use Rattle.jl_names.specs.Stacks.{last_from, last_place}

@@ -159,6 +159,16 @@ pub(crate) fn note_place(state: &mut Reading, bounds: &[Bound], ty: &Ty) -> Resu
     Ok(())
 }
 
+/// The same place of a declared bound, whose type is shared.
+pub(crate) fn copy_place(place: &Place) -> Result<Place, AllocError>
+    ensures { IfOk result (λ p. p ≡ place.now) }
+{
+    Ok(Place {
+        var: place.var,
+        high: place.high.copy()?,
+    })
+}
+
 /// In the text, the variables that were read from `start` to `middle` come after those that were read since.
 pub(crate) fn swap(state: &mut Reading, start: usize, middle: usize) -> Result<(), AllocError>
     ensures { OnOk result (state.new ≡ swap start middle state.old) }

@@ -25,6 +25,15 @@ pub struct TypeVar {
     pub usable: bool,
 }
 
+/// Which of the variables of the text a type sees, beside those that are declared before all of the text.
+#[derive(Clone, Copy, PartialEq, Eq, Debug)]
+pub enum Sight {
+    /// Outside of bounds, all.
+    All,
+    /// In a bound, those from this place on.
+    From(usize),
+}
+
 /// A variable that stands directly as an argument of a nominal type, and the upper bound that is declared for that
 /// argument.
 #[derive(Drop)]
@@ -45,7 +54,7 @@ pub struct Swap {
 /// What is known behind a part of the text: the bounds of the variables so far, in the order in which they were read; the
 /// places of variables, in text order; where the text has another order of variables; the first fault; whether some name
 /// in a type is unknown; whether one is unknown or bound where it is visible; and whether a variable is brought in an
-/// invariant place of another nominal type.
+/// invariant place of another nominal type or in a bound.
 #[derive(Drop)]
 pub struct Reading {
     pub vars: Row<Bound>,

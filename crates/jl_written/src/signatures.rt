@@ -1,13 +1,13 @@
 //! The types of a signature, and types in a body.
 
-ghost use Rattle.std.specs.Prelude.{◌≡◌, ◌+◌, OnOk, IfOk, Bool, false};
+ghost use Rattle.std.specs.Prelude.{◌≡◌, ◌+◌, [], OnOk, IfOk, Bool, false};
 ghost use Rattle.jl_model.specs.declared.ty.Ty.{Ty};
-ghost use Rattle.jl_written.specs.Reads.{typed, no_reading, type_reads};
+ghost use Rattle.jl_written.specs.Reads.{typed, seen, no_reading, type_reads};
 ghost use Rattle.jl_written.specs.Signatures.{adopt_bound, adopt_bounds, shifted, width_of, body_type, constructor_type};
 
 use crate::notes::copy_bounds;
-use crate::reading::{Place, Reading};
-use crate::reads::{read_arguments, read_type};
+use crate::reading::{Place, Reading, Sight};
+use crate::reads::{read_alone, read_arguments};
 use crate::text_order::order_type;
 use crate::vars::{Around, Statics, TypeVars};
 use jl_model::rows::Row;
@@ -89,15 +89,14 @@ fn read_behind(
     text: &TypeText,
 ) -> Result<(Ty, Reading), AllocError>
     ensures { IfOk result (λ r. typed r.0 r.1
-        ≡ type_reads decls.now text.now (shifted width statics.now) false no_reading) }
+        ≡ type_reads decls.now text.now (seen (shifted width statics.now) [] false) false no_reading) }
 {
     let around = Around {
         decls,
-        statics: Statics::behind(statics, width)?,
+        first: Statics::behind(statics, width)?,
     };
-    let mut vars = TypeVars::new(alloc);
     let mut state = no_reading(alloc);
-    let ty = read_type(alloc, &around, &mut vars, &mut state, text, false)?;
+    let ty = read_alone(alloc, &around, &mut state, text)?;
     Ok((ty, state))
 }
 
@@ -111,7 +110,7 @@ fn read_whole(
 ) -> Result<(Ty, Reading), AllocError>
     ensures { IfOk result (λ r. typed r.0 r.1
         ≡ type_reads decls.now text.now
-        (shifted (width_of decls.now statics.now text.now) statics.now) false no_reading) }
+        (seen (shifted (width_of decls.now statics.now text.now) statics.now) [] false) false no_reading) }
 {
     let first = read_behind(alloc, decls, statics, 0, text)?;
     let width = first.1.vars.len();
@@ -155,10 +154,19 @@ pub fn constructor_type(
 {
     let around = Around {
         decls,
-        statics: Statics::behind(statics, 0)?,
+        first: Statics::behind(statics, 0)?,
     };
     let mut vars = TypeVars::new(alloc);
     let mut state = no_reading(alloc);
-    let tys = read_arguments(alloc, &around, &mut vars, &mut state, bounds, texts, false)?;
+    let tys = read_arguments(
+        alloc,
+        &around,
+        &mut vars,
+        Sight::All,
+        &mut state,
+        bounds,
+        texts,
+        false,
+    )?;
     Ok((Ty::Nominal(number, tys), state))
 }

@@ -22,7 +22,7 @@ use Rattle.jl_calculus.specs.ValidStart.{IsValidStart}
 use Rattle.jl_calculus.specs.Views.{Finds, Walk, find_step, find_stmt_step, find_item_step, find_piece_step, find_spawns, walk_item, view_at}
 use Rattle.jl_calculus.proofs.Forms.{form_is, item_form_is}
 use Rattle.jl_calculus.proofs.WorldScripts.{made, bare}
-use Rattle.jl_point.proofs.ValueTypes.{nothing_valid, task_valid}
+use Rattle.jl_task.proofs.ValueTypes.{nothing_valid, task_valid}
 use Rattle.jl_calculus.specs.Past.{tasks_of}
 use Rattle.jl_book.specs.Passes.{IsRunOver, task_in}
 use Rattle.jl_world.specs.Rule.{first_events}

@@ -16,7 +16,7 @@ use Rattle.jl_calculus.specs.Ranges.{keys_of}
 use Rattle.jl_calculus.specs.World.{world_of}
 use Rattle.jl_world.specs.Views.{Begins}
 use Rattle.jl_world.proofs.Growth.{keys_grow, worlds_grow}
-use Rattle.jl_point.proofs.ValueTypes.{type_is_value_type, int_valid, bool_valid, nothing_valid, task_valid}
+use Rattle.jl_task.proofs.ValueTypes.{type_is_value_type, int_valid, bool_valid, nothing_valid, task_valid}
 use Rattle.store_tests.specs.Simple.{AreSimple}
 
 -- ---- a key is there

@@ -117,7 +117,7 @@ pub fn variables(alloc: Global, table: &Table, text: &str) -> Result<String, Hal
     let flags = usable_variables(alloc, &written)?;
     let mut out = String::new(alloc);
     for (i, variable) in vars.iter().enumerate() {
-        let kind = kind_of(written.parts.as_slice(), i as u64);
+        let kind = kind_of(&written, i as u64);
         let is_usable = is_usable(&written, u32::try_from(i).unwrap_or(u32::MAX));
         let word = match flags.get(i) == Some(&is_usable) {
             true => usable_word(is_usable),

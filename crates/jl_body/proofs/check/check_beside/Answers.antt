@@ -3,7 +3,7 @@ use Rattle.jl_model.specs.Signature.{Both}
 use Rattle.jl_model.specs.Refusals.{bound_types}
 use Rattle.jl_model.specs.SigRefusals.{arguments_in, TooManyParameters}
 use Rattle.jl_sig.specs.Parts.{all_given}
-use Rattle.jl_sig.specs.Forms.{IsSmallForm, AreFormed}
+use Rattle.jl_sig.specs.Forms.{IsBoundForm, AreFormed}
 use Rattle.jl_match.proofs.MakeLemmas.{forms_ground, crossed_written, arguments_ground}
 use Rattle.jl_body.proofs.CheckLemmas.{well_written, not_crossed, one_outside, none_outside}
 use Rattle.jl_body.proofs.check.check_beside.Goals as goal
@@ -21,7 +21,7 @@ pub have_crossed-requires : goal.have_crossed-requires
 have_crossed-requires c =
     let ds = c.args.table.now in
     let t = c.args.written.now in
-    let b = subst (λ z. Both (IsSmallForm ds) (bound_types t.vars) (bound_types z)) (sym c.as_slice-3.ensures) c.in-Ok.ensures.forms.bounds in
+    let b = subst (λ z. Both (IsBoundForm ds) (bound_types t.vars) (bound_types z)) (sym c.as_slice-3.ensures) c.in-Ok.ensures.forms.bounds in
     forms_ground ds c.valid.ensures t.vars c.as_slice-3.result.now b
 
 pub returns-then-have_crossed : goal.returns-then-have_crossed
@@ -31,7 +31,7 @@ returns-then-have_crossed c =
     let few : TooManyParameters t → ⊥ = λ h. omega (arith, c.len.ensures, c.if-len-gt-MOST_ARGUMENTS.false, h) in
     let w = well_written ds t c.args.plain.now c.as_slice.result.now c.are_placed.result c.in_ok-unused.unused c.are_counted.result c.requires.plain (c.as_slice.ensures.value ∙ c.in_ok-types.ensures)
     c.are_placed.ensures c.if-not-are_placed.false c.in_ok-unused.ensures c.if-unused.false few c.are_counted.ensures c.if-not-are_counted.false in
-    let b = subst (λ z. Both (IsSmallForm ds) (bound_types t.vars) (bound_types z)) (sym c.as_slice-3.ensures) c.in-Ok.ensures.forms.bounds in
+    let b = subst (λ z. Both (IsBoundForm ds) (bound_types t.vars) (bound_types z)) (sym c.as_slice-3.ensures) c.in-Ok.ensures.forms.bounds in
     (w, c.in-Ok.ensures.forms.small, crossed_written ds c.valid.ensures t.vars c.as_slice-3.result.now b (c.have_crossed.ensures.0 c.if-have_crossed.true))
 
 pub have_outside-requires : goal.have_outside-requires
@@ -48,7 +48,7 @@ returns-then-have_outside c =
     let few : TooManyParameters t → ⊥ = λ h. omega (arith, c.len.ensures, c.if-len-gt-MOST_ARGUMENTS.false, h) in
     let w = well_written ds t c.args.plain.now c.as_slice.result.now c.are_placed.result c.in_ok-unused.unused c.are_counted.result c.requires.plain (c.as_slice.ensures.value ∙ c.in_ok-types.ensures)
     c.are_placed.ensures c.if-not-are_placed.false c.in_ok-unused.ensures c.if-unused.false few c.are_counted.ensures c.if-not-are_counted.false in
-    let b = subst (λ z. Both (IsSmallForm ds) (bound_types t.vars) (bound_types z)) (sym c.as_slice-3.ensures) c.in-Ok.ensures.forms.bounds in
+    let b = subst (λ z. Both (IsBoundForm ds) (bound_types t.vars) (bound_types z)) (sym c.as_slice-3.ensures) c.in-Ok.ensures.forms.bounds in
     let a = subst (λ z. AreFormed ds (arguments_in t) (all_given z)) (sym c.as_slice-4.ensures.value) c.in-Ok.ensures.forms.arguments in
     let o = not_crossed ds c.valid.ensures t c.as_slice-3.result.now c.have_crossed.result b c.have_crossed.ensures c.if-have_crossed.false in
     (w, c.in-Ok.ensures.forms.small, o, one_outside ds c.valid.ensures t (all_given c.as_slice-4.result.now) c.have_outside.result a c.have_outside.ensures c.if-have_outside.true)
@@ -60,7 +60,7 @@ returns c =
     let few : TooManyParameters t → ⊥ = λ h. omega (arith, c.len.ensures, c.if-len-gt-MOST_ARGUMENTS.false, h) in
     let w = well_written ds t c.args.plain.now c.as_slice.result.now c.are_placed.result c.in_ok-unused.unused c.are_counted.result c.requires.plain (c.as_slice.ensures.value ∙ c.in_ok-types.ensures)
     c.are_placed.ensures c.if-not-are_placed.false c.in_ok-unused.ensures c.if-unused.false few c.are_counted.ensures c.if-not-are_counted.false in
-    let b = subst (λ z. Both (IsSmallForm ds) (bound_types t.vars) (bound_types z)) (sym c.as_slice-3.ensures) c.in-Ok.ensures.forms.bounds in
+    let b = subst (λ z. Both (IsBoundForm ds) (bound_types t.vars) (bound_types z)) (sym c.as_slice-3.ensures) c.in-Ok.ensures.forms.bounds in
     let a = subst (λ z. AreFormed ds (arguments_in t) (all_given z)) (sym c.as_slice-4.ensures.value) c.in-Ok.ensures.forms.arguments in
     let o = not_crossed ds c.valid.ensures t c.as_slice-3.result.now c.have_crossed.result b c.have_crossed.ensures c.if-have_crossed.false in
     record {

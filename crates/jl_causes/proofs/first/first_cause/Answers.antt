@@ -7,25 +7,25 @@ use Rattle.jl_causes.proofs.FirstLemmas.{told_so_far, clean_more, cause_at, clea
 use Rattle.jl_causes.proofs.first.first_cause.Goals as goal
 
 pub is_finished-requires : goal.is_finished-requires
-is_finished-requires g c = let h = c.in_ok-judge.ensures 0 in omega (arith, h.many)
+is_finished-requires c = let h = c.in_ok-judge.ensures 0 in omega (arith, h.many)
 
 pub returns-then-not-is_finished : goal.returns-then-not-is_finished
-returns-then-not-is_finished g c =
+returns-then-not-is_finished c =
     let P = c.args.ready.now in
     let all = c.args.entries.now in
     root_unfinished P all c.requires.begun (sym (c.is_finished.ensures P all (Ev.Begin 0 ∷ []) (c.in_ok-judge.ensures 0)) ∙ c.if-not-is_finished.true)
 
 pub loop-n-init : goal.loop-n-init
-loop-n-init g c =
+loop-n-init c =
     let P = c.args.ready.now in
     let all = c.args.entries.now in
     let (fuel, clean) = root_clean P all c.requires.begun (sym (c.is_finished.ensures P all (Ev.Begin 0 ∷ []) (c.in_ok-judge.ensures 0)) ∙ c.if-not-is_finished.false) in (Ev.Begin fuel ∷ [], clean, c.in_ok-judge.ensures fuel, refl)
 
 pub find_cause-requires : goal.find_cause-requires
-find_cause-requires g c = let (es, clean, h, many) = c.loop-n.invariant in (es, h)
+find_cause-requires c = let (es, clean, h, many) = c.loop-n.invariant in (es, h)
 
 pub returns-in-Some : goal.returns-in-Some
-returns-in-Some g c =
+returns-in-Some c =
     let P = c.args.ready.now in
     let all = c.args.entries.now in
     let n = c.loop-n.n in
@@ -36,7 +36,7 @@ returns-in-Some g c =
     cause_at P all n es entry c.in-Some.cause clean at (subst (IsJudged P all es entry) c.in-Some.is judged)
 
 pub note-requires : goal.note-requires
-note-requires g c =
+note-requires c =
     let P = c.args.ready.now in
     let all = c.args.entries.now in
     let n = c.loop-n.n in
@@ -48,7 +48,7 @@ note-requires g c =
     (all, es, record { knows = h; clean = subst (IsJudged P all es entry) c.in_default.is judged; named = c.in_ok-key.ensures; later = later })
 
 pub loop-n-preserved : goal.loop-n-preserved
-loop-n-preserved g c =
+loop-n-preserved c =
     let P = c.args.ready.now in
     let all = c.args.entries.now in
     let n = c.loop-n.n in
@@ -62,6 +62,6 @@ loop-n-preserved g c =
     (es ++ e ∷ [], clean_more P all n es entry e clean many at free tells, next, length_push es e ∙ ap (λ k. k + 1) many)
 
 pub returns : goal.returns
-returns g c =
+returns c =
     let (es, clean, h, many) = c.loop-n.invariant in
     clean_whole c.args.ready.now c.args.entries.now c.loop-n.n es clean (omega (arith, c.loop-n-test.false))

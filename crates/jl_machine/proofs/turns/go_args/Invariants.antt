@@ -1,5 +1,5 @@
 use Rattle.std.proofs.Common.{◌≡◌, [], drop}
-use Rattle.jl_point.specs.Skip.{skip_args}
+use Rattle.jl_task.specs.Skip.{skip_args}
 use Rattle.jl_machine.specs.Lent.{now_of}
 use Rattle.jl_machine.proofs.turns.go_args.Given as goal
 

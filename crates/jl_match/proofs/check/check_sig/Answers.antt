@@ -3,7 +3,7 @@ use Rattle.jl_model.specs.Signature.{Both}
 use Rattle.jl_model.specs.Refusals.{bound_types}
 use Rattle.jl_model.specs.SigRefusals.{arguments_in, BoundsCrossed}
 use Rattle.jl_sig.specs.Parts.{all_given}
-use Rattle.jl_sig.specs.Forms.{IsSmallForm, AreFormed}
+use Rattle.jl_sig.specs.Forms.{IsBoundForm, AreFormed}
 use Rattle.jl_match.proofs.MakeLemmas.{forms_ground, crossed_kept, crossed_written, outside_kept, outside_written, arguments_ground}
 use Rattle.jl_match.proofs.check.check_sig.Goals as goal
 
@@ -12,7 +12,7 @@ have_crossed-requires c =
     let ds = c.args.table.now in
     let s = c.args.written.now in
     let p = c.in-Ok.ensures.forms in
-    let b : Both (IsSmallForm ds) (bound_types s.vars) (bound_types c.as_slice.result.now) = subst (λ z. Both (IsSmallForm ds) (bound_types s.vars) (bound_types z)) (sym c.as_slice.ensures) p.bounds in
+    let b : Both (IsBoundForm ds) (bound_types s.vars) (bound_types c.as_slice.result.now) = subst (λ z. Both (IsBoundForm ds) (bound_types s.vars) (bound_types z)) (sym c.as_slice.ensures) p.bounds in
     forms_ground ds c.valid.ensures s.vars c.as_slice.result.now b
 
 pub have_outside-requires : goal.have_outside-requires
@@ -28,7 +28,7 @@ returns-then-have_crossed c =
     let ds = c.args.table.now in
     let s = c.args.written.now in
     let p = c.in-Ok.ensures.forms in
-    let b : Both (IsSmallForm ds) (bound_types s.vars) (bound_types c.as_slice.result.now) = subst (λ z. Both (IsSmallForm ds) (bound_types s.vars) (bound_types z)) (sym c.as_slice.ensures) p.bounds in
+    let b : Both (IsBoundForm ds) (bound_types s.vars) (bound_types c.as_slice.result.now) = subst (λ z. Both (IsBoundForm ds) (bound_types s.vars) (bound_types z)) (sym c.as_slice.ensures) p.bounds in
     (c.in_ok-check_writing.ensures.checked, c.in-Ok.ensures.small, crossed_written ds c.valid.ensures s.vars c.as_slice.result.now b (c.have_crossed.ensures.0 c.if-have_crossed.true))
 
 pub returns-then-have_outside : goal.returns-then-have_outside
@@ -36,7 +36,7 @@ returns-then-have_outside c =
     let ds = c.args.table.now in
     let s = c.args.written.now in
     let p = c.in-Ok.ensures.forms in
-    let b : Both (IsSmallForm ds) (bound_types s.vars) (bound_types c.as_slice.result.now) = subst (λ z. Both (IsSmallForm ds) (bound_types s.vars) (bound_types z)) (sym c.as_slice.ensures) p.bounds in
+    let b : Both (IsBoundForm ds) (bound_types s.vars) (bound_types c.as_slice.result.now) = subst (λ z. Both (IsBoundForm ds) (bound_types s.vars) (bound_types z)) (sym c.as_slice.ensures) p.bounds in
     let a : AreFormed ds (arguments_in s) (all_given c.as_slice-2.result.now) = subst (λ z. AreFormed ds (arguments_in s) (all_given z)) (sym c.as_slice-2.ensures.value) p.arguments in
     let o : BoundsCrossed ds s → ⊥ = λ h. let g = c.have_crossed.ensures.1 (crossed_kept ds c.valid.ensures s.vars c.as_slice.result.now b h) in let f : true ≡ false = sym g ∙ c.if-have_crossed.false in cc in
     let r = outside_written ds c.valid.ensures (arguments_in s) (all_given c.as_slice-2.result.now) a (c.have_outside.ensures.0 c.if-have_outside.true) in
@@ -48,7 +48,7 @@ returns c =
     let s = c.args.written.now in
     let p = c.in-Ok.ensures.forms in
     let w = c.in_ok-check_writing.ensures.checked in
-    let b : Both (IsSmallForm ds) (bound_types s.vars) (bound_types c.as_slice.result.now) = subst (λ z. Both (IsSmallForm ds) (bound_types s.vars) (bound_types z)) (sym c.as_slice.ensures) p.bounds in
+    let b : Both (IsBoundForm ds) (bound_types s.vars) (bound_types c.as_slice.result.now) = subst (λ z. Both (IsBoundForm ds) (bound_types s.vars) (bound_types z)) (sym c.as_slice.ensures) p.bounds in
     let a : AreFormed ds (arguments_in s) (all_given c.as_slice-2.result.now) = subst (λ z. AreFormed ds (arguments_in s) (all_given z)) (sym c.as_slice-2.ensures.value) p.arguments in
     let o : BoundsCrossed ds s → ⊥ = λ h. let g = c.have_crossed.ensures.1 (crossed_kept ds c.valid.ensures s.vars c.as_slice.result.now b h) in let f : true ≡ false = sym g ∙ c.if-have_crossed.false in cc in
     record {

@@ -1,10 +1,10 @@
-use Rattle.std.proofs.Common.{◌≡◌, ◌∙◌, sym, ap, subst, true, false}
+use Rattle.std.proofs.Common.{◌≡◌, ◌∙◌, sym, subst, true, false}
 use Rattle.jl_model.specs.declared.ty.Written.{Written}
 use Rattle.jl_model.specs.Signature.{Both}
 use Rattle.jl_model.specs.Refusals.{bound_types}
 use Rattle.jl_model.specs.SigRefusals.{arguments_in, BoundsCrossed}
 use Rattle.jl_sig.specs.Parts.{all_given}
-use Rattle.jl_sig.specs.Forms.{IsSmallForm, AreFormed}
+use Rattle.jl_sig.specs.Forms.{IsBoundForm, AreFormed}
 use Rattle.jl_sig.proofs.SigLemmas.{in_order}
 use Rattle.jl_match.proofs.MakeLemmas.{forms_ground, crossed_kept, crossed_written, outside_kept, outside_written, arguments_ground}
 use Rattle.jl_match.proofs.make.make_sig.Goals as goal
@@ -14,8 +14,8 @@ have_crossed-requires c =
     let ds = c.args.table.now in
     let s = c.args.written.now in
     let p = c.in-Ok.ensures.kept in
-    let b : Both (IsSmallForm ds) (bound_types s.vars) (bound_types c.bounds.result.now) =
-    subst (λ z. Both (IsSmallForm ds) (bound_types s.vars) (bound_types z)) (sym c.bounds.ensures) (subst (λ (z : Written). Both (IsSmallForm ds) (bound_types z.vars) (bound_types c.in-Ok.prepared.sig.bounded.vars)) p.written p.kept.bounds) in
+    let b : Both (IsBoundForm ds) (bound_types s.vars) (bound_types c.bounds.result.now) =
+    subst (λ z. Both (IsBoundForm ds) (bound_types s.vars) (bound_types z)) (sym c.bounds.ensures) (subst (λ (z : Written). Both (IsBoundForm ds) (bound_types z.vars) (bound_types c.in-Ok.prepared.sig.bounded.vars)) p.written p.kept.bounds) in
     forms_ground ds c.valid.ensures s.vars c.bounds.result.now b
 
 pub have_outside-requires : goal.have_outside-requires
@@ -32,8 +32,8 @@ returns-then-have_crossed-clause-made c =
     let s = c.args.written.now in
     let p = c.in-Ok.ensures.kept in
     let w = c.in_ok-check_writing.ensures.checked in
-    let b : Both (IsSmallForm ds) (bound_types s.vars) (bound_types c.bounds.result.now) =
-    subst (λ z. Both (IsSmallForm ds) (bound_types s.vars) (bound_types z)) (sym c.bounds.ensures) (subst (λ (z : Written). Both (IsSmallForm ds) (bound_types z.vars) (bound_types c.in-Ok.prepared.sig.bounded.vars)) p.written p.kept.bounds) in
+    let b : Both (IsBoundForm ds) (bound_types s.vars) (bound_types c.bounds.result.now) =
+    subst (λ z. Both (IsBoundForm ds) (bound_types s.vars) (bound_types z)) (sym c.bounds.ensures) (subst (λ (z : Written). Both (IsBoundForm ds) (bound_types z.vars) (bound_types c.in-Ok.prepared.sig.bounded.vars)) p.written p.kept.bounds) in
     (w, p.small, crossed_written ds c.valid.ensures s.vars c.bounds.result.now b (c.have_crossed.ensures.0 c.if-have_crossed.true))
 
 pub returns-then-have_outside-clause-made : goal.returns-then-have_outside-clause-made
@@ -42,8 +42,8 @@ returns-then-have_outside-clause-made c =
     let s = c.args.written.now in
     let p = c.in-Ok.ensures.kept in
     let w = c.in_ok-check_writing.ensures.checked in
-    let b : Both (IsSmallForm ds) (bound_types s.vars) (bound_types c.bounds.result.now) =
-    subst (λ z. Both (IsSmallForm ds) (bound_types s.vars) (bound_types z)) (sym c.bounds.ensures) (subst (λ (z : Written). Both (IsSmallForm ds) (bound_types z.vars) (bound_types c.in-Ok.prepared.sig.bounded.vars)) p.written p.kept.bounds) in
+    let b : Both (IsBoundForm ds) (bound_types s.vars) (bound_types c.bounds.result.now) =
+    subst (λ z. Both (IsBoundForm ds) (bound_types s.vars) (bound_types z)) (sym c.bounds.ensures) (subst (λ (z : Written). Both (IsBoundForm ds) (bound_types z.vars) (bound_types c.in-Ok.prepared.sig.bounded.vars)) p.written p.kept.bounds) in
     let a : AreFormed ds (arguments_in s) (all_given c.as_slice.result.now) = subst (λ z. AreFormed ds (arguments_in s) (all_given z)) (sym c.as_slice.ensures.value) p.arguments in
     let o : BoundsCrossed ds s → ⊥ = λ h. let g = c.have_crossed.ensures.1 (crossed_kept ds c.valid.ensures s.vars c.bounds.result.now b h) in let f : true ≡ false = sym g ∙ c.if-have_crossed.false in cc in
     let r = outside_written ds c.valid.ensures (arguments_in s) (all_given c.as_slice.result.now) a (c.have_outside.ensures.0 c.if-have_outside.true) in
@@ -55,8 +55,8 @@ returns-clause-made c =
     let s = c.args.written.now in
     let p = c.in-Ok.ensures.kept in
     let w = c.in_ok-check_writing.ensures.checked in
-    let b : Both (IsSmallForm ds) (bound_types s.vars) (bound_types c.bounds.result.now) =
-    subst (λ z. Both (IsSmallForm ds) (bound_types s.vars) (bound_types z)) (sym c.bounds.ensures) (subst (λ (z : Written). Both (IsSmallForm ds) (bound_types z.vars) (bound_types c.in-Ok.prepared.sig.bounded.vars)) p.written p.kept.bounds) in
+    let b : Both (IsBoundForm ds) (bound_types s.vars) (bound_types c.bounds.result.now) =
+    subst (λ z. Both (IsBoundForm ds) (bound_types s.vars) (bound_types z)) (sym c.bounds.ensures) (subst (λ (z : Written). Both (IsBoundForm ds) (bound_types z.vars) (bound_types c.in-Ok.prepared.sig.bounded.vars)) p.written p.kept.bounds) in
     let a : AreFormed ds (arguments_in s) (all_given c.as_slice.result.now) = subst (λ z. AreFormed ds (arguments_in s) (all_given z)) (sym c.as_slice.ensures.value) p.arguments in
     let o : BoundsCrossed ds s → ⊥ = λ h. let g = c.have_crossed.ensures.1 (crossed_kept ds c.valid.ensures s.vars c.bounds.result.now b h) in let f : true ≡ false = sym g ∙ c.if-have_crossed.false in cc in
     record {

@@ -7,7 +7,8 @@ use Rattle.jl_model.specs.Signature.{Both, Meets, Meet, Serves}
 use Rattle.jl_model.specs.Found.{found}
 use Rattle.jl_match.specs.KeptRow.{row_of, AreGround}
 use Rattle.jl_match.proofs.PlainLemmas.{values_ground, values_plain}
-use Rattle.jl_match.proofs.RowLemmas.{kept_parts, fits_of, found_fits}
+use Rattle.jl_match.proofs.RowLemmas.{kept_parts, fits_of}
+use Rattle.jl_match.proofs.FoundLemmas.{found_fits}
 use Rattle.jl_match.proofs.TestLemmas.{meet_both, both_meet}
 use Rattle.jl_match.proofs.row.row_applies.Goals as goal
 

@@ -1,6 +1,5 @@
-use Rattle.jl_operations.proofs.BodyLemmas.{written_closed}
 use Rattle.jl_operations.proofs.PreparedLemmas.{alone_stays}
 use Rattle.jl_operations.proofs.laws.law_alone.Goals as goal
 
 pub returns : goal.returns
-returns c P statics t h own = alone_stays statics t (written_closed P statics t h) own
+returns c P statics t h own = alone_stays statics t own

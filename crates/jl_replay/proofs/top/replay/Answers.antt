@@ -1,5 +1,5 @@
 use Rattle.std.proofs.Common.{subst}
-use Rattle.jl_legible.specs.Numbered.{IsNumbered}
+use Rattle.jl_history.specs.Numbered.{IsNumbered}
 use Rattle.jl_replay.proofs.Judgements.{are_read}
 use Rattle.jl_replay.proofs.top.replay.Goals as goal
 

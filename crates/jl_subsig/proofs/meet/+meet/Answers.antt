@@ -9,8 +9,7 @@ use Rattle.jl_types.proofs.GroundLemmas.{both_long, both_at, size-tuple, size-at
 use Rattle.jl_sig.specs.SigParts.{kept_of}
 use Rattle.jl_model.specs.Found.{raised}
 use Rattle.jl_subsig.specs.Side.{held, sided}
-use Rattle.jl_subsig.proofs.FixedLemmas.{fast_closed}
-use Rattle.jl_subsig.proofs.HeldLemmas.{high_none}
+use Rattle.jl_subsig.proofs.HeldLemmas.{high_still}
 use Rattle.jl_subsig.proofs.LeftPartLemmas.{left-at, raised_tuple, nominal_left}
 use Rattle.jl_subsig.proofs.ServeSteps.{value-at}
 use Rattle.jl_subsig.proofs.MeetSteps.{any_step, tuple_step, no_tuple_step, no_nominal_step, no_right_union, nominal_step, variable_step, right_parts, right_place, right-at, root_low, root_below, lifts_normal, all_normal}
@@ -83,26 +82,26 @@ meets-meet_all-requires t c =
 
 pub meets-returns-in-Any : goal.meets-returns-in-Any
 meets-returns-in-Any t c =
-    any_step (table_of c.args.table.now) (held c.args.left.now c.args.row.now) (sided c.args.right.now) (at c.args.values.now) (λ k v. fast_closed _ (high_none c.args.table.now c.args.left.now c.args.row.now c.requires.held k) v) c.args.ty.now c.args.upper.now c.in-Any.is
+    any_step (table_of c.args.table.now) (held c.args.left.now c.args.row.now) (sided c.args.right.now) (at c.args.values.now) (high_still c.args.table.now c.args.left.now c.args.row.now c.requires.held) c.args.ty.now c.args.upper.now c.in-Any.is
 
 pub meets-returns-in-Union : goal.meets-returns-in-Union
 meets-returns-in-Union t c = absurd (no_right_union (table_of c.args.table.now) (sided c.args.right.now) c.args.upper.now c.in-Union.field-0 c.in-Union.is c.requires.upper)
 
 pub meets-returns-in-Some : goal.meets-returns-in-Some
 meets-returns-in-Some t c =
-    tuple_step (table_of c.args.table.now) (held c.args.left.now c.args.row.now) (sided c.args.right.now) (at c.args.values.now) (λ k v. fast_closed _ (high_none c.args.table.now c.args.left.now c.args.row.now c.requires.held k) v) c.meet_all.result c.args.ty.now c.args.upper.now c.in-Some.types.now c.in-Tuple.uppers
+    tuple_step (table_of c.args.table.now) (held c.args.left.now c.args.row.now) (sided c.args.right.now) (at c.args.values.now) (high_still c.args.table.now c.args.left.now c.args.row.now c.requires.held) c.meet_all.result c.args.ty.now c.args.upper.now c.in-Some.types.now c.in-Tuple.uppers
     c.as_slice.result.now c.in-Some.ensures c.in-Tuple.is c.as_slice.ensures c.meet_all.ensures
 
 pub meets-returns-in-None : goal.meets-returns-in-None
 meets-returns-in-None t c =
-    no_tuple_step (table_of c.args.table.now) (held c.args.left.now c.args.row.now) (sided c.args.right.now) (at c.args.values.now) (λ k v. fast_closed _ (high_none c.args.table.now c.args.left.now c.args.row.now c.requires.held k) v) c.args.ty.now c.args.upper.now c.in-Tuple.uppers c.in-Tuple.is c.in-None.ensures
+    no_tuple_step (table_of c.args.table.now) (held c.args.left.now c.args.row.now) (sided c.args.right.now) (at c.args.values.now) (high_still c.args.table.now c.args.left.now c.args.row.now c.requires.held) c.args.ty.now c.args.upper.now c.in-Tuple.uppers c.in-Tuple.is c.in-None.ensures
 
 pub meets-returns-in-Some-2 : goal.meets-returns-in-Some-2
 meets-returns-in-Some-2 t c =
     let ds = c.args.table.now in
     let g = held c.args.left.now c.args.row.now in
     let k = ap (λ z. Some z) c.as_slice-in-Some-2-2.ensures ∙ sym c.in-Some-2.is ∙ c.in_ok-above-in-Nominal.ensures in
-    nominal_step ds c.valid.ensures g (sided c.args.right.now) c.args.values.now (λ k v. fast_closed _ (high_none c.args.table.now c.args.left.now c.args.row.now c.requires.held k) v) c.args.ty.now c.args.upper.now c.in-Nominal.target
+    nominal_step ds c.valid.ensures g (sided c.args.right.now) c.args.values.now (high_still c.args.table.now c.args.left.now c.args.row.now c.requires.held) c.args.ty.now c.args.upper.now c.in-Nominal.target
     c.in-Nominal.patterns c.as_slice-in-Some-2.result.now c.as_slice-in-Some-2-2.result.now c.same_all_put.result
     (all_normal (table_of ds) (width (kept_of c.args.right.now)) c.args.values.now c.requires.values.long (λ v l. (c.requires.values.items v l).normal)) c.requires.upper
     (lifts_normal ds c.valid.ensures c.in-Nominal.target (raised g (out-Ty c.args.ty.now)) c.as_slice-in-Some-2-2.result.now (λ m xs e. (nominal_left ds g c.valid.ensures c.args.ty.now m xs c.requires.ty e).1) k) c.in-Nominal.is k
@@ -110,7 +109,7 @@ meets-returns-in-Some-2 t c =
 
 pub meets-returns-in-None-2 : goal.meets-returns-in-None-2
 meets-returns-in-None-2 t c =
-    no_nominal_step (table_of c.args.table.now) (held c.args.left.now c.args.row.now) (sided c.args.right.now) (at c.args.values.now) (λ k v. fast_closed _ (high_none c.args.table.now c.args.left.now c.args.row.now c.requires.held k) v)
+    no_nominal_step (table_of c.args.table.now) (held c.args.left.now c.args.row.now) (sided c.args.right.now) (at c.args.values.now) (high_still c.args.table.now c.args.left.now c.args.row.now c.requires.held)
     c.args.ty.now c.args.upper.now c.in-Nominal.target c.in-Nominal.patterns c.in-Nominal.is (sym c.in-None-2.is ∙ c.in_ok-above-in-Nominal.ensures)
 
 pub meets-meets_variable-requires-clause-value : goal.meets-meets_variable-requires-clause-value
@@ -151,3 +150,12 @@ meets-bounds-values-root t c =
     let w = c.in-Var.number in
     let p = right_place (table_of c.args.table.now) s c.args.upper.now w c.in-Var.is c.requires.upper in
     root_low s vs w (c.requires.values.long ∙ sym c.requires.right.wide) p.0
+
+pub meets-nonzero_rem-root : goal.meets-nonzero_rem-root
+meets-nonzero_rem-root t c =
+    let s = sided c.args.right.now in
+    let vs = c.args.values.now in
+    let p = right_place (table_of c.args.table.now) s c.args.upper.now c.in-Var.number c.in-Var.is c.requires.upper in
+    let e = c.requires.values.long in
+    let w = c.requires.right.wide in
+    omega (arith, p.0, e, w)

@@ -2,7 +2,7 @@ use Rattle.std.proofs.Common.{◌≡◌, ◌∙◌, sym, ap, subst, true}
 use Rattle.jl_model.specs.Ancestors.{table_of}
 use Rattle.jl_model.specs.Rows.{width}
 use Rattle.jl_model.specs.Subtype.{at}
-use Rattle.jl_model.specs.Signature.{Serves, Meets, Both}
+use Rattle.jl_model.specs.Signature.{is_diagonal, Serves, Meets, Both}
 use Rattle.jl_sig.specs.SigParts.{kept_of}
 use Rattle.jl_model.specs.Found.{found}
 use Rattle.jl_subsig.specs.Side.{row_of, held, sided, AreLeftParts, AreRightParts, AreValues}
@@ -11,9 +11,6 @@ use Rattle.jl_subsig.proofs.FoundItems.{values_found}
 use Rattle.jl_subsig.proofs.MeetSteps.{meet_both, both_meet}
 use Rattle.jl_subsig.proofs.RowSteps.{complete, sound}
 use Rattle.jl_subsig.proofs.row.row_below.Goals as goal
-
-pub values_of-requires-clause-types : goal.values_of-requires-clause-types
-values_of-requires-clause-types c = left_parts c.args.table.now c.valid.ensures c.args.left.now c.args.row.now c.requires.left
 
 pub serve-requires-clause-row : goal.serve-requires-clause-row
 serve-requires-clause-row c = right_row c.args.table.now c.valid.ensures c.args.right.now c.args.other.now c.requires.right
@@ -24,7 +21,7 @@ serve-requires-clause-values c =
     (values_found c.args.table.now c.valid.ensures c.args.left.now c.args.row.now c.requires.left c.args.right.now c.args.other.now c.requires.right c.in_ok-values.values.items c.in_ok-values.ensures.long c.in_ok-values.ensures.found)
 
 pub meet_all-requires-clause-right : goal.meet_all-requires-clause-right
-meet_all-requires-clause-right c = record { long = c.requires.right.held.told.long.diagonals; wide = c.requires.right.held.wide; kinds = c.requires.right.held.told.diagonals }
+meet_all-requires-clause-right c = record { long = c.requires.right.held.told.long.diagonals; wide = c.requires.right.held.wide; kinds = λ v. c.requires.right.held.told.diagonals v ∙ ap is_diagonal (sym (c.requires.right.held.kinds v)) }
 
 pub meet_all-requires-clause-values : goal.meet_all-requires-clause-values
 meet_all-requires-clause-values c =
@@ -39,15 +36,15 @@ pub meet_all-requires-clause-types : goal.meet_all-requires-clause-types
 meet_all-requires-clause-types c =
     subst (AreLeftParts c.args.table.now (held c.args.left.now c.args.row.now)) (sym c.as_slice-4.ensures) (left_parts c.args.table.now c.valid.ensures c.args.left.now c.args.row.now c.requires.left)
 
-pub returns-then-not-serve : goal.returns-then-not-serve
-returns-then-not-serve c = (
+pub returns-then-not-serves : goal.returns-then-not-serves
+returns-then-not-serves c = (
   (λ h. cc),
   (λ b.
       let k = complete c.args.table.now c.valid.ensures c.args.left.now c.args.row.now c.requires.left c.args.right.now c.args.other.now c.requires.right b in
       let e = ap at c.as_slice.ensures.value ∙ c.in_ok-values.ensures.found in
       let x : Serves (table_of c.args.table.now) (held c.args.left.now c.args.row.now) (sided c.args.right.now) (row_of c.args.other.now) (at c.as_slice.result.now) =
       subst (Serves (table_of c.args.table.now) (held c.args.left.now c.args.row.now) (sided c.args.right.now) (row_of c.args.other.now)) (sym e) k.0 in
-      let y : c.serve.result ≡ true = c.serve.ensures.1 x in cc),
+      let y : c.in_ok-serves.serves ≡ true = c.in_ok-serves.ensures.1 x in let z = c.if-not-serves.true in cc),
 )
 
 pub returns : goal.returns
@@ -59,7 +56,7 @@ returns c =
     let f = found n g b q c.args.row.now.parts in
     let e = ap at c.as_slice.ensures.value ∙ c.in_ok-values.ensures.found in
     let i = ap at c.as_slice-2.ensures.value ∙ c.in_ok-values.ensures.found in
-    let s : Serves n g b q f = subst (Serves n g b q) e (c.serve.ensures.0 c.if-not-serve.false) in
+    let s : Serves n g b q f = subst (Serves n g b q) e (c.in_ok-serves.ensures.0 c.if-not-serves.false) in
     let to : Both (Meets n g b (at c.as_slice-2.result.now)) c.as_slice-4.result.now c.as_slice-3.result.now → Both (Meets n g b f) c.args.row.now.parts c.args.other.now.parts =
     λ m. subst (λ z. Both (Meets n g b f) z c.args.other.now.parts) c.as_slice-4.ensures (subst (Both (Meets n g b f) c.as_slice-4.result.now) c.as_slice-3.ensures (subst (λ h. Both (Meets n g b h) c.as_slice-4.result.now c.as_slice-3.result.now) i m)) in
     let from : Both (Meets n g b f) c.args.row.now.parts c.args.other.now.parts → Both (Meets n g b (at c.as_slice-2.result.now)) c.as_slice-4.result.now c.as_slice-3.result.now =

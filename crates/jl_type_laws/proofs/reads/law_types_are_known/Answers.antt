@@ -5,9 +5,9 @@ use Rattle.jl_type_laws.proofs.reads.law_types_are_known.Goals as goal
 
 pub returns : goal.returns
 returns c = record {
-  one = λ ds k n t vars inside r h.
-      let x = (type_law (take n ds) _ _ _ _ (known_at ds k n) t vars inside r).holds tt (λ v l. tt) (all_visible vars) h in
+  one = λ ds k n t s inside r h.
+      let x = (type_law (take n ds) _ _ _ _ (known_at ds k n) t s inside r).holds tt (λ v l. tt) (all_visible s.first, all_visible s.own) h in
       record { ty = x.0; after = x.1 };
   many = λ ds k n ts vars r h. (all_law (take n ds) _ _ _ _ (known_at ds k n) ts vars r).holds tt (λ v l. tt) (all_visible vars) h;
-  variables = λ ds k n vs vars r h. let x = (bound_law (take n ds) _ _ _ _ (known_at ds k n) vs vars r).holds tt (λ v l. tt) (all_visible vars) h in x.1;
+  variables = λ ds k n vs r h. let x = (bound_law (take n ds) _ _ _ _ (known_at ds k n) vs r).holds tt (λ v l. tt) tt h in x.1;
 }

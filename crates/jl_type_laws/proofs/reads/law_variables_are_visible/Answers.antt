@@ -5,9 +5,9 @@ use Rattle.jl_type_laws.proofs.reads.law_variables_are_visible.Goals as goal
 
 pub returns : goal.returns
 returns c = record {
-  one = λ ds k n q t vars inside r v h m.
-      let x = (type_law (take n ds) _ _ _ _ (every_at ds k n q) t vars inside r).holds tt m v h in
+  one = λ ds k n q t s inside r v h m.
+      let x = (type_law (take n ds) _ _ _ _ (every_at ds k n q) t s inside r).holds tt m v h in
       record { ty = x.0; after = x.1 };
   many = λ ds k n q ts vars r v h m. (all_law (take n ds) _ _ _ _ (every_at ds k n q) ts vars r).holds tt m v h;
-  variables = λ ds k n q vs vars r v h m. (bound_law (take n ds) _ _ _ _ (every_at ds k n q) vs vars r).holds tt m v h;
+  variables = λ ds k n q vs r h m. (bound_law (take n ds) _ _ _ _ (every_at ds k n q) vs r).holds tt m tt h;
 }

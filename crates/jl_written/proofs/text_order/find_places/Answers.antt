@@ -1,4 +1,4 @@
-use Rattle.std.proofs.Common.{◌≡◌, ◌<◌, arith, length}
+use Rattle.std.proofs.Common.{◌<◌, arith, length}
 use Rattle.jl_written.proofs.OrderLemmas.{one_more_place}
 use Rattle.jl_written.proofs.text_order.find_places.Goals as goal
 

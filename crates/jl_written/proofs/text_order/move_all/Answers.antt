@@ -1,4 +1,4 @@
-use Rattle.std.proofs.Common.{◌≡◌, ◌∙◌, sym, ap, ℕ, ◌≤◌, arith, le_refl, min, length}
+use Rattle.std.proofs.Common.{◌∙◌, sym, ap, ◌≤◌, arith, le_refl, min}
 use Rattle.jl_written.proofs.OrderLemmas.{at_start, move_step, move_end}
 use Rattle.jl_written.proofs.text_order.move_all.Goals as goal
 

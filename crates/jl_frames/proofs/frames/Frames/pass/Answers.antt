@@ -1,5 +1,5 @@
 use Rattle.std.proofs.Common.{◌∷◌, ◌++◌, [], ap, ◌∙◌, Some, option_to_list, refl}
-use Rattle.jl_point.specs.declared.point.Frame.TheVariants as Fr
+use Rattle.jl_task.specs.declared.point.Frame.TheVariants as Fr
 use Rattle.jl_frames.proofs.TopLemmas.{fits, values_passed, text_passed, block_passed, evaluated_passed}
 use Rattle.jl_frames.proofs.frames.Frames.pass.Goals as goal
 

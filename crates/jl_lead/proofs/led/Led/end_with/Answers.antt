@@ -1,7 +1,7 @@
 use Rattle.std.proofs.Common.{sym, subst}
 use Rattle.jl_calculus.specs.declared.history.Event.TheVariants as Ev
 use Rattle.jl_calculus.specs.ValidHistory.{IsValidOutcome}
-use Rattle.jl_point.proofs.ValueTypes.{nothing_valid}
+use Rattle.jl_task.proofs.ValueTypes.{nothing_valid}
 use Rattle.jl_lead.proofs.Whole.{placed_same, placed_more, left_same, fetch_lost, fetch_made}
 use Rattle.jl_lead.proofs.led.Led.end_with.Goals as goal
 

@@ -1,6 +1,6 @@
 use Rattle.std.proofs.Common.{sym, ap, subst, inl, ◌∙◌}
 use Rattle.jl_machine.specs.declared.task.Task.{Task}
-use Rattle.jl_fit.specs.Asks.{Follows}
+use Rattle.jl_task.specs.Asks.{Follows}
 use Rattle.jl_machine.proofs.Whole.{working, fitting, program_is, settled_is, step_fits, step_fuel, step_turns, step_tells, step_knows, step_kept, waits_fit, waits_known, types_at, types_are}
 use Rattle.jl_machine.proofs.Moving.{fits_after, then_on}
 use Rattle.jl_machine.proofs.task.Machine.step.Goals as goal

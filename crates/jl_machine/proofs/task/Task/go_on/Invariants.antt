@@ -1,5 +1,5 @@
 use Rattle.std.proofs.Common.{◌≡◌}
-use Rattle.jl_point.specs.Weight.{turns_left}
+use Rattle.jl_task.specs.Weight.{turns_left}
 use Rattle.jl_machine.specs.Lent.{now_of, work_of}
 use Rattle.jl_machine.specs.Steps.{GoesOn}
 use Rattle.jl_machine.proofs.task.Task.go_on.Given as goal

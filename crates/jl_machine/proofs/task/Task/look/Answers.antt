@@ -1,5 +1,5 @@
 use Rattle.std.proofs.Common.{arith}
-use Rattle.jl_fit.proofs.Traces.{looks_le}
+use Rattle.jl_task.proofs.Traces.{looks_le}
 use Rattle.jl_machine.proofs.task.Task.look.Goals as goal
 
 pub newest-seen-requires : goal.newest-seen-requires

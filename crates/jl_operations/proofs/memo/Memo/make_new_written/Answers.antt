@@ -6,13 +6,10 @@ use Rattle.jl_calculus.specs.Operations.{make_struct}
 use Rattle.jl_operations.specs.Bodies.{IsBodySig}
 use Rattle.jl_operations.specs.Constructed.{IsOneConstructed, made_of}
 use Rattle.jl_operations.specs.Memo.{IsFormed}
-use Rattle.jl_operations.proofs.BodyLemmas.{written_sig, written_closed}
+use Rattle.jl_operations.proofs.BodyLemmas.{written_sig}
 use Rattle.jl_operations.proofs.MadeLemmas.{made_constructed}
 use Rattle.jl_operations.proofs.MemoLemmas.{formed_made}
 use Rattle.jl_operations.proofs.memo.Memo.make_new_written.Goals as goal
-
-pub with_statics-requires : goal.with_statics-requires
-with_statics-requires c = record { closed = written_closed c.args.ready.now c.args.statics.now c.args.written.now c.requires.written.written }
 
 pub make_struct-requires-clause-struct_type : goal.make_struct-requires-clause-struct_type
 make_struct-requires-clause-struct_type c =

@@ -3,14 +3,8 @@ use Rattle.jl_program.specs.Scope.{all_types}
 use Rattle.jl_calculus.specs.Statics.{with_statics}
 use Rattle.jl_operations.specs.Bodies.{IsBodySig, IsKeptAs}
 use Rattle.jl_operations.specs.Questions.{order_of}
-use Rattle.jl_operations.proofs.BodyLemmas.{written_sig, written_closed}
+use Rattle.jl_operations.proofs.BodyLemmas.{written_sig}
 use Rattle.jl_operations.proofs.memo.Memo.test_new_order.Goals as goal
-
-pub with_statics-requires : goal.with_statics-requires
-with_statics-requires c = record { closed = written_closed c.args.ready.now c.args.statics.now c.args.left.now c.requires.left }
-
-pub with_statics-requires-2 : goal.with_statics-requires-2
-with_statics-requires-2 c = record { closed = written_closed c.args.ready.now c.args.statics.now c.args.right.now c.requires.right }
 
 pub prepare-requires-clause-body : goal.prepare-requires-clause-body
 prepare-requires-clause-body c =

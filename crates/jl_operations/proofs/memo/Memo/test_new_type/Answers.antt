@@ -2,11 +2,8 @@ use Rattle.std.proofs.Common.{sym, subst, IfOk}
 use Rattle.jl_program.specs.Scope.{all_types}
 use Rattle.jl_operations.specs.Bodies.{IsBodySig, IsKeptAs}
 use Rattle.jl_operations.specs.Questions.{isa_of}
-use Rattle.jl_operations.proofs.BodyLemmas.{written_sig, written_closed}
+use Rattle.jl_operations.proofs.BodyLemmas.{written_sig}
 use Rattle.jl_operations.proofs.memo.Memo.test_new_type.Goals as goal
-
-pub with_statics-requires : goal.with_statics-requires
-with_statics-requires c = record { closed = written_closed c.args.ready.now c.args.statics.now c.args.written.now c.requires.written }
 
 pub prepare-requires-clause-body : goal.prepare-requires-clause-body
 prepare-requires-clause-body c =

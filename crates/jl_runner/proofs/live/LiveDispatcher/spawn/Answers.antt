@@ -1,5 +1,5 @@
 use Rattle.std.proofs.Common.{sym, subst}
-use Rattle.jl_dispatcher.specs.Knows.{Grew, Spawned}
+use Rattle.jl_task.specs.Knows.{Grew, Spawned}
 use Rattle.jl_runner.specs.declared.known.Knowing.{Knowing}
 use Rattle.jl_runner.specs.Knowing.{knows_of}
 use Rattle.jl_runner.proofs.live.LiveDispatcher.spawn.Goals as goal

@@ -1,0 +1,2 @@
+pub mod ByFunction
+pub mod Picked

@@ -1,0 +1,405 @@
+//! The definitions and the deletions that were made, in order, and found by their functions.
+
+ghost use Rattle.std.specs.Prelude.{ℕ, ◌-◌, ◌≡◌, ◌<◌, MatchOption, ◌≤◌, ◌++◌, [], ◌∷◌, List, map, take, length, get_or, IfOk, OnOk, OnErr};
+ghost use Rattle.jl_model.specs.declared.limits.TheConstants.{MOST_WORLDS};
+ghost use Rattle.jl_program.specs.declared.tree.Program.{Program};
+ghost use Rattle.jl_program.specs.Prelude.{prelude_numbers};
+ghost use Rattle.jl_calculus.specs.declared.history.Change.{Change as C};
+ghost use Rattle.jl_calculus.specs.declared.history.Change.TheVariants as Ch;
+ghost use Rattle.jl_calculus.specs.declared.history.Event.{Event};
+ghost use Rattle.jl_calculus.specs.Definitions.{defs_from, dels_from};
+ghost use Rattle.jl_calculus.specs.Legal.{IsKeyOf};
+ghost use Rattle.jl_calculus.specs.World.{changes, Selects};
+ghost use Rattle.jl_methods.specs.Filters.{IsOfProgram};
+ghost use Rattle.jl_methods.specs.Latest.{renewed, place_number};
+ghost use Rattle.jl_methods.specs.Numbered.{put_at};
+ghost use Rattle.jl_methods.specs.Room.{IsRoomy};
+ghost use Rattle.jl_choosing.specs.ByFunction.{in_world, AreBefore, AreDelsBefore, AreLatest, AreLatestDels, IsRenewed};
+
+use crate::choosing::choose_among;
+use jl_calculus::history::{Change, Def, Del};
+use jl_model::ty::Key;
+use jl_program::choice::Choice;
+use jl_program::prelude::PRELUDE_SITES;
+use jl_sig::Ready;
+use std::alloc::{AllocError, Global};
+use std::marker::Model;
+
+/// The definitions of one function, in order, which contracts see as their list. Beside them stand the latest ones of their
+/// sites, so that a site that is defined again and again counts once.
+#[derive(Drop)]
+struct Methods {
+    all: Vec<Def>,
+    latest: Vec<Def>,
+}
+
+impl Model for Methods {
+    ghost use Rattle.std.specs.Prelude.{List};
+    ghost use Rattle.std.specs.Coded.{coded_list};
+    ghost use Rattle.jl_calculus.specs.declared.history.Def.{Def};
+    ghost use Rattle.jl_calculus.specs.contracts.history.Def as d;
+    ghost use Rattle.jl_choosing.specs.ByFunction.{IsKeptSo};
+
+    ghost Value = { List Def };
+
+    ghost coded = { coded_list d.the_row.coded };
+
+    ghost view = { λ m. m.all.items };
+
+    ghost invariant = { λ m. IsKeptSo m.all.items m.latest.items };
+}
+
+/// The place of the definition of a site.
+fn place_of(defs: &[Def], site: u32) -> Option<usize>
+    ensures { MatchOption result (Unit {0}) (λ i. (i < length defs.now) × ((get_or defs.now i (record { world = 0; site = 0 })).site ≡ site)) }
+{
+    for (i, def) in defs.iter().enumerate() {
+        if def.site == site {
+            return Some(i);
+        }
+    }
+    None
+}
+
+/// One more definition among the latest ones of their sites, in place of that of its own site.
+fn renew(latest: &mut Vec<Def>, def: Def) -> Result<(), AllocError>
+    ensures renewed { OnOk result (IsRenewed def latest.old.items latest.new.items) }
+    ensures refused { OnErr result (latest.new.items ≡ latest.old.items) }
+{
+    let place = place_of(latest, def.site);
+    latest.push(def)?;
+    if let Some(place) = place {
+        latest.remove(place);
+    }
+    Ok(())
+}
+
+impl Methods {
+    /// No definition yet.
+    fn new(alloc: Global) -> Methods
+        ensures { result ≡ [] }
+    {
+        Methods {
+            all: Vec::new(alloc),
+            latest: Vec::new(alloc),
+        }
+    }
+
+    /// One more definition, later than all others.
+    fn push(&mut self, def: Def) -> Result<(), AllocError>
+        requires { AreBefore def.world self.old }
+        ensures added { OnOk result (self.new ≡ self.old ++ def ∷ []) }
+        ensures refused { OnErr result (self.new ≡ self.old) }
+    {
+        let before = self.all.len();
+        self.all.push(def)?;
+        match renew(&mut self.latest, def) {
+            Ok(()) => Ok(()),
+            Err(error) => {
+                self.all.truncate(before);
+                Err(error)
+            }
+        }
+    }
+
+    /// The latest ones of their sites among those that a world has, or all of these.
+    fn in_world(&self, world: u32) -> &[Def]
+        ensures { AreLatest (in_world world self.now) result.now }
+    {
+        if last_world(&self.all) > world {
+            return before(&self.all, world);
+        }
+        self.latest.as_slice()
+    }
+}
+
+/// The deletions of one function, in order, which contracts see as their list. Beside them stand the latest ones of their places, so
+/// that a place that is reached again and again counts once.
+#[derive(Drop)]
+struct Deletions {
+    all: Vec<Del>,
+    latest: Vec<Del>,
+}
+
+impl Model for Deletions {
+    ghost use Rattle.std.specs.Prelude.{List};
+    ghost use Rattle.std.specs.Coded.{coded_list};
+    ghost use Rattle.jl_calculus.specs.declared.history.Del.{Del};
+    ghost use Rattle.jl_calculus.specs.contracts.history.Del as d;
+    ghost use Rattle.jl_methods.specs.Latest.{AreLatestOfPlaces};
+
+    ghost Value = { List Del };
+
+    ghost coded = { coded_list d.the_row.coded };
+
+    ghost view = { λ d. d.all.items };
+
+    ghost invariant = { λ d. AreLatestOfPlaces d.all.items d.latest.items };
+}
+
+/// One more deletion among the latest ones of their places, in place of that of its own place.
+fn renew_deletion(latest: &mut Vec<Del>, del: Del)
+    requires { IsRoomy latest.old }
+    ensures { latest.new.items ≡ renewed place_number latest.old.items del }
+{
+    latest.retain(|other| other.place != del.place);
+    latest.push_reserved(del);
+}
+
+impl Deletions {
+    /// No deletion yet.
+    fn new(alloc: Global) -> Deletions
+        ensures { result ≡ [] }
+    {
+        Deletions {
+            all: Vec::new(alloc),
+            latest: Vec::new(alloc),
+        }
+    }
+
+    /// One more deletion, later than all others.
+    fn push(&mut self, del: Del) -> Result<(), AllocError>
+        requires { AreDelsBefore del.world self.old }
+        ensures added { OnOk result (self.new ≡ self.old ++ del ∷ []) }
+        ensures refused { OnErr result (self.new ≡ self.old) }
+    {
+        self.all.reserve(1)?;
+        self.latest.reserve(1)?;
+        renew_deletion(&mut self.latest, del);
+        self.all.push_reserved(del);
+        Ok(())
+    }
+
+    /// The latest ones of their places among those that a world has, or all of these. Those of an earlier world are found by halves.
+    fn in_world(&self, world: u32) -> &[Del]
+        ensures { (P : Program) (f : ℕ) (cs : List C) → self.now ≡ dels_from P f 1 cs → AreLatestDels (dels_from P f 1 (take world cs)) result.now }
+    {
+        let all = self.all.as_slice();
+        let count = all.partition_point(|del| del.world <= world);
+        if count < all.len() {
+            return &all[..count];
+        }
+        self.latest.as_slice()
+    }
+}
+
+/// The world that the last definition made, and 0 where there is none.
+fn last_world(defs: &[Def]) -> u32
+    ensures { 1 ≤ length defs.now → (get_or defs.now (length defs.now - 1) (record { world = 0; site = 0 })).world ≡ result }
+{
+    match defs.last() {
+        Some(def) => def.world,
+        None => 0,
+    }
+}
+
+/// Those of definitions in order that a world has.
+fn before(defs: &[Def], world: u32) -> &[Def]
+    ensures { result.now ≡ in_world world defs.now }
+{
+    for (i, def) in defs.iter().enumerate() {
+        if def.world > world {
+            return &defs[..i];
+        }
+    }
+    defs
+}
+
+/// All changes so far, of which the first makes world 1, with the definitions and the deletions of each function of the program.
+/// Contracts see the program and the changes.
+#[derive(Drop)]
+pub struct Changes<'p> {
+    ready: &'p Ready,
+    changes: Vec<Change>,
+    methods: Vec<Methods>,
+    deletions: Vec<Deletions>,
+}
+
+impl<'p> Model for Changes<'p> {
+    ghost use Rattle.std.specs.Prelude.{List};
+    ghost use Rattle.std.specs.Coded.{coded×, coded_list};
+    ghost use Rattle.jl_program.specs.declared.tree.Program.{Program};
+    ghost use Rattle.jl_program.specs.contracts.tree.Program as p;
+    ghost use Rattle.jl_calculus.specs.declared.history.Change.{Change};
+    ghost use Rattle.jl_calculus.specs.contracts.history.Change as c;
+    ghost use Rattle.jl_choosing.specs.ByFunction.{AreByFunction, AreDelsByFunction};
+
+    ghost Value = { Program × List Change };
+
+    ghost coded = { coded× p.the_row.coded (coded_list c.the_row.coded) };
+
+    ghost view = { λ d. (d.ready.now, d.changes.items) };
+
+    ghost invariant = { λ d. AreByFunction d.ready.now d.changes.items d.methods.items × AreDelsByFunction d.ready.now d.changes.items d.deletions.items };
+}
+
+/// No definition for each of so many functions.
+fn no_methods(alloc: Global, functions: usize) -> Result<Vec<Methods>, AllocError>
+    ensures count { IfOk result (λ rows. length rows.items ≡ functions) }
+    ensures empty { IfOk result (λ rows. (f : ℕ) → get_or rows.items f [] ≡ []) }
+{
+    let mut rows = Vec::new(alloc);
+    for _ in 0..functions {
+        rows.push(Methods::new(alloc))?;
+    }
+    Ok(rows)
+}
+
+/// No deletion for each of so many functions.
+fn no_deletions(alloc: Global, functions: usize) -> Result<Vec<Deletions>, AllocError>
+    ensures count { IfOk result (λ rows. length rows.items ≡ functions) }
+    ensures empty { IfOk result (λ rows. (f : ℕ) → get_or rows.items f [] ≡ []) }
+{
+    let mut rows = Vec::new(alloc);
+    for _ in 0..functions {
+        rows.push(Deletions::new(alloc))?;
+    }
+    Ok(rows)
+}
+
+/// One more definition of a function.
+fn add(methods: &mut Vec<Methods>, function: u32, def: Def) -> Result<(), AllocError>
+    requires function { function < length methods.old.items }
+    requires later { AreBefore def.world (get_or methods.old.items function []) }
+    ensures added { OnOk result (methods.new.items ≡ put_at methods.old.items function def) }
+    ensures refused { OnErr result (methods.new.items ≡ methods.old.items) }
+{
+    methods[function as usize].push(def)
+}
+
+/// One more deletion of a function.
+fn add_deletion(deletions: &mut Vec<Deletions>, function: u32, del: Del) -> Result<(), AllocError>
+    requires function { function < length deletions.old.items }
+    requires later { AreDelsBefore del.world (get_or deletions.old.items function []) }
+    ensures added { OnOk result (deletions.new.items ≡ put_at deletions.old.items function del) }
+    ensures refused { OnErr result (deletions.new.items ≡ deletions.old.items) }
+{
+    deletions[function as usize].push(del)
+}
+
+impl<'p> Changes<'p> {
+    /// Nothing is changed yet.
+    pub fn new(alloc: Global, ready: &'p Ready) -> Result<Changes<'p>, AllocError>
+        ensures { IfOk result (λ d. d ≡ (ready.now, [])) }
+    {
+        let functions = ready.program().functions.len();
+        let methods = no_methods(alloc, functions)?;
+        let deletions = no_deletions(alloc, functions)?;
+        Ok(Changes {
+            ready,
+            changes: Vec::new(alloc),
+            methods,
+            deletions,
+        })
+    }
+
+    /// One more definition, of this site.
+    fn define(&mut self, site: u32) -> Result<(), AllocError>
+        requires site { site < length self.old.0.sites }
+        requires room { length self.old.1 ≤ MOST_WORLDS }
+        ensures added { OnOk result (self.new ≡ (self.old.0, self.old.1 ++ Ch.Def site ∷ [])) }
+        ensures refused { OnErr result (self.new ≡ self.old) }
+    {
+        self.ready.valid();
+        self.changes.reserve(1)?;
+        let def = Def {
+            world: self.changes.len() as u32 + 1,
+            site,
+        };
+        let function = self.ready.program().sites.as_slice()[site as usize].function;
+        add(&mut self.methods, function, def)?;
+        self.changes.push_reserved(Change::Def(site));
+        Ok(())
+    }
+
+    /// One more deletion, at this place of the program.
+    fn delete(&mut self, place: u32) -> Result<(), AllocError>
+        requires place { place < length self.old.0.deletes }
+        requires room { length self.old.1 ≤ MOST_WORLDS }
+        ensures added { OnOk result (self.new ≡ (self.old.0, self.old.1 ++ Ch.Del place ∷ [])) }
+        ensures refused { OnErr result (self.new ≡ self.old) }
+    {
+        self.ready.valid();
+        self.changes.reserve(1)?;
+        let del = Del {
+            world: self.changes.len() as u32 + 1,
+            place,
+        };
+        let function = self.ready.program().deletes.as_slice()[place as usize].function;
+        add_deletion(&mut self.deletions, function, del)?;
+        self.changes.push_reserved(Change::Del(place));
+        Ok(())
+    }
+
+    /// One more change.
+    pub fn push(&mut self, change: Change) -> Result<(), AllocError>
+        requires change { IsOfProgram self.old.0 change }
+        requires room { length self.old.1 ≤ MOST_WORLDS }
+        ensures added { OnOk result (self.new ≡ (self.old.0, self.old.1 ++ change ∷ [])) }
+        ensures refused { OnErr result (self.new ≡ self.old) }
+    {
+        match change {
+            Change::Def(site) => self.define(site),
+            Change::Del(place) => self.delete(place),
+        }
+    }
+
+    /// The latest ones of their sites among the definitions of a function in a world, or all of these.
+    pub fn defs_of(&self, function: u32, world: u32) -> &[Def]
+        requires { world ≤ length self.now.1 }
+        ensures { AreLatest (defs_from self.now.0 function 1 (take world self.now.1)) result.now }
+    {
+        match self.methods.get(function as usize) {
+            Some(methods) => methods.in_world(world),
+            None => &[],
+        }
+    }
+
+    /// The latest ones of their places among the deletions of a function in a world, or all of these.
+    pub fn dels_of(&self, function: u32, world: u32) -> &[Del]
+        ensures { AreLatestDels (dels_from self.now.0 function 1 (take world self.now.1)) result.now }
+    {
+        match self.deletions.get(function as usize) {
+            Some(deletions) => deletions.in_world(world),
+            None => &[],
+        }
+    }
+
+    /// The choice for a call in a world. In the newest the cost is in the sites of the function, and for those that apply in its deletion
+    /// places, however often they were reached.
+    pub fn choose(&self, alloc: Global, key: &Key, world: u32) -> Result<Choice, AllocError>
+        requires key { IsKeyOf self.now.0 key.now }
+        requires world { world ≤ length self.now.1 }
+        ensures { IfOk result (λ c. (es : List Event) → take world (changes es) ≡ take world self.now.1 → Selects self.now.0 es key.now.function key.now.types world c) }
+    {
+        let defs = self.defs_of(key.function, world);
+        let dels = self.dels_of(key.function, world);
+        choose_among(alloc, self.ready, defs, dels, key.types.as_slice())
+    }
+
+    /// The program that the changes are of.
+    pub fn ready(&self) -> &'p Ready
+        ensures { result.now ≡ self.now.0 }
+    {
+        self.ready
+    }
+
+    /// All changes, in order.
+    pub fn all(&self) -> &[Change]
+        ensures { result.now ≡ self.now.1 }
+    {
+        self.changes.as_slice()
+    }
+}
+
+/// The definitions of the prelude's operations, which are made before a script begins.
+pub fn prelude_changes<'p>(alloc: Global, ready: &'p Ready) -> Result<Changes<'p>, AllocError>
+    ensures { IfOk result (λ d. d ≡ (ready.now, map Ch.Def prelude_numbers)) }
+{
+    ready.valid();
+    let mut changes = Changes::new(alloc, ready)?;
+    for site in 0..PRELUDE_SITES {
+        changes.push(Change::Def(site))?;
+    }
+    Ok(changes)
+}

@@ -1,7 +1,0 @@
-use Rattle.std.proofs.Common.{◌≡◌, take, drop}
-use Rattle.jl_keys.specs.Reading.{word_at}
-use Rattle.jl_keys.proofs.ReadLemmas.{front}
-use Rattle.jl_keys.proofs.read.split_word.Given as goal
-
-abbrev pub invariant-loop-end : goal.invariant-loop-end
-invariant-loop-end l = front (take l.end l.text) (word_at (drop l.end l.text)) ≡ word_at l.text

@@ -1,0 +1,35 @@
+use Rattle.std.proofs.Common.{◌≡◌, refl, subst, arith, inl, inr}
+use Rattle.jl_model.specs.Ancestors.{table_of}
+use Rattle.jl_model.specs.Subtype.{opaque, at}
+use Rattle.jl_match.specs.KeptRow.{row_of}
+use Rattle.jl_search.specs.Serving.{ServesAt}
+use Rattle.jl_search.proofs.ServingLemmas.{serves_all}
+use Rattle.jl_match.proofs.TopLemmas.{top_ground}
+use Rattle.jl_match.proofs.RowLemmas.{below_or, low_of}
+use Rattle.jl_match.proofs.serve.serve_named.Goals as goal
+
+pub is_between-requires-clause-low : goal.is_between-requires-clause-low
+is_between-requires-clause-low c = c.requires.row.low c.loop-variable.variable (omega (arith, c.loop-variable-test.true, c.requires.diagonals.long))
+
+pub is_between-requires-clause-high : goal.is_between-requires-clause-high
+is_between-requires-clause-high c =
+    let v = c.loop-variable.variable in
+    let s = c.args.signature.now in
+    top_ground c.args.table.now s (row_of c.args.parts.now c.args.chosen.now) v c.args.values.now c.requires.values (c.requires.row.top v (omega (arith, c.loop-variable-test.true, c.requires.diagonals.long)))
+
+pub loop-variable-preserved : goal.loop-variable-preserved
+loop-variable-preserved c v l = elim (below_or v c.loop-variable.variable) [
+  | inl h ↦ c.loop-variable.invariant v h
+  | inr h ↦
+      let e : c.loop-variable.variable ≡ v = omega (arith, l, h) in
+      subst (ServesAt (table_of c.args.table.now) opaque c.args.signature.now (row_of c.args.parts.now c.args.chosen.now) (at c.args.values.now)) e (λ o. c.in_ok-is_between.ensures.0 c.if-not-branch.false)
+]
+
+pub returns : goal.returns
+returns c =
+    let s = c.args.signature.now in
+    let r = row_of c.args.parts.now c.args.chosen.now in (
+      (λ h. serves_all (table_of c.args.table.now) opaque s r (at c.args.values.now) (low_of c.args.table.now s r c.requires.row)
+          (λ v l. c.loop-variable.invariant v (omega (arith, l, c.requires.diagonals.long, c.loop-variable-test.false)))),
+      (λ q. refl),
+    )

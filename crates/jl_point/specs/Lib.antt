@@ -1,9 +1,0 @@
-pub mod Turns
-pub mod Point
-pub mod Operated
-pub mod Questions
-pub mod Weight
-pub mod Size
-pub mod Worlds
-pub mod ValidPoint
-pub mod Skip

@@ -1,5 +1,0 @@
-use Rattle.jl_recall.proofs.KeptLemmas.{none_right}
-use Rattle.jl_recall.proofs.cached.Cached.new.Goals as goal
-
-pub invariant_of-result : goal.invariant_of-result
-invariant_of-result g c = none_right _ _ c.in_ok-table.ensures

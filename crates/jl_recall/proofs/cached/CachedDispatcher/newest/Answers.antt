@@ -1,5 +1,0 @@
-use Rattle.jl_recall.proofs.KeptLemmas.{kept_more}
-use Rattle.jl_recall.proofs.cached.CachedDispatcher.newest.Goals as goal
-
-pub invariant_of-self : goal.invariant_of-self
-invariant_of-self g c = kept_more _ _ c.self.inside.table.items c.newest.ensures.grew c.self.invariant

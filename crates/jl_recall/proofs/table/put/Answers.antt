@@ -1,5 +1,0 @@
-use Rattle.jl_recall.proofs.KeptLemmas.{put_at}
-use Rattle.jl_recall.proofs.table.put.Goals as goal
-
-pub returns : goal.returns
-returns c = rw c.replace.ensures.after (put_at c.args.kept c.args.table.now.items c.place_of-place.result)

@@ -1,0 +1,14 @@
+pub mod Turns
+pub mod Point
+pub mod Operated
+pub mod Questions
+pub mod Weight
+pub mod Size
+pub mod Worlds
+pub mod ValidPoint
+pub mod Skip
+pub mod Knows
+pub mod Asks
+pub mod Known
+pub mod Fits
+pub mod Kept
