@@ -67,12 +67,7 @@ fn change_applies(
 }
 
 /// Whether a change touches a key: it is of its function, and its signature applies to its types.
-pub fn touches(
-    alloc: Global,
-    ready: &Ready,
-    change: Change,
-    key: &Key,
-) -> Result<bool, AllocError>
+pub fn touches(alloc: Global, ready: &Ready, change: Change, key: &Key) -> Result<bool, AllocError>
     requires change { IsOfProgram ready.now change }
     requires key { IsKeyOf ready.now key.now }
     ensures { IfOk result (λ yes. Decides yes (ChangeTouches ready.now (Some change) key.now)) }

@@ -3,4 +3,7 @@ pub mod Steps
 pub mod Constant
 pub mod Joined
 pub mod Gathered
+pub mod TextSteps
+pub mod FormLemmas
+pub mod AskedLemmas
 pub mod Comes

@@ -3,6 +3,10 @@
 #![tactic(auto)]
 
 mod choices;
+mod key;
+mod key_types;
 mod ranges;
+mod type_text;
 
+pub use key::{QueryFault, key_of};
 pub use ranges::{Span, spans};

@@ -1,0 +1,12 @@
+pub mod SpellLemmas
+pub mod Members
+pub mod Sorted
+pub mod FirstLemmas
+pub mod ListLemmas
+pub mod FoundLemmas
+pub mod TwoLemmas
+pub mod MadeLemmas
+pub mod TypeLemmas
+pub mod DoneLemmas
+pub mod AskLemmas
+pub mod StandLemmas

@@ -1,0 +1,10 @@
+use Rattle.std.proofs.Common.{ℕ, ◌≡◌, ◌<◌, ◌≤◌, slice_get, Some, take}
+use Rattle.jl_program.specs.declared.tree.Site.{Site}
+use Rattle.jl_ambig.specs.Asked.{AreBelow}
+use Rattle.jl_ambig.proofs.ambiguity.functions.Given as goal
+
+abbrev pub invariant-loop-site : goal.invariant-loop-site
+invariant-loop-site l = record {
+  few : l.above ≤ 4294967296;
+  all : AreBelow (take l.site-index l.ready.sites) l.above;
+}

@@ -1,0 +1,3 @@
+pub mod Probes
+pub mod Pairs
+pub mod Asked
