@@ -31,9 +31,11 @@ MAKING = "making-"
 FAILED = 70
 # How often it is told that the build goes on, in seconds.
 PAUSE = 15
-USAGE = "usage: jl run|trace [--threads N] [--fuel N] | jl check|replay | jl gen N [--threads N] [--fuel N]"
+USAGE = "usage: jl run|trace|ambiguous [--threads N] [--fuel N] | jl check|replay | jl gen N [--threads N] [--fuel N] | jl which NAME TYPE [--threads N] [--fuel N]"
 BOUNDS = {"--threads": (1, 64), "--fuel": (0, 1_000_000_000)}
 MOST_NUMBER = 99_999_999
+# The commands, and how many words besides options each has.
+COMMANDS = {"run": 0, "trace": 0, "ambiguous": 0, "check": 0, "replay": 0, "gen": 1, "which": 2}
 
 
 class Failure(Exception):
@@ -305,24 +307,25 @@ def number(word, least, most):
 
 def is_command(words):
     """Whether the program takes these words, and does not answer with the usage line."""
-    if not words or words[0] not in ("run", "trace", "check", "replay", "gen"):
+    if not words or words[0] not in COMMANDS:
         return False
     name, rest = words[0], list(words[1:])
     if name in ("check", "replay"):
         return not rest
-    given = set()
+    given, plain = set(), []
     while rest:
-        option, equals, value = rest.pop(0).partition("=")
+        word = rest.pop(0)
+        option, equals, value = word.partition("=")
         if option in BOUNDS and option not in given:
             value = value if equals else rest.pop(0) if rest else ""
             if number(value, *BOUNDS[option]) is None:
                 return False
             given.add(option)
-        elif name != "gen" or "N" in given or equals or number(option, 0, MOST_NUMBER) is None:
+        elif word.startswith("-"):
             return False
         else:
-            given.add("N")
-    return name != "gen" or "N" in given
+            plain.append(word)
+    return len(plain) == COMMANDS[name] and (name != "gen" or number(plain[0], 0, MOST_NUMBER) is not None)
 
 
 def version():

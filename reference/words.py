@@ -18,12 +18,14 @@ from concurrent.futures import ThreadPoolExecutor
 
 HERE = os.path.dirname(os.path.abspath(__file__))
 PROGRAM = os.environ.get("JL") or os.path.join(HERE, "..", "crates", "jl_main", "out", "jl_main")
-USAGE = b"usage: jl run|trace [--threads N] [--fuel N] | jl check|replay | jl gen N [--threads N] [--fuel N]\n"
+USAGE = b"usage: jl run|trace|ambiguous [--threads N] [--fuel N] | jl check|replay | jl gen N [--threads N] [--fuel N] | jl which NAME TYPE [--threads N] [--fuel N]\n"
 POOL = (
     "run", "trace", "check", "replay", "gen", "--threads", "--fuel", "--threads=2", "--fuel=007", "--threads=0",
-    "--fuel=1000000001", "2", "64", "65", "007", "12345678901", "--", "-h", "x",
+    "--fuel=1000000001", "2", "64", "65", "007", "12345678901", "--", "-h", "x", "which", "ambiguous", "Tuple{}", "", "-",
 )
 BOUNDS = {"--threads": (1, 64), "--fuel": (0, 1_000_000_000)}
+# The commands, and how many words besides options each has.
+COMMANDS = {"run": 0, "trace": 0, "ambiguous": 0, "check": 0, "replay": 0, "gen": 1, "which": 2}
 
 
 def number(word, least, most):
@@ -35,12 +37,12 @@ def number(word, least, most):
 
 def command_of(words):
     """The command with its options that words are, or none."""
-    if not words or words[0] not in ("run", "trace", "check", "replay", "gen"):
+    if not words or words[0] not in COMMANDS:
         return None
     name, rest = words[0], list(words[1:])
     if name in ("check", "replay"):
-        return (name, None, {}) if not rest else None
-    options, operand = {}, None
+        return (name, [], {}) if not rest else None
+    options, operands = {}, []
     while rest:
         word = rest.pop(0)
         option, equals, value = word.partition("=")
@@ -53,15 +55,15 @@ def command_of(words):
             if value is None or option in options:
                 return None
             options[option] = value
-        elif name == "gen" and operand is None:
-            operand = number(word, 0, 99_999_999)
-            if operand is None:
-                return None
-        else:
+        elif word.startswith("-"):
             return None
-    if name == "gen" and operand is None:
+        else:
+            operands.append(word)
+    if len(operands) != COMMANDS[name]:
         return None
-    return name, operand, options
+    if name == "gen" and number(operands[0], 0, 99_999_999) is None:
+        return None
+    return name, operands, options
 
 
 def is_right(words, status, out):
@@ -69,7 +71,7 @@ def is_right(words, status, out):
     command = command_of(words)
     if command is None:
         return status == 2 and out == USAGE
-    name, operand, options = command
+    name, operands, options = command
     fuel = options.get("--fuel", 10_000_000)
     if name == "run":
         return status == 0 and out == b""
@@ -79,7 +81,11 @@ def is_right(words, status, out):
         return status == 0 and out == b"ok: 0 types, 0 definitions\n"
     if name == "replay":
         return status == 3 and out == b"ERROR: NoHistory\n"
-    return status in (0, 1) and out.startswith(b"generated " + str(operand).encode() + b"\n")
+    if name == "which":
+        return status == 8 and out == b"ERROR: QueryUnknown\n"
+    if name == "ambiguous":
+        return status == 0 and out == b"pairs 0\n"
+    return status in (0, 1) and out.startswith(b"generated " + str(int(operands[0])).encode() + b"\n")
 
 
 def ask(words):

@@ -226,6 +226,30 @@ class Runs(unittest.TestCase):
         self.assertIn("definition 15 is site 14; its line is not known without jl_sites", told)
 
 
+class Questions(unittest.TestCase):
+    def test_the_definitions_of_an_answer_have_their_lines(self):
+        script = "f(x) = 1\n\nf(x::Int64) = 2\n"
+        answer = "14 14 none\n15 15 definition 15\n16 - definition 16\n"
+        lines = "definition 15 is line 1: f(x) = 1\ndefinition 16 is line 3: f(x::Int64) = 2\n"
+        self.assertEqual(explain(script, "--which", "f", "Tuple{Int64}"), (answer, lines, 0))
+
+    def test_both_definitions_of_a_pair_have_their_lines(self):
+        script = "f(x::Int64, y) = 1\nf(x, y::Int64) = 2\ng(a, b, c, d) = 3\ng()\n"
+        out, told, status = explain(script, "--ambiguous", "--threads", "2")
+        self.assertEqual(out, "f definitions 15 and 16 at Tuple{Int64, Int64}\ndefinition 17 not examined\npairs 1\n")
+        self.assertEqual([line.split(" is ")[0] for line in told.splitlines()], ["definition 15", "definition 16", "definition 17"])
+        self.assertEqual(status, 1)
+
+    def test_a_built_in_definition_is_named(self):
+        self.assertIn("definition 1 is built in", explain("Base.:+(x::Bool, y::Bool) = x\n", "--which", "+", "Tuple{Int64, Int64}")[1])
+
+    def test_a_question_that_is_not_about_the_script(self):
+        out, told, status = explain("f() = 1\n", "--which", "g", "Tuple{}")
+        self.assertEqual((out, status), ("ERROR: QueryUnknown\n", 8))
+        self.assertIn("Write: ", told)
+        self.assertEqual(explain("f( = 1\n", "--which", "f", "Tuple{}")[2], 3)
+
+
 class Command(unittest.TestCase):
     def test_a_check_runs_nothing(self):
         self.assertEqual(explain("println(1)\nf(x) = x\n", "--check"), ("ok: 0 types, 1 definitions\n", "", 0))

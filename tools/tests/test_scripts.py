@@ -21,7 +21,7 @@ REAL = os.path.abspath(os.environ.get("JL") or f"{TOP}/crates/jl_main/out/jl_mai
 sys.path.insert(0, TOP)
 import program  # noqa: E402
 
-USAGE = "usage: jl run|trace [--threads N] [--fuel N] | jl check|replay | jl gen N [--threads N] [--fuel N]\n"
+USAGE = "usage: jl run|trace|ambiguous [--threads N] [--fuel N] | jl check|replay | jl gen N [--threads N] [--fuel N] | jl which NAME TYPE [--threads N] [--fuel N]\n"
 UNPROVED = "jl: the program without proofs (./build makes the proved one)"
 PROVED = "jl: the proved program"
 # The crates, the lowest last, so that their order is not that of the file.

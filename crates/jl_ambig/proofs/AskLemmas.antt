@@ -1,5 +1,5 @@
 -- A function is asked with some types.
-use Rattle.std.proofs.Common.{◌≡◌, ◌∙◌, sym, ap, subst, refl, ℕ, zero, suc, ◌+◌, ◌<◌, ◌≤◌, ◌⊎◌, inl, inr, arith, false, true, Bool, cond, List, [], ◌∷◌, ◌++◌, append_assoc, append-nil, map, length, take, get_or, slice_get, Some}
+use Rattle.std.proofs.Common.{◌≡◌, ◌∙◌, sym, ap, subst, refl, ℕ, zero, suc, ◌+◌, ◌<◌, ◌≤◌, ◌⊎◌, inl, inr, arith, true, cond, List, [], ◌∷◌, ◌++◌, append_assoc, append-nil, length, take, get_or, slice_get, Some}
 use Rattle.std.specs.List.{All, Contains, filter}
 use Rattle.std.proofs.lemmas.List.{take_more, take_all, map_push}
 use Rattle.std.proofs.lemmas.List.Elements.{filter_more}
@@ -7,15 +7,14 @@ use Rattle.std.proofs.lemmas.Option.{same_Some, none-some}
 use Rattle.jl_program.specs.declared.tree.Site.{Site}
 use Rattle.jl_model.specs.declared.ty.Ty.{Ty}
 use Rattle.jl_program.specs.declared.choice.Choice.{Choice}
-use Rattle.jl_program.specs.declared.choice.Choice.TheVariants as C
 use Rattle.jl_program.specs.declared.tree.Program.{Program}
 use Rattle.jl_program.specs.Valid.{IsValid}
 use Rattle.jl_calculus.specs.declared.history.Change.{Change}
 use Rattle.jl_calculus.specs.declared.history.Def.{Def}
 use Rattle.jl_calculus.specs.declared.history.Del.{Del}
 use Rattle.jl_calculus.specs.declared.history.Event.{Event}
-use Rattle.jl_calculus.specs.Definitions.{AppliesTo, defs_in, defs_from, dels_from}
-use Rattle.jl_calculus.specs.World.{changes, world_of, Selects}
+use Rattle.jl_calculus.specs.Definitions.{defs_in, defs_from, dels_from}
+use Rattle.jl_calculus.specs.World.{changes, world_of}
 use Rattle.jl_calculus.proofs.GrowthLemmas.{changes_length}
 use Rattle.jl_choosing.specs.ByFunction.{AreLatest, AreLatestDels}
 use Rattle.jl_choosing.specs.Picked.{Picked}

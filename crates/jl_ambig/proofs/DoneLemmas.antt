@@ -1,9 +1,8 @@
 -- What was found at all probes are the pairs.
-use Rattle.std.proofs.Common.{◌≡◌, ◌∙◌, sym, ap, subst, refl, ℕ, zero, suc, ◌+◌, ◌<◌, ◌≤◌, ◌⊎◌, inl, inr, arith, List, [], ◌∷◌, ◌++◌, map, length, take}
+use Rattle.std.proofs.Common.{◌≡◌, ◌∙◌, sym, ap, subst, refl, ℕ, zero, suc, ◌<◌, ◌⊎◌, inl, inr, arith, List, [], ◌∷◌, ◌++◌, length, take}
 use Rattle.std.specs.List.{Contains}
 use Rattle.std.specs.Cmp.{IsTotalOrder}
 use Rattle.std.specs.Ordering.{ordering_reverse}
-use Rattle.std.specs.declared.cmp.Ordering.TheVariants.{Less, Equal, Greater}
 use Rattle.std.proofs.lemmas.Cmp.{lists_total, tied_itself}
 use Rattle.std.proofs.lemmas.List.Elements.{Contains-append_left, Contains-append_right, Contains-append_cases}
 use Rattle.jl_model.specs.declared.ty.Ty.{Ty}
@@ -16,9 +15,9 @@ use Rattle.jl_calculus.specs.World.{changes, world_of}
 use Rattle.jl_methods.proofs.ChangeLemmas.{def_of}
 use Rattle.jl_methods.proofs.FilterLemmas.{here, there, here_or_there}
 use Rattle.jl_ambig.specs.declared.noting.Pair.{Pair}
-use Rattle.jl_ambig.specs.Asked.{Probe, probes_of, probes_up_to, Names, IsFirstAt, AreFound, AreBelow}
+use Rattle.jl_ambig.specs.Asked.{Probe, probes_of, probes_up_to, IsFirstAt, AreFound, AreBelow}
 use Rattle.jl_ambig.specs.Pairs.{IsAmbiguous, IsPair, ArePairs}
-use Rattle.jl_ambig.specs.Probes.{AreProbeTypes, IsProbe, IsEarlier, HasComponents, lists_of}
+use Rattle.jl_ambig.specs.Probes.{AreProbeTypes, IsProbe, IsEarlier, lists_of}
 use Rattle.jl_ambig.proofs.ListLemmas.{order, of_lists, in_lists, rises_lists}
 use Rattle.jl_ambig.proofs.Members.{empty, in_map, of_map}
 use Rattle.jl_ambig.proofs.Sorted.{Rises, to_rises}

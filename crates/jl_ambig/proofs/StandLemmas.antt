@@ -1,12 +1,11 @@
 -- Which definitions stand in the newest world, and which of them have more components than functions are asked with.
-use Rattle.std.proofs.Common.{◌≡◌, ◌∙◌, sym, ap, subst, refl, ℕ, zero, suc, ◌+◌, ◌<◌, ◌≤◌, ◌⊎◌, inl, inr, arith, Bool, true, false, IsTrue, List, [], ◌∷◌, ◌++◌, length, take, get_or, slice_get, slice_set, Option, None, Some}
+use Rattle.std.proofs.Common.{◌≡◌, ◌∙◌, sym, ap, subst, refl, ℕ, zero, suc, ◌+◌, ◌<◌, ◌≤◌, ◌⊎◌, inl, inr, arith, Bool, true, false, List, [], ◌∷◌, ◌++◌, length, take, get_or, slice_get, slice_set, Option, None, Some}
 use Rattle.std.specs.Bool.{Decides}
 use Rattle.std.specs.List.{Contains}
 use Rattle.std.specs.List.Sorted.{IsStrictlyIncreasing}
 use Rattle.std.proofs.lemmas.List.{take_all, get_or_append_left, get_or_push, length_push, get_or-set_same, get_or-set_other, length-set}
 use Rattle.std.proofs.lemmas.List.Elements.{Contains-append_left, Contains-push, Contains-push_cases, Contains-get_or}
 use Rattle.std.proofs.lemmas.Option.{slice_get-get_or, same_Some, none-some}
-use Rattle.jl_model.specs.declared.ty.Ty.{Ty}
 use Rattle.jl_program.specs.declared.tree.Delete.{Delete}
 use Rattle.jl_program.specs.declared.tree.Site.{Site}
 use Rattle.jl_program.specs.declared.tree.Program.{Program}
@@ -15,7 +14,7 @@ use Rattle.jl_calculus.specs.declared.history.Change.TheVariants as Ch
 use Rattle.jl_calculus.specs.declared.history.Def.{Def}
 use Rattle.jl_calculus.specs.declared.history.Del.{Del}
 use Rattle.jl_calculus.specs.declared.history.Event.{Event}
-use Rattle.jl_calculus.specs.Definitions.{sig_of, defs_in, defs_from, dels_from, IsStanding}
+use Rattle.jl_calculus.specs.Definitions.{defs_in, defs_from, dels_from, IsStanding}
 use Rattle.jl_calculus.specs.World.{changes, change_at, world_of}
 use Rattle.jl_calculus.proofs.GrowthLemmas.{changes_length}
 use Rattle.jl_choosing.specs.ByFunction.{AreLatestDels}
@@ -24,8 +23,8 @@ use Rattle.jl_methods.specs.Filters.{dels_in}
 use Rattle.jl_methods.proofs.ChangeLemmas.{def, del, def_of, def_there, del_of, del_there}
 use Rattle.jl_methods.proofs.PutLemmas.{get_known, take_within}
 use Rattle.jl_methods.proofs.UpLemmas.{get_take}
-use Rattle.jl_subsig.specs.Standing.{HasPlace, HasLeftAt, AreSameSigs, IsLeft, IsRepeated, IsLastDeletion}
-use Rattle.jl_subsig.proofs.StandingChoice.{IsDeletionOf, IsKept, kept_left, left_kept}
+use Rattle.jl_subsig.specs.Standing.{HasLeftAt, AreSameSigs, IsLeft, IsRepeated, IsLastDeletion}
+use Rattle.jl_subsig.proofs.StandingChoice.{IsDeletionOf, kept_left, left_kept}
 use Rattle.jl_subsig.proofs.StandingLemmas.{left_by, taken_by}
 use Rattle.jl_ambig.specs.Asked.{components_at, IsEndOf, AreEnds, AreUnexaminedUpTo}
 use Rattle.jl_ambig.specs.Pairs.{IsUnexamined, AreUnexamined}

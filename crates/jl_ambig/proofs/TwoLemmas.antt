@@ -1,28 +1,27 @@
 -- A call is ambiguous between definitions of two sites that have as many components as it has arguments.
-use Rattle.std.proofs.Common.{◌≡◌, ◌∙◌, sym, ap, subst, refl, ℕ, zero, suc, ◌+◌, ◌<◌, ◌≤◌, ◌⊎◌, inl, inr, arith, Bool, true, false, cond, nat_eq, List, [], ◌∷◌, ◌++◌, map, length, take, slice_get, Some}
+use Rattle.std.proofs.Common.{◌≡◌, ◌∙◌, sym, ap, subst, refl, ℕ, suc, ◌+◌, ◌<◌, ◌≤◌, ◌⊎◌, inl, inr, arith, Bool, true, false, cond, nat_eq, List, [], ◌∷◌, map, length, take, slice_get}
 use Rattle.std.specs.List.{Contains, filter}
 use Rattle.std.proofs.lemmas.List.{length-map}
 use Rattle.jl_model.specs.declared.ty.Ty.{Ty}
 use Rattle.jl_model.specs.declared.ty.Written.{Written}
 use Rattle.jl_model.specs.Choice.{Method, IsCandidate, IsFirstUnordered, IsFirstTwo, IsUnordered}
-use Rattle.jl_model.specs.Rows.{choices, forms, place_of, kind, components}
+use Rattle.jl_model.specs.Rows.{choices, forms, place_of, kind}
 use Rattle.jl_model.specs.Signature.{Applicable, Both, both_end, both_more, SameSignature}
 use Rattle.jl_program.specs.declared.choice.Choice.TheVariants as C
 use Rattle.jl_program.specs.declared.tree.Program.{Program}
 use Rattle.jl_program.specs.Scope.{types_of}
 use Rattle.jl_program.specs.Valid.{IsValid}
-use Rattle.jl_calculus.specs.declared.history.Change.{Change}
 use Rattle.jl_calculus.specs.declared.history.Def.{Def}
 use Rattle.jl_calculus.specs.declared.history.Event.{Event}
-use Rattle.jl_calculus.specs.Definitions.{sig_of, method_of, AppliesTo, HasSite, defs_in, IsStanding}
-use Rattle.jl_calculus.specs.World.{changes, world_of, Selects}
+use Rattle.jl_calculus.specs.Definitions.{sig_of, AppliesTo, HasSite, defs_in, IsStanding}
+use Rattle.jl_calculus.specs.World.{changes, Selects}
 use Rattle.jl_calculus.proofs.MethodLemmas.{method_standing}
 use Rattle.jl_choosing.specs.ByFunction.{AreLatest, Rising}
 use Rattle.jl_methods.proofs.ChangeLemmas.{def_of}
 use Rattle.jl_methods.proofs.FilterLemmas.{here_or_there}
 use Rattle.jl_methods.proofs.PutLemmas.{get_known}
 use Rattle.jl_subsig.specs.Side.{Every}
-use Rattle.jl_subsig.specs.Standing.{HasLaterAtSite, HaveLatest}
+use Rattle.jl_subsig.specs.Standing.{HaveLatest}
 use Rattle.jl_subsig.proofs.LatestLemmas.{scope_at}
 use Rattle.jl_subsig.proofs.ReflexiveLemmas.{reflexive}
 use Rattle.jl_ambig.specs.Asked.{components_at, has_components}

@@ -1,5 +1,5 @@
 -- The types that functions are asked with are types of values.
-use Rattle.std.proofs.Common.{◌≡◌, ◌∙◌, sym, ap, subst, refl, ℕ, zero, suc, ◌+◌, ◌<◌, ◌≤◌, ◌⊎◌, inl, inr, arith, Bool, true, false, ◌&&◌, cond, nat_eq, List, [], ◌∷◌, ◌++◌, append_assoc, map, length, take, drop, get_or, slice_get, Some}
+use Rattle.std.proofs.Common.{◌≡◌, ◌∙◌, sym, ap, subst, refl, ℕ, zero, suc, ◌+◌, ◌<◌, ◌≤◌, ◌⊎◌, inl, inr, arith, Bool, true, false, ◌&&◌, cond, nat_eq, List, [], ◌∷◌, ◌++◌, append_assoc, length, take, drop, get_or, slice_get, Some}
 use Rattle.std.specs.List.{All, Contains, flat_map}
 use Rattle.std.proofs.Math.Seq.{drop-cons}
 use Rattle.std.proofs.lemmas.List.{take_more}
@@ -13,7 +13,6 @@ use Rattle.jl_model.specs.declared.ty.Ty.TheViews.{outs-Nominal, rolls-Nominal}
 use Rattle.jl_model.specs.declared.ty.Ty.TheViews as V
 use Rattle.jl_model.specs.declared.ty.Ty.TheFolds.{fold-roll-Ty}
 use Rattle.jl_model.specs.Ancestors.{table_of, named, builtin_types, is_struct_kind}
-use Rattle.jl_model.specs.Counts.{raw}
 use Rattle.jl_model.specs.Normal.{nominal as normal_nominal, none as no_normal}
 use Rattle.jl_model.specs.Valid.{is_counted, counted_step, params_of}
 use Rattle.jl_model.proofs.CountLemmas.{nodes-nominal, raw-nominal}

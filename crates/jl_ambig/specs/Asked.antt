@@ -1,5 +1,5 @@
 -- What was asked so far, what was found by it, and what is kept to ask on.
-use Rattle.std.specs.Prelude.{ℕ, zero, suc, ◌+◌, ◌≡◌, ◌<◌, ◌≤◌, ◌⊎◌, Bool, nat_eq, Option, None, Some, List, [], ◌∷◌, ◌++◌, map, length, take, drop, slice_get, get_or}
+use Rattle.std.specs.Prelude.{ℕ, zero, suc, ◌≡◌, ◌<◌, ◌≤◌, Bool, nat_eq, Option, None, Some, List, [], ◌∷◌, ◌++◌, map, length, take, drop, slice_get, get_or}
 use Rattle.std.specs.List.{All, Contains}
 use Rattle.std.specs.List.Sorted.{IsStrictlySortedBy, IsStrictlyIncreasing}
 use Rattle.std.specs.declared.cmp.Ordering.{Ordering}
@@ -17,7 +17,7 @@ use Rattle.jl_calculus.specs.declared.history.Del.{Del}
 use Rattle.jl_calculus.specs.declared.history.Event.{Event}
 use Rattle.jl_calculus.specs.declared.history.Event.TheVariants as Ev
 use Rattle.jl_calculus.specs.Definitions.{sig_of, AppliesTo, HasSite, defs_in, dels_from}
-use Rattle.jl_calculus.specs.World.{changes, world_of, Selects}
+use Rattle.jl_calculus.specs.World.{changes, world_of}
 use Rattle.jl_choosing.specs.ByFunction.{AreLatestDels, Rising}
 use Rattle.jl_subsig.specs.Side.{Every}
 use Rattle.jl_subsig.specs.Standing.{HasPlace, HaveLatest, ChoosesLeft, IsLastDeletion}

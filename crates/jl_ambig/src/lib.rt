@@ -13,4 +13,5 @@ mod spelling;
 
 pub use ambiguity::pairs;
 pub use beyond::unexamined;
+pub use made::changes_of;
 pub use noting::Pair;

@@ -27,7 +27,7 @@ fn change_of(event: &Event) -> Option<Change>
 }
 
 /// The changes of a history, the prelude's first.
-pub(crate) fn changes_of<'p>(
+pub fn changes_of<'p>(
     alloc: Global,
     ready: &'p Ready,
     events: &[Event],

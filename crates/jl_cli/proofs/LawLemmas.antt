@@ -14,11 +14,10 @@ use Rattle.jl_replay.specs.declared.verdict.Verdict.{Verdict}
 use Rattle.jl_replay.specs.declared.verdict.Verdict.TheVariants as V
 use Rattle.jl_cli.specs.declared.work.Work.{Work}
 use Rattle.jl_cli.specs.declared.work.Work.TheVariants as W
-use Rattle.jl_cli.specs.declared.work.Telling.{Telling}
 use Rattle.jl_cli.specs.Split.{history_in}
 use Rattle.jl_cli.specs.Verdicts.{verdict_status}
-use Rattle.jl_cli.specs.Work.{script_of, work_of}
-use Rattle.jl_cli.specs.Due.{usage_line, ok_line, AreProgram, IsFaultLine, IsHistoryIn, IsResult, counted, ran, IsOwed, refused, worked, IsVerdictTold, IsJudged, unjudged, judged, IsReplayed, too_long, no_history, parted, IsDue, usage, replayed, owed, IsAnswer, whole, not_read, not_written, no_memory, no_memory_written}
+use Rattle.jl_cli.specs.Work.{script_of, work_of, setup_of}
+use Rattle.jl_cli.specs.Due.{usage_line, ok_line, AreProgram, IsFaultLine, IsHistoryIn, IsResult, counted, ran, answered, IsOwed, refused, worked, unanswered, IsVerdictTold, IsJudged, unjudged, judged, IsReplayed, too_long, no_history, parted, IsDue, usage, replayed, owed, IsAnswer, whole, not_read, not_written, no_memory, no_memory_written}
 use Rattle.jl_cli.specs.Laws.{ChecksTo, HasParts, IsHistoryOf, IsRefusalLine}
 
 outcome_small : (x : Outcome) (n : ℕ) → outcome_status x ≡ suc (suc n) → ⊥
@@ -32,7 +31,8 @@ root_small (Some r) n e = outcome_small r.outcome n e
 -- work on a program ends with status 0 or 1
 pub result_small : (work : Work) (P : Program) (status : ℕ) (h : Option History) (text : List ℕ) (n : ℕ) → IsResult work P status h text → status ≡ suc (suc n) → ⊥
 result_small _ _ _ _ _ n (counted P) e = absurd (omega (arith, e))
-result_small _ _ _ _ _ n (ran setup telling P h is) e = root_small (done_of 0 h.events) n e
+result_small _ _ _ _ _ n (ran setup telling P h text is told) e = root_small (done_of 0 h.events) n e
+result_small _ _ _ _ _ n (answered setup question P h text is told) e = root_small (done_of 0 h.events) n e
 
 -- a verdict has status 0 or 7
 verdict_status_is : (v : Verdict) → (verdict_status v ≡ 0) ⊎ (verdict_status v ≡ 7)
@@ -65,6 +65,7 @@ replayed_other _ _ _ (parted bytes status text has j) e = judged_other (script_o
 owed_other : (work : Work) (script : List ℕ) (status : ℕ) (h : Option History) (text : List ℕ) → IsOwed work script status h text → status ≡ 2 → ⊥
 owed_other _ _ _ _ _ (refused work script line fault) e = absurd (omega (arith, e))
 owed_other _ _ _ _ _ (worked work script P status h text are result) e = result_small work P status h text 0 result e
+owed_other _ _ _ _ _ (unanswered setup question script P are none_) e = absurd (omega (arith, e))
 
 pub usage_law : (asked : Option Command) (bytes : List ℕ) (status : ℕ) (h : Option History) (text : List ℕ) → IsDue asked bytes status h text → (status ≡ 2) ↔ (asked ≡ None)
 usage_law _ _ _ _ _ usage = (λ e. refl, λ e. refl)
@@ -75,12 +76,14 @@ usage_law _ _ _ _ _ (owed c work bytes status h text works o) = (λ e. absurd (o
 
 result_checked : (work : Work) (P : Program) (status : ℕ) (h : Option History) (text : List ℕ) → IsResult work P status h text → work ≡ W.Check → (h ≡ None) × (status ≡ 0) × (text ≡ ok_line P)
 result_checked _ _ _ _ _ (counted P) e = (refl, refl, refl)
-result_checked _ _ _ _ _ (ran setup telling P h is) e = cc
+result_checked _ _ _ _ _ (ran setup telling P h text is told) e = cc
+result_checked _ _ _ _ _ (answered setup question P h text is told) e = cc
 
 owed_checked : (work : Work) (script : List ℕ) (status : ℕ) (h : Option History) (text : List ℕ) → IsOwed work script status h text → work ≡ W.Check → ChecksTo script status h text
 owed_checked _ _ _ _ _ (refused work script line fault) e = (refl, inr (refl, fault))
 owed_checked _ _ _ _ _ (worked work script P status h text are result) e =
     let r = result_checked work P status h text result e in (r.0, inl (P, are, r.1, r.2))
+owed_checked _ _ _ _ _ (unanswered setup question script P are none_) e = cc
 
 check_to : (asked : Option Command) (bytes : List ℕ) (status : ℕ) (h : Option History) (text : List ℕ) → IsDue asked bytes status h text → asked ≡ Some C.Check → ChecksTo bytes status h text
 check_to _ _ _ _ _ usage e = cc
@@ -109,8 +112,7 @@ check_law bytes status h text = (λ due. check_to (Some C.Check) bytes status h 
 -- work that has a history is a run of a program of the script
 record IsRun (work : Work) (script : List ℕ) (h : History) : Type 0 where
   pub setup : Setup
-  pub telling : Telling
-  pub runs : work ≡ W.Run setup telling
+  pub runs : setup_of work ≡ Some setup
   pub program : Program
   pub are : AreProgram script program
   pub is : IsHistoryIn program setup h
@@ -120,16 +122,19 @@ some_is g h e = cc
 
 result_run : (work : Work) (P : Program) (status : ℕ) (o : Option History) (text : List ℕ) (script : List ℕ) (h : History) → IsResult work P status o text → AreProgram script P → o ≡ Some h → IsRun work script h
 result_run _ _ _ _ _ script h (counted P) are e = cc
-result_run _ _ _ _ _ script h (ran setup telling P g is) are e =
-    record { setup = setup; telling = telling; runs = refl; program = P; are = are; is = subst (IsHistoryIn P setup) (some_is g h e) is }
+result_run _ _ _ _ _ script h (ran setup telling P g text is told) are e =
+    record { setup = setup; runs = refl; program = P; are = are; is = subst (IsHistoryIn P setup) (some_is g h e) is }
+result_run _ _ _ _ _ script h (answered setup question P g text is told) are e =
+    record { setup = setup; runs = refl; program = P; are = are; is = subst (IsHistoryIn P setup) (some_is g h e) is }
 
 owed_run : (work : Work) (script : List ℕ) (status : ℕ) (o : Option History) (text : List ℕ) (h : History) → IsOwed work script status o text → o ≡ Some h → IsRun work script h
 owed_run _ _ _ _ _ h (refused work script line fault) e = cc
 owed_run _ _ _ _ _ h (worked work script P status o text are result) e = result_run work P status o text script h result are e
+owed_run _ _ _ _ _ h (unanswered setup question script P are none_) e = cc
 
 history_of_run : (c : Command) (bytes : List ℕ) (work : Work) (h : History) → work_of c ≡ Some work → IsRun work (script_of c bytes) h → IsHistoryOf c bytes h
 history_of_run c bytes work h works run =
-    record { setup = run.setup; telling = run.telling; runs = subst (λ (w : Work). work_of c ≡ Some w) run.runs works; program = run.program; are = run.are; is = run.is }
+    record { work = work; setup = run.setup; does = works; runs = run.runs; program = run.program; are = run.are; is = run.is }
 
 due_history : (asked : Option Command) (bytes : List ℕ) (status : ℕ) (o : Option History) (text : List ℕ) (h : History) → IsDue asked bytes status o text → o ≡ Some h → (c : Command) × (asked ≡ Some c) × IsHistoryOf c bytes h
 due_history _ _ _ _ _ h usage e = cc
@@ -143,6 +148,8 @@ has_parts (C.Trace threads fuel) work bytes e = tt
 has_parts C.Check work bytes e = tt
 has_parts C.Replay work bytes e = cc
 has_parts (C.Gen n threads fuel) work bytes e = tt
+has_parts (C.Which name ty threads fuel) work bytes e = tt
+has_parts (C.Ambiguous threads fuel) work bytes e = tt
 
 judged_line : (script history : List ℕ) (status : ℕ) (text : List ℕ) → IsJudged script history status text → status ≡ 3 → IsFaultLine script text
 judged_line _ _ _ _ (unjudged script history line fault) e = fault
@@ -184,6 +191,7 @@ module _ (asked : Option Command) (bytes written : List ℕ) (source_rose sink_r
   owed_line : (work : Work) (script : List ℕ) (status : ℕ) (h : Option History) (text : List ℕ) → IsOwed work script status h text → status ≡ 3 → IsFaultLine script text × (h ≡ None)
   owed_line _ _ _ _ _ (refused work script line fault) e = (fault, refl)
   owed_line _ _ _ _ _ (worked work script P status h text are result) e = absurd (result_small work P status h text 1 result e)
+  owed_line _ _ _ _ _ (unanswered setup question script P are none_) e = absurd (omega (arith, e))
 
   due_line : (asked : Option Command) (bytes : List ℕ) (status : ℕ) (h : Option History) (text : List ℕ) → IsDue asked bytes status h text → status ≡ 3 → (c : Command) × (asked ≡ Some c) × IsRefusalLine c bytes text × (h ≡ None)
   due_line _ _ _ _ _ usage e = absurd (omega (arith, e))

@@ -4,3 +4,5 @@ pub mod Running
 pub mod LawLemmas
 pub mod StatusLemmas
 pub mod ReplayLemmas
+pub mod QuestionLemmas
+pub mod LineLemmas

@@ -14,7 +14,7 @@ use Rattle.jl_cli.specs.declared.work.Work.{Work}
 use Rattle.jl_cli.specs.Split.{history_in}
 use Rattle.jl_cli.specs.Verdicts.{verdict_line, verdict_status}
 use Rattle.jl_cli.specs.Work.{script_of, work_of}
-use Rattle.jl_cli.specs.Due.{AreProgram, IsOwed, refused, worked, IsJudged, unjudged, judged, IsReplayed, too_long, no_history, parted, IsDue, usage, replayed, owed}
+use Rattle.jl_cli.specs.Due.{AreProgram, IsOwed, refused, worked, unanswered, IsJudged, unjudged, judged, IsReplayed, too_long, no_history, parted, IsDue, usage, replayed, owed}
 use Rattle.jl_cli.specs.Laws.{IsJudgedOver, IsToldIllegal, IsToldLegal}
 use Rattle.jl_cli.proofs.LawLemmas.{result_small}
 use Rattle.jl_cli.proofs.StatusLemmas.{same_script, fault_apart, there_is}
@@ -45,7 +45,7 @@ verdict_refuted P history (V.Illegal event cause) is no_ = refl
 
 -- ---- a judgement
 
-same_program : (bytes : List ℕ) (P Q : Program) → AreProgram bytes P → AreProgram bytes Q → P ≡ Q
+pub same_program : (bytes : List ℕ) (P Q : Program) → AreProgram bytes P → AreProgram bytes Q → P ≡ Q
 same_program bytes P Q h k = one_program h.0 P Q h.2 (subst (λ (s : Script). IsProgramOf s Q) (sym (same_script bytes h.0 k.0 h.1 k.1)) k.2)
 
 judged_illegal : (script history : List ℕ) (status : ℕ) (text : List ℕ) → IsJudged script history status text → status ≡ 7 → (P : Program) × AreProgram script P × IsToldIllegal P history text
@@ -118,6 +118,7 @@ module _ (bytes : List ℕ) where
 owed_alone : (work : Work) (script : List ℕ) (status : ℕ) (h : Option History) (text : List ℕ) → IsOwed work script status h text → status ≡ 7 → ⊥
 owed_alone _ _ _ _ _ (refused work script line fault) e = absurd (omega (arith, e))
 owed_alone _ _ _ _ _ (worked work script P status h text are result) e = result_small work P status h text 5 result e
+owed_alone _ _ _ _ _ (unanswered setup question script P are none_) e = absurd (omega (arith, e))
 
 due_alone : (asked : Option Command) (bytes : List ℕ) (status : ℕ) (h : Option History) (text : List ℕ) → IsDue asked bytes status h text → status ≡ 7 → (asked ≡ Some C.Replay) × (h ≡ None)
 due_alone _ _ _ _ _ usage e = absurd (omega (arith, e))

@@ -5,12 +5,15 @@ use Rattle.std.specs.declared.alloc.AllocError.{AllocError}
 use Rattle.jl_calculus.specs.declared.history.History.{History}
 use Rattle.jl_program.specs.declared.tree.Program.{Program}
 use Rattle.jl_calculus.specs.Legal.{status_of}
+use Rattle.jl_model.specs.declared.ty.Key.{Key}
+use Rattle.jl_reflect.specs.Asked.{MeansKey, IsUnknown}
 use Rattle.jl_queue.specs.declared.setup.Setup.{Setup}
 use Rattle.jl_command.specs.declared.commands.Command.{Command}
 use Rattle.jl_command.specs.declared.commands.Command.TheVariants as C
 use Rattle.jl_cli.specs.declared.answering.Due.{Due}
 use Rattle.jl_cli.specs.declared.work.Work.{Work}
 use Rattle.jl_cli.specs.declared.work.Work.TheVariants as W
+use Rattle.jl_cli.specs.declared.work.Question.{Question}
 use Rattle.jl_cli.specs.declared.work.Telling.{Telling}
 use Rattle.jl_io.specs.Moved.{Gives, NothingLeft}
 use Rattle.jl_io.proofs.MovedLemmas.{Gives-none, Takes-none}
@@ -30,8 +33,9 @@ use Rattle.jl_resolve.specs.declared.fault.StaticFault.TheVariants as F
 use Rattle.jl_resolve.specs.Program.{IsRefused}
 use Rattle.jl_cli.specs.Place.{token_line, syntax_line, static_line}
 use Rattle.jl_cli.specs.Split.{separator_at, part_before, part_from, script_in, history_in}
-use Rattle.jl_cli.specs.Work.{most_taken, most_read, script_of, work_of, told, whole_setup}
-use Rattle.jl_cli.specs.Due.{usage_line, no_history_line, ok_line, AreScript, IsFaultLine, no_tokens, no_script, no_program, IsHistoryIn, IsResult, counted, ran, IsOwed, refused, IsJudged, unjudged, IsReplayed, too_long, no_history, parted, IsDue, usage, replayed, owed, whole, not_read, not_written, no_memory, no_memory_written, HasRun}
+use Rattle.jl_cli.specs.Work.{most_taken, most_read, script_of, work_of, whole_setup}
+use Rattle.jl_cli.specs.Told.{IsTold, TellsSpans}
+use Rattle.jl_cli.specs.Due.{usage_line, no_history_line, unknown_line, ok_line, AreScript, AreProgram, IsFaultLine, no_tokens, no_script, no_program, IsHistoryIn, IsResult, counted, ran, answered, IsUnanswered, IsOwed, refused, worked, unanswered, IsJudged, unjudged, IsReplayed, too_long, no_history, parted, IsDue, usage, replayed, owed, whole, not_read, not_written, no_memory, no_memory_written, HasRun}
 use Rattle.jl_cli.specs.Delivered.{IsDelivered, all, failed, no_memory as no_memory_left}
 
 -- what was due was delivered
@@ -61,6 +65,8 @@ most_small (C.Trace threads fuel) = omega arith
 most_small C.Check = omega arith
 most_small C.Replay = omega arith
 most_small (C.Gen n threads fuel) = omega arith
+most_small (C.Which name ty threads fuel) = omega arith
+most_small (C.Ambiguous threads fuel) = omega arith
 
 -- a call that did the same for other words, or ended with the same status and history
 pub run_along : (asked asked' : Option Command) (left left' held held' : Option (List ℕ)) (source_rose sink_rose : Type 0) (status : ℕ) (history : Option History) → asked' ≡ asked
@@ -94,6 +100,8 @@ too_long_due c bytes text long within e = subst (λ (line : List ℕ). IsDue (So
     line_due C.Check long within = owed C.Check W.Check bytes 3 None _ refl (source W.Check long)
     line_due C.Replay long within = replayed bytes 3 _ (too_long bytes long)
     line_due (C.Gen n threads fuel) long within = absurd (omega (arith, long, within))
+    line_due (C.Which name ty threads fuel) long within = owed (C.Which name ty threads fuel) _ bytes 3 None _ refl (source _ long)
+    line_due (C.Ambiguous threads fuel) long within = owed (C.Ambiguous threads fuel) _ bytes 3 None _ refl (source _ long)
 
 -- an answer with a line
 pub refused_so : (d : Due) (work : Work) (script line : List ℕ) → IsFaultLine script line → (d.status ≡ 3) × (d.history ≡ None) × (d.text ≡ line) → IsOwed work script d.status d.history d.text
@@ -172,18 +180,56 @@ pub no_program_line : (bytes : List ℕ) (s : Script) (f : StaticFault) → AreS
 no_program_line bytes s (F.At kind at) are refusal told = no_program bytes s at kind are refusal
 no_program_line bytes s F.Memory are refusal told = absurd (told refl)
 
--- what work on a program comes to, where the status and the text are these
-pub ran_so : (setup : Setup) (telling : Telling) (P : Program) (h : History) (status : ℕ) (text : List ℕ) → IsHistoryIn P setup h → status ≡ status_of h.events → text ≡ told telling P h.events
-    → IsResult (W.Run setup telling) P status (Some h) text
-ran_so setup telling P h status text is st tx =
-    subst (λ (n : ℕ). IsResult (W.Run setup telling) P n (Some h) text) (sym st)
-    (subst (λ (t : List ℕ). IsResult (W.Run setup telling) P (status_of h.events) (Some h) t) (sym tx) (ran setup telling P h is))
+-- what is due with a history
+abbrev pub HasHistoryOf : Due → History → List ℕ → Type 0
+HasHistoryOf d h text = (d.status ≡ status_of h.events) × (d.history ≡ Some h) × (d.text ≡ text)
+
+due_so : (d : Due) (work : Work) (P : Program) (h : History) (text : List ℕ) → IsResult work P (status_of h.events) (Some h) text → HasHistoryOf d h text → IsResult work P d.status d.history d.text
+due_so d work P h text r e =
+    subst (λ (n : ℕ). IsResult work P n d.history d.text) (sym e.0)
+    (subst (λ (o : Option History). IsResult work P (status_of h.events) o d.text) (sym e.1) (subst (λ (t : List ℕ). IsResult work P (status_of h.events) (Some h) t) (sym e.2) r))
+
+-- what a run comes to
+pub ran_so : (d : Due) (setup : Setup) (telling : Telling) (P : Program) (h : History) (text : List ℕ) → IsHistoryIn P setup h → IsTold telling P h.events text → HasHistoryOf d h text
+    → IsResult (W.Run setup telling) P d.status d.history d.text
+ran_so d setup telling P h text is told e = due_so d (W.Run setup telling) P h text (ran setup telling P h text is told) e
+
+-- the same with the answer to a question
+pub answered_so : (d : Due) (setup : Setup) (question : Question) (P : Program) (h : History) (text : List ℕ) → IsHistoryIn P setup h → TellsSpans P h.events question text → HasHistoryOf d h text
+    → IsResult (W.Which setup question) P d.status d.history d.text
+answered_so d setup question P h text is told e = due_so d (W.Which setup question) P h text (answered setup question P h text is told) e
+
+-- what a program comes to, where its work is this
+pub worked_as : (d : Due) (given work : Work) (bytes : List ℕ) (P Q : Program) → given ≡ work → Q ≡ P → IsResult work Q d.status d.history d.text → AreProgram bytes P → IsOwed given bytes d.status d.history d.text
+worked_as d given work bytes P Q e f r are =
+    subst (λ (x : Work). IsOwed x bytes d.status d.history d.text) (sym e)
+    (worked work bytes P d.status d.history d.text are (subst (λ (x : Program). IsResult work x d.status d.history d.text) f r))
+
+-- where a question means a key, by its two words
+pub asked_so : (d : Due) (setup : Setup) (question : Question) (bytes : List ℕ) (P : Program) (key : Key) (name ty : List ℕ) → name ≡ question.name → ty ≡ question.ty → MeansKey P name ty key
+    → ((q : Question) → MeansKey P q.name q.ty key → IsResult (W.Which setup q) P d.status d.history d.text) → AreProgram bytes P → IsOwed (W.Which setup question) bytes d.status d.history d.text
+asked_so d setup question bytes P key name ty e f means r are =
+    worked (W.Which setup question) bytes P d.status d.history d.text are
+    (r question (subst (λ (n : List ℕ). MeansKey P n question.ty key) e (subst (λ (t : List ℕ). MeansKey P name t key) f means)))
+
+-- and where it is not about the program
+unanswered_so : (d : Due) (setup : Setup) (question : Question) (bytes : List ℕ) (P : Program) → AreProgram bytes P → IsUnanswered P question → (d.status ≡ 8) × (d.history ≡ None) × (d.text ≡ unknown_line)
+    → IsOwed (W.Which setup question) bytes d.status d.history d.text
+unanswered_so d setup question bytes P are none_ h =
+    subst (λ (n : ℕ). IsOwed (W.Which setup question) bytes n d.history d.text) (sym h.0)
+    (subst (λ (o : Option History). IsOwed (W.Which setup question) bytes 8 o d.text) (sym h.1)
+    (subst (λ (t : List ℕ). IsOwed (W.Which setup question) bytes 8 None t) (sym h.2) (unanswered setup question bytes P are none_)))
+
+pub stray_so : (d : Due) (setup : Setup) (question : Question) (bytes : List ℕ) (P : Program) (name ty : List ℕ) → name ≡ question.name → ty ≡ question.ty → IsUnknown P name ty
+    → (d.status ≡ 8) × (d.history ≡ None) × (d.text ≡ unknown_line) → AreProgram bytes P → IsOwed (W.Which setup question) bytes d.status d.history d.text
+stray_so d setup question bytes P name ty e f none_ h are =
+    unanswered_so d setup question bytes P are (subst (λ (n : List ℕ). IsUnknown P n question.ty) e (subst (λ (t : List ℕ). IsUnknown P name t) f none_)) h
 
 pub checked_so : (P : Program) (text : List ℕ) → text ≡ ok_line P → IsResult W.Check P 0 None text
 checked_so P text e = subst (λ (t : List ℕ). IsResult W.Check P 0 None t) (sym e) (counted P)
 
 -- the line as the code writes it
-pub usage_is : codes "usage: jl run|trace [--threads N] [--fuel N] | jl check|replay | jl gen N [--threads N] [--fuel N]\n" ≡ usage_line
+pub usage_is : codes "usage: jl run|trace|ambiguous [--threads N] [--fuel N] | jl check|replay | jl gen N [--threads N] [--fuel N] | jl which NAME TYPE [--threads N] [--fuel N]\n" ≡ usage_line
 unfolding usage_line
 usage_is = refl
 

@@ -22,7 +22,7 @@ use Rattle.jl_cli.specs.declared.work.Work.TheVariants as W
 use Rattle.jl_cli.specs.declared.work.Telling.{Telling}
 use Rattle.jl_cli.specs.Split.{separator_at, history_in}
 use Rattle.jl_cli.specs.Work.{script_of, work_of}
-use Rattle.jl_cli.specs.Due.{AreScript, IsFaultLine, no_tokens, no_script, no_program, IsResult, counted, ran, IsOwed, refused, worked, IsJudged, unjudged, judged, HasHistory, IsReplayed, too_long, no_history, parted, IsDue, usage, replayed, owed}
+use Rattle.jl_cli.specs.Due.{AreScript, IsFaultLine, no_tokens, no_script, no_program, IsResult, counted, ran, answered, IsOwed, refused, worked, unanswered, IsJudged, unjudged, judged, HasHistory, IsReplayed, too_long, no_history, parted, IsDue, usage, replayed, owed}
 use Rattle.jl_cli.specs.Laws.{IsProgram, HasProgram}
 use Rattle.jl_cli.proofs.LawLemmas.{result_small, told_other, has_parts}
 
@@ -55,6 +55,7 @@ fault_apart _ _ (no_program bytes s at kind script fault) (P, are) =
 owed_none : (work : Work) (script : List ℕ) (status : ℕ) (h : Option History) (text : List ℕ) → IsOwed work script status h text → (status ≡ 3) ↔ (IsProgram script → ⊥)
 owed_none _ _ _ _ _ (refused work script line fault) = (λ z p. fault_apart script line fault p, λ no_. refl)
 owed_none _ _ _ _ _ (worked work script P status h text are result) = (λ z. absurd (result_small work P status h text 1 result z), λ no_. absurd (no_ (P, are)))
+owed_none _ _ _ _ _ (unanswered setup question script P are none_) = (λ z. absurd (omega (arith, z)), λ no_. absurd (no_ (P, are)))
 
 judged_none : (Has : Type 0) (script history : List ℕ) (status : ℕ) (text : List ℕ) → Has → IsJudged script history status text → (status ≡ 3) ↔ (Has × IsProgram script → ⊥)
 judged_none Has _ _ _ _ has (unjudged script history line fault) = (λ z p. fault_apart script line fault p.1, λ no_. refl)
@@ -89,11 +90,13 @@ none_law c bytes status h text due = due_none (Some c) bytes status h text c due
 
 result_zero : (work : Work) (P : Program) (status : ℕ) (h : Option History) (text : List ℕ) → IsResult work P status h text → work ≡ W.Check → status ≡ 0
 result_zero _ _ _ _ _ (counted P) e = refl
-result_zero _ _ _ _ _ (ran setup telling P h is) e = cc
+result_zero _ _ _ _ _ (ran setup telling P h text is told) e = cc
+result_zero _ _ _ _ _ (answered setup question P h text is told) e = cc
 
 owed_checked : (work : Work) (script : List ℕ) (status : ℕ) (h : Option History) (text : List ℕ) → IsOwed work script status h text → work ≡ W.Check → (status ≡ 0) ↔ IsProgram script
 owed_checked _ _ _ _ _ (refused work script line fault) e = (λ z. absurd (omega (arith, z)), λ p. absurd (fault_apart script line fault p))
 owed_checked _ _ _ _ _ (worked work script P status h text are result) e = (λ z. (P, are), λ p. result_zero work P status h text result e)
+owed_checked _ _ _ _ _ (unanswered setup question script P are none_) e = cc
 
 due_checked : (asked : Option Command) (bytes : List ℕ) (status : ℕ) (h : Option History) (text : List ℕ) → IsDue asked bytes status h text → asked ≡ Some C.Check → (status ≡ 0) ↔ IsProgram bytes
 due_checked _ _ _ _ _ usage e = cc
@@ -111,14 +114,16 @@ checked_law bytes status h text due = due_checked (Some C.Check) bytes status h 
 
 result_some : (work : Work) (P : Program) (status : ℕ) (h : Option History) (text : List ℕ) (setup : Setup) (telling : Telling) → IsResult work P status h text → work ≡ W.Run setup telling → IsSome h
 result_some _ _ _ _ _ setup telling (counted P) e = cc
-result_some _ _ _ _ _ setup telling (ran s t P h is) e = refl
+result_some _ _ _ _ _ setup telling (ran s t P h text is told) e = refl
+result_some _ _ _ _ _ setup telling (answered s question P h text is told) e = cc
 
-nothing_there : IsSome {T = History} None → ⊥
+pub nothing_there : IsSome {T = History} None → ⊥
 nothing_there e = cc
 
 owed_some : (work : Work) (script : List ℕ) (status : ℕ) (h : Option History) (text : List ℕ) (setup : Setup) (telling : Telling) → IsOwed work script status h text → work ≡ W.Run setup telling → IsSome h ↔ IsProgram script
 owed_some _ _ _ _ _ setup telling (refused work script line fault) e = (λ s. absurd (nothing_there s), λ p. absurd (fault_apart script line fault p))
 owed_some _ _ _ _ _ setup telling (worked work script P status h text are result) e = (λ s. (P, are), λ p. result_some work P status h text setup telling result e)
+owed_some _ _ _ _ _ setup telling (unanswered s question script P are none_) e = cc
 
 due_some : (asked : Option Command) (bytes : List ℕ) (status : ℕ) (h : Option History) (text : List ℕ) (c : Command) (setup : Setup) (telling : Telling) → work_of c ≡ Some (W.Run setup telling) → IsDue asked bytes status h text
     → asked ≡ Some c → IsSome h ↔ IsProgram (script_of c bytes)
@@ -139,11 +144,13 @@ run_history_law c setup telling bytes status h text works due = due_some (Some c
 
 result_outcome : (work : Work) (P : Program) (status : ℕ) (o : Option History) (text : List ℕ) (h : History) → IsResult work P status o text → o ≡ Some h → status ≡ status_of h.events
 result_outcome _ _ _ _ _ h (counted P) e = cc
-result_outcome _ _ _ _ _ h (ran setup telling P g is) e = let same : g ≡ h = cc in subst (λ (x : History). status_of g.events ≡ status_of x.events) same refl
+result_outcome _ _ _ _ _ h (ran setup telling P g text is told) e = let same : g ≡ h = cc in subst (λ (x : History). status_of g.events ≡ status_of x.events) same refl
+result_outcome _ _ _ _ _ h (answered setup question P g text is told) e = let same : g ≡ h = cc in subst (λ (x : History). status_of g.events ≡ status_of x.events) same refl
 
 owed_outcome : (work : Work) (script : List ℕ) (status : ℕ) (o : Option History) (text : List ℕ) (h : History) → IsOwed work script status o text → o ≡ Some h → status ≡ status_of h.events
 owed_outcome _ _ _ _ _ h (refused work script line fault) e = cc
 owed_outcome _ _ _ _ _ h (worked work script P status o text are result) e = result_outcome work P status o text h result e
+owed_outcome _ _ _ _ _ h (unanswered setup question script P are none_) e = cc
 
 due_outcome : (asked : Option Command) (bytes : List ℕ) (status : ℕ) (o : Option History) (text : List ℕ) (h : History) → IsDue asked bytes status o text → o ≡ Some h → status ≡ status_of h.events
 due_outcome _ _ _ _ _ h usage e = cc

@@ -15,25 +15,32 @@ use Rattle.jl_token.specs.declared.token.TokenFault.{TokenFault}
 use Rattle.jl_token.specs.Grammar.{ReadsSource}
 use Rattle.jl_queue.specs.declared.setup.Setup.{Setup}
 use Rattle.jl_history.specs.declared.history.TheConstants.{MOST_HISTORY_BYTES}
+use Rattle.jl_reflect.specs.Asked.{IsUnknown}
 use Rattle.jl_replay.specs.declared.verdict.Verdict.{Verdict}
 use Rattle.jl_replay.specs.Verdict.{IsVerdict}
 use Rattle.jl_command.specs.declared.commands.Command.{Command}
 use Rattle.jl_command.specs.declared.commands.Command.TheVariants.{Replay}
 use Rattle.jl_cli.specs.declared.work.Work.{Work}
 use Rattle.jl_cli.specs.declared.work.Work.TheVariants as W
+use Rattle.jl_cli.specs.declared.work.Question.{Question}
 use Rattle.jl_cli.specs.declared.work.Telling.{Telling}
 use Rattle.jl_cli.specs.Place.{too_long_line, token_line, syntax_line, fault_line, kind_name}
 use Rattle.jl_cli.specs.Split.{separator_at, history_in}
 use Rattle.jl_cli.specs.Verdicts.{verdict_line, verdict_status}
-use Rattle.jl_cli.specs.Work.{most_taken, most_read, script_of, work_of, told}
+use Rattle.jl_cli.specs.Work.{most_taken, most_read, script_of, work_of}
+use Rattle.jl_cli.specs.Told.{IsTold, TellsSpans}
 
 -- the line that tells the commands
 unfoldable pub usage_line : List ℕ
-usage_line = codes "usage: jl run|trace [--threads N] [--fuel N] | jl check|replay | jl gen N [--threads N] [--fuel N]\n"
+usage_line = codes "usage: jl run|trace|ambiguous [--threads N] [--fuel N] | jl check|replay | jl gen N [--threads N] [--fuel N] | jl which NAME TYPE [--threads N] [--fuel N]\n"
 
 -- the line of an input without a history
 abbrev pub no_history_line : List ℕ
 no_history_line = codes "ERROR: NoHistory\n"
+
+-- the line of a question about no function or no types of the program
+abbrev pub unknown_line : List ℕ
+unknown_line = codes "ERROR: QueryUnknown\n"
 
 -- how many types a program declares, and how many definition sites it has beyond those of the prelude
 abbrev pub ok_line : Program → List ℕ
@@ -67,7 +74,15 @@ pub data IsResult : Work → Program → ℕ → Option History → List ℕ →
   -- it is only checked: its counts
   counted : (P : Program) → IsResult W.Check P 0 None (ok_line P)
   -- it is run: what is told of a history that the run may have, and the status by the root's outcome
-  ran : (setup : Setup) (telling : Telling) (P : Program) (h : History) → IsHistoryIn P setup h → IsResult (W.Run setup telling) P (status_of h.events) (Some h) (told telling P h.events)
+  ran : (setup : Setup) (telling : Telling) (P : Program) (h : History) (text : List ℕ) → IsHistoryIn P setup h → IsTold telling P h.events text
+      → IsResult (W.Run setup telling) P (status_of h.events) (Some h) text
+  -- the same, with the answer to a question
+  answered : (setup : Setup) (question : Question) (P : Program) (h : History) (text : List ℕ) → IsHistoryIn P setup h → TellsSpans P h.events question text
+      → IsResult (W.Which setup question) P (status_of h.events) (Some h) text
+
+-- a question asks about no function or no types of a program
+abbrev pub IsUnanswered : Program → Question → Type 0
+IsUnanswered P question = IsUnknown P question.name question.ty
 
 -- the same of work on a script
 pub data IsOwed : Work → List ℕ → ℕ → Option History → List ℕ → Type 0 where
@@ -75,6 +90,8 @@ pub data IsOwed : Work → List ℕ → ℕ → Option History → List ℕ → 
   refused : (work : Work) (script line : List ℕ) → IsFaultLine script line → IsOwed work script 3 None line
   -- it is one
   worked : (work : Work) (script : List ℕ) (P : Program) (status : ℕ) (history : Option History) (text : List ℕ) → AreProgram script P → IsResult work P status history text → IsOwed work script status history text
+  -- it is one, which the question is not about: it is not run
+  unanswered : (setup : Setup) (question : Question) (script : List ℕ) (P : Program) → AreProgram script P → IsUnanswered P question → IsOwed (W.Which setup question) script 8 None unknown_line
 
 -- the status and the text of a verdict on the text of a history
 abbrev pub IsVerdictTold : Program → List ℕ → ℕ → List ℕ → Type 0

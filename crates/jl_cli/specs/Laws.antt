@@ -1,12 +1,14 @@
 -- What is due, told by its status.
 use Rattle.std.specs.Prelude.{ℕ, ◌≡◌, ◌≤◌, ◌<◌, ◌⊎◌, List, length, Option, None, Some}
 use Rattle.jl_calculus.specs.declared.history.History.{History}
+use Rattle.jl_model.specs.declared.ty.Key.{Key}
 use Rattle.jl_program.specs.declared.tree.Program.{Program}
+use Rattle.jl_reflect.specs.Asked.{MeansKey}
 use Rattle.jl_queue.specs.declared.setup.Setup.{Setup}
 use Rattle.jl_command.specs.declared.commands.Command.{Command}
 use Rattle.jl_command.specs.declared.commands.Command.TheVariants as C
-use Rattle.jl_cli.specs.declared.work.Work.TheVariants as W
-use Rattle.jl_cli.specs.declared.work.Telling.{Telling}
+use Rattle.jl_cli.specs.declared.work.Question.{Question}
+use Rattle.jl_cli.specs.declared.work.Work.{Work}
 use Rattle.jl_history.specs.declared.history.TheConstants.{MOST_HISTORY_BYTES}
 use Rattle.jl_replay.specs.declared.verdict.Verdict.{Verdict}
 use Rattle.jl_replay.specs.declared.verdict.Verdict.TheVariants as V
@@ -14,8 +16,8 @@ use Rattle.jl_replay.specs.Verdict.{IsVerdict, IsLegalText}
 use Rattle.jl_cli.specs.Place.{too_long_line}
 use Rattle.jl_cli.specs.Split.{separator_at}
 use Rattle.jl_cli.specs.Verdicts.{verdict_line}
-use Rattle.jl_cli.specs.Work.{script_of, work_of}
-use Rattle.jl_cli.specs.Due.{AreProgram, IsFaultLine, IsHistoryIn, HasHistory, ok_line, no_history_line}
+use Rattle.jl_cli.specs.Work.{script_of, work_of, setup_of}
+use Rattle.jl_cli.specs.Due.{AreProgram, IsFaultLine, IsHistoryIn, IsUnanswered, HasHistory, ok_line, no_history_line}
 
 -- the bytes are a script that is a program
 abbrev pub IsProgram : List ℕ → Type 0
@@ -27,9 +29,10 @@ ChecksTo bytes status history text = (history ≡ None) × (((P : Program) × Ar
 
 -- the history is one that the run of the program of this command's script may have
 pub record IsHistoryOf (c : Command) (bytes : List ℕ) (h : History) : Type 0 where
+  pub work : Work
   pub setup : Setup
-  pub telling : Telling
-  pub runs : work_of c ≡ Some (W.Run setup telling)
+  pub does : work_of c ≡ Some work
+  pub runs : setup_of work ≡ Some setup
   pub program : Program
   pub are : AreProgram (script_of c bytes) program
   pub is : IsHistoryIn program setup h
@@ -41,6 +44,8 @@ HasParts (C.Trace threads fuel) bytes = Unit {0}
 HasParts C.Check bytes = Unit {0}
 HasParts C.Replay bytes = HasHistory bytes
 HasParts (C.Gen n threads fuel) bytes = Unit {0}
+HasParts (C.Which name ty threads fuel) bytes = Unit {0}
+HasParts (C.Ambiguous threads fuel) bytes = Unit {0}
 
 -- it has them, and the script is a program
 abbrev pub HasProgram : Command → List ℕ → Type 0
@@ -53,6 +58,25 @@ TellsNoParts bytes line = ((MOST_HISTORY_BYTES < length bytes) × (line ≡ too_
 -- the line tells why there is nothing to do: a command's script is no program, or the input of `replay` has no parts
 abbrev pub IsRefusalLine : Command → List ℕ → List ℕ → Type 0
 IsRefusalLine c bytes line = (HasParts c bytes × IsFaultLine (script_of c bytes) line) ⊎ ((c ≡ C.Replay) × TellsNoParts bytes line)
+
+-- ---- what `which` is asked about
+
+-- the script is a program, and the question is about it
+pub record IsAnswerable (script : List ℕ) (question : Question) : Type 0 where
+  pub program : Program
+  pub are : AreProgram script program
+  pub key : Key
+  pub means : MeansKey program question.name question.ty key
+
+-- the script is a program, and the question is not about it
+pub record IsBeside (script : List ℕ) (question : Question) : Type 0 where
+  pub program : Program
+  pub are : AreProgram script program
+  pub none_means : IsUnanswered program question
+
+-- the command asks a question
+abbrev pub AsksOf : Command → Question → Type 0
+AsksOf c question = (threads : ℕ) × (fuel : ℕ) × (c ≡ C.Which question.name question.ty threads fuel)
 
 -- ---- what `replay` judges
 

@@ -1,4 +1,5 @@
 pub mod Work
+pub mod Told
 pub mod Due
 pub mod Laws
 pub mod Delivered

@@ -1,20 +1,14 @@
--- What each command asks for: how much is read, which script it is about, what is done with it, and what is told of a run.
-use Rattle.std.specs.Prelude.{ℕ, ◌+◌, ◌-◌, ◌==◌, if◌then◌else◌, codes, List, [], ◌++◌, length, slice_get, Option, None, Some}
+-- What each command asks for: how much is read, which script it is about, and what is done with it.
+use Rattle.std.specs.Prelude.{ℕ, ◌+◌, ◌-◌, ◌==◌, if◌then◌else◌, codes, List, [], length, slice_get, Option, None, Some}
 use Rattle.jl_model.specs.declared.limits.TheConstants.{MOST_SOURCE_BYTES, MOST_CACHE_KEYS, MOST_CACHE_ROWS}
 use Rattle.jl_history.specs.declared.history.TheConstants.{MOST_HISTORY_BYTES}
-use Rattle.jl_program.specs.declared.tree.Program.{Program}
-use Rattle.jl_calculus.specs.declared.history.Event.{Event}
-use Rattle.jl_calculus.specs.Legal.{text_of}
 use Rattle.jl_queue.specs.declared.setup.Setup.{Setup}
 use Rattle.jl_queue.specs.Setups.{IsSetup}
 use Rattle.jl_gen.specs.Script.{script_text}
-use Rattle.jl_report.specs.HistoryText.{history_text}
-use Rattle.jl_report.specs.Summary.{summary_text}
 use Rattle.jl_command.specs.declared.commands.Command.{Command}
 use Rattle.jl_command.specs.declared.commands.Command.TheVariants as C
 use Rattle.jl_cli.specs.declared.work.Work.{Work}
 use Rattle.jl_cli.specs.declared.work.Work.TheVariants as W
-use Rattle.jl_cli.specs.declared.work.Telling.{Telling}
 use Rattle.jl_cli.specs.declared.work.Telling.TheVariants as T
 use Rattle.jl_cli.specs.Split.{script_in}
 
@@ -27,6 +21,8 @@ most_taken (Some (C.Trace threads fuel)) = MOST_SOURCE_BYTES
 most_taken (Some C.Check) = MOST_SOURCE_BYTES
 most_taken (Some C.Replay) = MOST_HISTORY_BYTES
 most_taken (Some (C.Gen n threads fuel)) = 0
+most_taken (Some (C.Which name ty threads fuel)) = MOST_SOURCE_BYTES
+most_taken (Some (C.Ambiguous threads fuel)) = MOST_SOURCE_BYTES
 
 -- how many bytes are read at most: one more, where anything is read
 abbrev pub most_read : Option Command → ℕ
@@ -36,6 +32,8 @@ most_read (Some (C.Trace threads fuel)) = MOST_SOURCE_BYTES + 1
 most_read (Some C.Check) = MOST_SOURCE_BYTES + 1
 most_read (Some C.Replay) = MOST_HISTORY_BYTES + 1
 most_read (Some (C.Gen n threads fuel)) = 0
+most_read (Some (C.Which name ty threads fuel)) = MOST_SOURCE_BYTES + 1
+most_read (Some (C.Ambiguous threads fuel)) = MOST_SOURCE_BYTES + 1
 
 -- the script of a command, where these bytes were read: these, those before the history, or the generated script of a number
 abbrev pub script_of : Command → List ℕ → List ℕ
@@ -44,18 +42,22 @@ script_of (C.Trace threads fuel) bytes = bytes
 script_of C.Check bytes = bytes
 script_of C.Replay bytes = script_in bytes
 script_of (C.Gen n threads fuel) bytes = script_text n
+script_of (C.Which name ty threads fuel) bytes = bytes
+script_of (C.Ambiguous threads fuel) bytes = bytes
 
 -- the setup of a run with so many threads and so much fuel: its cache is as large as a cache may be
 abbrev pub whole_setup : ℕ → ℕ → Setup
 whole_setup threads fuel = record { threads = threads; fuel = fuel; keys = MOST_CACHE_KEYS; rows = MOST_CACHE_ROWS }
 
--- what a command does with its script alone: it runs it, or only checks it; `replay` judges a history by it
+-- what a command does with its script alone: it runs it, with a question or without, or only checks it; `replay` judges a history by it
 abbrev pub work_of : Command → Option Work
 work_of (C.Run threads fuel) = Some (W.Run (whole_setup threads fuel) T.Text)
 work_of (C.Trace threads fuel) = Some (W.Run (whole_setup threads fuel) T.Trace)
 work_of C.Check = Some W.Check
 work_of C.Replay = None
 work_of (C.Gen n threads fuel) = Some (W.Run (whole_setup threads fuel) (T.Summary n))
+work_of (C.Which name ty threads fuel) = Some (W.Which (whole_setup threads fuel) (record { name = name; ty = ty }))
+work_of (C.Ambiguous threads fuel) = Some (W.Run (whole_setup threads fuel) T.Pairs)
 
 -- the newline that goes behind a text which ends in this byte, if it ends in one
 abbrev pub newline_behind : Option ℕ → List ℕ
@@ -66,14 +68,14 @@ newline_behind (Some byte) = if byte == 10 then [] else codes "\n"
 abbrev pub missing_newline : List ℕ → List ℕ
 missing_newline text = newline_behind (slice_get text (length text - 1))
 
--- what is told of a run: the text of its result; that text as lines, and then the text of its history; or the summary of the
--- run of a generated script
-abbrev pub told : Telling → Program → List Event → List ℕ
-told T.Text P es = text_of P es
-told T.Trace P es = text_of P es ++ (missing_newline (text_of P es) ++ history_text P es)
-told (T.Summary n) P es = summary_text n P es
+-- the setup of the run that work begins
+abbrev pub setup_of : Work → Option Setup
+setup_of W.Check = None
+setup_of (W.Run setup telling) = Some setup
+setup_of (W.Which setup question) = Some setup
 
 -- a run that is asked for has a setup that is allowed
 abbrev pub IsSetUp : Work → Type 0
 IsSetUp W.Check = Unit {0}
 IsSetUp (W.Run setup telling) = IsSetup setup
+IsSetUp (W.Which setup question) = IsSetup setup

@@ -21,6 +21,9 @@ pub(crate) const TOO_LONG: &str = "ERROR: SourceTooLong\n";
 /// The line of an input without a history.
 pub(crate) const NO_HISTORY: &str = "ERROR: NoHistory\n";
 
+/// The line of a question about no function or no types of the program.
+pub(crate) const UNKNOWN: &str = "ERROR: QueryUnknown\n";
+
 /// A line as a text.
 pub(crate) fn line(alloc: Global, bytes: &[u8]) -> Result<Bytes, AllocError>
     ensures { IfOk result (λ line. line ≡ bytes.now) }

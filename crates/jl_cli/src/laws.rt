@@ -5,8 +5,10 @@ ghost use Rattle.jl_calculus.specs.declared.history.History.{History as AnyHisto
 ghost use Rattle.jl_io.specs.Faults.{Rose};
 ghost use Rattle.jl_command.specs.declared.commands.Command.{Command as AnyCommand};
 ghost use Rattle.jl_command.specs.declared.commands.Command.TheVariants.{Check};
-ghost use Rattle.jl_cli.specs.Due.{IsDue, IsAnswer, usage_line};
-ghost use Rattle.jl_cli.specs.Laws.{ChecksTo, IsHistoryOf, IsRefusalLine};
+ghost use Rattle.jl_cli.specs.Due.{IsDue, IsAnswer, usage_line, unknown_line};
+ghost use Rattle.jl_cli.specs.Laws.{ChecksTo, IsHistoryOf, IsRefusalLine, AsksOf, IsBeside};
+ghost use Rattle.jl_cli.specs.Work.{script_of};
+ghost use Rattle.jl_cli.specs.declared.work.Question.{Question};
 
 /// Status 2 is due exactly where the words are no command.
 pub fn law_usage()
@@ -29,8 +31,8 @@ pub fn law_history()
         → (c : AnyCommand) × (asked ≡ Some c) × IsHistoryOf c bytes h }
 {}
 
-/// With status 2 exactly the usage line is written, and with status 3 exactly the line that tells why nothing was done. There is no
-/// history then.
+/// With status 2 exactly the usage line is written, with status 3 exactly the line that tells why nothing was done, and with status 8
+/// the line of a question that is not about the program. There is no history then.
 pub fn law_refused()
     ensures usage { (asked : Option AnyCommand) (bytes written : List ℕ) (s s' k k' : ℕ)
         (h : Option AnyHistory)
@@ -40,6 +42,11 @@ pub fn law_refused()
         (h : Option AnyHistory)
         → IsAnswer asked bytes written (Rose s s') (Rose k k') 3 h
         → (c : AnyCommand) × (asked ≡ Some c) × IsRefusalLine c bytes written × (h ≡ None) }
+    ensures unknown { (asked : Option AnyCommand) (bytes written : List ℕ) (s s' k k' : ℕ)
+        (h : Option AnyHistory)
+        → IsAnswer asked bytes written (Rose s s') (Rose k k') 8 h
+        → (c : AnyCommand) × (question : Question) × (asked ≡ Some c) × AsksOf c question
+        × IsBeside (script_of c bytes) question × (written ≡ unknown_line) × (h ≡ None) }
 {}
 
 /// Where no count of faults rose and memory was not refused, exactly what is due was answered and written.

@@ -61,6 +61,13 @@ pub(crate) fn append_number(out: &mut Row<u8>, number: u64) -> Result<(), AllocE
     out.append(buffer.format(number).as_bytes())
 }
 
+/// A world, or the definition that made it, in decimal.
+pub(crate) fn append_world(out: &mut Row<u8>, world: u32) -> Result<(), AllocError>
+    ensures { OnOk result (out.new ≡ out.old ++ decimal world) }
+{
+    append_number(out, u64::from(world))
+}
+
 /// The line that tells a fault of a source by its place, which is an offset in bytes, and its name.
 pub(crate) fn fault_line(
     alloc: Global,

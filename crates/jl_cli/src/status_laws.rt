@@ -10,10 +10,11 @@ ghost use Rattle.jl_program.specs.declared.tree.Program.{Program};
 ghost use Rattle.jl_replay.specs.Verdict.{IsLegalText};
 ghost use Rattle.jl_cli.specs.declared.work.Work.TheVariants as W;
 ghost use Rattle.jl_cli.specs.declared.work.Telling.{Telling as AnyTelling};
+ghost use Rattle.jl_cli.specs.declared.work.Question.{Question};
 ghost use Rattle.jl_cli.specs.Split.{history_in};
 ghost use Rattle.jl_cli.specs.Work.{script_of, work_of};
 ghost use Rattle.jl_cli.specs.Due.{IsDue};
-ghost use Rattle.jl_cli.specs.Laws.{IsProgram, HasProgram, IsJudgedOver, IsToldIllegal, IsToldLegal};
+ghost use Rattle.jl_cli.specs.Laws.{IsProgram, HasProgram, AsksOf, IsAnswerable, IsBeside, IsJudgedOver, IsToldIllegal, IsToldLegal};
 
 /// Status 3 is due exactly where there is no program: the script is none, or the input of `replay` is too long or has no history.
 /// For `check`, status 0 is due exactly where it is one.
@@ -25,7 +26,7 @@ pub fn law_program_status()
         → IsDue (Some Check) bytes status h text → (status ≡ 0) ↔ IsProgram bytes }
 {}
 
-/// A command that runs its script owes a history exactly where the script is a program. Its status is then 0 where the root
+/// A command that runs its script and asks no question owes a history exactly where the script is a program. The status with a history is 0 where the root
 /// ended with a value, and 1 where it ended with a fault.
 pub fn law_run_status()
     ensures history { (c : AnyCommand) (setup : AnySetup) (telling : AnyTelling) (bytes : List ℕ)
@@ -35,6 +36,19 @@ pub fn law_run_status()
     ensures outcome { (c : AnyCommand) (bytes : List ℕ) (status : ℕ)
         (h : AnyHistory) (text : List ℕ)
         → IsDue (Some c) bytes status (Some h) text → status ≡ status_of h.events }
+{}
+
+/// `which` owes a history exactly where its script is a program and its question is about it, and status 8 exactly where the script is a
+/// program and the question is not about it.
+pub fn law_which_status()
+    ensures history { (c : AnyCommand) (question : Question) (bytes : List ℕ)
+        (status : ℕ) (h : Option AnyHistory) (text : List ℕ)
+        → AsksOf c question
+        → IsDue (Some c) bytes status h text → IsSome h ↔ IsAnswerable (script_of c bytes) question }
+    ensures unknown { (c : AnyCommand) (question : Question) (bytes : List ℕ)
+        (status : ℕ) (h : Option AnyHistory) (text : List ℕ)
+        → AsksOf c question
+        → IsDue (Some c) bytes status h text → (status ≡ 8) ↔ IsBeside (script_of c bytes) question }
 {}
 
 /// Status 7 is due only for `replay`, and exactly where its input is a program with a history that is not legal; with it the line of

@@ -21,7 +21,7 @@ use std::thread::Threads;
 
 /// The line that tells the commands.
 const USAGE: &str =
-    "usage: jl run|trace [--threads N] [--fuel N] | jl check|replay | jl gen N [--threads N] [--fuel N]\n";
+    "usage: jl run|trace|ambiguous [--threads N] [--fuel N] | jl check|replay | jl gen N [--threads N] [--fuel N] | jl which NAME TYPE [--threads N] [--fuel N]\n";
 
 /// How a call ended: its status, and the history of the run where there was one.
 #[derive(Drop)]
@@ -59,18 +59,18 @@ fn deliver<K: Sink>(sink: &mut K, status: u8, history: Option<History>, text: &[
 fn obey<R: Threads + Wait + Sync, S: Source, K: Sink, G: Gate>(
     rt: &R,
     alloc: Global,
-    command: Command,
+    command: &Command,
     source: &mut S,
     sink: &mut K,
     gate: &G,
     ops: &HostOps,
 ) -> Ended
-    requires { IsInRange command }
+    requires { IsInRange command.now }
     ensures reads_counted { S.faults source.old ≤ S.faults source.new }
     ensures writes_counted { K.faults sink.old ≤ K.faults sink.new }
     ensures reads_quiet { (result.status ≡ 4 → ⊥) → S.faults source.new ≡ S.faults source.old }
     ensures writes_quiet { (result.status ≡ 5 → ⊥) → K.faults sink.new ≡ K.faults sink.old }
-    ensures ran { HasRun (Some command)
+    ensures ran { HasRun (Some command.now)
         (S.left source.old) (S.left source.new)
         (K.written sink.old) (K.written sink.new)
         (Rose (S.faults source.old) (S.faults source.new))
@@ -102,14 +102,15 @@ fn obey<R: Threads + Wait + Sync, S: Source, K: Sink, G: Gate>(
 /// writes the text of its result. `trace` writes the text of its history too. `check` writes how many types and definitions
 /// the script has. `gen N` runs the generated script of number N, and writes a summary. `replay` reads a script and, from the
 /// first line that is exactly `%%history 1` or `%%history 2` on, a history, and writes whether the history is a legal one of
-/// the script.
+/// the script. `which NAME TYPE` runs the script, and writes in which worlds which definition is chosen for a call of this function
+/// with arguments of these types. `ambiguous` runs it, and writes between which definitions calls are ambiguous at the end.
 ///
 /// The words are those of the command line after the program's name. A run has as many workers as they say, which start and end
 /// in this call. The gate is told of its tasks. `ops` has the operations of the prelude.
 ///
 /// Status 0: the run ended with a value, the script that was checked is a program, or the history is legal. 1: the run ended with
 /// a fault. 2: the words are no command. 3: the script is no program, or there is no history. 4: the source failed. 5: the sink
-/// failed. 6: memory was refused. 7: the history is not legal. Each fault of the source ends in status 4, and each of the sink
+/// failed. 6: memory was refused. 7: the history is not legal. 8: `which` asks about no function or no types of the program. Each fault of the source ends in status 4, and each of the sink
 /// in status 5.
 pub fn run<R: Threads + Wait + Sync, S: Source, K: Sink, G: Gate>(
     rt: &R,
@@ -132,7 +133,7 @@ pub fn run<R: Threads + Wait + Sync, S: Source, K: Sink, G: Gate>(
         result.status result.history }
 {
     match command(alloc, words) {
-        Ok(command) => obey(rt, alloc, command, source, sink, gate, &ops),
+        Ok(command) => obey(rt, alloc, &command, source, sink, gate, &ops),
         Err(WordsFault::NoCommand) => deliver(sink, 2, None, USAGE.as_bytes()),
         Err(WordsFault::Memory) => without_history(6),
     }

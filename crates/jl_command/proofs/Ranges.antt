@@ -1,5 +1,5 @@
 -- The numbers of a command are in their ranges, since each was looked at when its word was read.
-use Rattle.std.proofs.Common.{◌≡◌, ◌≤◌, ◌&&◌, Bool, true, false, cond, nat_le, refl, sym, subst, arith, ℕ, List, [], ◌∷◌, Option, None, Some, Result, Ok, Err, IfOk}
+use Rattle.std.proofs.Common.{◌≡◌, ◌≤◌, ◌&&◌, Bool, true, false, cond, nat_le, refl, subst, arith, ℕ, List, [], ◌∷◌, Option, None, Some, Result, Ok, Err, IfOk}
 use Rattle.jl_model.specs.declared.limits.TheConstants.{DEFAULT_FUEL, DEFAULT_THREADS, MOST_FUEL, MOST_THREADS}
 use Rattle.jl_gen.specs.declared.numbers.TheConstants.{MOST_NUMBER}
 use Rattle.jl_command.specs.declared.commands.Command.{Command}
@@ -7,7 +7,7 @@ use Rattle.jl_command.specs.declared.commands.Command.TheVariants as C
 use Rattle.jl_command.specs.declared.read.WordsFault.{WordsFault}
 use Rattle.jl_command.specs.declared.commands.Verb.{Verb}
 use Rattle.jl_command.specs.declared.commands.Verb.TheVariants as V
-use Rattle.jl_command.specs.Rule.{Use, threads, fuel, number, fits, kind_of, value_of, is_value, digits_from, between, number_in, threads_in, fuel_in, script_in, both, with_script, make, made, verb_of, uses_of, command_of, IsInRange}
+use Rattle.jl_command.specs.Rule.{Use, threads, fuel, first, second, fits, kind_of, value_of, is_value, digits_from, between, number_in, threads_in, fuel_in, script_in, with_script, with_question, command_with, with_both, make, made, made_from, verb_of, uses_of, command_of, IsInRange}
 
 -- a number stands between two others
 record IsBetween (low high n : ℕ) : Type 0 where
@@ -41,49 +41,51 @@ fuel_is v m e = (number_is 0 MOST_FUEL (Some DEFAULT_FUEL) v m (λ d f. let g : 
 script_is : (v : Option (List ℕ)) (m : ℕ) → script_in v ≡ Some m → m ≤ MOST_NUMBER
 script_is v m e = (number_is 0 MOST_NUMBER None v m (λ d f. cc) e).below
 
--- both numbers are there
-record HasBoth (a b : Option ℕ) (command : ℕ → ℕ → Command) (c : Command) : Type 0 where
-  pub first : ℕ
-  pub second : ℕ
-  pub first_is : a ≡ Some first
-  pub second_is : b ≡ Some second
-  pub is : command first second ≡ c
+script_allowed : (o : Option ℕ) (t f : ℕ) (c : Command) → ((n : ℕ) → o ≡ Some n → n ≤ MOST_NUMBER) → IsBetween 1 MOST_THREADS t → f ≤ MOST_FUEL → with_script o t f ≡ Some c → IsInRange c
+script_allowed None t f c h k l e = cc
+script_allowed (Some n) t f c h k l e = let is : C.Gen n t f ≡ c = cc in subst IsInRange is (h n refl, k.above, k.below, l)
 
-both_are : (a b : Option ℕ) (command : ℕ → ℕ → Command) (c : Command) → both a b command ≡ Some c → HasBoth a b command c
-both_are (Some a) (Some b) command c e = record { first = a; second = b; first_is = refl; second_is = refl; is = cc }
-both_are (Some a) None command c e = cc
-both_are None (Some b) command c e = cc
-both_are None None command c e = cc
+question_allowed : (a b : Option (List ℕ)) (t f : ℕ) (c : Command) → IsBetween 1 MOST_THREADS t → f ≤ MOST_FUEL → with_question a b t f ≡ Some c → IsInRange c
+question_allowed None b t f c k l e = cc
+question_allowed (Some x) None t f c k l e = cc
+question_allowed (Some x) (Some y) t f c k l e = let is : C.Which x y t f ≡ c = cc in subst IsInRange is (k.above, k.below, l)
 
-numbered_allowed : (o a b : Option ℕ) (c : Command) → ((n : ℕ) → o ≡ Some n → n ≤ MOST_NUMBER) → ((n : ℕ) → a ≡ Some n → IsBetween 1 MOST_THREADS n) → ((n : ℕ) → b ≡ Some n → n ≤ MOST_FUEL)
-    → with_script o a b ≡ Some c → IsInRange c
-numbered_allowed None a b c h k l e = cc
-numbered_allowed (Some n) a b c h k l e =
-    let t = both_are a b (C.Gen n) c e in
-    let a = k t.first t.first_is in
-    subst IsInRange t.is (h n refl, a.above, a.below, l t.second t.second_is)
+command_allowed : (v : Verb) (t f : ℕ) (a b : Option (List ℕ)) (c : Command) → IsBetween 1 MOST_THREADS t → f ≤ MOST_FUEL → command_with v t f a b ≡ Some c → IsInRange c
+command_allowed V.Check t f a b c k l e = let is : C.Check ≡ c = cc in subst IsInRange is tt
+command_allowed V.Replay t f a b c k l e = let is : C.Replay ≡ c = cc in subst IsInRange is tt
+command_allowed V.Run t f a b c k l e = let is : C.Run t f ≡ c = cc in subst IsInRange is (k.above, k.below, l)
+command_allowed V.Trace t f a b c k l e = let is : C.Trace t f ≡ c = cc in subst IsInRange is (k.above, k.below, l)
+command_allowed V.Ambiguous t f a b c k l e = let is : C.Ambiguous t f ≡ c = cc in subst IsInRange is (k.above, k.below, l)
+command_allowed V.Gen t f a b c k l e = script_allowed (script_in a) t f c (script_is a) k l e
+command_allowed V.Which t f a b c k l e = question_allowed a b t f c k l e
 
-make_allowed : (v : Verb) (t f n : Option (List ℕ)) (c : Command) → make v t f n ≡ Some c → IsInRange c
-make_allowed V.Check t f n c e = let is : C.Check ≡ c = cc in subst IsInRange is tt
-make_allowed V.Replay t f n c e = let is : C.Replay ≡ c = cc in subst IsInRange is tt
-make_allowed V.Run t f n c e = let b = both_are (threads_in t) (fuel_in f) C.Run c e in let a = threads_are t b.first b.first_is in subst IsInRange b.is (a.above, a.below, fuel_is f b.second b.second_is)
-make_allowed V.Trace t f n c e = let b = both_are (threads_in t) (fuel_in f) C.Trace c e in let a = threads_are t b.first b.first_is in subst IsInRange b.is (a.above, a.below, fuel_is f b.second b.second_is)
-make_allowed V.Gen t f n c e = numbered_allowed (script_in n) (threads_in t) (fuel_in f) c (script_is n) (threads_are t) (fuel_is f) e
+both_allowed : (t f : Option ℕ) (command : ℕ → ℕ → Option Command) (c : Command) → ((n : ℕ) → t ≡ Some n → IsBetween 1 MOST_THREADS n) → ((n : ℕ) → f ≡ Some n → n ≤ MOST_FUEL)
+    → ((m n : ℕ) → IsBetween 1 MOST_THREADS m → n ≤ MOST_FUEL → command m n ≡ Some c → IsInRange c) → with_both t f command ≡ Some c → IsInRange c
+both_allowed (Some t) (Some f) command c k l h e = h t f (k t refl) (l f refl) e
+both_allowed (Some t) None command c k l h e = cc
+both_allowed None f command c k l h e = cc
+
+make_allowed : (v : Verb) (t f a b : Option (List ℕ)) (c : Command) → make v t f a b ≡ Some c → IsInRange c
+make_allowed v t f a b c e =
+    both_allowed (threads_in t) (fuel_in f) (λ m n. command_with v m n a b) c (threads_are t) (fuel_is f) (λ m n k l h. command_allowed v m n a b c k l h) e
 
 when_fits : (t : Bool) (o : Option Command) (c : Command) → cond t o None ≡ Some c → o ≡ Some c
 when_fits true o c e = e
 when_fits false o c e = cc
 
-made_allowed : (v : Option Verb) (us : Option (List Use)) (c : Command) → made v us ≡ Some c → IsInRange c
-made_allowed None us c e = cc
-made_allowed (Some v) None c e = cc
-made_allowed (Some v) (Some us) c e =
-    make_allowed v (value_of threads us) (value_of fuel us) (value_of number us) c
-    (when_fits (fits (kind_of v) us) (make v (value_of threads us) (value_of fuel us) (value_of number us)) c e)
+made_allowed : (v : Verb) (us : Option (List Use)) (c : Command) → made v us ≡ Some c → IsInRange c
+made_allowed v None c e = cc
+made_allowed v (Some us) c e =
+    make_allowed v (value_of threads us) (value_of fuel us) (value_of first us) (value_of second us) c
+    (when_fits (fits (kind_of v) us) (make v (value_of threads us) (value_of fuel us) (value_of first us) (value_of second us)) c e)
+
+from_allowed : (v : Option Verb) (ws : List (List ℕ)) (c : Command) → made_from v ws ≡ Some c → IsInRange c
+from_allowed None ws c e = cc
+from_allowed (Some v) ws c e = made_allowed v (uses_of (kind_of v) ws) c e
 
 in_range : (ws : List (List ℕ)) (c : Command) → command_of ws ≡ Some c → IsInRange c
 in_range [] c e = cc
-in_range (w ∷ ws) c e = made_allowed (verb_of w) (uses_of ws) c e
+in_range (w ∷ ws) c e = from_allowed (verb_of w) ws c e
 
 -- a command that words are
 pub all_in_range : (ws : List (List ℕ)) (r : Result Command WordsFault) → IfOk r (λ c. command_of ws ≡ Some c) → IfOk r IsInRange

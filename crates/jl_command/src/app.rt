@@ -3,7 +3,7 @@
 ghost use Rattle.std.specs.Prelude.{◌≡◌, false, codes, IfOk};
 ghost use Rattle.clap.specs.Words.{app_of, with_subcommand};
 ghost use Rattle.clap.specs.declared.builder.command.Command.TheViews.{out-Command as fields_of};
-ghost use Rattle.jl_command.specs.App.{threads_rule, fuel_rule, number_rule, bare_app, optioned_app, numbered_app, top_app, jl_app};
+ghost use Rattle.jl_command.specs.App.{threads_rule, fuel_rule, first_rule, second_rule, bare_app, optioned_app, numbered_app, asked_app, top_app, bare_apps, optioned_apps, jl_app};
 
 use clap::{Arg, Command};
 use std::alloc::{AllocError, Global};
@@ -18,13 +18,22 @@ fn optioned<'a>(alloc: Global, name: &'a str) -> Result<Command<'a>, AllocError>
     Command::new(alloc, name).arg(threads)?.arg(fuel)
 }
 
-/// A command with options and a number.
+/// A command with options and one word that stands for itself.
 fn numbered<'a>(alloc: Global, name: &'a str) -> Result<Command<'a>, AllocError>
     ensures app { IfOk result (λ c. app_of c ≡ numbered_app name.entry.now) }
     ensures local { IfOk result (λ c. (fields_of c).has_globals ≡ false) }
 {
-    let number = Arg::new(alloc, "number").required(true);
-    optioned(alloc, name)?.arg(number)
+    let first = Arg::new(alloc, "first").required(true);
+    optioned(alloc, name)?.arg(first)
+}
+
+/// A command with options and two words that stand for themselves.
+fn asked<'a>(alloc: Global, name: &'a str) -> Result<Command<'a>, AllocError>
+    ensures app { IfOk result (λ c. app_of c ≡ asked_app name.entry.now) }
+    ensures local { IfOk result (λ c. (fields_of c).has_globals ≡ false) }
+{
+    let second = Arg::new(alloc, "second").required(true);
+    numbered(alloc, name)?.arg(second)
 }
 
 /// The program, which wants a command.
@@ -62,7 +71,7 @@ fn with_optioned<'a>(
     above.subcommand(command)
 }
 
-/// One more command, with options and a number.
+/// One more command, with options and one word.
 fn with_numbered<'a>(
     alloc: Global,
     above: Command<'a>,
@@ -74,13 +83,41 @@ fn with_numbered<'a>(
     above.subcommand(command)
 }
 
+/// One more command, with options and two words.
+fn with_asked<'a>(
+    alloc: Global,
+    above: Command<'a>,
+    name: &'a str,
+) -> Result<Command<'a>, AllocError>
+    ensures app { IfOk result (λ c. app_of c ≡ with_subcommand (app_of above.entry) (asked_app name.entry.now).top) }
+{
+    let command = asked(alloc, name)?;
+    above.subcommand(command)
+}
+
+/// The commands without words after them.
+fn bare_apps<'a>(alloc: Global) -> Result<Command<'a>, AllocError>
+    ensures app { IfOk result (λ c. app_of c ≡ bare_apps) }
+{
+    let check = with_bare(alloc, top(alloc), "check")?;
+    with_bare(alloc, check, "replay")
+}
+
+/// These, and the commands with options alone.
+fn optioned_apps<'a>(alloc: Global) -> Result<Command<'a>, AllocError>
+    ensures app { IfOk result (λ c. app_of c ≡ optioned_apps) }
+{
+    let bare = bare_apps(alloc)?;
+    let run = with_optioned(alloc, bare, "run")?;
+    let trace = with_optioned(alloc, run, "trace")?;
+    with_optioned(alloc, trace, "ambiguous")
+}
+
 /// The whole command line.
 pub(crate) fn jl<'a>(alloc: Global) -> Result<Command<'a>, AllocError>
     ensures app { IfOk result (λ c. app_of c ≡ jl_app) }
 {
-    let check = with_bare(alloc, top(alloc), "check")?;
-    let replay = with_bare(alloc, check, "replay")?;
-    let run = with_optioned(alloc, replay, "run")?;
-    let trace = with_optioned(alloc, run, "trace")?;
-    with_numbered(alloc, trace, "gen")
+    let optioned = optioned_apps(alloc)?;
+    let generated = with_numbered(alloc, optioned, "gen")?;
+    with_asked(alloc, generated, "which")
 }

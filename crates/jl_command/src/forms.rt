@@ -1,8 +1,8 @@
 //! What a word may be.
 
-ghost use Rattle.std.specs.Prelude.{◌≡◌, length, take, drop, map, bytes_eq};
+ghost use Rattle.std.specs.Prelude.{◌≡◌, not, length, take, drop, map, bytes_eq};
 ghost use Rattle.std.specs.List.{list_all};
-ghost use Rattle.jl_command.specs.Rule.{is_digit, is_value, is_known, form_of, first_verb, verb_of, are_known, opening};
+ghost use Rattle.jl_command.specs.Rule.{is_digit, is_value, begins_with_hyphen, is_known, form_of, first_verb, verb_of, are_known, opening};
 ghost use Rattle.jl_command.specs.Texts.{texts};
 
 use crate::commands::Verb;
@@ -43,25 +43,26 @@ fn begins_with(word: &[u8], start: &[u8]) -> bool
     &word[..word.len().min(start.len())] == start
 }
 
-/// Whether what stands after so many bytes of a word is a value.
-fn has_value_at(word: &[u8], place: usize) -> bool
-    ensures { result ≡ is_value (drop place word.now) }
+/// Whether a word begins with a hyphen, as an option does.
+fn begins_with_hyphen(word: &[u8]) -> bool
+    ensures { result ≡ begins_with_hyphen word.now }
 {
-    is_value(&word[word.len().min(place)..])
+    match word.first() {
+        Some(byte) => *byte == b'-',
+        None => false,
+    }
 }
 
-/// Whether a word may stand after the first: an option, an option with its value, or a value.
+/// Whether a word may stand after the first: an option, an option with its value, or a word that does not begin with a hyphen.
 fn is_known(word: &[u8]) -> bool
     ensures { result ≡ is_known (form_of word.now) }
 {
     if word == b"--threads".as_slice() || word == b"--fuel".as_slice() {
         true
-    } else if begins_with(word, b"--threads=") {
-        has_value_at(word, 10)
-    } else if begins_with(word, b"--fuel=") {
-        has_value_at(word, 7)
+    } else if begins_with(word, b"--threads=") || begins_with(word, b"--fuel=") {
+        true
     } else {
-        is_value(word)
+        !begins_with_hyphen(word)
     }
 }
 
@@ -96,8 +97,12 @@ fn verb_of(word: &[u8]) -> Option<Verb>
         Some(Verb::Run)
     } else if word == b"trace".as_slice() {
         Some(Verb::Trace)
+    } else if word == b"ambiguous".as_slice() {
+        Some(Verb::Ambiguous)
     } else if word == b"gen".as_slice() {
         Some(Verb::Gen)
+    } else if word == b"which".as_slice() {
+        Some(Verb::Which)
     } else {
         None
     }

@@ -54,21 +54,22 @@ fn matches<'a>(alloc: Global, words: &'a [&'a str]) -> Result<ArgMatches<'a>, Wo
 }
 
 /// The command that is asked for, by what was found in the words after it.
-fn answer(verb: Verb, matches: &ArgMatches<'_>) -> Result<Command, WordsFault>
+fn answer(alloc: Global, verb: Verb, matches: &ArgMatches<'_>) -> Result<Command, WordsFault>
     ensures { MatchResult result (λ c. made_by verb (subcommand_rows_of matches.now) ≡ Some c)
-        (λ e. (e ≡ WordsFault.NoCommand) × (made_by verb (subcommand_rows_of matches.now) ≡ None)) }
+        (λ e. (e ≡ WordsFault.NoCommand) → made_by verb (subcommand_rows_of matches.now) ≡ None) }
 {
     let Some((_, found)) = matches.subcommand() else {
         return Err(WordsFault::NoCommand);
     };
-    match make(verb, found) {
-        Some(command) => Ok(command),
-        None => Err(WordsFault::NoCommand),
+    match make(alloc, verb, found) {
+        Ok(Some(command)) => Ok(command),
+        Ok(None) => Err(WordsFault::NoCommand),
+        Err(_) => Err(WordsFault::Memory),
     }
 }
 
 /// The command that words are. `NoCommand` comes exactly where they are none. Where the first word asks for no command, or a
-/// later one is no option and no value, that takes no memory and is certain.
+/// later one begins with a hyphen and is no option, that takes no memory and is certain.
 #[tactic(auto, using(crate::proofs::Decide::opened_none))]
 pub fn command<'a>(alloc: Global, words: &'a [&'a str]) -> Result<Command, WordsFault>
     ensures command { IfOk result (λ c. command_of (texts words.entry.now) ≡ Some c) }
@@ -80,7 +81,7 @@ pub fn command<'a>(alloc: Global, words: &'a [&'a str]) -> Result<Command, Words
         return Err(WordsFault::NoCommand);
     };
     match matches(alloc, words) {
-        Ok(matches) => answer(verb, &matches),
+        Ok(matches) => answer(alloc, verb, &matches),
         Err(fault) => Err(fault),
     }
 }

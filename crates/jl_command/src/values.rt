@@ -1,15 +1,18 @@
 //! The values of options, and the command that they make.
 
-ghost use Rattle.std.specs.Prelude.{◌≡◌, ◌≤◌, ◌-◌, if◌then◌else◌, true, codes, IfSome};
+ghost use Rattle.std.specs.Prelude.{◌≡◌, ◌≤◌, ◌-◌, true, codes, IfSome, IfOk, Some};
 ghost use Rattle.jl_command.specs.declared.commands.Command.TheVariants as C;
 ghost use Rattle.clap.specs.Words.{first_value, found_of};
-ghost use Rattle.jl_command.specs.Rule.{is_digit, is_value, digits_from, between, number_in, threads_in, fuel_in, script_in, make, both, with_script};
+ghost use Rattle.jl_command.specs.Rule.{is_digit, is_value, digits_from, between, number_in, threads_in, fuel_in, script_in, with_script, with_question, command_with, make};
 
 use crate::commands::{Command, Verb};
 use crate::forms::is_value;
 use clap::ArgMatches;
 use jl_gen::MOST_NUMBER;
 use jl_model::limits::{DEFAULT_FUEL, DEFAULT_THREADS, MOST_FUEL, MOST_THREADS};
+use jl_model::shared::SharedList;
+use jl_model::ty::Bytes;
+use std::alloc::{AllocError, Global};
 
 /// The number that a digit is.
 fn digit_value(digit: u8) -> u64
@@ -88,58 +91,85 @@ fn fuel_in(found: &ArgMatches<'_>) -> Option<u64>
 
 /// The number of a generated script.
 fn script_in(found: &ArgMatches<'_>) -> Option<u32>
-    ensures { result ≡ script_in (first_value (found_of found.now) (codes "number")) }
+    ensures { result ≡ script_in (first_value (found_of found.now) (codes "first")) }
 {
-    match number_in(found, "number", 0, u64::from(MOST_NUMBER), None) {
+    match number_in(found, "first", 0, u64::from(MOST_NUMBER), None) {
         Some(number) => Some(number as u32),
         None => None,
     }
 }
 
-/// A command with threads and fuel, where both are there.
-fn both(threads: Option<u32>, fuel: Option<u64>, traced: bool) -> Option<Command>
-    ensures { result ≡ both threads fuel (if traced then C.Trace else C.Run) }
+/// A text, to be kept.
+fn kept(alloc: Global, text: &str) -> Result<Bytes, AllocError>
+    ensures { IfOk result (λ bytes. bytes ≡ text.now) }
 {
-    match threads {
-        Some(threads) => match fuel {
-            Some(fuel) => {
-                if traced {
-                    Some(Command::Trace(threads, fuel))
-                } else {
-                    Some(Command::Run(threads, fuel))
-                }
-            }
-            None => None,
-        },
+    SharedList::from_vec(alloc, text.as_bytes().to_vec(alloc)?)
+}
+
+/// The command that asks which definition is chosen, where a name and a type are given.
+fn question(
+    alloc: Global,
+    threads: u32,
+    fuel: u64,
+    found: &ArgMatches<'_>,
+) -> Result<Option<Command>, AllocError>
+    ensures { IfOk result (λ c. c ≡ with_question (first_value (found_of found.now) (codes "first")) (first_value (found_of found.now) (codes "second")) threads fuel) }
+{
+    let Some(name) = found.get_str("first") else {
+        return Ok(None);
+    };
+    let Some(ty) = found.get_str("second") else {
+        return Ok(None);
+    };
+    let name = kept(alloc, name)?;
+    let ty = kept(alloc, ty)?;
+    Ok(Some(Command::Which(name, ty, threads, fuel)))
+}
+
+/// The command that runs a generated script, where its number is given.
+fn generated(threads: u32, fuel: u64, found: &ArgMatches<'_>) -> Option<Command>
+    ensures { result ≡ with_script (script_in (first_value (found_of found.now) (codes "first"))) threads fuel }
+{
+    match script_in(found) {
+        Some(number) => Some(Command::Gen(number, threads, fuel)),
         None => None,
     }
 }
 
-/// The command of a generated script, where all its numbers are there.
-fn with_script(number: Option<u32>, threads: Option<u32>, fuel: Option<u64>) -> Option<Command>
-    ensures { result ≡ with_script number threads fuel }
+/// The command that is asked for, with so many threads and so much fuel.
+fn command_with(
+    alloc: Global,
+    verb: Verb,
+    threads: u32,
+    fuel: u64,
+    found: &ArgMatches<'_>,
+) -> Result<Option<Command>, AllocError>
+    ensures { IfOk result (λ c. c ≡ command_with verb threads fuel (first_value (found_of found.now) (codes "first")) (first_value (found_of found.now) (codes "second"))) }
 {
-    match number {
-        Some(number) => match threads {
-            Some(threads) => match fuel {
-                Some(fuel) => Some(Command::Gen(number, threads, fuel)),
-                None => None,
-            },
-            None => None,
-        },
-        None => None,
+    match verb {
+        Verb::Check => Ok(Some(Command::Check)),
+        Verb::Replay => Ok(Some(Command::Replay)),
+        Verb::Run => Ok(Some(Command::Run(threads, fuel))),
+        Verb::Trace => Ok(Some(Command::Trace(threads, fuel))),
+        Verb::Ambiguous => Ok(Some(Command::Ambiguous(threads, fuel))),
+        Verb::Gen => Ok(generated(threads, fuel, found)),
+        Verb::Which => question(alloc, threads, fuel, found),
     }
 }
 
 /// The command that is asked for, with the values that are given for it.
-pub(crate) fn make(verb: Verb, found: &ArgMatches<'_>) -> Option<Command>
-    ensures { result ≡ make verb (first_value (found_of found.now) (codes "threads")) (first_value (found_of found.now) (codes "fuel")) (first_value (found_of found.now) (codes "number")) }
+pub(crate) fn make(
+    alloc: Global,
+    verb: Verb,
+    found: &ArgMatches<'_>,
+) -> Result<Option<Command>, AllocError>
+    ensures { IfOk result (λ c. c ≡ make verb (first_value (found_of found.now) (codes "threads")) (first_value (found_of found.now) (codes "fuel")) (first_value (found_of found.now) (codes "first")) (first_value (found_of found.now) (codes "second"))) }
 {
-    match verb {
-        Verb::Check => Some(Command::Check),
-        Verb::Replay => Some(Command::Replay),
-        Verb::Run => both(threads_in(found), fuel_in(found), false),
-        Verb::Trace => both(threads_in(found), fuel_in(found), true),
-        Verb::Gen => with_script(script_in(found), threads_in(found), fuel_in(found)),
-    }
+    let Some(threads) = threads_in(found) else {
+        return Ok(None);
+    };
+    let Some(fuel) = fuel_in(found) else {
+        return Ok(None);
+    };
+    command_with(alloc, verb, threads, fuel, found)
 }

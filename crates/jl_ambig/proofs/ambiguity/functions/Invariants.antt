@@ -1,5 +1,4 @@
-use Rattle.std.proofs.Common.{ℕ, ◌≡◌, ◌<◌, ◌≤◌, slice_get, Some, take}
-use Rattle.jl_program.specs.declared.tree.Site.{Site}
+use Rattle.std.proofs.Common.{◌≤◌, take}
 use Rattle.jl_ambig.specs.Asked.{AreBelow}
 use Rattle.jl_ambig.proofs.ambiguity.functions.Given as goal
 

@@ -1,5 +1,3 @@
-use Rattle.std.proofs.Common.{sym, subst}
-use Rattle.jl_ambig.specs.Asked.{AreTypes}
 use Rattle.jl_ambig.proofs.AskLemmas.{asked_found}
 use Rattle.jl_ambig.proofs.asking.ask.Goals as goal
 

@@ -1,6 +1,5 @@
-use Rattle.std.proofs.Common.{arith, subst, sym, []}
-use Rattle.jl_ambig.specs.Asked.{AreKnown, AreTypes}
-use Rattle.jl_ambig.proofs.AskLemmas.{next_found, last_found, first_found}
+use Rattle.std.proofs.Common.{arith}
+use Rattle.jl_ambig.proofs.AskLemmas.{next_found, last_found}
 use Rattle.jl_ambig.proofs.asking.ask_all.Goals as goal
 
 pub loop-types-preserved : goal.loop-types-preserved

@@ -1,4 +1,4 @@
-use Rattle.std.proofs.Common.{◌∙◌, ap, sym, subst, arith}
+use Rattle.std.proofs.Common.{ap, sym, subst, arith}
 use Rattle.jl_calculus.specs.World.{changes}
 use Rattle.jl_ambig.specs.Asked.{components_at, IsEndOf}
 use Rattle.jl_ambig.specs.Pairs.{IsUnexamined}

@@ -1,4 +1,4 @@
-use Rattle.std.proofs.Common.{◌∙◌, ap, sym, subst, arith, ◌++◌, ◌∷◌, [], length}
+use Rattle.std.proofs.Common.{◌∙◌, ap, sym, subst, arith, length}
 use Rattle.std.proofs.lemmas.List.{length_push}
 use Rattle.jl_methods.specs.Filters.{IsOfProgram}
 use Rattle.jl_ambig.proofs.MadeLemmas.{of_program, has_room, none_on, made_next, made_all}

@@ -1,4 +1,4 @@
-use Rattle.std.proofs.Common.{◌∙◌, ap, sym, subst, arith, ◌++◌, ◌∷◌, [], take}
+use Rattle.std.proofs.Common.{sym, subst, arith, ◌++◌, ◌∷◌, []}
 use Rattle.std.proofs.lemmas.List.{take_all}
 use Rattle.jl_ambig.specs.Probes.{AreFirst}
 use Rattle.jl_ambig.proofs.TypeLemmas.{all_more, append_none}

@@ -1,4 +1,4 @@
-use Rattle.std.proofs.Common.{◌∙◌, ap, sym, subst, arith, ◌++◌, ◌∷◌, [], take}
+use Rattle.std.proofs.Common.{sym, subst, arith, ◌++◌}
 use Rattle.std.specs.List.{flat_map}
 use Rattle.std.proofs.lemmas.List.{take_all}
 use Rattle.jl_model.specs.declared.ty.Key.{Key}

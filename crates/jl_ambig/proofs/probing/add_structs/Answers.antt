@@ -1,5 +1,5 @@
-use Rattle.std.proofs.Common.{◌∙◌, ap, sym, subst, refl, arith, ◌+◌, ◌++◌, ◌∷◌, [], drop}
-use Rattle.jl_ambig.specs.Probes.{plain_structs, AreFirst}
+use Rattle.std.proofs.Common.{◌∙◌, sym, refl, arith, ◌+◌, drop}
+use Rattle.jl_ambig.specs.Probes.{plain_structs}
 use Rattle.jl_ambig.proofs.TypeLemmas.{up_same, up_more, up_end, struct_no, struct_yes, structs_done}
 use Rattle.jl_ambig.proofs.probing.add_structs.Goals as goal
 

@@ -5,7 +5,4 @@ pub told-requires : goal.told-requires
 told-requires g c = c.in_ok-history.ensures.legal.so_far.stand
 
 pub returns : goal.returns
-returns g c =
-    ran_so c.args.setup c.args.telling c.args.ready.now c.in_ok-history.history _ _
-    (record { legal = c.in_ok-history.ensures.legal; begun = c.in_ok-history.ensures.begun; cached = c.in_ok-history.ensures.cached })
-    c.status-status.ensures c.in_ok-text.ensures
+returns g c = ran_so c.with_history.result c.args.setup c.args.telling c.args.ready.now c.in_ok-history.history c.in_ok-text.text c.in_ok-history.ensures c.in_ok-text.ensures c.with_history.ensures

@@ -1,4 +1,4 @@
-use Rattle.std.proofs.Common.{◌≤◌, ◌<◌, length, arith}
+use Rattle.std.proofs.Common.{arith}
 use Rattle.jl_command.proofs.Digits.{few, room}
 use Rattle.jl_command.proofs.values.number_of.Goals as goal
 
