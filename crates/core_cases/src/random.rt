@@ -9,9 +9,10 @@ use jl_calculus::step::Step;
 use jl_core::Core;
 use jl_model::shared::SharedNode;
 use jl_model::ty::{Bytes, Key, Tys};
+use jl_program::env::Env;
 use jl_program::prelude::{FIRST_WORLD, PRELUDE_SITES};
 use jl_program::tree::Start;
-use jl_program::value::{Value, Values};
+use jl_program::value::Value;
 use jl_sig::Ready;
 use std::alloc::{AllocError, Global};
 
@@ -86,7 +87,7 @@ fn random_start(
     env.push(random_value(dice, sizes.tasks))?;
     Ok(Start {
         spawn: 0,
-        env: Values::from_vec(env),
+        env: Env::from_vec(alloc, env)?,
         bindings: Tys::empty(),
         world,
     })

@@ -9,9 +9,10 @@ use jl_calculus::history::{Change, Outcome, Record, TraceItem, TraceItems};
 use jl_calculus::step::Step;
 use jl_model::shared::SharedNode;
 use jl_model::ty::{Bytes, Key, Ty, Tys};
+use jl_program::env::Env;
 use jl_program::fault::Fault;
 use jl_program::tree::{Program, Start};
-use jl_program::value::{Value, Values};
+use jl_program::value::Value;
 use jl_sig::Ready;
 use jl_types::Table;
 use std::alloc::{AllocError, Global};
@@ -120,7 +121,7 @@ fn read_start(alloc: Global, place: u32, world: u32, tasks: &[&str]) -> Result<S
     }
     Ok(Start {
         spawn: place,
-        env: Values::from_vec(env),
+        env: Env::from_vec(alloc, env)?,
         bindings: Tys::empty(),
         world,
     })

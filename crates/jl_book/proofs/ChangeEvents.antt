@@ -12,7 +12,7 @@ use Rattle.jl_calculus.specs.Past.{tasks_of, done_of}
 use Rattle.jl_calculus.specs.Ranges.{keys_of}
 use Rattle.jl_calculus.specs.ValidHistory.{IsValidEvent}
 use Rattle.jl_calculus.specs.World.{change_event, world_of, HasMethodAt}
-use Rattle.jl_methods.specs.Filters.{IsOfProgram, AreTouched, ComesWith}
+use Rattle.jl_methods.specs.Filters.{IsOfProgram}
 use Rattle.jl_methods.proofs.MadeLemmas.{made_of_program}
 use Rattle.jl_world.specs.declared.about.About.{About}
 use Rattle.jl_world.specs.declared.view.TaskView.{TaskView}
@@ -28,10 +28,6 @@ module _ (t : ℕ) where
   pub change_valid : (P : Program) (es : List Event) (c : Change) → MayBeMade P es c → IsValidEvent P (change_event t c)
   change_valid P es (Ch.Def site) m = made_of_program P es (Ch.Def site) m
   change_valid P es (Ch.Del place) m = made_of_program P es (Ch.Del place) m
-
-  pub change_touches : (P : Program) (es : List Event) (c : Change) (ns : List ℕ) → AreTouched P (keys_of es) c ns → ComesWith P es (change_event t c) ns
-  change_touches P es (Ch.Def site) ns h = h
-  change_touches P es (Ch.Del place) ns h = h
 
   pub change_has_place : (about : About) (es : List Event) (c : Change) → HasPlaceFor about es (change_event t c)
   change_has_place about es (Ch.Def site) = tt

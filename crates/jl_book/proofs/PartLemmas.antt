@@ -15,14 +15,13 @@ use Rattle.jl_calculus.specs.ValidStart.{IsValidStart}
 use Rattle.jl_calculus.specs.World.{changes, change_event}
 use Rattle.jl_calculus.proofs.GrowthLemmas.{keys_append}
 use Rattle.jl_methods.specs.declared.index.Index.{Index}
-use Rattle.jl_methods.specs.Filters.{AreTouched, ComesWith}
-use Rattle.jl_methods.specs.Indexed.{AreFilters, IsIndexOf, awaited_in, noted_in}
+use Rattle.jl_methods.specs.Indexed.{AreFilters, IsIndexOf, noted_in}
 use Rattle.jl_world.specs.declared.about.About.{About}
 use Rattle.jl_world.specs.declared.view.BookView.{BookView}
 use Rattle.jl_world.specs.Rule.{IsHistory, first_events}
 use Rattle.jl_book.specs.Books.{HasParts, at_rest}
 use Rattle.jl_book.specs.Tasks.{HasEnds, IsEndAt}
-use Rattle.jl_book.proofs.ChangeEvents.{change_comes, change_valid, change_touches, change_has_place, change_is_narrow, change_ends_none, change_done, change_tasks, change_keys}
+use Rattle.jl_book.proofs.ChangeEvents.{change_comes, change_valid, change_has_place, change_is_narrow, change_ends_none, change_done, change_tasks, change_keys}
 use Rattle.jl_book.proofs.Counting.{count_kept, count_spawned, count_ended}
 use Rattle.jl_book.proofs.Ends.{ends_kept, ends_spawned, ends_ended}
 use Rattle.jl_book.proofs.Pushing.{IsEnd, book_push, first_book, history_push, last_may}
@@ -52,13 +51,12 @@ module _ (about : About) (es : List Event) (seat : BookView) (kept : List Event)
   pub parts_added : (Q : Program) → Q ≡ P → (e : Event) (now : BookView) (then : List Event) (before next : Index) (many : List Key)
       → now ≡ at_rest (es ++ e ∷ []) → then ≡ kept ++ e ∷ [] → IsHistory about (es ++ e ∷ []) → IsValidEvent P e → OnDone (IsEnd about es) e
       → ((t : ℕ) → done_of t (e ∷ []) ≡ None) → tasks_of (e ∷ []) ≡ 1 → many ≡ keys ++ keys_of (e ∷ [])
-      → noted_in before ≡ noted_in index → ComesWith Q es e (awaited_in before)
-      → ((xs : List Event) → IsIndexOf Q xs before → MayCome Q xs e → ComesWith Q xs e (awaited_in before) → IsIndexOf Q (xs ++ e ∷ []) next)
+      → noted_in before ≡ noted_in index → ((xs : List Event) → IsIndexOf Q xs before → MayCome Q xs e → IsIndexOf Q (xs ++ e ∷ []) next)
       → HasParts about now.events now then next many ends n
-  parts_added Q same e now then before next many seat_is then_is history valid ends_so none one count noted comes step =
+  parts_added Q same e now then before next many seat_is then_is history valid ends_so none one count noted step =
       let kept_index : IsIndexOf Q es before = subst (λ p. IsIndexOf p es before) (sym same) (subst (AreFilters P (changes es) (keys_of es) (rows_of es)) (sym noted) h.filters) in
       let may = subst (λ p. MayCome p es e) (sym same) (last_may about es e history) in
-      let filters = subst (λ p. IsIndexOf p (es ++ e ∷ []) next) same (step es kept_index may comes) in
+      let filters = subst (λ p. IsIndexOf p (es ++ e ∷ []) next) same (step es kept_index may) in
       subst (λ (s : BookView). HasParts about s.events s then next many ends n) (sym seat_is)
       (record {
         knows = refl;
@@ -72,15 +70,15 @@ module _ (about : About) (es : List Event) (seat : BookView) (kept : List Event)
 
   -- a change
   pub parts_changed : (Q : Program) → Q ≡ P → (task : ℕ) (change : Change) → IsChange P es task change → (now : BookView) (then : List Event) (before next : Index)
-      → now ≡ at_rest (es ++ change_event task change ∷ []) → then ≡ kept ++ change_event task change ∷ [] → noted_in before ≡ noted_in index → AreTouched Q (keys_of es) change (awaited_in before)
-      → ((xs : List Event) → IsIndexOf Q xs before → MayCome Q xs (change_event task change) → ComesWith Q xs (change_event task change) (awaited_in before) → IsIndexOf Q (xs ++ change_event task change ∷ []) next)
+      → now ≡ at_rest (es ++ change_event task change ∷ []) → then ≡ kept ++ change_event task change ∷ [] → noted_in before ≡ noted_in index
+      → ((xs : List Event) → IsIndexOf Q xs before → MayCome Q xs (change_event task change) → IsIndexOf Q (xs ++ change_event task change ∷ []) next)
       → HasParts about now.events now then next keys ends n
-  parts_changed Q same task change may now then before next seat_is then_is noted touched step =
+  parts_changed Q same task change may now then before next seat_is then_is noted step =
       let e = change_event task change in
       parts_added Q same e now then before next keys seat_is then_is
       (history_push about es e h.book.history (change_comes task P es change may) (change_has_place task about es change) (change_is_narrow task change))
       (change_valid task P es change may.may) (change_ends_none task (IsEnd about es) change) (change_done task change) (change_tasks task change)
-      (sym (ap (λ ks. keys ++ ks) (change_keys task change) ∙ append-nil keys)) noted (change_touches task Q es change (awaited_in before) touched) step
+      (sym (ap (λ ks. keys ++ ks) (change_keys task change) ∙ append-nil keys)) noted step
 
   -- a spawn
   pub parts_spawned : (task child : ℕ) (start : Start) (now : BookView) (then : List Event) (places : List (Option ℕ)) (m : ℕ)

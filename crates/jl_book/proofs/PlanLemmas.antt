@@ -28,15 +28,6 @@ use Rattle.jl_world.specs.Views.{Begins}
 use Rattle.jl_world.proofs.Lists.{one_there}
 use Rattle.jl_world.proofs.Rights.{named_more}
 
--- the rows that were cut for the keys that a change touches are all that it ends
-pub all_cut : (P Q : Program) (es : List Event) (b b1 : BookView) (change : Change) (ns ms : List ℕ) → Q ≡ P → b.events ≡ es → b1 ≡ with_cut b1.cut b → ms ≡ ns
-    → AreTouched Q (keys_of es) change ns → ((c : Change) → AreTouched P (keys_of b.events) c ms → AreAllCut P b.events c b1.cut) → AreAllCut P b1.events change b1.cut
-all_cut P Q es b b1 change ns ms same events cut slice touched step =
-    let here = subst (λ p. AreTouched p (keys_of es) change ns) same touched in
-    let there = subst (λ xs. AreTouched P (keys_of xs) change ns) (sym events) here in
-    let all = step change (subst (AreTouched P (keys_of b.events) change) (sym slice) there) in
-    subst (λ xs. AreAllCut P xs change b1.cut) (sym (ap (λ (x : BookView). x.events) cut)) all
-
 -- a choice stays where a row is linked
 selects_row : (P : Program) (es : List Event) (number f : ℕ) (ts : List Ty) (w : ℕ) (c : Choice) (row : RowPlan) → w ≤ world_of es → Selects P es f ts w c → Selects P (with_row es number row) f ts w c
 selects_row P es number f ts w c R.NoMethod l h = h

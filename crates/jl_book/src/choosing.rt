@@ -50,7 +50,7 @@ impl<N: Naming> Book<N> {
         ready.valid();
         let NewRow { site, first, last } = row;
         let event = Event::Fill { key, site, first };
-        parts::reserve(ready, &mut self.index, &mut self.events, &event, &[])?;
+        parts::reserve(ready, &mut self.index, &mut self.events, &event)?;
         let Some(number) = cache.link(&mut self.seat, key, site, first, last) else {
             unreachable!();
         };

@@ -6,8 +6,7 @@ ghost use Rattle.jl_calculus.specs.declared.history.Event.{Event};
 ghost use Rattle.jl_calculus.specs.declared.history.Event.TheVariants as E;
 ghost use Rattle.jl_calculus.specs.Learnt.{IsNamed};
 ghost use Rattle.jl_calculus.specs.Legal.{IsKeyOf, MayCome};
-ghost use Rattle.jl_methods.specs.Filters.{ComesWith};
-ghost use Rattle.jl_methods.specs.Indexed.{noted_in, awaited_in, IsIndexOf, HasRoomFor};
+ghost use Rattle.jl_methods.specs.Indexed.{noted_in, IsIndexOf, HasRoomFor};
 ghost use Rattle.jl_methods.specs.Room.{IsRoomy};
 ghost use Rattle.jl_world.specs.Views.{Begins, met};
 ghost use Rattle.jl_book.specs.declared.faults.KeyFault.TheVariants as F;
@@ -29,7 +28,6 @@ use std::alloc::{AllocError, Global};
 
 /// Takes all the memory that a new key needs, and gives its event and a copy of it.
 fn reserve_key(
-    alloc: Global,
     ready: &Ready,
     keys: &mut IndexSet<Key>,
     index: &mut Index,
@@ -42,16 +40,14 @@ fn reserve_key(
     ensures free { IfOk result (λ made. 0 < spare keys.new) }
     ensures keys { keys.new.keys ≡ keys.old.keys }
     ensures room { IfOk result (λ made. HasRoomFor ready.now (E.Key key.now) index.new) }
-    ensures awaited { IfOk result (λ made. (es : List Event) → IsIndexOf ready.now es index.old → ComesWith ready.now es (E.Key key.now) (awaited_in index.new)) }
     ensures place { IfOk result (λ made. IsRoomy events.new) }
     ensures noted { noted_in index.new ≡ noted_in index.old }
     ensures events { events.new.items ≡ events.old.items }
 {
-    let touching = index.find_touching(alloc, ready, key)?;
     let copy = key.copy()?;
     let event = Event::Key(key.copy()?);
     keys.reserve(1)?;
-    parts::reserve(ready, index, events, &event, touching.as_slice())?;
+    parts::reserve(ready, index, events, &event)?;
     Ok((event, copy))
 }
 
@@ -85,7 +81,6 @@ impl<N: Naming> Book<N> {
             return Err(KeyFault::KeysFull);
         }
         let Ok((event, copy)) = reserve_key(
-            alloc,
             ready,
             &mut self.keys,
             &mut self.index,

@@ -10,13 +10,14 @@ ghost use Rattle.jl_calculus.specs.declared.history.Event.TheVariants.{Def, Del,
 ghost use Rattle.jl_calculus.specs.declared.history.SpawnFault.TheVariants as S;
 ghost use Rattle.jl_calculus.specs.Legal.{IsRunning, MayBeMade, MayCome};
 ghost use Rattle.jl_calculus.specs.Past.{tasks_of};
-ghost use Rattle.jl_calculus.specs.Ranges.{keys_of};
 ghost use Rattle.jl_calculus.specs.ValidStart.{IsValidStart};
+ghost use Rattle.jl_calculus.specs.Words.{AreAllCut};
 ghost use Rattle.jl_calculus.specs.World.{change_event, world_of, FindsMethod};
-ghost use Rattle.jl_methods.specs.Filters.{AreTouched};
-ghost use Rattle.jl_methods.specs.Indexed.{noted_in, awaited_in, IsIndexOf, HasRoomFor};
+ghost use Rattle.jl_methods.specs.Indexed.{noted_in, IsIndexOf, HasRoomFor};
 ghost use Rattle.jl_methods.specs.Room.{IsRoomy};
+ghost use Rattle.jl_world.specs.Rule.{IsHistory};
 ghost use Rattle.jl_world.specs.Views.{Begins, begun, met, noted};
+ghost use Rattle.jl_rows.specs.Open.{with_cut};
 ghost use Rattle.jl_book.specs.Passes.{task_in};
 
 use crate::book::Book;
@@ -29,36 +30,42 @@ use jl_model::limits::{MOST_TASKS, MOST_WORLDS};
 use jl_program::tree::Start;
 use jl_rows::{cut_rows, has_method};
 use jl_sig::Ready;
-use jl_world::Naming;
+use jl_world::{BookSeat, Naming};
 use std::alloc::{AllocError, Global};
 
-/// Takes all the memory that a change needs, and gives its event and the numbers of the keys that it touches.
+/// Takes all the memory that a change needs, and gives its event.
 fn reserve_change(
-    alloc: Global,
     ready: &Ready,
     index: &mut Index,
     events: &mut Vec<Event>,
     task: u32,
     change: Change,
-) -> Result<(Event, Vec<u32>), AllocError>
+) -> Result<Event, AllocError>
     requires { (es : List Event) × IsIndexOf ready.now es index.old × MayCome ready.now es (change_event task change) }
-    ensures event { IfOk result (λ made. made.0 ≡ change_event task change) }
-    ensures touched { IfOk result (λ made. (es : List Event) → IsIndexOf ready.now es index.old → AreTouched ready.now (keys_of es) change made.1.items) }
-    ensures room { IfOk result (λ made. HasRoomFor ready.now (change_event task change) index.new) }
-    ensures awaited { IfOk result (λ made. awaited_in index.new ≡ made.1.items) }
-    ensures place { IfOk result (λ made. IsRoomy events.new) }
+    ensures event { IfOk result (λ event. event ≡ change_event task change) }
+    ensures room { IfOk result (λ event. HasRoomFor ready.now (change_event task change) index.new) }
+    ensures place { IfOk result (λ event. IsRoomy events.new) }
     ensures noted { noted_in index.new ≡ noted_in index.old }
     ensures events { events.new.items ≡ events.old.items }
 {
-    let touched = index.find_touched(alloc, ready, change)?;
     let event = change.event(task);
-    parts::reserve(ready, index, events, &event, touched.as_slice())?;
-    Ok((event, touched))
+    parts::reserve(ready, index, events, &event)?;
+    Ok(event)
+}
+
+/// Cuts, at the present world, exactly the rows without an end of the keys that a change touches, ahead of it.
+fn cut_touched<N: Naming>(index: &Index, cache: &Cache<N>, book: &mut BookSeat<N>, change: Change)
+    requires index { IsIndexOf N.about.program.value book.old.events index.now }
+    requires history { IsHistory N.about book.old.events }
+    requires uncut { book.old.cut ≡ [] }
+    ensures same { book.new ≡ with_cut book.new.cut book.old }
+    ensures cut { AreAllCut N.about.program.value book.old.events change book.new.cut }
+{
+    cut_rows(index, cache, book, index.touched(change));
 }
 
 /// Takes all the memory that a spawn needs, and gives a copy of its start.
 fn reserve_spawn(
-    alloc: Global,
     events: &mut Vec<Event>,
     ends: &mut Vec<Option<u32>>,
     start: &Start,
@@ -68,7 +75,7 @@ fn reserve_spawn(
     ensures events { events.new.items ≡ events.old.items }
     ensures ends { ends.new.items ≡ ends.old.items }
 {
-    let copy = start.copy(alloc)?;
+    let copy = start.copy()?;
     events.reserve(1)?;
     ends.reserve(1)?;
     Ok(copy)
@@ -79,7 +86,6 @@ impl<N: Naming> Book<N> {
     /// end whose keys the change touches are cut at the present world, and one store makes the new one.
     fn make_world(
         &mut self,
-        alloc: Global,
         ready: &Ready,
         cache: &Cache<N>,
         pass: &mut Pass<N>,
@@ -94,15 +100,8 @@ impl<N: Naming> Book<N> {
         ensures pass { IfOk result (λ world. pass.new ≡ met self.new (noted (length self.old) (change_event (task_in pass.old) change) pass.old)) }
         ensures refused { OnErr result ((self.new ≡ self.old) × (pass.new ≡ pass.old)) }
     {
-        let (event, touched) = reserve_change(
-            alloc,
-            ready,
-            &mut self.index,
-            &mut self.events,
-            pass.task,
-            change,
-        )?;
-        cut_rows(&self.index, cache, &mut self.seat, touched.as_slice());
+        let event = reserve_change(ready, &mut self.index, &mut self.events, pass.task, change)?;
+        cut_touched(&self.index, cache, &mut self.seat, change);
         let words = cache.world();
         seats::publish(words, &mut self.seat, &mut pass.seat, pass.task, change);
         parts::add(ready, &mut self.index, &mut self.events, event);
@@ -132,7 +131,7 @@ impl<N: Naming> Book<N> {
         if self.index.worlds() >= MOST_WORLDS {
             return Err(DefineFault::WorldLimit);
         }
-        let Ok(world) = self.make_world(alloc, ready, cache, pass, Change::Def(site)) else {
+        let Ok(world) = self.make_world(ready, cache, pass, Change::Def(site)) else {
             return Err(DefineFault::Memory);
         };
         Ok(world)
@@ -171,7 +170,7 @@ impl<N: Naming> Book<N> {
         if !is_there {
             return Err(DeleteFault::NoSuchMethod);
         }
-        let Ok(world) = self.make_world(alloc, ready, cache, pass, Change::Del(place)) else {
+        let Ok(world) = self.make_world(ready, cache, pass, Change::Del(place)) else {
             return Err(DeleteFault::Memory);
         };
         Ok(world)
@@ -199,7 +198,7 @@ impl<N: Naming> Book<N> {
         if self.ends.len() >= MOST_TASKS {
             return Err(SpawnFault::TaskLimit);
         }
-        let Ok(copy) = reserve_spawn(alloc, &mut self.events, &mut self.ends, start) else {
+        let Ok(copy) = reserve_spawn(&mut self.events, &mut self.ends, start) else {
             return Err(SpawnFault::Memory);
         };
         let child = self.ends.len() as u32;

@@ -4,8 +4,7 @@ ghost use Rattle.std.specs.Prelude.{◌≡◌, ◌++◌, ◌∷◌, [], List, On
 ghost use Rattle.jl_calculus.specs.declared.history.Event.{Event};
 ghost use Rattle.jl_calculus.specs.Legal.{MayCome};
 ghost use Rattle.jl_calculus.specs.Past.{done_of};
-ghost use Rattle.jl_methods.specs.Filters.{ComesWith};
-ghost use Rattle.jl_methods.specs.Indexed.{noted_in, awaited_in, IsIndexOf, MayBeNoted, HasRoomFor};
+ghost use Rattle.jl_methods.specs.Indexed.{noted_in, IsIndexOf, MayBeNoted, HasRoomFor};
 ghost use Rattle.jl_methods.specs.Room.{IsRoomy};
 ghost use Rattle.jl_book.specs.Tasks.{HasEnds};
 
@@ -20,24 +19,22 @@ pub(crate) fn reserve(
     index: &mut Index,
     events: &mut Vec<Event>,
     event: &Event,
-    touched: &[u32],
 ) -> Result<(), AllocError>
-    requires { MayBeNoted ready.now index.old event.now touched.now }
+    requires { MayBeNoted ready.now index.old event.now }
     ensures room { OnOk result (HasRoomFor ready.now event.now index.new) }
-    ensures awaited { OnOk result (awaited_in index.new ≡ touched.now) }
     ensures place { OnOk result (IsRoomy events.new) }
     ensures noted { noted_in index.new ≡ noted_in index.old }
     ensures events { events.new.items ≡ events.old.items }
 {
     events.reserve(1)?;
-    index.reserve(ready, event, touched)
+    index.reserve(ready, event)
 }
 
 /// Adds the event for which the memory was taken.
 pub(crate) fn add(ready: &Ready, index: &mut Index, events: &mut Vec<Event>, event: Event)
     requires room { HasRoomFor ready.now event index.old }
     requires place { IsRoomy events.old }
-    ensures index { (es : List Event) → IsIndexOf ready.now es index.old → MayCome ready.now es event → ComesWith ready.now es event (awaited_in index.old) → IsIndexOf ready.now (es ++ event ∷ []) index.new }
+    ensures index { (es : List Event) → IsIndexOf ready.now es index.old → MayCome ready.now es event → IsIndexOf ready.now (es ++ event ∷ []) index.new }
     ensures events { events.new.items ≡ events.old.items ++ event ∷ [] }
 {
     index.note(ready, &event);

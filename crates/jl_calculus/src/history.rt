@@ -7,7 +7,7 @@ use jl_model::ty::{Bytes, Key};
 use jl_program::fault::Fault;
 use jl_program::tree::Start;
 use jl_program::value::Value;
-use std::alloc::{AllocError, Global};
+use std::alloc::AllocError;
 
 /// The steps of a task that others may see, in order.
 pub type TraceItems = SharedList<TraceItem>;
@@ -179,8 +179,8 @@ pub enum Event {
 }
 
 impl Event {
-    /// An equal event, whose parts are shared. It takes memory for the values of a start alone.
-    pub fn copy(&self, alloc: Global) -> Result<Event, AllocError>
+    /// An equal event, whose parts are shared. It takes no memory.
+    pub fn copy(&self) -> Result<Event, AllocError>
         ensures { IfOk result (λ c. c ≡ self.now) }
     {
         match self {
@@ -202,7 +202,7 @@ impl Event {
             Event::Spawn { task, child, start } => Ok(Event::Spawn {
                 task: *task,
                 child: *child,
-                start: start.copy(alloc)?,
+                start: start.copy()?,
             }),
             Event::Done { task, ended } => Ok(Event::Done {
                 task: *task,

@@ -5,9 +5,10 @@ ghost use Rattle.std.specs.Prelude.{◌≡◌, IsTrue, ◌↔◌};
 use crate::history::{Event, History, Outcome, Record, TraceItem};
 use jl_model::shared::{SharedList, SharedNode};
 use jl_model::ty::{Key, Ty};
+use jl_program::env::Env;
 use jl_program::fault::Fault;
 use jl_program::tree::Start;
-use jl_program::value::{Value, Values};
+use jl_program::value::Value;
 use jl_value::egal;
 
 /// What can be compared by its contents.
@@ -63,9 +64,25 @@ impl<T: Same> Same for SharedNode<T> {
     }
 }
 
-impl Same for Values {
-    fn same(&self, other: &Values) -> bool {
-        same_all(self.as_slice(), other.as_slice())
+/// Whether two tasks see the same values where they start.
+#[tactic(auto, using(crate::proofs::SameLemmas::alike))]
+fn same_seen(one: &Env, other: &Env) -> bool
+    ensures { IsTrue result ↔ (one.now ≡ other.now) }
+{
+    if one.len() != other.len() {
+        return false;
+    }
+    for slot in 0..one.len() {
+        if !egal(one.at(slot), other.at(slot)) {
+            return false;
+        }
+    }
+    true
+}
+
+impl Same for Env {
+    fn same(&self, other: &Env) -> bool {
+        same_seen(self, other)
     }
 }
 

@@ -1,8 +1,9 @@
 -- Keys and rows, as the index and the first worlds tell them.
-use Rattle.std.proofs.Common.{◌≡◌, ◌∙◌, ap, sym, subst, refl, ℕ, zero, suc, ◌+◌, ◌<◌, ◌≤◌, inl, inr, arith, Bool, true, false, IsTrue, nat_eq, List, [], ◌∷◌, ◌++◌, map, length, take, get_or, slice_get, append-nil, None, Some, IsSome, Result, Ok, OnOk}
+use Rattle.std.proofs.Common.{◌≡◌, ◌∙◌, ap, sym, subst, refl, ℕ, zero, suc, ◌+◌, ◌<◌, ◌≤◌, ◌⊎◌, inl, inr, arith, Bool, true, false, IsTrue, nat_eq, List, [], ◌∷◌, ◌++◌, map, length, take, get_or, slice_get, append-nil, None, Some, IsSome, Result, Ok, OnOk}
 use Rattle.std.specs.Prelude.{◌↔◌}
 use Rattle.std.specs.Bool.{Decides}
 use Rattle.std.specs.List.{Contains}
+use Rattle.std.proofs.lemmas.Bool.{eqb-true, eq-eqb}
 use Rattle.std.proofs.lemmas.List.{length_push}
 use Rattle.std.proofs.lemmas.List.Elements.{Contains-get_or}
 use Rattle.std.proofs.lemmas.Option.{slice_get-get_or, slice_get_within}
@@ -25,6 +26,7 @@ use Rattle.jl_calculus.proofs.SelectLemmas.{selects_one}
 use Rattle.jl_methods.specs.Filters.{is_row_of, row_numbers, IsDefinition, change_in}
 use Rattle.jl_methods.specs.declared.newest.NewestRow.{NewestRow}
 use Rattle.jl_methods.specs.Indexed.{IsIndexOf, noted_in}
+use Rattle.jl_methods.specs.Links.{IsLast}
 use Rattle.jl_methods.specs.Newest.{IsNewest, IsNewestOf}
 use Rattle.jl_methods.proofs.TouchLemmas.{number_of, number_there}
 use Rattle.jl_causes.specs.declared.rows.Rows.{Rows}
@@ -222,12 +224,19 @@ begins_low P es k first low = (
     by (inl e) = let yes : nat_eq first prelude_count ≡ true = grind (arith, e) in yes
     by (inr (high, t)) = absurd (omega (arith, low, high))
 
-pub begins_high : (P : Program) (es : List Event) (k : Key) (first : ℕ) (ws : List ℕ) (b : Bool) → prelude_count < first → (IsTrue b ↔ Contains ws first) → ((w : ℕ) → Contains ws w ↔ Touches P es w k) → Decides b (MayBegin P es k first)
-begins_high P es k first ws b high h exact = ((λ yes. inr (high, (exact first).0 (h.0 yes))), by)
+pub begins_high : (P : Program) (es : List Event) (k : Key) (first last : ℕ) → prelude_count < first → IsLast (λ w. Touches P es w k) first last → Decides (nat_eq last first) (MayBegin P es k first)
+begins_high P es k first last high h = (λ yes. inr (high, to (eqb-true last first yes) h.there), by)
   where
-    by : MayBegin P es k first → b ≡ true
+    to : last ≡ first → (last ≡ 0) ⊎ Touches P es last k → Touches P es first k
+    to e (inl z) = absurd (omega (arith, high, e, z))
+    to e (inr t) = subst (λ w. Touches P es w k) e t
+
+    by : MayBegin P es k first → nat_eq last first ≡ true
     by (inl e) = absurd (omega (arith, high, e))
-    by (inr (low, t)) = h.1 ((exact first).1 t)
+    by (inr (low, t)) =
+        let up = h.none_later first t (omega arith) in
+        let down = h.low in
+        eq-eqb last first (omega (arith, up, down))
 
 -- ---- the newest row of a key
 

@@ -15,7 +15,7 @@ use Rattle.jl_calculus.specs.declared.history.Change.TheVariants as Ch
 use Rattle.jl_calculus.specs.declared.history.Def.{Def}
 use Rattle.jl_calculus.specs.declared.history.Del.{Del}
 use Rattle.jl_calculus.specs.declared.history.Event.{Event}
-use Rattle.jl_calculus.specs.Definitions.{sig_of, method_of, defs_in, defs_from}
+use Rattle.jl_calculus.specs.Definitions.{sig_of, method_of, defs_in, defs_from, HasSite, dels_from}
 use Rattle.jl_calculus.specs.Past.{IsAbsent}
 use Rattle.jl_calculus.specs.World.{changed, changes, world_of, Stands, HasMethodAt, FindsMethod}
 use Rattle.jl_calculus.proofs.GrowthLemmas.{changes_append, changes_length}
@@ -24,10 +24,12 @@ use Rattle.jl_methods.specs.Filters.{defs_of, dels_of}
 use Rattle.jl_methods.proofs.ChangeLemmas.{del, collected, collected_append, IsDefAt, defs_are, def_of, del_of}
 use Rattle.jl_methods.proofs.FilterLemmas.{here, there}
 use Rattle.jl_methods.proofs.PutLemmas.{get_known, take_within}
-use Rattle.jl_subsig.specs.Standing.{sig_of_place, IsLeft, HasLeftAt}
+use Rattle.jl_subsig.specs.Standing.{sig_of_place, IsLeft, HasLeftAt, HasPlace}
 use Rattle.jl_subsig.proofs.StandingChoice.{IsKept, kept_left, left_kept}
 use Rattle.jl_world.proofs.Lists.{take_whole}
 use Rattle.jl_rows.proofs.DeletionLemmas.{deletion_of, deletion_there}
+use Rattle.jl_subsig.specs.Side.{Every}
+use Rattle.jl_rows.proofs.EachLemmas.{every_of}
 
 -- ---- the definitions up to a world
 
@@ -159,3 +161,11 @@ module _ (P : Program) (es : List Event) (place at : ℕ) where
   pub absent_by : (b : Bool) → at ≤ length es → place < length P.deletes → world_of (take at es) < MOST_WORLDS → Decides b (FindsMethod P (take at es) place) → IsTrue (not b) ↔ AbsentThere
   absent_by true l known room d = ((λ yes. absurd (cc yes)), (λ h. absurd (h.1.absent (d.0 refl))))
   absent_by false l known room d = ((λ yes. (l, record { known = known; room = room; absent = λ found. (let z : false ≡ true = d.1 found in cc) })), (λ h. refl))
+
+-- the definitions of a function have sites, its deletions places
+pub defs_sites : (P : Program) (f : ℕ) (cs : List Change) → Every (HasSite P) (defs_from P f 1 cs)
+defs_sites P f cs =
+    every_of (HasSite P) (defs_from P f 1 cs) (λ d c. (let i = def_of P f 1 cs d c in get_known P.sites d.site i.site i.stands))
+
+pub dels_places : (P : Program) (f : ℕ) (cs : List Change) → Every (HasPlace P) (dels_from P f 1 cs)
+dels_places P f cs = every_of (HasPlace P) (dels_from P f 1 cs) (λ e c. (let i = del_of P f 1 cs e c in get_known P.deletes e.place i.row i.stands))

@@ -3,7 +3,6 @@
 ghost use Rattle.std.specs.Prelude.{◌≡◌, ◌≤◌, ◌<◌, ◌↔◌, ◌++◌, ◌∷◌, [], ℕ, List, IsTrue, IfOk, OnOk, length, take, slice_get, Some};
 ghost use Rattle.std.specs.Bool.{Decides};
 ghost use Rattle.std.specs.List.{Contains};
-ghost use Rattle.std.specs.List.Sorted.{IsStrictlyIncreasing};
 ghost use Rattle.jl_model.specs.declared.ty.Key.{Key};
 ghost use Rattle.jl_program.specs.declared.tree.Program.{Program};
 ghost use Rattle.jl_calculus.specs.declared.history.Event.{Event};
@@ -13,13 +12,13 @@ ghost use Rattle.jl_calculus.specs.Ranges.{keys_of, MayBegin, SelectsSite};
 ghost use Rattle.jl_calculus.specs.World.{world_of, FindsMethod};
 ghost use Rattle.jl_calculus.specs.Definitions.{defs_in};
 ghost use Rattle.jl_program.specs.declared.tree.Delete.{Delete};
-ghost use Rattle.jl_methods.specs.Filters.{defs_of, ComesWith};
+ghost use Rattle.jl_methods.specs.Filters.{defs_of};
 ghost use Rattle.jl_methods.specs.Indexed.{IsIndexOf, MayBeNoted};
 ghost use Rattle.jl_causes.specs.Causes.{IsNextFill};
 ghost use Rattle.jl_causes.specs.State.{AreRows, HasRow};
 
-use jl_calculus::history::{Change, Def, Event};
-use jl_methods::{Index, count_up_to};
+use jl_calculus::history::{Def, Event};
+use jl_methods::Index;
 use jl_model::limits::MOST_CACHE_ROWS;
 use jl_model::ty::Key;
 use jl_program::choice::Choice;
@@ -36,17 +35,6 @@ pub(crate) struct Rows {
     index: Index,
     keys: u32,
     firsts: Vec<u32>,
-}
-
-/// Whether a world is one of these, which are in order.
-fn is_among(worlds: &[u32], sought: u32) -> bool
-    ensures { IsStrictlyIncreasing worlds.now → IsTrue result ↔ Contains worlds.now sought }
-{
-    let count = count_up_to(worlds, sought);
-    if count == 0 || count > worlds.len() {
-        return false;
-    }
-    worlds[count - 1] == sought
 }
 
 /// Whether two keys are the same.
@@ -71,17 +59,12 @@ fn up_to(defs: &[Def], world: u32) -> &[Def]
     &defs[..defs.partition_point(|def| def.world <= world)]
 }
 
-/// One more event, with what comes along with it.
-fn note_event(
-    index: &mut Index,
-    ready: &Ready,
-    event: &Event,
-    touched: &[u32],
-) -> Result<(), AllocError>
-    requires { MayBeNoted ready.now index.old event.now touched.now }
-    ensures { OnOk result ((es : List Event) → IsIndexOf ready.now es index.old → MayCome ready.now es event.now → ComesWith ready.now es event.now touched.now → IsIndexOf ready.now (es ++ event.now ∷ []) index.new) }
+/// One more event.
+fn note_event(index: &mut Index, ready: &Ready, event: &Event) -> Result<(), AllocError>
+    requires { MayBeNoted ready.now index.old event.now }
+    ensures { OnOk result ((es : List Event) → IsIndexOf ready.now es index.old → MayCome ready.now es event.now → IsIndexOf ready.now (es ++ event.now ∷ []) index.new) }
 {
-    index.reserve(ready, event, touched)?;
+    index.reserve(ready, event)?;
     index.note(ready, event);
     Ok(())
 }
@@ -174,11 +157,10 @@ impl Rows {
         if first <= FIRST_WORLD {
             return first == FIRST_WORLD;
         }
-        is_among(self.index.touching(key), first)
+        self.index.last_touching(key, first) == first
     }
 
-    /// Whether the method that is chosen for a key in this world is of this site. In a world that has all definitions that touch the
-    /// key the cost is in the sites of its function, and in an older one in the number of these definitions.
+    /// Whether the method that is chosen for a key in this world is of this site. The cost is that of `choose_for_key`.
     pub(crate) fn chooses_right(
         &self,
         alloc: Global,
@@ -241,9 +223,8 @@ impl Rows {
         requires { (es : List Event) × AreRows ready.now es self.old × MayCome ready.now es (KeyEvent key) }
         ensures { OnOk result ((es : List Event) → AreRows ready.now es self.old → MayCome ready.now es (KeyEvent key) → AreRows ready.now (es ++ KeyEvent key ∷ []) self.new) }
     {
-        let touching = self.index.find_touching(alloc, ready, &key)?;
         let event = Event::Key(key);
-        let noted = note_event(&mut self.index, ready, &event, touching.as_slice());
+        let noted = note_event(&mut self.index, ready, &event);
         drop(event);
         noted?;
         self.keys += 1;
@@ -262,7 +243,7 @@ impl Rows {
         ensures { OnOk result ((es : List Event) → AreRows ready.now es self.old → MayCome ready.now es (FillEvent key site first) → AreRows ready.now (es ++ FillEvent key site first ∷ []) self.new) }
     {
         let event = Event::Fill { key, site, first };
-        let noted = note_event(&mut self.index, ready, &event, &[]);
+        let noted = note_event(&mut self.index, ready, &event);
         drop(event);
         noted?;
         self.firsts.push(first)?;
@@ -280,9 +261,8 @@ impl Rows {
         requires { (es : List Event) × AreRows ready.now es self.old × MayCome ready.now es (DefEvent task site) }
         ensures { OnOk result ((es : List Event) → AreRows ready.now es self.old → MayCome ready.now es (DefEvent task site) → AreRows ready.now (es ++ DefEvent task site ∷ []) self.new) }
     {
-        let touched = self.index.find_touched(alloc, ready, Change::Def(site))?;
         let event = Event::Def { task, site };
-        let noted = note_event(&mut self.index, ready, &event, touched.as_slice());
+        let noted = note_event(&mut self.index, ready, &event);
         drop(event);
         noted?;
         Ok(())
@@ -299,9 +279,8 @@ impl Rows {
         requires { (es : List Event) × AreRows ready.now es self.old × MayCome ready.now es (DelEvent task place) }
         ensures { OnOk result ((es : List Event) → AreRows ready.now es self.old → MayCome ready.now es (DelEvent task place) → AreRows ready.now (es ++ DelEvent task place ∷ []) self.new) }
     {
-        let touched = self.index.find_touched(alloc, ready, Change::Del(place))?;
         let event = Event::Del { task, place };
-        let noted = note_event(&mut self.index, ready, &event, touched.as_slice());
+        let noted = note_event(&mut self.index, ready, &event);
         drop(event);
         noted?;
         Ok(())

@@ -1,5 +1,7 @@
 -- The tasks that values of each form mention.
-use Rattle.std.proofs.Common.{◌≡◌, ◌∙◌, ap, refl, ℕ, ℤ, zero, suc, ◌+◌, ◌<◌, ◌≤◌, Bool, List, [], ◌∷◌, ◌++◌, map, length, get_or, arith}
+use Rattle.std.proofs.Common.{◌≡◌, ◌∙◌, sym, ap, refl, ℕ, ℤ, zero, suc, ◌+◌, ◌<◌, ◌≤◌, Bool, List, [], ◌∷◌, ◌++◌, map, length, get_or, drop, arith}
+use Rattle.std.proofs.lemmas.Grind.{flat_map-append}
+use Rattle.std.proofs.lemmas.List.{append_assoc, map-append}
 use Rattle.std.specs.List.{flat_map}
 use Rattle.jl_program.specs.declared.datum.Datum.{Datum}
 use Rattle.jl_program.specs.declared.datum.Datum.TheOpen as D
@@ -8,6 +10,8 @@ use Rattle.jl_program.specs.declared.value.Compound.{Compound}
 use Rattle.jl_program.specs.declared.value.Value.{Value}
 use Rattle.jl_program.specs.declared.value.Value.TheVariants as V
 use Rattle.jl_program.specs.Meaning.{datum}
+use Rattle.jl_program.specs.Seen.{join}
+use Rattle.jl_program.proofs.EnvLemmas.{from_chunk}
 use Rattle.jl_program.specs.Measures.{nodes, nodes_all, nodes_step}
 use Rattle.jl_calculus.specs.Core.{tasks_in, in_layer}
 
@@ -45,5 +49,16 @@ pub node-at : (vs : List Value) (i : ℕ) (v : Value) → i < length vs → v �
 node-at [] i v lt e = absurd (omega arith)
 node-at (w ∷ ws) zero v lt e = let f : nodes (datum v) ≡ nodes (datum w) = ap (λ z. nodes (datum z)) e in omega arith
 node-at (w ∷ ws) (suc i) v lt e = let h : nodes (datum v) ≤ nodes_all (map datum ws) = node-at ws i v (omega arith) e in omega arith
+
+abbrev pub mentioned : List Value → List ℕ
+mentioned vs = flat_map tasks_in (map datum vs)
+
+-- what a chunk more mentions
+pub mentioned_more : (out : List ℕ) (cs : List (List Value)) (r c : List Value) (i : ℕ) → i < length cs → c ≡ get_or cs i c
+    → (out ++ mentioned c) ++ mentioned (join (drop (i + 1) cs) ++ r) ≡ out ++ mentioned (join (drop i cs) ++ r)
+mentioned_more out cs r c i lt e =
+    let left : List Value = join (drop (i + 1) cs) ++ r in
+    append_assoc out (mentioned c) (mentioned left)
+    ∙ ap (λ z. out ++ z) (sym (flat_map-append tasks_in (map datum c) (map datum left)) ∙ ap (flat_map tasks_in) (sym (map-append datum c left)) ∙ ap mentioned (sym (from_chunk cs r c i lt e)))
 
 pub ruleset mentions = (int-mentions, bool-mentions, nothing-mentions, task-mentions, tuple-mentions, struct-mentions, tuple-nodes, struct-nodes, node-at)

@@ -60,6 +60,10 @@ pub(crate) fn in_start(alloc: Global, start: &Start) -> Result<Vec<u32>, AllocEr
     ensures { IfOk result (λ tasks. tasks.items ≡ in_start start.now) }
 {
     let mut tasks = Vec::new(alloc);
-    append_all(&mut tasks, start.env.as_slice())?;
+    let (chunks, rest) = start.env.parts();
+    for chunk in chunks {
+        append_all(&mut tasks, chunk.as_slice())?;
+    }
+    append_all(&mut tasks, rest)?;
     Ok(tasks)
 }

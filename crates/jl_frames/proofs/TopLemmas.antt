@@ -1,6 +1,7 @@
 -- What the topmost frame has, and what is left where it is taken off.
-use Rattle.std.proofs.Common.{◌≡◌, ℕ, ◌+◌, ◌≤◌, List, [], ◌∷◌, ◌++◌, Bool, take, drop, reverse, length, sym, ap, ◌∙◌, subst, arith}
-use Rattle.std.proofs.lemmas.List.{drop-append-le, take-take, length-take, reverse-append, take-append-drop, drop-take, take_at, drop_at, drop_all}
+use Rattle.std.proofs.Common.{◌≡◌, ℕ, ◌+◌, ◌-◌, ◌<◌, ◌≤◌, List, [], ◌∷◌, ◌++◌, Bool, Option, None, Some, IsSome, option_to_list, slice_get, take, drop, reverse, length, refl, sym, ap, ◌∙◌, subst, arith}
+use Rattle.std.proofs.lemmas.List.{drop-append-le, length-append, take-take, length-take, reverse-append, take-append-drop, drop-take, take_at, drop_at, drop_all}
+use Rattle.std.proofs.lemmas.Option.{slice_get_within}
 use Rattle.jl_model.specs.declared.ty.Ty.{Ty}
 use Rattle.jl_program.specs.declared.value.Value.{Value}
 use Rattle.jl_task.specs.declared.point.Frame.{Frame}
@@ -155,3 +156,16 @@ cut_is fs vs ss us ts bs o s t old slot view le e =
       stack = split (reverse fs) (take o vs) (take-take s.kept (s.base + slot) ss le i) (take s.types_kept ts) (take t bs);
     })
     ∙ ap (λ (h : Held). with_scope h (take slot h.env) h.bindings) view
+
+-- the last entry is the one that is taken off
+at_last : (fs : List Flat) (f : Flat) → slice_get (fs ++ f ∷ []) (length fs) ≡ Some f
+at_last [] f = refl
+at_last (g ∷ fs) f = at_last fs f
+
+pub last_off : (gs fs : List Flat) (o : Option Flat) (f : Flat) → gs ≡ fs ++ option_to_list o → (0 < length gs → IsSome o) → slice_get gs (length gs - 1) ≡ Some f → gs ≡ fs ++ f ∷ []
+last_off gs fs None f e some at = let lt = slice_get_within gs (length gs - 1) f at in let no = some (omega (arith, lt)) in absurd cc
+last_off gs fs (Some x) f e some at =
+    let long : length gs - 1 ≡ length fs = let n = ap length e ∙ length-append fs (x ∷ []) in omega (arith, n) in
+    let is : Some x ≡ Some f = sym (at_last fs x) ∙ ap (λ (hs : List Flat). slice_get hs (length fs)) (sym e) ∙ ap (slice_get gs) (sym long) ∙ at in
+    let same : x ≡ f = cc in
+    e ∙ ap (λ (y : Flat). fs ++ y ∷ []) same

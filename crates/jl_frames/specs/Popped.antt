@@ -1,6 +1,7 @@
 -- What is left when the topmost frame is taken off.
 use Rattle.std.specs.Prelude.{◌≡◌, ℕ, List, [], ◌∷◌, ◌++◌, Option, None, Some}
 use Rattle.jl_model.specs.declared.ty.Ty.{Ty}
+use Rattle.jl_program.specs.declared.tree.Expr.{Expr}
 use Rattle.jl_program.specs.declared.value.Value.{Value}
 use Rattle.jl_task.specs.declared.point.Frame.{Frame}
 use Rattle.jl_task.specs.declared.point.Frame.TheVariants as Fr
@@ -19,6 +20,14 @@ pub record Off (f : Frame) (env : List Value) (bindings : List Ty) (values : Lis
 -- a frame that keeps nothing is off
 abbrev pub Gone : Frame → Held → Held → Type 0
 Gone f old new = Off f old.env old.bindings old.open_values old.open_text old new
+
+-- an expression is off, and has its values back
+abbrev pub OffArgs : Expr → List Expr → Held → Held → Type 0
+OffArgs e xs old new = (done : List Value) × Off (Fr.Args e done xs) old.env old.bindings (done ++ old.open_values) old.open_text old new
+
+-- a body is off, and the slots and the static parameters around it are back
+abbrev pub OffBody : ℕ → ℕ → Held → Held → Type 0
+OffBody w k old new = Off (Fr.Body w k new.env new.bindings) new.env new.bindings old.open_values old.open_text old new
 
 -- a frame takes what was kept for it: an expression its values, a `print` its text, a block its slots, and an evaluated block and a body the
 -- static parameters too

@@ -9,6 +9,7 @@ use crate::place::put_on_top;
 use crate::scopes::drop_above;
 use jl_model::rows::Row;
 use jl_model::ty::Ty;
+use jl_program::env::Env;
 use jl_program::value::Value;
 use std::alloc::{AllocError, Global};
 use std::marker::Model;
@@ -25,6 +26,8 @@ pub struct Frames<'p> {
     pub(crate) from: u32,
     pub(crate) text_from: u32,
     pub(crate) scope: Scope,
+    /// What the task last shared of what it sees. The frames mean the same without it.
+    pub(crate) seen: Env,
 }
 
 impl<'p> Model for Frames<'p> {
@@ -71,6 +74,7 @@ impl<'p> Frames<'p> {
                 types_base: 0,
                 types_kept: 0,
             },
+            seen: Env::empty(),
         }
     }
 

@@ -8,6 +8,7 @@ mod flat;
 mod frames;
 mod place;
 mod scopes;
+mod seen;
 mod takes;
 mod texts;
 mod waits;

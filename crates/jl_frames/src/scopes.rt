@@ -28,12 +28,15 @@ fn move_last(values: &mut Vec<Value>, slots: &mut Vec<Value>) -> Result<(), Allo
     }
 }
 
-/// The values above a place are turned round.
+/// The values above a place are turned round. One value is left as it is: most calls have one argument.
+#[inline(always)]
 fn reverse_above(slots: &mut Vec<Value>, place: usize)
     requires { place ≤ length slots.old.items }
     ensures { slots.new.items ≡ take place slots.old.items ++ reverse (drop place slots.old.items) }
 {
-    slots[place..].reverse();
+    if slots.len() - place > 1 {
+        slots[place..].reverse();
+    }
 }
 
 /// Values are moved from above a place of one stack to the top of another. Each is popped, which writes nothing where it was.
@@ -115,6 +118,16 @@ pub(crate) fn drop_above(values: &mut Vec<Value>, from: usize)
     }
 }
 
+/// The types above a place are dropped. Most bodies have none.
+#[inline(always)]
+fn drop_types_above(types: &mut Vec<Ty>, from: usize)
+    ensures { types.new.items ≡ take from types.old.items }
+{
+    if types.len() > from {
+        types.truncate(from);
+    }
+}
+
 /// The slots and the types that no frame keeps are dropped.
 #[inline(always)]
 pub(crate) fn drop_own(slots: &mut Vec<Value>, types: &mut Vec<Ty>, scope: Scope)
@@ -123,7 +136,7 @@ pub(crate) fn drop_own(slots: &mut Vec<Value>, types: &mut Vec<Ty>, scope: Scope
     ensures types { types.new.items ≡ take scope.types_kept types.old.items }
 {
     drop_above(slots, scope.kept as usize);
-    types.truncate(scope.types_kept as usize);
+    drop_types_above(types, scope.types_kept as usize);
 }
 
 impl<'p> Frames<'p> {

@@ -1,11 +1,12 @@
 //! The topmost frame is taken off.
 
-ghost use Rattle.std.specs.Prelude.{◌≡◌, ◌≤◌, ◌++◌, take, drop, length};
-ghost use Rattle.jl_frames.specs.Popped.{Popped, Passed};
+ghost use Rattle.std.specs.Prelude.{◌≡◌, ◌≤◌, ◌++◌, MatchOption, take, drop, length};
+ghost use Rattle.jl_frames.specs.Popped.{OffArgs, OffBody, Popped, Passed};
 
 use crate::flat::Flat;
 use crate::frames::Frames;
 use crate::scopes::drop_own;
+use jl_program::tree::Expr;
 use jl_program::value::Value;
 
 /// The values between two places are dropped.
@@ -18,6 +19,42 @@ fn remove_between(values: &mut Vec<Value>, from: u32, to: u32)
 }
 
 impl<'p> Frames<'p> {
+    /// An expression that waits for a part, where it is the topmost frame, takes back its values, below those that are open. It answers the
+    /// expression, and the parts that are left.
+    #[inline(always)]
+    pub fn take_args(&mut self) -> Option<(&'p Expr, &'p [Expr])>
+        ensures { MatchOption result (self.new ≡ self.old) (λ pair. OffArgs pair.0.now pair.1.now self.old self.new) }
+    {
+        match self.flat.last() {
+            Some(Flat::Args(from, expr, rest)) => {
+                let taken = (*expr, *rest);
+                self.from = *from;
+                drop(self.flat.pop());
+                Some(taken)
+            }
+            _ => None,
+        }
+    }
+
+    /// A body, where it is the topmost frame, puts back the scope around it. It answers the caller's world, and the calls that could still be open
+    /// there.
+    #[inline(always)]
+    pub fn take_body(&mut self) -> Option<(u32, u32)>
+        ensures { MatchOption result (self.new ≡ self.old) (λ pair. OffBody pair.0 pair.1 self.old self.new) }
+    {
+        match self.flat.last() {
+            Some(Flat::Body(world, scope, room)) => {
+                let taken = (*world, *room);
+                let around = *scope;
+                drop(self.flat.pop());
+                drop_own(&mut self.slots, &mut self.types, self.scope);
+                self.scope = around;
+                Some(taken)
+            }
+            _ => None,
+        }
+    }
+
     /// The topmost frame takes back what was kept for it: an expression its values, below those that are open, a `print` its text, a block its
     /// slots, and an evaluated block and a body the static parameters too.
     #[inline(always)]

@@ -408,6 +408,10 @@ impl Recall for Led<'_> {
         None
     }
 
+    fn recall_numbers(&self, function: u32, world: u32) -> Option<u32> {
+        None
+    }
+
     fn keep(&mut self, key: Key, world: u32, site: u32, statics: Tys) {
         drop(key);
         drop(statics);

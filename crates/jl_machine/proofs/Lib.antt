@@ -1,4 +1,5 @@
 pub mod Performing
+pub mod SeenLemmas
 pub mod Onward
 pub mod Stepping
 pub mod TakenLemmas

@@ -5,3 +5,4 @@ pub mod Fetched
 pub mod Acting
 pub mod Taken
 pub mod Steps
+pub mod Opened

@@ -2,6 +2,7 @@
 
 ghost use Rattle.std.specs.Prelude.{◌≡◌, ◌<◌, ◌≤◌, ◌+◌, ◌*◌, ◌++◌, IfOk, OnOk, OnErr, IsErr, length};
 ghost use Rattle.jl_frames.specs.Held.{with_open};
+ghost use Rattle.jl_machine.specs.Opened.{Opened};
 ghost use Rattle.jl_task.specs.Asks.{Tells, Follows};
 ghost use Rattle.jl_task.specs.Size.{program_size};
 ghost use Rattle.jl_machine.specs.Steps.{fuel_of, trace_of, turns_of, job_with, MachineFits, TurnSays, WaitsRightly, KnowsTasks, IsLost, IsEnded, IsNewRoot, IsNewTask, HasEnded, IsRecordOf, IsFirst};
@@ -15,6 +16,7 @@ use jl_model::limits::MOST_OPEN_CALLS;
 use jl_model::rows::Row;
 use jl_model::shared::SharedNode;
 use jl_operations::Memo;
+use jl_program::env::Env;
 use jl_program::prelude::FIRST_WORLD;
 use jl_program::tree::Start;
 use jl_program::value::Value;
@@ -77,6 +79,19 @@ fn push_all(frames: &mut Frames<'_>, values: &[Value]) -> Result<(), AllocError>
     Ok(())
 }
 
+/// Opens what a task sees where it starts, above the values that are open.
+fn open_env(frames: &mut Frames<'_>, env: &Env) -> Result<(), AllocError>
+    ensures { OnOk result (Opened env.now frames.old frames.new) }
+{
+    let (chunks, rest) = env.parts();
+    for chunk in chunks {
+        push_all(frames, chunk.as_slice())?;
+    }
+    push_all(frames, rest)?;
+    frames.see(env.copy()?);
+    Ok(())
+}
+
 /// The root of a program, which has done nothing yet.
 fn new_root<'p>(alloc: Global, ready: &'p Ready, fuel: u64) -> Result<Machine<'p>, AllocError>
     ensures { IfOk result (λ m. IsNewRoot ready.now fuel m) }
@@ -100,7 +115,7 @@ fn new_task<'p>(
     ensures { IfOk result (λ m. IsNewTask ready.now start.now fuel m) }
 {
     let mut frames = Frames::new(alloc);
-    push_all(&mut frames, start.env.as_slice())?;
+    open_env(&mut frames, &start.env)?;
     frames.start(start.bindings.as_slice())?;
     let task = first_task(alloc, fuel, start.world, frames);
     let expr = &ready.program().spawns.as_slice()[start.spawn as usize];

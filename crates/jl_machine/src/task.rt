@@ -29,9 +29,10 @@ use jl_model::shared::SharedList;
 use jl_model::ty::{Key, Ty, Tys};
 use jl_operations::Memo;
 use jl_program::choice::Choice;
+use jl_program::env::Env;
 use jl_program::fault::Fault;
 use jl_program::tree::{Expr, Item, Start};
-use jl_program::value::{Value, Values};
+use jl_program::value::Value;
 use jl_sig::Ready;
 use jl_task::{Dispatcher, Recall};
 use jl_value::type_of;
@@ -85,17 +86,6 @@ fn types_of(alloc: Global, ready: &Ready, values: &[Value]) -> Result<Tys, Alloc
     types.into_shared(alloc)
 }
 
-/// Equal values, whose parts are shared.
-fn copy_values(alloc: Global, values: &[Value]) -> Result<Vec<Value>, AllocError>
-    ensures { IfOk result (λ copies. copies.items ≡ values.now) }
-{
-    let mut copies = Vec::new(alloc);
-    for value in values {
-        copies.push(value.copy()?)?;
-    }
-    Ok(copies)
-}
-
 /// Equal types, whose parts are shared.
 fn copy_types(alloc: Global, types: &[Ty]) -> Result<Tys, AllocError>
     ensures { IfOk result (λ copies. copies ≡ types.now) }
@@ -111,17 +101,16 @@ fn copy_types(alloc: Global, types: &[Ty]) -> Result<Tys, AllocError>
 fn start_at(
     alloc: Global,
     place: u32,
-    env: &[Value],
+    seen: Env,
     bindings: &[Ty],
     world: u32,
 ) -> Result<Start, AllocError>
-    ensures { IfOk result (λ start. start ≡ record { spawn = place; env = map datum env.now; bindings = bindings.now; world = world }) }
+    ensures { IfOk result (λ start. start ≡ record { spawn = place; env = seen; bindings = bindings.now; world = world }) }
 {
-    let env = copy_values(alloc, env)?;
     let bindings = copy_types(alloc, bindings)?;
     Ok(Start {
         spawn: place,
-        env: Values::from_vec(env),
+        env: seen,
         bindings,
         world,
     })
@@ -373,10 +362,11 @@ impl<'p> Task<'p> {
         requires settled { IsClosed self.old.now.frames }
         ensures { IfOk result (λ work. LentSteps (D.knows with.old) (W.Acting expr.now self.old.now.frames.open_values) self.old (D.knows with.new) work self.new) }
     {
+        let seen = self.now.frames.share_env(self.alloc)?;
         let start = start_at(
             self.alloc,
             place,
-            self.now.frames.env(),
+            seen,
             self.now.frames.bindings(),
             self.now.world,
         )?;

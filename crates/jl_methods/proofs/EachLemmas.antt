@@ -3,7 +3,7 @@ use Rattle.std.proofs.Common.{◌≡◌, ◌∙◌, ap, sym, subst, refl, ℕ, z
 use Rattle.std.specs.List.{All, Contains}
 use Rattle.std.proofs.lemmas.List.{drop_more, take_all}
 use Rattle.std.proofs.lemmas.List.Elements.{All-head, All-tail, All-more, All-weaker}
-use Rattle.jl_methods.specs.Numbered.{put_each, put_at, change_at, change_each, RisesFrom}
+use Rattle.jl_methods.specs.Numbered.{put_each, put_at, RisesFrom}
 
 pub rises_less : (low high : ℕ) (ns : List ℕ) → low ≤ high → RisesFrom high ns → RisesFrom low ns
 rises_less low high [] l h = tt
@@ -45,10 +45,6 @@ rest_rises ns i l r =
 
 pub rest_put : {T : Type 0} (ls new : List (List T)) (ns : List ℕ) (i : ℕ) (x : T) → i < length ns → new ≡ put_at ls (get_or ns i 0) x → put_each new (drop (i + 1) ns) x ≡ put_each ls (drop i ns) x
 rest_put ls new ns i x l e = ap (λ ls. put_each ls (drop (i + 1) ns) x) e ∙ ap (λ ns. put_each ls ns x) (sym (drop_more ns i 0 l))
-
-pub rest_changed : {T : Type 0} (f : List T → List T) (ls new : List (List T)) (ns : List ℕ) (i : ℕ) → i < length ns → new ≡ change_at f ls (get_or ns i 0)
-    → change_each f new (drop (i + 1) ns) ≡ change_each f ls (drop i ns)
-rest_changed f ls new ns i l e = ap (λ ls. change_each f ls (drop (i + 1) ns)) e ∙ ap (change_each f ls) (sym (drop_more ns i 0 l))
 
 pub all_have : (P : ℕ → Type 0) (ns : List ℕ) (i : ℕ) → length ns ≤ i → All P (take i ns) → All P ns
 all_have P ns i l h = subst (All P) (take_all i ns l) h

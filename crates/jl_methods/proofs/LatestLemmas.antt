@@ -1,20 +1,12 @@
 -- What stays when each new one takes the place of that of its own number.
 use Rattle.std.proofs.Common.{◌≡◌, ◌∙◌, ap, sym, subst, refl, ℕ, ◌+◌, ◌<◌, ◌≤◌, ◌⊎◌, inl, inr, arith, Bool, true, false, true≢false, not, nat_eq, cond, List, [], ◌∷◌, ◌++◌, append_assoc, append-nil, map}
-use Rattle.std.specs.Prelude.{◌↔◌}
 use Rattle.std.specs.List.{Contains, filter}
 use Rattle.std.proofs.lemmas.Bool.{eqb-true, eq-eqb}
 use Rattle.std.proofs.lemmas.List.Elements.{Contains-append_left, Contains-append_right, Contains-append_cases}
-use Rattle.jl_model.specs.declared.ty.Key.{Key}
-use Rattle.jl_program.specs.declared.tree.Program.{Program}
-use Rattle.jl_calculus.specs.declared.history.Change.{Change}
-use Rattle.jl_calculus.specs.declared.history.Def.{Def}
-use Rattle.jl_calculus.specs.Definitions.{AppliesTo, defs_from}
-use Rattle.jl_methods.specs.Filters.{AreTouchingAmong, defs_at}
-use Rattle.jl_methods.specs.Latest.{renewed, renewed_by, site_number, HasLater, AreLatestOf, AreLatestOfSites}
+use Rattle.jl_methods.specs.Latest.{renewed, HasLater, AreLatestOf}
 use Rattle.jl_methods.specs.Numbered.{RisesFrom}
 use Rattle.jl_methods.proofs.EachLemmas.{rises_less}
 use Rattle.jl_methods.proofs.FilterLemmas.{here, there, here_or_there, none_there}
-use Rattle.jl_methods.proofs.UpLemmas.{defs_at_rise, made_exact}
 
 -- ---- what passes a test
 
@@ -135,60 +127,3 @@ module _ {X : Type 0} (number world : X → ℕ) where
         covers x a (inr c) =
             let e = is_last d x c in
             record { by = d; stays = renewed_own d some; same = ap number e; later = (let w : world d ≡ world x = ap world e in omega (arith, w)) }
-
-    -- it is not
-    pub latest_same : (Is d → ⊥) → AreLatestOf number world Is (all ++ d ∷ []) some
-    latest_same lacks = record {
-      there = λ x c. (let t = h.there x c in (Contains-append_left all (d ∷ []) x t.0, t.1));
-      covered = λ x c a. covers x a (Contains-append_cases all (d ∷ []) x c);
-      latest = λ x e c k a q. is_latest x e c a q (Contains-append_cases all (d ∷ []) e k);
-      rises = h.rises;
-    }
-      where
-        covers : (x : X) → Is x → Contains all x ⊎ Contains (d ∷ []) x → HasLater number world some x
-        covers x a (inl c) = h.covered x c a
-        covers x a (inr c) = absurd (lacks (subst Is (sym (is_last d x c)) a))
-
-        is_latest : (x e : X) → Contains some x → Is e → number e ≡ number x → Contains all e ⊎ Contains (d ∷ []) e → world e ≤ world x
-        is_latest x e c a q (inl k) = h.latest x e c k a q
-        is_latest x e c a q (inr k) = absurd (lacks (subst Is (sym (is_last d e k)) a))
-
-  pub latest_none : (Is : X → Type 0) → AreLatestOf number world Is [] []
-  latest_none Is =
-      record { there = λ x c. absurd (none_there x [] refl c); covered = λ x c a. absurd (none_there x [] refl c); latest = λ x e c k a q. absurd (none_there x [] refl c); rises = tt }
-
-  -- ---- many, each in place of those of its number
-
-  push_below : (x : X) (done : List X) (low : ℕ) → ((y : X) → Contains done y → world y < low) → low ≤ world x → (y : X) → Contains (done ++ x ∷ []) y → world y < world x + 1
-  push_below x done low b l y c = by (Contains-append_cases done (x ∷ []) y c)
-    where
-      by : Contains done y ⊎ Contains (x ∷ []) y → world y < world x + 1
-      by (inl k) = let w = b y k in omega (arith, w, l)
-      by (inr k) = let w : world x ≡ world y = ap world (is_last x y k) in omega (arith, w)
-
-  abbrev IsAny : X → Type 0
-  IsAny x = Unit {0}
-
-  latest_by : (done xs some : List X) (low : ℕ) → AreLatestOf number world IsAny done some → ((x : X) → Contains done x → world x < low) → RisesFrom low (map world xs)
-      → AreLatestOf number world IsAny (done ++ xs) (renewed_by number some xs)
-  latest_by done [] some low h b r = subst (λ xs. AreLatestOf number world IsAny xs some) (sym (append-nil done)) h
-  latest_by done (x ∷ xs) some low h b r =
-      subst (λ ys. AreLatestOf number world IsAny ys (renewed_by number (renewed number some x) xs)) (append_assoc done (x ∷ []) xs)
-      (latest_by (done ++ x ∷ []) xs (renewed number some x) (world x + 1) (latest_more IsAny done some h x tt (λ y c. (let w = b y c in omega (arith, w, r.0)))) (push_below x done low b r.0) r.1)
-
-  -- of those of a kind they are the latest of the kind
-  latest_among : (Is : X → Type 0) (all those some : List X) → ((x : X) → Contains those x ↔ (Contains all x × Is x)) → AreLatestOf number world IsAny those some → AreLatestOf number world Is all some
-  latest_among Is all those some same h = record {
-    there = λ x c. (same x).0 (h.there x c).0;
-    covered = λ x c a. h.covered x ((same x).1 (c, a)) tt;
-    latest = λ x y c k a q. h.latest x y c ((same y).1 (k, a)) tt q;
-    rises = h.rises;
-  }
-
-  pub latest_of : (Is : X → Type 0) (all those : List X) → ((x : X) → Contains those x ↔ (Contains all x × Is x)) → RisesFrom 0 (map world those) → AreLatestOf number world Is all (renewed_by number [] those)
-  latest_of Is all those same r = latest_among Is all those (renewed_by number [] those) same (latest_by [] those [] 0 (latest_none IsAny) (λ x c. absurd (none_there x [] refl c)) r)
-
--- those of the definitions that touch a key
-pub latest_of_key : (P : Program) (cs : List Change) (key : Key) (ws : List ℕ) → AreTouchingAmong P cs key ws → AreLatestOfSites P key.types (defs_from P key.function 1 cs) (renewed_by site_number [] (defs_at cs ws))
-latest_of_key P cs key ws h =
-    latest_of site_number (λ (d : Def). d.world) (AppliesTo P key.types) (defs_from P key.function 1 cs) (defs_at cs ws) (made_exact P cs key ws h) (defs_at_rise cs 0 ws h.rises)

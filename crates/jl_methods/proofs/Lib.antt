@@ -11,6 +11,9 @@ pub mod StepLemmas
 pub mod UpLemmas
 pub mod CountLemmas
 pub mod LatestLemmas
+pub mod LinkLemmas
+pub mod LastLemmas
+pub mod AmongLemmas
 pub mod NewestLemmas
 pub mod NoteLemmas
 pub mod MadeLemmas

@@ -4,7 +4,7 @@ use Rattle.std.specs.List.{All, Contains, list_any}
 use Rattle.std.proofs.lemmas.Bool.{eqb-true, eqb-false}
 use Rattle.std.proofs.lemmas.List.{append-nil, length-set, get_or-set_same, get_or-set_other}
 use Rattle.std.proofs.lemmas.List.Elements.{All-head, All-tail, All-weaker}
-use Rattle.jl_methods.specs.Numbered.{nth, put_at, put_each, change_at, change_each, RisesFrom}
+use Rattle.jl_methods.specs.Numbered.{nth, put_at, put_each, change_at, RisesFrom}
 use Rattle.jl_methods.proofs.FilterLemmas.{here, there, here_or_there}
 
 -- ---- the list of a number
@@ -94,30 +94,6 @@ nth_change_at f ls n m l = by (nat_eq m n) refl
         let q : n ≡ m = sym (eqb-true m n e) in
         subst (λ k. nth (change_at f ls n) k ≡ f (nth ls k)) q (get_or-set_same ls n (f (nth ls n)) [] l)
     by false e = get_or-set_other ls n m (f (nth ls n)) [] (λ q. eqb-false m n e q)
-
-pub length_change_each : {T : Type 0} (f : List T → List T) (ls : List (List T)) (ns : List ℕ) → length (change_each f ls ns) ≡ length ls
-length_change_each f ls [] = refl
-length_change_each f ls (n ∷ ns) = length_change_each f (change_at f ls n) ns ∙ length-set ls n (f (nth ls n))
-
-all_change : {T : Type 0} (f : List T → List T) (ls : List (List T)) (n : ℕ) (ns : List ℕ) → All (λ m. m < length ls) ns → All (λ m. m < length (change_at f ls n)) ns
-all_change f ls n ns h = All-weaker (λ m. m < length ls) (λ m. m < length (change_at f ls n)) (λ m l. omega (arith, l, length-set ls n (f (nth ls n)))) ns h
-
--- one number has its list changed at the front of these, or behind
-changed_once : {T : Type 0} (f : List T → List T) (xs : List T) (a b : Bool) → (a ≡ true → b ≡ false) → cond b (f (cond a (f xs) xs)) (cond a (f xs) xs) ≡ cond (a || b) (f xs) xs
-changed_once f xs true true h = let q = h refl in cc
-changed_once f xs true false h = refl
-changed_once f xs false b h = refl
-
-pub nth_change_each : {T : Type 0} (f : List T → List T) (low : ℕ) (ls : List (List T)) (ns : List ℕ) (m : ℕ) → RisesFrom low ns → All (λ n. n < length ls) ns
-    → nth (change_each f ls ns) m ≡ cond (is_in m ns) (f (nth ls m)) (nth ls m)
-nth_change_each f low ls [] m r h = refl
-nth_change_each f low ls (n ∷ ns) m r h =
-    let first : n < length ls = All-head (λ k. k < length ls) n ns h in
-    let others = All-tail (λ k. k < length ls) n ns h in
-    let apart : nat_eq m n ≡ true → is_in m ns ≡ false = λ e. none_in m ns (n + 1) (omega (arith, eqb-true m n e)) r.1 in
-    nth_change_each f (n + 1) (change_at f ls n) ns m r.1 (all_change f ls n ns others)
-    ∙ ap (λ xs. cond (is_in m ns) (f xs) xs) (nth_change_at f ls n m first)
-    ∙ changed_once f (nth ls m) (nat_eq m n) (is_in m ns) apart
 
 -- ---- one of some numbers
 

@@ -1,11 +1,8 @@
--- What is picked by applying is what touches: of the changes of a key's function, and of the keys of a change's function.
+-- What touches a key: a change of the key's function that applies to its types.
 use Rattle.std.proofs.Common.{◌≡◌, ◌∙◌, ap, sym, subst, refl, ℕ, zero, suc, ◌+◌, ◌<◌, ◌≤◌, ◌⊎◌, inl, inr, arith, Bool, true, false, cond, List, [], ◌∷◌, ◌++◌, length, get_or, slice_get, Option, None, Some}
 use Rattle.std.specs.Prelude.{◌↔◌}
 use Rattle.std.specs.List.{Contains}
 use Rattle.std.specs.List.Sorted.{IsStrictlyIncreasing}
-use Rattle.std.proofs.lemmas.Bool.{eqb-true, eq-eqb}
-use Rattle.std.proofs.lemmas.List.{map-id}
-use Rattle.std.proofs.lemmas.List.Elements.{Contains-get_or, Contains-append_left, Contains-append_right, Contains-append_cases}
 use Rattle.jl_model.specs.declared.ty.Key.{Key}
 use Rattle.jl_model.specs.declared.ty.Ty.{Ty}
 use Rattle.jl_model.specs.Signature.{Applicable}
@@ -18,16 +15,15 @@ use Rattle.jl_calculus.specs.declared.history.Change.TheVariants as Ch
 use Rattle.jl_calculus.specs.declared.history.Def.{Def}
 use Rattle.jl_calculus.specs.declared.history.Del.{Del}
 use Rattle.jl_calculus.specs.declared.history.Event.{Event}
-use Rattle.jl_calculus.specs.Definitions.{AppliesTo, defs_from, dels_from, sig_of}
+use Rattle.jl_calculus.specs.Definitions.{AppliesTo, sig_of}
 use Rattle.jl_calculus.specs.Ranges.{Head, head_of, head_of_site, head_of_place, HeadTouches, ChangeTouches, Touches}
 use Rattle.jl_calculus.specs.World.{changes}
-use Rattle.jl_methods.specs.Filters.{numbers_from, is_key_of, change_in, ArePicked, AreTouchingAmong, AreTouching, AreTouched, HeadApplies, ChangeApplies}
+use Rattle.jl_methods.specs.Filters.{numbers_from, change_in, HeadApplies, ChangeApplies}
 use Rattle.jl_methods.specs.Noted.{function_in, function_of}
 use Rattle.jl_methods.specs.Numbered.{RisesFrom}
-use Rattle.jl_methods.proofs.ChangeLemmas.{def, del, defs_rise, IsDefAt, def_of, def_there, IsDelAt, del_of, del_there}
+use Rattle.jl_methods.proofs.ChangeLemmas.{IsDefAt, IsDelAt}
 use Rattle.jl_methods.proofs.EachLemmas.{rises_at}
-use Rattle.jl_methods.proofs.FilterLemmas.{here, there, here_or_there, none_there, picked_from, picked_to, picked_rise, numbers_rise}
-use Rattle.jl_methods.proofs.PutLemmas.{get_known}
+use Rattle.jl_methods.proofs.FilterLemmas.{here, there, here_or_there, none_there}
 
 -- ---- what is in the parts
 
@@ -162,109 +158,3 @@ touch_at P cs place w c key e q t =
 pub touches_in : (P : Program) (es : List Event) (w : ℕ) (key : Key) → ChangeTouches P (change_in (changes es) w) key ↔ Touches P es w key
 touches_in P es zero key = (λ t. t, λ t. t)
 touches_in P es (suc j) key = (λ t. t, λ t. t)
-
-module _ (P : Program) (es : List Event) (key : Key) (ws : List ℕ) (h : AreTouching P es key ws) where
-  pub touching_exact : (w : ℕ) → Contains ws w ↔ Touches P es w key
-  touching_exact w = (λ c. (touches_in P es w key).0 ((h.exact w).0 c), λ t. (h.exact w).1 ((touches_in P es w key).1 t))
-
-  pub touching_increases : IsStrictlyIncreasing ws
-  touching_increases = increases ws h.rises
-
--- ---- what is picked
-
-module _ (P : Program) (cs : List Change) (key : Key) (ws more : List ℕ)
-    (h : ArePicked (λ (d : Def). ChangeApplies P (Ch.Def d.site) key.types) (λ (d : Def). d.world) (defs_from P key.function 1 cs) ws)
-    (k : ArePicked (λ (d : Del). ChangeApplies P (Ch.Del d.place) key.types) (λ (d : Del). d.world) (dels_from P key.function 1 cs) more) where
-  picked_def : (w : ℕ) → Contains ws w → ChangeTouches P (change_in cs w) key
-  picked_def w c =
-      let (d, i, a, e) = picked_from (λ (d : Def). ChangeApplies P (Ch.Def d.site) key.types) (λ (d : Def). d.world) (defs_from P key.function 1 cs) ws h w c in
-      let at = def_of P key.function 1 cs d i in
-      touch_at P cs at.place w (Ch.Def d.site) key (omega (arith, at.world_is, e)) at.change_is (def_touches P key.function 1 cs d key refl at a)
-
-  picked_del : (w : ℕ) → Contains more w → ChangeTouches P (change_in cs w) key
-  picked_del w c =
-      let (d, i, a, e) = picked_from (λ (d : Del). ChangeApplies P (Ch.Del d.place) key.types) (λ (d : Del). d.world) (dels_from P key.function 1 cs) more k w c in
-      let at = del_of P key.function 1 cs d i in
-      touch_at P cs at.place w (Ch.Del d.place) key (omega (arith, at.world_is, e)) at.change_is (del_touches P key.function 1 cs d key refl at a)
-
-  touch_picked : (w : ℕ) → IsTouch P cs w key → Contains (ws ++ more) w
-  touch_picked w t = subst (Contains (ws ++ more)) (sym (t.world_is ∙ next)) (by t.change t.change_is t.touches)
-    where
-      next : suc t.place ≡ 1 + t.place
-      next = omega arith
-
-      by : (c : Change) → slice_get cs t.place ≡ Some c → HeadTouches P (head_of P c) key → Contains (ws ++ more) (1 + t.place)
-      by (Ch.Def site) e a =
-          let (s, q, f) = site_row P (slice_get P.sites site) key a in
-          Contains-append_left ws more (1 + t.place)
-          (picked_to (λ (d : Def). ChangeApplies P (Ch.Def d.site) key.types) (λ (d : Def). d.world) (defs_from P key.function 1 cs) ws h (def (1 + t.place) site)
-          (def_there P key.function 1 cs t.place site s e q f) (touching_applies P (Ch.Def site) key a).1)
-      by (Ch.Del place) e a =
-          let (p, q, f) = place_row P (slice_get P.deletes place) key a in
-          Contains-append_right ws more (1 + t.place)
-          (picked_to (λ (d : Del). ChangeApplies P (Ch.Del d.place) key.types) (λ (d : Del). d.world) (dels_from P key.function 1 cs) more k (del (1 + t.place) place)
-          (del_there P key.function 1 cs t.place place p e q f) (touching_applies P (Ch.Del place) key a).1)
-
-  both_exact : (w : ℕ) → Contains (ws ++ more) w ↔ ChangeTouches P (change_in cs w) key
-  both_exact w = (λ c. by (Contains-append_cases ws more w c), λ t. touch_picked w (touch_of P cs w key t))
-    where
-      by : Contains ws w ⊎ Contains more w → ChangeTouches P (change_in cs w) key
-      by (inl c) = picked_def w c
-      by (inr c) = picked_del w c
-
-  -- in order they are those that touch the key
-  pub touching_all : (all : List ℕ) → ((w : ℕ) → Contains all w ↔ Contains (ws ++ more) w) → RisesFrom 0 all → AreTouchingAmong P cs key all
-  touching_all all same r = record { exact = λ w. (λ c. (both_exact w).0 ((same w).0 c), λ t. (same w).1 ((both_exact w).1 t)); rises = r }
-
-  pub defs_picked_rise : RisesFrom 0 ws
-  defs_picked_rise =
-      picked_rise (λ (d : Def). ChangeApplies P (Ch.Def d.site) key.types) (λ (d : Def). d.world) 0 (defs_from P key.function 1 cs) ws (defs_rise P key.function 0 1 cs (omega arith)) h
-
--- ---- the keys that a change touches
-
--- a change applies to the types of the key of a number
-abbrev pub AppliesAt : Program → Change → List Key → ℕ → Type 0
-AppliesAt P change keys n = (key : Key) → slice_get keys n ≡ Some key → ChangeApplies P change key.types
-
-module _ (P : Program) (change : Change) (keys : List Key) (ns : List ℕ) (h : ArePicked (AppliesAt P change keys) (λ n. n) (numbers_from (is_key_of (function_of P change)) 0 keys) ns) where
-  abbrev Named : ℕ → Type 0
-  Named n = (key : Key) × (slice_get keys n ≡ Some key) × (key.function ≡ function_of P change) × ChangeApplies P change key.types
-
-  named : (n m : ℕ) → m ≡ n → AppliesAt P change keys m → Numbered (is_key_of (function_of P change)) 0 keys m → Named n
-  named n m e a (j, key, q, g, t) =
-      let same : n ≡ j = omega (arith, e, q) in
-      let at : m ≡ j = omega (arith, q) in
-      (key, ap (slice_get keys) same ∙ g, eqb-true key.function (function_of P change) t, a key (ap (slice_get keys) at ∙ g))
-
-  -- the key of a number among these
-  picked_key : (n : ℕ) → Contains ns n → Named n
-  picked_key n c =
-      let (m, d, a, e) = picked_from (AppliesAt P change keys) (λ n. n) (numbers_from (is_key_of (function_of P change)) 0 keys) ns h n c in
-      named n m e a (number_of (is_key_of (function_of P change)) 0 keys m d)
-
-  same_key : (n : ℕ) (a b : Key) → slice_get keys n ≡ Some a → slice_get keys n ≡ Some b → a ≡ b
-  same_key n a b e f = cc
-
-  touched_to : (n : ℕ) (key : Key) → slice_get keys n ≡ Some key → Contains ns n → HeadTouches P (head_of P change) key
-  touched_to n key e c =
-      let (k, g, q, a) = picked_key n c in
-      subst (HeadTouches P (head_of P change)) (same_key n k key g e) (applying_touches P change k (sym q) a)
-
-  touched_from : (n : ℕ) (key : Key) → slice_get keys n ≡ Some key → HeadTouches P (head_of P change) key → Contains ns n
-  touched_from n key e t =
-      let (q, a) = touching_applies P change key t in
-      let at : 0 + n ≡ n = omega arith in
-      picked_to (AppliesAt P change keys) (λ n. n) (numbers_from (is_key_of (function_of P change)) 0 keys) ns h n
-      (subst (Contains (numbers_from (is_key_of (function_of P change)) 0 keys)) at
-      (number_there (is_key_of (function_of P change)) 0 keys n key e (eq-eqb key.function (function_of P change) (sym q))))
-      (λ k f. subst (λ (k : Key). ChangeApplies P change k.types) (same_key n key k e f) a)
-
-  pub touched_are : AreTouched P keys change ns
-  touched_are =
-      record {
-        known = λ k d l. let (key, g, q, a) = picked_key (get_or ns k d) (Contains-get_or ns k d l) in get_known keys (get_or ns k d) key g;
-        rises =
-            picked_rise (AppliesAt P change keys) (λ n. n) 0 (numbers_from (is_key_of (function_of P change)) 0 keys) ns
-            (subst (RisesFrom 0) (sym (map-id (numbers_from (is_key_of (function_of P change)) 0 keys))) (numbers_rise (is_key_of (function_of P change)) 0 0 keys (omega arith))) h;
-        exact = λ n key e. (touched_to n key e, touched_from n key e);
-      }

@@ -52,12 +52,6 @@ is_row_of number row = nat_eq row.key number
 abbrev pub row_numbers : List Event → ℕ → List ℕ
 row_numbers es number = numbers_from (is_row_of number) 0 (rows_of es)
 
--- these are the numbers of exactly those that meet a condition, in their order
-abbrev pub ArePicked : {X : Type 0} → (X → Type 0) → (X → ℕ) → List X → List ℕ → Type 0
-ArePicked Is number [] ns = ns ≡ []
-ArePicked Is number (x ∷ xs) ns =
-    (Is x × ((rest : List ℕ) × (ns ≡ number x ∷ rest) × ArePicked Is number xs rest)) ⊎ ((Is x → ⊥) × ArePicked Is number xs ns)
-
 -- ---- changes
 
 -- a change is of a site or of a deletion place of the program
@@ -90,19 +84,6 @@ abbrev pub change_in : List Change → ℕ → Option Change
 change_in cs zero = None
 change_in cs (suc d) = slice_get cs d
 
--- these are the worlds of exactly those among some changes that touch a key, in their order
-pub record AreTouchingAmong (P : Program) (cs : List Change) (key : Key) (ws : List ℕ) : Type 0 where
-  pub exact : (w : ℕ) → Contains ws w ↔ ChangeTouches P (change_in cs w) key
-  pub rises : RisesFrom 0 ws
-
--- the same of the changes of a list of events
-abbrev pub AreTouching : Program → List Event → Key → List ℕ → Type 0
-AreTouching P es key ws = AreTouchingAmong P (changes es) key ws
-
--- these are exactly the definitions of a function that were made up to a world and apply to these types, whether or not they stand
-abbrev pub AreMadeThatApply : Program → List Event → ℕ → List Ty → ℕ → List Def → Type 0
-AreMadeThatApply P es f ts w ds = (d : Def) → Contains ds d ↔ (Contains (defs_in P es f w) d × AppliesTo P ts d)
-
 -- the definition that made a world, where the change that made it is one
 abbrev pub def_by : ℕ → Option Change → Option Def
 def_by w None = None
@@ -113,20 +94,10 @@ def_by w (Some (Ch.Del place)) = None
 abbrev pub defs_at : List Change → List ℕ → List Def
 defs_at cs ws = flat_map (λ w. option_to_list (def_by w (change_in cs w))) ws
 
--- ---- what comes along
+-- ---- what a change touches
 
 -- these are the numbers of those among the keys that a change touches, in their order
 pub record AreTouched (P : Program) (keys : List Key) (change : Change) (ns : List ℕ) : Type 0 where
   pub known : All (λ n. n < length keys) ns
   pub rises : RisesFrom 0 ns
   pub exact : (n : ℕ) (key : Key) → slice_get keys n ≡ Some key → Contains ns n ↔ HeadTouches P (head_of P change) key
-
--- what comes along with an event: with a key the changes that touch it, with a change the keys that it touches
-abbrev pub ComesWith : Program → List Event → Event → List ℕ → Type 0
-ComesWith P es (Ev.Key key) ns = AreTouching P es key ns
-ComesWith P es (Ev.Def task site) ns = AreTouched P (keys_of es) (Ch.Def site) ns
-ComesWith P es (Ev.Del task place) ns = AreTouched P (keys_of es) (Ch.Del place) ns
-ComesWith P es (Ev.Begin fuel) ns = ns ≡ []
-ComesWith P es (Ev.Fill key site first) ns = ns ≡ []
-ComesWith P es (Ev.Spawn task child start) ns = ns ≡ []
-ComesWith P es (Ev.Done task ended) ns = ns ≡ []

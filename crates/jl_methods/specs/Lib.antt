@@ -2,6 +2,7 @@ pub mod Numbered
 pub mod Room
 pub mod Filters
 pub mod Latest
+pub mod Links
 pub mod Newest
 pub mod Counted
 pub mod Noted

@@ -18,11 +18,6 @@ put_each ls (n ∷ ns) x = put_each (put_at ls n x) ns x
 abbrev pub change_at : {T : Type 0} → (List T → List T) → List (List T) → ℕ → List (List T)
 change_at f ls n = set ls n (f (nth ls n))
 
--- and that of each of these
-abbrev pub change_each : {T : Type 0} → (List T → List T) → List (List T) → List ℕ → List (List T)
-change_each f ls [] = ls
-change_each f ls (n ∷ ns) = change_each f (change_at f ls n) ns
-
 -- each is above those before it, and the first is this number at least
 abbrev pub RisesFrom : ℕ → List ℕ → Type 0
 RisesFrom low [] = Unit {0}

@@ -1,8 +1,6 @@
 //! The lists by function and by key that a history's events make.
 
-ghost use Rattle.std.specs.Prelude.{◌≡◌, ◌<◌, ◌≤◌, ◌+◌, ◌↔◌, ◌++◌, ◌∷◌, [], ℕ, List, IfOk, OnOk, All, length, map, slice_get, Some};
-ghost use Rattle.std.specs.List.{Contains};
-ghost use Rattle.std.specs.List.Sorted.{IsStrictlyIncreasing};
+ghost use Rattle.std.specs.Prelude.{◌≡◌, ◌<◌, ◌≤◌, ◌+◌, ◌++◌, ◌∷◌, [], ℕ, List, IfOk, OnOk, length, map, slice_get, Some};
 ghost use Rattle.jl_model.specs.declared.limits.TheConstants.{MOST_WORLDS, MOST_CACHE_KEYS};
 ghost use Rattle.jl_model.specs.declared.ty.Key.{Key};
 ghost use Rattle.jl_program.specs.declared.tree.Program.{Program};
@@ -10,20 +8,22 @@ ghost use Rattle.jl_program.specs.Prelude.{prelude_numbers};
 ghost use Rattle.jl_calculus.specs.declared.history.Change.TheVariants as Ch;
 ghost use Rattle.jl_calculus.specs.declared.history.Event.{Event};
 ghost use Rattle.jl_calculus.specs.Definitions.{defs_from};
-ghost use Rattle.jl_calculus.specs.Legal.{MayCome};
+ghost use Rattle.jl_calculus.specs.Legal.{IsKeyOf, MayCome};
 ghost use Rattle.jl_calculus.specs.Ranges.{keys_of, rows_of, Touches};
 ghost use Rattle.jl_calculus.specs.World.{change_at, site_of, world_of};
-ghost use Rattle.jl_methods.specs.Filters.{defs_of, dels_of, dels_in, change_in, key_numbers, row_numbers, ComesWith, IsDefinition, IsOfProgram};
-ghost use Rattle.jl_methods.specs.Indexed.{noted_in, awaited_in, IsIndexOf, MayBeNoted, HasRoomFor, HasRoomForKey, HasRoomForRow, HasRoomForChange, HasRoomForDef, HasRoomForDel};
-ghost use Rattle.jl_methods.specs.Latest.{AreLatestOfSites, AreLatestOfPlaces};
+ghost use Rattle.jl_methods.specs.Filters.{defs_of, dels_of, dels_in, change_in, key_numbers, row_numbers, AreTouched, IsDefinition, IsOfProgram};
+ghost use Rattle.jl_methods.specs.Indexed.{noted_in, awaited_in, IsIndexOf, MayBeNoted, HasLinksFor, HasListsFor, HasRoomFor, HasRoomForKey, HasRoomForRow, HasRoomForDef, HasRoomForDel};
+ghost use Rattle.jl_methods.specs.Latest.{AreLatestOfPlaces};
+ghost use Rattle.jl_methods.specs.Links.{linked_in, AreApplying, AreLinked, IsLast, IsNext};
 ghost use Rattle.jl_methods.specs.Newest.{IsNewestOf};
 ghost use Rattle.jl_methods.specs.Noted.{with_key, with_row, with_def, with_del, function_of};
-ghost use Rattle.jl_methods.specs.Numbered.{nth, RisesFrom};
+ghost use Rattle.jl_methods.specs.Numbered.{nth};
 ghost use Rattle.jl_methods.specs.Room.{items_of};
 
-use crate::latest::make_latest;
-use crate::lists::Lists;
+use crate::links::{Links, earlier};
+use crate::lists::{Lists, empty_lists};
 use crate::newest::{NewestRow, newer};
+use crate::touch::{find_places, find_sites};
 use jl_calculus::history::{Change, Def, Del, Event};
 use jl_model::ty::Key;
 use jl_program::prelude::PRELUDE_SITES;
@@ -43,13 +43,13 @@ pub struct Index {
     latest_dels: Lists<Del>,
     pub(crate) numbers: Lists<u32>,
     rows: Lists<u32>,
-    pub(crate) touching: Lists<u32>,
-    latest: Lists<Def>,
+    pub(crate) sites: Links,
+    pub(crate) places: Links,
     newest: Vec<Option<NewestRow>>,
     fills: u32,
     next_key: Option<Key>,
-    next_latest: Vec<Def>,
-    awaited: Vec<u32>,
+    next_sites: Vec<u32>,
+    next_places: Vec<u32>,
 }
 
 /// The function of a change.
@@ -61,19 +61,6 @@ pub(crate) fn function_of(ready: &Ready, change: Change) -> u32
         Change::Def(site) => ready.program().sites.as_slice()[site as usize].function,
         Change::Del(place) => ready.program().deletes.as_slice()[place as usize].function,
     }
-}
-
-/// So many lists without elements.
-fn empty_lists<T: Drop>(alloc: Global, count: usize) -> Result<Lists<T>, AllocError>
-    ensures count { IfOk result (λ lists. length (items_of lists) ≡ count) }
-    ensures empty { IfOk result (λ lists. (n : ℕ) → nth (items_of lists) n ≡ []) }
-{
-    let mut lists = Lists::new(alloc);
-    for _ in 0..count {
-        lists.reserve_list()?;
-        lists.add(Vec::new(alloc));
-    }
-    Ok(lists)
 }
 
 /// The prelude's definitions, in order.
@@ -103,6 +90,27 @@ fn prelude_defs(alloc: Global, ready: &Ready) -> Result<Lists<Def>, AllocError>
     Ok(defs)
 }
 
+/// What is kept of the sites where only the prelude's definitions were made.
+fn prelude_sites(alloc: Global, ready: &Ready) -> Result<Links, AllocError>
+    ensures { IfOk result (λ sites. AreLinked ready.now Ch.Def (length ready.now.sites) (map Ch.Def prelude_numbers) [] (linked_in sites)) }
+{
+    ready.valid();
+    let mut sites = Links::new(alloc, ready.program().sites.len())?;
+    for site in 0..PRELUDE_SITES {
+        sites.reserve_world(site)?;
+        sites.put_world(site, site + 1);
+    }
+    Ok(sites)
+}
+
+/// What is kept of the deletion places, none of which was reached.
+fn no_places(alloc: Global, ready: &Ready) -> Result<Links, AllocError>
+    ensures { IfOk result (λ places. AreLinked ready.now Ch.Del (length ready.now.deletes) (map Ch.Def prelude_numbers) [] (linked_in places)) }
+{
+    let places = Links::new(alloc, ready.program().deletes.len())?;
+    Ok(places)
+}
+
 impl Index {
     /// The index of a history without events: it has the prelude's definitions.
     pub fn new(alloc: Global, ready: &Ready) -> Result<Index, AllocError>
@@ -114,6 +122,8 @@ impl Index {
         let dels = empty_lists(alloc, functions)?;
         let latest_dels = empty_lists(alloc, functions)?;
         let numbers = empty_lists(alloc, functions)?;
+        let sites = prelude_sites(alloc, ready)?;
+        let places = no_places(alloc, ready)?;
         Ok(Index {
             alloc,
             keys: Vec::new(alloc),
@@ -123,13 +133,13 @@ impl Index {
             latest_dels,
             numbers,
             rows: Lists::new(alloc),
-            touching: Lists::new(alloc),
-            latest: Lists::new(alloc),
+            sites,
+            places,
             newest: Vec::new(alloc),
             fills: 0,
             next_key: None,
-            next_latest: Vec::new(alloc),
-            awaited: Vec::new(alloc),
+            next_sites: Vec::new(alloc),
+            next_places: Vec::new(alloc),
         })
     }
 
@@ -177,22 +187,48 @@ impl Index {
         self.rows.get(key)
     }
 
-    /// The worlds of the changes that touch a key, in order: the definitions and the deletions of its function that apply to its
-    /// types.
-    pub fn touching(&self, key: u32) -> &[u32]
-        ensures exact { (P : Program) (es : List Event) (k : Key) → IsIndexOf P es self.now → slice_get (keys_of es) key ≡ Some k → (w : ℕ) → Contains result.now w ↔ Touches P es w k }
-        ensures ordered { (P : Program) (es : List Event) (k : Key) → IsIndexOf P es self.now → slice_get (keys_of es) key ≡ Some k → IsStrictlyIncreasing result.now }
+    /// The sites whose definitions touch a key, in order: those of its function that apply to its types.
+    pub fn sites_of(&self, key: u32) -> &[u32]
+        ensures { (P : Program) (es : List Event) (k : Key) → IsIndexOf P es self.now → slice_get (keys_of es) key ≡ Some k → AreApplying P Ch.Def k result.now }
     {
-        self.touching.get(key)
+        self.sites.applying(key)
     }
 
-    /// The definitions that touch a key, in the order of their worlds, without those that a later one of the same site replaced, and
-    /// whether or not they are deleted. In a world that has all changes that touch the key, what is chosen among those of them that stand
-    /// is the choice for the key. There are no more of them than the function has sites, however often these are defined.
-    pub fn latest(&self, key: u32) -> &[Def]
-        ensures { (P : Program) (es : List Event) (k : Key) → IsIndexOf P es self.now → slice_get (keys_of es) key ≡ Some k → AreLatestOfSites P k.types (defs_of P es k.function) result.now }
+    /// The deletion places whose deletions touch a key, in order.
+    pub fn places_of(&self, key: u32) -> &[u32]
+        ensures { (P : Program) (es : List Event) (k : Key) → IsIndexOf P es self.now → slice_get (keys_of es) key ≡ Some k → AreApplying P Ch.Del k result.now }
     {
-        self.latest.get(key)
+        self.places.applying(key)
+    }
+
+    /// The numbers of the keys that a change touches, in order: those of its function to whose types its signature applies. They are kept by
+    /// the change's site or place, so that it costs nothing to have them.
+    pub fn touched(&self, change: Change) -> &[u32]
+        ensures { (P : Program) (es : List Event) → IsIndexOf P es self.now → AreTouched P (keys_of es) change result.now }
+    {
+        match change {
+            Change::Def(site) => self.sites.touched(site),
+            Change::Del(place) => self.places.touched(place),
+        }
+    }
+
+    /// The last world up to another whose change touches a key, and 0 where there is none. The cost is in the sites and the places that apply
+    /// to the key, however often they were reached.
+    pub fn last_touching(&self, key: u32, world: u32) -> u32
+        ensures { (P : Program) (es : List Event) (k : Key) → IsIndexOf P es self.now → slice_get (keys_of es) key ≡ Some k → IsLast (λ w. Touches P es w k) world result }
+    {
+        let defined = self.sites.last_of(self.sites.applying(key), world);
+        let deleted = self.places.last_of(self.places.applying(key), world);
+        defined.max(deleted)
+    }
+
+    /// The first world past another whose change touches a key. The cost is that of `last_touching`.
+    pub fn next_touching(&self, key: u32, world: u32) -> Option<u32>
+        ensures { (P : Program) (es : List Event) (k : Key) → IsIndexOf P es self.now → slice_get (keys_of es) key ≡ Some k → IsNext (λ w. Touches P es w k) world result }
+    {
+        let defined = self.sites.next_of(self.sites.applying(key), world);
+        let deleted = self.places.next_of(self.places.applying(key), world);
+        earlier(defined, deleted)
     }
 
     /// The row of a key that begins in the latest world, where the key has a row.
@@ -239,28 +275,33 @@ impl Index {
         self.changes.len()
     }
 
-    /// Takes all the memory that noting this event needs. Along with a definition or a deletion come the numbers of the keys that it
-    /// touches, along with a key the worlds of the changes that touch it, and nothing with another event. What was reserved before
-    /// is given up.
-    pub fn reserve(
-        &mut self,
-        ready: &Ready,
-        event: &Event,
-        touched: &[u32],
-    ) -> Result<(), AllocError>
-        requires { MayBeNoted ready.now self.old event.now touched.now }
+    /// Takes all the memory that noting this event needs. For a key the sites and the places that apply to it are found. What was reserved
+    /// before is given up.
+    pub fn reserve(&mut self, ready: &Ready, event: &Event) -> Result<(), AllocError>
+        requires { MayBeNoted ready.now self.old event.now }
         ensures room { OnOk result (HasRoomFor ready.now event.now self.new) }
-        ensures awaited { OnOk result (awaited_in self.new ≡ touched.now) }
         ensures kept { noted_in self.new ≡ noted_in self.old }
     {
-        self.awaited = Vec::from_slice(self.alloc, touched)?;
-        self.reserve_event(ready, event)
+        ready.valid();
+        match event {
+            Event::Key(key) => self.reserve_key(ready, key),
+            Event::Fill { key, .. } => self.rows.reserve(*key),
+            Event::Def { site, .. } => {
+                self.reserve_def(function_of(ready, Change::Def(*site)), *site)
+            }
+            Event::Del { place, .. } => {
+                self.reserve_del(function_of(ready, Change::Del(*place)), *place)
+            }
+            Event::Begin(_) => Ok(()),
+            Event::Spawn { .. } => Ok(()),
+            Event::Done { .. } => Ok(()),
+        }
     }
 
     /// Notes the event for which room was reserved.
     pub fn note(&mut self, ready: &Ready, event: &Event)
         requires { HasRoomFor ready.now event.now self.old }
-        ensures { (es : List Event) → IsIndexOf ready.now es self.old → MayCome ready.now es event.now → ComesWith ready.now es event.now (awaited_in self.old) → IsIndexOf ready.now (es ++ event.now ∷ []) self.new }
+        ensures { (es : List Event) → IsIndexOf ready.now es self.old → MayCome ready.now es event.now → IsIndexOf ready.now (es ++ event.now ∷ []) self.new }
     {
         ready.valid();
         match event {
@@ -278,101 +319,80 @@ impl Index {
         }
     }
 
-    fn reserve_event(&mut self, ready: &Ready, event: &Event) -> Result<(), AllocError>
-        requires { MayBeNoted ready.now self.old event.now (awaited_in self.old) }
-        ensures room { OnOk result (HasRoomFor ready.now event.now self.new) }
-        ensures awaited { awaited_in self.new ≡ awaited_in self.old }
+    /// Finds the sites and the places that apply to a key, and takes the memory for a place in the list of each.
+    fn reserve_links(&mut self, ready: &Ready, key: &Key) -> Result<(), AllocError>
+        requires key { IsKeyOf ready.now key.now }
+        requires sites { length (noted_in self.old).sites.touched ≡ length ready.now.sites }
+        requires places { length (noted_in self.old).places.touched ≡ length ready.now.deletes }
+        ensures links { OnOk result (HasLinksFor ready.now key.now self.new) }
         ensures kept { noted_in self.new ≡ noted_in self.old }
+        ensures room { (other : Key) → HasListsFor other self.old → HasListsFor other self.new }
     {
-        ready.valid();
-        match event {
-            Event::Key(key) => self.reserve_key(key),
-            Event::Fill { key, .. } => self.rows.reserve(*key),
-            Event::Def { site, .. } => self.reserve_def(function_of(ready, Change::Def(*site))),
-            Event::Del { place, .. } => self.reserve_del(function_of(ready, Change::Del(*place))),
-            Event::Begin(_) => Ok(()),
-            Event::Spawn { .. } => Ok(()),
-            Event::Done { .. } => Ok(()),
-        }
+        let sites = find_sites(self.alloc, ready, key)?;
+        let places = find_places(self.alloc, ready, key)?;
+        self.sites.reserve_key(sites.as_slice())?;
+        self.places.reserve_key(places.as_slice())?;
+        self.next_sites = sites;
+        self.next_places = places;
+        Ok(())
     }
 
-    fn reserve_key(&mut self, key: &Key) -> Result<(), AllocError>
+    fn reserve_key(&mut self, ready: &Ready, key: &Key) -> Result<(), AllocError>
+        requires key { IsKeyOf ready.now key.now }
         requires function { key.now.function < length (noted_in self.old).numbers }
         requires few { length (noted_in self.old).keys < MOST_CACHE_KEYS }
-        requires worlds { All (λ n. (1 ≤ n) × (n ≤ length (noted_in self.old).changes)) (awaited_in self.old) }
-        ensures room { OnOk result (HasRoomForKey key.now self.new) }
-        ensures awaited { awaited_in self.new ≡ awaited_in self.old }
+        requires sites { length (noted_in self.old).sites.touched ≡ length ready.now.sites }
+        requires places { length (noted_in self.old).places.touched ≡ length ready.now.deletes }
+        ensures room { OnOk result (HasRoomForKey ready.now key.now self.new) }
         ensures kept { noted_in self.new ≡ noted_in self.old }
     {
         self.keys.reserve(1)?;
         self.numbers.reserve(key.function)?;
         self.rows.reserve_list()?;
-        self.touching.reserve_list()?;
-        self.latest.reserve_list()?;
         self.newest.reserve(1)?;
-        self.next_latest = make_latest(
-            self.alloc,
-            self.changes.as_slice(),
-            self.awaited.as_slice(),
-        )?;
+        self.reserve_links(ready, key)?;
         self.next_key = Some(key.copy()?);
         Ok(())
     }
 
-    fn reserve_change(&mut self) -> Result<(), AllocError>
+    fn reserve_def(&mut self, function: u32, site: u32) -> Result<(), AllocError>
+        requires function { function < length (noted_in self.old).defs }
         requires few { length (noted_in self.old).changes < MOST_WORLDS }
-        requires known { All (λ n. n < length (noted_in self.old).touching) (awaited_in self.old) }
-        requires rises { RisesFrom 0 (awaited_in self.old) }
-        ensures room { OnOk result (HasRoomForChange self.new) }
-        ensures awaited { awaited_in self.new ≡ awaited_in self.old }
+        requires site { site < length (noted_in self.old).sites.worlds }
+        ensures room { OnOk result (HasRoomForDef function site self.new) }
         ensures kept { noted_in self.new ≡ noted_in self.old }
     {
         self.changes.reserve(1)?;
-        self.touching.reserve_each(self.awaited.as_slice())
-    }
-
-    fn reserve_def(&mut self, function: u32) -> Result<(), AllocError>
-        requires function { function < length (noted_in self.old).defs }
-        requires few { length (noted_in self.old).changes < MOST_WORLDS }
-        requires known { All (λ n. n < length (noted_in self.old).touching) (awaited_in self.old) }
-        requires known_latest { All (λ n. n < length (noted_in self.old).latest) (awaited_in self.old) }
-        requires rises { RisesFrom 0 (awaited_in self.old) }
-        ensures room { OnOk result (HasRoomForDef function self.new) }
-        ensures awaited { awaited_in self.new ≡ awaited_in self.old }
-        ensures kept { noted_in self.new ≡ noted_in self.old }
-    {
-        self.reserve_change()?;
         self.defs.reserve(function)?;
-        self.latest.reserve_each(self.awaited.as_slice())
+        self.sites.reserve_world(site)
     }
 
-    fn reserve_del(&mut self, function: u32) -> Result<(), AllocError>
+    fn reserve_del(&mut self, function: u32, place: u32) -> Result<(), AllocError>
         requires function { function < length (noted_in self.old).dels }
         requires function_latest { function < length (noted_in self.old).latest_dels }
         requires few { length (noted_in self.old).changes < MOST_WORLDS }
-        requires known { All (λ n. n < length (noted_in self.old).touching) (awaited_in self.old) }
-        requires rises { RisesFrom 0 (awaited_in self.old) }
-        ensures room { OnOk result (HasRoomForDel function self.new) }
-        ensures awaited { awaited_in self.new ≡ awaited_in self.old }
+        requires place { place < length (noted_in self.old).places.worlds }
+        ensures room { OnOk result (HasRoomForDel function place self.new) }
         ensures kept { noted_in self.new ≡ noted_in self.old }
     {
-        self.reserve_change()?;
+        self.changes.reserve(1)?;
         self.dels.reserve(function)?;
-        self.latest_dels.reserve(function)
+        self.latest_dels.reserve(function)?;
+        self.places.reserve_world(place)
     }
 
     fn note_key(&mut self)
-        requires { (key : Key) × HasRoomForKey key self.old }
-        ensures { (key : Key) → HasRoomForKey key self.old → noted_in self.new ≡ with_key key (awaited_in self.old) (noted_in self.old) }
+        requires { (P : Program) × (key : Key) × HasRoomForKey P key self.old }
+        ensures { (P : Program) (key : Key) → HasRoomForKey P key self.old → noted_in self.new ≡ with_key key (awaited_in self.old) (noted_in self.old) }
     {
         let number = self.keys.len() as u32;
         if let Some(key) = self.next_key.take() {
             self.numbers.put(key.function, number);
             self.rows.add(Vec::new(self.alloc));
-            let touching = mem::replace(&mut self.awaited, Vec::new(self.alloc));
-            self.touching.add(touching);
-            let latest = mem::replace(&mut self.next_latest, Vec::new(self.alloc));
-            self.latest.add(latest);
+            let sites = mem::replace(&mut self.next_sites, Vec::new(self.alloc));
+            self.sites.put_key(sites, number);
+            let places = mem::replace(&mut self.next_places, Vec::new(self.alloc));
+            self.places.put_key(places, number);
             self.newest.push_reserved(None);
             self.keys.push_reserved(key);
         }
@@ -392,25 +412,23 @@ impl Index {
     }
 
     fn note_def(&mut self, function: u32, site: u32)
-        requires { HasRoomForDef function self.old }
-        ensures { noted_in self.new ≡ with_def function site (awaited_in self.old) (noted_in self.old) }
+        requires { HasRoomForDef function site self.old }
+        ensures { noted_in self.new ≡ with_def function site (noted_in self.old) }
     {
         let world = self.changes.len() as u32 + 1;
         self.changes.push_reserved(Change::Def(site));
         self.defs.put(function, Def { world, site });
-        self.touching.put_each(self.awaited.as_slice(), world);
-        self.latest
-            .renew_each(self.awaited.as_slice(), Def { world, site });
+        self.sites.put_world(site, world);
     }
 
     fn note_del(&mut self, function: u32, place: u32)
-        requires { HasRoomForDel function self.old }
-        ensures { noted_in self.new ≡ with_del function place (awaited_in self.old) (noted_in self.old) }
+        requires { HasRoomForDel function place self.old }
+        ensures { noted_in self.new ≡ with_del function place (noted_in self.old) }
     {
         let world = self.changes.len() as u32 + 1;
         self.changes.push_reserved(Change::Del(place));
         self.dels.put(function, Del { world, place });
         self.latest_dels.renew(function, Del { world, place });
-        self.touching.put_each(self.awaited.as_slice(), world);
+        self.places.put_world(place, world);
     }
 }

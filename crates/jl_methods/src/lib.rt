@@ -5,6 +5,7 @@
 mod count;
 mod index;
 mod latest;
+mod links;
 mod lists;
 mod newest;
 mod touch;
@@ -12,4 +13,4 @@ mod touch;
 pub use count::count_up_to;
 pub use index::Index;
 pub use newest::NewestRow;
-pub use touch::touches;
+pub use touch::{find_places, find_sites, touches};

@@ -1,13 +1,13 @@
 //! Lists by number, each of which grows at its end.
 
-ghost use Rattle.std.specs.Prelude.{◌≡◌, ◌<◌, ◌++◌, ◌∷◌, [], ℕ, length, OnOk};
+ghost use Rattle.std.specs.Prelude.{◌≡◌, ◌<◌, ◌++◌, ◌∷◌, [], ℕ, length, IfOk, OnOk};
 ghost use Rattle.std.specs.List.{All};
-ghost use Rattle.jl_methods.specs.Latest.{renewed, site_number, place_number};
-ghost use Rattle.jl_methods.specs.Numbered.{nth, put_at, put_each, change_at, change_each};
+ghost use Rattle.jl_methods.specs.Latest.{renewed, place_number};
+ghost use Rattle.jl_methods.specs.Numbered.{nth, put_at, put_each, change_at};
 ghost use Rattle.jl_methods.specs.Room.{items_of, HasRoomAt, HasRoomAtEach, HasPlace};
 
-use crate::latest::{renew_def, renew_del};
-use jl_calculus::history::{Def, Del};
+use crate::latest::renew_del;
+use jl_calculus::history::Del;
 use std::alloc::{AllocError, Global};
 
 /// Lists by number, each of which grows at its end. Memory is taken ahead, by `reserve` and `reserve_list`, so that `put` and
@@ -99,25 +99,17 @@ impl<T> Lists<T> {
     }
 }
 
-impl Lists<Def> {
-    /// Puts a definition at the end of a list, in place of that of its own site, where there is one.
-    pub(crate) fn renew(&mut self, number: u32, def: Def)
-        requires { HasRoomAt self.old number }
-        ensures renewed { items_of self.new ≡ change_at (λ ds. renewed site_number ds def) (items_of self.old) number }
-        ensures other { (n : ℕ) → (n ≡ number → ⊥) → HasRoomAt self.old n → HasRoomAt self.new n }
-    {
-        renew_def(&mut self.lists[number as usize], def);
+/// So many lists without elements.
+pub(crate) fn empty_lists<T: Drop>(alloc: Global, count: usize) -> Result<Lists<T>, AllocError>
+    ensures count { IfOk result (λ lists. length (items_of lists) ≡ count) }
+    ensures empty { IfOk result (λ lists. (n : ℕ) → nth (items_of lists) n ≡ []) }
+{
+    let mut lists = Lists::new(alloc);
+    for _ in 0..count {
+        lists.reserve_list()?;
+        lists.add(Vec::new(alloc));
     }
-
-    /// The same in each of these lists, whose numbers are in order.
-    pub(crate) fn renew_each(&mut self, numbers: &[u32], def: Def)
-        requires { HasRoomAtEach self.old numbers.now }
-        ensures { items_of self.new ≡ change_each (λ ds. renewed site_number ds def) (items_of self.old) numbers.now }
-    {
-        for number in numbers {
-            self.renew(*number, def);
-        }
-    }
+    Ok(lists)
 }
 
 impl Lists<Del> {

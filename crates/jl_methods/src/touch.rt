@@ -1,24 +1,23 @@
 //! Which changes touch which keys.
 
-ghost use Rattle.std.specs.Prelude.{◌≡◌, ◌<◌, ◌≤◌, true, false, List, All, IfOk, MatchOption, Some, length, slice_get};
+ghost use Rattle.std.specs.Prelude.{◌≡◌, ◌<◌, ◌≤◌, true, false, List, All, IfOk, MatchOption, Some, length};
 ghost use Rattle.std.specs.Bool.{Decides};
 ghost use Rattle.std.specs.List.Sorted.{IsStrictlyIncreasing};
 ghost use Rattle.jl_model.specs.declared.ty.Key.{Key};
 ghost use Rattle.jl_program.specs.declared.tree.Program.{Program};
 ghost use Rattle.jl_program.specs.Scope.{all_types};
 ghost use Rattle.jl_calculus.specs.declared.history.Change.TheVariants as Ch;
-ghost use Rattle.jl_calculus.specs.declared.history.Def.{Def as D};
-ghost use Rattle.jl_calculus.specs.declared.history.Del.{Del as L};
 ghost use Rattle.jl_calculus.specs.declared.history.Event.{Event};
-ghost use Rattle.jl_calculus.specs.Definitions.{HasSite, worlds};
+ghost use Rattle.jl_calculus.specs.Definitions.{defs_in, worlds};
 ghost use Rattle.jl_calculus.specs.Legal.{IsKeyOf};
-ghost use Rattle.jl_calculus.specs.Ranges.{head_of, keys_of, ChangeTouches};
+ghost use Rattle.jl_calculus.specs.Ranges.{head_of, ChangeTouches};
 ghost use Rattle.jl_sig.specs.Prepared.{IsSigOf};
 ghost use Rattle.jl_sig.specs.SigParts.{written_of};
-ghost use Rattle.jl_methods.specs.Filters.{ArePicked, AreMadeThatApply, AreTouching, AreTouched, ChangeApplies, HasSig, IsOfProgram, defs_at};
-ghost use Rattle.jl_methods.specs.Indexed.{noted_in, IsIndexOf, IsIndex};
+ghost use Rattle.jl_methods.specs.Filters.{dels_in, defs_at, ChangeApplies, HasSig, IsOfProgram};
+ghost use Rattle.jl_methods.specs.Indexed.{IsIndex, IsIndexOf};
+ghost use Rattle.jl_methods.specs.Latest.{HaveLatestOfSites, HaveLatestOfPlaces};
+ghost use Rattle.jl_methods.specs.Links.{AreApplying};
 
-use crate::count::count_up_to;
 use crate::index::{Index, function_of};
 use crate::latest::def_by;
 use jl_calculus::history::{Change, Def, Del};
@@ -79,31 +78,42 @@ pub fn touches(alloc: Global, ready: &Ready, change: Change, key: &Key) -> Resul
     Ok(does_apply)
 }
 
-/// The worlds of those of the definitions that apply to the types of a key.
-fn pick_defs(alloc: Global, ready: &Ready, defs: &[Def], key: &Key) -> Result<Vec<u32>, AllocError>
-    requires defs { All (HasSite ready.now) defs.now }
-    requires key { IsKeyOf ready.now key.now }
-    ensures { IfOk result (λ those. ArePicked (λ (d : D). ChangeApplies ready.now (Ch.Def d.site) key.now.types) (λ (d : D). d.world) defs.now those.items) }
+/// How many there are, as a number of a site or of a place. No machine has memory for a program of more.
+fn count_of(length: usize) -> Result<u32, AllocError>
+    ensures { IfOk result (λ count. count ≡ length) }
 {
+    if length > u32::MAX as usize {
+        return Err(AllocError);
+    }
+    Ok(length as u32)
+}
+
+/// The sites whose definitions touch a key, in order: those of its function whose signatures apply to its types. It is a fact of the
+/// program. The cost is in the sites of the function.
+pub fn find_sites(alloc: Global, ready: &Ready, key: &Key) -> Result<Vec<u32>, AllocError>
+    requires key { IsKeyOf ready.now key.now }
+    ensures { IfOk result (λ sites. AreApplying ready.now Ch.Def key.now sites.items) }
+{
+    let count = count_of(ready.program().sites.len())?;
     let mut those = Vec::new(alloc);
-    for def in defs {
-        if change_applies(alloc, ready, Change::Def(def.site), key)? {
-            those.push(def.world)?;
+    for site in 0..count {
+        if touches(alloc, ready, Change::Def(site), key)? {
+            those.push(site)?;
         }
     }
     Ok(those)
 }
 
-/// The worlds of those of the deletions that apply to the types of a key.
-fn pick_dels(alloc: Global, ready: &Ready, dels: &[Del], key: &Key) -> Result<Vec<u32>, AllocError>
-    requires dels { All (λ (d : L). d.place < length ready.now.deletes) dels.now }
+/// The deletion places whose deletions touch a key, in order.
+pub fn find_places(alloc: Global, ready: &Ready, key: &Key) -> Result<Vec<u32>, AllocError>
     requires key { IsKeyOf ready.now key.now }
-    ensures { IfOk result (λ those. ArePicked (λ (d : L). ChangeApplies ready.now (Ch.Del d.place) key.now.types) (λ (d : L). d.world) dels.now those.items) }
+    ensures { IfOk result (λ places. AreApplying ready.now Ch.Del key.now places.items) }
 {
+    let count = count_of(ready.program().deletes.len())?;
     let mut those = Vec::new(alloc);
-    for del in dels {
-        if change_applies(alloc, ready, Change::Del(del.place), key)? {
-            those.push(del.world)?;
+    for place in 0..count {
+        if touches(alloc, ready, Change::Del(place), key)? {
+            those.push(place)?;
         }
     }
     Ok(those)
@@ -126,70 +136,34 @@ fn make_defs(alloc: Global, changes: &[Change], worlds: &[u32]) -> Result<Vec<De
 }
 
 impl Index {
-    /// The numbers of the keys that a change touches, in order: those of its function to whose types its signature applies. The cost
-    /// is in the number of that function's keys.
-    pub fn find_touched(
+    /// Of the definitions up to a world the latest of each of some sites, in order, whether or not they are deleted. These are the sites that
+    /// apply to a key, which the history need not have. The cost is in these sites, however often they were defined.
+    pub fn defs_among(
         &self,
         alloc: Global,
-        ready: &Ready,
-        change: Change,
-    ) -> Result<Vec<u32>, AllocError>
-        requires change { IsOfProgram ready.now change }
-        requires index { IsIndex ready.now self.now }
-        ensures { IfOk result (λ touched. (es : List Event) → IsIndexOf ready.now es self.now → AreTouched ready.now (keys_of es) change touched.items) }
-    {
-        let mut touched = Vec::new(alloc);
-        let numbers = self.numbers.get(function_of(ready, change));
-        for number in numbers {
-            let key = &self.keys[*number as usize];
-            if change_applies(alloc, ready, change, key)? {
-                touched.push(*number)?;
-            }
-        }
-        Ok(touched)
-    }
-
-    /// The worlds of the changes that touch a key, in order: those of its function whose signatures apply to its types. The cost is in
-    /// the number of that function's definitions and deletions.
-    pub fn find_touching(
-        &self,
-        alloc: Global,
-        ready: &Ready,
-        key: &Key,
-    ) -> Result<Vec<u32>, AllocError>
-        requires key { IsKeyOf ready.now key.now }
-        requires index { IsIndex ready.now self.now }
-        ensures { IfOk result (λ touching. (es : List Event) → IsIndexOf ready.now es self.now → AreTouching ready.now es key.now touching.items) }
-    {
-        let mut touching = pick_defs(alloc, ready, self.defs.get(key.function), key)?;
-        let dels = self.dels.get(key.function);
-        if dels.is_empty() {
-            return Ok(touching);
-        }
-        let deleting = pick_dels(alloc, ready, dels, key)?;
-        touching.extend_from_slice(deleting.as_slice())?;
-        touching.sort_unstable();
-        touching.dedup();
-        Ok(touching)
-    }
-
-    /// The definitions that apply to a key and were made up to a world, in order: those that touch it, whether or not they are deleted.
-    /// The cost is in the number of changes that touch the key up to that world.
-    pub fn find_applicable(
-        &self,
-        alloc: Global,
-        key: u32,
+        sites: &[u32],
         world: u32,
     ) -> Result<Vec<Def>, AllocError>
-        requires key { key < length (noted_in self.now).keys }
-        requires index { (P : Program) × IsIndex P self.now }
-        ensures exact { IfOk result (λ defs. (P : Program) (es : List Event) (k : Key) → IsIndexOf P es self.now → slice_get (keys_of es) key ≡ Some k → AreMadeThatApply P es k.function k.types world defs.items) }
-        ensures ordered { IfOk result (λ defs. (P : Program) (es : List Event) (k : Key) → IsIndexOf P es self.now → slice_get (keys_of es) key ≡ Some k → IsStrictlyIncreasing (worlds defs.items)) }
-        ensures sites { IfOk result (λ defs. (P : Program) (es : List Event) (k : Key) → IsIndexOf P es self.now → slice_get (keys_of es) key ≡ Some k → All (HasSite P) defs.items) }
+        requires { (P : Program) × IsIndex P self.now }
+        ensures latest { IfOk result (λ defs. (P : Program) (es : List Event) (k : Key) → IsIndexOf P es self.now → AreApplying P Ch.Def k sites.now → HaveLatestOfSites P k.types (defs_in P es k.function world) defs.items) }
+        ensures ordered { IfOk result (λ defs. IsStrictlyIncreasing (worlds defs.items)) }
     {
-        let touching = self.touching.get(key);
-        let made = &touching[..count_up_to(touching, world)];
-        let defs = make_defs(alloc, self.changes.as_slice(), made)?;
+        let made = self.sites.latest_of(alloc, sites, world)?;
+        let defs = make_defs(alloc, self.changes.as_slice(), made.as_slice())?;
         Ok(defs)
+    }
+
+    /// Of the deletions up to a world the latest of each of some places. These are the places that apply to a key, which the history need
+    /// not have.
+    pub fn dels_among(
+        &self,
+        alloc: Global,
+        places: &[u32],
+        world: u32,
+    ) -> Result<Vec<Del>, AllocError>
+        ensures { IfOk result (λ dels. (P : Program) (es : List Event) (k : Key) → IsIndexOf P es self.now → AreApplying P Ch.Del k places.now → HaveLatestOfPlaces P k.types (dels_in P es k.function world) dels.items) }
+    {
+        let dels = self.places.latest_dels(alloc, places, world)?;
+        Ok(dels)
     }
 }

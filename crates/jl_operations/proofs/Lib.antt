@@ -18,3 +18,4 @@ pub mod InferLemmas
 pub mod ConditionLemmas
 pub mod PreparedLemmas
 pub mod MemoLemmas
+pub mod PlainLemmas

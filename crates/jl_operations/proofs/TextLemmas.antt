@@ -1,11 +1,13 @@
--- The two tests of equal texts are one.
-use Rattle.std.proofs.Common.{◌≡◌, refl, ap, ℕ, ◌&&◌, ◌==◌, bytes_eq, List, [], ◌∷◌}
+-- Texts of other lengths are not the same.
+use Rattle.std.proofs.Common.{◌≡◌, refl, ap, ℕ, suc, Bool, true, false, ◌&&◌, ◌==◌, List, [], ◌∷◌, length}
 use Rattle.jl_program.specs.Names.{same_text}
 
-pub same_text-is : (a b : List ℕ) → bytes_eq a b ≡ same_text a b
-same_text-is [] [] = refl
-same_text-is [] (y ∷ ys) = refl
-same_text-is (x ∷ xs) [] = refl
-same_text-is (x ∷ xs) (y ∷ ys) = ap (λ t. (x == y) && t) (same_text-is xs ys)
-
-pub ruleset same_texts = (same_text-is)
+pub of_other_length : (a b : List ℕ) → (length a ≡ length b → ⊥) → false ≡ same_text a b
+of_other_length [] [] h = absurd (h refl)
+of_other_length [] (y ∷ ys) h = refl
+of_other_length (x ∷ xs) [] h = refl
+of_other_length (x ∷ xs) (y ∷ ys) h = and_false (x == y) (same_text xs ys) (of_other_length xs ys (λ e. h (ap suc e)))
+  where
+    and_false : (p q : Bool) → false ≡ q → false ≡ p && q
+    and_false true q e = e
+    and_false false q e = refl

@@ -15,7 +15,7 @@ use Rattle.jl_program.specs.declared.value.Value.{Value}
 use Rattle.jl_program.specs.declared.value.Value.TheVariants as V
 use Rattle.jl_program.specs.Making.{tuple_of}
 use Rattle.jl_program.specs.Measures.{IsWithinLimits}
-use Rattle.jl_program.specs.Meaning.{datum}
+use Rattle.jl_program.specs.Meaning.{datum, value_of}
 use Rattle.jl_program.specs.Names.{same_text}
 use Rattle.jl_program.specs.Scope.{all_types}
 use Rattle.jl_program.specs.TypeOf.{type_of}
@@ -23,7 +23,7 @@ use Rattle.jl_program.specs.Valid as program
 use Rattle.jl_program.specs.ValidValue.{IsStructType, IsValid, AllValid, tuple_type, int, truth, nothing, task, tuple, made, more}
 use Rattle.jl_value.proofs.ValueLemmas.{form, out_datum}
 use Rattle.jl_value.proofs.KeptLemmas.{kept_is, value_type}
-use Rattle.jl_calculus.proofs.ValueLemmas.{value_back}
+use Rattle.jl_calculus.proofs.ValueLemmas.{datum_back, value_back}
 use Rattle.jl_calculus.specs.declared.history.Outcome.TheVariants as O
 use Rattle.jl_calculus.specs.Operations.{part_or, part_named, part_at, fields_at, field_value, part_value, field_of, part_of, make_tuple}
 use Rattle.jl_calculus.specs.ValidHistory.{IsTypeOf, IsValidValue, IsValidOutcome}
@@ -115,6 +115,19 @@ field_given ds es m n v w x e f h k = part_given (field_value ds n v) (F.NoField
 
 pub field_given_valid : (ds es : List Decl) (m n : List ℕ) (v w x : Value) → es ≡ ds → m ≡ n → field_value es m v ≡ Some (datum w) → x ≡ w → IsValid ds (datum v) → IsValid ds (datum x)
 field_given_valid ds es m n v w x e f h k a = subst (λ (z : Value). IsValid ds (datum z)) (sym k) (field_valid ds n v (datum w) a (sym (same_field ds es m n v e f) ∙ h))
+
+-- the field of a valid value is valid
+pub given_valid : (ds : List Decl) (name : List ℕ) (w v : Value) → IsValid ds (datum w) → field_of ds name w ≡ O.Value v → IsValid ds (datum v)
+given_valid ds name w v h e = by (field_value ds name w) refl e
+  where
+    by : (o : Option Datum) → field_value ds name w ≡ o → part_or o (F.NoField (type_of w) name) ≡ O.Value v → IsValid ds (datum v)
+    by None is f = cc
+    by (Some d) is f =
+        let g : value_of d ≡ v = cc in
+        subst (IsValid ds) (sym (datum_back d) ∙ ap datum g) (field_valid ds name w d h is)
+
+pub first_valid : (ds : List Decl) (d : Datum) (rest : List Datum) → AllValid ds (d ∷ rest) → IsValid ds d
+first_valid ds d rest (more a as_ v w) = v
 
 pub field_missing : (ds es : List Decl) (m n o : List ℕ) (v : Value) (t u : Ty) → es ≡ ds → m ≡ n → field_value es m v ≡ None → o ≡ n → t ≡ u → u ≡ type_of v → O.Error (F.NoField t o) ≡ field_of ds n v
 field_missing ds es m n o v t u e f h k i j =

@@ -5,6 +5,7 @@ ghost use Rattle.jl_program.specs.Meaning.{datum};
 ghost use Rattle.jl_program.specs.Names.{same_text};
 ghost use Rattle.jl_program.specs.Scope.{all_types};
 ghost use Rattle.jl_program.specs.ValidValue.{IsStructType, IsValid};
+ghost use Rattle.jl_calculus.specs.declared.history.Outcome.TheVariants as O;
 ghost use Rattle.jl_calculus.specs.Operations.{part_named, part_at, fields_at, field_value, part_value, field_of, part_of};
 ghost use Rattle.jl_calculus.specs.ValidHistory.{IsValidValue, IsValidOutcome};
 
@@ -18,15 +19,24 @@ use jl_types::Table;
 use jl_value::type_of;
 use std::alloc::AllocError;
 
-/// Whether two texts are the same.
-#[tactic(auto, using(crate::proofs::TextLemmas::same_texts))]
+/// Whether two texts are the same. Names are short, so that a loop costs less than the comparison of slices, which is a call.
+#[inline(always)]
 fn is_same(left: &[u8], right: &[u8]) -> bool
     ensures { result ≡ same_text left.now right.now }
 {
-    left == right
+    if left.len() != right.len() {
+        return false;
+    }
+    for (i, byte) in left.iter().enumerate() {
+        if *byte != right[i] {
+            return false;
+        }
+    }
+    true
 }
 
 /// The part at the first field of this name.
+#[inline(always)]
 fn part_named<'a>(name: &[u8], fields: &[Field], parts: &'a [Value]) -> Option<&'a Value>
     ensures { MatchOption result (part_named name.now fields.now (map datum parts.now) ≡ None) (λ v. part_named name.now fields.now (map datum parts.now) ≡ Some (datum v.now)) }
 {
@@ -62,6 +72,37 @@ fn field_of<'a>(table: &Table, name: &[u8], value: &'a Value) -> Option<&'a Valu
 {
     match value {
         Value::Struct(made) => made_field(table, name, made),
+        _ => None,
+    }
+}
+
+/// The part of a struct at the field of a name, where the table has its type.
+#[inline(always)]
+fn known_field<'a>(table: &Table, name: &[u8], made: &'a SharedNode<Compound>) -> Option<&'a Value>
+    ensures { MatchOption result (Unit {0}) (λ v. part_named name.now (fields_at table.now made.now.ty) made.now.parts ≡ Some (datum v.now)) }
+{
+    match &made.get().ty {
+        Ty::Nominal(number, _) => {
+            if *number >= table.count() {
+                return None;
+            }
+            let fields = table.decl(*number).fields.as_slice();
+            part_named(name, fields, parts_of(made))
+        }
+        _ => None,
+    }
+}
+
+/// `value.name`, where there is such a part, which is lent: the case that comes most often. Nothing is told otherwise; then `get_field`
+/// answers. The cost is the number of fields before it.
+pub fn find_field<'a>(ready: &Ready, value: &'a Value, name: &Bytes) -> Option<&'a Value>
+    ensures { MatchOption result (Unit {0}) (λ v. field_of (all_types ready.now) name.now value.now ≡ O.Value v.now) }
+{
+    match value {
+        Value::Struct(made) => match known_field(ready.table(), name.as_slice(), made) {
+            Some(part) => Some(part),
+            None => None,
+        },
         _ => None,
     }
 }

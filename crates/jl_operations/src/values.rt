@@ -10,15 +10,11 @@ use jl_types::Table;
 use jl_value::type_of;
 use std::alloc::{AllocError, Global};
 
-/// The list of these values, which are shared.
+/// The list of these values, which are shared. One or two values take no memory.
 pub fn list_of(alloc: Global, values: &[Value]) -> Result<Values, AllocError>
     ensures { IfOk result (λ list. list ≡ map datum values.now) }
 {
-    let mut items = Vec::new(alloc);
-    for value in values {
-        items.push(value.copy()?)?;
-    }
-    Ok(Values::from_vec(items))
+    Values::from_slice(alloc, values)
 }
 
 /// The types of these values.

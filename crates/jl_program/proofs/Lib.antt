@@ -1,4 +1,5 @@
 pub mod CountLemmas
+pub mod EnvLemmas
 pub mod Computing
 pub mod FirstNames
 pub mod PlainSigs

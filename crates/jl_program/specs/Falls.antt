@@ -3,7 +3,10 @@ use Rattle.std.proofs.Common.{arith}
 use denote.Param.Weighed.{most}
 use Rattle.jl_program.specs.declared.value.Value.{Value}
 use Rattle.jl_program.specs.declared.value.Value.TheVariants.{Int, Bool, Nothing, Task, Tuple, Struct}
-use Rattle.jl_program.specs.declared.value.Values.TheDeep.{deep-Value}
+use Rattle.jl_program.specs.declared.value.Values.TheDeep.{deep-Value, deep-Items}
+use Rattle.jl_program.specs.declared.value.Items.{Items}
+use Rattle.jl_program.specs.declared.value.Items.TheVariants.{One, Two, Many}
+use Rattle.jl_program.specs.Members.{members}
 use Rattle.jl_program.specs.declared.datum.Datum.TheOpen as T
 use Rattle.jl_program.specs.declared.datum.Datum.TheFolds.{fold-roll-Datum}
 use Rattle.jl_program.specs.Meaning.{datum}
@@ -17,6 +20,11 @@ deep-le (Bool n) = omega arith
 deep-le Nothing = omega arith
 deep-le (Task n) = omega arith
 
-pub falls : (vs : List Value) → max (most deep-Value vs) 0 ≤ nodes_all (map datum vs)
-falls [] = omega arith
-falls (v ∷ vs) = omega (arith, deep-le v, falls vs)
+falls_all : (vs : List Value) → max (most deep-Value vs) 0 ≤ nodes_all (map datum vs)
+falls_all [] = omega arith
+falls_all (v ∷ vs) = omega (arith, deep-le v, falls_all vs)
+
+pub falls : (i : Items) → max (deep-Items i) 0 ≤ nodes_all (map datum (members i))
+falls (One vs) = omega (arith, falls_all vs)
+falls (Two vs) = omega (arith, falls_all vs)
+falls (Many vs) = omega (arith, falls_all vs.items)

@@ -1,7 +1,9 @@
 pub mod Measures
 pub mod Meaning
+pub mod Members
 pub mod Counts
 pub mod Falls
+pub mod Seen
 pub mod Prelude
 pub mod Names
 pub mod Text

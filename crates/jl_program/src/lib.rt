@@ -3,6 +3,7 @@
 
 pub mod choice;
 pub mod datum;
+pub mod env;
 pub mod fault;
 pub mod prelude;
 pub mod tree;

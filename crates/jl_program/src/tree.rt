@@ -2,11 +2,11 @@
 
 ghost use Rattle.std.specs.Prelude.{◌≡◌, IfOk};
 
-use crate::value::Values;
+use crate::env::Env;
 use jl_model::rows::Share;
 use jl_model::shared::{SharedList, SharedNode};
 use jl_model::ty::{Bytes, Decls, Tys, Written};
-use std::alloc::{AllocError, Global};
+use std::alloc::AllocError;
 
 /// A list of names.
 pub type Names = SharedList<Bytes>;
@@ -176,20 +176,19 @@ pub struct Delete {
 #[derive(Drop)]
 pub struct Start {
     pub spawn: u32,
-    pub env: Values,
+    pub env: Env,
     pub bindings: Tys,
     pub world: u32,
 }
 
 impl Start {
-    /// An equal start, whose values and types are shared. It takes memory for the list of its values alone.
-    pub fn copy(&self, alloc: Global) -> Result<Start, AllocError>
+    /// An equal start, whose values and types are shared. It takes no memory.
+    pub fn copy(&self) -> Result<Start, AllocError>
         ensures { IfOk result (λ c. c ≡ self.now) }
     {
-        let env = self.env.copy(alloc)?;
         Ok(Start {
             spawn: self.spawn,
-            env,
+            env: self.env.copy()?,
             bindings: self.bindings.copy()?,
             world: self.world,
         })

@@ -3,6 +3,7 @@
 
 ghost use Rattle.std.specs.Prelude.{◌≡◌, ℕ, ◌+◌, ◌^◌, ◌<◌, ◌≤◌, ◌-◌, map, List, IfOk, min};
 ghost use Rattle.jl_program.specs.Meaning.{datum};
+ghost use Rattle.jl_program.specs.Members.{members};
 ghost use Rattle.jl_program.specs.Measures.{nodes, nodes_all, depth, depth_all};
 
 use jl_model::rows::Share;
@@ -35,9 +36,18 @@ pub struct Compound {
 #[cycle(value)]
 #[derive(Drop)]
 pub struct Values {
-    items: Vec<Value>,
+    items: Items,
     nodes: u64,
     depth: u64,
+}
+
+/// The members of a list. One or two lie in the list itself, and take no block of their own.
+#[cycle(value)]
+#[derive(Drop)]
+pub enum Items {
+    One([Value; 1]),
+    Two([Value; 2]),
+    Many(Vec<Value>),
 }
 
 impl Model for Values {
@@ -52,9 +62,10 @@ impl Model for Values {
 
     ghost use Rattle.jl_program.specs.Meaning.{datum};
     ghost use Rattle.jl_program.specs.Counts.{HasCounts};
+    ghost use Rattle.jl_program.specs.Members.{members};
     ghost use Rattle.jl_program.specs.Measures.{nodes_all};
 
-    ghost view = { λ a. map datum a.items.items };
+    ghost view = { λ a. map datum (members a.items) };
 
     ghost invariant = { HasCounts };
 
@@ -62,7 +73,7 @@ impl Model for Values {
 
     ghost use Rattle.jl_program.specs.Falls.{falls};
 
-    ghost size_decreases = { λ a h. falls a.items.items };
+    ghost size_decreases = { λ a h. falls a.items };
 }
 
 /// Equal values, whose parts are shared.
@@ -74,6 +85,64 @@ fn copies(alloc: Global, items: &[Value]) -> Result<Vec<Value>, AllocError>
         copies.push(item.copy()?)?;
     }
     Ok(copies)
+}
+
+/// Equal members, whose parts are shared.
+fn copy_members(alloc: Global, values: &[Value]) -> Result<Items, AllocError>
+    ensures { IfOk result (λ copy. members copy ≡ values.now) }
+{
+    match values {
+        [one] => Ok(Items::One([one.copy()?])),
+        [one, other] => Ok(Items::Two([one.copy()?, other.copy()?])),
+        _ => Ok(Items::Many(copies(alloc, values)?)),
+    }
+}
+
+impl Items {
+    fn as_slice(&self) -> &[Value]
+        ensures { result.now ≡ members self.now }
+    {
+        match self {
+            Items::One(items) => items.as_slice(),
+            Items::Two(items) => items.as_slice(),
+            Items::Many(items) => items.as_slice(),
+        }
+    }
+}
+
+/// The number of nodes of these values, at most 2^64 - 1.
+fn count_nodes(values: &[Value]) -> u64
+    ensures { result ≡ min (nodes_all (map datum values.now)) (2 ^ 64 - 1) }
+{
+    let mut nodes: u64 = 0;
+    for value in values {
+        nodes = nodes.saturating_add(value.nodes());
+    }
+    nodes
+}
+
+/// The greatest depth of these values, at most 2^64 - 1.
+fn find_depth(values: &[Value]) -> u64
+    ensures { result ≡ min (depth_all (map datum values.now)) (2 ^ 64 - 1) }
+{
+    let mut depth: u64 = 0;
+    for value in values {
+        depth = depth.max(value.depth());
+    }
+    depth
+}
+
+/// The list of these members.
+fn counted(items: Items) -> Values
+    ensures { result ≡ map datum (members items) }
+{
+    let nodes = count_nodes(items.as_slice());
+    let depth = find_depth(items.as_slice());
+    Values {
+        items,
+        nodes,
+        depth,
+    }
 }
 
 impl Values {
@@ -97,12 +166,12 @@ impl Values {
         self.items.as_slice()
     }
 
-    /// An equal list, whose members are shared.
+    /// An equal list, whose members are shared. One or two take no memory.
     pub fn copy(&self, alloc: Global) -> Result<Values, AllocError>
         ensures { IfOk result (λ c. c ≡ self.now) }
     {
         Ok(Values {
-            items: copies(alloc, self.items.as_slice())?,
+            items: copy_members(alloc, self.items.as_slice())?,
             nodes: self.nodes,
             depth: self.depth,
         })
@@ -112,17 +181,14 @@ impl Values {
     pub fn from_vec(items: Vec<Value>) -> Values
         ensures { result ≡ map datum items.items }
     {
-        let mut nodes: u64 = 0;
-        let mut depth: u64 = 0;
-        for item in items.as_slice() {
-            nodes = nodes.saturating_add(item.nodes());
-            depth = depth.max(item.depth());
-        }
-        Values {
-            items,
-            nodes,
-            depth,
-        }
+        counted(Items::Many(items))
+    }
+
+    /// The list of equal values, whose parts are shared. One or two take no memory.
+    pub fn from_slice(alloc: Global, values: &[Value]) -> Result<Values, AllocError>
+        ensures { IfOk result (λ list. list ≡ map datum values.now) }
+    {
+        Ok(counted(copy_members(alloc, values)?))
     }
 }
 

@@ -1,29 +1,17 @@
--- The deletions of a function, and the choice in a world among the definitions that they leave.
-use Rattle.std.proofs.Common.{◌≡◌, sym, subst, refl, ℕ, zero, suc, ◌+◌, ◌<◌, ◌≤◌, arith, List, take, slice_get, Some}
+-- The deletions of a function, and those up to a world.
+use Rattle.std.proofs.Common.{◌≡◌, sym, subst, ℕ, zero, suc, ◌+◌, ◌<◌, ◌≤◌, arith, List, take, slice_get, Some}
 use Rattle.std.specs.List.{Contains}
-use Rattle.jl_model.specs.declared.ty.Ty.{Ty}
-use Rattle.jl_program.specs.declared.choice.Choice.{Choice}
 use Rattle.jl_program.specs.declared.tree.Delete.{Delete}
 use Rattle.jl_program.specs.declared.tree.Program.{Program}
-use Rattle.jl_calculus.specs.declared.history.Change.{Change}
 use Rattle.jl_calculus.specs.declared.history.Change.TheVariants as Ch
-use Rattle.jl_calculus.specs.declared.history.Def.{Def}
 use Rattle.jl_calculus.specs.declared.history.Del.{Del}
 use Rattle.jl_calculus.specs.declared.history.Event.{Event}
-use Rattle.jl_calculus.specs.Definitions.{AppliesTo, defs_in, dels_from}
-use Rattle.jl_calculus.specs.World.{changes, change_at, Selects}
-use Rattle.jl_methods.specs.Filters.{dels_of, dels_in, AreMadeThatApply}
+use Rattle.jl_calculus.specs.World.{changes, change_at}
+use Rattle.jl_methods.specs.Filters.{dels_of, dels_in}
 use Rattle.jl_methods.proofs.ChangeLemmas.{del, del_of, del_there}
 use Rattle.jl_methods.proofs.PutLemmas.{get_known}
-use Rattle.jl_subsig.specs.Side.{Every}
-use Rattle.jl_subsig.specs.Standing.{HasPlace, IsLeft, HaveLatest, ChoosesLeft}
-use Rattle.jl_subsig.proofs.StandingChoice.{IsDeletionOf, IsKept, kept_left, left_kept, left_selects}
+use Rattle.jl_subsig.proofs.StandingChoice.{IsDeletionOf}
 use Rattle.jl_world.proofs.Lists.{get_taken, get_whole, take_low}
-use Rattle.jl_rows.proofs.ApplyingLemmas.{every_of}
-
--- the deletions of a function have places
-pub dels_places : (P : Program) (f : ℕ) (cs : List Change) → Every (HasPlace P) (dels_from P f 1 cs)
-dels_places P f cs = every_of (HasPlace P) (dels_from P f 1 cs) (λ e c. (let i = del_of P f 1 cs e c in get_known P.deletes e.place i.row i.stands))
 
 module _ (P : Program) (es : List Event) (f : ℕ) where
   -- a deletion of the function made the world that it has
@@ -59,19 +47,3 @@ module _ (P : Program) (es : List Event) (f : ℕ) where
           subst (Contains (dels_of P es f)) same (del_there P f 1 (changes es) i.place e.place i.row (get_whole (changes es) w i.place (Ch.Del e.place) i.change_is) i.stands i.function_is),
           omega (arith, i.world_is, at, take_low w (changes es)),
         )
-
-    -- the choice among the definitions that apply, when the deletions up to the world take some away, is that in the world
-    module _ (ts : List Ty) (some : List Def) (are : AreMadeThatApply P es f ts w some) where
-      have : HaveLatest P ts (defs_in P es f w) some
-      have = record { there = λ d c. ((are d).0 c).0; covered = λ d c a. record { by = d; stays = (are d).1 (c, a); site_is = refl; later = omega arith } }
-
-      kept_of : (d : Def) → Contains (defs_in P es f w) d → AppliesTo P ts d → IsLeft P (dels_in P es f w) d → IsKept P es f w (dels_in P es f w) d
-      kept_of d i a left =
-          left_kept P es f w (dels_in P es f w) (λ p. Unit {0})
-          (λ world place p q up r t may. record { by = del world place; stays = dels_to (del world place) (deletion_there world place p q r t) up; place_is = refl; later = omega arith }) d (λ place p r t s. tt) left
-
-      left_of : (d : Def) → Contains (defs_in P es f w) d → AppliesTo P ts d → IsKept P es f w (dels_in P es f w) d → IsLeft P (dels_in P es f w) d
-      left_of d i a kept = kept_left P es f w (dels_in P es f w) d (λ e c t. (let u = dels_up e c in deletion_of w e u.0 u.1)) kept
-
-      pub world_selects : (c : Choice) → ((all : List Def) → HaveLatest P ts all some → ChoosesLeft P (dels_in P es f w) ts all c) → Selects P es f ts w c
-      world_selects c h = left_selects P es f w (dels_in P es f w) ts kept_of left_of c (h (defs_in P es f w) have)

@@ -3,8 +3,9 @@ pub mod SpanLemmas
 pub mod OpenLemmas
 pub mod RowReads
 pub mod CutLemmas
-pub mod ApplyingLemmas
+pub mod EachLemmas
 pub mod DeletionLemmas
 pub mod NewestLemmas
+pub mod AmongLemmas
 pub mod PlanLemmas
 pub mod KeptLemmas

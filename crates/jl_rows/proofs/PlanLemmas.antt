@@ -1,14 +1,11 @@
 -- Which row is right for a key around a world.
-use Rattle.std.proofs.Common.{◌≡◌, ap, sym, subst, arith, ℕ, suc, ◌+◌, ◌<◌, ◌⊎◌, inl, inr, List, length, take, slice_get, Option, Some, None}
-use Rattle.std.specs.Prelude.{◌↔◌}
-use Rattle.std.specs.List.{Contains}
+use Rattle.std.proofs.Common.{◌≡◌, ap, sym, subst, arith, ℕ, suc, ◌+◌, ◌<◌, List, length, take, slice_get, Option, Some, None}
 use Rattle.jl_model.specs.declared.ty.Key.{Key}
 use Rattle.jl_model.specs.declared.ty.Ty.{Ty}
 use Rattle.jl_model.specs.Choice.{Method}
 use Rattle.jl_program.specs.declared.choice.Choice.{Choice}
 use Rattle.jl_program.specs.declared.choice.Choice.TheVariants as C
 use Rattle.jl_program.specs.declared.tree.Program.{Program}
-use Rattle.jl_program.specs.Prelude.{prelude_count}
 use Rattle.jl_program.specs.Valid.{IsValid}
 use Rattle.jl_calculus.specs.declared.history.Change.TheVariants as Ch
 use Rattle.jl_calculus.specs.declared.history.Event.{Event}
@@ -42,24 +39,20 @@ chosen_definition P es f ts w d (ms, are, (m, b, e)) =
     let at : suc o.place ≡ d = omega (arith, number, e) in
     subst (λ n. IsDefinition (change_in (changes es) n)) at (subst IsDefinition (sym (taken_below w (changes es) o.place (Ch.Def o.number) o.stands).1) tt)
 
-module _ (P : Program) (valid : IsValid P) (es : List Event) (stand : MayStand P es) (number : ℕ) (key : Key) (proper : IsKeyOf P key) (named : IsNamed es number key) (ws : List ℕ)
-    (exact : (d : ℕ) → Contains ws d ↔ Touches P es d key) (w : ℕ) (span : Span) (h : IsSpanAt ws w span) where
+module _ (P : Program) (valid : IsValid P) (es : List Event) (stand : MayStand P es) (number : ℕ) (key : Key) (proper : IsKeyOf P key) (named : IsNamed es number key) (w : ℕ) (span : Span)
+    (h : IsSpanAt (λ d. Touches P es d key) w span) where
   begins : MayBegin P es key span.first
-  begins = by h.begun
-    where
-      by : (span.first ≡ prelude_count) ⊎ ((prelude_count < span.first) × Contains ws span.first) → MayBegin P es key span.first
-      by (inl e) = inl e
-      by (inr (lt, c)) = inr (lt, (exact span.first).0 c)
+  begins = h.begun
 
   covers : Covers P es key span.first w
-  covers = record { begun = h.low; going = λ d low high t. h.between d ((exact d).1 t) low high }
+  covers = record { begun = h.low; going = λ d low high t. h.between d t low high }
 
   range_end : HasRangeEnd P es number span.first span.last
   range_end = (key, named, by span.last h.ends)
     where
-      by : (o : Option ℕ) → EndsSo ws span.first o → IsRangeEnd P es key span.first o
-      by None e = λ d low t. e d ((exact d).1 t) low
-      by (Some last) e = record { covers = record { begun = e.0; going = λ d low high t. e.2 d ((exact d).1 t) low high }; touched = (exact (last + 1)).0 e.1 }
+      by : (o : Option ℕ) → EndsSo (λ d. Touches P es d key) span.first o → IsRangeEnd P es key span.first o
+      by None e = λ d low t. e d t low
+      by (Some last) e = record { covers = record { begun = e.0; going = λ d low high t. e.2 d t low high }; touched = e.1 }
 
   -- a row that begins there covers the world
   pub from_covers : HasRowFrom es number span.first → IsCovered P es number key w

@@ -1,5 +1,3 @@
-pub mod Applying
-pub mod Touching
 pub mod Spans
 pub mod Open
 pub mod Plans

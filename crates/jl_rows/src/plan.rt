@@ -14,7 +14,7 @@ ghost use Rattle.jl_rows.specs.Plans.{IsMethodPlan, IsPlanFor};
 
 use crate::choosing::choose_for_key;
 use crate::rows::has_row_from;
-use crate::span::span_at;
+use crate::span::span_between;
 use jl_cache::Cache;
 use jl_methods::Index;
 use jl_program::choice::Choice;
@@ -65,7 +65,9 @@ fn plan_row<N: Naming>(
     ensures same { book.new ≡ book.old }
     ensures plan { (k : Key) → IsNamed book.old.events key k → IsMethodPlan N.about book.old.events key k world result }
 {
-    let span = span_at(index.touching(key), world);
+    let last = index.last_touching(key, world);
+    let next = index.next_touching(key, world);
+    let span = span_between(last, next);
     if has_row_from(index, cache, book, key, span.first) {
         return RowPlan::Covered;
     }

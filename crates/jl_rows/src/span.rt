@@ -1,11 +1,14 @@
 //! Between which worlds a choice does not change.
 
-ghost use Rattle.std.specs.Prelude.{ℕ, ◌≡◌, ◌<◌, ◌≤◌, ◌+◌, MatchOption, get_or, length, max};
-ghost use Rattle.std.specs.List.Sorted.{IsStrictlyIncreasing};
+ghost use Rattle.std.specs.Prelude.{ℕ, ◌≡◌, ◌≤◌, List, Some};
+ghost use Rattle.jl_model.specs.declared.ty.Key.{Key};
+ghost use Rattle.jl_program.specs.declared.tree.Program.{Program};
+ghost use Rattle.jl_calculus.specs.declared.history.Event.{Event};
+ghost use Rattle.jl_calculus.specs.Ranges.{Touches};
+ghost use Rattle.jl_methods.specs.Links.{IsLast, IsNext};
 ghost use Rattle.jl_program.specs.Prelude.{prelude_count};
 ghost use Rattle.jl_rows.specs.Spans.{IsSpanAt};
 
-use jl_methods::count_up_to;
 use jl_program::prelude::FIRST_WORLD;
 
 /// Worlds from a first one to a last one, or without an end.
@@ -15,37 +18,18 @@ pub(crate) struct Span {
     pub(crate) last: Option<u32>,
 }
 
-/// The last of so many of these worlds, and the last world of the prelude where none past it is among them.
-fn first_of(worlds: &[u32], count: usize) -> u32
-    requires { count ≤ length worlds.now }
-    ensures none { count ≡ 0 → result ≡ prelude_count }
-    ensures some { (k : ℕ) → count ≡ k + 1 → result ≡ max (get_or worlds.now k 0) prelude_count }
+/// The worlds around one between the last change up to it that touches a key and the next one past it. Without a change after the prelude they begin in the
+/// last world of the prelude.
+pub(crate) fn span_between(last: u32, next: Option<u32>) -> Span
+    requires { next ≡ Some 0 → ⊥ }
+    ensures { (P : Program) (es : List Event) (k : Key) (w : ℕ) → prelude_count ≤ w → IsLast (λ d. Touches P es d k) w last → IsNext (λ d. Touches P es d k) w next → IsSpanAt (λ d. Touches P es d k) w result }
 {
-    if count == 0 {
-        return FIRST_WORLD;
+    let first = last.max(FIRST_WORLD);
+    match next {
+        Some(next) => Span {
+            first,
+            last: Some(next - 1),
+        },
+        None => Span { first, last: None },
     }
-    worlds[count - 1].max(FIRST_WORLD)
-}
-
-/// The world before the one that comes after so many of these, where there is one.
-fn last_of(worlds: &[u32], count: usize) -> Option<u32>
-    requires { count < length worlds.now → 0 < get_or worlds.now count 0 }
-    ensures { MatchOption result (length worlds.now ≤ count) (λ last. (count < length worlds.now) × (last + 1 ≡ get_or worlds.now count 0)) }
-{
-    if count >= worlds.len() {
-        return None;
-    }
-    Some(worlds[count] - 1)
-}
-
-/// The worlds around one between two of these, which stand in order. They are found by halves.
-pub(crate) fn span_at(worlds: &[u32], world: u32) -> Span
-    requires ordered { IsStrictlyIncreasing worlds.now }
-    requires world { prelude_count ≤ world }
-    ensures { IsSpanAt worlds.now world result }
-{
-    let count = count_up_to(worlds, world);
-    let first = first_of(worlds, count);
-    let last = last_of(worlds, count);
-    Span { first, last }
 }

@@ -57,7 +57,7 @@ newest_send : IsSend newest.the_row
 newest_send = search sendable depth 20
 
 index_send : IsSend index.the_row
-index_send = declared_send index.the_type (heap.the_send, (vec_send key.the_row key_send, (vec_send change.the_row change_send, (search (def_send, crosses, sendable) depth 20, (search (del_send, crosses, sendable) depth 20, (search (del_send, crosses, sendable) depth 20, (search (crosses, sendable) depth 20, (search (crosses, sendable) depth 20, (search (crosses, sendable) depth 20, (search (def_send, crosses, sendable) depth 20, (vec_send (option_type.the_row newest.the_row) (option.the_send newest.the_row newest_send), (number_send, (option.the_send key.the_row key_send, (vec_send def.the_row def_send, (vec_send u32 word_send, tt)))))))))))))))
+index_send = declared_send index.the_type (heap.the_send, (vec_send key.the_row key_send, (vec_send change.the_row change_send, (search (def_send, crosses, sendable) depth 20, (search (del_send, crosses, sendable) depth 20, (search (del_send, crosses, sendable) depth 20, (search (crosses, sendable) depth 20, (search (crosses, sendable) depth 20, (search (crosses, sendable) depth 60, (search (crosses, sendable) depth 60, (vec_send (option_type.the_row newest.the_row) (option.the_send newest.the_row newest_send), (number_send, (option.the_send key.the_row key_send, (vec_send u32 word_send, (vec_send u32 word_send, tt)))))))))))))))
 
 numbers_send : IsSend numbers.the_row
 numbers_send = view_send numbers_inside.the_row _ _ _ _ (recorded_send numbers_inside.the_field.row _ _ numbers_inside.the_type.to_one (struct_send (shape numbers_inside.the_type)

@@ -28,6 +28,7 @@ use Rattle.jl_operations.specs.contracts.written.Kept as kept
 use Rattle.jl_operations.specs.contracts.prepared.Prepared as prepared
 use Rattle.jl_operations.specs.contracts.memo.Memo as memo
 use Rattle.jl_operations.specs.contracts.memo.Memo.TheInside as memo_inside
+use Rattle.jl_program.specs.contracts.env.Env as env
 use Rattle.jl_program.specs.contracts.value.Value as value
 use Rattle.jl_calculus.specs.contracts.history.TraceItem as trace_item
 use Rattle.jl_frames.specs.contracts.flat.Scope as scope
@@ -39,7 +40,7 @@ use Rattle.jl_model.proofs.ty.Ty.TheLaws.TheKnot as types
 use Rattle.jl_program.proofs.tree.Expr.TheLaws.TheKnot as trees
 use Rattle.jl_runner.proofs.CrossReadies.{sig_send, sig_sync}
 use Rattle.jl_runner.proofs.CrossSyncs.{expr_sync, item_sync, ty_send}
-use Rattle.jl_runner.proofs.CrossValues.{value_send, outcome_send, trace_item_send, trace_item_sync, number_send, long_send, byte_send, byte_sync}
+use Rattle.jl_runner.proofs.CrossValues.{env_send, value_send, outcome_send, trace_item_send, trace_item_sync, number_send, long_send, byte_send, byte_sync}
 
 pub stmt_sync : IsSync stmt.the_row
 stmt_sync = search (list.the_send, list.the_sync, node.the_send, node.the_sync, crosses, types.crosses_both, trees.crosses_both, sendable) depth 60 fits 20000
@@ -64,7 +65,7 @@ scope_send = search sendable depth 60
 
 pub frames_send : (ℓ : NamedLft) → IsSend (frames.the_row ℓ)
 frames_send ℓ = view_send (frames_inside.the_row ℓ) _ _ _ _ (declared_send (frames_inside.the_type ℓ)
-    (vec_send (flat.the_row ℓ) (flat_send ℓ), (vec_send value.the_row value_send, (vec_send value.the_row value_send, (vec_send ty.the_row ty_send, (row_send u8 byte_send byte_sync, (number_send, (number_send, (scope_send, tt)))))))))
+    (vec_send (flat.the_row ℓ) (flat_send ℓ), (vec_send value.the_row value_send, (vec_send value.the_row value_send, (vec_send ty.the_row ty_send, (row_send u8 byte_send byte_sync, (number_send, (number_send, (scope_send, (as_row_send env.the_field env_send, tt))))))))))
 
 pub now_send : (ℓ : NamedLft) → IsSend (now.the_row ℓ)
 now_send ℓ = declared_send (now.the_type ℓ) (number_send, (number_send, (as_row_send (frames.the_field ℓ) (frames_send ℓ), (row_send u8 byte_send byte_sync, (outcome_send, tt)))))

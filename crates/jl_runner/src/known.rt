@@ -171,7 +171,7 @@ impl<N: Naming> Known<N> {
     }
 
     /// The number of a key that it has not met, or none where the book has no place for it.
-    pub(crate) fn learn(
+    fn learn(
         &mut self,
         alloc: Global,
         ready: &Ready,
@@ -195,7 +195,7 @@ impl<N: Naming> Known<N> {
     }
 
     /// The choice for a key that the book has no place for.
-    pub(crate) fn choose(
+    fn choose(
         &mut self,
         alloc: Global,
         ready: &Ready,
@@ -214,6 +214,52 @@ impl<N: Naming> Known<N> {
         let choice = book.select(alloc, ready, cache, &mut self.pass, key, world)?;
         self.site = site_of(book, choice);
         Ok(choice)
+    }
+
+    /// The choice for a key that has this number: by its rows, or by the book where none of them covers the world.
+    fn seek(
+        &mut self,
+        alloc: Global,
+        ready: &Ready,
+        cache: &Cache<N>,
+        book: &mut Book<N>,
+        key: &Key,
+        number: u32,
+        world: u32,
+    ) -> Result<Choice, AllocError>
+        requires program { ready.now ≡ N.about.program.value }
+        requires named { IsNamed self.old.view.seen number key.now }
+        requires world { IsWorld world (world_of self.old.view.seen) }
+        ensures asked { Asked (knows_of N.about self.old) (knows_of N.about self.new) }
+        ensures right { IfOk result (λ choice. IsRight (knows_of N.about self.new) key.now.function key.now.types world choice) }
+    {
+        match self.find(cache, key, number, world) {
+            None => Ok(Choice::Method(world)),
+            Some(miss) => self.resolve(alloc, ready, cache, book, key, miss),
+        }
+    }
+
+    /// The choice for a key that it has not met: by its rows, where the book has a place for it.
+    pub(crate) fn ask(
+        &mut self,
+        alloc: Global,
+        ready: &Ready,
+        cache: &Cache<N>,
+        book: &mut Book<N>,
+        key: &Key,
+        world: u32,
+    ) -> Result<Choice, AllocError>
+        requires program { ready.now ≡ N.about.program.value }
+        requires key { IsKeyOf N.about.program.value key.now }
+        requires world { IsWorld world (world_of self.old.view.seen) }
+        ensures asked { Asked (knows_of N.about self.old) (knows_of N.about self.new) }
+        ensures right { IfOk result (λ choice. IsRight (knows_of N.about self.new) key.now.function key.now.types world choice) }
+    {
+        let number = self.learn(alloc, ready, cache, book, key)?;
+        match number {
+            None => self.choose(alloc, ready, cache, book, key, world),
+            Some(number) => self.seek(alloc, ready, cache, book, key, number, world),
+        }
     }
 
     /// Makes a definition of a site.

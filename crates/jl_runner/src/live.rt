@@ -1,13 +1,12 @@
 //! What a running machine asks: its own task's knowledge first, and the book of the run where that does not do.
 
-ghost use Rattle.std.specs.Prelude.{◌≡◌, ◌≤◌, IfOk, length};
+ghost use Rattle.std.specs.Prelude.{◌≡◌, IfOk};
 ghost use Rattle.jl_calculus.specs.Learnt.{IsNamed};
 ghost use Rattle.jl_calculus.specs.Legal.{IsKeyOf};
-ghost use Rattle.jl_calculus.specs.Ranges.{keys_of};
 ghost use Rattle.jl_calculus.specs.World.{world_of};
 ghost use Rattle.jl_task.specs.Knows.{Asked, IsRight};
 ghost use Rattle.jl_task.specs.Worlds.{IsWorld};
-ghost use Rattle.jl_runner.specs.Knowing.{knows_of, IsNumberOf};
+ghost use Rattle.jl_runner.specs.Knowing.{knows_of};
 
 use crate::job::{Job, New};
 use crate::known::Known;
@@ -34,21 +33,6 @@ pub(crate) struct Live<'s, 'p, 'r, N: Naming, R: Wait> {
 }
 
 impl<'s, 'p, 'r, N: Naming, R: Wait> Live<'s, 'p, 'r, N, R> {
-    /// The number of a key, or none where the book has no place for it. Only for a key that the task has not met it takes the lock.
-    fn number(&mut self, key: &Key) -> Result<Option<u32>, AllocError>
-        requires { IsKeyOf N.about.program.value key.now }
-        ensures asked { Asked (knows_of N.about self.old.known) (knows_of N.about self.new.known) }
-        ensures number { IfOk result (λ number. IsNumberOf N.about self.new.known.view.seen key.now number) }
-    {
-        if let Some(number) = self.known.number_of(key) {
-            return Ok(Some(number));
-        }
-        let shared = self.shared;
-        let mut book = shared.book.lock(self.rt);
-        self.known
-            .learn(shared.alloc, shared.ready, &shared.cache, &mut book, key)
-    }
-
     /// The choice for a key by its rows. Only where none covers the world it takes the lock.
     fn search(&mut self, key: &Key, number: u32, world: u32) -> Result<Choice, AllocError>
         requires named { IsNamed self.old.known.view.seen number key.now }
@@ -73,17 +57,16 @@ impl<'s, 'p, 'r, N: Naming, R: Wait> Live<'s, 'p, 'r, N, R> {
         }
     }
 
-    /// The choice for a key that the book has no place for.
-    fn choose(&mut self, key: &Key, world: u32) -> Result<Choice, AllocError>
+    /// The choice for a key that the task has not met. It takes the lock once.
+    fn ask(&mut self, key: &Key, world: u32) -> Result<Choice, AllocError>
         requires key { IsKeyOf N.about.program.value key.now }
-        requires full { N.about.keys ≤ length (keys_of self.old.known.view.seen) }
         requires world { IsWorld world (world_of self.old.known.view.seen) }
         ensures asked { Asked (knows_of N.about self.old.known) (knows_of N.about self.new.known) }
         ensures right { IfOk result (λ choice. IsRight (knows_of N.about self.new.known) key.now.function key.now.types world choice) }
     {
         let shared = self.shared;
         let mut book = shared.book.lock(self.rt);
-        self.known.choose(
+        self.known.ask(
             shared.alloc,
             shared.ready,
             &shared.cache,
@@ -120,10 +103,9 @@ impl<'s, 'p, 'r, N: Naming, R: Wait> Dispatcher for Live<'s, 'p, 'r, N, R> {
     }
 
     fn select(&mut self, key: Key, world: u32) -> Result<Choice, AllocError> {
-        let number = self.number(&key)?;
-        match number {
+        match self.known.number_of(&key) {
             Some(number) => self.search(&key, number, world),
-            None => self.choose(&key, world),
+            None => self.ask(&key, world),
         }
     }
 

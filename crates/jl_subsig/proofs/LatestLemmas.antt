@@ -23,7 +23,6 @@ use Rattle.jl_calculus.specs.Definitions.{sig_of, method_of, methods_of, worlds,
 use Rattle.jl_subsume.specs.Scoped.{IsScoped}
 use Rattle.jl_subsig.specs.Side.{Every}
 use Rattle.jl_subsig.proofs.ReflexiveLemmas.{reflexive}
-use Rattle.jl_subsig.proofs.PickLemmas.{GoesOn, goes_over, goes_more, slice_end}
 use Rattle.jl_subsig.specs.Latest.{HasSameSig, AreLatest, latest_end, latest_more, replaced}
 
 -- ---- worlds in order
@@ -239,19 +238,3 @@ module _ (P : Program) where
 
     pub same_chosen : (c : Choice) → Chooses (types_of P) (methods_of P some) ts c → Chooses (types_of P) (methods_of P all) ts c
     same_chosen = same_choice (types_of P) (methods_of P some) (methods_of P all) ts to from
-
--- ---- a step of the loop
-
-module _ (P : Program) (defs those : List Def) (i : ℕ) (l : i < length defs) where
-  abbrev this : Def
-  this = get_or defs i (record { world = 0; site = 0 })
-
-  pub goes_replaced : GoesOn (AreLatest P) defs those i → (e : Def) × Contains (take (length defs - (i + 1)) (drop (i + 1) defs)) e × HasSameSig P this e → GoesOn (AreLatest P) defs those (i + 1)
-  goes_replaced goes (e, c, s) =
-      goes_over (AreLatest P) defs those i (record { world = 0; site = 0 }) l goes (λ rest p. replaced this e (drop (i + 1) defs) rest (subst (λ ds. Contains ds e) (slice_end (i + 1) defs) c) s p)
-
-  pub goes_made_again : GoesOn (AreLatest P) defs those i → (e : Def) × Contains (take (length defs - (i + 1)) (drop (i + 1) defs)) e × (e.site ≡ this.site) → GoesOn (AreLatest P) defs those (i + 1)
-  goes_made_again goes (e, c, site) = goes_replaced goes (e, c, ap (λ n. sig_of (slice_get P.sites n)) (sym site))
-
-  pub goes_latest : GoesOn (AreLatest P) defs those i → (more : List Def) → more ≡ those ++ this ∷ [] → GoesOn (AreLatest P) defs more (i + 1)
-  goes_latest goes more m = goes_more (AreLatest P) defs those i (record { world = 0; site = 0 }) l goes (λ rest p. latest_more this (drop (i + 1) defs) rest p) more m

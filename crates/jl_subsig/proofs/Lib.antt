@@ -53,3 +53,4 @@ pub mod PickLemmas
 pub mod LatestLemmas
 pub mod StandingLemmas
 pub mod StandingChoice
+pub mod BackLemmas

@@ -20,7 +20,7 @@ use Rattle.jl_calculus.specs.Definitions.{sig_of, methods_of, worlds, HasSite, A
 use Rattle.jl_sig.specs.Readied.{sigs_of, place_sigs}
 use Rattle.jl_subsig.specs.Latest.{AreLatest, HasSameSig}
 use Rattle.jl_subsig.specs.Side.{Every}
-use Rattle.jl_subsig.specs.Standing.{sig_of_place, AreSameSigs, IsLeft, HaveLatest, AreLeftFor, ChoosesLeft, HasLeftAt, IsLastDeletion, AreLeft, left_end, left_more, taken_away, IsRepeated, AreLastOfPlaces, last_end, last_more, repeated}
+use Rattle.jl_subsig.specs.Standing.{sig_of_place, AreSameSigs, IsLeft, HaveLatest, AreLeftFor, ChoosesLeft, HasLeftAt, IsLastDeletion, TakesAway, AreLeft, left_end, left_more, taken_away, IsRepeated, AreLastOfPlaces, last_end, last_more, repeated}
 use Rattle.jl_subsig.proofs.DefinitionLemmas.{sig_at, place_sig_at}
 use Rattle.jl_subsig.proofs.ReflexiveLemmas.{reflexive}
 use Rattle.jl_subsig.proofs.PickLemmas.{GoesOn, goes_over, goes_more, slice_end}
@@ -331,29 +331,24 @@ module _ (P : Program) (dels some : List Del) (q : AreLastOfPlaces dels some) wh
   left_whole ds es (left_more d world xs ys k l p) = left_more d world xs ys (whole_last d.site world k) l (left_whole xs ys p)
   left_whole ds es (taken_away d world xs ys k l p) = taken_away d world xs ys (whole_last d.site world k) l (left_whole xs ys p)
 
-  to_whole : (d : Def) → IsLeft P some d → IsLeft P dels d
-  to_whole d left e c t =
-      let o = last_covers dels some q e c in
-      let low = o.later in
-      let past = t.later in
-      left o.by o.stays (record { later = omega (arith, low, past); same = subst (AreSameSigs P d.site) (sym o.place_is) t.same })
-
-  module _ (place : ℕ) (defs latest : List Def) (p : AreLatest P defs latest) where
-    pub found_whole : HasLeftAt P some latest place → HasLeftAt P dels defs place
-    found_whole h = record { def = h.def; stands = latest_there P defs latest p h.def h.stands; is_left = to_whole h.def h.is_left; same = h.same }
-
-    pub found_latest : IsStrictlyIncreasing (worlds defs) → HasLeftAt P dels defs place → HasLeftAt P some latest place
-    found_latest rises h =
-        let r = latest_covers P 0 defs latest (rises_of (worlds defs) rises) p h.def h.stands in
-        let left = left_later P dels h.def r.by r.same r.later h.is_left in
-        record {
-          def = r.by;
-          stands = r.stays;
-          is_left = λ e c t. left e (last_there dels some q e c) t;
-          same = subst (λ (w : Written). SameSignature (types_of P) w (sig_of_place (slice_get P.deletes place))) r.same h.same;
-        }
-
 -- ---- steps of the loops
+
+rises_there : (low : ℕ) (ds : List Def) → RisesFrom low (worlds ds) → (e : Def) → Contains ds e → low ≤ e.world
+rises_there low [] h e c = absurd (none_in e c)
+rises_there low (d ∷ ds) h e c = by (first_or_later d e ds c) (rises_there (d.world + 1) ds h.1 e)
+  where
+    by : (d ≡ e) ⊎ Contains ds e → (Contains ds e → d.world + 1 ≤ e.world) → low ≤ e.world
+    by (inl q) more = subst (λ (z : Def). low ≤ z.world) q h.0
+    by (inr k) more =
+        let m = more k in
+        let l = h.0 in
+        omega (arith, m, l)
+
+-- each of the rest is no earlier
+rises_after : (low : ℕ) (ds : List Def) (i : ℕ) → RisesFrom low (worlds ds) → i < length ds → (e : Def) → Contains (drop (suc i) ds) e → (get_or ds i (record { world = 0; site = 0 })).world ≤ e.world
+rises_after low [] i h l e c = absurd (omega (arith, l))
+rises_after low (d ∷ ds) zero h l e c = let m = rises_there (d.world + 1) ds h.1 e c in omega (arith, m)
+rises_after low (d ∷ ds) (suc i) h l e c = rises_after (d.world + 1) ds i h.1 (omega (arith, l)) e c
 
 module _ (P : Program) (site : ℕ) (dels : List Del) where
   pub last_of_none : IsLastDeletion P [] site 0
@@ -404,6 +399,30 @@ module _ (P : Program) (site : ℕ) (dels : List Del) where
             by (inl k) = let m = h.last e k s in omega (arith, m, later)
             by (inr q) = let w : del.world ≡ e.world = ap (λ (z : Del). z.world) q in omega (arith, w)
 
+module _ (P : Program) (d : Def) (dels : List Del) where
+  pub left_of_none : IsLeft P [] d
+  left_of_none e c t = absurd (none_in e c)
+
+  module _ (i : ℕ) (l : i < length dels) where
+    abbrev this : Del
+    this = get_or dels i (record { world = 0; place = 0 })
+
+    -- the next does not take it away
+    pub left_stays_on : IsLeft P (take i dels) d → (TakesAway P this d → ⊥) → IsLeft P (take (i + 1) dels) d
+    left_stays_on h other e c t = by (Contains-append_cases (take i dels) (this ∷ []) e (subst (λ es. Contains es e) (take_more dels i (record { world = 0; place = 0 }) l) c))
+      where
+        by : Contains (take i dels) e ⊎ Contains (this ∷ []) e → ⊥
+        by (inl k) = h e k t
+        by (inr k) = one (first_or_later this e [] k)
+          where
+            one : (this ≡ e) ⊎ Contains [] e → ⊥
+            one (inl q) = other (subst (λ (z : Del). TakesAway P z d) (sym q) t)
+            one (inr n) = none_in e n
+
+    -- the next does
+    pub left_ends : d.world < this.world → AreSameSigs P d.site this.place → IsLeft P dels d → ⊥
+    left_ends later same left = left this (Contains-get_or dels i (record { world = 0; place = 0 }) l) (record { later = later; same = same })
+
 module _ (P : Program) (dels : List Del) (defs those : List Def) (i : ℕ) (l : i < length defs) where
   abbrev def : Def
   def = get_or defs i (record { world = 0; site = 0 })
@@ -428,8 +447,42 @@ module _ (P : Program) (dels : List Del) (place : ℕ) where
       by (inl q) = absurd (other (subst (λ (z : Def). IsLeft P dels z × AreSameSigs P z.site place) (sym q) (h.is_left, h.same)))
       by (inr c) = record { def = h.def; stands = c; is_left = h.is_left; same = h.same }
 
-  pub none_left : (defs : List Def) (i : ℕ) → length defs ≤ i → HasLeftAt P dels (drop i defs) place → ⊥
-  none_left defs i l h = none_in h.def (subst (λ ds. Contains ds h.def) (drop_all i defs l) h.stands)
+  -- none of the rest is found
+  abbrev pub NoneFrom : List Def → ℕ → Type 0
+  NoneFrom defs k = HasLeftAt P dels (drop k defs) place → ⊥
+
+  pub none_at_end : (defs : List Def) (k : ℕ) → length defs ≤ k → NoneFrom defs k
+  none_at_end defs k l h = none_in h.def (subst (λ ds. Contains ds h.def) (drop_all k defs l) h.stands)
+
+  pub none_over : (defs : List Def) (i : ℕ) → i < length defs → ((IsLeft P dels (get_or defs i (record { world = 0; site = 0 })) × AreSameSigs P (get_or defs i (record { world = 0; site = 0 })).site place) → ⊥)
+      → NoneFrom defs (i + 1) → NoneFrom defs i
+  none_over defs i l other none h = none (left_over defs i l other h)
+
+  -- one whose site is defined again among the rest is not found either
+  pub none_again : (defs : List Def) (i : ℕ) → i < length defs → IsStrictlyIncreasing (worlds defs)
+      → (e : Def) × Contains (take (length defs - (i + 1)) (drop (i + 1) defs)) e × (e.site ≡ (get_or defs i (record { world = 0; site = 0 })).site) → NoneFrom defs (i + 1) → NoneFrom defs i
+  none_again defs i l rises (e, c, site) none h = by (first_or_later this h.def (drop (i + 1) defs) (subst (λ ds. Contains ds h.def) (drop_more defs i (record { world = 0; site = 0 }) l) h.stands))
+    where
+      this : Def
+      this = get_or defs i (record { world = 0; site = 0 })
+
+      again : Contains (drop (i + 1) defs) e
+      again = subst (λ ds. Contains ds e) (slice_end (i + 1) defs) c
+
+      alike : HasSameSig P this e
+      alike = ap (λ n. sig_of (slice_get P.sites n)) (sym site)
+
+      later : this.world ≤ e.world
+      later =
+          let next : i + 1 ≡ suc i = omega arith in
+          rises_after 0 defs i (rises_of (worlds defs) rises) l e (subst (λ n. Contains (drop n defs) e) next again)
+
+      by : (this ≡ h.def) ⊎ Contains (drop (i + 1) defs) h.def → ⊥
+      by (inl q) =
+          let left = left_later P dels this e alike later (subst (IsLeft P dels) (sym q) h.is_left) in
+          let same = subst (λ (w : Written). SameSignature (types_of P) w (sig_of_place (slice_get P.deletes place))) alike (subst (λ (z : Def). AreSameSigs P z.site place) (sym q) h.same) in
+          none (record { def = e; stands = again; is_left = left; same = same })
+      by (inr k) = none (record { def = h.def; stands = k; is_left = h.is_left; same = h.same })
 
 module _ (dels those : List Del) (i : ℕ) (l : i < length dels) where
   abbrev next : Del

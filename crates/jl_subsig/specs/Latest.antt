@@ -1,5 +1,5 @@
 -- The definitions that stay when a later one has the same signature.
-use Rattle.std.specs.Prelude.{◌≡◌, List, [], ◌∷◌, slice_get}
+use Rattle.std.specs.Prelude.{ℕ, ◌≡◌, Bool, false, List, [], ◌∷◌, length, get_or, slice_get}
 use Rattle.std.specs.List.{Contains}
 use Rattle.jl_program.specs.declared.tree.Program.{Program}
 use Rattle.jl_calculus.specs.declared.history.Def.{Def}
@@ -15,3 +15,8 @@ module _ (P : Program) where
     latest_end : AreLatest [] []
     latest_more : (d : Def) (ds es : List Def) → AreLatest ds es → AreLatest (d ∷ ds) (d ∷ es)
     replaced : (d e : Def) (ds es : List Def) → Contains ds e → HasSameSig P d e → AreLatest ds es → AreLatest (d ∷ ds) es
+
+-- so many flags, none of which is set
+pub record AreNone (count : ℕ) (flags : List Bool) : Type 0 where
+  pub long : length flags ≡ count
+  pub none : (n : ℕ) → get_or flags n false ≡ false

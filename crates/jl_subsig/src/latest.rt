@@ -1,11 +1,11 @@
-//! The latest definitions of each signature, told by how the signatures are written.
+//! The latest definition of each site, and whether signatures are written alike.
 
 ghost use Rattle.std.specs.Prelude.{◌≡◌, IsTrue, IfOk};
 ghost use Rattle.std.specs.List.{Contains};
 ghost use Rattle.jl_program.specs.declared.tree.Program.{Program};
 ghost use Rattle.jl_calculus.specs.declared.history.Def.{Def as D};
 ghost use Rattle.jl_calculus.specs.Definitions.{HasSite};
-ghost use Rattle.jl_subsig.specs.Latest.{AreLatest, HasSameSig};
+ghost use Rattle.jl_subsig.specs.Latest.{AreLatest, AreNone};
 ghost use Rattle.jl_subsig.specs.Side.{Every};
 
 use jl_calculus::history::Def;
@@ -37,67 +37,34 @@ pub fn is_same_sig(a: &Written, b: &Written) -> bool
         && are_same_bounds(a.vars.as_slice(), b.vars.as_slice())
 }
 
-/// Whether two definitions have signatures that are written alike.
-fn has_same_sig(ready: &Ready, a: Def, b: Def) -> bool
-    requires first { HasSite ready.now a }
-    requires second { HasSite ready.now b }
-    ensures { IsTrue result → HasSameSig ready.now a b }
+/// A flag for each of so many sites, none of which is set.
+fn no_flags(alloc: Global, count: usize) -> Result<Vec<bool>, AllocError>
+    ensures { IfOk result (λ flags. AreNone count flags.items) }
 {
-    let sites = ready.program().sites.as_slice();
-    a.site == b.site || is_same_sig(&sites[a.site as usize].sig, &sites[b.site as usize].sig)
+    let mut flags = Vec::new(alloc);
+    flags.resize(count, false)?;
+    Ok(flags)
 }
 
-/// Whether a later definition has a signature that is written alike, and so replaces this one.
-fn is_replaced(ready: &Ready, def: Def, later: &[Def]) -> bool
-    requires first { HasSite ready.now def }
-    requires second { Every (HasSite ready.now) later.now }
-    ensures { IsTrue result → (e : D) × Contains later.now e × HasSameSig ready.now def e }
-{
-    for other in later {
-        if has_same_sig(ready, def, *other) {
-            return true;
-        }
-    }
-    false
-}
-
-/// The definitions without those that a later one of the same signature replaces.
+/// The definitions without those whose site is defined again later, in their order. The walk begins at the last one, and a flag for each
+/// site tells whether it was met, so each definition costs the same, however many there are.
 pub(crate) fn latest(alloc: Global, ready: &Ready, defs: &[Def]) -> Result<Vec<Def>, AllocError>
     requires sites { Every (HasSite ready.now) defs.now }
     ensures { IfOk result (λ those. AreLatest ready.now defs.now those.items) }
 {
+    let mut met = no_flags(alloc, ready.program().sites.len())?;
     let mut those = Vec::new(alloc);
-    for (i, def) in defs.iter().enumerate() {
-        if is_replaced(ready, *def, &defs[i + 1..]) {
+    let mut left = defs.len();
+    while left > 0 {
+        left -= 1;
+        let def = defs[left];
+        let site = def.site as usize;
+        if met[site] {
             continue;
         }
-        those.push(*def)?;
+        met[site] = true;
+        those.push(def)?;
     }
-    Ok(those)
-}
-
-/// Whether a later definition is of the same site.
-fn is_made_again(def: Def, later: &[Def]) -> bool
-    ensures { IsTrue result → (e : D) × Contains later.now e × (e.site ≡ def.site) }
-{
-    for other in later {
-        if other.site == def.site {
-            return true;
-        }
-    }
-    false
-}
-
-/// The definitions without those whose site is defined again later. No signature is looked at.
-pub(crate) fn latest_of_sites(alloc: Global, defs: &[Def]) -> Result<Vec<Def>, AllocError>
-    ensures { IfOk result (λ those. (P : Program) → AreLatest P defs.now those.items) }
-{
-    let mut those = Vec::new(alloc);
-    for (i, def) in defs.iter().enumerate() {
-        if is_made_again(*def, &defs[i + 1..]) {
-            continue;
-        }
-        those.push(*def)?;
-    }
+    those.reverse();
     Ok(those)
 }

@@ -24,4 +24,4 @@ pub use definitions::choose;
 pub use latest::is_same_sig;
 pub use order::sig_sub;
 pub use row::row_below;
-pub use standing::{choose_standing, has_standing};
+pub use standing::{choose_standing, has_standing, is_same_at};

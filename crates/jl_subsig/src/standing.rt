@@ -2,6 +2,7 @@
 
 ghost use Rattle.std.specs.Prelude.{◌≡◌, ◌<◌, IsTrue, IfOk, List, length, slice_get};
 ghost use Rattle.std.specs.Bool.{Decides};
+ghost use Rattle.std.specs.List.{Contains};
 ghost use Rattle.std.specs.List.Sorted.{IsStrictlyIncreasing};
 ghost use Rattle.jl_model.specs.declared.ty.Ty.{Ty};
 ghost use Rattle.jl_calculus.specs.declared.history.Def.{Def as D};
@@ -10,7 +11,7 @@ ghost use Rattle.jl_subsig.specs.Side.{Every};
 ghost use Rattle.jl_subsig.specs.Standing.{sig_of_place, HasPlace, AreSameSigs, IsLeft, HaveLatest, ChoosesLeft, HasLeftAt, IsLastDeletion, AreLeft, IsRepeated, AreLastOfPlaces};
 
 use crate::definitions::choose;
-use crate::latest::{is_same_sig, latest, latest_of_sites};
+use crate::latest::{is_same_sig, latest};
 use crate::order::sig_sub;
 use jl_calculus::history::{Def, Del};
 use jl_program::choice::Choice;
@@ -30,7 +31,7 @@ fn is_written_alike(ready: &Ready, site: u32, place: u32) -> bool
 }
 
 /// Whether a site and a deletion place have the same signature. Two of different lengths may: signatures without rows are all the same.
-fn is_same_at(alloc: Global, ready: &Ready, site: u32, place: u32) -> Result<bool, AllocError>
+pub fn is_same_at(alloc: Global, ready: &Ready, site: u32, place: u32) -> Result<bool, AllocError>
     requires site { site < length ready.now.sites }
     requires place { place < length ready.now.deletes }
     ensures { IfOk result (λ yes. Decides yes (AreSameSigs ready.now site place)) }
@@ -138,8 +139,8 @@ fn find_left(
 
 /// The choice among the definitions, in their order, that no later deletion takes away. All of them apply to a call. Each list may be
 /// whole, or have the latest of each site or of each place alone: what takes the latest of a site away takes the earlier ones too.
-/// The choice is that among all that are left. Signatures that are written alike are compared once, and deletions of one place
-/// count once, so that what is made again and again costs little.
+/// The choice is that among all that are left. Of each site the latest definition counts and of each place the latest deletion, so
+/// that what is made again and again costs little.
 pub fn choose_standing(
     alloc: Global,
     ready: &Ready,
@@ -156,6 +157,24 @@ pub fn choose_standing(
     let those = find_left(alloc, ready, latest, dels)?;
     let choice = choose(alloc, ready, those.as_slice())?;
     Ok(choice)
+}
+
+/// Whether no later deletion takes a definition away. Deletions that are no later are not compared.
+fn is_left(alloc: Global, ready: &Ready, def: Def, dels: &[Del]) -> Result<bool, AllocError>
+    requires site { HasSite ready.now def }
+    requires places { Every (HasPlace ready.now) dels.now }
+    ensures { IfOk result (λ yes. Decides yes (IsLeft ready.now dels.now def)) }
+{
+    for del in dels {
+        if del.world <= def.world {
+            continue;
+        }
+        let is_same = is_same_at(alloc, ready, def.site, del.place)?;
+        if is_same {
+            return Ok(false);
+        }
+    }
+    Ok(true)
 }
 
 /// Whether a definition has the signature of a deletion place, and no later deletion takes it away.
@@ -175,37 +194,30 @@ fn is_left_at(
     if !is_same {
         return Ok(false);
     }
-    let last = last_deletion(alloc, ready, def.site, dels)?;
-    if def.world < last {
-        return Ok(false);
-    }
-    Ok(true)
+    is_left(alloc, ready, def, dels)
 }
 
-/// Whether one of the definitions that no later deletion takes away has the signature of a deletion place.
-fn has_left(
-    alloc: Global,
-    ready: &Ready,
-    place: u32,
-    defs: &[Def],
-    dels: &[Del],
-) -> Result<bool, AllocError>
-    requires place { place < length ready.now.deletes }
-    requires sites { Every (HasSite ready.now) defs.now }
-    requires places { Every (HasPlace ready.now) dels.now }
-    ensures { IfOk result (λ yes. Decides yes (HasLeftAt ready.now dels.now defs.now place)) }
+/// How many of the next definitions are asked whether one is of the same site. All of them would cost the square of their number.
+const NEXT_DEFINITIONS: usize = 64;
+
+/// Whether one of the next definitions is of the same site.
+fn is_made_again(def: Def, later: &[Def]) -> bool
+    ensures { IsTrue result → (e : D) × Contains later.now e × (e.site ≡ def.site) }
 {
-    for def in defs {
-        let is_left = is_left_at(alloc, ready, place, *def, dels)?;
-        if is_left {
-            return Ok(true);
+    for (i, other) in later.iter().enumerate() {
+        if i == NEXT_DEFINITIONS {
+            return false;
+        }
+        if other.site == def.site {
+            return true;
         }
     }
-    Ok(false)
+    false
 }
 
-/// Whether one of the definitions, in their order, that no later deletion takes away has the signature of a deletion place. Each list
-/// may be whole, or have the latest of each site or of each place alone.
+/// Whether one of the definitions, in their order, that no later deletion takes away has the signature of a deletion place. The newest
+/// are asked first, so that one that is there is mostly found at once. Each list may be whole, or have the latest of each site or of
+/// each place alone.
 pub fn has_standing(
     alloc: Global,
     ready: &Ready,
@@ -219,8 +231,16 @@ pub fn has_standing(
     requires ordered { IsStrictlyIncreasing (worlds defs.now) }
     ensures { IfOk result (λ yes. Decides yes (HasLeftAt ready.now dels.now defs.now place)) }
 {
-    let latest = latest_of_sites(alloc, defs)?;
-    let last = last_of_places(alloc, dels)?;
-    let is_standing = has_left(alloc, ready, place, latest.as_slice(), last.as_slice())?;
-    Ok(is_standing)
+    for past in 0..defs.len() {
+        let at = defs.len() - 1 - past;
+        let def = defs[at];
+        if is_made_again(def, &defs[at + 1..]) {
+            continue;
+        }
+        let is_left = is_left_at(alloc, ready, place, def, dels)?;
+        if is_left {
+            return Ok(true);
+        }
+    }
+    Ok(false)
 }

@@ -23,3 +23,4 @@ pub mod Skipping
 pub mod KnownLemmas
 pub mod KnowingSteps
 pub mod KeptLemmas
+pub mod NumberLemmas

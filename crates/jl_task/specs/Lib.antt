@@ -12,3 +12,5 @@ pub mod Asks
 pub mod Known
 pub mod Fits
 pub mod Kept
+pub mod Numbers
+pub mod Remembered

@@ -2,6 +2,7 @@
 
 ghost use Rattle.std.specs.Prelude.{◌≡◌, IfOk};
 
+use crate::numbers::{NumberSite, find_number, keep_number, no_numbers};
 use crate::table::{FIRST_PLACES, Kept, empty_table, find_by_values, keep};
 use crate::{Dispatcher, Recall, Recalled};
 use jl_calculus::history::{DefineFault, DeleteFault, FetchFault, Outcome, Seen, SpawnFault};
@@ -15,17 +16,18 @@ use std::marker::Model;
 
 /// A dispatcher over another one, which is told what to remember: methods that were chosen, each for the world in which it was
 /// asked. A call that was answered before in its world is found again in a table, by the numbers of its types, and compared in
-/// place; so it takes no memory. The table has few places at first, and grows as calls come to the places of others. Contracts
+/// place; so it takes no memory. An operation of the prelude on two numbers has a place of its own. The table has few places at first, and grows as calls come to the places of others. Contracts
 /// see the other dispatcher.
 #[derive(Drop)]
 pub struct Cached<D: Dispatcher + Drop> {
     alloc: Global,
     inner: D,
     table: Vec<Option<Kept>>,
+    numbers: Vec<NumberSite>,
 }
 
 impl<D: Dispatcher + Drop> Model for Cached<D> {
-    ghost use Rattle.jl_task.specs.Kept.{AreKept};
+    ghost use Rattle.jl_task.specs.Remembered.{AreRemembered};
 
     ghost Value = { D };
 
@@ -33,7 +35,7 @@ impl<D: Dispatcher + Drop> Model for Cached<D> {
 
     ghost view = { λ a. a.inner };
 
-    ghost invariant = { λ a. AreKept (D.knows a.inner) a.table.items };
+    ghost invariant = { λ a. AreRemembered (D.knows a.inner) a.table.items a.numbers.items };
 }
 
 impl<D: Dispatcher + Drop> Cached<D> {
@@ -42,10 +44,12 @@ impl<D: Dispatcher + Drop> Cached<D> {
         ensures { IfOk result (λ cached. cached ≡ inner) }
     {
         let table = empty_table(alloc, FIRST_PLACES)?;
+        let numbers = no_numbers(alloc)?;
         Ok(Cached {
             alloc,
             inner,
             table,
+            numbers,
         })
     }
 
@@ -113,7 +117,13 @@ impl<D: Dispatcher + Drop> Recall for Cached<D> {
         }
     }
 
+    #[inline(always)]
+    fn recall_numbers(&self, function: u32, world: u32) -> Option<u32> {
+        find_number(&self.numbers, function, world)
+    }
+
     fn keep(&mut self, key: Key, world: u32, site: u32, statics: Tys) {
+        keep_number(&mut self.numbers, &key, world, site);
         let kept = Kept {
             key,
             world,

@@ -11,6 +11,7 @@ ghost use Rattle.jl_calculus.specs.Legal.{IsKeyOf};
 ghost use Rattle.jl_calculus.specs.ValidStart.{IsValidStart};
 ghost use Rattle.jl_calculus.specs.ValidHistory.{IsValidOutcome};
 ghost use Rattle.jl_task.specs.Knows.{Knows, Grew, Looked, Asked, Refused, IsRight, IsMethod, Defined, Deleted, IsAbsentNow, IsMade, WorldsFull, IsFull, Spawned, TasksFull, AreTasksFull, Fetched, IsNotDone};
+ghost use Rattle.jl_task.specs.Numbers.{TakesNumbers};
 ghost use Rattle.jl_task.specs.Worlds.{IsWorld};
 
 use jl_calculus::history::{DefineFault, DeleteFault, FetchFault, Outcome, Seen, SpawnFault};
@@ -109,6 +110,10 @@ pub trait Recall: Dispatcher {
     /// The method that was chosen for a function, arguments and a world.
     fn recall(&self, function: u32, values: &[Value], world: u32) -> Option<Recalled<'_>>
         ensures { MatchOption result (Unit {0}) (λ found. IsMethod (Self.knows self.now) function (map type_of values.now) world found.site found.statics.now) };
+
+    /// The operation of the prelude that was chosen for a function, two numbers and a world.
+    fn recall_numbers(&self, function: u32, world: u32) -> Option<u32>
+        ensures { MatchOption result (Unit {0}) (λ site. TakesNumbers (Self.knows self.now) function world site) };
 
     /// Remembers the method that was chosen.
     fn keep(&mut self, key: Key, world: u32, site: u32, statics: Tys)

@@ -6,6 +6,7 @@
 
 mod cached;
 pub mod dispatcher;
+mod numbers;
 pub mod point;
 mod table;
 

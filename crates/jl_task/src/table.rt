@@ -140,7 +140,7 @@ fn place_of(places: usize, key: &Key) -> usize {
 }
 
 /// Whether a type is the nominal one of this number without arguments.
-fn is_named(ty: &Ty, number: u32) -> bool
+pub(crate) fn is_named(ty: &Ty, number: u32) -> bool
     ensures { IsTrue result → named number ≡ ty.now }
 {
     match ty {
@@ -163,6 +163,22 @@ fn is_type_of_other(ty: &Ty, value: &Value) -> bool
     }
 }
 
+/// Whether two types are the same. Those of most structs have no arguments, and need no call.
+#[inline(always)]
+fn is_same_type(ty: &Ty, found: &Ty) -> bool
+    ensures { IsTrue result → found.now ≡ ty.now }
+{
+    match found {
+        Ty::Nominal(number, arguments) => {
+            if arguments.len() == 0 {
+                return is_named(ty, *number);
+            }
+            same(found, ty)
+        }
+        _ => same(found, ty),
+    }
+}
+
 /// Whether a type is that of a value.
 #[inline(always)]
 fn is_type_of(ty: &Ty, value: &Value) -> bool
@@ -170,6 +186,7 @@ fn is_type_of(ty: &Ty, value: &Value) -> bool
 {
     match value {
         Value::Int(_) => is_named(ty, INT64),
+        Value::Struct(made) => is_same_type(ty, &made.get().ty),
         _ => is_type_of_other(ty, value),
     }
 }

@@ -1,13 +1,13 @@
 -- Whether a type is below a field's type, form by form.
-use Rattle.std.proofs.Common.{◌≡◌, ◌∙◌, sym, ap, subst, refl, ℕ, zero, suc, ◌+◌, ◌<◌, ◌≤◌, arith, add-one, Bool, true, false, List, [], ◌∷◌, map, length, drop, get_or, inl, inr}
+use Rattle.std.proofs.Common.{◌≡◌, ◌∙◌, sym, ap, subst, refl, ℕ, zero, suc, ◌+◌, ◌<◌, ◌≤◌, arith, add-one, Bool, true, false, List, [], ◌∷◌, map, length, drop, get_or, nat_eq, ◌==◌, None, Some, inl, inr}
 use Rattle.std.specs.List.{list_all}
 use Rattle.jl_model.specs.declared.ty.Ty.{Ty}
 use Rattle.jl_model.specs.declared.ty.Ty.TheOpen.{Tuple}
-use Rattle.jl_model.specs.declared.ty.Ty.TheViews.{out-Ty, outs-Union, outs-Tuple}
+use Rattle.jl_model.specs.declared.ty.Ty.TheViews.{out-Ty, outs-Union, outs-Tuple, outs-Nominal}
 use Rattle.jl_model.specs.declared.ty.Ty.TheViews as V
 use Rattle.jl_model.specs.declared.ty.Ty.TheVariants as W
 use Rattle.jl_model.specs.declared.ty.Decl.{Decl}
-use Rattle.jl_model.specs.Ancestors.{table_of}
+use Rattle.jl_model.specs.Ancestors.{table_of, up_in}
 use Rattle.jl_model.specs.Signature.{Both, both_more}
 use Rattle.jl_model.specs.Subtype.{Table, opaque, put, at, Below}
 use Rattle.jl_model.specs.Members.{BelowSome}
@@ -20,7 +20,7 @@ use Rattle.jl_model.proofs.NormalLemmas.{single_alts}
 use Rattle.jl_model.proofs.CountLemmas.{nodes_all}
 use Rattle.jl_model.proofs.BelowLemmas.{some_below, below_some, below_any}
 use Rattle.jl_types.specs.Ground.{IsGround, AreSingles, AllExact, Lower}
-use Rattle.jl_types.proofs.GroundLemmas.{Tells, own_case, no_nominal, nominal_exact, nominal_args, ground_lower}
+use Rattle.jl_types.proofs.GroundLemmas.{Tells, own_case, far_case, none_case, no_nominal, nominal_exact, nominal_args, ground_lower}
 use Rattle.jl_types.proofs.TableLemmas.{get-past}
 use Rattle.jl_value.proofs.TupleLemmas.{One, both_tuple, below_tuple}
 
@@ -93,6 +93,29 @@ no_name ds h l m ys g s u d = (
   (λ c. let f : false ≡ true = c in cc),
   (λ b. absurd (no_nominal ds 0 (V.Nominal m ys) l m ys refl u (single_lower ds h 0 l g s) d b)),
 )
+
+-- a nominal type without arguments is above one of another name where it is among its ancestors
+no_arguments : (xs zs : List Ty) (r : Bool) → r ≡ nat_eq (length zs) 0 → Tells r (map (put (at xs)) zs ≡ [])
+no_arguments xs [] r e = ((λ c. refl), (λ b. e))
+no_arguments xs (z ∷ zs) r e = (
+  (λ c. let f : nat_eq (length (z ∷ zs)) 0 ≡ true = sym e ∙ c in let g : length (z ∷ zs) ≡ 0 = grind (arith, f) in absurd (omega (arith, g))),
+  (λ b. cc),
+)
+
+pub nothing_in : (ts : List Ty) → (length ts == 0) ≡ true → ts ≡ []
+nothing_in [] e = refl
+nothing_in (t ∷ ts) e = let f : length (t ∷ ts) ≡ 0 = grind (arith, e) in absurd (omega (arith, f))
+
+pub plain_above : (ds : List Decl) → Declared ds → (k m : ℕ) (xs zs : List Ty) (r : Bool) → (k ≡ m → ⊥) → up_in ds k m ≡ Some zs → IsGround ds (V.Nominal k xs) → r ≡ nat_eq (length zs) 0
+    → Tells r (Below (table_of ds) opaque (V.Nominal k xs) (V.Nominal m []))
+plain_above ds h k m xs zs r d u g e =
+    let l = V.Nominal k xs in
+    let w = nodes_all [] in
+    let exact : AllExact (table_of ds) w xs = nominal_exact ds w l k xs xs refl refl (single_lower ds h w l g (ap no_union (outs-Nominal k xs))) w (omega arith) in
+    far_case ds h k m xs [] zs r d u exact none (no_arguments xs zs r e)
+
+pub none_above : (ds : List Decl) → Declared ds → (k m : ℕ) (xs : List Ty) → (k ≡ m → ⊥) → up_in ds k m ≡ None → Tells false (Below (table_of ds) opaque (V.Nominal k xs) (V.Nominal m []))
+none_above ds h k m xs d u = ((λ c. let f : false ≡ true = c in cc), (λ b. absurd (none_case ds h k m xs [] d u b)))
 
 pub name_case : (ds : List Decl) (l t : Ty) (k : ℕ) (ts vs xs : List Ty) (r : Bool) → t ≡ V.Nominal k ts → vs ≡ ts → Tells r (Below (table_of ds) opaque l (V.Nominal k (map (put (at xs)) vs))) → Tells r (Below (table_of ds) opaque l (put (at xs) t))
 name_case ds l t k ts vs xs r e f h =

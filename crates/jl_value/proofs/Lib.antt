@@ -1,4 +1,5 @@
 pub mod ValueLemmas
+pub mod ShareLemmas
 pub mod TupleLemmas
 pub mod SettledLemmas
 pub mod FieldLemmas

@@ -1,7 +1,7 @@
 //! Whether values are of their fields' types. The type of a value is concrete, so that a union is taken member by member and a
 //! tuple part by part.
 
-ghost use Rattle.std.specs.Prelude.{◌≡◌, IsTrue, ◌↔◌, IfOk, map};
+ghost use Rattle.std.specs.Prelude.{◌≡◌, IsTrue, ◌↔◌, IfOk, [], map};
 ghost use Rattle.jl_model.specs.declared.ty.Ty.TheViews as V;
 ghost use Rattle.jl_model.specs.Ancestors.{table_of};
 ghost use Rattle.jl_model.specs.Members.{BelowSome};
@@ -17,8 +17,22 @@ use jl_types::same::same_all_put;
 use jl_types::{Table, ground_sub};
 use std::alloc::{AllocError, Global};
 
+/// Whether a nominal type is below one of another name that has no arguments: whether that is among its ancestors.
+fn is_of_plain(table: &Table, of: u32, xs: &[Ty], name: u32) -> bool
+    requires lower { IsGround table.now (V.Nominal of xs.now) }
+    requires upper { IsGround table.now (V.Nominal name []) }
+    requires other { of ≡ name → ⊥ }
+    ensures { IsTrue result ↔ Below (table_of table.now) opaque (V.Nominal of xs.now) (V.Nominal name []) }
+{
+    table.valid();
+    match table.up(of, name) {
+        Some(above) => above.len() == 0,
+        None => false,
+    }
+}
+
 /// Whether a type that is no union is below a nominal type, with the arguments put in. Memory is taken only where the first is
-/// another nominal type: a nominal type is below one of the same name where the arguments are the same.
+/// another nominal type and the second has arguments: a nominal type is below one of the same name where the arguments are the same.
 fn is_of_nominal(
     alloc: Global,
     table: &Table,
@@ -38,6 +52,9 @@ fn is_of_nominal(
         Ty::Nominal(of, xs) => {
             if *of == name {
                 return Ok(same_all_put(parts, args, xs.as_slice()));
+            }
+            if parts.is_empty() {
+                return Ok(is_of_plain(table, *of, xs.as_slice(), name));
             }
             let upper = Ty::Nominal(name, put_all(alloc, parts, args)?);
             Ok(ground_sub(table, lower, &upper))
@@ -95,7 +112,7 @@ fn are_of(
 }
 
 /// Whether a type that is no union is below a field's type, with the arguments put in. Memory is taken only where a nominal
-/// type is compared with one of another name.
+/// type is compared with one of another name that has arguments.
 #[cycle(field)]
 pub fn is_of(
     alloc: Global,

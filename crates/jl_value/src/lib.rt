@@ -10,8 +10,10 @@ mod identity;
 mod kept;
 mod made;
 mod make;
+mod share;
 
 pub use identity::{copy, egal};
 pub use kept::type_of;
 pub use made::MakeFault;
 pub use make::{construct, tuple};
+pub use share::share_env;

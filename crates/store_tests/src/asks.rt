@@ -10,9 +10,9 @@ use jl_cache::Cache;
 use jl_calculus::history::{DefineFault, DeleteFault, FetchFault, SpawnFault};
 use jl_model::ty::{Key, Tys};
 use jl_program::choice::Choice;
+use jl_program::env::Env;
 use jl_program::prelude::{FIRST_WORLD, PRELUDE_SITES};
 use jl_program::tree::Start;
-use jl_program::value::Values;
 use jl_sig::Ready;
 use jl_world::Naming;
 use std::alloc::Global;
@@ -131,7 +131,7 @@ pub(crate) fn make_start(alloc: Global) -> Start
 {
     Start {
         spawn: 0,
-        env: Values::from_vec(Vec::new(alloc)),
+        env: Env::empty(),
         bindings: Tys::empty(),
         world: FIRST_WORLD,
     }

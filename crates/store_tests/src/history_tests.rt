@@ -6,9 +6,10 @@ use jl_calculus::history::{Event, Events, History, Outcome, Record, TraceItem, T
 use jl_calculus::same::Same;
 use jl_model::shared::SharedNode;
 use jl_model::ty::{Key, Ty, Tys};
+use jl_program::env::Env;
 use jl_program::fault::Fault;
 use jl_program::tree::Start;
-use jl_program::value::{Value, Values};
+use jl_program::value::Value;
 use std::alloc::{AllocError, Global};
 
 fn fault(alloc: Global, world: u32) -> Result<Fault, AllocError> {
@@ -22,7 +23,7 @@ fn start(alloc: Global, slot: i64) -> Result<Start, AllocError> {
     Ok(Start {
         spawn: 0,
         world: 15,
-        env: Values::from_vec(env),
+        env: Env::from_vec(alloc, env)?,
         bindings: Tys::empty(),
     })
 }
@@ -122,7 +123,7 @@ fn is_same<T: Same + Drop>(made: Result<T, AllocError>, other: &T) -> Result<boo
 
 fn events_are_copied(alloc: Global, events: &[Event]) -> Result<bool, AllocError> {
     for event in events {
-        if !is_same(event.copy(alloc), event)? {
+        if !is_same(event.copy(), event)? {
             return Ok(false);
         }
     }
@@ -145,7 +146,7 @@ fn history_is_copied(alloc: Global) -> Result<bool, AllocError> {
 
 fn start_is_copied(alloc: Global) -> Result<bool, AllocError> {
     let start = start(alloc, 7)?;
-    let answer = is_same(start.copy(alloc), &start);
+    let answer = is_same(start.copy(), &start);
     drop(start);
     answer
 }

@@ -6,8 +6,8 @@ ghost use Rattle.jl_calculus.specs.declared.history.Event.TheVariants as E;
 ghost use Rattle.jl_model.specs.declared.limits.TheConstants.{MOST_WORLDS};
 ghost use Rattle.jl_calculus.specs.Legal.{IsKeyOf, IsRunning, MayCome};
 ghost use Rattle.jl_calculus.specs.World.{world_of};
-ghost use Rattle.jl_methods.specs.Filters.{ComesWith};
-ghost use Rattle.jl_methods.specs.Indexed.{IsIndexOf, MayBeNoted};
+ghost use Rattle.jl_program.specs.declared.tree.Program.{Program};
+ghost use Rattle.jl_methods.specs.Indexed.{IsIndex, IsIndexOf, MayBeNoted};
 ghost use Rattle.store_tests.specs.Crossed.{begun};
 
 use crate::keys::make_key;
@@ -47,12 +47,14 @@ fn push_dels(told: &mut Vec<u32>, dels: &[Del]) -> Result<(), AllocError> {
 fn told(alloc: Global, index: &Index) -> Result<Vec<u32>, AllocError> {
     let mut told = Vec::new(alloc);
     push_defs(&mut told, index.defs_of(F))?;
-    push_defs(&mut told, index.latest(0))?;
     push_dels(&mut told, index.dels_of(F))?;
     push_dels(&mut told, index.latest_dels_of(F))?;
     push_all(&mut told, index.keys_of(F))?;
     push_all(&mut told, index.rows_of(0))?;
-    push_all(&mut told, index.touching(0))?;
+    push_all(&mut told, index.sites_of(0))?;
+    push_all(&mut told, index.places_of(0))?;
+    push_all(&mut told, index.touched(Change::Def(PRELUDE_SITES)))?;
+    push_all(&mut told, index.touched(Change::Del(0)))?;
     Ok(told)
 }
 
@@ -62,20 +64,19 @@ fn is_told(alloc: Global, index: &Index, before: &[u32]) -> Result<bool, AllocEr
     Ok(after.as_slice() == before)
 }
 
-/// Notes an event, with what comes along with it. Where memory is refused it is seen whether the index is as before.
+/// Notes an event. Where memory is refused it is seen whether the index is as before.
 fn note(
     alloc: Global,
     ready: &Ready,
     index: &mut Index,
     event: &Event,
-    touched: &[u32],
     differs: &mut bool,
 ) -> Result<(), AllocError>
-    requires { MayBeNoted ready.now index.old event.now touched.now }
-    ensures { OnOk result ((es : List Event) → IsIndexOf ready.now es index.old → MayCome ready.now es event.now → ComesWith ready.now es event.now touched.now → IsIndexOf ready.now (es ++ event.now ∷ []) index.new) }
+    requires { MayBeNoted ready.now index.old event.now }
+    ensures { OnOk result ((es : List Event) → IsIndexOf ready.now es index.old → MayCome ready.now es event.now → IsIndexOf ready.now (es ++ event.now ∷ []) index.new) }
 {
     let before = told(alloc, index)?;
-    match index.reserve(ready, event, touched) {
+    match index.reserve(ready, event) {
         Ok(()) => {
             index.note(ready, event);
             Ok(())
@@ -100,9 +101,8 @@ fn define(
     requires event { (es : List Event) × IsIndexOf ready.now es index.old × MayCome ready.now es (E.Def 0 site) }
     ensures { OnOk result ((es : List Event) → IsIndexOf ready.now es index.old → MayCome ready.now es (E.Def 0 site) → IsIndexOf ready.now (es ++ E.Def 0 site ∷ []) index.new) }
 {
-    let touched = index.find_touched(alloc, ready, Change::Def(site))?;
     let event = Event::Def { task: 0, site };
-    let noted = note(alloc, ready, index, &event, touched.as_slice(), differs);
+    let noted = note(alloc, ready, index, &event, differs);
     drop(event);
     noted
 }
@@ -121,9 +121,8 @@ fn delete(
     if !has_method(alloc, ready, index, place)? {
         return Ok(false);
     }
-    let touched = index.find_touched(alloc, ready, Change::Del(place))?;
     let event = Event::Del { task: 0, place };
-    let noted = note(alloc, ready, index, &event, touched.as_slice(), differs);
+    let noted = note(alloc, ready, index, &event, differs);
     drop(event);
     noted?;
     Ok(true)
@@ -141,9 +140,8 @@ fn name(
     requires event { (es : List Event) × IsIndexOf ready.now es index.old × MayCome ready.now es (E.Key key) }
     ensures { OnOk result ((es : List Event) → IsIndexOf ready.now es index.old → MayCome ready.now es (E.Key key) → IsIndexOf ready.now (es ++ E.Key key ∷ []) index.new) }
 {
-    let touching = index.find_touching(alloc, ready, &key)?;
     let event = Event::Key(key);
-    let noted = note(alloc, ready, index, &event, touching.as_slice(), differs);
+    let noted = note(alloc, ready, index, &event, differs);
     drop(event);
     noted
 }
@@ -159,23 +157,46 @@ fn begin(
     ensures { OnOk result (IsIndexOf ready.now begun index.new) }
 {
     let event = Event::Begin(0);
-    let noted = note(alloc, ready, index, &event, &[], differs);
+    let noted = note(alloc, ready, index, &event, differs);
     drop(event);
     noted
 }
 
-/// Whether the latest definitions of the first key are those of these worlds.
-fn are_latest(index: &Index, worlds: &[u32]) -> bool {
-    let latest = index.latest(0);
-    if latest.len() != worlds.len() {
-        return false;
+/// The worlds whose changes touch the first key, each found from the one before, where there are at most five.
+fn worlds_touching(alloc: Global, index: &Index) -> Result<Vec<u32>, AllocError> {
+    let mut worlds = Vec::new(alloc);
+    let mut last = 0;
+    for _ in 0..6 {
+        let Some(next) = index.next_touching(0, last) else {
+            return Ok(worlds);
+        };
+        worlds.push(next)?;
+        last = next;
+    }
+    Ok(worlds)
+}
+
+/// Whether these worlds are those whose changes touch the first key, and the last of them is found from any later world.
+fn are_touching(alloc: Global, index: &Index, due: &[u32]) -> Result<bool, AllocError> {
+    let worlds = worlds_touching(alloc, index)?;
+    let last = due.last().copied().unwrap_or(0);
+    Ok(worlds.as_slice() == due && index.last_touching(0, 65_535) == last)
+}
+
+/// Whether the latest definitions of the sites of the first key, up to a world, are those of these worlds.
+fn are_latest(alloc: Global, index: &Index, world: u32, due: &[u32]) -> Result<bool, AllocError>
+    requires { (P : Program) × IsIndex P index.now }
+{
+    let latest = index.defs_among(alloc, index.sites_of(0), world)?;
+    if latest.len() != due.len() {
+        return Ok(false);
     }
     for (i, def) in latest.iter().enumerate() {
-        if def.world != worlds[i] {
-            return false;
+        if def.world != due[i] {
+            return Ok(false);
         }
     }
-    true
+    Ok(true)
 }
 
 /// Whether the one deletion of the function is that of this world.
@@ -190,7 +211,8 @@ fn is_deleted(index: &Index, world: u32) -> bool
 }
 
 /// Whether the worlds that are due touch the key of two integers after the second and after the third definition of its function, and
-/// whether the first site's definition is the latest when it is made once more; and then after a deletion of the third.
+/// whether the first site's definition is the latest when it is made once more, and the one before in the world before; and then after a
+/// deletion of the third.
 fn touching(
     alloc: Global,
     ready: &Ready,
@@ -209,25 +231,25 @@ fn touching(
     let key = make_key(alloc, ready, F, 0, 2)?;
     name(alloc, ready, index, key, differs)?;
     define(alloc, ready, index, first + 1, differs)?;
-    let are_two = index.touching(0) == [15u32, 16].as_slice();
+    let are_two = are_touching(alloc, index, [15u32, 16].as_slice())?;
     define(alloc, ready, index, first + 2, differs)?;
-    let are_three = index.touching(0) == [15u32, 16, 17].as_slice();
+    let are_three = are_touching(alloc, index, [15u32, 16, 17].as_slice())?;
     define(alloc, ready, index, first, differs)?;
-    let are_four = index.touching(0) == [15u32, 16, 17, 18].as_slice();
-    let is_latest = are_latest(index, [16u32, 17, 18].as_slice());
+    let are_four = are_touching(alloc, index, [15u32, 16, 17, 18].as_slice())?;
+    let is_latest = are_latest(alloc, index, 18, [16u32, 17, 18].as_slice())?;
+    let is_past = are_latest(alloc, index, 17, [15u32, 16, 17].as_slice())?;
     let is_made = delete(alloc, ready, index, 0, differs)?;
-    let are_five = index.touching(0) == [15u32, 16, 17, 18, 19].as_slice();
+    let are_five = are_touching(alloc, index, [15u32, 16, 17, 18, 19].as_slice())?;
     let is_deleted = is_deleted(index, 19);
-    let is_latest_still = are_latest(index, [16u32, 17, 18].as_slice());
     Ok(
         are_two
             && are_three
             && are_four
             && is_latest
+            && is_past
             && is_made
             && are_five
-            && is_deleted
-            && is_latest_still,
+            && is_deleted,
     )
 }
 

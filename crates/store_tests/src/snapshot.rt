@@ -35,7 +35,7 @@ impl Drop for Snapshot {
 fn copy_events(alloc: Global, events: &[Event]) -> Result<Vec<Event>, AllocError> {
     let mut copies = Vec::new(alloc);
     for event in events {
-        let copy = event.copy(alloc)?;
+        let copy = event.copy()?;
         copies = push(copies, copy)?;
     }
     Ok(copies)

@@ -8,8 +8,7 @@ use Rattle.jl_methods.proofs.TouchLemmas.{increases}
 use Rattle.jl_methods.specs.Filters.{defs_of}
 use Rattle.jl_subsig.specs.Side.{Every}
 use Rattle.jl_subsig.specs.Standing.{HasLeftAt}
-use Rattle.jl_rows.proofs.ApplyingLemmas.{defs_sites}
-use Rattle.jl_rows.proofs.NewestLemmas.{gone_places, finds_from, finds_to}
+use Rattle.jl_rows.proofs.NewestLemmas.{defs_sites, gone_places, finds_from, finds_to}
 use Rattle.jl_rows.proofs.choosing.has_method.Goals as goal
 
 pub has_standing-requires-clause-sites : goal.has_standing-requires-clause-sites

@@ -4,8 +4,7 @@ use Rattle.jl_calculus.specs.declared.history.Event.{Event}
 use Rattle.jl_calculus.specs.declared.history.Event.TheVariants as Ev
 use Rattle.jl_calculus.specs.Legal.{MayCome}
 use Rattle.jl_calculus.specs.Ranges.{keys_of}
-use Rattle.jl_methods.specs.Filters.{ComesWith}
-use Rattle.jl_methods.specs.Indexed.{IsIndexOf, awaited_in}
+use Rattle.jl_methods.specs.Indexed.{IsIndexOf}
 use Rattle.jl_world.specs.declared.view.BookView.{BookView}
 use Rattle.jl_world.specs.Rule.{IsHistory}
 use Rattle.jl_world.specs.Views.{grown}
@@ -53,7 +52,6 @@ invariant_of-self-2 g c =
     let es = i.seat.events in
     let e : Event = Ev.Key c.args.key.now in
     let noted : c.note.new.book ≡ at_rest (es ++ e ∷ []) = c.note.ensures ∙ (λ k. grown (c.in-Ok.ensures.event k) (c.meet.ensures.book k)) ∙ ap (grown e) h.knows in
-    let here = subst (λ p. IsIndexOf p es i.index) (sym c.requires.ready) h.filters in
     parts_added about es i.seat i.events.items i.index i.keys.keys i.ends.items i.unfinished h Q c.requires.ready e
     c.meet-2.new.book c.add.new.events.items c.reserve_key.new.index c.add.new.index c.add_key.new.keys.keys
     (c.meet-2.ensures.book ∙ noted)
@@ -62,8 +60,7 @@ invariant_of-self-2 g c =
     c.requires.key tt (λ t. refl) refl
     (c.add_key.ensures ∙ (λ k. c.in-Ok.ensures.keys k ++ c.in-Ok.ensures.key k ∷ []))
     c.in-Ok.ensures.noted
-    (c.in-Ok.ensures.awaited es here)
-    (subst (λ (x : Event). (xs : List Event) → IsIndexOf Q xs c.reserve_key.new.index → MayCome Q xs x → ComesWith Q xs x (awaited_in c.reserve_key.new.index) → IsIndexOf Q (xs ++ x ∷ []) c.add.new.index) c.in-Ok.ensures.event c.add.ensures.index)
+    (subst (λ (x : Event). (xs : List Event) → IsIndexOf Q xs c.reserve_key.new.index → MayCome Q xs x → IsIndexOf Q (xs ++ x ∷ []) c.add.new.index) c.in-Ok.ensures.event c.add.ensures.index)
 
 pub invariant_of-pass-2 : goal.invariant_of-pass-2
 invariant_of-pass-2 g c =

@@ -27,7 +27,6 @@ reserve-requires g c =
       es = es;
       index = subst (λ p. IsIndexOf p es c.self.inside.index) (sym c.requires.ready) h.filters;
       may_come = subst (λ p. IsNewFill p es c.args.key c.args.row.site c.args.row.first) (sym c.requires.ready) may;
-      comes_with = refl;
     }
 
 pub invariant_of-self : goal.invariant_of-self
@@ -52,5 +51,4 @@ invariant_of-self-2 g c =
     (fill_valid about.program.value c.args.ready.now es c.args.key c.args.row.site c.args.row.first c.requires.ready c.valid.ensures c.self.invariant.book.legal.stand fill)
     tt (λ t. refl) refl (sym (append-nil i.keys.keys))
     c.in_ok-reserve.ensures.noted
-    c.in_ok-reserve.ensures.awaited
     c.add.ensures.index

@@ -1,16 +1,14 @@
 use Rattle.std.proofs.Common.{◌∙◌, ap, sym, subst, arith, refl, ◌++◌, ◌∷◌, [], List}
 use Rattle.jl_calculus.specs.declared.history.Event.{Event}
 use Rattle.jl_calculus.specs.Legal.{MayCome}
-use Rattle.jl_calculus.specs.Ranges.{keys_of}
+use Rattle.jl_calculus.specs.Words.{AreAllCut}
 use Rattle.jl_calculus.specs.World.{change_event}
-use Rattle.jl_methods.specs.Filters.{AreTouched, ComesWith}
-use Rattle.jl_methods.specs.Indexed.{IsIndexOf, awaited_in}
+use Rattle.jl_methods.specs.Indexed.{IsIndexOf}
 use Rattle.jl_world.specs.declared.view.BookView.{BookView}
 use Rattle.jl_world.proofs.Bounds.{few_worlds}
 use Rattle.jl_book.specs.Books.{HasParts, at_rest}
 use Rattle.jl_book.proofs.ChangeEvents.{may_be_made}
 use Rattle.jl_book.proofs.PartLemmas.{parts_changed, parts_kept}
-use Rattle.jl_book.proofs.PlanLemmas.{all_cut}
 use Rattle.jl_book.proofs.Starts.{made_pass}
 use Rattle.jl_book.proofs.book.Book.make_world.Goals as goal
 
@@ -20,8 +18,8 @@ invariant_of-self g c =
     parts_kept g.N.Naming.about i.seat.events i.seat i.events.items i.index i.keys.keys i.ends.items i.unfinished c.self.invariant i.seat c.reserve_change.new.events.items c.reserve_change.new.index i.keys.keys
     refl c.reserve_change.ensures.events c.reserve_change.ensures.noted refl
 
-pub cut_rows-requires-clause-index : goal.cut_rows-requires-clause-index
-cut_rows-requires-clause-index g c =
+pub cut_touched-requires-clause-index : goal.cut_touched-requires-clause-index
+cut_touched-requires-clause-index g c =
     let i = c.self.inside in
     let kept =
     parts_kept g.N.Naming.about i.seat.events i.seat i.events.items i.index i.keys.keys i.ends.items i.unfinished c.self.invariant i.seat c.reserve_change.new.events.items c.reserve_change.new.index i.keys.keys
@@ -31,13 +29,7 @@ cut_rows-requires-clause-index g c =
 
 pub publish-requires-clause-cut : goal.publish-requires-clause-cut
 publish-requires-clause-cut g c =
-    let P = g.N.Naming.about.program.value in
-    let Q = c.args.ready.now in
-    let i = c.self.inside in
-    let es = i.seat.events in
-    let here = subst (λ p. IsIndexOf p es i.index) (sym c.requires.ready) c.self.invariant.filters in
-    all_cut P Q es i.seat c.cut_rows.new.book c.args.change c.in_ok-event.touched.items c.as_slice.result.now c.requires.ready refl c.cut_rows.ensures.same c.as_slice.ensures.value
-    (c.in_ok-event.ensures.touched es here) c.cut_rows.ensures.cut
+    subst (λ xs. AreAllCut g.N.Naming.about.program.value xs c.args.change c.cut_touched.new.book.cut) (sym (ap (λ (b : BookView). b.events) c.cut_touched.ensures.same)) c.cut_touched.ensures.cut
 
 pub overflow_cast-result : goal.overflow_cast-result
 overflow_cast-result g c =
@@ -51,15 +43,13 @@ overflow_cast-result g c =
     let change = c.args.change in
     let e = change_event t change in
     let may = may_be_made P es c.args.self.now c.pass.inside.seat c.args.pass.now t change c.self.view_is c.pass.view_is c.pass.invariant.task c.requires.running c.requires.change c.requires.room in
-    let here = subst (λ p. IsIndexOf p es i.index) (sym c.requires.ready) h.filters in
     let now : HasParts about c.publish.new.book.events c.publish.new.book c.add.new.events.items c.add.new.index i.keys.keys i.ends.items i.unfinished =
     parts_changed about es i.seat i.events.items i.index i.keys.keys i.ends.items i.unfinished h Q c.requires.ready t change may
     c.publish.new.book c.add.new.events.items c.reserve_change.new.index c.add.new.index
-    (c.publish.ensures.book ∙ ap (λ (b : BookView). at_rest (b.events ++ e ∷ [])) c.cut_rows.ensures.same)
+    (c.publish.ensures.book ∙ ap (λ (b : BookView). at_rest (b.events ++ e ∷ [])) c.cut_touched.ensures.same)
     (c.add.ensures.events ∙ (λ k. c.in_ok-event.ensures.events k ++ c.in_ok-event.ensures.event k ∷ []))
     c.in_ok-event.ensures.noted
-    (subst (AreTouched Q (keys_of es) change) (sym c.in_ok-event.ensures.awaited) (c.in_ok-event.ensures.touched es here))
-    (subst (λ (x : Event). (xs : List Event) → IsIndexOf Q xs c.reserve_change.new.index → MayCome Q xs x → ComesWith Q xs x (awaited_in c.reserve_change.new.index) → IsIndexOf Q (xs ++ x ∷ []) c.add.new.index) c.in_ok-event.ensures.event c.add.ensures.index)
+    (subst (λ (x : Event). (xs : List Event) → IsIndexOf Q xs c.reserve_change.new.index → MayCome Q xs x → IsIndexOf Q (xs ++ x ∷ []) c.add.new.index) c.in_ok-event.ensures.event c.add.ensures.index)
     in
     omega (arith, c.worlds.ensures P c.publish.new.book.events now.filters, few_worlds P c.publish.new.book.events now.book.legal.stand)
 
@@ -75,14 +65,12 @@ invariant_of-self-2 g c =
     let change = c.args.change in
     let e = change_event t change in
     let may = may_be_made P es c.args.self.now c.pass.inside.seat c.args.pass.now t change c.self.view_is c.pass.view_is c.pass.invariant.task c.requires.running c.requires.change c.requires.room in
-    let here = subst (λ p. IsIndexOf p es i.index) (sym c.requires.ready) h.filters in
     parts_changed about es i.seat i.events.items i.index i.keys.keys i.ends.items i.unfinished h Q c.requires.ready t change may
     c.publish.new.book c.add.new.events.items c.reserve_change.new.index c.add.new.index
-    (c.publish.ensures.book ∙ ap (λ (b : BookView). at_rest (b.events ++ e ∷ [])) c.cut_rows.ensures.same)
+    (c.publish.ensures.book ∙ ap (λ (b : BookView). at_rest (b.events ++ e ∷ [])) c.cut_touched.ensures.same)
     (c.add.ensures.events ∙ (λ k. c.in_ok-event.ensures.events k ++ c.in_ok-event.ensures.event k ∷ []))
     c.in_ok-event.ensures.noted
-    (subst (AreTouched Q (keys_of es) change) (sym c.in_ok-event.ensures.awaited) (c.in_ok-event.ensures.touched es here))
-    (subst (λ (x : Event). (xs : List Event) → IsIndexOf Q xs c.reserve_change.new.index → MayCome Q xs x → ComesWith Q xs x (awaited_in c.reserve_change.new.index) → IsIndexOf Q (xs ++ x ∷ []) c.add.new.index) c.in_ok-event.ensures.event c.add.ensures.index)
+    (subst (λ (x : Event). (xs : List Event) → IsIndexOf Q xs c.reserve_change.new.index → MayCome Q xs x → IsIndexOf Q (xs ++ x ∷ []) c.add.new.index) c.in_ok-event.ensures.event c.add.ensures.index)
 
 pub returns-clause-world : goal.returns-clause-world
 returns-clause-world g c =
@@ -96,19 +84,17 @@ returns-clause-world g c =
     let change = c.args.change in
     let e = change_event t change in
     let may = may_be_made P es c.args.self.now c.pass.inside.seat c.args.pass.now t change c.self.view_is c.pass.view_is c.pass.invariant.task c.requires.running c.requires.change c.requires.room in
-    let here = subst (λ p. IsIndexOf p es i.index) (sym c.requires.ready) h.filters in
     let now : HasParts about c.publish.new.book.events c.publish.new.book c.add.new.events.items c.add.new.index i.keys.keys i.ends.items i.unfinished =
     parts_changed about es i.seat i.events.items i.index i.keys.keys i.ends.items i.unfinished h Q c.requires.ready t change may
     c.publish.new.book c.add.new.events.items c.reserve_change.new.index c.add.new.index
-    (c.publish.ensures.book ∙ ap (λ (b : BookView). at_rest (b.events ++ e ∷ [])) c.cut_rows.ensures.same)
+    (c.publish.ensures.book ∙ ap (λ (b : BookView). at_rest (b.events ++ e ∷ [])) c.cut_touched.ensures.same)
     (c.add.ensures.events ∙ (λ k. c.in_ok-event.ensures.events k ++ c.in_ok-event.ensures.event k ∷ []))
     c.in_ok-event.ensures.noted
-    (subst (AreTouched Q (keys_of es) change) (sym c.in_ok-event.ensures.awaited) (c.in_ok-event.ensures.touched es here))
-    (subst (λ (x : Event). (xs : List Event) → IsIndexOf Q xs c.reserve_change.new.index → MayCome Q xs x → ComesWith Q xs x (awaited_in c.reserve_change.new.index) → IsIndexOf Q (xs ++ x ∷ []) c.add.new.index) c.in_ok-event.ensures.event c.add.ensures.index)
+    (subst (λ (x : Event). (xs : List Event) → IsIndexOf Q xs c.reserve_change.new.index → MayCome Q xs x → IsIndexOf Q (xs ++ x ∷ []) c.add.new.index) c.in_ok-event.ensures.event c.add.ensures.index)
     in
     c.worlds.ensures P c.publish.new.book.events now.filters
 
 pub invariant_of-pass : goal.invariant_of-pass
 invariant_of-pass g c =
-    made_pass g.N.Naming.about c.cut_rows.new.book.events (change_event c.pass.inside.task c.args.change) c.pass.inside.task c.pass.inside.seat c.publish.new.seat
+    made_pass g.N.Naming.about c.cut_touched.new.book.events (change_event c.pass.inside.task c.args.change) c.pass.inside.task c.pass.inside.seat c.publish.new.seat
     c.pass.invariant c.publish.ensures.fits.prefix c.publish.ensures.seat

@@ -7,4 +7,4 @@ returns-then-first-le-FIRST_WORLD c = λ P es k h at. begins_low P es k c.args.f
 
 pub returns : goal.returns
 returns c = λ P es k h at.
-    begins_high P es k c.args.first c.touching.result.now c.is_among.result (omega (arith, c.if-first-le-FIRST_WORLD.false)) (c.is_among.ensures (c.touching.ensures.ordered P es k h.indexed at)) (c.touching.ensures.exact P es k h.indexed at)
+    begins_high P es k c.args.first c.last_touching.result (omega (arith, c.if-first-le-FIRST_WORLD.false)) (c.last_touching.ensures P es k h.indexed at)

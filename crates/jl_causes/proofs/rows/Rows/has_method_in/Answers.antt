@@ -8,9 +8,7 @@ use Rattle.jl_methods.proofs.TouchLemmas.{increases}
 use Rattle.jl_methods.specs.Filters.{defs_of, dels_of}
 use Rattle.jl_subsig.specs.Side.{Every}
 use Rattle.jl_subsig.specs.Standing.{HasPlace, HasLeftAt}
-use Rattle.jl_rows.proofs.ApplyingLemmas.{defs_sites}
-use Rattle.jl_rows.proofs.DeletionLemmas.{dels_places}
-use Rattle.jl_causes.proofs.StoodLemmas.{first_changes, stood}
+use Rattle.jl_causes.proofs.StoodLemmas.{first_changes, stood, defs_sites, dels_places}
 use Rattle.jl_causes.proofs.rows.Rows.has_method_in.Goals as goal
 
 pub has_standing-requires-clause-sites : goal.has_standing-requires-clause-sites

@@ -1,5 +1,5 @@
-use Rattle.jl_task.proofs.KeptLemmas.{kept_more}
+use Rattle.jl_task.proofs.NumberLemmas.{remembered_more}
 use Rattle.jl_task.proofs.cached.CachedDispatcher.fetched.Goals as goal
 
 pub invariant_of-self : goal.invariant_of-self
-invariant_of-self g c = kept_more _ _ c.self.inside.table.items c.fetched.ensures.grew c.self.invariant
+invariant_of-self g c = remembered_more _ _ c.self.inside.table.items c.self.inside.numbers.items c.fetched.ensures.grew c.self.invariant

@@ -9,5 +9,5 @@ returns-in-Some g c =
     let kept = c.in-Some.kept.now in
     subst (λ us. IsMethod (g.D.Dispatcher.knows c.args.self.now) c.args.function (map type_of c.args.values.now) c.args.world kept.site us) (sym c.as_slice.ensures)
     (subst (λ v. IsMethod (g.D.Dispatcher.knows v) c.args.function (map type_of c.args.values.now) c.args.world kept.site kept.statics) c.self.view_is
-    (found_right (g.D.Dispatcher.knows c.self.inside.inner) c.self.inside.table.items c.args.function (map type_of c.args.values.now) c.args.world kept c.self.invariant
+    (found_right (g.D.Dispatcher.knows c.self.inside.inner) c.self.inside.table.items c.args.function (map type_of c.args.values.now) c.args.world kept c.self.invariant.table_is
     (rw (← c.deref.ensures.value) c.in-Some.ensures)))

@@ -1,8 +1,0 @@
-use Rattle.std.proofs.Common.{rules, ◌∙◌, ap, ◌++◌, ◌∷◌, []}
-use Rattle.std.proofs.lemmas.Fn.{filter_same}
-use Rattle.jl_methods.proofs.latest.renew_def.Goals as goal
-
-pub returns : goal.returns
-returns c =
-    c.push_reserved.ensures.items
-    ∙ ap (λ ds. ds ++ c.args.def ∷ []) (filter_same _ _ _ (λ x b f' k. search rules) _ _ c.retain.ensures.filtered)
