@@ -6,8 +6,7 @@ ghost use Rattle.jl_calculus.specs.declared.history.Event.TheVariants as E;
 ghost use Rattle.jl_model.specs.declared.limits.TheConstants.{MOST_WORLDS};
 ghost use Rattle.jl_calculus.specs.Legal.{IsKeyOf, IsRunning, MayCome};
 ghost use Rattle.jl_calculus.specs.World.{world_of};
-ghost use Rattle.jl_program.specs.declared.tree.Program.{Program};
-ghost use Rattle.jl_methods.specs.Indexed.{IsIndex, IsIndexOf, MayBeNoted};
+ghost use Rattle.jl_methods.specs.Indexed.{IsIndexOf, MayBeNoted};
 ghost use Rattle.store_tests.specs.Crossed.{begun};
 
 use crate::keys::make_key;
@@ -183,22 +182,6 @@ fn are_touching(alloc: Global, index: &Index, due: &[u32]) -> Result<bool, Alloc
     Ok(worlds.as_slice() == due && index.last_touching(0, 65_535) == last)
 }
 
-/// Whether the latest definitions of the sites of the first key, up to a world, are those of these worlds.
-fn are_latest(alloc: Global, index: &Index, world: u32, due: &[u32]) -> Result<bool, AllocError>
-    requires { (P : Program) × IsIndex P index.now }
-{
-    let latest = index.defs_among(alloc, index.sites_of(0), world)?;
-    if latest.len() != due.len() {
-        return Ok(false);
-    }
-    for (i, def) in latest.iter().enumerate() {
-        if def.world != due[i] {
-            return Ok(false);
-        }
-    }
-    Ok(true)
-}
-
 /// Whether the one deletion of the function is that of this world.
 fn is_deleted(index: &Index, world: u32) -> bool
     requires { 0 < world }
@@ -210,9 +193,8 @@ fn is_deleted(index: &Index, world: u32) -> bool
         && index.dels_up_to(F, world - 1).is_empty()
 }
 
-/// Whether the worlds that are due touch the key of two integers after the second and after the third definition of its function, and
-/// whether the first site's definition is the latest when it is made once more, and the one before in the world before; and then after a
-/// deletion of the third.
+/// Whether the worlds that are due touch the key of two integers after the second and after the third definition of its function, when the
+/// first site's definition is made once more, and then after a deletion of the third.
 fn touching(
     alloc: Global,
     ready: &Ready,
@@ -236,21 +218,10 @@ fn touching(
     let are_three = are_touching(alloc, index, [15u32, 16, 17].as_slice())?;
     define(alloc, ready, index, first, differs)?;
     let are_four = are_touching(alloc, index, [15u32, 16, 17, 18].as_slice())?;
-    let is_latest = are_latest(alloc, index, 18, [16u32, 17, 18].as_slice())?;
-    let is_past = are_latest(alloc, index, 17, [15u32, 16, 17].as_slice())?;
     let is_made = delete(alloc, ready, index, 0, differs)?;
     let are_five = are_touching(alloc, index, [15u32, 16, 17, 18, 19].as_slice())?;
     let is_deleted = is_deleted(index, 19);
-    Ok(
-        are_two
-            && are_three
-            && are_four
-            && is_latest
-            && is_past
-            && is_made
-            && are_five
-            && is_deleted,
-    )
+    Ok(are_two && are_three && are_four && is_made && are_five && is_deleted)
 }
 
 /// The same for a new index.
