@@ -214,10 +214,10 @@ def compile_module(of_kit, module, to):
 
 
 class Program:
-    """A program of this repository: its crate, what it is called, and a command with what that writes of an empty input, where it is known."""
+    """A program of this repository: its crate, what it is called, and a command with what that writes of an empty input, where it is known, and its status."""
 
-    def __init__(self, crate, name, command, answer):
-        self.crate, self.name, self.command, self.answer = crate, name, command, answer
+    def __init__(self, crate, name, command, answer, status=0):
+        self.crate, self.name, self.command, self.answer, self.status = crate, name, command, answer, status
         self.proved, self.kept = f"{TOP}/crates/{crate}/out/{crate}", f"{KEPT}/{name}"
         # Beside each is the checksum of what it was made of.
         self.proved_of, self.kept_of = f"{self.proved}.sources", f"{self.kept}.sources"
@@ -246,7 +246,7 @@ class Program:
     def look_at(self, made):
         """Sees that what was made is the program."""
         ran = subprocess.run([made, *self.command], stdin=subprocess.DEVNULL, capture_output=True, check=False)
-        if ran.returncode or self.answer not in (None, ran.stdout):
+        if ran.returncode != self.status or self.answer not in (None, ran.stdout):
             raise Failure("what was compiled is not the program, so this kit makes its module in another way than is known here")
 
     def make(self):
@@ -288,6 +288,8 @@ class Program:
 JL = Program("jl_main", "jl", ["check"], b"ok: 0 types, 0 definitions\n")
 # Gives a tool the places of definitions and tasks in a script.
 SITES = Program("jl_sites", "jl_sites", [], None)
+# Holds a session.
+SESSION = Program("jl_session", "jl_session", [], b"ERROR: NoSession\n", 3)
 
 
 def programs():

@@ -1,7 +1,7 @@
 //! Scripts, what is known of them, and the programs that they mean.
 
 ghost use Rattle.std.specs.Prelude.{IfOk};
-ghost use Rattle.jl_cli.specs.Due.{AreScript};
+ghost use Rattle.jl_work.specs.Owed.{AreScript};
 
 use jl_declare::declarations::declarations;
 use jl_declare::known::known_of;

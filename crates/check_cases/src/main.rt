@@ -1,9 +1,10 @@
 //! What the top call answers to scripts, as standard input asks.
 //!
 //! A line `| TEXT` is the next line of a script, and `N| TEXT` is N lines like it; a script has no newline behind its last line.
-//! A line `$ WORDS` makes the call with these words over the script so far, and the next script begins behind it: the answer is
-//! what the call wrote, and a line `=> STATUS`, or `=> STATUS, history` where a history was handed out. A line without `|` is a
-//! heading.
+//! `N* TEXT` is the text N times more at the end of the last line. A line `$ WORDS` makes the call with these words over the script so
+//! far, and the next script begins behind it: the answer is what the call wrote, and a line `=> STATUS`, or `=> STATUS, history` where a
+//! history was handed out. `N$ WORDS` makes it N times, over the script without its last byte, its last two, and so on. A line of
+//! another form is a heading.
 #![tactic(auto)]
 
 mod script;
@@ -68,6 +69,33 @@ fn answer<R: Threads + Wait + Sync + Print>(
     print!(rt; "{lines}=> {status}{history}\n")
 }
 
+/// Answers a script where no count is given, and else the script cut at each of so many places before its end.
+fn answer_each<R: Threads + Wait + Sync + Print>(
+    rt: &R,
+    alloc: Global,
+    count: &str,
+    words: &str,
+    text: &[u8],
+) -> io::Result<()> {
+    if count.is_empty() {
+        return answer(rt, alloc, words, text);
+    }
+    let most = count.parse::<usize>().unwrap_or(0).min(text.len());
+    for less in 1..=most {
+        answer(rt, alloc, words, &text[..text.len() - less])?;
+    }
+    Ok(())
+}
+
+/// What stands before a mark and behind it, where a line has a number or nothing before it.
+fn split_at_mark<'a>(line: &'a str, mark: char) -> Option<(&'a str, &'a str)> {
+    let (count, rest) = line.split_once(mark)?;
+    if count.is_empty() || count.parse::<usize>().is_ok() {
+        return Some((count, rest));
+    }
+    None
+}
+
 /// Takes a line. The script so far stands in `script`.
 fn take<R: Threads + Wait + Sync + Print>(
     rt: &R,
@@ -76,13 +104,15 @@ fn take<R: Threads + Wait + Sync + Print>(
     line: &str,
 ) -> io::Result<()> {
     println!(rt; "{line}")?;
-    if let Some(words) = line.strip_prefix("$") {
-        answer(rt, alloc, words, script.text())?;
+    if let Some((count, words)) = split_at_mark(line, '$') {
+        answer_each(rt, alloc, count, words, script.text())?;
         script.clear();
         return Ok(());
     }
-    if let Some((count, text)) = line.split_once('|') {
+    if let Some((count, text)) = split_at_mark(line, '|') {
         script.add(count, text)?;
+    } else if let Some((count, text)) = split_at_mark(line, '*') {
+        script.extend(count, text)?;
     }
     Ok(())
 }

@@ -50,4 +50,16 @@ impl ScriptText {
         }
         Ok(())
     }
+
+    /// Puts a text so many times at the end of the last line. A blank in front of it is none of it. Nothing is put where `count` is no
+    /// number.
+    pub fn extend(&mut self, count: &str, text: &str) -> Result<(), AllocError> {
+        let text = text.strip_prefix(" ").unwrap_or(text);
+        let times = count.parse::<usize>().unwrap_or(0);
+        for _ in 0..times.min(MOST) {
+            self.is_begun = true;
+            self.text.extend_from_slice(text.as_bytes())?;
+        }
+        Ok(())
+    }
 }

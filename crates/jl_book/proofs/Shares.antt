@@ -1,5 +1,5 @@
 -- Each definition, each deletion and each spawn is one task's own.
-use Rattle.std.proofs.Common.{◌≡◌, ◌∙◌, ap, refl, ℕ, zero, suc, ◌+◌, ◌<◌, ◌≤◌, arith, Bool, true, false, cond, nat_eq, List, [], ◌∷◌, ◌++◌, length, length-append, Option, Some, None, IsSome}
+use Rattle.std.proofs.Common.{◌≡◌, ◌∙◌, ap, sym, subst, refl, ℕ, zero, suc, ◌+◌, ◌<◌, ◌≤◌, arith, Bool, true, false, cond, nat_eq, List, [], ◌∷◌, ◌++◌, length, length-append, Option, Some, None, IsSome}
 use Rattle.jl_program.specs.declared.tree.Program.{Program}
 use Rattle.jl_calculus.specs.declared.history.Event.{Event}
 use Rattle.jl_calculus.specs.declared.history.Event.TheVariants as Ev
@@ -9,7 +9,10 @@ use Rattle.jl_calculus.specs.declared.history.TraceItem.TheVariants.{Def, Del, S
 use Rattle.jl_calculus.specs.Legal.{AreFinished, MayCome, MayStand}
 use Rattle.jl_calculus.specs.Past.{tasks_of, done_of, own_events}
 use Rattle.jl_world.proofs.Growth.{tasks_append, tasks_some, own_append, each_grow, agree}
-use Rattle.jl_book.specs.Tasks.{one_made, made_in, share_of, if_ended, shares_below, gathered_in}
+use Rattle.jl_world.specs.declared.about.About.{About}
+use Rattle.jl_book.specs.Books.{IsBook}
+use Rattle.jl_book.specs.Tasks.{one_made, made_in, share_of, if_ended, shares_below, gathered_in, unfinished_of}
+use Rattle.jl_book.proofs.Counting.{none_counts}
 
 abbrev sum_below : (ℕ → ℕ) → ℕ → ℕ
 sum_below f zero = 0
@@ -103,3 +106,8 @@ shares_all es (suc n) h =
 
 pub each_once : (P : Program) (es : List Event) → MayStand P es → AreFinished es → gathered_in es ≡ made_in es
 each_once P es h finished = shares_all es (tasks_of es) finished ∙ all_made P es h (tasks_of es) (omega arith)
+
+-- a book of which no task is unfinished has gathered all that was made
+pub all_gathered : (about : About) (es all : List Event) → IsBook about es → unfinished_of es ≡ 0 → all ≡ es → gathered_in all ≡ made_in all
+all_gathered about es all b none is =
+    subst (λ xs. gathered_in xs ≡ made_in xs) (sym is) (each_once about.program.value es b.history.stand (λ t l. none_counts (tasks_of es) t es l none))

@@ -24,7 +24,8 @@ use Rattle.jl_world.specs.Rule.{IsHistory}
 use Rattle.jl_world.specs.Views.{Begins, IsViewOf, IsOwn, Fits, number_or_zero}
 use Rattle.jl_world.proofs.Growth.{begins_length}
 use Rattle.jl_rows.specs.Plans.{places_of}
-use Rattle.jl_book.specs.Passes.{task_in, first_of, IsPass, IsRunOver}
+use Rattle.jl_book.specs.Passes.{task_in, first_of, HasShare, IsPass, IsRunOver}
+use Rattle.jl_book.specs.Tasks.{share_of}
 use Rattle.jl_book.proofs.Pushing.{IsEnd}
 use Rattle.jl_book.proofs.Starts.{first_is, first_stays}
 use Rattle.jl_book.proofs.Valid.{record_is_valid}
@@ -44,6 +45,11 @@ in_order low high most (i ∷ is) l h = (h.0, in_order (past i) high most is l h
 -- the view of a task that is held is right for the task
 pub view_is : (P : Program) (es : List Event) (t : ℕ) (v : TaskView) → v.task ≡ Some t → Fits P es v → IsViewOf es t v
 view_is P es t v is fits = subst (λ (o : Option ℕ). IsOwn es o v) is fits.own
+
+-- the pass of a task has its share
+pub has_share : (about : About) (es : List Event) (t : ℕ) (v : TaskView) → IsPass about t v → Fits about.program.value es v → HasShare es v
+has_share about es t v h fits =
+    ap length (view_is about.program.value es t v h.task fits).own ∙ ap (share_of es) (sym (ap number_or_zero h.task))
 
 module _ (about : About) (es : List Event) (t : ℕ) (v : TaskView) (r : Record) (h : IsPass about t v) (fits : Fits about.program.value es v) (history : IsHistory about es) (run : IsRunOver about v r) where
   abbrev P : Program

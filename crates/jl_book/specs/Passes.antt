@@ -13,6 +13,7 @@ use Rattle.jl_rows.specs.Plans.{places_of}
 use Rattle.jl_world.specs.declared.about.About.{About}
 use Rattle.jl_world.specs.declared.view.TaskView.{TaskView}
 use Rattle.jl_world.specs.Views.{Begins, number_or_zero}
+use Rattle.jl_book.specs.Tasks.{share_of}
 
 -- the task of a view
 abbrev pub task_in : TaskView → ℕ
@@ -52,3 +53,7 @@ pub record IsRunOver (about : About) (v : TaskView) (r : Record) : Type 0 where
   pub looks : looks_of r.trace ≡ v.looks
   pub runs : (es : List Event) → Begins v.seen es
       → Run (setting_of about.program.value es (Some (places_of about)) v.fuel) v.start r.trace r.outcome r.output r.calls v.starts
+
+-- a pass has as many definitions, deletions and spawns as its task has among the events
+abbrev pub HasShare : List Event → TaskView → Type 0
+HasShare es v = length v.own ≡ share_of es (task_in v)

@@ -10,7 +10,7 @@ ghost use Rattle.jl_world.specs.Rule.{first_events};
 ghost use Rattle.jl_world.specs.Views.{begun};
 ghost use Rattle.jl_book.specs.Books.{IsBook};
 ghost use Rattle.jl_rows.specs.Plans.{places_of};
-ghost use Rattle.jl_book.specs.Tasks.{unfinished_of};
+ghost use Rattle.jl_book.specs.Tasks.{gathered_in, made_in, unfinished_of};
 
 use crate::pass::Pass;
 use indexmap::IndexSet;
@@ -121,6 +121,7 @@ impl<N: Naming> Book<N> {
     pub fn close(self, alloc: Global) -> Result<History, AllocError>
         requires { unfinished_of self ≡ 0 }
         ensures events { IfOk result (λ history. history.events ≡ self) }
+        ensures gathered { IfOk result (λ history. gathered_in history.events ≡ made_in history.events) }
         ensures legal { IfOk result (λ history. IsLegal N.about.program.value history.events) }
         ensures fuel { IfOk result (λ history. fuel_of history.events ≡ Some N.about.fuel) }
         ensures cached { IfOk result (λ history. IsCached N.about.program.value (places_of N.about) history.events) }

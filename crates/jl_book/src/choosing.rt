@@ -14,6 +14,7 @@ ghost use Rattle.jl_rows.specs.Plans.{places_of, with_row};
 ghost use Rattle.jl_world.specs.Adds.{IsNextFill};
 ghost use Rattle.jl_world.specs.Views.{Begins, met};
 ghost use Rattle.jl_book.specs.Answers.{IsResolved, MayBeDone, made_by};
+ghost use Rattle.jl_book.specs.Passes.{HasShare};
 
 use crate::book::Book;
 use crate::parts;
@@ -106,6 +107,7 @@ impl<N: Naming> Book<N> {
         ensures refused { OnErr result (self.new ≡ self.old) }
         ensures pass { pass.new ≡ met self.new pass.old }
         ensures seen { Begins pass.old.seen self.old }
+        ensures share { HasShare self.old pass.old }
     {
         let key = miss.key();
         cache.world().meet(&mut self.seat, &mut pass.seat);
@@ -144,6 +146,7 @@ impl<N: Naming> Book<N> {
         ensures book { self.new ≡ self.old }
         ensures pass { pass.new ≡ met self.new pass.old }
         ensures seen { Begins pass.old.seen self.old }
+        ensures share { HasShare self.old pass.old }
     {
         cache.world().meet(&mut self.seat, &mut pass.seat);
         let choice = select(alloc, ready, &self.index, key, world)?;

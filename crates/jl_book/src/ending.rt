@@ -7,7 +7,7 @@ ghost use Rattle.jl_calculus.specs.declared.history.TraceItem.TheVariants.{Fetch
 ghost use Rattle.jl_calculus.specs.Past.{done_of, IsTrueOf};
 ghost use Rattle.jl_calculus.specs.ValidHistory.{IsValidOutcome};
 ghost use Rattle.jl_world.specs.Views.{Begins, met};
-ghost use Rattle.jl_book.specs.Passes.{task_in, IsRunOver};
+ghost use Rattle.jl_book.specs.Passes.{task_in, HasShare, IsRunOver};
 
 use crate::book::Book;
 use crate::pass::Pass;
@@ -29,6 +29,7 @@ impl<N: Naming> Book<N> {
         ensures added { IfOk result (λ _. self.new ≡ self.old ++ Done (task_in pass) ended ∷ []) }
         ensures refused { IfErr result (λ back. (self.new ≡ self.old) × (back.0 ≡ met self.new pass) × (back.1 ≡ ended)) }
         ensures seen { Begins pass.seen self.old }
+        ensures share { HasShare self.old pass }
     {
         let Pass { mut seat, task } = pass;
         let Ok(()) = self.events.reserve(1) else {
@@ -55,6 +56,7 @@ impl<N: Naming> Book<N> {
         ensures book { self.new ≡ self.old }
         ensures pass { pass.new ≡ met self.new pass.old }
         ensures seen { Begins pass.old.seen self.old }
+        ensures share { HasShare self.old pass.old }
     {
         cache.world().meet(&mut self.seat, &mut pass.seat);
         let Some(ended) = parts::record_of(self.events.as_slice(), self.ends.as_slice(), of) else {

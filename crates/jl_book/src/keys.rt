@@ -11,6 +11,7 @@ ghost use Rattle.jl_methods.specs.Room.{IsRoomy};
 ghost use Rattle.jl_world.specs.Views.{Begins, met};
 ghost use Rattle.jl_book.specs.declared.faults.KeyFault.TheVariants as F;
 ghost use Rattle.jl_book.specs.Answers.{AreKeysFull, IsAddedOnce};
+ghost use Rattle.jl_book.specs.Passes.{HasShare};
 
 use crate::book::Book;
 use crate::faults::KeyFault;
@@ -70,6 +71,7 @@ impl<N: Naming> Book<N> {
         ensures refused { OnErr result (self.new ≡ self.old) }
         ensures pass { pass.new ≡ met self.new pass.old }
         ensures seen { Begins pass.old.seen self.old }
+        ensures share { HasShare self.old pass.old }
     {
         cache.world().meet(&mut self.seat, &mut pass.seat);
         let most = cache.world().keys();

@@ -18,7 +18,7 @@ ghost use Rattle.jl_methods.specs.Room.{IsRoomy};
 ghost use Rattle.jl_world.specs.Rule.{IsHistory};
 ghost use Rattle.jl_world.specs.Views.{Begins, begun, met, noted};
 ghost use Rattle.jl_rows.specs.Open.{with_cut};
-ghost use Rattle.jl_book.specs.Passes.{task_in};
+ghost use Rattle.jl_book.specs.Passes.{task_in, HasShare};
 
 use crate::book::Book;
 use crate::pass::Pass;
@@ -126,6 +126,7 @@ impl<N: Naming> Book<N> {
         ensures full { result ≡ Err D.WorldLimit ↔ (world_of self.old ≡ MOST_WORLDS) }
         ensures refused { OnErr result ((self.new ≡ self.old) × (pass.new ≡ met self.new pass.old)) }
         ensures seen { Begins pass.old.seen self.old }
+        ensures share { HasShare self.old pass.old }
     {
         cache.world().meet(&mut self.seat, &mut pass.seat);
         if self.index.worlds() >= MOST_WORLDS {
@@ -159,6 +160,7 @@ impl<N: Naming> Book<N> {
         ensures found { IfOk result (λ world. FindsMethod N.about.program.value self.old place) }
         ensures refused { OnErr result ((self.new ≡ self.old) × (pass.new ≡ met self.new pass.old)) }
         ensures seen { Begins pass.old.seen self.old }
+        ensures share { HasShare self.old pass.old }
     {
         cache.world().meet(&mut self.seat, &mut pass.seat);
         if self.index.worlds() >= MOST_WORLDS {
@@ -193,6 +195,7 @@ impl<N: Naming> Book<N> {
         ensures full { result ≡ Err S.TaskLimit ↔ (tasks_of self.old ≡ MOST_TASKS) }
         ensures refused { OnErr result ((self.new ≡ self.old) × (pass.new ≡ met self.new pass.old)) }
         ensures seen { Begins pass.old.seen self.old }
+        ensures share { HasShare self.old pass.old }
     {
         cache.world().meet(&mut self.seat, &mut pass.seat);
         if self.ends.len() >= MOST_TASKS {

@@ -12,6 +12,8 @@ pub mod RowLemmas
 pub mod NoteLemmas
 pub mod FirstLemmas
 pub mod JudgeLemmas
+pub mod ListLemmas
+pub mod SiteLemmas
 pub mod StoodLemmas
 pub mod TypeLemmas
 pub mod NameLemmas

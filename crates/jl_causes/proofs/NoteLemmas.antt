@@ -26,6 +26,7 @@ use Rattle.jl_causes.specs.Causes.{IsClean}
 use Rattle.jl_causes.specs.Judged.{IsReadAs, IsKeyIn, MayNote}
 use Rattle.jl_causes.specs.Sketch.{Tells}
 use Rattle.jl_causes.specs.Tables.{AreCounts, ArePlaces, AreTasks}
+use Rattle.jl_causes.specs.Stands.{AreStanding}
 use Rattle.jl_causes.specs.State.{AreRows, IsJudgeOf}
 use Rattle.jl_causes.proofs.PlaceLemmas.{end_kept}
 use Rattle.jl_causes.proofs.RowLemmas.{rows_with_other}
@@ -90,6 +91,7 @@ fill_apart key site first = record { one = refl; starts = λ t. refl; begins = �
 
 pub rows_aside : (P : Program) (es : List Event) (e : Event) (r : Rows) → changed (e ∷ []) ≡ [] → keys_of (e ∷ []) ≡ [] → rows_of (e ∷ []) ≡ [] → AreRows P es r → AreRows P (es ++ e ∷ []) r
 rows_aside P es e r sites keys rows h = rows_with_other P es r r h e keys rows (index_aside P es e r.index sites keys rows h.indexed) refl refl
+    (subst (λ cs. AreStanding P cs r.standing) (sym (changes_append es (e ∷ []) ∙ ap (λ xs. changes es ++ xs) sites ∙ append-nil (changes es))) h.standing)
 
 -- ---- the judge
 

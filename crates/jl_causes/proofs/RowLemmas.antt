@@ -15,13 +15,14 @@ use Rattle.jl_program.specs.declared.choice.Choice.{Choice}
 use Rattle.jl_program.specs.declared.choice.Choice.TheVariants as Ch
 use Rattle.jl_program.specs.declared.tree.Program.{Program}
 use Rattle.jl_program.specs.Prelude.{prelude_count}
+use Rattle.jl_calculus.specs.declared.history.Change.{Change}
 use Rattle.jl_calculus.specs.declared.history.Change.TheVariants as C
 use Rattle.jl_calculus.specs.declared.history.Event.{Event}
 use Rattle.jl_calculus.specs.declared.history.Event.TheVariants as Ev
 use Rattle.jl_calculus.specs.Ranges.{CacheRow, keys_of, rows_of, Touches, MayBegin, SelectsSite}
-use Rattle.jl_calculus.specs.World.{changes, site_of, Selects}
+use Rattle.jl_calculus.specs.World.{changed, changes, site_of, Selects}
 use Rattle.jl_calculus.proofs.BetweenLemmas.{is_of, taken_below}
-use Rattle.jl_calculus.proofs.GrowthLemmas.{keys_append, rows_append}
+use Rattle.jl_calculus.proofs.GrowthLemmas.{changes_append, keys_append, rows_append}
 use Rattle.jl_calculus.proofs.SelectLemmas.{selects_one}
 use Rattle.jl_methods.specs.Filters.{is_row_of, row_numbers, IsDefinition, change_in}
 use Rattle.jl_methods.specs.declared.newest.NewestRow.{NewestRow}
@@ -30,7 +31,9 @@ use Rattle.jl_methods.specs.Links.{IsLast}
 use Rattle.jl_methods.specs.Newest.{IsNewest, IsNewestOf}
 use Rattle.jl_methods.proofs.TouchLemmas.{number_of, number_there}
 use Rattle.jl_causes.specs.declared.rows.Rows.{Rows}
+use Rattle.jl_causes.specs.declared.standing.Standing.{Standing}
 use Rattle.jl_causes.specs.Causes.{IsNextFill}
+use Rattle.jl_causes.specs.Stands.{AreStanding}
 use Rattle.jl_causes.specs.State.{HasRow, AreRows}
 
 -- ---- an answer that is there
@@ -124,19 +127,30 @@ has_no_row es key first n (row, stands, of_key, begins) = n.new row stands of_ke
 
 -- ---- one more event
 
+pub stands_more : (P : Program) (es : List Event) (e : Event) (c : Change) (s : Standing) → changed (e ∷ []) ≡ c ∷ [] → AreStanding P (changes es ++ c ∷ []) s → AreStanding P (changes (es ++ e ∷ [])) s
+stands_more P es e c s is h = subst (λ cs. AreStanding P cs s) (sym (changes_append es (e ∷ []) ∙ ap (λ cs. changes es ++ cs) is)) h
+
 module _ (P : Program) (es : List Event) (r q : Rows) (h : AreRows P es r) where
-  pub rows_with_key : (key : Key) → IsIndexOf P (es ++ Ev.Key key ∷ []) q.index → q.keys ≡ r.keys + 1 → q.firsts.items ≡ r.firsts.items → AreRows P (es ++ Ev.Key key ∷ []) q
-  rows_with_key key i n f = record {
+  stands_on : (e : Event) → changed (e ∷ []) ≡ [] → q.standing ≡ r.standing → AreStanding P (changes (es ++ e ∷ [])) q.standing
+  stands_on e none same =
+      subst (λ cs. AreStanding P cs q.standing) (sym (changes_append es (e ∷ []) ∙ ap (λ cs. changes es ++ cs) none ∙ append-nil (changes es)))
+      (subst (AreStanding P (changes es)) (sym same) h.standing)
+
+  pub rows_with_key : (key : Key) → IsIndexOf P (es ++ Ev.Key key ∷ []) q.index → q.keys ≡ r.keys + 1 → q.firsts.items ≡ r.firsts.items → q.standing ≡ r.standing → AreRows P (es ++ Ev.Key key ∷ []) q
+  rows_with_key key i n f s = record {
     indexed = i;
     counted = omega (arith, n, h.counted, ap length (keys_append es (Ev.Key key ∷ [])), length_push (keys_of es) key);
     beginnings = f ∙ h.beginnings ∙ ap (map (λ (row : CacheRow). row.first)) (sym (rows_append es (Ev.Key key ∷ []) ∙ append-nil (rows_of es)));
+    standing = stands_on (Ev.Key key) refl s;
   }
 
-  pub rows_with_fill : (key site first : ℕ) → IsIndexOf P (es ++ Ev.Fill key site first ∷ []) q.index → q.keys ≡ r.keys → q.firsts.items ≡ r.firsts.items ++ first ∷ [] → AreRows P (es ++ Ev.Fill key site first ∷ []) q
-  rows_with_fill key site first i n f = record {
+  pub rows_with_fill : (key site first : ℕ) → IsIndexOf P (es ++ Ev.Fill key site first ∷ []) q.index → q.keys ≡ r.keys → q.firsts.items ≡ r.firsts.items ++ first ∷ [] → q.standing ≡ r.standing
+      → AreRows P (es ++ Ev.Fill key site first ∷ []) q
+  rows_with_fill key site first i n f s = record {
     indexed = i;
     counted = n ∙ h.counted ∙ ap length (sym (keys_append es (Ev.Fill key site first ∷ []) ∙ append-nil (keys_of es)));
     beginnings = f ∙ ap (λ xs. xs ++ first ∷ []) h.beginnings ∙ sym (ap (map (λ (row : CacheRow). row.first)) (rows_append es (Ev.Fill key site first ∷ [])) ∙ map_push (rows_of es));
+    standing = stands_on (Ev.Fill key site first) refl s;
   }
     where
       map_push : (rows : List CacheRow) → map (λ (row : CacheRow). row.first) (rows ++ record { key = key; site = site; first = first } ∷ []) ≡ map (λ (row : CacheRow). row.first) rows ++ first ∷ []
@@ -144,11 +158,13 @@ module _ (P : Program) (es : List Event) (r q : Rows) (h : AreRows P es r) where
       map_push (x ∷ rows) = ap (λ xs. x.first ∷ xs) (map_push rows)
 
   -- an event that is no key and no fill
-  pub rows_with_other : (e : Event) → keys_of (e ∷ []) ≡ [] → rows_of (e ∷ []) ≡ [] → IsIndexOf P (es ++ e ∷ []) q.index → q.keys ≡ r.keys → q.firsts.items ≡ r.firsts.items → AreRows P (es ++ e ∷ []) q
-  rows_with_other e keys rows i n f = record {
+  pub rows_with_other : (e : Event) → keys_of (e ∷ []) ≡ [] → rows_of (e ∷ []) ≡ [] → IsIndexOf P (es ++ e ∷ []) q.index → q.keys ≡ r.keys → q.firsts.items ≡ r.firsts.items → AreStanding P (changes (es ++ e ∷ [])) q.standing
+      → AreRows P (es ++ e ∷ []) q
+  rows_with_other e keys rows i n f s = record {
     indexed = i;
     counted = n ∙ h.counted ∙ ap length (sym (keys_append es (e ∷ []) ∙ ap (λ ks. keys_of es ++ ks) keys ∙ append-nil (keys_of es)));
     beginnings = f ∙ h.beginnings ∙ ap (map (λ (row : CacheRow). row.first)) (sym (rows_append es (e ∷ []) ∙ ap (λ rs. rows_of es ++ rs) rows ∙ append-nil (rows_of es)));
+    standing = s;
   }
 
 -- ---- whether a key is there

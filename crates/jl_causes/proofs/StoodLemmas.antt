@@ -1,5 +1,5 @@
--- The definitions up to a world, and whether a method of a deletion place stood in the newest world of the first events.
-use Rattle.std.proofs.Common.{◌≡◌, ◌∙◌, ap, sym, subst, refl, ℕ, zero, suc, ◌+◌, ◌<◌, ◌≤◌, ◌⊎◌, inl, inr, arith, Bool, true, false, not, IsTrue, List, [], ◌∷◌, ◌++◌, length, take, drop, take-append-drop, get_or, slice_get, Some}
+-- Whether a method of a deletion place stood in the newest world of the first events.
+use Rattle.std.proofs.Common.{◌≡◌, ◌∙◌, ap, sym, subst, refl, ℕ, zero, suc, ◌+◌, ◌<◌, ◌≤◌, arith, Bool, true, false, not, IsTrue, List, length, take, drop, take-append-drop, slice_get, Option, None, Some}
 use Rattle.std.specs.Prelude.{◌↔◌}
 use Rattle.std.specs.Bool.{Decides}
 use Rattle.std.specs.List.{Contains}
@@ -9,90 +9,28 @@ use Rattle.jl_model.specs.Choice.{Method}
 use Rattle.jl_model.specs.Signature.{SameSignature}
 use Rattle.jl_program.specs.declared.tree.Delete.{Delete}
 use Rattle.jl_program.specs.declared.tree.Program.{Program}
+use Rattle.jl_program.specs.declared.tree.Site.{Site}
 use Rattle.jl_program.specs.Scope.{types_of}
 use Rattle.jl_calculus.specs.declared.history.Change.{Change}
 use Rattle.jl_calculus.specs.declared.history.Change.TheVariants as Ch
 use Rattle.jl_calculus.specs.declared.history.Def.{Def}
 use Rattle.jl_calculus.specs.declared.history.Del.{Del}
 use Rattle.jl_calculus.specs.declared.history.Event.{Event}
-use Rattle.jl_calculus.specs.Definitions.{sig_of, method_of, defs_in, defs_from, HasSite, dels_from}
+use Rattle.jl_calculus.specs.Definitions.{sig_of, method_of, defs_in, defs_from}
 use Rattle.jl_calculus.specs.Past.{IsAbsent}
 use Rattle.jl_calculus.specs.World.{changed, changes, world_of, Stands, HasMethodAt, FindsMethod}
-use Rattle.jl_calculus.proofs.GrowthLemmas.{changes_append, changes_length}
+use Rattle.jl_calculus.proofs.GrowthLemmas.{changes_append, changes_length, world_more}
 use Rattle.jl_calculus.proofs.MethodLemmas.{standing_method, method_standing}
-use Rattle.jl_methods.specs.Filters.{defs_of, dels_of}
-use Rattle.jl_methods.proofs.ChangeLemmas.{del, collected, collected_append, IsDefAt, defs_are, def_of, del_of}
-use Rattle.jl_methods.proofs.FilterLemmas.{here, there}
-use Rattle.jl_methods.proofs.PutLemmas.{get_known, take_within}
-use Rattle.jl_subsig.specs.Standing.{sig_of_place, IsLeft, HasLeftAt, HasPlace}
+use Rattle.jl_methods.specs.Filters.{change_in, defs_of, dels_of}
+use Rattle.jl_methods.proofs.ChangeLemmas.{def, del, IsDefAt, def_of, def_there, del_of, del_there}
+use Rattle.jl_methods.proofs.FunctionLemmas.{get_there}
+use Rattle.jl_methods.proofs.PutLemmas.{get_known}
+use Rattle.jl_subsig.specs.Standing.{sig_of_place, AreSameSigs, IsLeft, HasLeftAt}
 use Rattle.jl_subsig.proofs.StandingChoice.{IsKept, kept_left, left_kept}
 use Rattle.jl_world.proofs.Lists.{take_whole}
 use Rattle.jl_rows.proofs.DeletionLemmas.{deletion_of, deletion_there}
-use Rattle.jl_subsig.specs.Side.{Every}
-use Rattle.jl_rows.proofs.EachLemmas.{every_of}
-
--- ---- the definitions up to a world
-
-take_or_none : (w : ℕ) (cs : List Change) → (length (take w cs) ≡ w) ⊎ (drop w cs ≡ [])
-take_or_none zero cs = inl refl
-take_or_none (suc w) [] = inr refl
-take_or_none (suc w) (c ∷ cs) = by (take_or_none w cs)
-  where
-    by : (length (take w cs) ≡ w) ⊎ (drop w cs ≡ []) → (suc (length (take w cs)) ≡ suc w) ⊎ (drop w cs ≡ [])
-    by (inl e) = inl (ap suc e)
-    by (inr e) = inr e
-
--- so many are the first ones, where their worlds tell these from the others
-first_part : (w k : ℕ) (xs ys : List Def) → ((x : Def) → Contains xs x → x.world ≤ w) → ((y : Def) → Contains ys y → w < y.world)
-    → ((j : ℕ) (d : Def) → j < k → j < length (xs ++ ys) → (get_or (xs ++ ys) j d).world ≤ w) → ((j : ℕ) (d : Def) → k ≤ j → j < length (xs ++ ys) → w < (get_or (xs ++ ys) j d).world) → take k (xs ++ ys) ≡ xs
-first_part w zero [] [] a b low high = refl
-first_part w (suc k) [] [] a b low high = refl
-first_part w zero [] (y ∷ ys) a b low high = refl
-first_part w (suc k) [] (y ∷ ys) a b low high =
-    let l = low 0 y (omega arith) (omega arith) in
-    let m = b y (here y y ys refl) in absurd (omega (arith, l, m))
-first_part w zero (x ∷ xs) ys a b low high =
-    let l = high 0 x (omega arith) (omega arith) in
-    let m = a x (here x x xs refl) in absurd (omega (arith, l, m))
-first_part w (suc k) (x ∷ xs) ys a b low high =
-    ap (λ zs. x ∷ zs)
-    (first_part w k xs ys (λ z c. a z (there x z xs c)) b (λ j d l m. low (suc j) d (omega (arith, l)) (omega (arith, m))) (λ j d l m. high (suc j) d (omega (arith, l)) (omega (arith, m))))
-
-module _ (P : Program) (f w : ℕ) (cs : List Change) where
-  abbrev early : List Def
-  early = defs_from P f 1 (take w cs)
-
-  abbrev late : List Def
-  late = defs_from P f (1 + length (take w cs)) (drop w cs)
-
-  both : defs_from P f 1 cs ≡ early ++ late
-  both =
-      ap (defs_from P f 1) (sym (take-append-drop w cs)) ∙ defs_are P f 1 (take w cs ++ drop w cs) ∙ collected_append (λ v c. defs_from P f v (c ∷ [])) 1 (take w cs) (drop w cs)
-      ∙ ap (λ ds. ds ++ late_part) (sym (defs_are P f 1 (take w cs))) ∙ ap (λ ds. early ++ ds) (sym (defs_are P f (1 + length (take w cs)) (drop w cs)))
-    where
-      late_part : List Def
-      late_part = collected (λ v c. defs_from P f v (c ∷ [])) (1 + length (take w cs)) (drop w cs)
-
-  early_are : (d : Def) → Contains early d → d.world ≤ w
-  early_are d c =
-      let i = def_of P f 1 (take w cs) d c in
-      omega (arith, i.world_is, get_known (take w cs) i.place (Ch.Def d.site) i.change_is, take_within w cs)
-
-  late_are : (d : Def) → Contains late d → w < d.world
-  late_are d c = by (take_or_none w cs) (def_of P f (1 + length (take w cs)) (drop w cs) d c)
-    where
-      by : (length (take w cs) ≡ w) ⊎ (drop w cs ≡ []) → IsDefAt P f (1 + length (take w cs)) (drop w cs) d → w < d.world
-      by (inl e) i = omega (arith, i.world_is, e)
-      by (inr e) i = absurd (omega (arith, get_known (drop w cs) i.place (Ch.Def d.site) i.change_is, ap length e))
-
-  -- so many of the definitions are those up to a world
-  pub defs_up : (k : ℕ) (ds : List Def) → ds ≡ defs_from P f 1 cs → ((j : ℕ) (d : Def) → j < k → j < length ds → (get_or ds j d).world ≤ w) → ((j : ℕ) (d : Def) → k ≤ j → j < length ds → w < (get_or ds j d).world)
-      → take k ds ≡ early
-  defs_up k ds e low high =
-      ap (take k) (e ∙ both)
-      ∙ first_part w k early late early_are late_are
-      (subst (λ ds. (j : ℕ) (d : Def) → j < k → j < length ds → (get_or ds j d).world ≤ w) (e ∙ both) low)
-      (subst (λ ds. (j : ℕ) (d : Def) → k ≤ j → j < length ds → w < (get_or ds j d).world) (e ∙ both) high)
+use Rattle.jl_causes.specs.Stands.{AreOfOne, IsAlike, IsThere, HasThere}
+use Rattle.jl_causes.proofs.TruthLemmas.{get_taken}
 
 -- the changes of the first events are the first changes
 pub first_changes : (es : List Event) (at w : ℕ) → world_of (take at es) ≡ w → take w (changes es) ≡ changes (take at es)
@@ -149,6 +87,141 @@ module _ (P : Program) (es : List Event) (f place : ℕ) (p : Delete) (at : slic
   pub stood : HasLeftAt P gone (defs_of P es f) place ↔ FindsMethod P es place
   stood = (stood_from, stood_to)
 
+-- ---- by the sites that a deletion at the place takes away
+
+module _ (P : Program) (es : List Event) (place : ℕ) (p : Delete) (at : slice_get P.deletes place ≡ Some p) where
+  abbrev cs : List Change
+  cs = changes es
+
+  -- a site of the function and the signature of the place
+  record IsSiteOf (site : ℕ) : Type 0 where
+    pub row : Site
+    pub stands : slice_get P.sites site ≡ Some row
+    pub function_is : row.function ≡ p.function
+
+  site_of_alike : (site : ℕ) → IsAlike P site place → IsSiteOf site
+  site_of_alike site a = by (slice_get P.sites site) refl (subst (AreOfOne (slice_get P.sites site)) at a.one)
+    where
+      by : (o : Option Site) → slice_get P.sites site ≡ o → AreOfOne o (Some p) → IsSiteOf site
+      by None q one = absurd one
+      by (Some s) q one = record { row = s; stands = q; function_is = one }
+
+  -- a deletion of its function
+  record IsPlaceOf (other : ℕ) : Type 0 where
+    pub row : Delete
+    pub stands : slice_get P.deletes other ≡ Some row
+    pub function_is : row.function ≡ p.function
+
+  place_of_alike : (site other : ℕ) → IsSiteOf site → IsAlike P site other → IsPlaceOf other
+  place_of_alike site other i a = by (slice_get P.deletes other) refl (subst (λ o. AreOfOne o (slice_get P.deletes other)) i.stands a.one)
+    where
+      by : (o : Option Delete) → slice_get P.deletes other ≡ o → AreOfOne (Some i.row) o → IsPlaceOf other
+      by None q one = absurd one
+      by (Some d) q one = record { row = d; stands = q; function_is = sym one ∙ i.function_is }
+
+  alike_rows : (site other : ℕ) (s : Site) (d : Delete) → slice_get P.sites site ≡ Some s → slice_get P.deletes other ≡ Some d → s.function ≡ d.function → AreSameSigs P site other → IsAlike P site other
+  alike_rows site other s d q r e same = record { one = subst (λ o. AreOfOne o (slice_get P.deletes other)) (sym q) (subst (AreOfOne (Some s)) (sym r) e); same = same }
+
+  change_known : (w : ℕ) (c : Change) → change_in cs w ≡ Some c → (j : ℕ) × (w ≡ suc j) × (slice_get cs j ≡ Some c) × (j < length cs)
+  change_known zero c q = absurd (cc q)
+  change_known (suc j) c q = (j, refl, q, get_known cs j c q)
+
+  module _ (left : HasLeftAt P (dels_of P es p.function) (defs_of P es p.function) place) where
+    there_from : HasThere P cs place (length cs)
+    there_from = (d.site, alike_rows d.site place i.site p i.stands at i.function_is left.same, record { made = d.world; change_is = change_in_is; up = omega (arith, i.world_is, get_known cs i.place (Ch.Def d.site) i.change_is); kept = kept })
+      where
+        d : Def
+        d = left.def
+
+        i : IsDefAt P p.function 1 cs d
+        i = def_of P p.function 1 cs d left.stands
+
+        change_in_is : change_in cs d.world ≡ Some (Ch.Def d.site)
+        change_in_is = let q : d.world ≡ suc i.place = omega (arith, i.world_is) in ap (change_in cs) q ∙ i.change_is
+
+        kept : (w other : ℕ) → d.world < w → w ≤ length cs → change_in cs w ≡ Some (Ch.Del other) → IsAlike P d.site other → ⊥
+        kept w other low high q a =
+            let (j, is, there, within) = change_known w (Ch.Del other) q in
+            let o = place_of_alike d.site other (record { row = i.site; stands = i.stands; function_is = i.function_is }) a in
+            left.is_left (del (1 + j) other) (del_there P p.function 1 cs j other o.row there o.stands o.function_is) (record { later = omega (arith, low, is); same = a.same })
+
+  left_from : HasThere P cs place (length cs) → HasLeftAt P (dels_of P es p.function) (defs_of P es p.function) place
+  left_from (site, alike, t) =
+      let i = site_of_alike site alike in
+      let (j, is, there, within) = change_known t.made (Ch.Def site) t.change_is in
+      record {
+        def = def (1 + j) site;
+        stands = def_there P p.function 1 cs j site i.row there i.stands i.function_is;
+        is_left = λ e c taken.
+            let k = del_of P p.function 1 cs e c in
+            let world : e.world ≡ suc k.place = omega (arith, k.world_is) in
+            let later = taken.later in
+            t.kept e.world e.place (omega (arith, is, later)) (omega (arith, world, get_known cs k.place (Ch.Del e.place) k.change_is)) (ap (change_in cs) world ∙ k.change_is)
+            (alike_rows site e.place i.row k.row i.stands k.stands (i.function_is ∙ sym k.function_is) taken.same);
+        same = alike.same;
+      }
+
+-- what is made of the changes up to a world is what was made of the first events
+module _ (P : Program) (es : List Event) (at world : ℕ) (is : world_of (take at es) ≡ world) where
+  up_is : take world (changes es) ≡ changes (take at es)
+  up_is = first_changes es at world is
+
+  pub world_there : world ≤ length (changes es)
+  world_there = omega (arith, is, changes_length es, world_more (take at es) (drop at es), ap world_of (take-append-drop at es))
+
+  past_length : length (changes (take at es)) ≡ world
+  past_length = changes_length (take at es) ∙ is
+
+  change_up : (w : ℕ) → w ≤ world → change_in (changes (take at es)) w ≡ change_in (changes es) w
+  change_up zero l = refl
+  change_up (suc j) l = ap (λ cs. slice_get cs j) (sym up_is) ∙ get_taken world j (changes es) (omega (arith, l))
+
+  there_up : (site : ℕ) → IsThere P (changes es) site world → IsThere P (changes (take at es)) site world
+  there_up site t =
+      record {
+        made = t.made;
+        change_is = change_up t.made t.up ∙ t.change_is;
+        up = t.up;
+        kept = λ w place low high q. t.kept w place low high (sym (change_up w high) ∙ q);
+      }
+
+  there_down : (site : ℕ) → IsThere P (changes (take at es)) site world → IsThere P (changes es) site world
+  there_down site t =
+      record {
+        made = t.made;
+        change_is = sym (change_up t.made t.up) ∙ t.change_is;
+        up = t.up;
+        kept = λ w place low high q. t.kept w place low high (change_up w high ∙ q);
+      }
+
+  -- a method of the signature of a place stands where one of a site does that the place takes away
+  pub found_by : (place : ℕ) → place < length P.deletes → HasThere P (changes es) place world ↔ FindsMethod P (take at es) place
+  found_by place known = (to, from)
+    where
+      to : HasThere P (changes es) place world → FindsMethod P (take at es) place
+      to (site, alike, t) =
+          let (p, q) = get_there P.deletes place known in
+          (stood P (take at es) p.function place p q refl).0
+          (left_from P (take at es) place p q (site, alike, subst (IsThere P (changes (take at es)) site) (sym past_length) (there_up site t)))
+
+      from : FindsMethod P (take at es) place → HasThere P (changes es) place world
+      from found =
+          let (p, q) = get_there P.deletes place known in
+          let (site, alike, t) = there_from P (take at es) place p q ((stood P (take at es) p.function place p q refl).1 found) in
+          (site, alike, there_down site (subst (IsThere P (changes (take at es)) site) past_length t))
+
+-- after all events
+pub finds_now : (P : Program) (es : List Event) (place world : ℕ) (b : Bool) → (world_of (take (length es) es) ≡ world → Decides b (FindsMethod P (take (length es) es) place)) → world ≡ world_of es → Decides b (FindsMethod P es place)
+finds_now P es place world b answer now = subst (λ xs. Decides b (FindsMethod P xs place)) (take_whole es) (answer (ap world_of (take_whole es) ∙ sym now))
+
+-- a place at which a method may be found is one of the program
+pub place_found : (P : Program) (es : List Event) (place : ℕ) → FindsMethod P es place → place < length P.deletes
+place_found P es place found = by (slice_get P.deletes place) refl found
+  where
+    by : (o : Option Delete) → slice_get P.deletes place ≡ o → HasMethodAt P es (world_of es) o → place < length P.deletes
+    by None q h = absurd h
+    by (Some p) q h = get_known P.deletes place p q
+
 -- ---- whether there is nothing to delete after the first events
 
 module _ (P : Program) (es : List Event) (place at : ℕ) where
@@ -161,11 +234,3 @@ module _ (P : Program) (es : List Event) (place at : ℕ) where
   pub absent_by : (b : Bool) → at ≤ length es → place < length P.deletes → world_of (take at es) < MOST_WORLDS → Decides b (FindsMethod P (take at es) place) → IsTrue (not b) ↔ AbsentThere
   absent_by true l known room d = ((λ yes. absurd (cc yes)), (λ h. absurd (h.1.absent (d.0 refl))))
   absent_by false l known room d = ((λ yes. (l, record { known = known; room = room; absent = λ found. (let z : false ≡ true = d.1 found in cc) })), (λ h. refl))
-
--- the definitions of a function have sites, its deletions places
-pub defs_sites : (P : Program) (f : ℕ) (cs : List Change) → Every (HasSite P) (defs_from P f 1 cs)
-defs_sites P f cs =
-    every_of (HasSite P) (defs_from P f 1 cs) (λ d c. (let i = def_of P f 1 cs d c in get_known P.sites d.site i.site i.stands))
-
-pub dels_places : (P : Program) (f : ℕ) (cs : List Change) → Every (HasPlace P) (dels_from P f 1 cs)
-dels_places P f cs = every_of (HasPlace P) (dels_from P f 1 cs) (λ e c. (let i = del_of P f 1 cs e c in get_known P.deletes e.place i.row i.stands))

@@ -20,7 +20,7 @@ use Rattle.jl_causes.specs.Tables.{IsDefAt, IsDelAt, IsSpawnAt, is_own}
 use Rattle.jl_causes.proofs.SketchLemmas.{tell_take, event_at, entry_at, outcome_untold}
 use Rattle.jl_causes.proofs.TraceLemmas.{ended_is, is_ended}
 
-get_taken : {X : Type 0} (n p : ℕ) (xs : List X) → p < n → slice_get (take n xs) p ≡ slice_get xs p
+pub get_taken : {X : Type 0} (n p : ℕ) (xs : List X) → p < n → slice_get (take n xs) p ≡ slice_get xs p
 get_taken zero p xs l = absurd (omega (arith, l))
 get_taken (suc n) p [] l = refl
 get_taken (suc n) zero (x ∷ xs) l = refl

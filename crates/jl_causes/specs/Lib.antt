@@ -2,6 +2,7 @@ pub mod Sketch
 pub mod Causes
 pub mod Laws
 pub mod Tables
+pub mod Stands
 pub mod State
 pub mod Judged
 pub mod KeyTexts

@@ -12,8 +12,8 @@ use std::alloc::{AllocError, Global};
 
 /// The first entry of which a cause holds that can be told without a run, and the first such cause in the table; none where there
 /// is no such entry. The cost is in the length of the text, in the number of keys for each key, in the rows of its key for
-/// each fill that begins before the newest of these, in that of the choices of the fills, and in the definitions and the deletions of its
-/// function for each deletion and for each step that found none to delete.
+/// each fill that begins before the newest of these, in that of the choices of the fills, and for each deletion, and each step that
+/// found none to delete, in the sites of its function and signature, which are found once for each place.
 pub fn first_cause(
     alloc: Global,
     ready: &Ready,

@@ -47,7 +47,7 @@ impl Judge {
         ensures { IfOk result (λ judge. (fuel : ℕ) → IsJudgeOf ready.now entries.now (Begin fuel ∷ []) judge) }
     {
         Ok(Judge {
-            rows: Rows::new(alloc, ready)?,
+            rows: Rows::new(alloc, ready, entries)?,
             tasks: Tasks::new(alloc)?,
             places: Places::new(alloc)?,
             finished: find_finished(alloc, entries)?,
@@ -134,7 +134,6 @@ impl Judge {
         task: u32,
         place: u32,
     ) -> Result<Option<Cause>, AllocError>
-        requires { (all : List Entry) × (es : List Event) × IsJudgeOf ready.now all es self.now }
         ensures { IfOk result (λ found. (all : List Entry) (es : List Event) → IsJudgeOf ready.now all es self.now → IsJudged ready.now all es (E.Del task place) found) }
     {
         if !self.tasks.is_running(task) {
@@ -144,11 +143,11 @@ impl Judge {
         if place as usize >= count {
             return Ok(Some(Cause::Site));
         }
-        let has_method = self.rows.has_method(alloc, ready, place)?;
+        let world = self.places.newest().world;
+        let has_method = self.rows.has_method_in(alloc, ready, place, world)?;
         if !has_method {
             return Ok(Some(Cause::NoDefinition));
         }
-        let world = self.places.newest().world;
         if world as usize >= MOST_WORLDS {
             return Ok(Some(Cause::Limit));
         }

@@ -46,22 +46,16 @@ impl Judge {
         Ok(())
     }
 
-    fn note_def(
-        &mut self,
-        alloc: Global,
-        ready: &Ready,
-        task: u32,
-        site: u32,
-        at: u32,
-    ) -> Result<(), AllocError>
+    fn note_def(&mut self, ready: &Ready, task: u32, site: u32, at: u32) -> Result<(), AllocError>
         requires { (all : List Entry) × (es : List Event) × IsJudgeOf ready.now all es self.old × MayCome ready.now es (Ev.Def task site) }
         ensures { OnOk result ((all : List Entry) (es : List Event) → IsJudgeOf ready.now all es self.old → MayCome ready.now es (Ev.Def task site) → at ≡ length es → IsJudgeOf ready.now all (es ++ Ev.Def task site ∷ []) self.new) }
     {
-        self.rows.note_def(alloc, ready, task, site)?;
-        self.tasks.define(task, site, at)?;
         let old = self.places.newest();
+        let world = old.world + 1;
+        self.rows.note_def(ready, task, site, world)?;
+        self.tasks.define(task, site, at)?;
         self.places.note(Counts {
-            world: old.world + 1,
+            world,
             tasks: old.tasks,
         })?;
         Ok(())
@@ -78,11 +72,12 @@ impl Judge {
         requires { (all : List Entry) × (es : List Event) × IsJudgeOf ready.now all es self.old × MayCome ready.now es (Ev.Del task place) }
         ensures { OnOk result ((all : List Entry) (es : List Event) → IsJudgeOf ready.now all es self.old → MayCome ready.now es (Ev.Del task place) → at ≡ length es → IsJudgeOf ready.now all (es ++ Ev.Del task place ∷ []) self.new) }
     {
-        self.rows.note_del(alloc, ready, task, place)?;
-        self.tasks.delete(task, place, at)?;
         let old = self.places.newest();
+        let world = old.world + 1;
+        self.rows.note_del(alloc, ready, task, place, world)?;
+        self.tasks.delete(task, place, at)?;
         self.places.note(Counts {
-            world: old.world + 1,
+            world,
             tasks: old.tasks,
         })?;
         Ok(())
@@ -146,7 +141,7 @@ impl Judge {
                 Ok(())
             }
             Entry::Def { task, site } => {
-                self.note_def(alloc, ready, *task, *site, at)?;
+                self.note_def(ready, *task, *site, at)?;
                 Ok(())
             }
             Entry::Del { task, place } => {

@@ -1,6 +1,6 @@
 //! The keys, the rows, the definitions and the deletions of the events.
 
-ghost use Rattle.std.specs.Prelude.{◌≡◌, ◌≤◌, ◌<◌, ◌↔◌, ◌++◌, ◌∷◌, [], ℕ, List, IsTrue, IfOk, OnOk, length, take, slice_get, Some};
+ghost use Rattle.std.specs.Prelude.{◌≡◌, ◌<◌, ◌+◌, ◌↔◌, ◌++◌, ◌∷◌, [], ℕ, List, IsTrue, IfOk, OnOk, length, take, slice_get, Some};
 ghost use Rattle.std.specs.Bool.{Decides};
 ghost use Rattle.std.specs.List.{Contains};
 ghost use Rattle.jl_model.specs.declared.ty.Key.{Key};
@@ -10,31 +10,30 @@ ghost use Rattle.jl_calculus.specs.declared.history.Event.TheVariants.{Begin, Ke
 ghost use Rattle.jl_calculus.specs.Legal.{MayCome};
 ghost use Rattle.jl_calculus.specs.Ranges.{keys_of, MayBegin, SelectsSite};
 ghost use Rattle.jl_calculus.specs.World.{world_of, FindsMethod};
-ghost use Rattle.jl_calculus.specs.Definitions.{defs_in};
-ghost use Rattle.jl_program.specs.declared.tree.Delete.{Delete};
-ghost use Rattle.jl_methods.specs.Filters.{defs_of};
 ghost use Rattle.jl_methods.specs.Indexed.{IsIndexOf, MayBeNoted};
 ghost use Rattle.jl_causes.specs.Causes.{IsNextFill};
 ghost use Rattle.jl_causes.specs.State.{AreRows, HasRow};
 
-use jl_calculus::history::{Def, Event};
+use crate::standing::Standing;
+use jl_calculus::history::Event;
 use jl_methods::Index;
 use jl_model::limits::MOST_CACHE_ROWS;
 use jl_model::ty::Key;
 use jl_program::choice::Choice;
 use jl_program::prelude::FIRST_WORLD;
-use jl_rows::{choose_for_key, has_method};
+use jl_report::Entry;
+use jl_rows::choose_for_key;
 use jl_sig::Ready;
-use jl_subsig::has_standing;
 use jl_types::same::same_all;
 use std::alloc::{AllocError, Global};
 
-/// The lists by function and by key, how many keys there are, and the first world of each row.
+/// The lists by function and by key, how many keys there are, the first world of each row, and what stands.
 #[derive(Drop)]
 pub(crate) struct Rows {
     index: Index,
     keys: u32,
     firsts: Vec<u32>,
+    standing: Standing,
 }
 
 /// Whether two keys are the same.
@@ -42,21 +41,6 @@ fn is_same_key(a: &Key, b: &Key) -> bool
     ensures { IsTrue result ↔ (a.now ≡ b.now) }
 {
     a.function == b.function && same_all(a.types.as_slice(), b.types.as_slice())
-}
-
-/// The function of a deletion place.
-fn function_at(ready: &Ready, place: u32) -> u32
-    requires { place < length ready.now.deletes }
-    ensures { (p : Delete) → slice_get ready.now.deletes place ≡ Some p → result ≡ p.function }
-{
-    ready.program().deletes.as_slice()[place as usize].function
-}
-
-/// Those of the definitions of a function, in order, that were made up to a world. They are found by halves.
-fn up_to(defs: &[Def], world: u32) -> &[Def]
-    ensures { (P : Program) (es : List Event) (f : ℕ) → defs.now ≡ defs_of P es f → result.now ≡ defs_in P es f world }
-{
-    &defs[..defs.partition_point(|def| def.world <= world)]
 }
 
 /// One more event.
@@ -70,15 +54,17 @@ fn note_event(index: &mut Index, ready: &Ready, event: &Event) -> Result<(), All
 }
 
 impl Rows {
-    /// Those of a history that has begun.
-    pub(crate) fn new(alloc: Global, ready: &Ready) -> Result<Rows, AllocError>
+    /// Those of a history with these entries that has begun.
+    pub(crate) fn new(alloc: Global, ready: &Ready, entries: &[Entry]) -> Result<Rows, AllocError>
         ensures { IfOk result (λ rows. (fuel : ℕ) → AreRows ready.now (Begin fuel ∷ []) rows) }
     {
         let index = Index::new(alloc, ready)?;
+        let standing = Standing::new(alloc, ready, entries)?;
         Ok(Rows {
             index,
             keys: 0,
             firsts: Vec::new(alloc),
+            standing,
         })
     }
 
@@ -179,22 +165,8 @@ impl Rows {
         Ok(self.index.site(method) == site)
     }
 
-    /// Whether a method of the function and the signature of a deletion place stands in the newest world.
-    pub(crate) fn has_method(
-        &self,
-        alloc: Global,
-        ready: &Ready,
-        place: u32,
-    ) -> Result<bool, AllocError>
-        requires place { place < length ready.now.deletes }
-        requires rows { (es : List Event) × AreRows ready.now es self.now }
-        ensures { IfOk result (λ yes. (es : List Event) → AreRows ready.now es self.now → Decides yes (FindsMethod ready.now es place)) }
-    {
-        has_method(alloc, ready, &self.index, place)
-    }
-
-    /// Whether one stood in this world, which was the newest after the first events. The cost is in the definitions and the deletions
-    /// of the function up to the world.
+    /// Whether a method of the function and the signature of a deletion place stood in this world, which was the newest after the first
+    /// events. The cost is in the sites that the place takes away.
     pub(crate) fn has_method_in(
         &self,
         alloc: Global,
@@ -202,15 +174,11 @@ impl Rows {
         place: u32,
         world: u32,
     ) -> Result<bool, AllocError>
-        requires place { place < length ready.now.deletes }
-        requires rows { (es : List Event) × AreRows ready.now es self.now }
+        requires { place < length ready.now.deletes }
         ensures { IfOk result (λ yes. (es : List Event) (at : ℕ) → AreRows ready.now es self.now → world_of (take at es) ≡ world → Decides yes (FindsMethod ready.now (take at es) place)) }
     {
-        let function = function_at(ready, place);
-        let defs = up_to(self.index.defs_of(function), world);
-        let dels = self.index.dels_up_to(function, world);
-        let is_standing = has_standing(alloc, ready, place, defs, dels)?;
-        Ok(is_standing)
+        let found = self.standing.has_method(alloc, ready, place, world)?;
+        Ok(found)
     }
 
     /// One more key.
@@ -250,39 +218,42 @@ impl Rows {
         Ok(())
     }
 
-    /// One more definition.
+    /// One more definition, which makes this world.
     pub(crate) fn note_def(
         &mut self,
-        alloc: Global,
         ready: &Ready,
         task: u32,
         site: u32,
+        world: u32,
     ) -> Result<(), AllocError>
         requires { (es : List Event) × AreRows ready.now es self.old × MayCome ready.now es (DefEvent task site) }
-        ensures { OnOk result ((es : List Event) → AreRows ready.now es self.old → MayCome ready.now es (DefEvent task site) → AreRows ready.now (es ++ DefEvent task site ∷ []) self.new) }
+        ensures { OnOk result ((es : List Event) → AreRows ready.now es self.old → MayCome ready.now es (DefEvent task site) → world ≡ world_of es + 1 → AreRows ready.now (es ++ DefEvent task site ∷ []) self.new) }
     {
         let event = Event::Def { task, site };
         let noted = note_event(&mut self.index, ready, &event);
         drop(event);
         noted?;
+        self.standing.define(site, world)?;
         Ok(())
     }
 
-    /// One more deletion.
+    /// One more deletion, which makes this world.
     pub(crate) fn note_del(
         &mut self,
         alloc: Global,
         ready: &Ready,
         task: u32,
         place: u32,
+        world: u32,
     ) -> Result<(), AllocError>
         requires { (es : List Event) × AreRows ready.now es self.old × MayCome ready.now es (DelEvent task place) }
-        ensures { OnOk result ((es : List Event) → AreRows ready.now es self.old → MayCome ready.now es (DelEvent task place) → AreRows ready.now (es ++ DelEvent task place ∷ []) self.new) }
+        ensures { OnOk result ((es : List Event) → AreRows ready.now es self.old → MayCome ready.now es (DelEvent task place) → world ≡ world_of es + 1 → AreRows ready.now (es ++ DelEvent task place ∷ []) self.new) }
     {
         let event = Event::Del { task, place };
         let noted = note_event(&mut self.index, ready, &event);
         drop(event);
         noted?;
+        self.standing.delete(alloc, ready, place, world)?;
         Ok(())
     }
 }

@@ -54,7 +54,6 @@ fn is_absent(
     place: u32,
     at: u32,
 ) -> Result<bool, AllocError>
-    requires { (all : List Entry) × (es : List Event) × IsJudgeOf ready.now all es judge.now }
     ensures { IfOk result (λ yes. (all : List Entry) (es : List Event) → IsJudgeOf ready.now all es judge.now → IsTrue yes ↔ ((at ≤ length es) × IsAbsent ready.now (take at es) place)) }
 {
     let count = ready.program().deletes.len();

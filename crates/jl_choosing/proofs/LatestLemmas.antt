@@ -1,10 +1,11 @@
 -- The latest definitions of their sites.
-use Rattle.std.proofs.Common.{◌≡◌, ◌∙◌, sym, ap, subst, refl, ℕ, zero, suc, ◌+◌, ◌-◌, ◌<◌, ◌≤◌, ◌⊎◌, inl, inr, arith, true, false, cond, nat_le, Bool, List, [], ◌∷◌, ◌++◌, length, take, drop, get_or}
+use Rattle.std.proofs.Common.{◌≡◌, ◌∙◌, sym, ap, subst, refl, ℕ, zero, suc, ◌+◌, ◌-◌, ◌<◌, ◌≤◌, ◌⊎◌, inl, inr, arith, true, false, cond, nat_le, Bool, List, [], ◌∷◌, ◌++◌, length, take, drop, get_or, Option, None, Some}
 use Rattle.std.specs.List.{Contains}
-use Rattle.std.proofs.lemmas.List.{get_or_append_left}
+use Rattle.std.proofs.lemmas.List.{get_or_append_left, take_all, take_more}
 use Rattle.jl_calculus.specs.declared.history.Def.{Def}
 use Rattle.jl_subsig.specs.Standing.{HasLaterAtSite}
-use Rattle.jl_choosing.specs.ByFunction.{in_world, Rising, AreBefore, AreLatest, IsKeptSo, IsRenewed}
+use Rattle.jl_choosing.specs.declared.changes.Older.{Older}
+use Rattle.jl_choosing.specs.ByFunction.{in_world, Rising, AreBefore, AreLatest, HasLater, IsKeptSo, IsOlder, IsOlderSo, IsRenewed}
 
 abbrev nothing : Def
 nothing = record { world = 0; site = 0 }
@@ -204,5 +205,65 @@ world_all_seen w last all latest seen some h e f b l =
     subst (AreLatest (in_world w all)) (sym f) (world_all w all latest h (λ n. (let q = told n in omega (arith, q, l))))
 
 -- the latest ones of definitions that are the same
-pub latest_of : (all other some : List Def) → all ≡ other → AreLatest all some → AreLatest other some
-latest_of all other some e h = subst (λ ds. AreLatest ds some) e h
+pub latest_same : (all other some : List Def) → all ≡ other → AreLatest all some → AreLatest other some
+latest_same all other some e h = subst (λ ds. AreLatest ds some) e h
+
+-- ---- the latest ones, found one after another
+
+-- those that rise from a number on are no lower
+no_lower : (low i : ℕ) (ds : List Def) → Rising low ds → i < length ds → low ≤ (get_or ds i nothing).world
+no_lower low i [] h l = absurd (omega (arith, l))
+no_lower low zero (y ∷ ds) h l = h.0
+no_lower low (suc i) (y ∷ ds) h l = let a = h.0 in let b = no_lower (y.world + 1) i ds h.1 (omega (arith, l)) in omega (arith, a, b)
+
+-- those before one are of earlier worlds
+front_before : (low i : ℕ) (ds : List Def) → Rising low ds → i < length ds → AreBefore (get_or ds i nothing).world (take i ds)
+front_before low i [] h l d c = absurd (omega (arith, l))
+front_before low zero (x ∷ ds) h l d (k, m, e) = absurd (omega (arith, m))
+front_before low (suc i) (x ∷ ds) h l d (zero, m, e) =
+    let w : x.world ≡ d.world = ap (λ (z : Def). z.world) e in
+    let past = no_lower (x.world + 1) i ds h.1 (omega (arith, l)) in
+    omega (arith, w, past)
+front_before low (suc i) (x ∷ ds) h l d (suc k, m, e) = front_before (x.world + 1) i ds h.1 (omega (arith, l)) d (k, omega (arith, m), e)
+
+pub kept_next : (defs latest new : List Def) (i : ℕ) → Rising 0 defs → i < length defs → IsKeptSo (take i defs) latest → IsRenewed (get_or defs i nothing) latest new
+    → IsKeptSo (take (i + 1) defs) new
+kept_next defs latest new i h l k r = kept_push (get_or defs i nothing) (take i defs) latest (take (i + 1) defs) new k (front_before 0 i defs h l) (take_more defs i nothing l) r
+
+pub kept_whole : (defs latest : List Def) (i : ℕ) → length defs ≤ i → IsKeptSo (take i defs) latest → AreLatest defs latest
+kept_whole defs latest i l k = subst (λ ds. AreLatest ds latest) (take_all i defs l) k.latest_ones
+
+-- ---- an older world
+
+-- what an older world has does not change
+older_same : (low w : ℕ) (all : List Def) (def : Def) → w < def.world → in_world w (all ++ def ∷ []) ≡ in_world w all
+older_same low w [] def l = let no : nat_le def.world w ≡ false = grind (arith, l) in rw no refl
+older_same low w (x ∷ all) def l = ap (λ xs. cond (nat_le x.world w) (x ∷ xs) []) (older_same low w all def l)
+
+pub older_push : (def : Def) (all more : List Def) (older : Option Older) → AreBefore def.world all → more ≡ all ++ def ∷ [] → IsOlderSo all older → IsOlderSo more older
+older_push def all more None b e h = tt
+older_push def all more (Some older) b e h =
+    let first = b h.later.one h.later.came in
+    let after = h.later.after in
+    subst (λ ds. IsOlder ds older) (sym e) (record {
+      later = record { one = h.later.one; came = push_stay all def h.later.one h.later.came; after = h.later.after };
+      latest_ones = subst (λ ds. AreLatest ds older.defs.items) (sym (older_same 0 older.world all def (omega (arith, first, after)))) h.latest_ones;
+    })
+
+-- the last one is later than a world
+last_contained : (ds : List Def) → 1 ≤ length ds → Contains ds (get_or ds (length ds - 1) nothing)
+last_contained [] l = absurd (omega (arith, l))
+last_contained (x ∷ []) l = (0, omega arith, refl)
+last_contained (x ∷ y ∷ ds) l = subst (Contains (x ∷ y ∷ ds)) (sym (last_is x y ds)) (at_later x (y ∷ ds) _ (last_contained (y ∷ ds) (omega arith)))
+
+pub has_later : (world last : ℕ) (all seen : List Def) → seen ≡ all → (1 ≤ length seen → (get_or seen (length seen - 1) nothing).world ≡ last) → (length seen ≡ 0 → last ≡ 0) → (last ≤ world → ⊥)
+    → HasLater world all
+has_later world last all [] e told none more = absurd (more (let z = none refl in omega (arith, z)))
+has_later world last all (x ∷ xs) e told none more =
+    let one : 1 ≤ length (x ∷ xs) = omega arith in
+    let is = told one in
+    subst (HasLater world) e (record {
+      one = get_or (x ∷ xs) (length (x ∷ xs) - 1) nothing;
+      came = last_contained (x ∷ xs) one;
+      after = (let m : world < last = omega (arith, more) in omega (arith, is, m));
+    })

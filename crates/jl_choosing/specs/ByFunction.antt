@@ -1,5 +1,5 @@
 -- Definitions and deletions by their functions.
-use Rattle.std.specs.Prelude.{ℕ, ◌+◌, ◌≡◌, ◌<◌, ◌≤◌, ◌⊎◌, cond, nat_le, List, [], ◌∷◌, length, get_or}
+use Rattle.std.specs.Prelude.{ℕ, ◌+◌, ◌≡◌, ◌<◌, ◌≤◌, ◌⊎◌, cond, nat_le, List, [], ◌∷◌, length, get_or, Option, None, Some}
 use Rattle.std.specs.List.{Contains}
 use Rattle.jl_calculus.specs.declared.history.Change.{Change}
 use Rattle.jl_calculus.specs.declared.history.Def.{Def}
@@ -7,6 +7,7 @@ use Rattle.jl_calculus.specs.declared.history.Del.{Del}
 use Rattle.jl_program.specs.declared.tree.Program.{Program}
 use Rattle.jl_calculus.specs.Definitions.{defs_from, dels_from}
 use Rattle.jl_subsig.specs.Standing.{HasLaterAtSite, IsRepeated}
+use Rattle.jl_choosing.specs.declared.changes.Older.{Older}
 
 -- those of a list of definitions, in order, that a world has
 abbrev pub in_world : ℕ → List Def → List Def
@@ -32,6 +33,21 @@ pub record AreLatest (all some : List Def) : Type 0 where
 pub record IsKeptSo (all latest : List Def) : Type 0 where
   pub rising : Rising 0 all
   pub latest_ones : AreLatest all latest
+
+-- one of these definitions is later than a world
+pub record HasLater (world : ℕ) (all : List Def) : Type 0 where
+  pub one : Def
+  pub came : Contains all one
+  pub after : world < one.world
+
+-- the definitions of an older world, after which one came: those that it has, the latest of each site at least
+pub record IsOlder (all : List Def) (older : Older) : Type 0 where
+  pub later : HasLater older.world all
+  pub latest_ones : AreLatest (in_world older.world all) older.defs.items
+
+abbrev pub IsOlderSo : List Def → Option Older → Type 0
+IsOlderSo all None = Unit {0}
+IsOlderSo all (Some older) = IsOlder all older
 
 -- one definition came, and at most one of its site went
 pub record IsRenewed (def : Def) (old new : List Def) : Type 0 where

@@ -1,2 +1,3 @@
 pub mod ByFunction
 pub mod Picked
+pub mod Tested

@@ -1,6 +1,6 @@
 //! The definitions and the deletions that were made, in order, and found by their functions.
 
-ghost use Rattle.std.specs.Prelude.{ℕ, ◌-◌, ◌≡◌, ◌<◌, MatchOption, ◌≤◌, ◌++◌, [], ◌∷◌, List, map, take, length, get_or, IfOk, OnOk, OnErr};
+ghost use Rattle.std.specs.Prelude.{ℕ, false, ◌-◌, ◌≡◌, ◌<◌, MatchOption, ◌≤◌, ◌++◌, [], ◌∷◌, List, map, take, length, get_or, IfOk, OnOk, OnErr};
 ghost use Rattle.jl_model.specs.declared.limits.TheConstants.{MOST_WORLDS};
 ghost use Rattle.jl_program.specs.declared.tree.Program.{Program};
 ghost use Rattle.jl_program.specs.Prelude.{prelude_numbers};
@@ -14,9 +14,10 @@ ghost use Rattle.jl_methods.specs.Filters.{IsOfProgram};
 ghost use Rattle.jl_methods.specs.Latest.{renewed, place_number};
 ghost use Rattle.jl_methods.specs.Numbered.{put_at};
 ghost use Rattle.jl_methods.specs.Room.{IsRoomy};
-ghost use Rattle.jl_choosing.specs.ByFunction.{in_world, AreBefore, AreDelsBefore, AreLatest, AreLatestDels, IsRenewed};
+ghost use Rattle.jl_choosing.specs.ByFunction.{in_world, AreBefore, AreDelsBefore, AreLatest, AreLatestDels, HasLater, IsRenewed, Rising};
 
 use crate::choosing::choose_among;
+use crate::tested::Tested;
 use jl_calculus::history::{Change, Def, Del};
 use jl_model::ty::Key;
 use jl_program::choice::Choice;
@@ -25,12 +26,20 @@ use jl_sig::Ready;
 use std::alloc::{AllocError, Global};
 use std::marker::Model;
 
+/// The latest definitions of their sites in a world after which others came.
+#[derive(Drop)]
+struct Older {
+    world: u32,
+    defs: Vec<Def>,
+}
+
 /// The definitions of one function, in order, which contracts see as their list. Beside them stand the latest ones of their
-/// sites, so that a site that is defined again and again counts once.
+/// sites, so that a site that is defined again and again counts once, and those of the older world that was asked for last.
 #[derive(Drop)]
 struct Methods {
     all: Vec<Def>,
     latest: Vec<Def>,
+    older: Option<Older>,
 }
 
 impl Model for Methods {
@@ -38,7 +47,7 @@ impl Model for Methods {
     ghost use Rattle.std.specs.Coded.{coded_list};
     ghost use Rattle.jl_calculus.specs.declared.history.Def.{Def};
     ghost use Rattle.jl_calculus.specs.contracts.history.Def as d;
-    ghost use Rattle.jl_choosing.specs.ByFunction.{IsKeptSo};
+    ghost use Rattle.jl_choosing.specs.ByFunction.{IsKeptSo, IsOlderSo};
 
     ghost Value = { List Def };
 
@@ -46,7 +55,7 @@ impl Model for Methods {
 
     ghost view = { λ m. m.all.items };
 
-    ghost invariant = { λ m. IsKeptSo m.all.items m.latest.items };
+    ghost invariant = { λ m. IsKeptSo m.all.items m.latest.items × IsOlderSo m.all.items m.older };
 }
 
 /// The place of the definition of a site.
@@ -74,6 +83,18 @@ fn renew(latest: &mut Vec<Def>, def: Def) -> Result<(), AllocError>
     Ok(())
 }
 
+/// The latest ones of their sites among definitions in order.
+fn latest_of(alloc: Global, defs: &[Def]) -> Result<Vec<Def>, AllocError>
+    requires { Rising 0 defs.now }
+    ensures { IfOk result (λ latest. AreLatest defs.now latest.items) }
+{
+    let mut latest = Vec::new(alloc);
+    for def in defs {
+        renew(&mut latest, *def)?;
+    }
+    Ok(latest)
+}
+
 impl Methods {
     /// No definition yet.
     fn new(alloc: Global) -> Methods
@@ -82,6 +103,7 @@ impl Methods {
         Methods {
             all: Vec::new(alloc),
             latest: Vec::new(alloc),
+            older: None,
         }
     }
 
@@ -106,10 +128,41 @@ impl Methods {
     fn in_world(&self, world: u32) -> &[Def]
         ensures { AreLatest (in_world world self.now) result.now }
     {
-        if last_world(&self.all) > world {
-            return before(&self.all, world);
+        if last_world(&self.all) <= world {
+            return self.latest.as_slice();
         }
-        self.latest.as_slice()
+        if let Some(older) = &self.older {
+            if older.world == world {
+                return older.defs.as_slice();
+            }
+        }
+        before(&self.all, world)
+    }
+
+    /// Whether the latest ones of their sites are at hand for a world.
+    fn has_latest(&self, world: u32) -> bool
+        ensures { result ≡ false → HasLater world self.now }
+    {
+        if world >= last_world(&self.all) {
+            return true;
+        }
+        match &self.older {
+            Some(older) => older.world == world,
+            None => false,
+        }
+    }
+
+    /// Finds the latest ones of their sites in a world, so that many calls in one older world walk over its definitions once.
+    fn look_back(&mut self, alloc: Global, world: u32) -> Result<(), AllocError>
+        ensures { self.new ≡ self.old }
+    {
+        let at_hand = self.has_latest(world);
+        if at_hand {
+            return Ok(());
+        }
+        let defs = latest_of(alloc, before(&self.all, world))?;
+        self.older = Some(Older { world, defs });
+        Ok(())
     }
 }
 
@@ -185,7 +238,8 @@ impl Deletions {
 
 /// The world that the last definition made, and 0 where there is none.
 fn last_world(defs: &[Def]) -> u32
-    ensures { 1 ≤ length defs.now → (get_or defs.now (length defs.now - 1) (record { world = 0; site = 0 })).world ≡ result }
+    ensures last { 1 ≤ length defs.now → (get_or defs.now (length defs.now - 1) (record { world = 0; site = 0 })).world ≡ result }
+    ensures none { length defs.now ≡ 0 → result ≡ 0 }
 {
     match defs.last() {
         Some(def) => def.world,
@@ -213,6 +267,7 @@ pub struct Changes<'p> {
     changes: Vec<Change>,
     methods: Vec<Methods>,
     deletions: Vec<Deletions>,
+    tested: Tested,
 }
 
 impl<'p> Model for Changes<'p> {
@@ -223,6 +278,7 @@ impl<'p> Model for Changes<'p> {
     ghost use Rattle.jl_calculus.specs.declared.history.Change.{Change};
     ghost use Rattle.jl_calculus.specs.contracts.history.Change as c;
     ghost use Rattle.jl_choosing.specs.ByFunction.{AreByFunction, AreDelsByFunction};
+    ghost use Rattle.jl_choosing.specs.Tested.{AreTested};
 
     ghost Value = { Program × List Change };
 
@@ -230,7 +286,7 @@ impl<'p> Model for Changes<'p> {
 
     ghost view = { λ d. (d.ready.now, d.changes.items) };
 
-    ghost invariant = { λ d. AreByFunction d.ready.now d.changes.items d.methods.items × AreDelsByFunction d.ready.now d.changes.items d.deletions.items };
+    ghost invariant = { λ d. AreByFunction d.ready.now d.changes.items d.methods.items × AreDelsByFunction d.ready.now d.changes.items d.deletions.items × AreTested d.ready.now d.tested };
 }
 
 /// No definition for each of so many functions.
@@ -277,6 +333,26 @@ fn add_deletion(deletions: &mut Vec<Deletions>, function: u32, del: Del) -> Resu
     deletions[function as usize].push(del)
 }
 
+/// The latest ones of their sites among the definitions of a function that a world has, or all of these.
+fn latest_defs(methods: &[Methods], function: u32, world: u32) -> &[Def]
+    ensures { AreLatest (in_world world (get_or methods.now function [])) result.now }
+{
+    match methods.get(function as usize) {
+        Some(methods) => methods.in_world(world),
+        None => &[],
+    }
+}
+
+/// The latest ones of their places among the deletions of a function that a world has, or all of these.
+fn latest_dels(deletions: &[Deletions], function: u32, world: u32) -> &[Del]
+    ensures { (P : Program) (f : ℕ) (cs : List C) → get_or deletions.now function [] ≡ dels_from P f 1 cs → AreLatestDels (dels_from P f 1 (take world cs)) result.now }
+{
+    match deletions.get(function as usize) {
+        Some(deletions) => deletions.in_world(world),
+        None => &[],
+    }
+}
+
 impl<'p> Changes<'p> {
     /// Nothing is changed yet.
     pub fn new(alloc: Global, ready: &'p Ready) -> Result<Changes<'p>, AllocError>
@@ -285,11 +361,13 @@ impl<'p> Changes<'p> {
         let functions = ready.program().functions.len();
         let methods = no_methods(alloc, functions)?;
         let deletions = no_deletions(alloc, functions)?;
+        let tested = Tested::new(alloc, ready)?;
         Ok(Changes {
             ready,
             changes: Vec::new(alloc),
             methods,
             deletions,
+            tested,
         })
     }
 
@@ -349,32 +427,39 @@ impl<'p> Changes<'p> {
         requires { world ≤ length self.now.1 }
         ensures { AreLatest (defs_from self.now.0 function 1 (take world self.now.1)) result.now }
     {
-        match self.methods.get(function as usize) {
-            Some(methods) => methods.in_world(world),
-            None => &[],
-        }
+        latest_defs(&self.methods, function, world)
     }
 
     /// The latest ones of their places among the deletions of a function in a world, or all of these.
     pub fn dels_of(&self, function: u32, world: u32) -> &[Del]
         ensures { AreLatestDels (dels_from self.now.0 function 1 (take world self.now.1)) result.now }
     {
-        match self.deletions.get(function as usize) {
-            Some(deletions) => deletions.in_world(world),
-            None => &[],
+        latest_dels(&self.deletions, function, world)
+    }
+
+    /// Finds the latest definitions of a function in a world, for the calls in it that come.
+    fn look_back(&mut self, alloc: Global, function: u32, world: u32) -> Result<(), AllocError>
+        ensures { self.new ≡ self.old }
+    {
+        match self.methods.get_mut(function as usize) {
+            Some(methods) => methods.look_back(alloc, world),
+            None => Ok(()),
         }
     }
 
-    /// The choice for a call in a world. In the newest the cost is in the sites of the function, and for those that apply in its deletion
-    /// places, however often they were reached.
-    pub fn choose(&self, alloc: Global, key: &Key, world: u32) -> Result<Choice, AllocError>
-        requires key { IsKeyOf self.now.0 key.now }
-        requires world { world ≤ length self.now.1 }
-        ensures { IfOk result (λ c. (es : List Event) → take world (changes es) ≡ take world self.now.1 → Selects self.now.0 es key.now.function key.now.types world c) }
+    /// The choice for a call in a world. In the newest, and again in an older one, the cost is in the sites of the function, and for those
+    /// that apply in its deletion places, however often they were reached. Where the same is called again, which sites apply is known.
+    pub fn choose(&mut self, alloc: Global, key: &Key, world: u32) -> Result<Choice, AllocError>
+        requires key { IsKeyOf self.old.0 key.now }
+        requires world { world ≤ length self.old.1 }
+        ensures choice { IfOk result (λ c. (es : List Event) → take world (changes es) ≡ take world self.old.1 → Selects self.old.0 es key.now.function key.now.types world c) }
+        ensures same { self.new ≡ self.old }
     {
-        let defs = self.defs_of(key.function, world);
-        let dels = self.dels_of(key.function, world);
-        choose_among(alloc, self.ready, defs, dels, key.types.as_slice())
+        self.look_back(alloc, key.function, world)?;
+        self.tested.ask(alloc, self.ready, &key.types)?;
+        let defs = latest_defs(&self.methods, key.function, world);
+        let dels = latest_dels(&self.deletions, key.function, world);
+        choose_among(alloc, self.ready, defs, dels, &mut self.tested)
     }
 
     /// The program that the changes are of.

@@ -9,7 +9,9 @@ ghost use Rattle.jl_subsig.specs.Side.{Every};
 ghost use Rattle.jl_subsig.specs.Standing.{HasPlace, HaveLatest, ChoosesLeft};
 ghost use Rattle.jl_choosing.specs.ByFunction.{Rising};
 ghost use Rattle.jl_choosing.specs.Picked.{Picked};
+ghost use Rattle.jl_choosing.specs.Tested.{AreTested};
 
+use crate::tested::Tested;
 use jl_calculus::history::{Def, Del};
 use jl_match::applies;
 use jl_model::ty::Ty;
@@ -19,7 +21,12 @@ use jl_subsig::choose_standing;
 use std::alloc::{AllocError, Global};
 
 /// Whether a definition's signature applies to these types.
-fn is_applicable(alloc: Global, ready: &Ready, def: Def, types: &[Ty]) -> Result<bool, AllocError>
+pub(crate) fn is_applicable(
+    alloc: Global,
+    ready: &Ready,
+    def: Def,
+    types: &[Ty],
+) -> Result<bool, AllocError>
     requires site { HasSite ready.now def }
     requires types { AreConcrete (all_types ready.now) types.now }
     ensures yes { IfOk result (λ yes. IsTrue yes → AppliesTo ready.now types.now def) }
@@ -55,23 +62,48 @@ pub fn find_applicable(
     Ok(those)
 }
 
-/// The choice among all definitions of a function for arguments of these types, which are concrete and normal forms, when deletions take
-/// some away. The list has, in their order, the latest of each site at least. Which apply is asked first, and signatures are compared
-/// only among these; those that are written alike are compared once.
-pub fn choose_among(
+/// The definitions that apply to the types that were asked for.
+fn pick(
+    alloc: Global,
+    ready: &Ready,
+    defs: &[Def],
+    tested: &mut Tested,
+) -> Result<Vec<Def>, AllocError>
+    requires sites { Every (HasSite ready.now) defs.now }
+    requires tested { AreTested ready.now tested.old }
+    requires types { AreConcrete (all_types ready.now) tested.old.types }
+    ensures picked { IfOk result (λ those. Picked ready.now tested.old.types defs.now those.items) }
+    ensures tested { AreTested ready.now tested.new }
+{
+    let mut those = Vec::new(alloc);
+    for def in defs {
+        if !tested.applies(alloc, ready, *def)? {
+            continue;
+        }
+        those.push(*def)?;
+    }
+    Ok(those)
+}
+
+/// The choice among all definitions of a function for arguments of the types that were asked for, which are concrete and normal forms,
+/// when deletions take some away. The list has, in their order, the latest of each site at least. Which apply is asked first, and
+/// signatures are compared only among these; those that are written alike are compared once.
+pub(crate) fn choose_among(
     alloc: Global,
     ready: &Ready,
     defs: &[Def],
     dels: &[Del],
-    types: &[Ty],
+    tested: &mut Tested,
 ) -> Result<Choice, AllocError>
     requires sites { Every (HasSite ready.now) defs.now }
     requires places { Every (HasPlace ready.now) dels.now }
     requires ordered { Rising 0 defs.now }
-    requires types { AreConcrete (all_types ready.now) types.now }
-    ensures { IfOk result (λ c. (all : List D) → HaveLatest ready.now types.now all defs.now → ChoosesLeft ready.now dels.now types.now all c) }
+    requires tested { AreTested ready.now tested.old }
+    requires types { AreConcrete (all_types ready.now) tested.old.types }
+    ensures choice { IfOk result (λ c. (all : List D) → HaveLatest ready.now tested.old.types all defs.now → ChoosesLeft ready.now dels.now tested.old.types all c) }
+    ensures tested { AreTested ready.now tested.new }
 {
-    let those = find_applicable(alloc, ready, defs, types)?;
+    let those = pick(alloc, ready, defs, tested)?;
     let choice = choose_standing(alloc, ready, those.as_slice(), dels)?;
     Ok(choice)
 }

@@ -4,6 +4,7 @@
 
 mod changes;
 mod choosing;
+mod tested;
 
 pub use changes::{Changes, prelude_changes};
-pub use choosing::{choose_among, find_applicable};
+pub use choosing::find_applicable;

@@ -12,12 +12,14 @@ use Rattle.jl_command.specs.declared.commands.Command.{Command}
 use Rattle.jl_command.specs.declared.commands.Command.TheVariants as C
 use Rattle.jl_replay.specs.declared.verdict.Verdict.{Verdict}
 use Rattle.jl_replay.specs.declared.verdict.Verdict.TheVariants as V
-use Rattle.jl_cli.specs.declared.work.Work.{Work}
-use Rattle.jl_cli.specs.declared.work.Work.TheVariants as W
+use Rattle.jl_work.specs.declared.work.Work.{Work}
+use Rattle.jl_work.specs.declared.work.Work.TheVariants as W
+use Rattle.jl_work.specs.Work.{setup_of}
+use Rattle.jl_work.specs.Owed.{ok_line, AreProgram, IsFaultLine, IsHistoryIn, IsResult, counted, ran, answered, IsOwed, refused, worked, unanswered}
 use Rattle.jl_cli.specs.Split.{history_in}
 use Rattle.jl_cli.specs.Verdicts.{verdict_status}
-use Rattle.jl_cli.specs.Work.{script_of, work_of, setup_of}
-use Rattle.jl_cli.specs.Due.{usage_line, ok_line, AreProgram, IsFaultLine, IsHistoryIn, IsResult, counted, ran, answered, IsOwed, refused, worked, unanswered, IsVerdictTold, IsJudged, unjudged, judged, IsReplayed, too_long, no_history, parted, IsDue, usage, replayed, owed, IsAnswer, whole, not_read, not_written, no_memory, no_memory_written}
+use Rattle.jl_cli.specs.Work.{script_of, work_of}
+use Rattle.jl_cli.specs.Due.{usage_line, IsVerdictTold, IsJudged, unjudged, judged, IsReplayed, too_long, no_history, parted, IsDue, usage, replayed, owed, IsAnswer, whole, not_read, not_written, no_memory, no_memory_written}
 use Rattle.jl_cli.specs.Laws.{ChecksTo, HasParts, IsHistoryOf, IsRefusalLine}
 
 outcome_small : (x : Outcome) (n : ℕ) → outcome_status x ≡ suc (suc n) → ⊥

@@ -1,8 +1,5 @@
-pub mod SplitLemmas
-pub mod PlaceLemmas
 pub mod Running
 pub mod LawLemmas
 pub mod StatusLemmas
 pub mod ReplayLemmas
 pub mod QuestionLemmas
-pub mod LineLemmas

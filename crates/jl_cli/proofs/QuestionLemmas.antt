@@ -8,16 +8,18 @@ use Rattle.jl_reflect.specs.Asked.{MeansKey}
 use Rattle.jl_queue.specs.declared.setup.Setup.{Setup}
 use Rattle.jl_command.specs.declared.commands.Command.{Command}
 use Rattle.jl_command.specs.declared.commands.Command.TheVariants as C
-use Rattle.jl_cli.specs.declared.work.Work.{Work}
-use Rattle.jl_cli.specs.declared.work.Work.TheVariants as W
-use Rattle.jl_cli.specs.declared.work.Question.{Question}
+use Rattle.jl_work.specs.declared.work.Work.{Work}
+use Rattle.jl_work.specs.declared.work.Work.TheVariants as W
+use Rattle.jl_work.specs.declared.work.Question.{Question}
+use Rattle.jl_work.specs.Work.{whole_setup}
+use Rattle.jl_work.specs.Owed.{unknown_line, AreProgram, IsResult, counted, ran, answered, IsUnanswered, IsOwed, refused, worked, unanswered}
+use Rattle.jl_work.proofs.OneProgram.{same_program, fault_apart}
 use Rattle.jl_cli.specs.Split.{history_in}
-use Rattle.jl_cli.specs.Work.{script_of, work_of, whole_setup}
-use Rattle.jl_cli.specs.Due.{unknown_line, AreProgram, IsResult, counted, ran, answered, IsUnanswered, IsOwed, refused, worked, unanswered, IsJudged, unjudged, judged, IsReplayed, too_long, no_history, parted, IsDue, usage, replayed, owed, IsAnswer, whole, not_read, not_written, no_memory, no_memory_written}
+use Rattle.jl_cli.specs.Work.{script_of, work_of}
+use Rattle.jl_cli.specs.Due.{IsJudged, unjudged, judged, IsReplayed, too_long, no_history, parted, IsDue, usage, replayed, owed, IsAnswer, whole, not_read, not_written, no_memory, no_memory_written}
 use Rattle.jl_cli.specs.Laws.{IsAnswerable, IsBeside, AsksOf}
 use Rattle.jl_cli.proofs.LawLemmas.{result_small, told_status}
-use Rattle.jl_cli.proofs.StatusLemmas.{fault_apart, nothing_there}
-use Rattle.jl_cli.proofs.ReplayLemmas.{same_program}
+use Rattle.jl_cli.proofs.StatusLemmas.{nothing_there}
 
 -- ---- the key of a run with a question
 

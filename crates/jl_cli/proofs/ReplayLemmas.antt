@@ -2,22 +2,21 @@
 use Rattle.std.proofs.Common.{◌≡◌, ℕ, List, Option, None, Some, refl, sym, ◌∙◌, subst, arith}
 use Rattle.jl_calculus.specs.declared.history.History.{History}
 use Rattle.jl_program.specs.declared.tree.Program.{Program}
-use Rattle.jl_grammar.specs.declared.tree.Script.{Script}
-use Rattle.jl_resolve.specs.Program.{IsProgramOf}
-use Rattle.jl_resolve.proofs.OneMeaning.{one_program}
 use Rattle.jl_replay.specs.declared.verdict.Verdict.{Verdict}
 use Rattle.jl_replay.specs.declared.verdict.Verdict.TheVariants as V
 use Rattle.jl_replay.specs.Verdict.{IsVerdict, IsLegalText}
 use Rattle.jl_command.specs.declared.commands.Command.{Command}
 use Rattle.jl_command.specs.declared.commands.Command.TheVariants as C
-use Rattle.jl_cli.specs.declared.work.Work.{Work}
+use Rattle.jl_work.specs.declared.work.Work.{Work}
+use Rattle.jl_work.specs.Owed.{AreProgram, IsOwed, refused, worked, unanswered}
+use Rattle.jl_work.proofs.OneProgram.{same_program, fault_apart}
 use Rattle.jl_cli.specs.Split.{history_in}
 use Rattle.jl_cli.specs.Verdicts.{verdict_line, verdict_status}
 use Rattle.jl_cli.specs.Work.{script_of, work_of}
-use Rattle.jl_cli.specs.Due.{AreProgram, IsOwed, refused, worked, unanswered, IsJudged, unjudged, judged, IsReplayed, too_long, no_history, parted, IsDue, usage, replayed, owed}
+use Rattle.jl_cli.specs.Due.{IsJudged, unjudged, judged, IsReplayed, too_long, no_history, parted, IsDue, usage, replayed, owed}
 use Rattle.jl_cli.specs.Laws.{IsJudgedOver, IsToldIllegal, IsToldLegal}
 use Rattle.jl_cli.proofs.LawLemmas.{result_small}
-use Rattle.jl_cli.proofs.StatusLemmas.{same_script, fault_apart, there_is}
+use Rattle.jl_cli.proofs.StatusLemmas.{there_is}
 
 -- ---- one verdict
 
@@ -44,9 +43,6 @@ verdict_refuted P history (V.BadText line) is no_ = refl
 verdict_refuted P history (V.Illegal event cause) is no_ = refl
 
 -- ---- a judgement
-
-pub same_program : (bytes : List ℕ) (P Q : Program) → AreProgram bytes P → AreProgram bytes Q → P ≡ Q
-same_program bytes P Q h k = one_program h.0 P Q h.2 (subst (λ (s : Script). IsProgramOf s Q) (sym (same_script bytes h.0 k.0 h.1 k.1)) k.2)
 
 judged_illegal : (script history : List ℕ) (status : ℕ) (text : List ℕ) → IsJudged script history status text → status ≡ 7 → (P : Program) × AreProgram script P × IsToldIllegal P history text
 judged_illegal _ _ _ _ (unjudged script history line fault) e = absurd (omega (arith, e))

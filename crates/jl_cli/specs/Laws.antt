@@ -7,21 +7,19 @@ use Rattle.jl_reflect.specs.Asked.{MeansKey}
 use Rattle.jl_queue.specs.declared.setup.Setup.{Setup}
 use Rattle.jl_command.specs.declared.commands.Command.{Command}
 use Rattle.jl_command.specs.declared.commands.Command.TheVariants as C
-use Rattle.jl_cli.specs.declared.work.Question.{Question}
-use Rattle.jl_cli.specs.declared.work.Work.{Work}
+use Rattle.jl_work.specs.declared.work.Question.{Question}
+use Rattle.jl_work.specs.declared.work.Work.{Work}
 use Rattle.jl_history.specs.declared.history.TheConstants.{MOST_HISTORY_BYTES}
 use Rattle.jl_replay.specs.declared.verdict.Verdict.{Verdict}
 use Rattle.jl_replay.specs.declared.verdict.Verdict.TheVariants as V
 use Rattle.jl_replay.specs.Verdict.{IsVerdict, IsLegalText}
-use Rattle.jl_cli.specs.Place.{too_long_line}
+use Rattle.jl_work.specs.Place.{too_long_line}
+use Rattle.jl_work.specs.Work.{setup_of}
+use Rattle.jl_work.specs.Owed.{AreProgram, IsProgram, IsFaultLine, IsHistoryIn, IsUnanswered, ok_line}
 use Rattle.jl_cli.specs.Split.{separator_at}
 use Rattle.jl_cli.specs.Verdicts.{verdict_line}
-use Rattle.jl_cli.specs.Work.{script_of, work_of, setup_of}
-use Rattle.jl_cli.specs.Due.{AreProgram, IsFaultLine, IsHistoryIn, IsUnanswered, HasHistory, ok_line, no_history_line}
-
--- the bytes are a script that is a program
-abbrev pub IsProgram : List ℕ → Type 0
-IsProgram bytes = (P : Program) × AreProgram bytes P
+use Rattle.jl_cli.specs.Work.{script_of, work_of}
+use Rattle.jl_cli.specs.Due.{HasHistory, no_history_line}
 
 -- what `check` owes: the counts of a program, or the line of a fault, and no history
 abbrev pub ChecksTo : List ℕ → ℕ → Option History → List ℕ → Type 0

@@ -1,15 +1,14 @@
 -- What each command asks for: how much is read, which script it is about, and what is done with it.
-use Rattle.std.specs.Prelude.{ℕ, ◌+◌, ◌-◌, ◌==◌, if◌then◌else◌, codes, List, [], length, slice_get, Option, None, Some}
-use Rattle.jl_model.specs.declared.limits.TheConstants.{MOST_SOURCE_BYTES, MOST_CACHE_KEYS, MOST_CACHE_ROWS}
+use Rattle.std.specs.Prelude.{ℕ, ◌+◌, List, Option, None, Some}
+use Rattle.jl_model.specs.declared.limits.TheConstants.{MOST_SOURCE_BYTES}
 use Rattle.jl_history.specs.declared.history.TheConstants.{MOST_HISTORY_BYTES}
-use Rattle.jl_queue.specs.declared.setup.Setup.{Setup}
-use Rattle.jl_queue.specs.Setups.{IsSetup}
 use Rattle.jl_gen.specs.Script.{script_text}
 use Rattle.jl_command.specs.declared.commands.Command.{Command}
 use Rattle.jl_command.specs.declared.commands.Command.TheVariants as C
-use Rattle.jl_cli.specs.declared.work.Work.{Work}
-use Rattle.jl_cli.specs.declared.work.Work.TheVariants as W
-use Rattle.jl_cli.specs.declared.work.Telling.TheVariants as T
+use Rattle.jl_work.specs.declared.work.Work.{Work}
+use Rattle.jl_work.specs.declared.work.Work.TheVariants as W
+use Rattle.jl_work.specs.declared.work.Telling.TheVariants as T
+use Rattle.jl_work.specs.Work.{whole_setup}
 use Rattle.jl_cli.specs.Split.{script_in}
 
 -- how many bytes are taken at most: a source, where it is a script; as many as a history may have, where it is a script with a history;
@@ -45,10 +44,6 @@ script_of (C.Gen n threads fuel) bytes = script_text n
 script_of (C.Which name ty threads fuel) bytes = bytes
 script_of (C.Ambiguous threads fuel) bytes = bytes
 
--- the setup of a run with so many threads and so much fuel: its cache is as large as a cache may be
-abbrev pub whole_setup : ℕ → ℕ → Setup
-whole_setup threads fuel = record { threads = threads; fuel = fuel; keys = MOST_CACHE_KEYS; rows = MOST_CACHE_ROWS }
-
 -- what a command does with its script alone: it runs it, with a question or without, or only checks it; `replay` judges a history by it
 abbrev pub work_of : Command → Option Work
 work_of (C.Run threads fuel) = Some (W.Run (whole_setup threads fuel) T.Text)
@@ -58,24 +53,3 @@ work_of C.Replay = None
 work_of (C.Gen n threads fuel) = Some (W.Run (whole_setup threads fuel) (T.Summary n))
 work_of (C.Which name ty threads fuel) = Some (W.Which (whole_setup threads fuel) (record { name = name; ty = ty }))
 work_of (C.Ambiguous threads fuel) = Some (W.Run (whole_setup threads fuel) T.Pairs)
-
--- the newline that goes behind a text which ends in this byte, if it ends in one
-abbrev pub newline_behind : Option ℕ → List ℕ
-newline_behind None = []
-newline_behind (Some byte) = if byte == 10 then [] else codes "\n"
-
--- the newline that a text lacks: none where it is empty or ends in one
-abbrev pub missing_newline : List ℕ → List ℕ
-missing_newline text = newline_behind (slice_get text (length text - 1))
-
--- the setup of the run that work begins
-abbrev pub setup_of : Work → Option Setup
-setup_of W.Check = None
-setup_of (W.Run setup telling) = Some setup
-setup_of (W.Which setup question) = Some setup
-
--- a run that is asked for has a setup that is allowed
-abbrev pub IsSetUp : Work → Type 0
-IsSetUp W.Check = Unit {0}
-IsSetUp (W.Run setup telling) = IsSetup setup
-IsSetUp (W.Which setup question) = IsSetup setup

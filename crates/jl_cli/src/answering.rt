@@ -3,269 +3,44 @@
 //! What a script was read and resolved to is left where it is, not taken apart: the process ends next, and its memory
 //! with it. To free each node of the trees took up to a fifth of a check.
 
-ghost use Rattle.std.specs.Prelude.{◌≡◌, ◌≤◌, None, Some, IfOk, MatchResult, ℕ, List, drop, length};
-ghost use Rattle.jl_program.specs.Prelude.{prelude_count};
+ghost use Rattle.std.specs.Prelude.{◌≡◌, ◌≤◌, Some, IfOk, length};
 ghost use Rattle.jl_queue.specs.Setups.{IsSetup};
 ghost use Rattle.jl_gen.specs.declared.numbers.TheConstants.{MOST_NUMBER};
 ghost use Rattle.jl_gen.specs.Script.{script_text};
-ghost use Rattle.jl_model.specs.declared.ty.Key.{Key as K};
-ghost use Rattle.jl_calculus.specs.Legal.{IsKeyOf, status_of};
-ghost use Rattle.jl_reflect.specs.Asked.{MeansKey};
-ghost use Rattle.jl_cli.specs.declared.work.Question.{Question as Q};
-ghost use Rattle.jl_cli.specs.declared.work.Telling.TheVariants as T;
-ghost use Rattle.jl_cli.specs.declared.work.Work.TheVariants as W;
-ghost use Rattle.jl_cli.specs.Due.{IsDue, IsOwed, IsResult, IsHistoryIn, IsFaultLine, AreScript, AreProgram, ok_line, unknown_line};
 ghost use Rattle.jl_command.specs.Rule.{IsInRange};
-ghost use Rattle.jl_cli.specs.Work.{IsSetUp, most_taken};
+ghost use Rattle.jl_work.specs.declared.work.Telling.TheVariants as T;
+ghost use Rattle.jl_work.specs.declared.work.Work.TheVariants as W;
+ghost use Rattle.jl_work.specs.Owed.{IsOwed, AreScript};
+ghost use Rattle.jl_work.specs.Work.{IsSetUp};
+ghost use Rattle.jl_cli.specs.Due.{IsDue};
+ghost use Rattle.jl_cli.specs.Work.{most_taken};
 
-use crate::faults::{UNKNOWN, line, static_line, syntax_line, token_line};
 use crate::judging::replayed;
-use crate::place::append_number;
-use crate::telling::{choices, told};
-use crate::work::{Question, Telling, Work};
-use jl_calculus::history::History;
 use jl_command::Command;
 use jl_gen::script_of;
 use jl_grammar::tree::Script;
 use jl_host::HostOps;
-use jl_model::rows::Row;
-use jl_model::ty::{Bytes, Key};
-use jl_program::prelude::PRELUDE_SITES;
-use jl_program::tree::Program;
+use jl_model::ty::Bytes;
 use jl_queue::{Gate, Setup};
-use jl_reader::read;
-use jl_reflect::{QueryFault, key_of};
-use jl_report::status;
-use jl_resolve::{check_script, program};
-use jl_runner::run_tasks;
-use jl_sig::Ready;
-use jl_token::tokens;
+use jl_work::{Due, Question, Telling, Work, check, count, refusal, resolve, script, work_on};
 use std::alloc::{AllocError, Global};
 use std::mem::forget;
 use std::sync::Wait;
 use std::thread::Threads;
-
-/// What is due: a status, a history and a text.
-#[derive(Drop)]
-pub(crate) struct Due {
-    pub(crate) status: u8,
-    pub(crate) history: Option<History>,
-    pub(crate) text: Bytes,
-}
-
-/// The answer where nothing is done, with its line.
-pub(crate) fn refused(text: Bytes) -> Due
-    ensures { (result.status ≡ 3) × (result.history ≡ None) × (result.text ≡ text) }
-{
-    Due {
-        status: 3,
-        history: None,
-        text,
-    }
-}
-
-/// The script that a source is, or the line of its first fault.
-pub(crate) fn script(alloc: Global, bytes: &[u8]) -> Result<Result<Script, Bytes>, AllocError>
-    ensures { IfOk result (λ r. MatchResult r (AreScript bytes.now) (IsFaultLine bytes.now)) }
-{
-    let tokens = match tokens(alloc, bytes) {
-        Ok(tokens) => tokens,
-        Err(fault) => return Ok(Err(token_line(alloc, bytes, fault)?)),
-    };
-    match read(alloc, tokens.as_slice()) {
-        Ok(script) => Ok(Ok(script)),
-        Err(fault) => Ok(Err(syntax_line(alloc, bytes, fault)?)),
-    }
-}
-
-/// The history of a run of a program.
-fn history_of<R: Threads + Wait + Sync, G: Gate>(
-    rt: &R,
-    alloc: Global,
-    ready: &Ready,
-    setup: Setup,
-    gate: &G,
-    ops: &HostOps,
-) -> Result<History, AllocError>
-    requires { IsSetup setup }
-    ensures { IfOk result (λ history. IsHistoryIn ready.now setup history) }
-{
-    let history = run_tasks(rt, alloc, ready, &setup, gate, ops)?;
-    Ok(history)
-}
-
-/// What is due with a history: the status is by the root's outcome.
-fn with_history(history: History, text: Bytes) -> Due
-    ensures { (result.status ≡ status_of history.events) × (result.history ≡ Some history) × (result.text ≡ text) }
-{
-    let status = status(&history);
-    Due {
-        status,
-        history: Some(history),
-        text,
-    }
-}
-
-/// What a run of a program comes to.
-fn run_source<R: Threads + Wait + Sync, G: Gate>(
-    rt: &R,
-    alloc: Global,
-    ready: &Ready,
-    setup: Setup,
-    telling: Telling,
-    gate: &G,
-    ops: &HostOps,
-) -> Result<Due, AllocError>
-    requires { IsSetup setup }
-    ensures { IfOk result
-        (λ due. IsResult (W.Run setup telling) ready.now due.status due.history due.text) }
-{
-    let history = history_of(rt, alloc, ready, setup, gate, ops)?;
-    let text = told(alloc, telling, ready, &history)?;
-    Ok(with_history(history, text))
-}
-
-/// What a run of a program comes to, where a question means this key.
-fn run_for_key<R: Threads + Wait + Sync, G: Gate>(
-    rt: &R,
-    alloc: Global,
-    ready: &Ready,
-    setup: Setup,
-    key: &Key,
-    gate: &G,
-    ops: &HostOps,
-) -> Result<Due, AllocError>
-    requires setup { IsSetup setup }
-    requires key { IsKeyOf ready.now key.now }
-    ensures { IfOk result (λ due. (question : Q) → MeansKey ready.now question.name question.ty key.now
-        → IsResult (W.Which setup question) ready.now due.status due.history due.text) }
-{
-    let history = history_of(rt, alloc, ready, setup, gate, ops)?;
-    let text = choices(alloc, ready, &history, key)?;
-    Ok(with_history(history, text))
-}
-
-/// What a question about no function or no types of the program comes to.
-fn unanswered(alloc: Global) -> Result<Due, AllocError>
-    ensures { IfOk result (λ due. (due.status ≡ 8) × (due.history ≡ None) × (due.text ≡ unknown_line)) }
-{
-    let text = line(alloc, UNKNOWN.as_bytes())?;
-    Ok(Due {
-        status: 8,
-        history: None,
-        text,
-    })
-}
-
-/// What a question about the run of a program comes to.
-fn ask<R: Threads + Wait + Sync, G: Gate>(
-    rt: &R,
-    alloc: Global,
-    ready: &Ready,
-    setup: Setup,
-    question: &Question,
-    gate: &G,
-    ops: &HostOps,
-) -> Result<Due, AllocError>
-    requires { IsSetup setup }
-    ensures { IfOk result (λ due. (bytes : List ℕ) → AreProgram bytes ready.now
-        → IsOwed (W.Which setup question.now) bytes due.status due.history due.text) }
-{
-    match key_of(
-        alloc,
-        ready,
-        question.name.as_slice(),
-        question.ty.as_slice(),
-    ) {
-        Ok(key) => {
-            let due = run_for_key(rt, alloc, ready, setup, &key, gate, ops)?;
-            Ok(due)
-        }
-        Err(QueryFault::Unknown) => {
-            let due = unanswered(alloc)?;
-            Ok(due)
-        }
-        Err(QueryFault::Memory) => Err(AllocError),
-    }
-}
-
-/// How many definition sites a program has beyond those of the prelude.
-fn own_sites(program: &Program) -> u64
-    ensures { result ≡ length (drop prelude_count program.now.sites) }
-{
-    program.sites.len().saturating_sub(PRELUDE_SITES as usize) as u64
-}
-
-/// The line that tells how many types a program declares, and how many definition sites it has.
-fn ok_line(alloc: Global, program: &Program) -> Result<Bytes, AllocError>
-    ensures { IfOk result (λ line. line ≡ ok_line program.now) }
-{
-    let mut out = Row::new(alloc);
-    out.append(b"ok: ")?;
-    append_number(&mut out, program.decls.len() as u64)?;
-    out.append(b" types, ")?;
-    append_number(&mut out, own_sites(program))?;
-    out.append(b" definitions\n")?;
-    out.into_shared(alloc)
-}
-
-/// What a check of a program comes to.
-fn checked(alloc: Global, program: &Program) -> Result<Due, AllocError>
-    ensures { IfOk result (λ due. IsResult W.Check program.now due.status due.history due.text) }
-{
-    let text = ok_line(alloc, program)?;
-    Ok(Due {
-        status: 0,
-        history: None,
-        text,
-    })
-}
-
-/// What work on a program comes to.
-fn work_on<R: Threads + Wait + Sync, G: Gate>(
-    rt: &R,
-    alloc: Global,
-    ready: &Ready,
-    work: &Work,
-    gate: &G,
-    ops: &HostOps,
-) -> Result<Due, AllocError>
-    requires { IsSetUp work.now }
-    ensures { IfOk result (λ due. (bytes : List ℕ) → AreProgram bytes ready.now
-        → IsOwed work.now bytes due.status due.history due.text) }
-{
-    match work {
-        Work::Check => {
-            let due = checked(alloc, ready.program())?;
-            Ok(due)
-        }
-        Work::Run(setup, telling) => {
-            let due = run_source(rt, alloc, ready, *setup, *telling, gate, ops)?;
-            Ok(due)
-        }
-        Work::Which(setup, question) => {
-            let due = ask(rt, alloc, ready, *setup, question, gate, ops)?;
-            Ok(due)
-        }
-    }
-}
 
 /// What a check of the script that these bytes are comes to. The program is not made ready to be run.
 fn owed_for_check(alloc: Global, bytes: &[u8], script: &Script) -> Result<Due, AllocError>
     requires { AreScript bytes.now script.now }
     ensures { IfOk result (λ due. IsOwed W.Check bytes.now due.status due.history due.text) }
 {
-    match check_script(alloc, script) {
+    match check(alloc, bytes, script)? {
         Ok(program) => {
-            let due = checked(alloc, &program);
+            let due = count(alloc, &program);
             forget(program);
             let due = due?;
             Ok(due)
         }
-        Err(fault) => {
-            let line = static_line(alloc, bytes, fault)?;
-            Ok(refused(line))
-        }
+        Err(line) => Ok(refusal(line)),
     }
 }
 
@@ -283,17 +58,14 @@ fn owed_for_run<R: Threads + Wait + Sync, G: Gate>(
     requires setup { IsSetUp work.now }
     ensures { IfOk result (λ due. IsOwed work.now bytes.now due.status due.history due.text) }
 {
-    match program(alloc, script) {
+    match resolve(alloc, bytes, script)? {
         Ok(ready) => {
             let due = work_on(rt, alloc, &ready, work, gate, ops);
             forget(ready);
             let due = due?;
             Ok(due)
         }
-        Err(fault) => {
-            let line = static_line(alloc, bytes, fault)?;
-            Ok(refused(line))
-        }
+        Err(line) => Ok(refusal(line)),
     }
 }
 
@@ -333,7 +105,7 @@ fn owe<R: Threads + Wait + Sync, G: Gate>(
 {
     let script = match script(alloc, bytes)? {
         Ok(script) => script,
-        Err(line) => return Ok(refused(line)),
+        Err(line) => return Ok(refusal(line)),
     };
     let due = owed_for(rt, alloc, work, bytes, &script, gate, ops);
     forget(script);

@@ -2,18 +2,20 @@
 
 ghost use Rattle.std.specs.Prelude.{◌≡◌, ◌≤◌, None, IfOk, length};
 ghost use Rattle.jl_history.specs.declared.history.TheConstants.{MOST_HISTORY_BYTES};
-ghost use Rattle.jl_cli.specs.Due.{AreScript, IsVerdictTold, IsJudged, IsReplayed};
+ghost use Rattle.jl_work.specs.Owed.{AreScript};
+ghost use Rattle.jl_cli.specs.Due.{IsVerdictTold, IsJudged, IsReplayed};
 
-use crate::answering::{Due, refused, script};
-use crate::faults::{NO_HISTORY, line, static_line};
 use crate::split::separator_at;
 use crate::verdicts::{verdict_line, verdict_status};
 use jl_grammar::tree::Script;
 use jl_host::HostOps;
 use jl_replay::replay;
-use jl_resolve::program;
 use jl_sig::Ready;
+use jl_work::{Due, line, refusal, resolve, script};
 use std::alloc::{AllocError, Global};
+
+/// The line of an input without a history.
+const NO_HISTORY: &str = "ERROR: NoHistory\n";
 
 /// What the judgement of a history over a program comes to.
 fn judged(alloc: Global, ready: &Ready, history: &[u8], ops: &HostOps) -> Result<Due, AllocError>
@@ -43,17 +45,14 @@ fn judged_for(
     ensures { IfOk result (λ due. IsJudged bytes.now history.now due.status due.text
         × (due.history ≡ None)) }
 {
-    match program(alloc, script) {
+    match resolve(alloc, bytes, script)? {
         Ok(ready) => {
             let due = judged(alloc, &ready, history, ops);
             drop(ready);
             let due = due?;
             Ok(due)
         }
-        Err(fault) => {
-            let line = static_line(alloc, bytes, fault)?;
-            Ok(refused(line))
-        }
+        Err(line) => Ok(refusal(line)),
     }
 }
 
@@ -65,7 +64,7 @@ fn judge(alloc: Global, bytes: &[u8], history: &[u8], ops: &HostOps) -> Result<D
 {
     let script = match script(alloc, bytes)? {
         Ok(script) => script,
-        Err(line) => return Ok(refused(line)),
+        Err(line) => return Ok(refusal(line)),
     };
     let due = judged_for(alloc, bytes, &script, history, ops);
     drop(script);
@@ -85,7 +84,7 @@ pub(crate) fn replayed(alloc: Global, bytes: &[u8], ops: &HostOps) -> Result<Due
         }
         None => {
             let line = line(alloc, NO_HISTORY.as_bytes())?;
-            Ok(refused(line))
+            Ok(refusal(line))
         }
     }
 }

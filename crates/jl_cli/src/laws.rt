@@ -5,10 +5,11 @@ ghost use Rattle.jl_calculus.specs.declared.history.History.{History as AnyHisto
 ghost use Rattle.jl_io.specs.Faults.{Rose};
 ghost use Rattle.jl_command.specs.declared.commands.Command.{Command as AnyCommand};
 ghost use Rattle.jl_command.specs.declared.commands.Command.TheVariants.{Check};
-ghost use Rattle.jl_cli.specs.Due.{IsDue, IsAnswer, usage_line, unknown_line};
+ghost use Rattle.jl_work.specs.Owed.{unknown_line};
+ghost use Rattle.jl_cli.specs.Due.{IsDue, IsAnswer, usage_line};
 ghost use Rattle.jl_cli.specs.Laws.{ChecksTo, IsHistoryOf, IsRefusalLine, AsksOf, IsBeside};
 ghost use Rattle.jl_cli.specs.Work.{script_of};
-ghost use Rattle.jl_cli.specs.declared.work.Question.{Question};
+ghost use Rattle.jl_work.specs.declared.work.Question.{Question};
 
 /// Status 2 is due exactly where the words are no command.
 pub fn law_usage()

@@ -2,15 +2,10 @@
 #![tactic(auto)]
 
 mod answering;
-mod faults;
 mod judging;
 pub mod laws;
-mod pair_lines;
-mod place;
-mod span_lines;
 mod split;
 pub mod status_laws;
-mod telling;
 mod top;
 mod verdicts;
 mod work;

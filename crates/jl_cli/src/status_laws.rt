@@ -8,13 +8,14 @@ ghost use Rattle.jl_command.specs.declared.commands.Command.{Command as AnyComma
 ghost use Rattle.jl_command.specs.declared.commands.Command.TheVariants.{Check, Replay};
 ghost use Rattle.jl_program.specs.declared.tree.Program.{Program};
 ghost use Rattle.jl_replay.specs.Verdict.{IsLegalText};
-ghost use Rattle.jl_cli.specs.declared.work.Work.TheVariants as W;
-ghost use Rattle.jl_cli.specs.declared.work.Telling.{Telling as AnyTelling};
-ghost use Rattle.jl_cli.specs.declared.work.Question.{Question};
+ghost use Rattle.jl_work.specs.declared.work.Work.TheVariants as W;
+ghost use Rattle.jl_work.specs.declared.work.Telling.{Telling as AnyTelling};
+ghost use Rattle.jl_work.specs.declared.work.Question.{Question};
 ghost use Rattle.jl_cli.specs.Split.{history_in};
 ghost use Rattle.jl_cli.specs.Work.{script_of, work_of};
 ghost use Rattle.jl_cli.specs.Due.{IsDue};
-ghost use Rattle.jl_cli.specs.Laws.{IsProgram, HasProgram, AsksOf, IsAnswerable, IsBeside, IsJudgedOver, IsToldIllegal, IsToldLegal};
+ghost use Rattle.jl_work.specs.Owed.{IsProgram};
+ghost use Rattle.jl_cli.specs.Laws.{HasProgram, AsksOf, IsAnswerable, IsBeside, IsJudgedOver, IsToldIllegal, IsToldLegal};
 
 /// Status 3 is due exactly where there is no program: the script is none, or the input of `replay` is too long or has no history.
 /// For `check`, status 0 is due exactly where it is one.

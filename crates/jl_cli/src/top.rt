@@ -7,14 +7,14 @@ ghost use Rattle.jl_command.specs.Rule.{command_of, IsInRange};
 ghost use Rattle.jl_cli.specs.Due.{HasRun};
 ghost use Rattle.jl_cli.specs.Delivered.{IsDelivered};
 
-use crate::answering::{Due, answer};
-use crate::faults::TOO_LONG;
+use crate::answering::answer;
 use crate::work::{most_read, most_taken};
 use jl_calculus::history::History;
 use jl_command::{Command, WordsFault, command};
 use jl_host::HostOps;
 use jl_io::{ReadFault, Sink, SinkFault, Source, read_up_to, write_all};
 use jl_queue::Gate;
+use jl_work::{Due, TOO_LONG};
 use std::alloc::Global;
 use std::sync::Wait;
 use std::thread::Threads;

@@ -3,11 +3,11 @@
 ghost use Rattle.std.specs.Prelude.{◌≡◌, IfOk};
 ghost use Rattle.jl_cli.specs.Verdicts.{cause_name, number_line, verdict_line, verdict_status};
 
-use crate::place::append_number;
 use jl_causes::Cause;
 use jl_model::rows::Row;
 use jl_model::ty::Bytes;
 use jl_replay::Verdict;
+use jl_work::append_number;
 use std::alloc::{AllocError, Global};
 
 /// The name of a cause.

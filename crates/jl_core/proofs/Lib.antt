@@ -21,3 +21,4 @@ mod EnabledLemmas
 mod KeyLemmas
 mod TraceLemmas
 mod AskLemmas
+mod CutLemmas

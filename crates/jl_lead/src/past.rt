@@ -178,12 +178,13 @@ impl<'p> Past<'p> {
         }
     }
 
-    /// The choice for a call in a world. In the newest the cost is in the sites of the function, and for those that apply in its deletion
-    /// places, however often they were reached.
-    pub fn choose(&self, key: &Key, world: u32) -> Result<Choice, AllocError>
-        requires key { IsKeyOf self.now.0 key.now }
-        requires world { world ≤ world_of self.now.1 }
-        ensures { IfOk result (λ c. Selects self.now.0 self.now.1 key.now.function key.now.types world c) }
+    /// The choice for a call in a world. In the newest, and again in an older one, the cost is in the sites of the function, and for those
+    /// that apply in its deletion places, however often they were reached.
+    pub fn choose(&mut self, key: &Key, world: u32) -> Result<Choice, AllocError>
+        requires key { IsKeyOf self.old.0 key.now }
+        requires world { world ≤ world_of self.old.1 }
+        ensures choice { IfOk result (λ c. Selects self.old.0 self.old.1 key.now.function key.now.types world c) }
+        ensures same { self.new ≡ self.old }
     {
         let choice = self.changes.choose(self.alloc, key, world)?;
         Ok(choice)

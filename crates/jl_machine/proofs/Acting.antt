@@ -98,7 +98,7 @@ module _ (r : Result Outcome AllocError) (ds : List Decl) (statics us : List Ty)
 
 -- ---- one answer
 
-exactly_once : (o : Outcome) → IsSingle (exactly o)
+pub exactly_once : (o : Outcome) → IsSingle (exactly o)
 exactly_once o p q h g = h ∙ sym g
 
 operation_once : (ds : List Decl) → Declared ds → (statics : List Ty) (x : Expr-F Expr Item Piece Stmt) (vs : List Value) → IsOperation x → IsSingle (operation_of ds statics x vs)

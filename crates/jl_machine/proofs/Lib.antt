@@ -7,4 +7,5 @@ pub mod Choosing
 pub mod Asking
 pub mod Acting
 pub mod Moving
+pub mod NumberLemmas
 pub mod Whole

@@ -17,7 +17,7 @@ use Rattle.jl_machine.specs.Lent.{Reaches}
 use Rattle.jl_machine.specs.Steps.{variables_at}
 
 -- a site of the prelude is an operation, and one past it is code
-prelude_body : (P : Program) (site : ℕ) → site < 14 → body_of P site ≡ operation site
+pub prelude_body : (P : Program) (site : ℕ) → site < 14 → body_of P site ≡ operation site
 prelude_body P site lt = ap (λ b. cond b (operation site) (code_of (slice_get P.sites site))) (lt-ltb site 14 lt)
 
 script_body : (P : Program) (site : ℕ) → 14 ≤ site → body_of P site ≡ code_of (slice_get P.sites site)

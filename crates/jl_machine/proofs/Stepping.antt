@@ -142,7 +142,7 @@ pub variables_known : (k : Knows) (P : Program) (ts us : List Ty) (site : ℕ) �
 variables_known k P ts us site e h =
     sym (variables_same k k.program ts (slice_get k.program.sites site) refl) ∙ ap (λ Q. variables_at Q ts (slice_get Q.sites site)) (sym e) ∙ h
 
-same_knows : (k : Knows) → Asked k k
+pub same_knows : (k : Knows) → Asked k k
 same_knows k = let w : k.world ≤ k.world = omega arith in let s : k.seen ≤ k.seen = omega arith in record {
   grew = record { program = refl; places = refl; task = refl; start = refl; first = refl; world = w; seen = s; agrees = λ es a. a; learnt = λ i l. l };
   looks = refl;

@@ -5,4 +5,5 @@ pub mod Fetched
 pub mod Acting
 pub mod Taken
 pub mod Steps
+pub mod Numbers
 pub mod Opened

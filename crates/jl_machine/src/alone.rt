@@ -2,11 +2,13 @@
 //! the machine and reads it again.
 
 ghost use Rattle.std.specs.Prelude.{◌≡◌, [], IfOk};
+ghost use Rattle.jl_program.specs.declared.tree.Expr.{out-Expr};
+ghost use Rattle.jl_program.specs.declared.tree.Expr.TheOpen as F;
 ghost use Rattle.jl_program.specs.Scope.{all_types};
 ghost use Rattle.jl_task.specs.declared.point.Work.TheVariants as W;
 ghost use Rattle.jl_task.specs.Fits.{Fitting};
-ghost use Rattle.jl_machine.specs.Lent.{work_of, IsSettled};
-ghost use Rattle.jl_machine.specs.Steps.{progress_of, MayMove, GoesOn};
+ghost use Rattle.jl_machine.specs.Lent.{work_of, given_value, IsClosed, IsGiven, IsSettled};
+ghost use Rattle.jl_machine.specs.Steps.{progress_of, Moves, MayMove, GoesOn};
 
 use crate::now::LentWork;
 use crate::task::Task;
@@ -19,10 +21,10 @@ use jl_task::Recall;
 use std::alloc::AllocError;
 
 impl<'p> Task<'p> {
-    /// A call whose arguments are the open values, where its method is remembered. Nothing is answered where it is not, or where no call is
-    /// left or too many are open.
+    /// A call whose arguments are the open values, where its method is remembered for their types. Nothing is answered where it is not, or
+    /// where no call is left or too many are open.
     #[inline(always)]
-    fn recall<D: Recall>(
+    fn recall_types<D: Recall>(
         &mut self,
         ready: &'p Ready,
         ops: &HostOps,
@@ -55,6 +57,35 @@ impl<'p> Task<'p> {
                 Ok(Some(work))
             }
             None => Ok(None),
+        }
+    }
+
+    /// A call whose arguments are the open values, where its method is remembered: for two numbers apart, and for other values by their types.
+    #[inline(always)]
+    fn recall<D: Recall>(
+        &mut self,
+        ready: &'p Ready,
+        ops: &HostOps,
+        with: &D,
+        function: u32,
+        world: u32,
+    ) -> Result<Option<LentWork<'p>>, AllocError>
+        requires fits { Fitting (D.knows with.now) (W.Calling function world self.old.now.frames.open_values) (progress_of self.old) }
+        requires program { ready.now ≡ (D.knows with.now).program }
+        requires settled { self.old.now.frames.open_text ≡ [] }
+        ensures { IfOk result (λ next. MayMove (D.knows with.now) (W.Calling function world self.old.now.frames.open_values) self.old next self.new) }
+    {
+        match self.reply_to_open(ops, with, function, world) {
+            Some(reply) => {
+                self.calls += 1;
+                self.now.frames.clear();
+                let work = turns::take_reply(&mut self.now, reply)?;
+                Ok(Some(work))
+            }
+            None => {
+                let next = self.recall_types(ready, ops, with, function, world)?;
+                Ok(next)
+            }
         }
     }
 
@@ -93,6 +124,115 @@ impl<'p> Task<'p> {
         }
     }
 
+    /// A call is begun: it is answered at once, or its parts are, as far as they can be.
+    #[inline(always)]
+    fn begin_call<D: Recall>(
+        &mut self,
+        ready: &Ready,
+        ops: &HostOps,
+        with: &D,
+        expr: &'p Expr,
+        parts: &'p [Expr],
+    ) -> Result<LentWork<'p>, AllocError>
+        requires form { (f : _) × (out-Expr expr.now ≡ F.Call f parts.now) }
+        requires program { ready.now ≡ (D.knows with.now).program }
+        requires fits { Fitting (D.knows with.now) (W.Eval expr.now) (progress_of self.old) }
+        requires settled { IsClosed self.old.now.frames }
+        ensures { IfOk result (λ work. Moves (D.knows with.now) (W.Eval expr.now) self.old work self.new) }
+    {
+        if self.push_call(ops, with, expr)? {
+            return Ok(LentWork::Give);
+        }
+        let work = self.go_parts(ready, ops, with, expr, parts)?;
+        Ok(work)
+    }
+
+    /// An `if` is begun: it takes its branch, where its condition is answered at once, or its condition is begun.
+    #[inline(always)]
+    fn begin_if<D: Recall>(
+        &mut self,
+        ops: &HostOps,
+        with: &D,
+        expr: &'p Expr,
+        test: &'p Expr,
+        yes: &'p Expr,
+        no: &'p Expr,
+    ) -> Result<LentWork<'p>, AllocError>
+        requires form { out-Expr expr.now ≡ F.If test.now yes.now no.now }
+        requires fits { Fitting (D.knows with.now) (W.Eval expr.now) (progress_of self.old) }
+        requires settled { IsClosed self.old.now.frames }
+        ensures { IfOk result (λ work. Moves (D.knows with.now) (W.Eval expr.now) self.old work self.new) }
+    {
+        match self.test_at(ops, with, test) {
+            Some(truth) => {
+                self.calls += 1;
+                if truth {
+                    return Ok(LentWork::Eval(yes));
+                }
+                Ok(LentWork::Eval(no))
+            }
+            None => {
+                self.now.frames.wait_test(expr)?;
+                Ok(LentWork::Eval(test))
+            }
+        }
+    }
+
+    /// An expression is begun.
+    #[inline(always)]
+    fn begin_often<D: Recall>(
+        &mut self,
+        ready: &Ready,
+        ops: &HostOps,
+        with: &D,
+        expr: &'p Expr,
+    ) -> Result<LentWork<'p>, AllocError>
+        requires program { ready.now ≡ (D.knows with.now).program }
+        requires fits { Fitting (D.knows with.now) (W.Eval expr.now) (progress_of self.old) }
+        requires settled { IsClosed self.old.now.frames }
+        ensures { IfOk result (λ work. Moves (D.knows with.now) (W.Eval expr.now) self.old work self.new) }
+    {
+        match expr {
+            Expr::Call(_, parts) => {
+                let work = self.begin_call(ready, ops, with, expr, parts.as_slice())?;
+                Ok(work)
+            }
+            Expr::If(test, yes, no) => {
+                let work = self.begin_if(ops, with, expr, test.get(), yes.get(), no.get())?;
+                Ok(work)
+            }
+            _ => {
+                let work = turns::begin(&mut self.now, expr)?;
+                Ok(work)
+            }
+        }
+    }
+
+    /// The one open value is given to the topmost frame.
+    #[inline(always)]
+    fn give_often<D: Recall>(
+        &mut self,
+        ready: &'p Ready,
+        ops: &HostOps,
+        with: &D,
+    ) -> Result<LentWork<'p>, AllocError>
+        requires fits { Fitting (D.knows with.now) (W.Give (given_value self.old.now)) (progress_of self.old) }
+        requires program { ready.now ≡ (D.knows with.now).program }
+        requires settled { IsGiven self.old.now.frames }
+        ensures { IfOk result (λ work. Moves (D.knows with.now) (W.Give (given_value self.old.now)) self.old work self.new) }
+    {
+        match self.now.frames.take_args() {
+            Some((expr, rest)) => {
+                let work = self.go_parts(ready, ops, with, expr, rest)?;
+                Ok(work)
+            }
+            None => {
+                let work = turns::give(ready, &mut self.now)?;
+                Ok(work)
+            }
+        }
+    }
+
     /// A turn of those that come most often, which asks nobody. Nothing is answered where what comes next is none of them, or asks.
     #[inline(always)]
     fn turn_often<D: Recall>(
@@ -112,11 +252,11 @@ impl<'p> Task<'p> {
     {
         match work {
             LentWork::Eval(expr) => {
-                let next = turns::begin(&mut self.now, expr)?;
+                let next = self.begin_often(ready, ops, with, expr)?;
                 Ok(Some(next))
             }
             LentWork::Give => {
-                let next = turns::give(ready, &mut self.now)?;
+                let next = self.give_often(ready, ops, with)?;
                 Ok(Some(next))
             }
             LentWork::Acting(expr) => {

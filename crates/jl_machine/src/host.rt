@@ -1,8 +1,8 @@
 //! The operations of the prelude, by the functions that were handed in.
 
-ghost use Rattle.std.specs.Prelude.{◌≡◌, ◌<◌, get_or};
+ghost use Rattle.std.specs.Prelude.{◌≡◌, ◌<◌, ◌∷◌, [], get_or};
 ghost use Rattle.jl_program.specs.declared.prelude.TheConstants.{PRELUDE_SITES};
-ghost use Rattle.jl_program.specs.declared.value.Value.TheVariants.{Nothing};
+ghost use Rattle.jl_program.specs.declared.value.Value.TheVariants.{Int, Nothing};
 ghost use Rattle.jl_calculus.specs.Run.{number_of, operates};
 ghost use Rattle.jl_host.specs.Replies.{outcome_of};
 ghost use Rattle.jl_machine.specs.Taken.{IsTakenBy};
@@ -43,4 +43,14 @@ pub(crate) fn operate(ops: &HostOps, operation: u32, values: &[Value]) -> OpRepl
     let first = number_at(values, 0);
     let second = number_at(values, 1);
     ops.call(operation as u8, first, second)
+}
+
+/// What an operation of the prelude replies for two numbers.
+#[inline(always)]
+pub(crate) fn operate_numbers(ops: &HostOps, operation: u32, left: i64, right: i64) -> OpReply
+    requires there { operation < PRELUDE_SITES }
+    requires taken { IsTakenBy operation (Int left ∷ Int right ∷ []) }
+    ensures { outcome_of result ≡ operates operation (Int left ∷ Int right ∷ []) }
+{
+    ops.call(operation as u8, left, right)
 }

@@ -8,6 +8,7 @@ mod host;
 pub mod laws;
 mod machine;
 mod now;
+mod numbers;
 mod task;
 mod turns;
 

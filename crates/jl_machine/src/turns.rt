@@ -1,7 +1,7 @@
 //! What the machine does by itself. Each of these answers what comes next. They are inlined into the loop of a run: at a call the place
 //! of a result is cleared first, and the result is copied.
 
-ghost use Rattle.std.specs.Prelude.{◌≡◌, ◌<◌, [], ◌∷◌, IfOk, OnOk, length, map, slice_get};
+ghost use Rattle.std.specs.Prelude.{◌≡◌, ◌<◌, [], ◌∷◌, None, IfOk, OnOk, length, map, slice_get};
 ghost use Rattle.jl_program.specs.declared.tree.Expr.{out-Expr};
 ghost use Rattle.jl_program.specs.declared.tree.Stmt.{out-Stmt};
 ghost use Rattle.jl_program.specs.declared.tree.Item.{out-Item};
@@ -12,7 +12,7 @@ ghost use Rattle.jl_frames.specs.Held.{first_value};
 ghost use Rattle.jl_task.specs.declared.point.Work.TheVariants as W;
 ghost use Rattle.jl_task.specs.Turns.{expr_in, go_pieces, go_stmts, tested, refused_test, after_item, left, answered, entered, looked_item};
 ghost use Rattle.jl_task.specs.Skip.{leaf, skip_args};
-ghost use Rattle.jl_machine.specs.Onward.{onward_begun, onward_stmt, onward_given};
+ghost use Rattle.jl_machine.specs.Onward.{onward_layer, onward_begun, onward_stmt, onward_given};
 ghost use Rattle.jl_machine.specs.declared.now.LentWork.TheVariants as L;
 ghost use Rattle.jl_machine.specs.Lent.{now_of, given_value, IsClosed, IsGiven, Reaches, after_answer};
 ghost use Rattle.jl_machine.specs.Leafed.{Leafed, truth_of};
@@ -47,7 +47,7 @@ fn int_value(number: &i64) -> Value
 
 /// Opens the value of a leaf, and tells whether it was one.
 #[inline(always)]
-fn push_leaf(frames: &mut Frames<'_>, expr: &Expr) -> Result<bool, AllocError>
+pub(crate) fn push_leaf(frames: &mut Frames<'_>, expr: &Expr) -> Result<bool, AllocError>
     ensures { IfOk result (λ is. Leafed is (leaf frames.old.env (out-Expr expr.now)) frames.old frames.new) }
 {
     match expr {
@@ -219,15 +219,14 @@ fn begin_stmts<'p>(now: &mut LentNow<'p>, stmts: &'p [Stmt]) -> Result<LentWork<
     }
 }
 
-/// An expression is begun, and of a block its first statement.
-#[inline(always)]
-pub(crate) fn begin<'p>(now: &mut LentNow<'p>, expr: &'p Expr) -> Result<LentWork<'p>, AllocError>
-    requires { IsClosed now.old.frames }
-    ensures { IfOk result (λ work. Reaches work now.new (onward_begun expr.now (now_of now.old))) }
+/// An expression that is no leaf is begun, and of a block its first statement. It is out of line: in the loop of a run those that come most often
+/// are begun by themselves.
+#[inline(never)]
+fn begin_layer<'p>(now: &mut LentNow<'p>, expr: &'p Expr) -> Result<LentWork<'p>, AllocError>
+    requires layer { leaf now.old.frames.env (out-Expr expr.now) ≡ None }
+    requires settled { IsClosed now.old.frames }
+    ensures { IfOk result (λ work. Reaches work now.new (onward_layer expr.now (out-Expr expr.now) (now_of now.old))) }
 {
-    if push_leaf(&mut now.frames, expr)? {
-        return Ok(LentWork::Give);
-    }
     match expr {
         Expr::Call(_, parts)
         | Expr::Latest(_, parts)
@@ -254,6 +253,18 @@ pub(crate) fn begin<'p>(now: &mut LentNow<'p>, expr: &'p Expr) -> Result<LentWor
         Expr::Print(pieces, line) => Ok(LentWork::Pieces(*line, pieces.as_slice())),
         Expr::Int(_) | Expr::Bool(_) | Expr::Nothing | Expr::Local(_) => unreachable!(),
     }
+}
+
+/// An expression is begun.
+#[inline(always)]
+pub(crate) fn begin<'p>(now: &mut LentNow<'p>, expr: &'p Expr) -> Result<LentWork<'p>, AllocError>
+    requires { IsClosed now.old.frames }
+    ensures { IfOk result (λ work. Reaches work now.new (onward_begun expr.now (now_of now.old))) }
+{
+    if push_leaf(&mut now.frames, expr)? {
+        return Ok(LentWork::Give);
+    }
+    begin_layer(now, expr)
 }
 
 /// The truth value that the first of these values is.
@@ -365,9 +376,9 @@ fn after_item<'p>(
     }
 }
 
-/// The one open value is given to the topmost frame.
+/// The one open value is given to the topmost frame, whichever it is.
 #[inline(always)]
-pub(crate) fn give<'p>(ready: &'p Ready, now: &mut LentNow<'p>) -> Result<LentWork<'p>, AllocError>
+fn give_any<'p>(ready: &'p Ready, now: &mut LentNow<'p>) -> Result<LentWork<'p>, AllocError>
     requires { IsGiven now.old.frames }
     ensures { IfOk result (λ work. Reaches work now.new (onward_given ready.now now.old.frames.stack (given_value now.old) (now_of now.old))) }
 {
@@ -397,6 +408,25 @@ pub(crate) fn give<'p>(ready: &'p Ready, now: &mut LentNow<'p>) -> Result<LentWo
                 Ok(LentWork::Give)
             }
         },
+    }
+}
+
+/// The one open value is given to the topmost frame. A body is asked for by itself: its frame is the one that comes most often.
+#[inline(always)]
+pub(crate) fn give<'p>(ready: &'p Ready, now: &mut LentNow<'p>) -> Result<LentWork<'p>, AllocError>
+    requires { IsGiven now.old.frames }
+    ensures { IfOk result (λ work. Reaches work now.new (onward_given ready.now now.old.frames.stack (given_value now.old) (now_of now.old))) }
+{
+    match now.frames.take_body() {
+        Some((world, room)) => {
+            now.world = world;
+            now.room = room;
+            Ok(LentWork::Give)
+        }
+        None => {
+            let work = give_any(ready, now)?;
+            Ok(work)
+        }
     }
 }
 
@@ -492,7 +522,10 @@ pub(crate) fn after_answer<'p>(goes: bool) -> LentWork<'p>
 
 /// What an operation of the prelude replied: nothing is open.
 #[inline(always)]
-fn take_reply<'p>(now: &mut LentNow<'p>, reply: OpReply) -> Result<LentWork<'p>, AllocError>
+pub(crate) fn take_reply<'p>(
+    now: &mut LentNow<'p>,
+    reply: OpReply,
+) -> Result<LentWork<'p>, AllocError>
     requires { IsClosed now.old.frames }
     ensures { IfOk result (λ work. Reaches work now.new (answered (outcome_of reply), now_of now.old)) }
 {

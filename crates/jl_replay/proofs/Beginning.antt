@@ -1,16 +1,16 @@
 -- Tasks that have done nothing yet.
-use Rattle.std.proofs.Common.{◌≡◌, ◌∙◌, ap, sym, subst, refl, ℕ, ◌+◌, ◌-◌, ◌<◌, ◌≤◌, inl, inr, arith, Bool, true, false, cond, nat_eq, List, [], ◌∷◌, ◌++◌, length, slice_get, length-append, append_assoc, Some, None}
+use Rattle.std.proofs.Common.{◌≡◌, ◌∙◌, ap, sym, subst, refl, ℕ, ◌+◌, ◌-◌, ◌≤◌, inl, inr, arith, Bool, true, false, cond, nat_eq, List, [], ◌∷◌, ◌++◌, length, slice_get, length-append, append_assoc, Option, Some, None}
 use Rattle.jl_program.specs.declared.tree.Program.{Program}
 use Rattle.jl_program.specs.declared.tree.Start.{Start}
 use Rattle.jl_program.specs.Valid.{IsValid}
 use Rattle.jl_calculus.specs.declared.history.Event.{Event}
 use Rattle.jl_calculus.specs.declared.history.Event.TheVariants as Ev
 use Rattle.jl_calculus.specs.declared.history.TraceItem.TheVariants as I
-use Rattle.jl_calculus.specs.Legal.{EachAfter, MayCome, MayStand, start_of, first_place}
+use Rattle.jl_calculus.specs.Legal.{EachAfter, MayCome, MayStand, fuel_of as fuel_in, start_of, first_place}
 use Rattle.jl_calculus.specs.Past.{IsInOrder, own_events, own_starts, tasks_of}
 use Rattle.jl_task.specs.Knows.{Knows}
 use Rattle.jl_machine.specs.declared.task.Machine.{Machine}
-use Rattle.jl_machine.specs.Steps.{MachineFits, IsLost, IsNewRoot, IsNewTask}
+use Rattle.jl_machine.specs.Steps.{MachineFits, IsLost, IsNewRoot, IsNewTask, fuel_of}
 use Rattle.jl_machine.proofs.Whole.{root_law, task_law}
 use Rattle.jl_lead.specs.Carried.{AreOthers}
 use Rattle.jl_lead.specs.Known.{IsStartAmong, IsSpawnOf, IsNoSpawn}
@@ -21,9 +21,9 @@ use Rattle.jl_report.specs.HistoryText.{steps_of}
 use Rattle.jl_causes.specs.Sketch.{items_of}
 use Rattle.jl_replay.specs.declared.running.Running.{Running}
 use Rattle.jl_replay.specs.Told.{trace_told, end_told}
-use Rattle.jl_replay.specs.Moves.{IsLastSpawn, IsNewOn}
-use Rattle.jl_replay.specs.Following.{IsOnItsWay}
-use Rattle.jl_replay.proofs.Carry.{IsOf, not_same}
+use Rattle.jl_replay.specs.Moves.{HasBegun, IsNewFrom}
+use Rattle.jl_replay.specs.Following.{IsOnItsWay, IsToBegin}
+use Rattle.jl_replay.proofs.Carry.{IsNewOn, IsOf, not_same}
 use Rattle.jl_replay.proofs.Cuts.{get_last}
 use Rattle.jl_replay.proofs.Lists.{each_front, each_in, tasks_some}
 
@@ -152,64 +152,74 @@ module _ (P : Program) (before : List Event) (by task : ℕ) (start : Start) (is
       let m : MayCome P before (Ev.Spawn by task start) = each_in (MayCome P) before [] (Ev.Spawn by task start) stand.come in
       not_same by task (λ e. omega (arith, m.running.started, is, e))
 
-  pub spawned_start : start_of task es ≡ Some start
+  spawned_start : start_of task es ≡ Some start
   spawned_start = start_later task before (Ev.Spawn by task start ∷ []) old.start ∙ ap (λ b. cond b (Some start) None) (self_eq task)
 
-  pub spawned_own : own_events task 0 es ≡ []
+  spawned_own : own_events task 0 es ≡ []
   spawned_own =
       own_later task before (Ev.Spawn by task start ∷ []) ∙ ap (λ xs. xs ++ own_events task (length before) (Ev.Spawn by task start ∷ [])) (old.own 0)
       ∙ ap (λ b. cond b (I.Spawn task (length before) ∷ []) []) not_own
 
-  pub spawned_starts : own_starts task es ≡ []
+  spawned_starts : own_starts task es ≡ []
   spawned_starts =
       starts_append task before (Ev.Spawn by task start ∷ []) ∙ ap (λ xs. xs ++ own_starts task (Ev.Spawn by task start ∷ [])) old.starts
       ∙ ap (λ b. cond b (start ∷ []) []) not_own
 
-  pub spawned_new : (fuel : ℕ) (m : Machine) (r : Running) → IsValid P → IsStartAmong P es start → IsNewTask P start fuel m → r ≡ record { machine = m; told = 0; seen = length es; looks = 0 } → IsNewOn P es task fuel r
-  spawned_new fuel m r valid among new q =
-      subst (IsNewOn P es task fuel) (sym q)
-      (record {
+  pub spawned_new : (fuel : ℕ) (r : Running) → IsValid P → IsStartAmong P es start → IsNewFrom P start fuel (length es) r → IsNewOn P es task fuel r
+  spawned_new fuel r valid among new =
+      record {
         fitting = record {
           fits = λ items told alone.
               let k : Knows = led_knows P es task items told (length es) 0 alone in
-              subst (λ (f : ℕ). MachineFits P f k m) (sym new.new.fuel)
-              (task_law k P start fuel m valid among.valid refl spawned_start among.world
-              (record { own = spawned_own; starts = spawned_starts; looks = refl; world = omega arith; begun = omega (arith, first_small task 0 es (omega (arith, length-append before (Ev.Spawn by task start ∷ [])))) }) new);
-          going = task_going P start fuel m new;
+              subst (λ (s : ℕ). MachineFits P (fuel_of r.machine) (led_knows P es task items told s r.looks alone) r.machine) (sym new.seen_is)
+              (subst (λ (l : ℕ). MachineFits P (fuel_of r.machine) (led_knows P es task items told (length es) l alone) r.machine) (sym new.looks)
+              (subst (λ (f : ℕ). MachineFits P f k r.machine) (sym new.machine.new.fuel)
+              (task_law k P start fuel r.machine valid among.valid refl spawned_start among.world
+              (record { own = spawned_own; starts = spawned_starts; looks = refl; world = omega arith; begun = omega (arith, first_small task 0 es (omega (arith, length-append before (Ev.Spawn by task start ∷ [])))) }) new.machine)));
+          going = task_going P start fuel r.machine new.machine;
         };
-        fuel_is = new.new.fuel;
-        seen = refl;
-        told = refl;
-        trace_is = new.new.trace;
-      })
+        fuel_is = new.machine.new.fuel;
+        seen = new.seen_is;
+        told = new.told;
+        trace_is = new.machine.new.trace;
+      }
+
+-- the start of the last event
+pub at_last : {X : Type 0} (xs : List X) (x : X) → slice_get (xs ++ x ∷ []) (length (xs ++ x ∷ []) - 1) ≡ Some x
+at_last xs x = let e : length (xs ++ x ∷ []) - 1 ≡ length xs = omega (arith, length-append xs (x ∷ [])) in ap (slice_get (xs ++ x ∷ [])) e ∙ get_last xs x
 
 -- ---- as the code has it
 
--- the start of the last event
-at_last : {X : Type 0} (xs : List X) (x : X) → slice_get (xs ++ x ∷ []) (length (xs ++ x ∷ []) - 1) ≡ Some x
-at_last xs x = let e : length (xs ++ x ∷ []) - 1 ≡ length xs = omega (arith, length-append xs (x ∷ [])) in ap (slice_get (xs ++ x ∷ [])) e ∙ get_last xs x
+pub new_from : (P : Program) (start : Start) (fuel seen : ℕ) (m : Machine) (r : Running) → IsNewTask P start fuel m → r ≡ record { machine = m; told = 0; seen = seen; looks = 0 } → IsNewFrom P start fuel seen r
+new_from P start fuel seen m r new q = subst (IsNewFrom P start fuel seen) (sym q) (record { machine = new; told = refl; seen_is = refl; looks = refl })
 
-pub spawned_at : (P : Program) (past : Program × List Event) (task : ℕ) (h : IsLastSpawn P past task) (seen : ℕ) → seen ≡ length past.1 → (start : Start) → IsSpawnOf start (slice_get past.1 (seen - 1))
-    → IsStartAmong past.0 past.1 start → (fuel : ℕ) (m : Machine) (r : Running) → IsValid P → IsNewTask P start fuel m → r ≡ record { machine = m; told = 0; seen = seen; looks = 0 } → IsNewOn P past.1 task fuel r
-spawned_at P past task h seen is start spawned among fuel m r valid new q =
-    let es = h.before ++ Ev.Spawn h.by task h.start ∷ [] in
-    let last : slice_get past.1 (seen - 1) ≡ Some (Ev.Spawn h.by task h.start) =
-    ap (λ k. slice_get past.1 (k - 1)) is ∙ ap (λ xs. slice_get xs (length xs - 1)) h.events ∙ at_last h.before (Ev.Spawn h.by task h.start) in
-    let same : h.start ≡ start = subst (IsSpawnOf start) last spawned in
-    let known : IsStartAmong P (h.before ++ Ev.Spawn h.by task h.start ∷ []) h.start =
-    subst (IsStartAmong P (h.before ++ Ev.Spawn h.by task h.start ∷ [])) (sym same)
-    (subst (λ xs. IsStartAmong P xs start) h.events (subst (λ Q. IsStartAmong Q past.1 start) h.program among)) in
-    subst (λ xs. IsNewOn P xs task fuel r) (sym h.events)
-    (spawned_new P h.before h.by task h.start h.child (subst (MayStand P) h.events h.stand) fuel m r valid known
-    (subst (λ s. IsNewTask P s fuel m) (sym same) new)
-    (q ∙ ap (λ k. record { machine = m; told = 0; seen = k; looks = 0 }) (is ∙ ap length h.events)))
+-- there is a start at the place of a spawn, and no other one
+pub spawn_there : (o : Option Event) (start : Start) → IsSpawnOf start o → IsNoSpawn o → ⊥
+spawn_there None start s n = s
+spawn_there (Some (Ev.Begin fuel)) start s n = s
+spawn_there (Some (Ev.Key key)) start s n = s
+spawn_there (Some (Ev.Fill key site first)) start s n = s
+spawn_there (Some (Ev.Def by site)) start s n = s
+spawn_there (Some (Ev.Del by place)) start s n = s
+spawn_there (Some (Ev.Spawn by child from)) start s n = n
+spawn_there (Some (Ev.Done by ended)) start s n = s
 
--- there is a spawn at the last place
-pub is_there : (P : Program) (past : Program × List Event) (task : ℕ) (h : IsLastSpawn P past task) → 0 < length past.1
-is_there P past task h = omega (arith, ap length h.events, length-append h.before (Ev.Spawn h.by task h.start ∷ []))
+same_start : (o : Option Event) (a b : Start) → IsSpawnOf a o → IsSpawnOf b o → a ≡ b
+same_start None a b p q = absurd p
+same_start (Some (Ev.Begin fuel)) a b p q = absurd p
+same_start (Some (Ev.Key key)) a b p q = absurd p
+same_start (Some (Ev.Fill key site first)) a b p q = absurd p
+same_start (Some (Ev.Def by site)) a b p q = absurd p
+same_start (Some (Ev.Del by place)) a b p q = absurd p
+same_start (Some (Ev.Spawn by child from)) a b p q = sym p ∙ q
+same_start (Some (Ev.Done by ended)) a b p q = absurd p
 
-pub spawn_there : (P : Program) (past : Program × List Event) (task : ℕ) (h : IsLastSpawn P past task) (seen : ℕ) → seen ≡ length past.1 → IsNoSpawn (slice_get past.1 (seen - 1)) → ⊥
-spawn_there P past task h seen is none =
-    let last : slice_get past.1 (seen - 1) ≡ Some (Ev.Spawn h.by task h.start) =
-    ap (λ k. slice_get past.1 (k - 1)) is ∙ ap (λ xs. slice_get xs (length xs - 1)) h.events ∙ at_last h.before (Ev.Spawn h.by task h.start) in
-    subst IsNoSpawn last none
+some_same : {X : Type 0} (o : Option X) (x y : X) → o ≡ Some x → o ≡ Some y → x ≡ y
+some_same o x y p q = (let z : Some x ≡ Some y = sym p ∙ q in cc)
+
+-- a task that begins now is on its way
+pub begun_way : (P : Program) (all : List Entry) (es : List Event) (task seen : ℕ) → IsToBegin P all es task seen → (fuel : ℕ) → fuel_in es ≡ Some fuel → (r : Running) → HasBegun P es seen fuel r → IsOnItsWay P all es task r
+begun_way P all es task seen h fuel q r b =
+    let same : b.start ≡ h.start = same_start (slice_get es (seen - 1)) b.start h.start b.spawned h.spawned in
+    let fuels : fuel ≡ h.fuel = some_same (fuel_in es) fuel h.fuel q h.fuel_is in
+    h.way r (subst (λ f. IsNewFrom P h.start f seen r) fuels (subst (λ s. IsNewFrom P s fuel seen r) same b.new))

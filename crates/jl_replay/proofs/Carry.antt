@@ -1,5 +1,5 @@
 -- The tasks that have not ended, after one more event.
-use Rattle.std.proofs.Common.{◌≡◌, ◌∙◌, ap, sym, subst, refl, ℕ, ◌+◌, ◌<◌, ◌≤◌, ◌⊎◌, inl, inr, arith, Bool, true, false, cond, nat_eq, List, [], ◌∷◌, ◌++◌, length, take, drop, slice_get, set, length-append, Option, Some, None}
+use Rattle.std.proofs.Common.{◌≡◌, ◌∙◌, ap, sym, subst, refl, ℕ, zero, suc, ◌+◌, ◌-◌, ◌<◌, ◌≤◌, ◌⊎◌, inl, inr, arith, Bool, true, false, cond, nat_eq, List, [], ◌∷◌, ◌++◌, length, take, drop, slice_get, set, length-append, Option, Some, None}
 use Rattle.jl_program.specs.declared.tree.Program.{Program}
 use Rattle.jl_program.specs.declared.tree.Start.{Start}
 use Rattle.jl_calculus.specs.declared.history.Event.{Event}
@@ -9,8 +9,9 @@ use Rattle.jl_calculus.specs.declared.history.TraceItem.{TraceItem}
 use Rattle.jl_calculus.specs.declared.history.TraceItem.TheVariants as I
 use Rattle.jl_calculus.specs.Legal.{fuel_of}
 use Rattle.jl_calculus.specs.Past.{IsInOrder, done_of, tasks_of}
-use Rattle.jl_machine.specs.Steps.{fuel_of as fuel_in}
+use Rattle.jl_machine.specs.Steps.{fuel_of as fuel_in, trace_of}
 use Rattle.jl_lead.specs.Carried.{AreOthers}
+use Rattle.jl_lead.specs.Known.{IsSpawnOf}
 use Rattle.jl_lead.proofs.Carrying.{machine_stays}
 use Rattle.jl_lead.proofs.EventFacts.{self_eq, done_stays, done_later, tasks_append}
 use Rattle.jl_calculus.proofs.GrowthLemmas.{get_same}
@@ -19,9 +20,11 @@ use Rattle.jl_report.specs.declared.entry.Step.{Step}
 use Rattle.jl_report.specs.HistoryText.{step_of, steps_of}
 use Rattle.jl_causes.specs.Sketch.{items_of}
 use Rattle.jl_replay.specs.declared.running.Running.{Running}
+use Rattle.jl_replay.specs.declared.runs.Stage.{Stage}
+use Rattle.jl_replay.specs.declared.runs.Stage.TheVariants as T
 use Rattle.jl_replay.specs.Told.{trace_told, end_told, stretch}
-use Rattle.jl_replay.specs.Moves.{told_so_far, IsFitting, HasMoved, IsNewOn}
-use Rattle.jl_replay.specs.Following.{IsOnItsWay, AreOnTheirWay}
+use Rattle.jl_replay.specs.Moves.{told_so_far, IsFitting, HasMoved}
+use Rattle.jl_replay.specs.Following.{IsOnItsWay, IsToBegin, IsUnderWay, AreOnTheirWay}
 use Rattle.jl_replay.proofs.Cuts.{cut_after, set_here, set_there, set_length, get_last}
 use Rattle.jl_replay.proofs.Items.{steps_append, steps_told}
 use Rattle.jl_replay.proofs.Lists.{fuel_stays, tasks_some}
@@ -71,6 +74,21 @@ none_before task es more n = go (done_of task es) refl
     go None q = q
     go (Some r) q = absurd (cc (sym (done_stays task es more r q) ∙ n))
 
+-- a start goes on to stand where it stands
+spawn_stays : (es more : List Event) (place : ℕ) (start : Start) → IsSpawnOf start (slice_get es place) → IsSpawnOf start (slice_get (es ++ more) place)
+spawn_stays [] more zero start h = absurd h
+spawn_stays [] more (suc place) start h = absurd h
+spawn_stays (e ∷ es) more zero start h = h
+spawn_stays (e ∷ es) more (suc place) start h = spawn_stays es more place start h
+
+-- a new task that has seen all events
+pub record IsNewOn (P : Program) (es : List Event) (task fuel : ℕ) (r : Running) : Type 0 where
+  pub fitting : IsFitting P es task r
+  pub fuel_is : fuel_in r.machine ≡ fuel
+  pub seen : r.seen ≡ length es
+  pub told : r.told ≡ 0
+  pub trace_is : trace_of r.machine ≡ []
+
 module _ (P : Program) (all : List Entry) (es : List Event) where
   -- ---- a task that waits
 
@@ -94,6 +112,24 @@ module _ (P : Program) (all : List Entry) (es : List Event) where
     where
       more_tasks : task < tasks_of es → task < tasks_of (es ++ e ∷ [])
       more_tasks l = omega (arith, l, tasks_append es (e ∷ []), tasks_some (e ∷ []))
+
+  -- a task that has not begun
+  begin_on : (e : Event) (task seen : ℕ) → AreOthers task (e ∷ []) → IsToBegin P all es task seen → IsToBegin P all (es ++ e ∷ []) task seen
+  begin_on e task seen o h =
+      record {
+        start = h.start;
+        fuel = h.fuel;
+        seen_some = h.seen_some;
+        spawned = spawn_stays es (e ∷ []) (seen - 1) h.start h.spawned;
+        fuel_is = fuel_stays es (e ∷ []) h.fuel h.fuel_is;
+        way = λ r new. way_on e task r o (h.way r new);
+      }
+
+  stage_on : (e : Event) (task : ℕ) (kept : Option Stage) → AreOthers task (e ∷ []) → IsUnderWay P all es task kept → IsUnderWay P all (es ++ e ∷ []) task kept
+  stage_on e task None o h = h
+  stage_on e task (Some (T.Spawned seen)) o h = begin_on e task seen o h
+  stage_on e task (Some (T.Running r)) o h = way_on e task r o h
+  stage_on e task (Some T.Ended) o h = h
 
   -- a task that has moved
   pub moved_on : (e : Event) (task : ℕ) (r r' : Running) (step : Step) (item : TraceItem) → IsOnItsWay P all es task r → IsNextStep P all es task r step → step_of item ≡ step
@@ -123,7 +159,7 @@ module _ (P : Program) (all : List Entry) (es : List Event) where
 
   -- ---- all tasks
 
-  module _ (tasks : List (Option Running)) (h : AreOnTheirWay P all es tasks) where
+  module _ (tasks : List Stage) (h : AreOnTheirWay P all es tasks) where
     same_tasks : (e : Event) → tasks_of (e ∷ []) ≡ 1 → tasks_of (es ++ e ∷ []) ≡ tasks_of es
     same_tasks e one = omega (arith, tasks_append es (e ∷ []), one)
 
@@ -134,83 +170,85 @@ module _ (P : Program) (all : List Entry) (es : List Event) where
         record {
           many = h.many ∙ sym same;
           each = λ task l running.
-              let (r, at, way) = h.each task (subst (λ n. task < n) same l) (none_before task es (e ∷ []) running) in
-              (r, at, way_on e task r (others task e (none task)) way);
+              stage_on e task (slice_get tasks task) (others task e (none task)) (h.each task (subst (λ n. task < n) same l) (none_before task es (e ∷ []) running));
         }
 
     -- a definition or a deletion
-    pub change_on : (e : Event) (task : ℕ) (r : Running) → tasks_of (e ∷ []) ≡ 1 → ((t : ℕ) → IsOf t e → task ≡ t) → task < tasks_of es → IsOnItsWay P all (es ++ e ∷ []) task r → AreOnTheirWay P all (es ++ e ∷ []) (set tasks task (Some r))
+    pub change_on : (e : Event) (task : ℕ) (r : Running) → tasks_of (e ∷ []) ≡ 1 → ((t : ℕ) → IsOf t e → task ≡ t) → task < tasks_of es → IsOnItsWay P all (es ++ e ∷ []) task r → AreOnTheirWay P all (es ++ e ∷ []) (set tasks task (T.Running r))
     change_on e task r one of started way =
         let same = same_tasks e one in
         record {
-          many = set_length tasks task (Some r) ∙ h.many ∙ sym same;
+          many = set_length tasks task (T.Running r) ∙ h.many ∙ sym same;
           each = λ t l running. go t (subst (λ n. t < n) same l) running (nat_eq t task) refl;
         }
       where
-        go : (t : ℕ) → t < tasks_of es → done_of t (es ++ e ∷ []) ≡ None → (b : Bool) → nat_eq t task ≡ b → (q : Running) × (slice_get (set tasks task (Some r)) t ≡ Some (Some q)) × IsOnItsWay P all (es ++ e ∷ []) t q
+        go : (t : ℕ) → t < tasks_of es → done_of t (es ++ e ∷ []) ≡ None → (b : Bool) → nat_eq t task ≡ b → IsUnderWay P all (es ++ e ∷ []) t (slice_get (set tasks task (T.Running r)) t)
         go t l running true q =
             let is : task ≡ t = grind (arith, q) in
-            subst (λ (n : ℕ). (x : Running) × (slice_get (set tasks task (Some r)) n ≡ Some (Some x)) × IsOnItsWay P all (es ++ e ∷ []) n x) is
-            (r, set_here tasks task (Some r) (omega (arith, started, h.many)), way)
+            subst (λ (n : ℕ). IsUnderWay P all (es ++ e ∷ []) n (slice_get (set tasks task (T.Running r)) n)) is
+            (subst (IsUnderWay P all (es ++ e ∷ []) task) (sym (set_here tasks task (T.Running r) (omega (arith, started, h.many)))) way)
         go t l running false q =
             let other : t ≡ task → ⊥ = grind (arith, q) in
-            let (x, at, w) = h.each t l (none_before t es (e ∷ []) running) in
-            (x, set_there tasks task t (Some r) other ∙ at, way_on e t x (others t e (λ k. other (sym (of t k)))) w)
+            subst (IsUnderWay P all (es ++ e ∷ []) t) (sym (set_there tasks task t (T.Running r) other))
+            (stage_on e t (slice_get tasks t) (others t e (λ k. other (sym (of t k)))) (h.each t l (none_before t es (e ∷ []) running)))
 
     -- the end of a task
-    pub end_on : (task : ℕ) (ended : Record) → AreOnTheirWay P all (es ++ Ev.Done task ended ∷ []) (set tasks task None)
+    pub end_on : (task : ℕ) (ended : Record) → AreOnTheirWay P all (es ++ Ev.Done task ended ∷ []) (set tasks task T.Ended)
     end_on task ended =
         let e = Ev.Done task ended in
         let same = same_tasks e refl in
         record {
-          many = set_length tasks task None ∙ h.many ∙ sym same;
+          many = set_length tasks task T.Ended ∙ h.many ∙ sym same;
           each = λ t l running. go t (subst (λ n. t < n) same l) running (nat_eq t task) refl;
         }
       where
         e : Event
         e = Ev.Done task ended
 
-        go : (t : ℕ) → t < tasks_of es → done_of t (es ++ Ev.Done task ended ∷ []) ≡ None → (b : Bool) → nat_eq t task ≡ b
-            → (q : Running) × (slice_get (set tasks task None) t ≡ Some (Some q)) × IsOnItsWay P all (es ++ Ev.Done task ended ∷ []) t q
+        go : (t : ℕ) → t < tasks_of es → done_of t (es ++ Ev.Done task ended ∷ []) ≡ None → (b : Bool) → nat_eq t task ≡ b → IsUnderWay P all (es ++ Ev.Done task ended ∷ []) t (slice_get (set tasks task T.Ended) t)
         go t l running true q =
             let is : task ≡ t = grind (arith, q) in
             let ends : done_of t (Ev.Done task ended ∷ []) ≡ Some ended = ap (λ b. cond b (Some ended) None) (ap (nat_eq task) (sym is) ∙ self_eq task) in
             absurd (cc (sym running ∙ done_later t es (Ev.Done task ended ∷ []) (none_before t es (Ev.Done task ended ∷ []) running) ∙ ends))
         go t l running false q =
             let other : t ≡ task → ⊥ = grind (arith, q) in
-            let (x, at, w) = h.each t l (none_before t es (Ev.Done task ended ∷ []) running) in
-            (x, set_there tasks task t None other ∙ at, way_on (Ev.Done task ended) t x (others t (Ev.Done task ended) (λ k. k)) w)
+            subst (IsUnderWay P all (es ++ Ev.Done task ended ∷ []) t) (sym (set_there tasks task t T.Ended other))
+            (stage_on (Ev.Done task ended) t (slice_get tasks t) (others t (Ev.Done task ended) (λ k. k)) (h.each t l (none_before t es (Ev.Done task ended ∷ []) running)))
 
     -- a spawn
-    pub spawn_on : (task child : ℕ) (start : Start) (r new : Running) → task < tasks_of es → child ≡ tasks_of es → IsOnItsWay P all (es ++ Ev.Spawn task child start ∷ []) task r
-        → IsOnItsWay P all (es ++ Ev.Spawn task child start ∷ []) child new
-        → AreOnTheirWay P all (es ++ Ev.Spawn task child start ∷ []) (set tasks task (Some r) ++ Some new ∷ [])
-    spawn_on task child start r new started is way begun =
+    pub spawn_on : (task child : ℕ) (start : Start) (r : Running) (seen : ℕ) → task < tasks_of es → child ≡ tasks_of es → IsOnItsWay P all (es ++ Ev.Spawn task child start ∷ []) task r
+        → IsToBegin P all (es ++ Ev.Spawn task child start ∷ []) child seen
+        → AreOnTheirWay P all (es ++ Ev.Spawn task child start ∷ []) (set tasks task (T.Running r) ++ T.Spawned seen ∷ [])
+    spawn_on task child start r seen started is way spawned =
         record {
-          many = length-append (set tasks task (Some r)) (Some new ∷ []) ∙ omega (arith, set_length tasks task (Some r), h.many, tasks_append es (Ev.Spawn task child start ∷ []));
+          many = length-append (set tasks task (T.Running r)) (T.Spawned seen ∷ []) ∙ omega (arith, set_length tasks task (T.Running r), h.many, tasks_append es (Ev.Spawn task child start ∷ []));
           each = λ t l running. go t (omega (arith, l, tasks_append es (Ev.Spawn task child start ∷ []))) running (nat_eq t child) refl (nat_eq t task) refl;
         }
       where
         Due : ℕ → Type 0
-        Due t = (q : Running) × (slice_get (set tasks task (Some r) ++ Some new ∷ []) t ≡ Some (Some q)) × IsOnItsWay P all (es ++ Ev.Spawn task child start ∷ []) t q
+        Due t = IsUnderWay P all (es ++ Ev.Spawn task child start ∷ []) t (slice_get (set tasks task (T.Running r) ++ T.Spawned seen ∷ []) t)
 
-        at_front : (t : ℕ) → t < tasks_of es → slice_get (set tasks task (Some r) ++ Some new ∷ []) t ≡ slice_get (set tasks task (Some r)) t
-        at_front t l = get_same (set tasks task (Some r)) (Some new ∷ []) t (omega (arith, l, set_length tasks task (Some r), h.many))
+        at_front : (t : ℕ) → t < tasks_of es → slice_get (set tasks task (T.Running r) ++ T.Spawned seen ∷ []) t ≡ slice_get (set tasks task (T.Running r)) t
+        at_front t l = get_same (set tasks task (T.Running r)) (T.Spawned seen ∷ []) t (omega (arith, l, set_length tasks task (T.Running r), h.many))
+
+        at_end : slice_get (set tasks task (T.Running r) ++ T.Spawned seen ∷ []) child ≡ Some (T.Spawned seen)
+        at_end =
+            let here : length (set tasks task (T.Running r)) ≡ child = set_length tasks task (T.Running r) ∙ h.many ∙ sym is in
+            subst (λ n. slice_get (set tasks task (T.Running r) ++ T.Spawned seen ∷ []) n ≡ Some (T.Spawned seen)) here (get_last (set tasks task (T.Running r)) (T.Spawned seen))
 
         go : (t : ℕ) → t ≤ tasks_of es → done_of t (es ++ Ev.Spawn task child start ∷ []) ≡ None → (b : Bool) → nat_eq t child ≡ b → (c : Bool) → nat_eq t task ≡ c → Due t
         go t l running true q c k =
             let same : child ≡ t = grind (arith, q) in
-            let here : length (set tasks task (Some r)) ≡ child = set_length tasks task (Some r) ∙ h.many ∙ sym is in
-            subst Due same (new, subst (λ n. slice_get (set tasks task (Some r) ++ Some new ∷ []) n ≡ Some (Some new)) here (get_last (set tasks task (Some r)) (Some new)), begun)
+            subst Due same (subst (IsUnderWay P all (es ++ Ev.Spawn task child start ∷ []) child) (sym at_end) spawned)
         go t l running false q true k =
             let same : task ≡ t = grind (arith, k) in
-            subst Due same (r, at_front task started ∙ set_here tasks task (Some r) (omega (arith, started, h.many)), way)
+            subst Due same (subst (IsUnderWay P all (es ++ Ev.Spawn task child start ∷ []) task) (sym (at_front task started ∙ set_here tasks task (T.Running r) (omega (arith, started, h.many)))) way)
         go t l running false q false k =
             let not_child : t ≡ child → ⊥ = grind (arith, q) in
             let not_task : t ≡ task → ⊥ = grind (arith, k) in
             let less : t < tasks_of es = omega (arith, l, is, not_child) in
-            let (x, at, w) = h.each t less (none_before t es (Ev.Spawn task child start ∷ []) running) in
-            (x, at_front t less ∙ set_there tasks task t (Some r) not_task ∙ at, way_on (Ev.Spawn task child start) t x (others t (Ev.Spawn task child start) (λ o. neither t not_child not_task o)) w)
+            subst (IsUnderWay P all (es ++ Ev.Spawn task child start ∷ []) t) (sym (at_front t less ∙ set_there tasks task t (T.Running r) not_task))
+            (stage_on (Ev.Spawn task child start) t (slice_get tasks t) (others t (Ev.Spawn task child start) (λ o. neither t not_child not_task o)) (h.each t less (none_before t es (Ev.Spawn task child start ∷ []) running)))
           where
             neither : (t : ℕ) → (t ≡ child → ⊥) → (t ≡ task → ⊥) → ((task ≡ t) ⊎ (child ≡ t)) → ⊥
             neither t a b (inl e) = b (sym e)

@@ -16,6 +16,7 @@ use Rattle.jl_calculus.specs.World.{world_of}
 use Rattle.jl_machine.specs.declared.task.Machine.{Machine}
 use Rattle.jl_machine.specs.Steps.{fuel_of as fuel_in, IsNewRoot}
 use Rattle.jl_lead.specs.Coming.{IsNoRun, IsTheRun}
+use Rattle.jl_lead.specs.Known.{AreSound, IsSpawnOf, IsStartAmong}
 use Rattle.jl_lead.proofs.EventFacts.{tasks_append}
 use Rattle.jl_report.specs.declared.entry.Ending.{Ending}
 use Rattle.jl_report.specs.declared.entry.Entry.{Entry}
@@ -28,12 +29,14 @@ use Rattle.jl_causes.specs.Sketch.{Names, items_of}
 use Rattle.jl_causes.proofs.AlikeLemmas.{same, running_to}
 use Rattle.jl_replay.specs.declared.running.Running.{Running}
 use Rattle.jl_replay.specs.declared.runs.Runs.{Runs}
+use Rattle.jl_replay.specs.declared.runs.Stage.{Stage}
+use Rattle.jl_replay.specs.declared.runs.Stage.TheVariants as T
 use Rattle.jl_replay.specs.Told.{trace_told, end_told, stretch}
-use Rattle.jl_replay.specs.Moves.{told_so_far, FollowsDefinition, FollowsDeletion, FollowsSpawn, HasMoved, IsLastSpawn, IsNewOn, MayGoOn}
-use Rattle.jl_replay.specs.Following.{IsOnItsWay, AreOnTheirWay, AreReplayed, AreJudged, AreFollowed, IsDifference, HasFollowed, IsToldBy, IsKeyAt, HasStarted, HasComeToSpawn}
-use Rattle.jl_replay.proofs.Beginning.{root_way}
+use Rattle.jl_replay.specs.Moves.{told_so_far, FollowsDefinition, FollowsDeletion, FollowsSpawn, HasMoved, MayGoOn}
+use Rattle.jl_replay.specs.Following.{IsOnItsWay, IsToBegin, IsUnderWay, AreOnTheirWay, AreReplayed, AreJudged, AreFollowed, IsDifference, HasFollowed, IsToldBy, IsKeyAt, HasStarted, HasComeToSpawn}
+use Rattle.jl_replay.proofs.Beginning.{at_last, root_way, spawned_new}
 use Rattle.jl_replay.proofs.Carry.{moved_on, plain_on, change_on, end_on, spawn_on, new_on}
-use Rattle.jl_replay.proofs.Cuts.{cut_after, set_length}
+use Rattle.jl_replay.proofs.Cuts.{cut_after, get_last, set_length}
 use Rattle.jl_replay.proofs.Differs.{definition_differs, deletion_differs, spawn_differs, end_differs, text_differs}
 use Rattle.jl_replay.proofs.FirstRound.{front, stands, may_come}
 use Rattle.jl_replay.proofs.Lists.{fuel_stays}
@@ -57,12 +60,6 @@ few_all : (P : Program) (past es : List Event) → EachAfter (MayCome P) past es
 few_all P past [] h l = subst (λ xs. tasks_of xs ≤ MOST_TASKS) (sym (append-nil past)) l
 few_all P past (e ∷ es) h l =
     subst (λ xs. tasks_of xs ≤ MOST_TASKS) (append_assoc past (e ∷ []) es) (few_all P (past ++ e ∷ []) es h.1 (few_more P past e h.0 l))
-
-some_same : {X : Type 0} (o : Option X) (x y : X) → o ≡ Some x → o ≡ Some y → x ≡ y
-some_same o x y p q = (let z : Some x ≡ Some y = sym p ∙ q in cc)
-
-inner_same : {X : Type 0} (x y : X) → Some x ≡ Some y → x ≡ y
-inner_same x y z = cc
 
 fuel_some : (es : List Event) (fuel : ℕ) → fuel_of es ≡ Some fuel → 0 < length es
 fuel_some [] fuel q = absurd (cc q)
@@ -90,14 +87,10 @@ module _ (P : Program) (all : List Entry) (j : AreJudged P all) (runs : Runs) (h
     pub started : task < tasks_of es
     pub small : task < MOST_TASKS
     pub inside : task < length runs.tasks.items
-    pub running : Running
-    pub among : slice_get runs.tasks.items task ≡ Some (Some running)
-    pub way : IsOnItsWay P all es task running
+    pub running : IsRunning es task
 
   here_by : (task : ℕ) → IsRunning es task → IsRunningHere task
-  here_by task r =
-      let (q, at, way) = h.on_way.each task r.started r.going in
-      record { started = r.started; small = omega (arith, r.started, few_tasks); inside = omega (arith, r.started, h.on_way.many); running = q; among = at; way = way }
+  here_by task r = record { started = r.started; small = omega (arith, r.started, few_tasks); inside = omega (arith, r.started, h.on_way.many); running = r }
 
   module _ (n : ℕ) (here : length es ≡ n) where
     entry_here : (x : Entry) → slice_get all n ≡ Some x → slice_get all (length es) ≡ Some x
@@ -150,10 +143,7 @@ module _ (P : Program) (all : List Entry) (j : AreJudged P all) (runs : Runs) (h
       pub definition_room : world_of es < MOST_WORLDS
       definition_room = may_define.room
 
-      module _ (r : Running) (is : slice_get runs.tasks.items task ≡ Some (Some r)) where
-        definition_way : IsOnItsWay P all es task r
-        definition_way = subst (IsOnItsWay P all es task) (inner_same definition_here.running r (some_same (slice_get runs.tasks.items task) (Some definition_here.running) (Some r) definition_here.among is)) definition_here.way
-
+      module _ (r : Running) (definition_way : IsOnItsWay P all es task r) where
         definition_step : IsNextStep P all es task r (S.Def site (length es))
         definition_step = definition_next P all j es h.replayed task site (entry_here (E.Def task site) at) r definition_way
 
@@ -165,7 +155,7 @@ module _ (P : Program) (all : List Entry) (j : AreJudged P all) (runs : Runs) (h
             omega (arith, (cut_after r.told (trace_told task all) (stretch (drop r.told (trace_told task all))) (S.Def site (length es)) definition_step.more definition_way.few definition_step.rest).2)
 
         pub definition_followed : (came : Bool) (r' : Running) (runs' : Runs) → FollowsDefinition P es task (trace_told task all) r site came runs'.led.past r' → runs'.fuel ≡ runs.fuel
-            → runs'.tasks.items ≡ set (set runs.tasks.items task None) task (Some r') → HasFollowed P all n came runs'
+            → runs'.tasks.items ≡ set (set runs.tasks.items task T.Ended) task (T.Running r') → HasFollowed P all n came runs'
         definition_followed true r' runs' (tells, made) fuel tasks =
             let trace = trace_told task all in
             let moved : HasMoved P es (es ++ Ev.Def task site ∷ []) task trace r r' (I.Def site (length es)) = subst (λ xs. HasMoved P es xs task trace r r' (I.Def site (length es))) made.events made.moved in
@@ -173,7 +163,7 @@ module _ (P : Program) (all : List Entry) (j : AreJudged P all) (runs : Runs) (h
             (omega (arith, definition_here.started, tasks_append es (Ev.Def task site ∷ []))) moved in
             followed runs' (Ev.Def task site) made.program made.events fuel
             (definition_more P all j es h.replayed task site (entry_here (E.Def task site) at) r definition_step (fuel_in r.machine) tells definition_way.fuel)
-            (subst (AreOnTheirWay P all (es ++ Ev.Def task site ∷ [])) (sym (tasks ∙ set_again runs.tasks.items task None (Some r')))
+            (subst (AreOnTheirWay P all (es ++ Ev.Def task site ∷ [])) (sym (tasks ∙ set_again runs.tasks.items task T.Ended (T.Running r')))
             (change_on P all es runs.tasks.items h.on_way (Ev.Def task site) task r' refl (λ t o. o) definition_here.started way))
         definition_followed false r' runs' tells fuel tasks =
             differs_here (definition_differs P all j es h.replayed task site (entry_here (E.Def task site) at) r definition_step (fuel_in r.machine) tells definition_way.fuel)
@@ -190,10 +180,7 @@ module _ (P : Program) (all : List Entry) (j : AreJudged P all) (runs : Runs) (h
       pub deletion_room : world_of es < MOST_WORLDS
       deletion_room = may_delete.room
 
-      module _ (r : Running) (is : slice_get runs.tasks.items task ≡ Some (Some r)) where
-        deletion_way : IsOnItsWay P all es task r
-        deletion_way = subst (IsOnItsWay P all es task) (inner_same deletion_here.running r (some_same (slice_get runs.tasks.items task) (Some deletion_here.running) (Some r) deletion_here.among is)) deletion_here.way
-
+      module _ (r : Running) (deletion_way : IsOnItsWay P all es task r) where
         deletion_step : IsNextStep P all es task r (S.Del place (length es))
         deletion_step = deletion_next P all j es h.replayed task place (entry_here (E.Del task place) at) r deletion_way
 
@@ -205,7 +192,7 @@ module _ (P : Program) (all : List Entry) (j : AreJudged P all) (runs : Runs) (h
             omega (arith, (cut_after r.told (trace_told task all) (stretch (drop r.told (trace_told task all))) (S.Del place (length es)) deletion_step.more deletion_way.few deletion_step.rest).2)
 
         pub deletion_followed : (came : Bool) (r' : Running) (runs' : Runs) → FollowsDeletion P es task (trace_told task all) r place came runs'.led.past r' → runs'.fuel ≡ runs.fuel
-            → runs'.tasks.items ≡ set (set runs.tasks.items task None) task (Some r') → HasFollowed P all n came runs'
+            → runs'.tasks.items ≡ set (set runs.tasks.items task T.Ended) task (T.Running r') → HasFollowed P all n came runs'
         deletion_followed true r' runs' (tells, made) fuel tasks =
             let trace = trace_told task all in
             let moved : HasMoved P es (es ++ Ev.Del task place ∷ []) task trace r r' (I.Del place (length es)) = subst (λ xs. HasMoved P es xs task trace r r' (I.Del place (length es))) made.events made.moved in
@@ -213,7 +200,7 @@ module _ (P : Program) (all : List Entry) (j : AreJudged P all) (runs : Runs) (h
             (omega (arith, deletion_here.started, tasks_append es (Ev.Del task place ∷ []))) moved in
             followed runs' (Ev.Del task place) made.program made.events fuel
             (deletion_more P all j es h.replayed task place (entry_here (E.Del task place) at) r deletion_step (fuel_in r.machine) tells deletion_way.fuel)
-            (subst (AreOnTheirWay P all (es ++ Ev.Del task place ∷ [])) (sym (tasks ∙ set_again runs.tasks.items task None (Some r')))
+            (subst (AreOnTheirWay P all (es ++ Ev.Del task place ∷ [])) (sym (tasks ∙ set_again runs.tasks.items task T.Ended (T.Running r')))
             (change_on P all es runs.tasks.items h.on_way (Ev.Del task place) task r' refl (λ t o. o) deletion_here.started way))
         deletion_followed false r' runs' tells fuel tasks =
             differs_here (deletion_differs P all j es h.replayed task place (entry_here (E.Del task place) at) r deletion_step (fuel_in r.machine) tells deletion_way.fuel)
@@ -236,10 +223,7 @@ module _ (P : Program) (all : List Entry) (j : AreJudged P all) (runs : Runs) (h
       pub spawn_room : tasks_of es < MOST_TASKS
       spawn_room = (may_spawn some_start refl).room
 
-      module _ (r : Running) (is : slice_get runs.tasks.items task ≡ Some (Some r)) where
-        spawn_way : IsOnItsWay P all es task r
-        spawn_way = subst (IsOnItsWay P all es task) (inner_same spawn_here.running r (some_same (slice_get runs.tasks.items task) (Some spawn_here.running) (Some r) spawn_here.among is)) spawn_here.way
-
+      module _ (r : Running) (spawn_way : IsOnItsWay P all es task r) where
         spawn_step : IsNextStep P all es task r (S.Spawn child (length es))
         spawn_step = spawn_next P all j es h.replayed task child place there r spawn_way
 
@@ -251,7 +235,7 @@ module _ (P : Program) (all : List Entry) (j : AreJudged P all) (runs : Runs) (h
             omega (arith, (cut_after r.told (trace_told task all) (stretch (drop r.told (trace_told task all))) (S.Spawn child (length es)) spawn_step.more spawn_way.few spawn_step.rest).2)
 
         pub spawn_come : (came : Bool) (r' : Running) (runs' : Runs) → FollowsSpawn P es task (trace_told task all) r place came runs'.led.past r' → runs'.fuel ≡ runs.fuel
-            → runs'.tasks.items ≡ set (set runs.tasks.items task None) task (Some r') → HasComeToSpawn P all runs task child place came runs'
+            → runs'.tasks.items ≡ set (set runs.tasks.items task T.Ended) task (T.Running r') → HasComeToSpawn P all runs task child place came runs'
         spawn_come true r' runs' (tells, made) fuel tasks =
             let trace = trace_told task all in
             let number : tasks_of es ≡ child = sym (child_number P all j es h.replayed task child place there) in
@@ -270,7 +254,7 @@ module _ (P : Program) (all : List Entry) (j : AreJudged P all) (runs : Runs) (h
                   (spawn_more P all j es h.replayed task child place there r spawn_step (fuel_in r.machine) tells spawn_way.fuel made.start made.at made.only);
               started = spawn_here.started;
               running = r';
-              tasks = tasks ∙ set_again runs.tasks.items task None (Some r');
+              tasks = tasks ∙ set_again runs.tasks.items task T.Ended (T.Running r');
               way = moved_on P all es (Ev.Spawn task child made.start) task r r' (S.Spawn child (length es)) (I.Spawn child (length es)) spawn_way spawn_step refl
                   (omega (arith, spawn_here.started, tasks_append es (Ev.Spawn task child made.start ∷ []))) moved;
             }
@@ -281,31 +265,36 @@ module _ (P : Program) (all : List Entry) (j : AreJudged P all) (runs : Runs) (h
         mid_stand : MayStand P (es ++ Ev.Spawn task child s.start ∷ [])
         mid_stand = (stands P all j (es ++ Ev.Spawn task child s.start ∷ []) s.replayed (omega (arith, length-append es (Ev.Spawn task child s.start ∷ [])))).0
 
-        pub last_spawn : IsLastSpawn P mid.led.past child
-        last_spawn =
+        -- it is on its way whenever it begins
+        to_begin : IsValid P → IsStartAmong P (es ++ Ev.Spawn task child s.start ∷ []) s.start → IsToBegin P all (es ++ Ev.Spawn task child s.start ∷ []) child (length (es ++ Ev.Spawn task child s.start ∷ []))
+        to_begin valid among =
+            let fuel_is : fuel_of (es ++ Ev.Spawn task child s.start ∷ []) ≡ Some runs.fuel = fuel_stays es (Ev.Spawn task child s.start ∷ []) runs.fuel h.fuel in
             record {
-              program = s.program;
-              before = es;
-              by = task;
               start = s.start;
-              events = s.events;
-              child = s.child_is;
-              stand = subst (MayStand P) (sym s.events) mid_stand;
+              fuel = runs.fuel;
+              seen_some = omega (arith, length-append es (Ev.Spawn task child s.start ∷ []));
+              spawned = subst (IsSpawnOf s.start) (sym (at_last es (Ev.Spawn task child s.start))) refl;
+              fuel_is = fuel_is;
+              way = λ r new.
+                  new_on P all (es ++ Ev.Spawn task child s.start ∷ []) child runs.fuel r fuel_is
+                  (omega (arith, s.child_is, tasks_append es (Ev.Spawn task child s.start ∷ [])))
+                  (subst (λ k. IsInOrder k (items_of (trace_told child all)) (end_told child 0 all)) (sym (length-append es (Ev.Spawn task child s.start ∷ []))) (child_ordered P all j es h.replayed task child place there))
+                  (spawned_new P es task child s.start s.child_is mid_stand runs.fuel r valid among new);
             }
 
-        pub spawn_followed : (new : Running) (runs' : Runs) → IsNewOn P mid.led.past.1 child mid.fuel new → runs'.led.past ≡ mid.led.past → runs'.fuel ≡ mid.fuel → runs'.tasks.items ≡ mid.tasks.items ++ Some new ∷ []
-            → AreFollowed P all runs' × (length runs'.led.past.1 ≡ n + 1)
-        spawn_followed new runs' begun past fuel tasks =
-            let e = Ev.Spawn task child s.start in
-            let begun_on : IsNewOn P (es ++ Ev.Spawn task child s.start ∷ []) child runs.fuel new =
-            subst (λ f. IsNewOn P (es ++ Ev.Spawn task child s.start ∷ []) child f new) s.fuel (subst (λ xs. IsNewOn P xs child mid.fuel new) s.events begun) in
-            let new_way = new_on P all (es ++ Ev.Spawn task child s.start ∷ []) child runs.fuel new (fuel_stays es (Ev.Spawn task child s.start ∷ []) runs.fuel h.fuel)
-            (omega (arith, s.child_is, tasks_append es (Ev.Spawn task child s.start ∷ [])))
-            (subst (λ k. IsInOrder k (items_of (trace_told child all)) (end_told child 0 all)) (sym (length-append es (Ev.Spawn task child s.start ∷ []))) (child_ordered P all j es h.replayed task child place there))
-            begun_on in
+        start_among : AreSound mid.led.past.0 mid.led.past.1 → IsStartAmong P (es ++ Ev.Spawn task child s.start ∷ []) s.start
+        start_among sound =
+            let here : AreSound P (es ++ Ev.Spawn task child s.start ∷ []) = subst (AreSound P) s.events (subst (λ Q. AreSound Q mid.led.past.1) s.program sound) in
+            here.starts (length es) task child s.start (get_last es (Ev.Spawn task child s.start))
+
+        pub spawn_followed : IsValid P → AreSound mid.led.past.0 mid.led.past.1 → (seen : ℕ) → seen ≡ length mid.led.past.1 → (runs' : Runs) → runs'.led.past ≡ mid.led.past → runs'.fuel ≡ mid.fuel
+            → runs'.tasks.items ≡ mid.tasks.items ++ T.Spawned seen ∷ [] → AreFollowed P all runs' × (length runs'.led.past.1 ≡ n + 1)
+        spawn_followed valid sound seen is runs' past fuel tasks =
+            let begins : IsToBegin P all (es ++ Ev.Spawn task child s.start ∷ []) child seen =
+            subst (IsToBegin P all (es ++ Ev.Spawn task child s.start ∷ []) child) (sym (is ∙ ap length s.events)) (to_begin valid (start_among sound)) in
             followed runs' (Ev.Spawn task child s.start) (ap (λ (v : Program × List Event). v.0) past ∙ s.program) (ap (λ (v : Program × List Event). v.1) past ∙ s.events) (fuel ∙ s.fuel) s.replayed
-            (subst (AreOnTheirWay P all (es ++ Ev.Spawn task child s.start ∷ [])) (sym (tasks ∙ ap (λ ts. ts ++ Some new ∷ []) s.tasks))
-            (spawn_on P all es runs.tasks.items h.on_way task child s.start s.running new s.started s.child_is s.way new_way))
+            (subst (AreOnTheirWay P all (es ++ Ev.Spawn task child s.start ∷ [])) (sym (tasks ∙ ap (λ ts. ts ++ T.Spawned seen ∷ []) s.tasks))
+            (spawn_on P all es runs.tasks.items h.on_way task child s.start s.running seen s.started s.child_is s.way begins))
 
       pub come_differs : IsDifference P all (length es) → IsDifference P all n
       come_differs d = differs_here d
@@ -324,10 +313,7 @@ module _ (P : Program) (all : List Entry) (j : AreJudged P all) (runs : Runs) (h
       pub end_here : IsRunningHere task
       end_here = here_by task end_running
 
-      module _ (r : Running) (is : slice_get runs.tasks.items task ≡ Some (Some r)) where
-        end_way : IsOnItsWay P all es task r
-        end_way = subst (IsOnItsWay P all es task) (inner_same end_here.running r (some_same (slice_get runs.tasks.items task) (Some end_here.running) (Some r) end_here.among is)) end_here.way
-
+      module _ (r : Running) (end_way : IsOnItsWay P all es task r) where
         end_step : IsLastStep P all es task r trace
         end_step = end_next P all j es h.replayed task calls trace output ending end_there r end_way
 
@@ -346,7 +332,7 @@ module _ (P : Program) (all : List Entry) (j : AreJudged P all) (runs : Runs) (h
           pub other_end : (IsToldBy P ended calls output ending → ⊥) → IsDifference P all n
           other_end unlike = differs_here (text_differs P all j es h.replayed task calls trace output ending end_there r end_step (fuel_in r.machine) end_way.fuel ended the_end unlike)
 
-          pub end_followed : (runs' : Runs) → IsToldBy P ended calls output ending → runs'.led.past ≡ (runs.led.past.0, es ++ Ev.Done task ended ∷ []) → runs'.fuel ≡ runs.fuel → runs'.tasks.items ≡ set runs.tasks.items task None
+          pub end_followed : (runs' : Runs) → IsToldBy P ended calls output ending → runs'.led.past ≡ (runs.led.past.0, es ++ Ev.Done task ended ∷ []) → runs'.fuel ≡ runs.fuel → runs'.tasks.items ≡ set runs.tasks.items task T.Ended
               → AreFollowed P all runs' × (length runs'.led.past.1 ≡ n + 1)
           end_followed runs' told q fuel tasks =
               let (program, events) = past_is runs'.led.past (Ev.Done task ended) q in
@@ -377,7 +363,7 @@ first_rest [] x at = absurd (cc at)
 first_rest (y ∷ ys) x at = (ys, (let w : y ≡ x = cc at in ap (λ z. z ∷ ys) (sym w)))
 
 pub begun : (P : Program) (all : List Entry) (j : AreJudged P all) (fuel : ℕ) → IsValid P → slice_get all 0 ≡ Some (E.Begin fuel) → (m : Machine) → IsNewRoot P fuel m → (runs : Runs)
-    → runs.led.past ≡ (P, Ev.Begin fuel ∷ []) → runs.fuel ≡ fuel → runs.tasks.items ≡ Some (record { machine = m; told = 0; seen = 1; looks = 0 }) ∷ [] → AreFollowed P all runs
+    → runs.led.past ≡ (P, Ev.Begin fuel ∷ []) → runs.fuel ≡ fuel → runs.tasks.items ≡ T.Running (record { machine = m; told = 0; seen = 1; looks = 0 }) ∷ [] → AreFollowed P all runs
 begun P all j fuel valid at m new runs past f tasks =
     let events : runs.led.past.1 ≡ Ev.Begin fuel ∷ [] = ap (λ (v : Program × List Event). v.1) past in
     let (rest, told) = first_rest all (E.Begin fuel) at in
@@ -393,12 +379,12 @@ begun P all j fuel valid at m new runs past f tasks =
     root : Running
     root = record { machine = m; told = 0; seen = 1; looks = 0 }
 
-    root_only : (task : ℕ) → task < 1 → (r : Running) × (slice_get (Some root ∷ []) task ≡ Some (Some r)) × IsOnItsWay P all (Ev.Begin fuel ∷ []) task r
-    root_only zero l = (root, refl, root_way P all fuel m valid new (root_ordered P all j))
+    root_only : (task : ℕ) → task < 1 → IsUnderWay P all (Ev.Begin fuel ∷ []) task (slice_get (T.Running root ∷ []) task)
+    root_only zero l = root_way P all fuel m valid new (root_ordered P all j)
     root_only (suc task) l = absurd (omega (arith, l))
 
-pub tasks_are : (now before : List (Option Running)) (r q : Running) → now ≡ before ++ Some r ∷ [] → before ≡ [] → r ≡ q → now ≡ Some q ∷ []
-tasks_are now before r q is none same = is ∙ ap (λ ts. ts ++ Some r ∷ []) none ∙ ap (λ x. Some x ∷ []) same
+pub tasks_are : (now before : List Stage) (r q : Running) → now ≡ before ++ T.Running r ∷ [] → before ≡ [] → r ≡ q → now ≡ T.Running q ∷ []
+tasks_are now before r q is none same = is ∙ ap (λ ts. ts ++ T.Running r ∷ []) none ∙ ap (λ x. T.Running x ∷ []) same
 
 -- the key of an entry is there
 pub key_there : (P : Program) (all : List Entry) (j : AreJudged P all) (n : ℕ) (function tuple : List ℕ) → IsKeyAt (slice_get all n) function tuple → ((key : Key) → Names P function tuple key → ⊥) → ⊥
@@ -416,5 +402,10 @@ key_there P all j n function tuple at none = by_entry (slice_get all n) refl at
     by_entry (Some (E.Spawn task child place)) q k = k
     by_entry (Some (E.Done task calls trace output ending)) q k = k
 
-pub inside_after : (tasks gone : List (Option Running)) (task : ℕ) → gone ≡ set tasks task None → task < length tasks → task < length gone
-inside_after tasks gone task is l = omega (arith, l, ap length is, set_length tasks task None)
+pub inside_after : (tasks gone : List Stage) (task : ℕ) → gone ≡ set tasks task T.Ended → task < length tasks → task < length gone
+inside_after tasks gone task is l = omega (arith, l, ap length is, set_length tasks task T.Ended)
+
+-- what is kept of a task that has not ended
+pub kept_here : (P : Program) (all : List Entry) (es : List Event) (tasks : List Stage) → AreOnTheirWay P all es tasks → (task : ℕ) → IsRunning es task → (kept was : Stage) → slice_get tasks task ≡ Some kept → kept ≡ was
+    → IsUnderWay P all es task (Some was)
+kept_here P all es tasks h task r kept was at is = subst (λ s. IsUnderWay P all es task (Some s)) is (subst (IsUnderWay P all es task) at (h.each task r.started r.going))

@@ -1,5 +1,5 @@
 -- Tasks that are led along their traces, entry after entry.
-use Rattle.std.specs.Prelude.{ℕ, ◌≡◌, ◌+◌, ◌<◌, ◌≤◌, Bool, true, false, List, [], ◌∷◌, ◌++◌, drop, take, length, set, slice_get, get_or, Option, None, Some}
+use Rattle.std.specs.Prelude.{ℕ, ◌≡◌, ◌+◌, ◌-◌, ◌<◌, ◌≤◌, Bool, true, false, List, [], ◌∷◌, ◌++◌, drop, take, length, set, slice_get, get_or, Option, None, Some}
 use Rattle.jl_model.specs.declared.limits.TheConstants.{MOST_TASKS}
 use Rattle.jl_program.specs.declared.tree.Program.{Program}
 use Rattle.jl_program.specs.declared.tree.Start.{Start}
@@ -9,6 +9,7 @@ use Rattle.jl_calculus.specs.declared.history.Record.{Record}
 use Rattle.jl_calculus.specs.Legal.{EachAfter, IsLegal, fuel_of}
 use Rattle.jl_calculus.specs.Past.{IsInOrder, done_of, tasks_of}
 use Rattle.jl_machine.specs.Steps.{fuel_of as fuel_in, trace_of}
+use Rattle.jl_lead.specs.Known.{IsSpawnOf}
 use Rattle.jl_lead.specs.Leads.{IsPlaced}
 use Rattle.jl_report.specs.declared.entry.Entry.{Entry}
 use Rattle.jl_report.specs.declared.entry.Entry.TheVariants as E
@@ -19,8 +20,10 @@ use Rattle.jl_causes.specs.Causes.{StartWell, HasNoCause}
 use Rattle.jl_causes.specs.Laws.{AreApart}
 use Rattle.jl_replay.specs.declared.running.Running.{Running}
 use Rattle.jl_replay.specs.declared.runs.Runs.{Runs}
+use Rattle.jl_replay.specs.declared.runs.Stage.{Stage}
+use Rattle.jl_replay.specs.declared.runs.Stage.TheVariants as T
 use Rattle.jl_replay.specs.Told.{trace_told, end_told, trace_at}
-use Rattle.jl_replay.specs.Moves.{IsFitting}
+use Rattle.jl_replay.specs.Moves.{IsFitting, IsNewFrom}
 use Rattle.jl_replay.specs.Differs.{IsMadeByRun, IsFirstDifference, AreLegalEntries}
 
 -- a table of the ends of the tasks, and 0 for a task that does not end
@@ -28,7 +31,7 @@ pub record AreEnds (all : List Entry) (ends : List ℕ) : Type 0 where
   pub many : length ends ≡ MOST_TASKS
   pub at : (task : ℕ) → task < MOST_TASKS → trace_at (slice_get all (get_or ends task 0)) ≡ trace_told task all
 
--- a task that has not ended: its machine has followed some of the steps that are told, and may follow the others
+-- a task that has begun: its machine has followed some of the steps that are told, and may follow the others
 pub record IsOnItsWay (P : Program) (all : List Entry) (es : List Event) (task : ℕ) (r : Running) : Type 0 where
   pub fitting : IsFitting P es task r
   pub fuel : fuel_of es ≡ Some (fuel_in r.machine)
@@ -37,10 +40,26 @@ pub record IsOnItsWay (P : Program) (all : List Entry) (es : List Event) (task :
   pub followed : steps_of (trace_of r.machine) ≡ take r.told (trace_told task all)
   pub ordered : IsInOrder r.seen (items_of (drop r.told (trace_told task all))) (end_told task 0 all)
 
+-- a task that the last of so many events spawned, and that has not begun: whenever it begins, it is on its way
+pub record IsToBegin (P : Program) (all : List Entry) (es : List Event) (task seen : ℕ) : Type 0 where
+  pub start : Start
+  pub fuel : ℕ
+  pub seen_some : 1 ≤ seen
+  pub spawned : IsSpawnOf start (slice_get es (seen - 1))
+  pub fuel_is : fuel_of es ≡ Some fuel
+  pub way : (r : Running) → IsNewFrom P start fuel seen r → IsOnItsWay P all es task r
+
+-- a task that has not ended, as it is kept
+abbrev pub IsUnderWay : Program → List Entry → List Event → ℕ → Option Stage → Type 0
+IsUnderWay P all es task None = ⊥
+IsUnderWay P all es task (Some (T.Spawned seen)) = IsToBegin P all es task seen
+IsUnderWay P all es task (Some (T.Running r)) = IsOnItsWay P all es task r
+IsUnderWay P all es task (Some T.Ended) = ⊥
+
 -- each task that has not ended is among these, by its number
-pub record AreOnTheirWay (P : Program) (all : List Entry) (es : List Event) (tasks : List (Option Running)) : Type 0 where
+pub record AreOnTheirWay (P : Program) (all : List Entry) (es : List Event) (tasks : List Stage) : Type 0 where
   pub many : length tasks ≡ tasks_of es
-  pub each : (task : ℕ) → task < tasks_of es → done_of task es ≡ None → (r : Running) × (slice_get tasks task ≡ Some (Some r)) × IsOnItsWay P all es task r
+  pub each : (task : ℕ) → task < tasks_of es → done_of task es ≡ None → IsUnderWay P all es task (slice_get tasks task)
 
 -- these events are those of the first entries, each made by a run, and each legal history with these entries begins with them
 pub record AreReplayed (P : Program) (all : List Entry) (es : List Event) : Type 0 where
@@ -89,10 +108,6 @@ IsKeyAt (Some (E.Del task place)) function tuple = ⊥
 IsKeyAt (Some (E.Spawn task child place)) function tuple = ⊥
 IsKeyAt (Some (E.Done task calls trace output ending)) function tuple = ⊥
 
--- a task that has not ended is among these
-abbrev pub IsAmong : List (Option Running) → ℕ → Type 0
-IsAmong tasks task = (r : Running) × (slice_get tasks task ≡ Some (Some r))
-
 -- the run of a task has come to a spawn: the next task is started, and not among the tasks yet
 pub record HasStarted (P : Program) (all : List Entry) (runs : Runs) (task child : ℕ) (runs' : Runs) : Type 0 where
   pub program : runs'.led.past.0 ≡ P
@@ -103,7 +118,7 @@ pub record HasStarted (P : Program) (all : List Entry) (runs : Runs) (task child
   pub replayed : AreReplayed P all (runs.led.past.1 ++ Ev.Spawn task child start ∷ [])
   pub started : task < tasks_of runs.led.past.1
   pub running : Running
-  pub tasks : runs'.tasks.items ≡ set runs.tasks.items task (Some running)
+  pub tasks : runs'.tasks.items ≡ set runs.tasks.items task (T.Running running)
   pub way : IsOnItsWay P all (runs.led.past.1 ++ Ev.Spawn task child start ∷ []) task running
 
 abbrev pub HasComeToSpawn : Program → List Entry → Runs → ℕ → ℕ → ℕ → Bool → Runs → Type 0

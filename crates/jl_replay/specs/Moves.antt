@@ -1,16 +1,16 @@
 -- A task that is led on by one entry.
-use Rattle.std.specs.Prelude.{ℕ, ◌≡◌, ◌+◌, Bool, true, false, List, [], ◌∷◌, ◌++◌, drop, take, length}
+use Rattle.std.specs.Prelude.{ℕ, ◌≡◌, ◌+◌, ◌-◌, Bool, true, false, List, [], ◌∷◌, ◌++◌, drop, take, length, slice_get}
 use Rattle.jl_program.specs.declared.tree.Program.{Program}
 use Rattle.jl_program.specs.declared.tree.Start.{Start}
 use Rattle.jl_calculus.specs.declared.history.Event.{Event}
 use Rattle.jl_calculus.specs.declared.history.Event.TheVariants as Ev
 use Rattle.jl_calculus.specs.declared.history.TraceItem.{TraceItem}
 use Rattle.jl_calculus.specs.declared.history.TraceItem.TheVariants as I
-use Rattle.jl_calculus.specs.Legal.{MayStand}
 use Rattle.jl_calculus.specs.Past.{tasks_of}
 use Rattle.jl_calculus.specs.Run.{a_spawn}
-use Rattle.jl_machine.specs.Steps.{MachineFits, IsLost, fuel_of, trace_of}
+use Rattle.jl_machine.specs.Steps.{MachineFits, IsLost, IsNewTask, fuel_of, trace_of}
 use Rattle.jl_lead.specs.Coming.{ComesTo, TellsDefinition, TellsDeletion, TellsSpawn}
+use Rattle.jl_lead.specs.Known.{IsSpawnOf}
 use Rattle.jl_lead.specs.Leads.{GoesOn, IsPlaced, led_knows}
 use Rattle.jl_lead.specs.Stretch.{IsStretch}
 use Rattle.jl_report.specs.declared.entry.Step.{Step}
@@ -80,20 +80,15 @@ FollowsSpawn P es task trace r place true past r' =
     TellsSpawn P es task (fuel_of r.machine) (told_so_far es trace r.told) place true × HasMadeTask P es task trace r place past r'
 FollowsSpawn P es task trace r place false past r' = TellsSpawn P es task (fuel_of r.machine) (told_so_far es trace r.told) place false
 
--- a new task that has seen the events with its spawn, the last of these
-pub record IsNewOn (P : Program) (es : List Event) (task fuel : ℕ) (r : Running) : Type 0 where
-  pub fitting : IsFitting P es task r
-  pub fuel_is : fuel_of r.machine ≡ fuel
-  pub seen : r.seen ≡ length es
+-- a task begins from this start, having seen so many events
+pub record IsNewFrom (P : Program) (start : Start) (fuel seen : ℕ) (r : Running) : Type 0 where
+  pub machine : IsNewTask P start fuel r.machine
   pub told : r.told ≡ 0
-  pub trace_is : trace_of r.machine ≡ []
+  pub seen_is : r.seen ≡ seen
+  pub looks : r.looks ≡ 0
 
--- the last event spawned this task
-pub record IsLastSpawn (P : Program) (past : Program × List Event) (task : ℕ) : Type 0 where
-  pub program : past.0 ≡ P
-  pub before : List Event
-  pub by : ℕ
+-- a task begins that the last of so many events spawned
+pub record HasBegun (P : Program) (es : List Event) (seen fuel : ℕ) (r : Running) : Type 0 where
   pub start : Start
-  pub events : past.1 ≡ before ++ Ev.Spawn by task start ∷ []
-  pub child : task ≡ tasks_of before
-  pub stand : MayStand P past.1
+  pub spawned : IsSpawnOf start (slice_get es (seen - 1))
+  pub new : IsNewFrom P start fuel seen r

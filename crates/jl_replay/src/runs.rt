@@ -1,9 +1,12 @@
 //! The tasks of a history, each led as far as the entries so far tell.
 
-ghost use Rattle.std.specs.Prelude.{◌≡◌, ◌<◌, ◌≤◌, IfOk, length, set, slice_get, Some, None};
+ghost use Rattle.std.specs.Prelude.{◌≡◌, ◌-◌, ◌<◌, ◌≤◌, IfOk, length, set, slice_get, Some};
+ghost use Rattle.jl_calculus.specs.Legal.{IsRunning, fuel_of};
+ghost use Rattle.jl_lead.specs.Known.{IsNoSpawn};
 ghost use Rattle.jl_report.specs.declared.entry.Entry.TheVariants as E;
-ghost use Rattle.jl_replay.specs.Following.{AreEnds, AreFollowed, AreJudged, HasComeToSpawn, HasFollowed, IsAmong, IsKeyAt};
-ghost use Rattle.jl_replay.specs.Moves.{IsLastSpawn, IsNewOn};
+ghost use Rattle.jl_replay.specs.declared.runs.Stage.TheVariants as T;
+ghost use Rattle.jl_replay.specs.Following.{AreEnds, AreFollowed, AreJudged, AreOnTheirWay, HasComeToSpawn, HasFollowed, IsKeyAt, IsOnItsWay};
+ghost use Rattle.jl_replay.specs.Moves.{HasBegun};
 
 use crate::ends::trace_of;
 use crate::running::{Running, follow_definition, follow_deletion, follow_end, follow_spawn};
@@ -19,11 +22,21 @@ use jl_sig::Ready;
 use std::alloc::{AllocError, Global};
 use std::mem::replace;
 
-/// The tasks of a history, by their numbers, with the events so far. A task that has ended is gone.
+/// What is kept of a task.
+#[derive(Drop)]
+pub(crate) enum Stage<'p> {
+    /// It was spawned by the last of so many events, and no entry of it has come yet. A machine copies all values that its task sees,
+    /// so it is made when the first one comes.
+    Spawned(u32),
+    Running(Running<'p>),
+    Ended,
+}
+
+/// The tasks of a history, by their numbers, with the events so far.
 #[derive(Drop)]
 pub(crate) struct Runs<'p> {
     pub(crate) led: Led<'p>,
-    pub(crate) tasks: Vec<Option<Running<'p>>>,
+    pub(crate) tasks: Vec<Stage<'p>>,
     pub(crate) fuel: u64,
 }
 
@@ -39,48 +52,69 @@ fn begin_at<'p>(machine: Machine<'p>, seen: u32) -> Running<'p>
     }
 }
 
-/// Takes a task that has not ended out of its place.
-fn take_task<'p>(tasks: &mut Vec<Option<Running<'p>>>, task: u32) -> Running<'p>
-    requires { IsAmong tasks.old.items task }
-    ensures was { slice_get tasks.old.items task ≡ Some (Some result) }
-    ensures gone { tasks.new.items ≡ set tasks.old.items task None }
+/// Takes what is kept of a task out of its place, as if it had ended.
+fn take_stage<'p>(tasks: &mut Vec<Stage<'p>>, task: u32) -> Stage<'p>
+    requires { task < length tasks.old.items }
+    ensures was { slice_get tasks.old.items task ≡ Some result }
+    ensures gone { tasks.new.items ≡ set tasks.old.items task T.Ended }
 {
-    match tasks.get_mut(task as usize) {
-        Some(slot) => match slot.take() {
-            Some(running) => running,
-            None => unreachable!(),
-        },
-        None => unreachable!(),
-    }
+    replace(&mut tasks[task as usize], Stage::Ended)
 }
 
 /// Puts a task back into its place.
-fn put_task<'p>(tasks: &mut Vec<Option<Running<'p>>>, task: u32, running: Running<'p>)
+fn put_task<'p>(tasks: &mut Vec<Stage<'p>>, task: u32, running: Running<'p>)
     requires { task < length tasks.old.items }
-    ensures { tasks.new.items ≡ set tasks.old.items task (Some running.entry) }
+    ensures { tasks.new.items ≡ set tasks.old.items task (T.Running running.entry) }
 {
-    drop(replace(&mut tasks[task as usize], Some(running)));
+    drop(replace(&mut tasks[task as usize], Stage::Running(running)));
 }
 
-/// The task that the last event spawned.
+/// The task that the last of so many events spawned.
 fn begin_spawned<'p>(
     alloc: Global,
     ready: &'p Ready,
     led: &Led<'p>,
-    task: u32,
+    seen: u32,
     fuel: u64,
 ) -> Result<Running<'p>, AllocError>
-    requires { IsLastSpawn ready.now led.now.past task }
-    ensures { IfOk result (λ r. IsNewOn ready.now led.now.past.1 task fuel r) }
+    requires program { led.now.past.0 ≡ ready.now }
+    requires some { 1 ≤ seen }
+    requires there { IsNoSpawn (slice_get led.now.past.1 (seen - 1)) → ⊥ }
+    ensures { IfOk result (λ r. HasBegun ready.now led.now.past.1 seen fuel r) }
 {
-    ready.valid();
-    let seen = led.past.len();
     match led.past.spawned(seen - 1) {
         Some(start) => {
             let machine = Machine::start(alloc, ready, start, fuel)?;
             Ok(begin_at(machine, seen))
         }
         None => unreachable!(),
+    }
+}
+
+/// Takes a task that has not ended out of its place. One that was only spawned begins.
+fn take_task<'p>(
+    alloc: Global,
+    ready: &'p Ready,
+    led: &Led<'p>,
+    tasks: &mut Vec<Stage<'p>>,
+    entries: &[Entry],
+    task: u32,
+    fuel: u64,
+) -> Result<Running<'p>, AllocError>
+    requires program { led.now.past.0 ≡ ready.now }
+    requires fuel { fuel_of led.now.past.1 ≡ Some fuel }
+    requires on_way { AreOnTheirWay ready.now entries.now led.now.past.1 tasks.old.items }
+    requires running { IsRunning led.now.past.1 task }
+    ensures way { IfOk result (λ r. IsOnItsWay ready.now entries.now led.now.past.1 task r) }
+    ensures gone { tasks.new.items ≡ set tasks.old.items task T.Ended }
+{
+    match take_stage(tasks, task) {
+        Stage::Spawned(seen) => {
+            let running = begin_spawned(alloc, ready, led, seen, fuel)?;
+            Ok(running)
+        }
+        Stage::Running(running) => Ok(running),
+        Stage::Ended => unreachable!(),
     }
 }
 
@@ -103,7 +137,7 @@ impl<'p> Runs<'p> {
         led.note(Event::Begin(fuel))?;
         let mut tasks = Vec::new(alloc);
         let machine = Machine::root(alloc, ready, fuel)?;
-        tasks.push(Some(begin_at(machine, 1)))?;
+        tasks.push(Stage::Running(begin_at(machine, 1)))?;
         Ok(Runs { led, tasks, fuel })
     }
 
@@ -172,7 +206,15 @@ impl<'p> Runs<'p> {
         ensures { IfOk result (λ same. HasFollowed ready.now entries.now n same self.new) }
     {
         let trace = trace_of(entries, ends, task);
-        let mut running = take_task(&mut self.tasks, task);
+        let mut running = take_task(
+            alloc,
+            ready,
+            &self.led,
+            &mut self.tasks,
+            entries,
+            task,
+            self.fuel,
+        )?;
         match follow_definition(
             alloc,
             ready,
@@ -214,7 +256,15 @@ impl<'p> Runs<'p> {
         ensures { IfOk result (λ same. HasFollowed ready.now entries.now n same self.new) }
     {
         let trace = trace_of(entries, ends, task);
-        let mut running = take_task(&mut self.tasks, task);
+        let mut running = take_task(
+            alloc,
+            ready,
+            &self.led,
+            &mut self.tasks,
+            entries,
+            task,
+            self.fuel,
+        )?;
         match follow_deletion(
             alloc,
             ready,
@@ -257,7 +307,15 @@ impl<'p> Runs<'p> {
         ensures { IfOk result (λ came. HasComeToSpawn ready.now entries.now self.old task child place came self.new) }
     {
         let trace = trace_of(entries, ends, task);
-        let mut running = take_task(&mut self.tasks, task);
+        let mut running = take_task(
+            alloc,
+            ready,
+            &self.led,
+            &mut self.tasks,
+            entries,
+            task,
+            self.fuel,
+        )?;
         match follow_spawn(
             alloc,
             ready,
@@ -303,8 +361,10 @@ impl<'p> Runs<'p> {
         if !came {
             return Ok(false);
         }
-        let started = begin_spawned(alloc, ready, &self.led, child, self.fuel)?;
-        self.tasks.push(Some(started))?;
+        ready.valid();
+        self.led.past.sound();
+        let seen = self.led.past.len();
+        self.tasks.push(Stage::Spawned(seen))?;
         Ok(true)
     }
 
@@ -328,7 +388,15 @@ impl<'p> Runs<'p> {
         requires followed { AreFollowed ready.now entries.now self.old }
         ensures { IfOk result (λ same. HasFollowed ready.now entries.now n same self.new) }
     {
-        let running = take_task(&mut self.tasks, task);
+        let running = take_task(
+            alloc,
+            ready,
+            &self.led,
+            &mut self.tasks,
+            entries,
+            task,
+            self.fuel,
+        )?;
         match follow_end(alloc, ready, ops, &mut self.led, running, trace, task)? {
             Some(record) => {
                 match is_told(alloc, ready.program(), &record, calls, output, ending) {

@@ -5,15 +5,14 @@ use denote.Param.Send.{IsSync, shr_sync}
 use denote.Param.SendFields.{declared_sync, as_row_sync}
 use denote.Struct.Field.{shr_ref_field}
 use Rattle.std.proofs.alloc.Global.TheSendSync as heap
-use Rattle.std.proofs.sync.Condvar.TheSendSync as condvar
 use Rattle.std.proofs.sync.Mutex.TheSendSync as mutex
 use Rattle.std.specs.contracts.sync.Mutex as mutex_type
 use Rattle.jl_sig.specs.contracts.ready.Ready as ready
 use Rattle.jl_world.specs.declared.name.Naming as naming
 use Rattle.jl_cache.proofs.cache.Cache.TheSendSync as caches
 use Rattle.jl_book.specs.contracts.book.Book as book
-use Rattle.jl_queue.specs.contracts.board.Board as board
-use Rattle.jl_queue.proofs.board.Board.TheSendSync as boards
+use Rattle.jl_runner.specs.contracts.at_board.SharedBoard as board
+use Rattle.jl_runner.proofs.at_board.SharedBoard.TheSendSync as boards
 use Rattle.jl_runner.specs.contracts.job.Job as job
 use Rattle.jl_runner.specs.contracts.shared.Shared as shared
 use Rattle.jl_runner.proofs.CrossBooks.{book_send, job_send}
@@ -29,11 +28,11 @@ shared_sync ℓ N g = declared_sync (shared.the_type ℓ N g) (
       long_sync,
       (
         caches.the_sync N g,
-        (
-          as_row_sync (mutex_type.the_field (book.the_row N g)) (mutex.the_sync (book.the_row N g) (book_send N g)),
-          (as_row_sync (mutex_type.the_field (board.the_row (job.the_row ℓ N g))) (mutex.the_sync (board.the_row (job.the_row ℓ N g)) (boards.the_send (job.the_row ℓ N g) (job_send N g ℓ))), (condvar.the_sync, tt)),
-        ),
+        (as_row_sync (mutex_type.the_field (book.the_row N g)) (mutex.the_sync (book.the_row N g) (book_send N g)), tt),
       ),
     ),
   ),
 )
+
+pub board_sync : (ℓ : NamedLft) (N : RattleType) (g : naming.Ghosts N.Denot) → IsSync (board.the_row (job.the_row ℓ N g))
+board_sync ℓ N g = boards.the_sync (job.the_row ℓ N g) (job_send N g ℓ)

@@ -8,6 +8,8 @@ use Rattle.jl_machine.specs.Steps.{MachineFits, fuel_of, IsEnded, IsNewRoot, IsN
 use Rattle.jl_calculus.specs.Kept.{Places}
 use Rattle.jl_queue.specs.declared.setup.Setup.{Setup}
 use Rattle.jl_runner.specs.declared.known.Knowing.{Knowing}
+use Rattle.jl_runner.specs.declared.turns.Rest.{Rest}
+use Rattle.jl_runner.specs.declared.turns.Rest.TheVariants.{Ended, Waits, Spawned}
 use Rattle.jl_runner.specs.Knowing.{knows_of}
 
 -- it fits what is known, with the fuel of the run
@@ -25,10 +27,11 @@ abbrev pub IsPlaceOf : Program → Option Start → Type 0
 IsPlaceOf P None = Unit {0}
 IsPlaceOf P (Some start) = start.spawn < length P.spawns
 
--- a machine that waits for a task goes on later, and one that waits for none has ended
-abbrev pub IsAtEnd : Option ℕ → Machine → Type 0
-IsAtEnd None m = IsEnded m
-IsAtEnd (Some task) m = Unit {0}
+-- a machine whose task waits or has spawned another one goes on later
+abbrev pub IsAtEnd : Rest → Machine → Type 0
+IsAtEnd Ended m = IsEnded m
+IsAtEnd (Waits task) m = Unit {0}
+IsAtEnd Spawned m = Unit {0}
 
 -- the places that a setup gives
 abbrev pub places_with : Setup → Places

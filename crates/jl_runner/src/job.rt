@@ -1,4 +1,4 @@
-//! What a worker may turn to: a task that has not begun, or one that has waited.
+//! What a worker may turn to: a task that has not begun, or one that goes on.
 
 use crate::known::Known;
 use jl_book::Pass;
@@ -9,7 +9,7 @@ use std::marker::Model;
 
 /// A task that has not begun. Contracts see what its pass knows, and its start.
 #[derive(Drop)]
-pub(crate) struct New<N: Naming> {
+pub struct New<N: Naming> {
     pass: Pass<N>,
     start: Option<Start>,
 }
@@ -54,9 +54,9 @@ impl<N: Naming> New<N> {
     }
 }
 
-/// A task that has begun, and was left where it waited for another one. Contracts see what it knows.
+/// A task that has begun, and was left where it waits for another one, or has spawned one. Contracts see what it knows.
 #[derive(Drop)]
-pub(crate) struct Waiting<'p, N: Naming> {
+pub struct Waiting<'p, N: Naming> {
     machine: Machine<'p>,
     known: Known<N>,
 }
@@ -79,7 +79,7 @@ impl<'p, N: Naming> Waiting<'p, N> {
     ghost use Rattle.std.specs.Prelude.{◌≡◌};
     ghost use Rattle.jl_runner.specs.Working.{WorksFor};
 
-    /// A task that waits.
+    /// A task that was left.
     pub(crate) fn of(machine: Machine<'p>, known: Known<N>) -> Waiting<'p, N>
         requires { WorksFor N.about machine known }
         ensures { result ≡ known }
@@ -98,7 +98,7 @@ impl<'p, N: Naming> Waiting<'p, N> {
 
 /// What a worker may turn to.
 #[derive(Drop)]
-pub(crate) enum Job<'p, N: Naming> {
+pub enum Job<'p, N: Naming> {
     New(New<N>),
     Waiting(Waiting<'p, N>),
 }

@@ -41,7 +41,7 @@ pub struct Knowing {
 /// What a task knows: its pass, the numbers of the keys that it has met, how long the history was when it started, and the site of the
 /// method that was chosen last.
 #[derive(Drop)]
-pub(crate) struct Known<N: Naming> {
+pub struct Known<N: Naming> {
     pass: Pass<N>,
     keys: KeyNumbers,
     first: u32,

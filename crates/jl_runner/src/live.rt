@@ -11,12 +11,13 @@ ghost use Rattle.jl_runner.specs.Knowing.{knows_of};
 use crate::job::{Job, New};
 use crate::known::Known;
 use crate::shared::Shared;
+use crate::turns::Spawns;
 use jl_calculus::history::{DefineFault, DeleteFault, FetchFault, Outcome, Seen, SpawnFault};
 use jl_model::shared::SharedNode;
 use jl_model::ty::Key;
 use jl_program::choice::Choice;
 use jl_program::tree::Start;
-use jl_task::Dispatcher;
+use jl_task::{Cached, Dispatcher};
 use jl_world::Naming;
 use std::alloc::AllocError;
 use std::mem;
@@ -28,8 +29,8 @@ pub(crate) struct Live<'s, 'p, 'r, N: Naming, R: Wait> {
     pub(crate) rt: &'r R,
     pub(crate) shared: &'s Shared<'p, N>,
     pub(crate) known: Known<N>,
-    /// A task that was spawned, and that the board had no memory for: this worker runs it.
-    pub(crate) left: Option<Job<'p, N>>,
+    /// The task that it has spawned, until the worker has it. A turn spawns one at most.
+    pub(crate) child: Option<Job<'p, N>>,
 }
 
 impl<'s, 'p, 'r, N: Naming, R: Wait> Live<'s, 'p, 'r, N, R> {
@@ -75,22 +76,6 @@ impl<'s, 'p, 'r, N: Naming, R: Wait> Live<'s, 'p, 'r, N, R> {
             world,
         )
     }
-
-    /// Gives a job to the workers. Of two that the board has no memory for, this worker can run one alone, so the run ends.
-    fn hand_out(&mut self, job: Job<'p, N>)
-        ensures { self.new.known ≡ self.old.known }
-    {
-        match self.shared.push(self.rt, job) {
-            None => {}
-            Some(job) => {
-                let before = mem::replace(&mut self.left, Some(job));
-                if before.is_some() {
-                    self.shared.close(self.rt);
-                }
-                drop(before);
-            }
-        }
-    }
 }
 
 impl<'s, 'p, 'r, N: Naming, R: Wait> Dispatcher for Live<'s, 'p, 'r, N, R> {
@@ -135,7 +120,8 @@ impl<'s, 'p, 'r, N: Naming, R: Wait> Dispatcher for Live<'s, 'p, 'r, N, R> {
         drop(book);
         match spawned {
             Ok((child, pass)) => {
-                self.hand_out(Job::New(New::of(pass, Some(start))));
+                let job = Job::New(New::of(pass, Some(start)));
+                drop(mem::replace(&mut self.child, Some(job)));
                 Ok(child)
             }
             Err(fault) => {
@@ -153,5 +139,11 @@ impl<'s, 'p, 'r, N: Naming, R: Wait> Dispatcher for Live<'s, 'p, 'r, N, R> {
 
     fn seen(&self) -> u32 {
         self.known.seen()
+    }
+}
+
+impl<'s, 'p, 'r, N: Naming, R: Wait> Spawns for Cached<Live<'s, 'p, 'r, N, R>> {
+    fn has_spawned(&self) -> bool {
+        self.inner().child.is_some()
     }
 }

@@ -8,30 +8,31 @@ ghost use Rattle.jl_queue.specs.Setups.{IsSetup};
 ghost use Rattle.jl_book.specs.Passes.{IsRunOver};
 ghost use Rattle.jl_world.specs.Names.{table_of, about_of};
 ghost use Rattle.jl_rows.specs.Plans.{places_of};
-ghost use Rattle.jl_runner.specs.Knowing.{IsNew};
 ghost use Rattle.jl_runner.specs.Working.{WorksFor, IsNewFor, IsPlaceOf, places_with};
 
+use crate::at_board::{AtBoard, SharedBoard};
 use crate::job::{Job, New, Waiting};
+use crate::jobs::Jobs;
 use crate::known::Known;
 use crate::live::Live;
 use crate::shared::Shared;
-use crate::turns::run_turns;
+use crate::turns::{Rest, run_turns};
+use crate::worker::{Ran, work};
 use jl_book::{Book, Pass};
 use jl_calculus::history::{History, Record};
 use jl_host::HostOps;
 use jl_machine::Machine;
 use jl_machine::laws::{law_ended_machine, law_new_machine};
-use jl_model::limits::MOST_TASKS;
 use jl_program::tree::Start;
-use jl_queue::{Board, Gate, Setup};
+use jl_queue::{Gate, Setup};
 use jl_sig::Ready;
 use jl_task::Cached;
 use jl_world::{Blank, Naming};
 use std::alloc::{AllocError, Global};
 use std::marker::Brand;
-use std::sync::{Condvar, Mutex, Wait};
+use std::sync::{Mutex, Wait};
+use std::thread;
 use std::thread::Threads;
-use std::{mem, thread};
 
 /// A machine that has done nothing yet, for the root or for a task with a start.
 fn new_machine<'p>(
@@ -58,7 +59,7 @@ impl<'p, N: Naming> Shared<'p, N> {
             rt,
             shared: self,
             known,
-            left: None,
+            child: None,
         }
     }
 
@@ -107,14 +108,14 @@ impl<'p, N: Naming> Shared<'p, N> {
         }
     }
 
-    /// Enters the end of a task into the book, and lets those go on that wait for it.
+    /// Enters the end of a task into the book, and answers how many tasks are unfinished.
     fn enter_end<R: Wait, G: Gate>(
         &self,
         rt: &R,
         gate: &G,
         pass: Pass<N>,
         ended: Record,
-    ) -> Result<(), AllocError>
+    ) -> Result<u32, AllocError>
         requires { IsRunOver N.about pass ended }
     {
         let task = pass.task();
@@ -125,7 +126,7 @@ impl<'p, N: Naming> Shared<'p, N> {
         match done {
             Ok(()) => {
                 gate.leave(task);
-                self.end(rt, task, unfinished)
+                Ok(unfinished)
             }
             Err(back) => {
                 drop(back);
@@ -134,30 +135,27 @@ impl<'p, N: Naming> Shared<'p, N> {
         }
     }
 
-    /// Ends a task whose machine has ended, and answers a job that came back from the board.
+    /// Ends a task whose machine has ended.
     fn finish<R: Wait, G: Gate>(
         &self,
         rt: &R,
         gate: &G,
         machine: Machine<'p>,
         live: Live<'_, 'p, '_, N, R>,
-    ) -> Result<Option<Job<'p, N>>, AllocError>
+    ) -> Result<Ran<Job<'p, N>>, AllocError>
         requires works { WorksFor N.about machine live.known }
         requires ended { IsEnded machine }
     {
         match machine.record() {
             Ok(ended) => {
                 law_ended_machine(&live);
-                let Live { known, left, .. } = live;
+                let Live { known, child, .. } = live;
+                drop(child);
                 let pass = known.into_pass();
                 pass.facts();
-                match self.enter_end(rt, gate, pass, ended) {
-                    Ok(()) => Ok(left),
-                    Err(error) => {
-                        drop(left);
-                        Err(error)
-                    }
-                }
+                let task = pass.task();
+                let unfinished = self.enter_end(rt, gate, pass, ended)?;
+                Ok(Ran::Ended { task, unfinished })
             }
             Err(error) => {
                 drop(live);
@@ -166,27 +164,35 @@ impl<'p, N: Naming> Shared<'p, N> {
         }
     }
 
-    /// Lets a task wait for the end of another one, and answers a job that came back from the board.
+    /// Leaves a task that waits for the end of another one.
     fn set_aside<R: Wait>(
         &self,
-        rt: &R,
         of: u32,
         machine: Machine<'p>,
         live: Live<'_, 'p, '_, N, R>,
-    ) -> Result<Option<Job<'p, N>>, AllocError>
+    ) -> Ran<Job<'p, N>>
         requires { WorksFor N.about machine live.known }
     {
-        let Live { known, left, .. } = live;
-        match self.park(rt, of, Job::Waiting(Waiting::of(machine, known))) {
-            Ok(()) => Ok(left),
-            Err(error) => {
-                drop(left);
-                Err(error)
-            }
-        }
+        let Live { known, child, .. } = live;
+        drop(child);
+        let job = Job::Waiting(Waiting::of(machine, known));
+        Ran::Waits { of, job }
     }
 
-    /// Runs a task until it ends or waits, and answers a job that came back from the board.
+    /// Leaves a task that has spawned another one, with the job of that.
+    fn hand_out<R: Wait>(
+        &self,
+        machine: Machine<'p>,
+        live: Live<'_, 'p, '_, N, R>,
+    ) -> Ran<Job<'p, N>>
+        requires { WorksFor N.about machine live.known }
+    {
+        let Live { known, child, .. } = live;
+        let job = Job::Waiting(Waiting::of(machine, known));
+        Ran::Spawned { child, job }
+    }
+
+    /// Runs a task until it ends, waits or has spawned another one.
     fn run_task<R: Wait, G: Gate>(
         &self,
         rt: &R,
@@ -194,12 +200,13 @@ impl<'p, N: Naming> Shared<'p, N> {
         ops: &HostOps,
         mut machine: Machine<'p>,
         mut with: Cached<Live<'_, 'p, '_, N, R>>,
-    ) -> Result<Option<Job<'p, N>>, AllocError>
+    ) -> Result<Ran<Job<'p, N>>, AllocError>
         requires { WorksFor N.about machine with.known }
     {
         match run_turns(self.ready, self.fuel, ops, &mut machine, &mut with) {
-            Ok(None) => self.finish(rt, gate, machine, with.into_inner()),
-            Ok(Some(of)) => self.set_aside(rt, of, machine, with.into_inner()),
+            Ok(Rest::Ended) => self.finish(rt, gate, machine, with.into_inner()),
+            Ok(Rest::Waits(of)) => Ok(self.set_aside(of, machine, with.into_inner())),
+            Ok(Rest::Spawned) => Ok(self.hand_out(machine, with.into_inner())),
             Err(error) => {
                 drop(machine);
                 drop(with);
@@ -208,14 +215,14 @@ impl<'p, N: Naming> Shared<'p, N> {
         }
     }
 
-    /// Runs a job until its task ends or waits, and answers a job that came back from the board.
-    fn run_job<R: Wait, G: Gate>(
+    /// Runs a job until its task ends, waits or has spawned another one.
+    pub fn run_job<R: Wait, G: Gate>(
         &self,
         rt: &R,
         gate: &G,
         ops: &HostOps,
         job: Job<'p, N>,
-    ) -> Result<Option<Job<'p, N>>, AllocError> {
+    ) -> Result<Ran<Job<'p, N>>, AllocError> {
         match self.take_up(rt, gate, job) {
             Ok((machine, live)) => match Cached::new(self.alloc, live) {
                 Ok(with) => self.run_task(rt, gate, ops, machine, with),
@@ -228,123 +235,67 @@ impl<'p, N: Naming> Shared<'p, N> {
         }
     }
 
-    /// Runs a job, and answers one that this worker is to run next. Out of memory closes the board.
-    fn serve<R: Wait, G: Gate>(
+    /// Opens the book of a run, with all that its workers share, and answers its root.
+    pub fn open(
+        alloc: Global,
+        ready: &'p Ready,
+        blank: Blank,
+        fuel: u64,
+    ) -> Result<(Shared<'p, N>, New<N>), AllocError>
+        requires program { ready.now ≡ N.about.program.value }
+        requires fuel { fuel ≡ N.about.fuel }
+        requires name { (table_of blank ≡ N.table) × (about_of blank ≡ N.about) }
+    {
+        let (book, cache, pass) = Book::<N>::open(alloc, ready, blank)?;
+        let shared = Shared {
+            alloc,
+            ready,
+            fuel,
+            cache,
+            book: Mutex::new(book),
+        };
+        Ok((shared, New::of(pass, None)))
+    }
+
+    /// Hands out the history, once all workers have ended. Where tasks are unfinished, memory was refused.
+    pub fn close(self, alloc: Global) -> Result<History, AllocError>
+        ensures legal { IfOk result (λ history. IsLegal N.about.program.value history.events) }
+        ensures cached { IfOk result (λ history. IsCached N.about.program.value (places_of N.about) history.events) }
+        ensures begun { IfOk result (λ history. fuel_of history.events ≡ Some N.about.fuel) }
+        ensures valid { IfOk result (λ history. AreValidEvents N.about.program.value history.events) }
+    {
+        let Shared { book, cache, .. } = self;
+        drop(cache);
+        let book = book.into_inner();
+        if book.unfinished() != 0 {
+            drop(book);
+            return Err(AllocError);
+        }
+        book.close(alloc)
+    }
+
+    /// Runs jobs of a board until it is closed.
+    fn work_at<R: Wait, G: Gate>(
         &self,
         rt: &R,
         gate: &G,
         ops: &HostOps,
-        job: Job<'p, N>,
-    ) -> Option<Job<'p, N>> {
-        match self.run_job(rt, gate, ops, job) {
-            Ok(None) => None,
-            Ok(Some(left)) => self.push(rt, left),
-            Err(AllocError) => {
-                self.close(rt);
-                None
-            }
-        }
-    }
-
-    /// The job that came back, or the next one of the board.
-    fn choose_job<R: Wait>(&self, rt: &R, kept: Option<Job<'p, N>>) -> Option<Job<'p, N>> {
-        match kept {
-            Some(job) => Some(job),
-            None => self.take(rt),
-        }
-    }
-
-    /// Runs jobs until the board is closed.
-    fn work<R: Wait, G: Gate>(&self, rt: &R, gate: &G, ops: &HostOps) {
-        let mut kept = None;
-        for _ in rt.forever() {
-            match self.choose_job(rt, mem::replace(&mut kept, None)) {
-                Some(job) => {
-                    let next = self.serve(rt, gate, ops, job);
-                    drop(mem::replace(&mut kept, next));
-                }
-                None => break,
-            }
-        }
-        drop(kept);
+        board: &SharedBoard<Job<'p, N>>,
+    ) {
+        let mut jobs = AtBoard { shared: board };
+        work(rt, &mut jobs, &|job| self.run_job(rt, gate, ops, job));
+        drop(jobs);
     }
 }
 
-/// Opens the book of a run, with all that its workers share, and the pass of its root.
-fn open_shared<'p, N: Naming>(
-    alloc: Global,
-    ready: &'p Ready,
-    blank: Blank,
-    fuel: u64,
-) -> Result<(Shared<'p, N>, Pass<N>), AllocError>
-    requires program { ready.now ≡ N.about.program.value }
-    requires fuel { fuel ≡ N.about.fuel }
-    requires name { (table_of blank ≡ N.table) × (about_of blank ≡ N.about) }
-    ensures { IfOk result (λ opened. IsNew N.about opened.1 None) }
-{
-    match Book::<N>::open(alloc, ready, blank) {
-        Ok((book, cache, pass)) => match Board::new(alloc, MOST_TASKS) {
-            Ok(board) => {
-                let shared = Shared {
-                    alloc,
-                    ready,
-                    fuel,
-                    cache,
-                    book: Mutex::new(book),
-                    board: Mutex::new(board),
-                    moved: Condvar::new(),
-                };
-                Ok((shared, pass))
-            }
-            Err(error) => {
-                drop(book);
-                drop(cache);
-                drop(pass);
-                Err(error)
-            }
-        },
-        Err(error) => Err(error),
+/// Puts the root onto the board. Where there is no memory for it, the board is closed.
+fn admit<R: Wait, T: Drop>(rt: &R, board: &SharedBoard<T>, root: T) {
+    let mut jobs = AtBoard { shared: board };
+    let left = jobs.push(rt, root);
+    if left.is_some() {
+        jobs.close(rt);
     }
-}
-
-/// Hands out the history of a book, where all tasks have ended.
-fn close_book<N: Naming>(alloc: Global, book: Book<N>) -> Result<History, AllocError>
-    ensures legal { IfOk result (λ history. IsLegal N.about.program.value history.events) }
-    ensures cached { IfOk result (λ history. IsCached N.about.program.value (places_of N.about) history.events) }
-    ensures begun { IfOk result (λ history. fuel_of history.events ≡ Some N.about.fuel) }
-    ensures valid { IfOk result (λ history. AreValidEvents N.about.program.value history.events) }
-{
-    if book.unfinished() != 0 {
-        drop(book);
-        return Err(AllocError);
-    }
-    book.close(alloc)
-}
-
-impl<'p, N: Naming> Shared<'p, N> {
-    /// Puts the root onto the board. Where there is no memory for it, the board is closed.
-    fn admit<R: Wait>(&self, rt: &R, pass: Pass<N>)
-        requires { IsNew N.about pass None }
-    {
-        let left = self.push(rt, Job::New(New::of(pass, None)));
-        if left.is_some() {
-            self.close(rt);
-        }
-        drop(left);
-    }
-
-    /// The book, once all workers have ended.
-    fn into_book(self) -> Book<N> {
-        let Shared {
-            book,
-            board,
-            cache,
-            ..
-        } = self;
-        drop(board);
-        drop(cache);
-        book.into_inner()
-    }
+    drop(left);
 }
 
 /// Runs the tasks of a program, over words that have a name. Where a worker found no memory, tasks are left unfinished.
@@ -365,15 +316,17 @@ fn run_named<'p, N: Naming + Send + Sync, R: Threads + Wait + Sync, G: Gate>(
     ensures begun { IfOk result (λ history. fuel_of history.events ≡ Some N.about.fuel) }
     ensures valid { IfOk result (λ history. AreValidEvents ready.now history.events) }
 {
-    let (shared, pass) = open_shared::<N>(alloc, ready, blank, setup.fuel)?;
-    shared.admit(rt, pass);
+    let (shared, root) = Shared::<N>::open(alloc, ready, blank, setup.fuel)?;
+    let board = SharedBoard::new(alloc)?;
+    admit(rt, &board, Job::New(root));
     drop(thread::map_indices(
         rt,
         alloc,
         setup.threads as usize,
-        &|_| shared.work(rt, gate, ops),
+        &|_| shared.work_at(rt, gate, ops, &board),
     ));
-    close_book(alloc, shared.into_book())
+    drop(board);
+    shared.close(alloc)
 }
 
 /// Runs a program's tasks on so many threads, and answers the history: on every schedule it is legal, and cached for the places of the

@@ -1,4 +1,4 @@
-use Rattle.jl_cli.proofs.Running.{formed}
+use Rattle.jl_work.proofs.ReadingLemmas.{formed}
 use Rattle.api_tests.proofs.programs.meaning.Goals as goal
 
 pub program-requires : goal.program-requires

@@ -20,11 +20,8 @@ returns-then-world-ge-MOST_WORLDS c = λ all es h.
     in
     not_absent c.args.ready.now es c.args.place c.args.at (λ k. (let room = k.1.room in omega (arith, room, there.1, c.if-world-ge-MOST_WORLDS.true)))
 
-pub has_method_in-requires-clause-place : goal.has_method_in-requires-clause-place
-has_method_in-requires-clause-place c = omega (arith, c.if-place-count.false, c.len-count.ensures, ap (λ (P : Program). length P.deletes) c.program.ensures)
-
-pub has_method_in-requires-clause-rows : goal.has_method_in-requires-clause-rows
-has_method_in-requires-clause-rows c = let (all, es, h) = c.requires in (es, h.rows)
+pub has_method_in-requires : goal.has_method_in-requires
+has_method_in-requires c = omega (arith, c.if-place-count.false, c.len-count.ensures, ap (λ (P : Program). length P.deletes) c.program.ensures)
 
 pub returns : goal.returns
 returns c = λ all es h.

@@ -27,8 +27,5 @@ returns-then-at-count-4 c = λ es h told.
 pub returns-else-at-count-4 : goal.returns-else-at-count-4
 returns-else-at-count-4 c = λ es h told. del_past c.args.ready.now es c.args.task c.in-Del.place c.in-Del.at c.len-count.result c.args.step.now (λ l. omega (arith, l, c.if-at-count-4.false)) (c.len-count.ensures es h.places) c.in-Del.is
 
-pub is_absent-requires : goal.is_absent-requires
-is_absent-requires c = let (es, h) = c.requires in (c.args.entries.now, es, h)
-
 pub returns-in_ok-is_absent-in-Absent : goal.returns-in_ok-is_absent-in-Absent
 returns-in_ok-is_absent-in-Absent c = λ es h told. absent_goal c.args.ready.now es c.args.task c.in-Absent.place c.in-Absent.at c.args.step.now c.in_ok-is_absent-in-Absent.is_absent (c.in_ok-is_absent-in-Absent.ensures c.args.entries.now es h) c.in-Absent.is

@@ -1,11 +1,12 @@
 use Rattle.std.proofs.Common.{ap, refl}
 use Rattle.jl_command.specs.declared.commands.Command.TheVariants as C
 use Rattle.jl_queue.specs.declared.setup.Setup.{Setup}
-use Rattle.jl_cli.specs.declared.work.Question.{Question}
-use Rattle.jl_cli.specs.declared.work.Work.TheVariants as W
-use Rattle.jl_cli.specs.declared.work.Telling.TheVariants as T
-use Rattle.jl_cli.specs.Work.{whole_setup}
-use Rattle.jl_cli.proofs.Running.{all_owed, all_replayed, setup_is}
+use Rattle.jl_work.specs.declared.work.Question.{Question}
+use Rattle.jl_work.specs.declared.work.Work.TheVariants as W
+use Rattle.jl_work.specs.declared.work.Telling.TheVariants as T
+use Rattle.jl_work.specs.Work.{whole_setup}
+use Rattle.jl_work.proofs.RunningLemmas.{setup_is}
+use Rattle.jl_cli.proofs.Running.{all_owed, all_replayed}
 use Rattle.jl_cli.proofs.answering.answer.Goals as goal
 
 pub with_whole_cache-setup-requires-clause-threads : goal.with_whole_cache-setup-requires-clause-threads

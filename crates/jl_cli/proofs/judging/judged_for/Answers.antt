@@ -1,18 +1,10 @@
 use Rattle.jl_cli.specs.Due.{judged}
-use Rattle.jl_cli.specs.Place.{static_line}
-use Rattle.jl_cli.proofs.Running.{formed, line_along, no_program_line, unjudged_so}
+use Rattle.jl_cli.proofs.Running.{unjudged_so}
 use Rattle.jl_cli.proofs.judging.judged_for.Goals as goal
 
-pub program-requires : goal.program-requires
-program-requires g c = formed c.args.bytes.now c.args.script.now c.requires.script
-
-pub returns-in_ok-line-in-Err : goal.returns-in_ok-line-in-Err
-returns-in_ok-line-in-Err g c =
-    unjudged_so c.refused.result c.args.bytes.now c.args.history.now c.in_ok-line-in-Err.line
-    (line_along c.args.bytes.now (static_line c.args.bytes.now c.in-Err.fault) c.in_ok-line-in-Err.line c.in_ok-line-in-Err.ensures.line
-    (no_program_line c.args.bytes.now c.args.script.now c.in-Err.fault c.requires.script c.in-Err.ensures.means c.in_ok-line-in-Err.ensures.told))
-    c.refused.ensures
+pub returns-in-Err : goal.returns-in-Err
+returns-in-Err g c = unjudged_so c.refusal.result c.args.bytes.now c.args.history.now c.in-Err.line (rw c.in-Err.is at c.in_ok-ready.ensures) c.refusal.ensures
 
 pub returns-in_ok-due-in-Ok : goal.returns-in_ok-due-in-Ok
 returns-in_ok-due-in-Ok g c =
-    (judged c.args.bytes.now c.args.history.now c.in-Ok.ready _ _ (c.args.script.now, c.requires.script, c.in-Ok.ensures.means) c.in_ok-due-in-Ok.ensures.0, c.in_ok-due-in-Ok.ensures.1)
+    (judged c.args.bytes.now c.args.history.now c.in-Ok.ready _ _ (rw c.in-Ok.is at c.in_ok-ready.ensures) c.in_ok-due-in-Ok.ensures.0, c.in_ok-due-in-Ok.ensures.1)

@@ -1,10 +1,11 @@
 use Rattle.std.proofs.Common.{◌∙◌, sym}
-use Rattle.jl_cli.proofs.SplitLemmas.{place_within}
+use Rattle.jl_work.proofs.SplitLemmas.{place_within}
+use Rattle.jl_cli.specs.Split.{separators}
 use Rattle.jl_cli.proofs.Running.{no_history_so, parted_so}
 use Rattle.jl_cli.proofs.judging.replayed.Goals as goal
 
 pub split_at-requires : goal.split_at-requires
-split_at-requires g c = place_within c.args.bytes.now c.in-Some.place (sym c.separator_at.ensures ∙ c.in-Some.is)
+split_at-requires g c = place_within separators c.args.bytes.now c.in-Some.place (sym c.separator_at.ensures ∙ c.in-Some.is)
 
 pub returns-in-Some : goal.returns-in-Some
 returns-in-Some g c =
@@ -12,4 +13,4 @@ returns-in-Some g c =
 
 pub returns-in_ok-line-in-None : goal.returns-in_ok-line-in-None
 returns-in_ok-line-in-None g c =
-    no_history_so c.refused.result c.args.bytes.now c.in_ok-line-in-None.line c.requires (sym c.separator_at.ensures ∙ c.in-None.is) (c.in_ok-line-in-None.ensures ∙ c.as_bytes.ensures.value) c.refused.ensures
+    no_history_so c.refusal.result c.args.bytes.now c.in_ok-line-in-None.line c.requires (sym c.separator_at.ensures ∙ c.in-None.is) (c.in_ok-line-in-None.ensures ∙ c.as_bytes.ensures.value) c.refusal.ensures

@@ -30,15 +30,15 @@ pub returns-in-Sub-clause-answer : goal.returns-in-Sub-clause-answer
 returns-in-Sub-clause-answer c =
     sub_answer c.test_order.result (all_types c.args.ready.now) _ c.bindings-in-Sub.result.now c.args.expr.now _ c.open_values-values.result.now c.bindings-in-Sub.ensures c.open_values-values.ensures c.in-Sub.left c.in-Sub.right c.in-Sub.is c.test_order.ensures.answer
 
-pub make_written-requires-clause-written : goal.make_written-requires-clause-written
-make_written-requires-clause-written c = make_made c.args.ready.now _ c.bindings.result.now c.args.expr.now _ c.bindings.ensures c.requires.good c.in-Make.written c.in-Make.field-1 c.in-Make.is
+pub make-requires-clause-written : goal.make-requires-clause-written
+make-requires-clause-written c = make_made c.args.ready.now _ c.bindings.result.now c.args.expr.now _ c.bindings.ensures c.requires.good c.in-Make.written c.in-Make.field-1 c.in-Make.is
 
-pub make_written-requires-clause-values : goal.make_written-requires-clause-values
-make_written-requires-clause-values c = tuple_data c.args.ready.now _ _ _ c.open_values-values.result.now c.open_values-values.ensures c.requires.good
+pub make-requires-clause-values : goal.make-requires-clause-values
+make-requires-clause-values c = tuple_data c.args.ready.now _ _ _ c.open_values-values.result.now c.open_values-values.ensures c.requires.good
 
 pub returns-in-Make-clause-answer : goal.returns-in-Make-clause-answer
 returns-in-Make-clause-answer c =
-    make_answer c.make_written.result (all_types c.args.ready.now) _ c.bindings.result.now c.args.expr.now _ c.open_values-values.result.now c.bindings.ensures c.open_values-values.ensures c.in-Make.written c.in-Make.field-1 c.in-Make.is c.make_written.ensures.answer
+    make_answer c.make.result (all_types c.args.ready.now) _ c.bindings.result.now c.args.expr.now _ c.open_values-values.result.now c.bindings.ensures c.open_values-values.ensures c.in-Make.written c.in-Make.field-1 c.in-Make.is c.make.ensures.answer
 
 pub make_inferred-requires-clause-name : goal.make_inferred-requires-clause-name
 make_inferred-requires-clause-name c = infer_inferred c.args.ready.now _ c.args.expr.now _ c.requires.good c.in-Infer.name c.in-Infer.field-1 c.in-Infer.is

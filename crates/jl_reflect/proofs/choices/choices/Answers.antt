@@ -13,8 +13,8 @@ loop-event-init c =
     let es = c.args.events.now in
     let key = c.args.key.now in
     let begins = c.in_ok-changes.ensures in
-    let chosen = subst (λ Q. Selects Q es key.function key.types prelude_count c.in_ok-choose.field-0) (ap (λ v. v.0) begins) (c.in_ok-choose.ensures es (ap (λ v. take prelude_count v.1) (sym begins))) in (
-      begins,
+    let chosen = subst (λ Q. Selects Q es key.function key.types prelude_count c.in_ok-choose.field-0) (ap (λ v. v.0) begins) (c.in_ok-choose.ensures.choice es (ap (λ v. take prelude_count v.1) (sym begins))) in (
+      c.in_ok-choose.ensures.same ∙ begins,
       subst (AreChosenUpTo P es key prelude_count) (sym (c.in_ok-push.ensures.items ∙ ap (λ xs. xs ++ record { world = prelude_count; choice = c.in_ok-choose.field-0 } ∷ []) c.new-all.ensures.items))
           (first_chosen P es key (record { world = prelude_count; choice = c.in_ok-choose.field-0 }) refl chosen),
     )
@@ -56,9 +56,10 @@ overflow_cast-world c =
 pub loop-event-preserved : goal.loop-event-preserved
 loop-event-preserved c =
     let q = sym c.change_of.ensures ∙ c.in-Some.is in (
-      made_next c.args.ready.now c.args.events.now c.args.key.now c.requires.stand c.loop-event.event-index c.event-item.result c.loop-event-test.true c.event-item.is c.in-Some.change q c.loop-event.changes c.push-in-loop-event.new.self
+      c.in_ok-choice.ensures.same
+          ∙ made_next c.args.ready.now c.args.events.now c.args.key.now c.requires.stand c.loop-event.event-index c.event-item.result c.loop-event-test.true c.event-item.is c.in-Some.change q c.loop-event.changes c.push-in-loop-event.new.self
           c.loop-event.invariant.0 c.in_ok-push-2.ensures.added,
       touched_on c.args.ready.now c.args.events.now c.args.key.now c.requires.stand c.loop-event.event-index c.event-item.result c.loop-event-test.true c.event-item.is c.in-Some.change q c.loop-event.changes c.push-in-loop-event.new.self
-          c.loop-event.invariant.0 c.in_ok-push-2.ensures.added c.loop-event.all.items (omega arith) c.loop-event.invariant.1 c.all.result.now c.all.ensures c.in_ok-choice.choice c.in_ok-choice.ensures
+          c.loop-event.invariant.0 c.in_ok-push-2.ensures.added c.loop-event.all.items (omega arith) c.loop-event.invariant.1 c.all.result.now c.all.ensures c.in_ok-choice.choice c.in_ok-choice.ensures.choice
           c.push-in-loop-event-2.new.self.items c.in_ok-push-3.ensures.items,
     )

@@ -28,9 +28,6 @@ pub returns-in-Def : goal.returns-in-Def
 returns-in-Def c = λ es h told later named.
     subst (λ x. IsJudged c.args.ready.now c.args.entries.now es x c.judge_def.result) (sym c.in-Def.is) (c.judge_def.ensures c.args.entries.now es h)
 
-pub judge_del-requires : goal.judge_del-requires
-judge_del-requires c = let (es, h) = c.requires in (c.args.entries.now, es, h)
-
 pub returns-in_ok-found-in-Del : goal.returns-in_ok-found-in-Del
 returns-in_ok-found-in-Del c = λ es h told later named.
     subst (λ x. IsJudged c.args.ready.now c.args.entries.now es x c.in_ok-found-in-Del.found) (sym c.in-Del.is) (c.in_ok-found-in-Del.ensures c.args.entries.now es h)

@@ -1,4 +1,4 @@
-use Rattle.std.proofs.Common.{refl, arith}
+use Rattle.std.proofs.Common.{ap, refl, arith, ◌+◌}
 use Rattle.jl_calculus.specs.declared.history.Change.TheVariants as Ch
 use Rattle.jl_calculus.specs.declared.history.Event.TheVariants as Ev
 use Rattle.jl_causes.proofs.NoteLemmas.{counts_change, judge_more}
@@ -13,11 +13,11 @@ delete-requires c = let (all, es, h, m) = c.requires in (es, h.tasks, m.running.
 pub returns : goal.returns
 returns c = λ all es h m at.
     let e = Ev.Del c.args.task c.args.place in
-    judge_more c.args.ready.now all es e c.args.self.now _ refl h (c.in_ok-note_del.ensures es h.rows m) (c.in_ok-delete.ensures es h.tasks at)
+    judge_more c.args.ready.now all es e c.args.self.now _ refl h (c.in_ok-note_del.ensures es h.rows m (let now = c.newest-old.ensures es h.places in ap (λ n. n + 1) now.world)) (c.in_ok-delete.ensures es h.tasks at)
     (c.in_ok-note.ensures es e h.places (counts_change es e (Ch.Del c.args.place) c.newest-old.result _ refl refl refl refl (c.newest-old.ensures es h.places)))
 
-pub overflow_add-old : goal.overflow_add-old
-overflow_add-old c =
+pub overflow_add-world : goal.overflow_add-world
+overflow_add-world c =
     let (all, es, h, m) = c.requires in
     let now = c.newest-old.ensures es h.places in
     omega (arith, now.world, m.room)

@@ -7,4 +7,4 @@ note_event-noted-requires c = let (es, h, m) = c.requires in record { es = es; i
 
 pub returns : goal.returns
 returns c = λ es h m.
-    rows_with_fill c.args.ready.now es c.args.self.now _ h c.args.key c.args.site c.args.first (on_ok_at _ c.in_ok-noted.was c.note_event-noted.ensures es h.indexed m) refl c.in_ok-push.ensures.items
+    rows_with_fill c.args.ready.now es c.args.self.now _ h c.args.key c.args.site c.args.first (on_ok_at _ c.in_ok-noted.was c.note_event-noted.ensures es h.indexed m) refl c.in_ok-push.ensures.items refl

@@ -7,7 +7,7 @@ note_event-noted-requires c = let (es, h, m) = c.requires in record { es = es; i
 
 pub returns : goal.returns
 returns c = λ es h m.
-    rows_with_key c.args.ready.now es c.args.self.now _ h c.args.key (on_ok_at _ c.in_ok-noted.was c.note_event-noted.ensures es h.indexed m) refl refl
+    rows_with_key c.args.ready.now es c.args.self.now _ h c.args.key (on_ok_at _ c.in_ok-noted.was c.note_event-noted.ensures es h.indexed m) refl refl refl
 
 pub overflow_add-self : goal.overflow_add-self
 overflow_add-self c =

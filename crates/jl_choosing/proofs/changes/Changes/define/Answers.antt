@@ -26,4 +26,5 @@ invariant_of-self-2 c =
       subst (λ cs. AreByFunction P cs c.add.new.methods.items) (sym items)
           (defs_more P c.valid.ensures c.args.site c.len.result d.changes.items count c.as_slice.result.now _ (c.as_slice.ensures ∙ ap (λ p. p.sites) c.program.ensures) site d.methods.items c.add.new.methods.items c.self.invariant.0 c.in_ok-add.ensures.added),
       subst (λ cs. AreDelsByFunction P cs d.deletions.items) (sym items) (dels_kept P d.changes.items d.deletions.items c.args.site c.self.invariant.1),
+      c.self.invariant.2,
     )

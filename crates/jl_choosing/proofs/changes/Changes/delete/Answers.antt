@@ -26,4 +26,5 @@ invariant_of-self-2 c =
       subst (λ cs. AreByFunction P cs d.methods.items) (sym items) (defs_kept P d.changes.items d.methods.items c.args.place c.self.invariant.0),
       subst (λ cs. AreDelsByFunction P cs c.add_deletion.new.deletions.items) (sym items)
           (dels_more P c.valid.ensures c.args.place c.len.result d.changes.items count c.as_slice.result.now _ (c.as_slice.ensures ∙ ap (λ p. p.deletes) c.program.ensures) place d.deletions.items c.add_deletion.new.deletions.items c.self.invariant.1 c.in_ok-add_deletion.ensures.added),
+      c.self.invariant.2,
     )

@@ -1,4 +1,5 @@
-use Rattle.std.proofs.Common.{◌∙◌, ap, sym, subst, refl, set, Some}
+use Rattle.std.proofs.Common.{◌∙◌, ap, sym, subst, refl, set}
+use Rattle.jl_replay.specs.declared.runs.Stage.TheVariants as T
 use Rattle.jl_replay.specs.Moves.{MayGoOn, FollowsDefinition}
 use Rattle.jl_replay.proofs.Followed.{definition_here, definition_room, definition_going, definition_inside, definition_followed, inside_after}
 use Rattle.jl_replay.proofs.runs.Runs.follow_definition.Goals as goal
@@ -8,23 +9,23 @@ trace_of-trace-requires-clause-there g c =
     let q = c.requires in
     (definition_here c.args.ready.now c.args.entries.now q.judged c.args.self.now q.followed c.args.n q.here c.args.task c.args.site q.entry).small
 
-pub take_task-running-requires : goal.take_task-running-requires
-take_task-running-requires g c =
+pub take_task-requires-clause-running : goal.take_task-requires-clause-running
+take_task-requires-clause-running g c =
     let q = c.requires in
     let h = definition_here c.args.ready.now c.args.entries.now q.judged c.args.self.now q.followed c.args.n q.here c.args.task c.args.site q.entry in
-    (h.running, h.among)
+    h.running
 
 pub follow_definition-requires-clause-going : goal.follow_definition-requires-clause-going
 follow_definition-requires-clause-going g c =
     let q = c.requires in
-    subst (λ ss. MayGoOn c.args.ready.now c.args.self.now.led.past.1 c.args.task ss c.take_task-running.result) (sym c.trace_of-trace.ensures)
-    (definition_going c.args.ready.now c.args.entries.now q.judged c.args.self.now q.followed c.args.n q.here c.args.task c.args.site q.entry c.take_task-running.result c.take_task-running.ensures.was)
+    subst (λ ss. MayGoOn c.args.ready.now c.args.self.now.led.past.1 c.args.task ss c.in_ok-running.running) (sym c.trace_of-trace.ensures)
+    (definition_going c.args.ready.now c.args.entries.now q.judged c.args.self.now q.followed c.args.n q.here c.args.task c.args.site q.entry c.in_ok-running.running c.in_ok-running.ensures.way)
 
 pub follow_definition-requires-clause-next : goal.follow_definition-requires-clause-next
 follow_definition-requires-clause-next g c =
     let q = c.requires in
     rw (sym c.trace_of-trace.ensures) at
-    (definition_inside c.args.ready.now c.args.entries.now q.judged c.args.self.now q.followed c.args.n q.here c.args.task c.args.site q.entry c.take_task-running.result c.take_task-running.ensures.was)
+    (definition_inside c.args.ready.now c.args.entries.now q.judged c.args.self.now q.followed c.args.n q.here c.args.task c.args.site q.entry c.in_ok-running.running c.in_ok-running.ensures.way)
 
 pub follow_definition-requires-clause-room : goal.follow_definition-requires-clause-room
 follow_definition-requires-clause-room g c =
@@ -35,14 +36,14 @@ pub put_task-requires : goal.put_task-requires
 put_task-requires g c =
     let q = c.requires in
     let h = definition_here c.args.ready.now c.args.entries.now q.judged c.args.self.now q.followed c.args.n q.here c.args.task c.args.site q.entry in
-    inside_after c.args.self.now.tasks.items c.take_task-running.new.tasks.items c.args.task c.take_task-running.ensures.gone h.inside
+    inside_after c.args.self.now.tasks.items c.take_task.new.tasks.items c.args.task c.in_ok-running.ensures.gone h.inside
 
 pub returns-in-Ok : goal.returns-in-Ok
 returns-in-Ok g c =
     let q = c.requires in
-    let r = c.take_task-running.result in
+    let r = c.in_ok-running.running in
     let r' = c.follow_definition.new.running in
-    definition_followed c.args.ready.now c.args.entries.now q.judged c.args.self.now q.followed c.args.n q.here c.args.task c.args.site q.entry r c.take_task-running.ensures.was c.in-Ok.came r'
+    definition_followed c.args.ready.now c.args.entries.now q.judged c.args.self.now q.followed c.args.n q.here c.args.task c.args.site q.entry r c.in_ok-running.ensures.way c.in-Ok.came r'
     (record { led = c.follow_definition.new.led; tasks = c.put_task.new.tasks; fuel = c.args.self.now.fuel })
     (subst (λ ss. FollowsDefinition c.args.ready.now c.args.self.now.led.past.1 c.args.task ss r c.args.site c.in-Ok.came c.follow_definition.new.led.past r') c.trace_of-trace.ensures c.in-Ok.ensures) refl
-    (c.put_task.ensures ∙ ap (λ ts. set ts c.args.task (Some r')) c.take_task-running.ensures.gone)
+    (c.put_task.ensures ∙ ap (λ ts. set ts c.args.task (T.Running r')) c.in_ok-running.ensures.gone)

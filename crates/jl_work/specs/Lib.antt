@@ -1,0 +1,5 @@
+pub mod Work
+pub mod Told
+pub mod Owed
+pub mod Place
+pub mod Split
