@@ -1,7 +1,7 @@
 -- The latest definitions of their sites.
-use Rattle.std.proofs.Common.{◌≡◌, ◌∙◌, sym, ap, subst, refl, ℕ, zero, suc, ◌+◌, ◌-◌, ◌<◌, ◌≤◌, ◌⊎◌, inl, inr, arith, true, false, cond, nat_eq, nat_le, Bool, List, [], ◌∷◌, ◌++◌, length, take, drop, get_or, Option, None, Some}
+use Rattle.std.proofs.Common.{◌≡◌, ◌∙◌, sym, ap, subst, refl, ℕ, zero, suc, ◌+◌, ◌-◌, ◌<◌, ◌≤◌, ◌⊎◌, inl, inr, arith, true, false, cond, nat_eq, nat_le, Bool, List, [], ◌∷◌, ◌++◌, length, take, get_or, Option, None, Some}
 use Rattle.std.specs.List.{Contains}
-use Rattle.std.proofs.lemmas.List.{get_or_append_left, take_all, take_more}
+use Rattle.std.proofs.lemmas.List.{take_all, take_more}
 use Rattle.jl_calculus.specs.declared.history.Def.{Def}
 use Rattle.jl_subsig.specs.Standing.{HasLaterAtSite}
 use Rattle.jl_choosing.specs.declared.changes.Older.{Older}

@@ -1,5 +1,5 @@
 -- Definitions and deletions by their functions.
-use Rattle.std.specs.Prelude.{ℕ, ◌+◌, ◌≡◌, ◌<◌, ◌≤◌, ◌⊎◌, cond, nat_le, List, [], ◌∷◌, length, take, get_or, Option, None, Some}
+use Rattle.std.specs.Prelude.{ℕ, ◌+◌, ◌≡◌, ◌<◌, ◌≤◌, cond, nat_le, List, [], ◌∷◌, length, take, get_or, Option, None, Some}
 use Rattle.std.specs.List.{Contains}
 use Rattle.jl_calculus.specs.declared.history.Change.{Change}
 use Rattle.jl_calculus.specs.declared.history.Def.{Def}
