@@ -1,11 +1,11 @@
 -- The latest definitions of their sites.
-use Rattle.std.proofs.Common.{◌≡◌, ◌∙◌, sym, ap, subst, refl, ℕ, zero, suc, ◌+◌, ◌-◌, ◌<◌, ◌≤◌, ◌⊎◌, inl, inr, arith, true, false, cond, nat_le, Bool, List, [], ◌∷◌, ◌++◌, length, take, drop, get_or, Option, None, Some}
+use Rattle.std.proofs.Common.{◌≡◌, ◌∙◌, sym, ap, subst, refl, ℕ, zero, suc, ◌+◌, ◌-◌, ◌<◌, ◌≤◌, ◌⊎◌, inl, inr, arith, true, false, cond, nat_eq, nat_le, Bool, List, [], ◌∷◌, ◌++◌, length, take, get_or, Option, None, Some}
 use Rattle.std.specs.List.{Contains}
-use Rattle.std.proofs.lemmas.List.{get_or_append_left, take_all, take_more}
+use Rattle.std.proofs.lemmas.List.{take_all, take_more}
 use Rattle.jl_calculus.specs.declared.history.Def.{Def}
 use Rattle.jl_subsig.specs.Standing.{HasLaterAtSite}
 use Rattle.jl_choosing.specs.declared.changes.Older.{Older}
-use Rattle.jl_choosing.specs.ByFunction.{in_world, Rising, AreBefore, AreLatest, HasLater, IsKeptSo, IsOlder, IsOlderSo, IsRenewed}
+use Rattle.jl_choosing.specs.ByFunction.{in_world, Rising, AreBefore, AreLatest, HasLater, IsKeptSo, IsLastAt, AreLastPlaces, AreSifted, IsOlder, IsOlderSo}
 
 abbrev nothing : Def
 nothing = record { world = 0; site = 0 }
@@ -17,56 +17,11 @@ pub rise_lower : (low high : ℕ) (ds : List Def) → low ≤ high → Rising hi
 rise_lower low high [] l h = tt
 rise_lower low high (d ∷ ds) l h = (omega (arith, l, h.0), h.1)
 
--- ---- one without that at a place
-
-without : ℕ → List Def → List Def
-without i [] = []
-without zero (x ∷ xs) = xs
-without (suc i) (x ∷ xs) = x ∷ without i xs
-
-without_is : (i : ℕ) (xs : List Def) → take i xs ++ drop (suc i) xs ≡ without i xs
-unfolding without
-without_is zero [] = refl
-without_is (suc i) [] = refl
-without_is zero (x ∷ xs) = refl
-without_is (suc i) (x ∷ xs) = ap (λ ys. x ∷ ys) (without_is i xs)
-
-without_there : (i : ℕ) (xs : List Def) (d : Def) → Contains (without i xs) d → Contains xs d
-unfolding without
-without_there i [] d c = c
-without_there zero (x ∷ xs) d c = at_later x xs d c
-without_there (suc i) (x ∷ xs) d (zero, l, e) = (0, omega arith, e)
-without_there (suc i) (x ∷ xs) d (suc k, l, e) = at_later x xs d (without_there i xs d (k, omega arith, e))
-
-more_or : (x : Def) (xs : List Def) (d y : Def) → (d ≡ y) ⊎ Contains xs d → (d ≡ y) ⊎ Contains (x ∷ xs) d
-more_or x xs d y (inl e) = inl e
-more_or x xs d y (inr c) = inr (at_later x xs d c)
-
-without_stay : (i : ℕ) (xs : List Def) (d : Def) → Contains xs d → (d ≡ get_or xs i nothing) ⊎ Contains (without i xs) d
-unfolding without
-without_stay i [] d (k, l, e) = absurd (omega arith)
-without_stay zero (x ∷ xs) d (zero, l, e) = inl (sym e)
-without_stay zero (x ∷ xs) d (suc k, l, e) = inr (k, omega arith, e)
-without_stay (suc i) (x ∷ xs) d (zero, l, e) = inr (0, omega arith, e)
-without_stay (suc i) (x ∷ xs) d (suc k, l, e) = more_or x (without i xs) d (get_or xs i nothing) (without_stay i xs d (k, omega arith, e))
-
-without_rising : (low i : ℕ) (xs : List Def) → Rising low xs → Rising low (without i xs)
-unfolding without
-without_rising low i [] h = tt
-without_rising low zero (x ∷ xs) h = rise_lower low (x.world + 1) xs (omega (arith, h.0)) h.1
-without_rising low (suc i) (x ∷ xs) h = (h.0, without_rising (x.world + 1) i xs h.1)
-
 -- ---- one more
 
 pub last_there : (xs : List Def) (def : Def) → Contains (xs ++ def ∷ []) def
 last_there [] def = (0, omega arith, refl)
 last_there (x ∷ xs) def = at_later x (xs ++ def ∷ []) def (last_there xs def)
-
-without_own : (i : ℕ) (xs : List Def) (def : Def) → i < length xs → Contains (without i (xs ++ def ∷ [])) def
-unfolding without
-without_own i [] def l = absurd (omega (arith, l))
-without_own zero (x ∷ xs) def l = last_there xs def
-without_own (suc i) (x ∷ xs) def l = at_later x (without i (xs ++ def ∷ [])) def (without_own i xs def (omega (arith, l)))
 
 same_or : (x : Def) (xs : List Def) (d def : Def) → Contains xs d ⊎ (d ≡ def) → Contains (x ∷ xs) d ⊎ (d ≡ def)
 same_or x xs d def (inl c) = inl (at_later x xs d c)
@@ -92,47 +47,18 @@ push_rising low (x ∷ xs) def l h b =
     let w = b x (0, omega arith, refl) in
     (h.0, push_rising (x.world + 1) xs def (omega (arith, w)) h.1 (before_rest def.world x xs b))
 
-pub renewed_push : (def : Def) (old new : List Def) → new ≡ old ++ def ∷ [] → IsRenewed def old new
-renewed_push def old new e =
-    subst (IsRenewed def old) (sym e) (record {
-      there = push_there old def;
-      own = last_there old def;
-      stay = λ d c. inr (push_stay old def d c);
-      rising = λ h b. push_rising 0 old def (omega arith) h b;
-    })
-
-pub renewed_in_place : (def : Def) (old pushed new : List Def) (i : ℕ) → pushed ≡ old ++ def ∷ [] → i < length old → (get_or old i nothing).site ≡ def.site
-    → new ≡ take i pushed ++ drop (i + 1) pushed → IsRenewed def old new
-renewed_in_place def old pushed new i p l s n =
-    subst (IsRenewed def old) (sym whole) (record {
-      there = λ d c. push_there old def d (without_there i (old ++ def ∷ []) d c);
-      own = without_own i old def l;
-      stay = λ d c. stays d (without_stay i (old ++ def ∷ []) d (push_stay old def d c));
-      rising = λ h b. without_rising 0 i (old ++ def ∷ []) (push_rising 0 old def (omega arith) h b);
-    })
-  where
-    whole : new ≡ without i (old ++ def ∷ [])
-    whole = let next : i + 1 ≡ suc i = omega arith in n ∙ ap (λ k. take i pushed ++ drop k pushed) next ∙ ap (λ xs. take i xs ++ drop (suc i) xs) p ∙ without_is i (old ++ def ∷ [])
-
-    first : (xs : List Def) (k : ℕ) → k < length xs → get_or (xs ++ def ∷ []) k nothing ≡ get_or xs k nothing
-    first xs k m = get_or_append_left xs (def ∷ []) nothing k m
-
-    stays : (d : Def) → (d ≡ get_or (old ++ def ∷ []) i nothing) ⊎ Contains (without i (old ++ def ∷ [])) d → (d.site ≡ def.site) ⊎ Contains (without i (old ++ def ∷ [])) d
-    stays d (inl e) = inl (ap (λ (z : Def). z.site) (e ∙ first old i l) ∙ s)
-    stays d (inr c) = inr c
-
 -- ---- what is kept of the definitions of a function
 
-pub kept_push : (def : Def) (all latest more new : List Def) → IsKeptSo all latest → AreBefore def.world all → more ≡ all ++ def ∷ [] → IsRenewed def latest new → IsKeptSo more new
-kept_push def all latest more new h b e r =
-    subst (λ xs. IsKeptSo xs new) (sym e) (record {
+pub kept_push : (def : Def) (all latest more new : List Def) → IsKeptSo all latest → AreBefore def.world all → more ≡ all ++ def ∷ [] → new ≡ latest ++ def ∷ [] → IsKeptSo more new
+kept_push def all latest more new h b e f =
+    subst (λ xs. IsKeptSo xs new) (sym e) (subst (IsKeptSo (all ++ def ∷ [])) (sym f) (record {
       rising = push_rising 0 all def (omega arith) h.rising b;
       latest_ones = record {
-        there = λ d c. from_new d (r.there d c);
+        there = λ d c. from_new d (push_there latest def d c);
         covered = λ d c. covers d (push_there all def d c);
-        rising = r.rising o.rising (λ d c. b d (o.there d c));
+        rising = push_rising 0 latest def (omega arith) o.rising (λ d c. b d (o.there d c));
       };
-    })
+    }))
   where
     o : AreLatest all latest
     o = h.latest_ones
@@ -141,13 +67,27 @@ kept_push def all latest more new h b e r =
     from_new d (inl c) = push_stay all def d (o.there d c)
     from_new d (inr q) = subst (Contains (all ++ def ∷ [])) (sym q) (last_there all def)
 
-    by_kept : (d : Def) (c : Contains all d) (l : HasLaterAtSite latest d) → (l.by.site ≡ def.site) ⊎ Contains new l.by → HasLaterAtSite new d
-    by_kept d c l (inl s) = record { by = def; stays = r.own; site_is = sym s ∙ l.site_is; later = (let w = b d c in omega (arith, w)) }
-    by_kept d c l (inr i) = record { by = l.by; stays = i; site_is = l.site_is; later = l.later }
+    covers : (d : Def) → Contains all d ⊎ (d ≡ def) → HasLaterAtSite (latest ++ def ∷ []) d
+    covers d (inl c) = let l = o.covered d c in record { by = l.by; stays = push_stay latest def l.by l.stays; site_is = l.site_is; later = l.later }
+    covers d (inr q) = record { by = def; stays = last_there latest def; site_is = ap (λ (z : Def). z.site) (sym q); later = (let w : d.world ≡ def.world = ap (λ (z : Def). z.world) q in omega (arith, w)) }
 
-    covers : (d : Def) → Contains all d ⊎ (d ≡ def) → HasLaterAtSite new d
-    covers d (inl c) = let l = o.covered d c in by_kept d c l (r.stay l.by l.stays)
-    covers d (inr q) = record { by = def; stays = r.own; site_is = ap (λ (z : Def). z.site) (sym q); later = (let w : d.world ≡ def.world = ap (λ (z : Def). z.world) q in omega (arith, w)) }
+-- the latest ones of those that are kept are kept too
+pub kept_sifted : (all latest some seen : List Def) → IsKeptSo all latest → seen ≡ latest → AreLatest seen some → IsKeptSo all some
+kept_sifted all latest some seen h e l = record {
+  rising = h.rising;
+  latest_ones = record { there = λ d c. o.there d (subst (λ xs. Contains xs d) e (l.there d c)); covered = covers; rising = l.rising };
+}
+  where
+    o : AreLatest all latest
+    o = h.latest_ones
+
+    covers : (d : Def) → Contains all d → HasLaterAtSite some d
+    covers d c =
+        let k = o.covered d c in
+        let m = l.covered k.by (subst (λ xs. Contains xs k.by) (sym e) k.stays) in
+        let below = k.later in
+        let above = m.later in
+        record { by = m.by; stays = m.stays; site_is = m.site_is ∙ k.site_is; later = omega (arith, below, above) }
 
 -- ---- those of a world
 
@@ -208,7 +148,7 @@ world_all_seen w last all latest seen some h e f b l =
 pub latest_same : (all other some : List Def) → all ≡ other → AreLatest all some → AreLatest other some
 latest_same all other some e h = subst (λ ds. AreLatest ds some) e h
 
--- ---- the latest ones, found one after another
+-- ---- the latest ones, found by the last places of their sites
 
 -- those that rise from a number on are no lower
 no_lower : (low i : ℕ) (ds : List Def) → Rising low ds → i < length ds → low ≤ (get_or ds i nothing).world
@@ -226,12 +166,97 @@ front_before low (suc i) (x ∷ ds) h l d (zero, m, e) =
     omega (arith, w, past)
 front_before low (suc i) (x ∷ ds) h l d (suc k, m, e) = front_before (x.world + 1) i ds h.1 (omega (arith, l)) d (k, omega (arith, m), e)
 
-pub kept_next : (defs latest new : List Def) (i : ℕ) → Rising 0 defs → i < length defs → IsKeptSo (take i defs) latest → IsRenewed (get_or defs i nothing) latest new
-    → IsKeptSo (take (i + 1) defs) new
-kept_next defs latest new i h l k r = kept_push (get_or defs i nothing) (take i defs) latest (take (i + 1) defs) new k (front_before 0 i defs h l) (take_more defs i nothing l) r
+contains_get : (ds : List Def) (d : Def) (c : Contains ds d) → get_or ds c.0 nothing ≡ d
+contains_get [] d (k, l, e) = absurd (omega arith)
+contains_get (x ∷ xs) d (zero, l, e) = e
+contains_get (x ∷ xs) d (suc k, l, e) = contains_get xs d (k, omega arith, e)
 
-pub kept_whole : (defs latest : List Def) (i : ℕ) → length defs ≤ i → IsKeptSo (take i defs) latest → AreLatest defs latest
-kept_whole defs latest i l k = subst (λ ds. AreLatest ds latest) (take_all i defs l) k.latest_ones
+-- the worlds of those at later places are no lower
+place_later : (low j p : ℕ) (ds : List Def) → Rising low ds → j ≤ p → p < length ds → (get_or ds j nothing).world ≤ (get_or ds p nothing).world
+place_later low j p [] h l m = absurd (omega (arith, m))
+place_later low zero zero (x ∷ ds) h l m = omega arith
+place_later low zero (suc p) (x ∷ ds) h l m = let k = no_lower (x.world + 1) p ds h.1 (omega (arith, m)) in omega (arith, k)
+place_later low (suc j) zero (x ∷ ds) h l m = absurd (omega (arith, l))
+place_later low (suc j) (suc p) (x ∷ ds) h l m = place_later (x.world + 1) j p ds h.1 (omega (arith, l)) (omega (arith, m))
+
+agree : (s t : ℕ) → nat_eq s t ≡ true → s ≡ t
+agree s t h = grind (arith, h)
+
+differ : (s t : ℕ) → nat_eq s t ≡ false → s ≡ t → ⊥
+differ s t h e = absurd (grind (arith, h, e))
+
+-- one more definition, at its place
+module _ (defs : List Def) (old new : List ℕ) (i : ℕ) (put : (s : ℕ) → get_or new s 0 ≡ cond (nat_eq (get_or defs i nothing).site s) i (get_or old s 0)) (h : AreLastPlaces i defs old) where
+  last_by : (j : ℕ) → j < i + 1 → (b : Bool) → nat_eq (get_or defs i nothing).site (get_or defs j nothing).site ≡ b
+      → IsLastAt defs (i + 1) j (cond b i (get_or old (get_or defs j nothing).site 0))
+  last_by j l true q = record { later = omega (arith, l); before = omega arith; site_is = agree (get_or defs i nothing).site (get_or defs j nothing).site q }
+  last_by j l false q =
+      let other : j ≡ i → ⊥ = λ e. differ (get_or defs i nothing).site (get_or defs j nothing).site q (ap (λ k. (get_or defs k nothing).site) (sym e)) in
+      let k = h j (omega (arith, l, other)) in
+      let before = k.before in
+      record { later = k.later; before = omega (arith, before); site_is = k.site_is }
+
+  pub places_next : AreLastPlaces (i + 1) defs new
+  places_next j l =
+      subst (IsLastAt defs (i + 1) j) (sym (put (get_or defs j nothing).site)) (last_by j l (nat_eq (get_or defs i nothing).site (get_or defs j nothing).site) refl)
+
+-- all places
+pub places_whole : (defs : List Def) (places : List ℕ) (i : ℕ) → length defs ≤ i → i ≤ length defs → AreLastPlaces i defs places → AreLastPlaces (length defs) defs places
+places_whole defs places i m l h = let e : i ≡ length defs = omega (arith, m, l) in subst (λ n. AreLastPlaces n defs places) e h
+
+-- one more that stands at the place of its site, or does not
+module _ (defs : List Def) (places : List ℕ) (some : List Def) (i : ℕ) (l : i < length defs) (h : AreSifted i defs places some) where
+  abbrev this : Def
+  this = get_or defs i nothing
+
+  one_up : take (i + 1) defs ≡ take i defs ++ this ∷ []
+  one_up = take_more defs i nothing l
+
+  from_up : (d : Def) → Contains some d ⊎ (d ≡ this) → Contains (take i defs ++ this ∷ []) d
+  from_up d (inl c) = push_stay (take i defs) this d (h.there d c)
+  from_up d (inr q) = subst (Contains (take i defs ++ this ∷ [])) (sym q) (last_there (take i defs) this)
+
+  stay_by : (j : ℕ) → j < i + 1 → get_or places (get_or defs j nothing).site 0 ≡ j → (b : Bool) → nat_eq j i ≡ b → Contains (some ++ this ∷ []) (get_or defs j nothing)
+  stay_by j m q true z = subst (λ k. Contains (some ++ this ∷ []) (get_or defs k nothing)) (sym (agree j i z)) (last_there some this)
+  stay_by j m q false z = let other = differ j i z in push_stay some this (get_or defs j nothing) (h.stay j (omega (arith, m, other)) q)
+
+  pub sifted_more : Rising 0 defs → (new : List Def) → new ≡ some ++ this ∷ [] → AreSifted (i + 1) defs places new
+  sifted_more r new e =
+      subst (AreSifted (i + 1) defs places) (sym e) (record {
+        there = λ d c. subst (λ xs. Contains xs d) (sym one_up) (from_up d (push_there some this d c));
+        stay = λ j m q. stay_by j m q (nat_eq j i) refl;
+        rising = push_rising 0 some this (omega arith) h.rising (λ d c. front_before 0 i defs r l d (h.there d c));
+      })
+
+  pub sifted_past : (get_or places this.site 0 ≡ i → ⊥) → AreSifted (i + 1) defs places some
+  sifted_past other = record {
+    there = λ d c. subst (λ xs. Contains xs d) (sym one_up) (push_stay (take i defs) this d (h.there d c));
+    stay = λ j m q. (let apart : j ≡ i → ⊥ = λ e. other (subst (λ k. get_or places (get_or defs k nothing).site 0 ≡ k) e q) in h.stay j (omega (arith, m, apart)) q);
+    rising = h.rising;
+  }
+
+-- all of them
+pub sifted_whole : (defs : List Def) (places : List ℕ) (some : List Def) (i : ℕ) → Rising 0 defs → length defs ≤ i → AreLastPlaces (length defs) defs places → AreSifted i defs places some
+    → AreLatest defs some
+sifted_whole defs places some i r l last h = record {
+  there = λ d c. subst (λ xs. Contains xs d) (take_all i defs l) (h.there d c);
+  covered = covers;
+  rising = h.rising;
+}
+  where
+    covers : (d : Def) → Contains defs d → HasLaterAtSite some d
+    covers d c =
+        let is : get_or defs c.0 nothing ≡ d = contains_get defs d c in
+        let at = last c.0 c.1 in
+        let p = get_or places (get_or defs c.0 nothing).site 0 in
+        let before = at.before in
+        let world = ap (λ (z : Def). z.world) is in
+        let above = place_later 0 c.0 p defs r at.later before in record {
+          by = get_or defs p nothing;
+          stays = h.stay p (omega (arith, before, l)) (ap (λ s. get_or places s 0) at.site_is);
+          site_is = at.site_is ∙ ap (λ (z : Def). z.site) is;
+          later = omega (arith, world, above);
+        }
 
 -- ---- an older world
 

@@ -1,5 +1,5 @@
 -- Definitions and deletions by their functions.
-use Rattle.std.specs.Prelude.{ℕ, ◌+◌, ◌≡◌, ◌<◌, ◌≤◌, ◌⊎◌, cond, nat_le, List, [], ◌∷◌, length, get_or, Option, None, Some}
+use Rattle.std.specs.Prelude.{ℕ, ◌+◌, ◌≡◌, ◌<◌, ◌≤◌, cond, nat_le, List, [], ◌∷◌, length, take, get_or, Option, None, Some}
 use Rattle.std.specs.List.{Contains}
 use Rattle.jl_calculus.specs.declared.history.Change.{Change}
 use Rattle.jl_calculus.specs.declared.history.Def.{Def}
@@ -49,12 +49,21 @@ abbrev pub IsOlderSo : List Def → Option Older → Type 0
 IsOlderSo all None = Unit {0}
 IsOlderSo all (Some older) = IsOlder all older
 
--- one definition came, and at most one of its site went
-pub record IsRenewed (def : Def) (old new : List Def) : Type 0 where
-  pub there : (d : Def) → Contains new d → Contains old d ⊎ (d ≡ def)
-  pub own : Contains new def
-  pub stay : (d : Def) → Contains old d → (d.site ≡ def.site) ⊎ Contains new d
-  pub rising : Rising 0 old → AreBefore def.world old → Rising 0 new
+-- of definitions up to a place, this is the place of the last one that has the site of one of them
+pub record IsLastAt (defs : List Def) (n j p : ℕ) : Type 0 where
+  pub later : j ≤ p
+  pub before : p < n
+  pub site_is : (get_or defs p (record { world = 0; site = 0 })).site ≡ (get_or defs j (record { world = 0; site = 0 })).site
+
+-- each site of these definitions, up to a place, has the place of its last one
+abbrev pub AreLastPlaces : ℕ → List Def → List ℕ → Type 0
+AreLastPlaces n defs places = (j : ℕ) → j < n → IsLastAt defs n j (get_or places (get_or defs j (record { world = 0; site = 0 })).site 0)
+
+-- of definitions up to a place, these are the ones that stand at the places of their sites
+pub record AreSifted (n : ℕ) (defs : List Def) (places : List ℕ) (some : List Def) : Type 0 where
+  pub there : (d : Def) → Contains some d → Contains (take n defs) d
+  pub stay : (j : ℕ) → j < n → get_or places (get_or defs j (record { world = 0; site = 0 })).site 0 ≡ j → Contains some (get_or defs j (record { world = 0; site = 0 }))
+  pub rising : Rising 0 some
 
 -- each row has the definitions of one function of the program among those of these changes
 pub record AreByFunction (P : Program) (cs : List Change) (rows : List (List Def)) : Type 0 where

@@ -1,6 +1,6 @@
 //! The definitions and the deletions that were made, in order, and found by their functions.
 
-ghost use Rattle.std.specs.Prelude.{ℕ, false, ◌-◌, ◌≡◌, ◌<◌, MatchOption, ◌≤◌, ◌++◌, [], ◌∷◌, List, map, take, length, get_or, IfOk, OnOk, OnErr};
+ghost use Rattle.std.specs.Prelude.{ℕ, false, ◌-◌, ◌≡◌, ◌<◌, ◌≤◌, ◌++◌, [], ◌∷◌, List, map, take, length, get_or, cond, nat_eq, IfOk, OnOk, OnErr};
 ghost use Rattle.jl_model.specs.declared.limits.TheConstants.{MOST_WORLDS};
 ghost use Rattle.jl_program.specs.declared.tree.Program.{Program};
 ghost use Rattle.jl_program.specs.Prelude.{prelude_numbers};
@@ -14,7 +14,7 @@ ghost use Rattle.jl_methods.specs.Filters.{IsOfProgram};
 ghost use Rattle.jl_methods.specs.Latest.{renewed, place_number};
 ghost use Rattle.jl_methods.specs.Numbered.{put_at};
 ghost use Rattle.jl_methods.specs.Room.{IsRoomy};
-ghost use Rattle.jl_choosing.specs.ByFunction.{in_world, AreBefore, AreDelsBefore, AreLatest, AreLatestDels, HasLater, IsRenewed, Rising};
+ghost use Rattle.jl_choosing.specs.ByFunction.{in_world, AreBefore, AreDelsBefore, AreLatest, AreLatestDels, AreLastPlaces, HasLater, Rising};
 
 use crate::choosing::choose_among;
 use crate::tested::Tested;
@@ -33,12 +33,19 @@ struct Older {
     defs: Vec<Def>,
 }
 
-/// The definitions of one function, in order, which contracts see as their list. Beside them stand the latest ones of their
-/// sites, so that a site that is defined again and again counts once, and those of the older world that was asked for last.
+/// So many definitions of a function may be made again before the latest ones are sifted.
+const LEAST_ROOM: usize = 16;
+
+/// The definitions of one function, in order, which contracts see as their list. Beside them stand the latest ones of their sites, so that
+/// a site that is defined again and again counts once, and those of the older world that was asked for last. The latest ones are sifted
+/// when a choice asks for them, and once there are twice as many as stood there then: a definition alone costs the same, however many
+/// sites there are.
 #[derive(Drop)]
 struct Methods {
+    alloc: Global,
     all: Vec<Def>,
     latest: Vec<Def>,
+    sifted: usize,
     older: Option<Older>,
 }
 
@@ -58,29 +65,47 @@ impl Model for Methods {
     ghost invariant = { λ m. IsKeptSo m.all.items m.latest.items × IsOlderSo m.all.items m.older };
 }
 
-/// The place of the definition of a site.
-fn place_of(defs: &[Def], site: u32) -> Option<usize>
-    ensures { MatchOption result (Unit {0}) (λ i. (i < length defs.now) × ((get_or defs.now i (record { world = 0; site = 0 })).site ≡ site)) }
+/// What stands at the number of a site, and 0 where nothing does.
+fn place_of(places: &[usize], site: u32) -> usize
+    ensures { result ≡ get_or places.now site 0 }
 {
-    for (i, def) in defs.iter().enumerate() {
-        if def.site == site {
-            return Some(i);
-        }
+    match places.get(site as usize) {
+        Some(place) => *place,
+        None => 0,
     }
-    None
 }
 
-/// One more definition among the latest ones of their sites, in place of that of its own site.
-fn renew(latest: &mut Vec<Def>, def: Def) -> Result<(), AllocError>
-    ensures renewed { OnOk result (IsRenewed def latest.old.items latest.new.items) }
-    ensures refused { OnErr result (latest.new.items ≡ latest.old.items) }
+/// Keeps a place for the number of a site.
+fn keep_place(places: &mut Vec<usize>, site: u32) -> Result<(), AllocError>
+    ensures place { OnOk result (site < length places.new.items) }
+    ensures same { (s : ℕ) → get_or places.new.items s 0 ≡ get_or places.old.items s 0 }
 {
-    let place = place_of(latest, def.site);
-    latest.push(def)?;
-    if let Some(place) = place {
-        latest.remove(place);
+    let at = site as usize;
+    if at < places.len() {
+        return Ok(());
     }
+    places.resize(at + 1, 0)?;
     Ok(())
+}
+
+/// Puts a place at the number of a site.
+fn put_place(places: &mut Vec<usize>, site: u32, place: usize) -> Result<(), AllocError>
+    ensures { OnOk result ((s : ℕ) → get_or places.new.items s 0 ≡ cond (nat_eq site s) place (get_or places.old.items s 0)) }
+{
+    keep_place(places, site)?;
+    places[site as usize] = place;
+    Ok(())
+}
+
+/// The place of the last definition of each site, by the number of the site.
+fn last_places(alloc: Global, defs: &[Def]) -> Result<Vec<usize>, AllocError>
+    ensures { IfOk result (λ places. AreLastPlaces (length defs.now) defs.now places.items) }
+{
+    let mut places = Vec::new(alloc);
+    for (i, def) in defs.iter().enumerate() {
+        put_place(&mut places, def.site, i)?;
+    }
+    Ok(places)
 }
 
 /// The latest ones of their sites among definitions in order.
@@ -88,9 +113,13 @@ fn latest_of(alloc: Global, defs: &[Def]) -> Result<Vec<Def>, AllocError>
     requires { Rising 0 defs.now }
     ensures { IfOk result (λ latest. AreLatest defs.now latest.items) }
 {
+    let places = last_places(alloc, defs)?;
     let mut latest = Vec::new(alloc);
-    for def in defs {
-        renew(&mut latest, *def)?;
+    for (i, def) in defs.iter().enumerate() {
+        if place_of(places.as_slice(), def.site) != i {
+            continue;
+        }
+        latest.push(*def)?;
     }
     Ok(latest)
 }
@@ -101,10 +130,38 @@ impl Methods {
         ensures { result ≡ [] }
     {
         Methods {
+            alloc,
             all: Vec::new(alloc),
             latest: Vec::new(alloc),
+            sifted: 0,
             older: None,
         }
+    }
+
+    /// Leaves out of the latest ones those that were made again. Where there is no memory for that, they stay.
+    fn sift(&mut self)
+        ensures { self.new ≡ self.old }
+    {
+        if self.latest.len() == self.sifted {
+            return;
+        }
+        if let Ok(latest) = latest_of(self.alloc, self.latest.as_slice()) {
+            self.sifted = latest.len();
+            self.latest = latest;
+        }
+    }
+
+    /// One more definition, later than all others, which is the latest of its site.
+    fn append(&mut self, def: Def) -> Result<(), AllocError>
+        requires { AreBefore def.world self.old }
+        ensures added { OnOk result (self.new ≡ self.old ++ def ∷ []) }
+        ensures refused { OnErr result (self.new ≡ self.old) }
+    {
+        self.all.reserve(1)?;
+        self.latest.reserve(1)?;
+        self.all.push_reserved(def);
+        self.latest.push_reserved(def);
+        Ok(())
     }
 
     /// One more definition, later than all others.
@@ -113,15 +170,11 @@ impl Methods {
         ensures added { OnOk result (self.new ≡ self.old ++ def ∷ []) }
         ensures refused { OnErr result (self.new ≡ self.old) }
     {
-        let before = self.all.len();
-        self.all.push(def)?;
-        match renew(&mut self.latest, def) {
-            Ok(()) => Ok(()),
-            Err(error) => {
-                self.all.truncate(before);
-                Err(error)
-            }
+        self.append(def)?;
+        if self.latest.len() / 2 > self.sifted.max(LEAST_ROOM) {
+            self.sift();
         }
+        Ok(())
     }
 
     /// The latest ones of their sites among those that a world has, or all of these.
@@ -153,14 +206,15 @@ impl Methods {
     }
 
     /// Finds the latest ones of their sites in a world, so that many calls in one older world walk over its definitions once.
-    fn look_back(&mut self, alloc: Global, world: u32) -> Result<(), AllocError>
+    fn look_back(&mut self, world: u32) -> Result<(), AllocError>
         ensures { self.new ≡ self.old }
     {
         let at_hand = self.has_latest(world);
         if at_hand {
+            self.sift();
             return Ok(());
         }
-        let defs = latest_of(alloc, before(&self.all, world))?;
+        let defs = latest_of(self.alloc, before(&self.all, world))?;
         self.older = Some(Older { world, defs });
         Ok(())
     }
@@ -438,11 +492,11 @@ impl<'p> Changes<'p> {
     }
 
     /// Finds the latest definitions of a function in a world, for the calls in it that come.
-    fn look_back(&mut self, alloc: Global, function: u32, world: u32) -> Result<(), AllocError>
+    fn look_back(&mut self, function: u32, world: u32) -> Result<(), AllocError>
         ensures { self.new ≡ self.old }
     {
         match self.methods.get_mut(function as usize) {
-            Some(methods) => methods.look_back(alloc, world),
+            Some(methods) => methods.look_back(world),
             None => Ok(()),
         }
     }
@@ -455,7 +509,7 @@ impl<'p> Changes<'p> {
         ensures choice { IfOk result (λ c. (es : List Event) → take world (changes es) ≡ take world self.old.1 → Selects self.old.0 es key.now.function key.now.types world c) }
         ensures same { self.new ≡ self.old }
     {
-        self.look_back(alloc, key.function, world)?;
+        self.look_back(key.function, world)?;
         self.tested.ask(alloc, self.ready, &key.types)?;
         let defs = latest_defs(&self.methods, key.function, world);
         let dels = latest_dels(&self.deletions, key.function, world);
