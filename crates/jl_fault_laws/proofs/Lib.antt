@@ -12,3 +12,5 @@ pub mod Others
 pub mod Texts
 pub mod RowLaws
 pub mod ExampleRows
+pub mod Numbered
+pub mod NumberedTrees

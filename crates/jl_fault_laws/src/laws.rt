@@ -1,4 +1,5 @@
-//! Rows of the table of static faults. They are about definitions alone: each function does nothing, and its contract is the law.
+//! Rows of the table of static faults, and the order of numbers. They are about definitions alone: each function does nothing, and its
+//! contract is the law.
 
 ghost use Rattle.std.specs.Prelude.{◌≡◌, ◌⊎◌, ◌≤◌, ℕ, List, [], ◌∷◌, ◌++◌, Option, Some, true};
 ghost use Rattle.jl_model.specs.declared.limits.TheConstants.{MOST_SITES};
@@ -10,6 +11,7 @@ ghost use Rattle.jl_resolve_forms.specs.Top.{resolve};
 ghost use Rattle.jl_resolve_forms.specs.TypesIn.{Tests};
 ghost use Rattle.jl_written.specs.declared.fault.StaticKind.TheVariants.{UnknownName, UnknownFunction, UnknownType, TooManyArguments, TooManySites, Rebound, NameClash, StaticParameterUse, BadType};
 ghost use Rattle.jl_fault_laws.specs.Examples.{known, good, with_unknown_name, with_unknown_function, with_many_arguments, with_unknown_type, with_two_variables, with_prelude_deletion, with_deletion, with_function_name, with_two_bindings, with_built_in, known_struct, with_inferred, method_at, lines, fault};
+ghost use Rattle.jl_fault_laws.specs.Numbers.{HasNumbersOf};
 ghost use Rattle.jl_fault_laws.specs.Rows.{has_row, HoldsAt, IsReportedBy, TellTypes};
 ghost use Rattle.jl_fault_laws.specs.TypeRows.{RefusedAt};
 
@@ -57,4 +59,13 @@ pub fn law_examples()
     ensures no_tuple { (t : Tests) → RefusedAt t known with_deletion (fault 41 BadType) }
     ensures inferred { (t : Tests)
         → RefusedAt t known_struct with_inferred (fault 16 StaticParameterUse) }
+{}
+
+/// What gets a number in well-formed items gets it in the order of the text: after the prelude's sites come those of the methods, each
+/// before those inside it, with the function and the signature of its head; and there are as many spawn places and deletion places as
+/// spawns and deletions.
+#[tactic(none)]
+pub fn law_numbers()
+    ensures { (t : Tests) (k : Known) (items : List Item) (o : Option Fault) → FormedItems items
+        → HasNumbersOf t k items (resolve t k items o).program }
 {}
