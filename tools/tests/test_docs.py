@@ -19,7 +19,7 @@ from concurrent.futures import ThreadPoolExecutor
 
 TOP = os.path.dirname(os.path.dirname(os.path.dirname(os.path.abspath(__file__))))
 PROGRAM = os.path.abspath(os.environ.get("JL") or f"{TOP}/crates/jl_main/out/jl_main")
-PAGES = ["README.md", *(f"docs/{it}.md" for it in ("LANGUAGE", "HISTORY", "LIMITS", "FROM_JULIA", "RUNNING"))]
+PAGES = ["README.md", "tools/README.md", *(f"docs/{it}.md" for it in ("LANGUAGE", "HISTORY", "LIMITS", "FROM_JULIA", "RUNNING"))]
 # What the examples of the tables of faults may name.
 GIVEN = "struct Box{T}; x::T end\nstruct Q{T<:Signed}; x::T end\n"
 SECONDS = 60

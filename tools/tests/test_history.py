@@ -378,8 +378,8 @@ class JsonLines(unittest.TestCase):
         self.assertEqual((json.loads(out.splitlines()[3]), status), (due, 0))
 
     def test_the_page_shows_what_is_written(self):
-        """The JSON lines and the words of jl-diff in docs/HISTORY.md are those of the tools."""
-        page = read_file("docs", "HISTORY.md").decode()
+        """The JSON lines and the words of jl-diff in tools/README.md are those of the tools."""
+        page = read_file("docs", "HISTORY.md").decode() + read_file("tools", "README.md").decode()
         blocks = re.findall(r"```(?:julia)?\n(.*?)```", page, re.DOTALL)
         history = next(block for block in blocks if block.startswith("3\n%%history 1\n"))
         script = next(block for block in blocks if block.startswith("f(x) = x + 1\n"))
@@ -396,7 +396,7 @@ class JsonLines(unittest.TestCase):
 
 class TheTimeline(unittest.TestCase):
     def test_redefined(self):
-        """The picture of docs/HISTORY.md; in it task 1 runs in world 16."""
+        """The picture of tools/README.md; in it task 1 runs in world 16."""
         out, status, err = run("jl-timeline", "--script", "examples/redefined.jl", data=stored("redefined.history"))
         self.assertEqual((status, err), (0, ""))
         self.assertEqual(out, read_file("docs", "timeline.svg").decode())
