@@ -1,6 +1,6 @@
 #!/bin/sh
 # Runs a script: ./jl WORDS < script
-# The proved program is taken where there is one of these sources, else the unproved one that is kept. program.py makes it where there is
+# The proved program is taken where there is one of these sources, else the unproved one that is kept. tools/program.py makes it where there is
 # none, and answers words that are no command at once.
 set -u
 # The status where this script or the kit fails. No command ends with it.
@@ -34,10 +34,10 @@ if [ "${1-}" != --version ] && is_newest "$proved" "$proved"; then
     echo "jl: the proved program" >&2
     exec "$proved" "$@"
 fi
-# It is newer than a proved program only where program.py found that one to be of other sources.
+# It is newer than a proved program only where tools/program.py found that one to be of other sources.
 if [ "${1-}" != --version ] && is_newest "$unproved" "$proved"; then
     echo "jl: the program without proofs (./build makes the proved one)" >&2
     exec "$unproved" "$@"
 fi
 command -v python3 > /dev/null || { echo "jl: there is no python3" >&2; exit "$failed"; }
-exec python3 "$here/program.py" "$@"
+exec python3 "$here/tools/program.py" "$@"

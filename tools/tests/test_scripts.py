@@ -18,7 +18,7 @@ from concurrent.futures import ThreadPoolExecutor
 sys.dont_write_bytecode = True
 TOP = os.path.dirname(os.path.dirname(os.path.dirname(os.path.abspath(__file__))))
 REAL = os.path.abspath(os.environ.get("JL") or f"{TOP}/crates/jl_main/out/jl_main")
-sys.path.insert(0, TOP)
+sys.path.insert(0, f"{TOP}/tools")
 import program  # noqa: E402
 
 USAGE = "usage: jl run|trace|ambiguous [--threads N] [--fuel N] | jl check|replay | jl gen N [--threads N] [--fuel N] | jl which NAME TYPE [--threads N] [--fuel N]\n"
@@ -86,7 +86,7 @@ class Repository(unittest.TestCase):
         room = tempfile.TemporaryDirectory()
         self.addCleanup(room.cleanup)
         self.room, self.top = room.name, f"{room.name}/a repository"
-        for name in ("jl", "build", "install", "program.py", "CHANGELOG.md", "docs/GATE.md", "docs/jl.1"):
+        for name in ("jl", "build", "install", "tools/program.py", "CHANGELOG.md", "docs/GATE.md", "docs/jl.1"):
             os.makedirs(os.path.dirname(f"{self.top}/{name}"), exist_ok=True)
             shutil.copy(f"{TOP}/{name}", f"{self.top}/{name}")
         write(f"{self.top}/crates.txt", CRATES)
@@ -364,7 +364,7 @@ class OtherProgram(unittest.TestCase):
     SCRIPTS = (
         *(["examples/compare"], ["examples/on_threads", "1"], ["examples/judge"]),
         *(["reference/words.py", "1"], ["reference/schedules.py", "1"], ["reference/explains.py", "1"]),
-        *(["reference/hostile.py", "open"], ["reference/refuse.py", "memory", "500"], ["./measure_threads", "1"]),
+        *(["reference/hostile.py", "open"], ["reference/refuse.py", "memory", "500"], ["tools/measure_threads", "1"]),
     )
 
     def test_a_program_that_does_nothing_fails(self):

@@ -20,7 +20,7 @@ import sys
 import tempfile
 import time
 
-TOP = os.path.dirname(os.path.realpath(__file__))
+TOP = os.path.dirname(os.path.dirname(os.path.realpath(__file__)))
 # Where programs without proofs are kept.
 KEPT = f"{TOP}/out"
 # No module of a program is this small, in bytes.
